@@ -1,0 +1,10 @@
+pub mod Lists
+pub mod Names
+pub mod Lines
+pub mod Terms
+pub mod Summaries
+pub mod Reading
+pub mod Pruning
+pub mod Rounds
+pub mod Kept
+pub mod Outcome

@@ -1,0 +1,431 @@
+-- Reading a file, line after line: document 01, "The file" and "Who can cause a refusal", the refusals 1 to 6.
+use Prim.Native.Nat.{ℕ, zero, suc, _+_, _/_, _%_, max}
+use Prim.Native.String.{String}
+use mathlib.Core.Bool.{Bool, true, false, cond, not, Bool·beq}
+use mathlib.Core.List.{List, [], _∷_, _++_, map}
+use mathlib.Core.Option.{Option, none, some}
+use lib.ListN.{length}
+use lib.Dec.{leb, ltb, eqb}
+use Rattle.model.specs.Lists.{any, sum, collect, fold-left, holds}
+use Rattle.model.specs.Names.{Name, bytes, same, mem}
+use Rattle.model.specs.Lines.{Line, lines, Field, fields, is-name, number}
+use Rattle.model.specs.Terms.{Node, FreeV, Leaf, Call, App, Forall, Exists, Let, Labeled, Term, add-term, references}
+use Rattle.model.specs.Summaries.{Fact, free-top-level-names, summarize-assumption}
+use Rattle.model.specs.declared.AsumKind.{AsumKind}
+use Rattle.model.specs.declared.LineKind.{LineKind}
+use Rattle.model.specs.declared.LineKind.the-variants as kind
+use Rattle.model.specs.declared.Op.{Op}
+use Rattle.model.specs.declared.Op.the-variants.{TrueOp, Iff, Eq, And, Other}
+use Rattle.model.specs.declared.Refusal.{Refusal}
+use Rattle.model.specs.declared.Refusal.the-variants as refusal
+
+-- a value, or why there is none
+pub data Result (A : Type 0) : Type 0 where
+  ok : A → Result A
+  refused : Refusal → Result A
+
+module _ {A B : Type 0} where
+  infixl 20 _>>=_
+  -- on with the value, or the refusal
+  abbrev pub _>>=_ : Result A → (A → Result B) → Result B
+  ok a >>= f = f a
+  refused r >>= f = refused r
+
+-- the value where it is there, else the refusal
+unfoldable pub need : {A : Type 0} → Refusal → Option A → Result A
+need r none = refused r
+need r (some a) = ok a
+
+-- a field that is a name: 2
+unfoldable pub name-field : Field → Result Name
+name-field f = cond (is-name f) (ok f) (refused refusal.Name)
+
+-- a field that is a number of at most `limit`: 3
+unfoldable pub number-field : ℕ → Field → Result ℕ
+number-field limit f = need refusal.Number (number f) >>= λ n. cond (leb n limit) (ok n) (refused refusal.Number)
+
+-- a field that is a number, 3, and names one of `count` terms, 4
+unfoldable pub term-field : ℕ → Field → Result ℕ
+term-field count f = number-field 65535 f >>= λ n. cond (ltb n count) (ok n) (refused refusal.Term)
+
+-- the words of an `op` line
+unfoldable pub op-words : List (String × Op)
+op-words = ("true", TrueOp) ∷ ("iff", Iff) ∷ ("eq", Eq) ∷ ("and", And) ∷ ("other", Other) ∷ []
+
+-- the kinds of lines, by their first field
+unfoldable pub kinds : List (String × LineKind)
+kinds =
+    ("ask", kind.Ask)
+    ∷ ("free", kind.Free)
+    ∷ ("leaf", kind.Leaf)
+    ∷ ("call", kind.Call)
+    ∷ ("op", kind.Op)
+    ∷ ("all", kind.All)
+    ∷ ("some", kind.Some)
+    ∷ ("let", kind.Let)
+    ∷ ("label", kind.Label)
+    ∷ ("assume", kind.Assume)
+    ∷ ("fun", kind.Fun)
+    ∷ ("def", kind.Def)
+    ∷ ("retain", kind.Retain)
+    ∷ ("root", kind.Root)
+    ∷ []
+
+-- what a field stands for in a list of words
+unfoldable pub word : {A : Type 0} → List (String × A) → Field → Option A
+word [] f = none
+word ((w, a) ∷ words) f = let other = word words f in cond (same f (bytes w)) (some a) other
+
+-- the fields of a line, the kind counted, where their count is fixed
+unfoldable pub fixed-count : LineKind → Option ℕ
+fixed-count kind.Ask = some 3
+fixed-count kind.Free = some 2
+fixed-count kind.Leaf = some 1
+fixed-count kind.Call = none
+fixed-count kind.Op = none
+fixed-count kind.All = none
+fixed-count kind.Some = none
+fixed-count kind.Let = none
+fixed-count kind.Label = some 2
+fixed-count kind.Assume = some 4
+fixed-count kind.Fun = some 2
+fixed-count kind.Def = some 3
+fixed-count kind.Retain = none
+fixed-count kind.Root = some 4
+
+module _ {A : Type 0} where
+  -- the next field, and the fields after it; a lacking one is 1
+  unfoldable pub next : (Field → Result A) → List Field → Result (A × List Field)
+  next judge [] = refused refusal.Form
+  next judge (f ∷ fs) = judge f >>= λ a. ok (a, fs)
+
+  -- the next n fields, and the fields after them
+  unfoldable pub many : ℕ → (Field → Result A) → List Field → Result (List A × List Field)
+  many zero judge fs = ok ([], fs)
+  many (suc n) judge fs = do
+    (a, fs₁) ← next judge fs
+    (more, fs₂) ← many n judge fs₁
+    ok (a ∷ more, fs₂)
+
+  -- all fields that are left
+  unfoldable pub rest : (Field → Result A) → List Field → Result (List A)
+  rest judge [] = ok []
+  rest judge (f ∷ fs) = do
+    a ← judge f
+    more ← rest judge fs
+    ok (a ∷ more)
+
+  -- the value, where no field is left over
+  unfoldable pub end : A → List Field → Result A
+  end a [] = ok a
+  end a (f ∷ fs) = refused refusal.Form
+
+-- g pattern groups, each a count and that many terms, and the fields after them
+unfoldable pub groups : ℕ → ℕ → List Field → Result (List (List ℕ) × List Field)
+groups count zero fs = ok ([], fs)
+groups count (suc g) fs = do
+  (n, fs₁) ← next (number-field 65535) fs
+  (ts, fs₂) ← many n (term-field count) fs₁
+  (gs, fs₃) ← groups count g fs₂
+  ok (ts ∷ gs, fs₃)
+
+-- what a line says
+pub data Content : Type 0 where
+  ask : ℕ → ℕ → Content
+  term : Node → Content
+  assume : Name → Bool → ℕ → Content
+  fun : Name → Content
+  def : Name → ℕ → Content
+  retain : List Name → Content
+  root : ℕ → Name → ℕ → Content
+
+-- an `all` or a `some`: body, group count, groups
+unfoldable pub quantifier : (ℕ → List (List ℕ) → Node) → ℕ → List Field → Result Content
+quantifier make count fs = do
+  (body, fs₁) ← next (term-field count) fs
+  (g, fs₂) ← next (number-field 65535) fs₁
+  (gs, fs₃) ← groups count g fs₂
+  end (term (make body gs)) fs₃
+
+-- the fields of a line after its kind, left to right; `count` is the number of term lines so far
+unfoldable pub content : LineKind → ℕ → List Field → Result Content
+content kind.Ask count fs = do
+  (q, fs₁) ← next (number-field 255) fs
+  (options, fs₂) ← next (number-field 7) fs₁
+  end (ask q options) fs₂
+content kind.Free count fs = do
+  (name, fs₁) ← next name-field fs
+  end (term (FreeV name)) fs₁
+content kind.Leaf count fs = end (term Leaf) fs
+content kind.Call count fs = do
+  (name, fs₁) ← next name-field fs
+  ts ← rest (term-field count) fs₁
+  ok (term (Call name ts))
+content kind.Op count fs = do
+  (w, fs₁) ← next (λ f. need refusal.Form (word op-words f)) fs
+  ts ← rest (term-field count) fs₁
+  ok (term (App w ts))
+content kind.All count fs = quantifier Forall count fs
+content kind.Some count fs = quantifier Exists count fs
+content kind.Let count fs = do
+  (body, fs₁) ← next (term-field count) fs
+  ts ← rest (term-field count) fs₁
+  ok (term (Let body ts))
+content kind.Label count fs = do
+  (t, fs₁) ← next (term-field count) fs
+  end (term (Labeled t)) fs₁
+content kind.Assume count fs = do
+  (name, fs₁) ← next name-field fs
+  (flag, fs₂) ← next (number-field 1) fs₁
+  (t, fs₃) ← next (term-field count) fs₂
+  end (assume name (eqb flag 1) t) fs₃
+content kind.Fun count fs = do
+  (name, fs₁) ← next name-field fs
+  end (fun name) fs₁
+content kind.Def count fs = do
+  (name, fs₁) ← next name-field fs
+  (t, fs₂) ← next (term-field count) fs₁
+  end (def name t) fs₂
+content kind.Retain count fs = do
+  names ← rest name-field fs
+  ok (retain names)
+content kind.Root count fs = do
+  (q, fs₁) ← next (number-field 255) fs
+  (name, fs₂) ← next name-field fs₁
+  (t, fs₃) ← next (term-field count) fs₂
+  end (root q name t) fs₃
+
+-- the kind of the n-th line: `ask` on line 1 and nowhere else
+unfoldable pub kind-field : ℕ → Field → Result LineKind
+kind-field n f =
+    need refusal.Form (word kinds f) >>= λ k.
+    cond (Bool·beq (eqb n 1) (same f (bytes "ask"))) (ok k) (refused refusal.Form)
+
+-- a line's fields: kind, field count where it is fixed, fields left to right
+unfoldable pub parse : ℕ → ℕ → List Field → Result Content
+parse n count all = do
+  (k, fs) ← next (kind-field n) all
+  cond (holds (λ c. not (eqb (length all) c)) (fixed-count k)) (refused refusal.Form) (content k count fs)
+
+-- a (define-fun) or (declare-fun) record
+pub record Decl : Type 0 where
+  pub line : ℕ
+  pub name : Name
+  pub free-names : List Name
+
+-- `decl_summary`: what a record line other than a root adds to the background
+pub data Summary : Type 0 where
+  Sum-assume : Fact → Summary
+  Sum-definefun : Decl → Summary
+  Sum-declfun : Decl → Summary
+  Sum-retain : List Name → Summary
+
+-- a root line
+pub record Root : Type 0 where
+  pub line : ℕ
+  pub query : ℕ
+  pub name : Name
+  pub free-names : List Name
+
+-- the ask of a file: its query and its options number
+pub record Ask : Type 0 where
+  pub query : ℕ
+  pub options : ℕ
+
+-- option 1, `no_ambients`
+unfoldable pub no-ambients : Ask → Bool
+no-ambients a = eqb (a .options % 2) 1
+
+-- option 2, `pretyping_axioms`
+unfoldable pub pretyping-axioms : Ask → Bool
+pretyping-axioms a = eqb (a .options / 2 % 2) 1
+
+-- option 4, `prune_decls`
+unfoldable pub prune-decls : Ask → Bool
+prune-decls a = eqb (a .options / 4 % 2) 1
+
+-- what reading carries from line to line. `names`: in order of first spelling. `decls` and `roots`: in file order
+pub record State : Type 0 where
+  pub goal : Ask
+  pub terms : List Term
+  pub names : List Name
+  pub decls : List Summary
+  pub roots : List Root
+  pub references : ℕ
+  pub entries : ℕ
+  pub uses : ℕ
+
+-- before line 1
+unfoldable pub start : State
+start =
+    record {
+      goal = record { query = 0; options = 0 };
+      terms = [];
+      names = [];
+      decls = [];
+      roots = [];
+      references = 0;
+      entries = 0;
+      uses = 0;
+    }
+
+-- the ask that a line states
+unfoldable pub asked : Content → Ask → Ask
+asked (ask q options) goal = record { query = q; options = options }
+asked (term node) goal = goal
+asked (assume name flag t) goal = goal
+asked (fun name) goal = goal
+asked (def name t) goal = goal
+asked (retain names) goal = goal
+asked (root q name t) goal = goal
+
+-- the term line that a line is
+unfoldable pub nodes : Content → List Node
+nodes (ask q options) = []
+nodes (term node) = node ∷ []
+nodes (assume name flag t) = []
+nodes (fun name) = []
+nodes (def name t) = []
+nodes (retain names) = []
+nodes (root q name t) = []
+
+-- the name that a term line spells
+unfoldable pub spelled-by : Node → List Name
+spelled-by (FreeV name) = name ∷ []
+spelled-by Leaf = []
+spelled-by (Call name ts) = name ∷ []
+spelled-by (App op ts) = []
+spelled-by (Forall body gs) = []
+spelled-by (Exists body gs) = []
+spelled-by (Let body ts) = []
+spelled-by (Labeled t) = []
+
+-- the names that a line spells, in order
+unfoldable pub spelled : Content → List Name
+spelled (ask q options) = []
+spelled (term node) = spelled-by node
+spelled (assume name flag t) = name ∷ []
+spelled (fun name) = name ∷ []
+spelled (def name t) = name ∷ []
+spelled (retain names) = names
+spelled (root q name t) = name ∷ []
+
+-- the name that an assume, fun or def takes
+unfoldable pub taken-by : Summary → List Name
+taken-by (Sum-assume f) = f .name ∷ []
+taken-by (Sum-definefun d) = d .name ∷ []
+taken-by (Sum-declfun d) = d .name ∷ []
+taken-by (Sum-retain names) = []
+
+-- the names that rule 4 trims off the tokens of a fact
+unfoldable pub trimmed-by : Summary → List Name
+trimmed-by (Sum-assume f) = f .trimmed
+trimmed-by (Sum-definefun d) = []
+trimmed-by (Sum-declfun d) = []
+trimmed-by (Sum-retain names) = []
+
+-- the trigger entries of a record towards their limit: an empty disjunct counts as one
+unfoldable pub entries-of : Summary → ℕ
+entries-of (Sum-assume f) = sum (map (λ names. max 1 (length names)) (f .triggers))
+entries-of (Sum-definefun d) = 0
+entries-of (Sum-declfun d) = 0
+entries-of (Sum-retain names) = 0
+
+-- the name uses of a record: its free names
+unfoldable pub uses-of : Summary → ℕ
+uses-of (Sum-assume f) = length (f .free-names)
+uses-of (Sum-definefun d) = length (d .free-names)
+uses-of (Sum-declfun d) = 0
+uses-of (Sum-retain names) = 0
+
+-- the names with one more, if it is new
+unfoldable pub spell : List Name → Name → List Name
+spell names name = cond (mem name names) names (names ++ (name ∷ []))
+
+-- each limit but the file's bytes: what is counted, how much of it may be, and the refusal
+unfoldable pub limits : State → List (ℕ × ℕ × Refusal)
+limits s =
+    (length (s .names), 2048, refusal.Limit)
+    ∷ (length (s .terms), 4096, refusal.Limit)
+    ∷ (s .references, 16384, refusal.Limit)
+    ∷ (length (s .decls) + length (s .roots), 1024, refusal.Limit)
+    ∷ (s .entries, 2048, refusal.Limit)
+    ∷ (s .uses, 6144, refusal.Limit)
+    ∷ []
+
+-- the value where no limit is passed, else the refusal of the first that is
+unfoldable pub under-limits : {A : Type 0} → List (ℕ × ℕ × Refusal) → A → Result A
+under-limits [] a = ok a
+under-limits ((counted, limit, r) ∷ more) a = let other = under-limits more a in cond (leb counted limit) other (refused r)
+
+-- what reading comes to: the state after the last line, or a refusal and its line
+pub data Reading : Type 0 where
+  read : State → Reading
+  refused-at : Refusal → ℕ → Reading
+
+-- on with the state after the n-th line, or its refusal
+unfoldable pub go-on : Result State → ℕ → (State → Reading) → Reading
+go-on (ok s) n on = on s
+go-on (refused r) n on = refused-at r n
+
+module _ (exclude : List Name) where
+  -- `summarize_decl` of the n-th line
+  unfoldable pub summarize-decl : List Term → ℕ → Content → List Summary
+  summarize-decl terms n (ask q options) = []
+  summarize-decl terms n (term node) = []
+  summarize-decl terms n (assume name flag t) = Sum-assume (summarize-assumption exclude terms n name flag t) ∷ []
+  summarize-decl terms n (fun name) = Sum-declfun (record { line = n; name = name; free-names = [] }) ∷ []
+  summarize-decl terms n (def name t) =
+      Sum-definefun (record { line = n; name = name; free-names = free-top-level-names exclude terms t }) ∷ []
+  summarize-decl terms n (retain names) = Sum-retain names ∷ []
+  summarize-decl terms n (root q name t) = []
+
+  -- the root that the n-th line is
+  unfoldable pub root-of : List Term → ℕ → Content → List Root
+  root-of terms n (ask q options) = []
+  root-of terms n (term node) = []
+  root-of terms n (assume name flag t) = []
+  root-of terms n (fun name) = []
+  root-of terms n (def name t) = []
+  root-of terms n (retain names) = []
+  root-of terms n (root q name t) =
+      record { line = n; query = q; name = name; free-names = free-top-level-names exclude terms t } ∷ []
+
+  -- the state after the n-th line
+  unfoldable pub add-line : ℕ → State → Content → State
+  add-line n s c =
+      let decls = summarize-decl (s .terms) n c in
+      let roots = root-of (s .terms) n c in
+      record {
+        goal = asked c (s .goal);
+        terms = fold-left add-term (s .terms) (nodes c);
+        names = fold-left spell (s .names) (spelled c ++ collect trimmed-by decls);
+        decls = s .decls ++ decls;
+        roots = s .roots ++ roots;
+        references = s .references + length (collect references (nodes c));
+        entries = s .entries + sum (map entries-of decls);
+        uses = s .uses + (sum (map uses-of decls) + sum (map (λ r. length (r .free-names)) roots));
+      }
+
+  -- whether the n-th line, an assume, fun or def, repeats the name of an earlier one of the three
+  unfoldable pub repeats : ℕ → State → Content → Bool
+  repeats n s c =
+      any (λ name. mem name (collect taken-by (s .decls))) (collect taken-by (summarize-decl (s .terms) n c))
+
+  -- the n-th line: its final 0A, its fields, 5, then the limits
+  unfoldable pub read-line : ℕ → State → Line → Result State
+  read-line n s line = do
+    fs ← cond (line .ended) (ok (fields (line .bytes))) (refused refusal.Form)
+    c ← parse n (length (s .terms)) fs
+    fresh ← cond (repeats n s c) (refused refusal.Repeated) (ok c)
+    under-limits (limits (add-line n s fresh)) (add-line n s fresh)
+
+  -- the lines from the n-th on
+  unfoldable pub read-lines : ℕ → State → List Line → Reading
+  read-lines n s [] = read s
+  read-lines n s (line ∷ ls) = go-on (read-line n s line) n (λ next. read-lines (n + 1) next ls)
+
+  -- a file's lines from the first; an empty file is refused at line 1
+  unfoldable pub read-file : List ℕ → Reading
+  read-file [] = refused-at refusal.Form 1
+  read-file (b ∷ bs) = read-lines 1 start (lines (b ∷ bs))

@@ -1,0 +1,128 @@
+-- Document 01, "Firing" and "Rounds": names met, firing, the rounds of a run and its visits.
+use Prim.Native.Nat.{ℕ, zero, suc, _+_}
+use mathlib.Core.Bool.{Bool, true, false, cond, not, _&&_, _||_}
+use mathlib.Core.List.{List, [], _∷_, _++_, map}
+use mathlib.Core.Option.{Option·getD}
+use lib.ListN.{length}
+use lib.Dec.{eqb}
+use Rattle.model.specs.Lists.{any, all, keep, count, concat, collect, is-nil}
+use Rattle.model.specs.Names.{Name, mem, from-list, union}
+use Rattle.model.specs.Summaries.{Fact}
+use Rattle.model.specs.Reading.{Ask, no-ambients, pretyping-axioms, Root, Decl, Summary, Sum-assume, Sum-definefun, Sum-declfun, Sum-retain}
+use Rattle.model.specs.Pruning.{Map, try-find, init-macro-freenames}
+use Rattle.model.specs.declared.AsumKind.{AsumKind}
+use Rattle.model.specs.declared.AsumKind.the-variants.{Drop, Ambient, Triggers}
+
+-- the facts of a file, in file order
+unfoldable pub facts : List Summary → List Fact
+facts [] = []
+facts (Sum-assume f ∷ decls) = f ∷ facts decls
+facts (Sum-definefun d ∷ decls) = facts decls
+facts (Sum-declfun d ∷ decls) = facts decls
+facts (Sum-retain names ∷ decls) = facts decls
+
+-- its definitions
+unfoldable pub definitions : List Summary → List Decl
+definitions [] = []
+definitions (Sum-assume f ∷ decls) = definitions decls
+definitions (Sum-definefun d ∷ decls) = d ∷ definitions decls
+definitions (Sum-declfun d ∷ decls) = definitions decls
+definitions (Sum-retain names ∷ decls) = definitions decls
+
+-- its declarations
+unfoldable pub declarations : List Summary → List Decl
+declarations [] = []
+declarations (Sum-assume f ∷ decls) = declarations decls
+declarations (Sum-definefun d ∷ decls) = declarations decls
+declarations (Sum-declfun d ∷ decls) = d ∷ declarations decls
+declarations (Sum-retain names ∷ decls) = declarations decls
+
+-- its macros: a def's name opens to its term's free names; the five of the start, unless a def replaces them
+unfoldable pub macros : List Summary → Map (List Name)
+macros decls = map (λ d. (d .name, d .free-names)) (definitions decls) ++ init-macro-freenames
+
+-- the names met from items with these free names: a macro is opened one level
+unfoldable pub met-from : Map (List Name) → List Name → List Name
+met-from ms names = from-list (names ++ collect (λ n. Option·getD (try-find ms n) []) names)
+
+-- the listed names of a fact, one for each of its filed trigger entries
+unfoldable pub listed : Fact → List Name
+listed f = concat (f .triggers)
+
+-- the filed trigger entries, as their names
+unfoldable pub filed : List Fact → List Name
+filed fs = collect listed fs
+
+-- whether a disjunct lies wholly within the met names
+unfoldable pub lies-within : List Name → List Name → Bool
+lies-within met disjunct = all (λ n. mem n met) disjunct
+
+-- whether a fact fires on met names
+unfoldable pub fires : List Name → Fact → Bool
+fires met f = any (λ n. mem n met) (listed f) && any (lies-within met) (f .triggers)
+
+-- whether a round triggers a fact, by the names met before it and at its end
+unfoldable pub triggers-in : List Name → List Name → Fact → Bool
+triggers-in before after f =
+    any (λ n. mem n after && not (mem n before)) (listed f) && any (lies-within after) (f .triggers)
+
+-- whether a fact is retainable: its flag is 0, or option 2 is on
+unfoldable pub retainable : Ask → Fact → Bool
+retainable a f = not (f .pretyping) || pretyping-axioms a
+
+-- what a run comes to: the names met, the names of the facts reached, and the rounds
+pub record Run : Type 0 where
+  pub met : List Name
+  pub reached : List Name
+  pub rounds : ℕ
+
+module _ (a : Ask) (ms : Map (List Name)) (fs : List Fact) where
+  -- the rounds from a state on, the next one scanning items with these free names, as long as the fuel lasts
+  unfoldable pub rounds-from : ℕ → Run → List Name → Run
+  rounds-from zero r scanned = r
+  rounds-from (suc fuel) r scanned =
+      let met = union (met-from ms scanned) (r .met) in
+      let triggered = keep (triggers-in (r .met) met) fs in
+      let fresh = keep (λ f. retainable a f && not (mem (f .name) (r .reached))) triggered in
+      let reached = union (map (λ f. f .name) fresh) (r .reached) in
+      let after : Run = record { met = met; reached = reached; rounds = r .rounds + 1 } in
+      let further = rounds-from fuel after (collect (λ f. f .free-names) fresh) in
+      cond (is-nil triggered) after further
+
+-- whether a summary is ambient
+unfoldable pub is-ambient : AsumKind → Bool
+is-ambient Drop = false
+is-ambient (Ambient is-root) = true
+is-ambient (Triggers n) = false
+
+-- whether it is an ambient root
+unfoldable pub is-ambient-root : AsumKind → Bool
+is-ambient-root Drop = false
+is-ambient-root (Ambient is-root) = is-root
+is-ambient-root (Triggers n) = false
+
+-- the roots of the query
+unfoldable pub goal-roots : Ask → List Root → List Root
+goal-roots a roots = keep (λ r. eqb (r .query) (a .query)) roots
+
+-- the ambient roots, none with option 1
+unfoldable pub ambient-roots : Ask → List Fact → List Fact
+ambient-roots a fs = cond (no-ambients a) [] (keep (λ f. is-ambient-root (f .kind)) fs)
+
+-- the free names of what round 1 scans
+unfoldable pub first-scanned : Ask → List Fact → List Root → List Name
+first-scanned a fs roots =
+    collect (λ r. r .free-names) (goal-roots a roots) ++ collect (λ f. f .free-names) (ambient-roots a fs)
+
+-- the run of an ask over the records of a file; its fuel is one more than the distinct trigger names filed
+unfoldable pub run : Ask → List Summary → List Root → Run
+run a decls roots =
+    let fs = facts decls in
+    rounds-from a (macros decls) fs
+    (suc (length (from-list (filed fs))))
+    (record { met = []; reached = []; rounds = 0 })
+    (first-scanned a fs roots)
+
+-- the visits: the filed entries whose name is met
+unfoldable pub visits : List Name → List Fact → ℕ
+visits met fs = count (λ n. mem n met) (filed fs)
