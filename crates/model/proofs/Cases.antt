@@ -129,9 +129,8 @@ agrees file =
     && same-lines (from-list (drop n ours)) (from-list (drop n theirs))
     && eqb (length ours) (length theirs)
 
--- an entry of the table
+-- an entry of the table: the lines of a file, and the lines printed of it
 record Case : Type 0 where
-  name : String
   file : List String
   printed : List String
 
@@ -139,15 +138,15 @@ record Case : Type 0 where
 passes : Case → Bool
 passes c = same-lines (print (file-of (c .file))) (map bytes (c .printed)) && agrees (file-of (c .file))
 
--- the names of the entries that do not pass
-failing : List Case → List String
-failing [] = []
-failing (c ∷ cs) = let rest = failing cs in cond (passes c) rest (c .name ∷ rest)
+-- that each entry of a table passes
+abbrev All-pass : List Case → Type 0
+All-pass [] = Unit {0}
+All-pass (c ∷ cs) = (passes c ≡ true) × All-pass cs
 
-table : List Case
-table =
+-- disjuncts {} and {p,q}, p met: fires
+F1 : Case
+F1 =
     record {
-      name = "F1";
       file = ("ask,0,0"
           ∷ "free,p"
           ∷ "free,q"
@@ -160,8 +159,11 @@ table =
           ∷ "sum,1,2,3"
           ∷ []);
     }
-    ∷ record {
-      name = "F2 no disjunct";
+
+-- no disjunct: never
+F2-no-disjunct : Case
+F2-no-disjunct =
+    record {
       file = ("ask,0,0"
           ∷ "free,p"
           ∷ "op,and"
@@ -175,8 +177,11 @@ table =
           ∷ "sum,0,0,1"
           ∷ []);
     }
-    ∷ record {
-      name = "F2 only {}";
+
+-- only {}: never
+F2-only-empty : Case
+F2-only-empty =
+    record {
       file = ("ask,0,0"
           ∷ "free,p"
           ∷ "all,0,1,0"
@@ -190,8 +195,11 @@ table =
           ∷ "sum,0,0,1"
           ∷ []);
     }
-    ∷ record {
-      name = "F3 k not";
+
+-- g opens to h, h to k; g met: k not
+F3 : Case
+F3 =
+    record {
       file = ("ask,0,0"
           ∷ "free,g"
           ∷ "free,h"
@@ -206,8 +214,11 @@ table =
           ∷ "sum,0,0,1"
           ∷ []);
     }
-    ∷ record {
-      name = "F3 h met";
+
+-- h, met by opening g, is opened once it is free in a scanned fact
+F3-h-met : Case
+F3-h-met =
+    record {
       file = ("ask,0,0"
           ∷ "free,g"
           ∷ "free,h"
@@ -227,8 +238,11 @@ table =
           ∷ "sum,2,2,3"
           ∷ []);
     }
-    ∷ record {
-      name = "F4";
+
+-- is-BoxInt met: BoxInt met
+F4 : Case
+F4 =
+    record {
       file = ("ask,0,0"
           ∷ "leaf"
           ∷ "call,is-BoxInt,0"
@@ -242,8 +256,11 @@ table =
           ∷ "sum,1,1,2"
           ∷ []);
     }
-    ∷ record {
-      name = "F4 def replaces";
+
+-- a def of the macro's name replaces it
+F4-def-replaces : Case
+F4-def-replaces =
+    record {
       file = ("ask,0,0"
           ∷ "leaf"
           ∷ "call,is-BoxInt,0"
@@ -257,8 +274,11 @@ table =
           ∷ "sum,0,0,1"
           ∷ []);
     }
-    ∷ record {
-      name = "F4 fun does not";
+
+-- a fun of the macro's name does not
+F4-fun-does-not : Case
+F4-fun-does-not =
+    record {
       file = ("ask,0,4"
           ∷ "leaf"
           ∷ "call,is-BoxInt,0"
@@ -274,8 +294,11 @@ table =
           ∷ "sum,2,1,2"
           ∷ []);
     }
-    ∷ record {
-      name = "F5";
+
+-- one group naming only HasType: {}, never kept
+F5 : Case
+F5 =
+    record {
       file = ("ask,0,0"
           ∷ "free,p"
           ∷ "free,HasType"
@@ -289,8 +312,11 @@ table =
           ∷ "sum,0,0,1"
           ∷ []);
     }
-    ∷ record {
-      name = "F6";
+
+-- token f@tok: {f@tok}, {f}
+F6 : Case
+F6 =
+    record {
       file = ("ask,0,0"
           ∷ "free,__uu__PartialApp"
           ∷ "free,f@tok"
@@ -305,8 +331,11 @@ table =
           ∷ "sum,1,2,3"
           ∷ []);
     }
-    ∷ record {
-      name = "F6 @tok alone";
+
+-- token @tok: {@tok} and the empty name
+F6-tok-alone : Case
+F6-tok-alone =
+    record {
       file = ("ask,0,0"
           ∷ "call,__uu__PartialApp"
           ∷ "call,@tok"
@@ -320,8 +349,11 @@ table =
           ∷ "sum,1,1,2"
           ∷ []);
     }
-    ∷ record {
-      name = "F6 unfiltered";
+
+-- a token's names are not filtered
+F6-unfiltered : Case
+F6-unfiltered =
+    record {
       file = ("ask,0,0"
           ∷ "free,__uu__PartialApp"
           ∷ "free,HasType@tok"
@@ -343,8 +375,11 @@ table =
           ∷ "sum,0,0,1"
           ∷ []);
     }
-    ∷ record {
-      name = "F7";
+
+-- `true` as assumption_x: one {}; as y: drop
+F7 : Case
+F7 =
+    record {
       file = ("ask,0,0"
           ∷ "op,true"
           ∷ "assume,assumption_x,0,0"
@@ -355,8 +390,11 @@ table =
           ∷ "sum,0,0,1"
           ∷ []);
     }
-    ∷ record {
-      name = "F8";
+
+-- a labelled `eq` as y: ambient, no root
+F8 : Case
+F8 =
+    record {
       file = ("ask,0,0"
           ∷ "free,p"
           ∷ "op,eq,0,0"
@@ -371,8 +409,11 @@ table =
           ∷ "sum,1,0,1"
           ∷ []);
     }
-    ∷ record {
-      name = "F9 option 2 off";
+
+-- pretyping, option 2 off: ambient kept, fired not
+F9 : Case
+F9 =
+    record {
       file = ("ask,0,0"
           ∷ "free,p"
           ∷ "leaf"
@@ -387,8 +428,11 @@ table =
           ∷ "sum,1,1,2"
           ∷ []);
     }
-    ∷ record {
-      name = "F9 option 2 on";
+
+-- option 2 on: fired too
+F9-option-2 : Case
+F9-option-2 =
+    record {
       file = ("ask,0,2"
           ∷ "free,p"
           ∷ "leaf"
@@ -404,8 +448,11 @@ table =
           ∷ "sum,2,1,2"
           ∷ []);
     }
-    ∷ record {
-      name = "F9 option 1 on";
+
+-- option 1 on: no ambient
+F9-option-1 : Case
+F9-option-1 =
+    record {
       file = ("ask,0,3"
           ∷ "free,p"
           ∷ "leaf"
@@ -420,8 +467,11 @@ table =
           ∷ "sum,1,1,2"
           ∷ []);
     }
-    ∷ record {
-      name = "F10";
+
+-- the program's worked example
+F10 : Case
+F10 =
+    record {
       file = ("ask,0,4"
           ∷ "free,p"
           ∷ "free,q"
@@ -445,35 +495,39 @@ table =
           ∷ "sum,4,4,2"
           ∷ []);
     }
-    ∷ []
 
-all-pass : failing table ≡ []
-unfolding table failing passes digits show between comma set show-kind show-fact name-at show-outcome decls-of
-    file-of print same-lines pruned listed-lines facts-kept agrees Lists.any Lists.all Lists.keep Lists.count
-    Lists.concat Lists.is-nil Lists.sum Lists.collect Lists.fold-left Lists.to-list Lists.or-else Lists.holds
-    Lists.when Names.bytes Names.by-byte Names.order Names.is-same Names.same Names.mem Names.add-by Names.add
-    Names.from-list Names.union Names.diff Names.remove Names.starts-with Names.ends-with Lines.line-cons
-    Lines.lines Lines.field-cons Lines.fields Lines.is-name-byte Lines.is-name Lines.is-digit Lines.decimal
-    Lines.number Terms.term Terms.names-of Terms.free-top-level-names Terms.unlabeled Terms.add-term
-    Terms.references Summaries.exclude-names Summaries.Sum-drop Summaries.Sum-ambient Summaries.Sum-triggers
-    Summaries.free-of Summaries.call-of Summaries.op-of Summaries.groups-of Summaries.op-number Summaries.one
-    Summaries.two Summaries.op-args Summaries.call-args Summaries.call-one Summaries.call-two Summaries.head
-    Summaries.is-empty Summaries.free-top-level-names Summaries.group-names Summaries.triggers-of-term
+abbrev table : List Case
+table = F1 ∷ F2-no-disjunct ∷ F2-only-empty ∷ F3 ∷ F3-h-met ∷ F4 ∷ F4-def-replaces ∷ F4-fun-does-not ∷ F5 ∷ F6 ∷ F6-tok-alone ∷ F6-unfiltered ∷ F7 ∷ F8 ∷ F9 ∷ F9-option-2 ∷ F9-option-1 ∷ F10 ∷ []
+
+all-pass : All-pass table
+unfolding F1 F2-no-disjunct F2-only-empty F3 F3-h-met F4 F4-def-replaces F4-fun-does-not F5 F6 F6-tok-alone
+    F6-unfiltered F7 F8 F9 F9-option-2 F9-option-1 F10 passes digits show between comma set show-kind show-fact
+    name-at show-outcome decls-of file-of print same-lines pruned listed-lines facts-kept agrees Lists.any
+    Lists.all Lists.keep Lists.count Lists.concat Lists.is-nil Lists.sum Lists.collect Lists.fold-left
+    Lists.to-list Lists.or-else Lists.holds Lists.when Names.bytes Names.by-byte Names.order Names.is-same
+    Names.same Names.mem Names.add-by Names.add Names.from-list Names.union Names.diff Names.remove
+    Names.starts-with Names.ends-with Lines.line-cons Lines.lines Lines.field-cons Lines.fields
+    Lines.is-name-byte Lines.is-name Lines.is-digit Lines.decimal Lines.number Terms.term Terms.names-of
+    Terms.free-top-level-names Terms.unlabeled Terms.add-term Terms.references Summaries.exclude-names
+    Summaries.Sum-drop Summaries.Sum-ambient Summaries.Sum-triggers Summaries.free-of Summaries.call-of
+    Summaries.op-of Summaries.groups-of Summaries.op-number Summaries.one Summaries.two Summaries.op-args
+    Summaries.call-args Summaries.call-one Summaries.call-two Summaries.head Summaries.is-empty
+    Summaries.token-triggers Summaries.free-top-level-names Summaries.group-names Summaries.triggers-of-term
     Summaries.at Summaries.is-ambient-refinement Summaries.ambient-refinement-payload Summaries.rule-1
-    Summaries.rule-2 Summaries.rule-3 Summaries.token-triggers Summaries.token Summaries.rule-4 Summaries.rule-5
-    Summaries.rule-6 Summaries.rule-7 Summaries.rule-8 Summaries.has-eq Summaries.rule-9 Summaries.rule-10
-    Summaries.rule-11 Summaries.rule-12 Summaries.first-rule Summaries.maybe-add-ambient
-    Summaries.summarize-assumption Reading.need Reading.name-field Reading.number-field Reading.term-field
-    Reading.op-words Reading.kinds Reading.word Reading.fixed-count Reading.next Reading.many Reading.rest
-    Reading.end Reading.groups Reading.quantifier Reading.content Reading.kind-field Reading.parse
-    Reading.no-ambients Reading.pretyping-axioms Reading.prune-decls Reading.start Reading.asked Reading.nodes
-    Reading.spelled-by Reading.spelled Reading.taken-by Reading.trimmed-by Reading.entries-of Reading.uses-of
-    Reading.spell Reading.limits Reading.under-limits Reading.go-on Reading.summarize-decl Reading.root-of
-    Reading.add-line Reading.repeats Reading.read-line Reading.read-lines Reading.read-file Pruning.try-find
-    Pruning.map-add Pruning.map-remove Pruning.should-retain-assumption Pruning.init-macro-freenames
-    Pruning.init Pruning.with-trigger-to-assumption Pruning.with-assumption-to-triggers
-    Pruning.add-trigger-to-assumption Pruning.passumption Pruning.with-assumption Pruning.with-ambient
-    Pruning.add-by-kind Pruning.add-assumption-summary Pruning.trigger-reached Pruning.remove-trigger
+    Summaries.rule-2 Summaries.rule-3 Summaries.token Summaries.rule-4 Summaries.rule-5 Summaries.rule-6
+    Summaries.rule-7 Summaries.rule-8 Summaries.has-eq Summaries.rule-9 Summaries.rule-10 Summaries.rule-11
+    Summaries.rule-12 Summaries.first-rule Summaries.maybe-add-ambient Summaries.summarize-assumption
+    Reading.need Reading.name-field Reading.number-field Reading.term-field Reading.op-words Reading.kinds
+    Reading.word Reading.fixed-count Reading.next Reading.many Reading.rest Reading.end Reading.groups
+    Reading.quantifier Reading.content Reading.kind-field Reading.parse Reading.no-ambients
+    Reading.pretyping-axioms Reading.prune-decls Reading.start Reading.asked Reading.nodes Reading.spelled-by
+    Reading.spelled Reading.taken-by Reading.trimmed-by Reading.entries-of Reading.uses-of Reading.spell
+    Reading.limits Reading.under-limits Reading.go-on Reading.summarize-decl Reading.root-of Reading.add-line
+    Reading.repeats Reading.read-line Reading.read-lines Reading.read-file Pruning.try-find Pruning.map-add
+    Pruning.map-remove Pruning.should-retain-assumption Pruning.init-macro-freenames Pruning.init
+    Pruning.with-trigger-to-assumption Pruning.with-assumption-to-triggers Pruning.add-trigger-to-assumption
+    Pruning.passumption Pruning.with-assumption Pruning.with-ambient Pruning.add-by-kind
+    Pruning.add-assumption-summary Pruning.trigger-reached Pruning.remove-trigger
     Pruning.remove-trigger-for-assumption Pruning.passumption-of-root Pruning.with-def Pruning.add-summary
     Pruning.add-summaries Pruning.mark-trigger-reached Pruning.find-assumptions-waiting-on-trigger
     Pruning.reached-assumption Pruning.remove-trigger-for Pruning.already-reached Pruning.trigger-assumption
@@ -485,4 +539,4 @@ unfolding table failing passes digits show between comma set show-kind show-fact
     Kept.reached-facts Kept.ambients Kept.kept-facts Kept.kept-names Kept.kept-decls Kept.kept
     Outcome.refusal-number Outcome.filtered Outcome.of-reading Outcome.fitting Outcome.working-words
     Outcome.outcome Outcome.answer Outcome.result-after Outcome.is-working Outcome.work-after
-all-pass = refl
+all-pass = (refl, (refl, (refl, (refl, (refl, (refl, (refl, (refl, (refl, (refl, (refl, (refl, (refl, (refl, (refl, (refl, (refl, (refl, tt))))))))))))))))))
