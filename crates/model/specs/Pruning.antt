@@ -266,14 +266,21 @@ reach pretyping-axioms (acc, c) a =
     cond (already-reached (a .pa-name) c || not (should-retain-assumption pretyping-axioms a)) (acc, c)
     (a ∷ acc, reached-assumption (a .pa-name) c)
 
+-- what one entry of `scan` triggers, and the state then
+unfoldable pub pending : List Passumption → Ctxt → List Passumption × Ctxt
+pending ds c = trigger-pending-assumptions (new-syms ds c) c
+
+-- what `scan` goes on with: the triggered assumptions that are retained and were not reached before
+unfoldable pub to-scan : Bool → List Passumption → Ctxt → List Passumption × Ctxt
+to-scan pretyping-axioms ds c = fold-left (reach pretyping-axioms) ([], pending ds c .1) (pending ds c .0)
+
 -- `scan`, as long as the fuel lasts
 unfoldable pub scan : Bool → ℕ → List Passumption → Ctxt → Ctxt
 scan pretyping-axioms zero ds c = c
 scan pretyping-axioms (suc fuel) ds c =
-    let pending = trigger-pending-assumptions (new-syms ds c) c in
-    let to-scan = fold-left (reach pretyping-axioms) ([], pending .1) (pending .0) in
-    let scanned = scan pretyping-axioms fuel (to-scan .0) (to-scan .1) in
-    cond (is-nil (pending .0)) (pending .1) scanned
+    let next = to-scan pretyping-axioms ds c in
+    let scanned = scan pretyping-axioms fuel (next .0) (next .1) in
+    cond (is-nil (pending ds c .0)) (pending ds c .1) scanned
 
 -- a name met by `prune` for the first time, by what is found under it
 unfoldable pub include-found : List Name × List Pdef → Name → Option Pdef → List Name × List Pdef

@@ -77,17 +77,33 @@ pub record Run : Type 0 where
   pub rounds : ℕ
 
 module _ (a : Ask) (ms : Map (List Name)) (fs : List Fact) where
-  -- the rounds from a state on, the next one scanning items with these free names, as long as the fuel lasts
+  -- the names met at the end of a round that scans items with these free names
+  unfoldable pub met-after : Run → List Name → List Name
+  met-after r scanned = union (met-from ms scanned) (r .met)
+
+  -- the facts that the round triggers
+  unfoldable pub triggered : Run → List Name → List Fact
+  triggered r scanned = keep (triggers-in (r .met) (met-after r scanned)) fs
+
+  -- those of them that it reaches: retainable and not yet reached
+  unfoldable pub fresh : Run → List Name → List Fact
+  fresh r scanned = keep (λ f. retainable a f && not (mem (f .name) (r .reached))) (triggered r scanned)
+
+  -- the state after the round
+  unfoldable pub after-round : Run → List Name → Run
+  after-round r scanned =
+      record {
+        met = met-after r scanned;
+        reached = union (map (λ f. f .name) (fresh r scanned)) (r .reached);
+        rounds = r .rounds + 1;
+      }
+
+  -- the rounds from a state on, as long as the fuel lasts: the next one scans what this one reached
   unfoldable pub rounds-from : ℕ → Run → List Name → Run
   rounds-from zero r scanned = r
   rounds-from (suc fuel) r scanned =
-      let met = union (met-from ms scanned) (r .met) in
-      let triggered = keep (triggers-in (r .met) met) fs in
-      let fresh = keep (λ f. retainable a f && not (mem (f .name) (r .reached))) triggered in
-      let reached = union (map (λ f. f .name) fresh) (r .reached) in
-      let after : Run = record { met = met; reached = reached; rounds = r .rounds + 1 } in
-      let further = rounds-from fuel after (collect (λ f. f .free-names) fresh) in
-      cond (is-nil triggered) after further
+      let further = rounds-from fuel (after-round r scanned) (collect (λ f. f .free-names) (fresh r scanned)) in
+      cond (is-nil (triggered r scanned)) (after-round r scanned) further
 
 -- whether a summary is ambient
 unfoldable pub is-ambient : AsumKind → Bool
