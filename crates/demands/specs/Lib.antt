@@ -1,0 +1,5 @@
+pub mod Accepted
+pub mod Fuel
+
+
+
