@@ -535,9 +535,10 @@ unfolding F1 F2-no-disjunct F2-only-empty F3 F3-h-met F4 F4-def-replaces F4-fun-
     Pruning.reach Pruning.pending Pruning.to-scan Pruning.scan Pruning.include-found Pruning.include-name
     Pruning.decls-and-defs Pruning.prune Rounds.facts Rounds.definitions Rounds.declarations Rounds.macros
     Rounds.met-from Rounds.listed Rounds.filed Rounds.lies-within Rounds.fires Rounds.triggers-in
-    Rounds.retainable Rounds.met-after Rounds.triggered Rounds.fresh Rounds.after-round Rounds.rounds-from
-    Rounds.is-ambient Rounds.is-ambient-root Rounds.goal-roots Rounds.ambient-roots Rounds.first-scanned
-    Rounds.run Rounds.visits Kept.reached-facts Kept.ambients Kept.kept-facts Kept.kept-names Kept.kept-decls
-    Kept.kept Outcome.refusal-number Outcome.filtered Outcome.of-reading Outcome.fitting Outcome.working-words
-    Outcome.outcome Outcome.answer Outcome.result-after Outcome.is-working Outcome.work-after
+    Rounds.retainable Rounds.met-after Rounds.triggered Rounds.fresh Rounds.after-round Rounds.next-scanned
+    Rounds.rounds-from Rounds.is-ambient Rounds.is-ambient-root Rounds.goal-roots Rounds.ambient-roots
+    Rounds.first-scanned Rounds.run Rounds.visits Kept.reached-facts Kept.ambients Kept.kept-facts
+    Kept.kept-names Kept.kept-decls Kept.kept Outcome.refusal-number Outcome.filtered Outcome.of-reading
+    Outcome.fitting Outcome.working-words Outcome.outcome Outcome.answer Outcome.result-after Outcome.is-working
+    Outcome.work-after
 all-pass = (refl, (refl, (refl, (refl, (refl, (refl, (refl, (refl, (refl, (refl, (refl, (refl, (refl, (refl, (refl, (refl, (refl, (refl, tt))))))))))))))))))
