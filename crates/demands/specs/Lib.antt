@@ -1,5 +1,5 @@
 pub mod Accepted
 pub mod Fuel
-
-
-
+pub mod Demand2
+pub mod Demand3
+pub mod Queries
