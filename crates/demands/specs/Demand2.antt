@@ -33,8 +33,8 @@ abbrev pub Scan-ends : Type 0
 Scan-ends =
     (file : List ℕ) (s : State) → Accepted file s
     → Scans (pretyping-axioms (s .goal)) (scan-roots s) (scan-start s)
-        (scan (pretyping-axioms (s .goal)) (suc (length (filed-state s .trigger-to-assumption)))
-          (scan-roots s) (scan-start s))
+    (scan (pretyping-axioms (s .goal)) (suc (length (filed-state s .trigger-to-assumption)))
+    (scan-roots s) (scan-start s))
 
 -- the list of Pruning.fst
 abbrev pub pruned : State → List ℕ

@@ -68,17 +68,17 @@ abbrev pub Visits-exact : Type 0
 Visits-exact =
     (file : List ℕ) (s : State) → Accepted file s
     → (run-of s .met ≡ met-by (s .goal) (s .decls) (s .roots) (reached s))
-      × (visits (run-of s .met) (facts (s .decls))
-         ≡ length (keep (λ n. mem n (met-by (s .goal) (s .decls) (s .roots) (reached s))) (filed (facts (s .decls)))))
+    × (visits (run-of s .met) (facts (s .decls))
+    ≡ length (keep (λ n. mem n (met-by (s .goal) (s .decls) (s .roots) (reached s))) (filed (facts (s .decls)))))
 
 -- "and the rounds are exactly those of document 01": each round but the last triggers a fact, the last none
 abbrev pub Rounds-exact : Type 0
 Rounds-exact =
     (file : List ℕ) (s : State) → Accepted file s
     → Ends (s .goal) (macros (s .decls)) (facts (s .decls))
-        (record { met = []; reached = []; rounds = 0 })
-        (first-scanned (s .goal) (facts (s .decls)) (s .roots))
-        (run-of s)
+    (record { met = []; reached = []; rounds = 0 })
+    (first-scanned (s .goal) (facts (s .decls)) (s .roots))
+    (run-of s)
 
 -- "at most one more than the distinct trigger names filed"
 abbrev pub Rounds-bound : Type 0
