@@ -177,7 +177,7 @@ remove-trigger p trig aname (some l) =
 unfoldable pub remove-trigger-for-assumption : PruningState → Name → Name → PruningState × Bool
 remove-trigger-for-assumption p trig aname = remove-trigger p trig aname (try-find (p .assumption-to-triggers) aname)
 
--- the `passumption` of a root
+-- `passumption_of_assumption`, of a root: its pretyping mark is never asked and none is stored
 unfoldable pub passumption-of-root : Root → Passumption
 passumption-of-root r =
     record { pa-name = r .name; pa-free-names = r .free-names; pa-pretyping = false; pa-resolve = r .line }
@@ -241,7 +241,7 @@ trigger-assumption lid (acc, c) a =
     let r = remove-trigger-for lid a c in
     (cond (r .0) (a ∷ acc) acc, r .1)
 
--- its outer fold: one trigger
+-- the outer fold of `trigger_pending_assumptions`: one trigger
 unfoldable pub trigger-pending : List Passumption × Ctxt → Name → List Passumption × Ctxt
 trigger-pending (acc, c) lid =
     let assumptions = find-assumptions-waiting-on-trigger lid c in
