@@ -70,6 +70,7 @@ one-of-name {n} (f ∷ fs) d m = go (T-dec (same (f .name) n)) (one-of-name fs (
   where
     others : List Fact
     others = keep (λ g. same (g .name) n) fs
+
     go : T (same (f .name) n) ⊎ T (not (same (f .name) n)) → (List·Memᴰ n (names-of fs) → names-of others ≡ n ∷ [])
         → names-of (cond (same (f .name) n) (f ∷ others) others) ≡ n ∷ []
     go (inl t) below = rw (cond-true (same (f .name) n) (f ∷ others) others t, none-of-name {n = n} fs (λ i. distinct-head d (Memᴰ·cast (same-eq t) i)), same-eq t)

@@ -108,6 +108,7 @@ fires-triggers before after f t =
   where
     new : Name → Bool
     new n = mem n after && not (mem n before)
+
     old : T (not (any new (listed f))) → (n : Name) → List·Memᴰ n (listed f) → T (mem n after) → T (mem n before)
     old u n i h =
         ⊎-elim (λ v. v) (λ v. absurd (T-not (any new (listed f)) u (any-intro new i (T-and (mem n after) (not (mem n before)) .1 (h, v)))))

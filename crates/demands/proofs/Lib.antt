@@ -1,3 +1,4 @@
 pub mod Facts
 pub mod FuelLaws
 pub mod FiringLaws
+pub mod RoundsLaws

@@ -1,0 +1,197 @@
+-- What holds at each round of a run, and so at its end.
+use mathlib.Core.Path.{_≡_, refl, sym}
+use mathlib.Core.Logic.{_⊎_, inl, inr, ⊎-elim}
+use mathlib.Core.Bool.{Bool, not, _&&_}
+use mathlib.Core.List.{List, [], _∷_, _++_, map, List·Memᴰ, List·Memᴰ·not-nil, List·Memᴰ·append-cases, Memᴰ·append-left, Memᴰ·append-right, Memᴰ·cast}
+use lib.Dec.{T, T-not}
+use lib.ListN.{length}
+use Rattle.model.specs.Lists.{any, keep, collect, is-nil}
+use Rattle.model.specs.Names.{Name, mem, from-list, union}
+use Rattle.model.specs.Summaries.{Fact}
+use Rattle.model.specs.Reading.{Ask, Summary, Root}
+use Rattle.model.specs.Pruning.{Map}
+use Rattle.model.specs.Rounds.{Run, facts, macros, filed, fires, listed, triggers-in, retainable, met-from, met-after, triggered, fresh, after-round, next-scanned, first-scanned, run, visits}
+use Rattle.model.proofs.ListLaws.{T-and, T-dec, T-ext, any-intro, any-elim, keep-intro, keep-elim, count-keep, collect-intro, collect-elim, is-nil-elim, map-intro, map-elim}
+use Rattle.model.proofs.SetLaws.{Within, Ascending, empty, mem-intro, mem-elim, mem-union, ascending-union, ascending-from-list, ascending-ext}
+use Rattle.demands.specs.Accepted.{Distinct, Well-formed}
+use Rattle.demands.specs.Fuel.{Ends, last, more}
+use Rattle.demands.specs.Demand3.{met-by, Closed}
+use Rattle.demands.proofs.Facts.{names-of, by-name, names-distinct}
+use Rattle.demands.proofs.FuelLaws.{met-grows, run-ends}
+use Rattle.demands.proofs.FiringLaws.{met-intro, met-elim, met-within, met-append, fires-elim, fires-more, triggers-fires, fires-triggers}
+
+-- the names met from items with these free names and the facts of a set
+unfoldable pub met-with : Map (List Name) → List Fact → List Name → (Fact → Bool) → List Name
+met-with ms fs first set = met-from ms (first ++ collect (λ f. f .free-names) (keep set fs))
+
+module _ (ms : Map (List Name)) where
+  -- what a fact of a list meets, the list meets
+  pub met-fact : {l : List Fact} {f : Fact} → List·Memᴰ f l → Within (met-from ms (f .free-names)) (met-from ms (collect (λ (f : Fact). f .free-names) l))
+  met-fact {l} {f} m = met-within ms (f .free-names) (collect (λ (f : Fact). f .free-names) l) (λ n i. collect-intro (λ (f : Fact). f .free-names) m i)
+
+  -- what a list of facts meets, one of them meets
+  pub fact-met : (l : List Fact) (k : Name) → T (mem k (met-from ms (collect (λ (f : Fact). f .free-names) l)))
+      → (f : Fact) × List·Memᴰ f l × T (mem k (met-from ms (f .free-names)))
+  fact-met l k t =
+      let (n, i, o) = met-elim ms (collect (λ (f : Fact). f .free-names) l) t in
+      let (f, j, m) = collect-elim (λ (f : Fact). f .free-names) l i in
+      (f, j, met-intro ms m o)
+
+  module _ (fs : List Fact) (first : List Name) where
+    -- the names met from the first items
+    pub with-first : (set : Fact → Bool) → Within (met-from ms first) (met-with ms fs first set)
+    unfolding met-with
+    with-first set = met-within ms first _ (λ n. Memᴰ·append-left _)
+
+    -- and from each fact of the set
+    pub with-fact : (set : Fact → Bool) {f : Fact} → List·Memᴰ f fs → T (set f) → Within (met-from ms (f .free-names)) (met-with ms fs first set)
+    unfolding met-with
+    with-fact set m t = met-within ms _ _ (λ n i. Memᴰ·append-right first (collect-intro (λ (f : Fact). f .free-names) (keep-intro set m t) i))
+
+    -- and no others
+    pub with-elim : (set : Fact → Bool) (k : Name) → T (mem k (met-with ms fs first set))
+        → T (mem k (met-from ms first)) ⊎ ((f : Fact) × List·Memᴰ f fs × T (set f) × T (mem k (met-from ms (f .free-names))))
+    unfolding met-with
+    with-elim set k t =
+        ⊎-elim inl (λ u. let (f, i, v) = fact-met (keep set fs) k u in let (m, w) = keep-elim set fs i in inr (f, m, w, v))
+        (met-append ms first (collect (λ f. f .free-names) (keep set fs)) k t)
+
+    -- more facts meet no less
+    pub with-more : (set set′ : Fact → Bool) → ((f : Fact) → List·Memᴰ f fs → T (set f) → T (set′ f)) → Within (met-with ms fs first set) (met-with ms fs first set′)
+    with-more set set′ h k t =
+        ⊎-elim (with-first set′ k) (λ p. let (f, m, u, v) = p in with-fact set′ m (h f m u) k v) (with-elim set k t)
+
+-- the facts that a run has reached
+abbrev pub reached-by : Run → Fact → Bool
+reached-by r f = mem (f .name) (r .reached)
+
+-- what a round scans is met at its end
+pub met-scans : (ms : Map (List Name)) (r : Run) (scanned : List Name) → Within (met-from ms scanned) (met-after ms r scanned)
+unfolding met-after
+met-scans ms r scanned k t = mem-union k (met-from ms scanned) (r .met) .1 (inl t)
+
+-- what is met at its end was met before it, or it scans it
+pub after-elim : (ms : Map (List Name)) (r : Run) (scanned : List Name) (k : Name) → T (mem k (met-after ms r scanned))
+    → T (mem k (met-from ms scanned)) ⊎ T (mem k (r .met))
+unfolding met-after
+after-elim ms r scanned k t = mem-union k (met-from ms scanned) (r .met) .0 t
+
+-- the names met at its end are a set where those before it are
+pub ascending-after : (ms : Map (List Name)) (r : Run) (scanned : List Name) → Ascending (r .met) → Ascending (met-after ms r scanned)
+unfolding met-after
+ascending-after ms r scanned m = ascending-union (met-from ms scanned) m
+
+module _ (a : Ask) (ms : Map (List Name)) (fs : List Fact) where
+  -- a round that triggers none reaches none
+  pub none-next : (r : Run) (scanned : List Name) → T (is-nil (triggered ms fs r scanned)) → next-scanned a ms fs r scanned ≡ []
+  unfolding next-scanned fresh keep collect
+  none-next r scanned t = rw (is-nil-elim (triggered ms fs r scanned) t)
+
+  -- what each round hands on holds at the end, with nothing more to scan
+  pub at-end : (P : Run → List Name → Type 0)
+      → ((r : Run) (scanned : List Name) → P r scanned → P (after-round a ms fs r scanned) (next-scanned a ms fs r scanned))
+      → {r end : Run} {scanned : List Name} → Ends a ms fs r scanned end → P r scanned → P end []
+  at-end P step (last {r} {scanned} t) p = rw (none-next r scanned t) at (step r scanned p)
+  at-end P step (more {r} {scanned} t e) p = at-end P step e (step r scanned p)
+
+  -- a fact that a round reaches is a fact of the file, triggered by it, retainable and not reached before
+  pub record Fresh (r : Run) (scanned : List Name) (f : Fact) : Type 0 where
+    pub is-fact : List·Memᴰ f fs
+    pub is-triggered : T (triggers-in (r .met) (met-after ms r scanned) f)
+    pub is-retainable : T (retainable a f)
+
+  pub fresh-elim : (r : Run) (scanned : List Name) {f : Fact} → List·Memᴰ f (fresh a ms fs r scanned) → Fresh r scanned f
+  unfolding fresh triggered
+  fresh-elim r scanned {f} m =
+      let (i, t) = keep-elim (λ f. retainable a f && not (mem (f .name) (r .reached))) (triggered ms fs r scanned) m in
+      let (j, u) = keep-elim (triggers-in (r .met) (met-after ms r scanned)) fs i in
+      record { is-fact = j; is-triggered = u; is-retainable = T-and (retainable a f) (not (mem (f .name) (r .reached))) .0 t .0 }
+
+  -- a name reached at the end of a round was reached before it, or is that of a fact that the round reaches
+  pub reached-elim : (r : Run) (scanned : List Name) (n : Name) → T (mem n (after-round a ms fs r scanned .reached))
+      → ((f : Fact) × List·Memᴰ f (fresh a ms fs r scanned) × (f .name ≡ n)) ⊎ T (mem n (r .reached))
+  unfolding after-round
+  reached-elim r scanned n t =
+      ⊎-elim (λ u. inl (map-elim (λ (f : Fact). f .name) (fresh a ms fs r scanned) (mem-elim u))) inr
+      (mem-union n (map (λ (f : Fact). f .name) (fresh a ms fs r scanned)) (r .reached) .0 t)
+
+  -- a name reached stays reached
+  pub reached-stays : (r : Run) (scanned : List Name) (n : Name) → T (mem n (r .reached)) → T (mem n (after-round a ms fs r scanned .reached))
+  unfolding after-round
+  reached-stays r scanned n t = mem-union n (map (λ (f : Fact). f .name) (fresh a ms fs r scanned)) (r .reached) .1 (inr t)
+
+  -- a retainable fact that a round triggers is reached at its end
+  pub reached-intro : (r : Run) (scanned : List Name) {f : Fact} → Fresh r scanned f → T (reached-by (after-round a ms fs r scanned) f)
+  unfolding after-round fresh triggered
+  reached-intro r scanned {f} h =
+      ⊎-elim (reached-stays r scanned (f .name))
+      (λ u. mem-union (f .name) (map (λ (f : Fact). f .name) (fresh a ms fs r scanned)) (r .reached) .1
+      (inl (mem-intro (map-intro (λ (f : Fact). f .name)
+      (keep-intro (λ f. retainable a f && not (mem (f .name) (r .reached)))
+      (keep-intro (triggers-in (r .met) (met-after ms r scanned)) (h .is-fact) (h .is-triggered))
+      (T-and (retainable a f) (not (mem (f .name) (r .reached))) .1 (h .is-retainable, u)))))))
+      (T-dec (reached-by r f))
+
+  -- what holds before a round that scans these names, of a run whose first round scans the names `first`
+  pub record Before (first : List Name) (r : Run) (scanned : List Name) : Type 0 where
+    pub met-set : Ascending (r .met)
+    pub reached-set : Ascending (r .reached)
+    -- once they are scanned, the names met are those from the first and from the reached facts
+    pub met-below : Within (met-after ms r scanned) (met-with ms fs first (reached-by r))
+    pub met-above : Within (met-with ms fs first (reached-by r)) (met-after ms r scanned)
+    -- each reached name is that of a retainable fact that fires
+    pub reached-fires : (n : Name) → T (mem n (r .reached))
+        → (f : Fact) × List·Memᴰ f fs × (f .name ≡ n) × T (retainable a f) × T (fires (r .met) f)
+    -- each retainable fact that fires is reached
+    pub fires-reached : (f : Fact) → List·Memᴰ f fs → T (retainable a f) → T (fires (r .met) f) → T (reached-by r f)
+
+  module _ (once : Distinct (names-of fs)) where
+    -- a fact reached at the end of a round was reached before it, or the round reaches it
+    pub reached-cases : (r : Run) (scanned : List Name) {f : Fact} → List·Memᴰ f fs → T (reached-by (after-round a ms fs r scanned) f)
+        → List·Memᴰ f (fresh a ms fs r scanned) ⊎ T (reached-by r f)
+    reached-cases r scanned {f} m t =
+        ⊎-elim (λ p. let (g, i, e) = p in inl (Memᴰ·cast (by-name once m (fresh-elim r scanned i .is-fact) (sym e)) i)) inr
+        (reached-elim r scanned (f .name) t)
+
+    -- a round hands on what holds before it
+    pub round : (first : List Name) (r : Run) (scanned : List Name) → Before first r scanned
+        → Before first (after-round a ms fs r scanned) (next-scanned a ms fs r scanned)
+    unfolding after-round next-scanned
+    round first r scanned h =
+        record {
+          met-set = ascending-after ms r scanned (h .met-set);
+          reached-set = ascending-union _ (h .reached-set);
+          met-below = λ k t. ⊎-elim
+              (λ u. let (f, m, v) = fact-met ms (fresh a ms fs r scanned) k u in
+              let g = fresh-elim r scanned m in
+              with-fact ms fs first (reached-by end) (g .is-fact) (reached-intro r scanned g) k v)
+              (λ u. with-more ms fs first (reached-by r) (reached-by end) (λ f m. reached-stays r scanned (f .name)) k (h .met-below k u))
+              (after-elim ms end (next-scanned a ms fs r scanned) k t);
+          met-above = λ k t. ⊎-elim
+              (λ u. after-old k (h .met-above k (with-first ms fs first (reached-by r) k u)))
+              (λ p. let (f, m, u, v) = p in ⊎-elim
+              (λ i. met-scans ms end (next-scanned a ms fs r scanned) k (met-fact ms i k v))
+              (λ w. after-old k (h .met-above k (with-fact ms fs first (reached-by r) m w k v)))
+              (reached-cases r scanned m u))
+              (with-elim ms fs first (reached-by end) k t);
+          reached-fires = λ n t. ⊎-elim
+              (λ p. let (f, i, e) = p in
+              let g = fresh-elim r scanned i in
+              (f, g .is-fact, e, g .is-retainable, triggers-fires (r .met) after f (g .is-triggered)))
+              (λ u. let (f, m, e, v, w) = h .reached-fires n u in
+              (f, m, e, v, fires-more (r .met) after f (met-grows ms r scanned) w))
+              (reached-elim r scanned n t);
+          fires-reached = λ f m t u. ⊎-elim
+              (λ v. reached-intro r scanned (record { is-fact = m; is-triggered = v; is-retainable = t }))
+              (λ v. reached-stays r scanned (f .name) (h .fires-reached f m t v))
+              (fires-triggers (r .met) after f u);
+        }
+      where
+        end : Run
+        end = after-round a ms fs r scanned
+
+        after : List Name
+        after = met-after ms r scanned
+
+        after-old : Within (met-after ms r scanned) (met-after ms end (next-scanned a ms fs r scanned))
+        after-old k t = met-grows ms end (next-scanned a ms fs r scanned) k t
