@@ -195,3 +195,83 @@ module _ (a : Ask) (ms : Map (List Name)) (fs : List Fact) where
 
         after-old : Within (met-after ms r scanned) (met-after ms end (next-scanned a ms fs r scanned))
         after-old k t = met-grows ms end (next-scanned a ms fs r scanned) k t
+
+    -- it holds before the first round
+    pub first-round : (first : List Name) → Before first (record { met = []; reached = []; rounds = 0 }) first
+    unfolding mem any
+    first-round first =
+        record {
+          met-set = empty;
+          reached-set = empty;
+          met-below = λ k t. ⊎-elim (with-first ms fs first (λ f. mem (f .name) []) k) (λ u. absurd u) (after-elim ms (record { met = []; reached = []; rounds = 0 }) first k t);
+          met-above = λ k t. ⊎-elim (met-scans ms (record { met = []; reached = []; rounds = 0 }) first k) (λ p. absurd (p .2)) (with-elim ms fs first (λ f. mem (f .name) []) k t);
+          reached-fires = λ n t. absurd t;
+          fires-reached = λ f m t u. absurd (fires-elim [] f u .is-met);
+        }
+
+    -- at the end of a run the names met are those from the first and from the reached facts
+    pub met-exact : (first : List Name) (end : Run) → Before first end [] → end .met ≡ met-with ms fs first (reached-by end)
+    unfolding met-with met-from
+    met-exact first end h =
+        ascending-ext (h .met-set) (ascending-from-list _) (λ k t. h .met-below k (met-grows ms end [] k t))
+        (λ k t. ⊎-elim (λ u. absurd (List·Memᴰ·not-nil (met-elim ms [] u .1))) (λ u. u) (after-elim ms end [] k (h .met-above k t)))
+
+    -- the reached facts are in each set that holds every retainable fact which fires on the names met from it
+    pub in-closed : (first : List Name) (set : Fact → Bool)
+        → ((f : Fact) → List·Memᴰ f fs → T (retainable a f) → T (fires (met-with ms fs first set) f) → T (set f))
+        → {end : Run} → Ends a ms fs (record { met = []; reached = []; rounds = 0 }) first end
+        → (f : Fact) → List·Memᴰ f fs → T (reached-by end f) → T (set f)
+    unfolding mem any
+    in-closed first set closed {end} e =
+        at-end P step e (first-round first, λ f m t. absurd t) .1
+      where
+        P : Run → List Name → Type 0
+        P r scanned = Before first r scanned × ((f : Fact) → List·Memᴰ f fs → T (reached-by r f) → T (set f))
+
+        step : (r : Run) (scanned : List Name) → P r scanned → P (after-round a ms fs r scanned) (next-scanned a ms fs r scanned)
+        step r scanned (h, old) = (
+          round first r scanned h,
+          λ f m t. ⊎-elim
+              (λ i. let g = fresh-elim r scanned i in
+              closed f m (g .is-retainable)
+              (fires-more (met-after ms r scanned) (met-with ms fs first set) f
+              (λ k u. with-more ms fs first (reached-by r) set old k (h .met-below k u))
+              (triggers-fires (r .met) (met-after ms r scanned) f (g .is-triggered))))
+              (old f m) (reached-cases r scanned m t),
+        )
+
+module _ (a : Ask) (decls : List Summary) (roots : List Root) (wf : Well-formed decls roots) where
+  -- no two facts have one name
+  once : Distinct (names-of (facts decls))
+  once = names-distinct decls (wf .distinct)
+
+  -- what holds at the end of the run of well-formed records
+  pub run-end : Before a (macros decls) (facts decls) (first-scanned a (facts decls) roots) (run a decls roots) []
+  run-end =
+      let first = first-scanned a (facts decls) roots in
+      at-end a (macros decls) (facts decls) (Before a (macros decls) (facts decls) first)
+      (round a (macros decls) (facts decls) once first) (run-ends a decls roots) (first-round a (macros decls) (facts decls) once first)
+
+  -- the names met at the end are those met by the reached facts
+  pub run-met : run a decls roots .met ≡ met-by a decls roots (reached-by (run a decls roots))
+  unfolding met-by met-with
+  run-met =
+      met-exact a (macros decls) (facts decls) once (first-scanned a (facts decls) roots) (run a decls roots) (run-end)
+
+  -- the visits are the filed entries whose name is met by the reached facts
+  pub run-visits : visits (run a decls roots .met) (facts decls)
+      ≡ length (keep (λ n. mem n (met-by a decls roots (reached-by (run a decls roots)))) (filed (facts decls)))
+  unfolding visits
+  run-visits = rw (run-met, count-keep)
+
+  -- the reached facts are a closed set
+  pub run-closed : Closed a decls roots (reached-by (run a decls roots))
+  run-closed = record { holds-every = λ f m t u. run-end .fires-reached f m t (rw run-met u) }
+
+  -- every closed set contains them
+  pub run-least : (set : Fact → Bool) → Closed a decls roots set
+      → (f : Fact) → List·Memᴰ f (facts decls) → T (reached-by (run a decls roots) f) → T (set f)
+  unfolding met-by met-with
+  run-least set closed =
+      in-closed a (macros decls) (facts decls) once (first-scanned a (facts decls) roots) set
+      (closed .holds-every) (run-ends a decls roots)
