@@ -1,17 +1,17 @@
 -- The facts of a file by their names: no two facts have one name.
-use mathlib.Core.Path.{_≡_, refl, sym, _∙_, ap}
+use mathlib.Core.Path.{_≡_, refl, sym, _∙_}
 use mathlib.Core.Logic.{_⊎_, inl, inr, ⊎-elim}
-use mathlib.Core.Bool.{Bool, true, false, cond, not}
-use mathlib.Core.List.{List, [], _∷_, _++_, map, List·Memᴰ, List·Memᴰ·head, List·Memᴰ·tail, List·Memᴰ·cases-cons, List·Memᴰ·not-nil, Memᴰ·cast}
+use mathlib.Core.Bool.{cond, not}
+use mathlib.Core.List.{List, [], _∷_, map, List·Memᴰ, List·Memᴰ·head, List·Memᴰ·tail, List·Memᴰ·cases-cons, List·Memᴰ·not-nil, Memᴰ·cast}
 use lib.Dec.{T, T-not, not-T}
 use Rattle.model.specs.Lists.{keep, collect}
 use Rattle.model.specs.Names.{Name, same}
 use Rattle.model.specs.Summaries.{Fact}
 use Rattle.model.specs.Reading.{Summary, Sum-assume, Sum-definefun, Sum-declfun, Sum-retain, Root, taken-by}
 use Rattle.model.specs.Rounds.{facts}
-use Rattle.model.proofs.ListLaws.{T-dec, cond-true, cond-false, map-intro, map-elim}
+use Rattle.model.proofs.ListLaws.{T-dec, cond-true, cond-false, map-intro}
 use Rattle.model.proofs.SetLaws.{same-eq, eq-same}
-use Rattle.demands.specs.Accepted.{Distinct, none, one-more, Well-formed}
+use Rattle.demands.specs.Accepted.{Distinct, one-more, Well-formed}
 
 module _ {A : Type 0} where
   -- general law: the first of a list that holds nothing twice is not among the others

@@ -1,14 +1,13 @@
 -- The rounds end for their own reason, and how many there are at most: the fuel of the run never runs out.
 use Prim.Native.Nat.{ℕ, zero, suc, _+_, _≤_, _<_}
 use native.Mathlib.Omega.{arith}
-use mathlib.Core.Path.{_≡_, refl}
-use mathlib.Core.Logic.{_⊎_, inl, inr, ⊎-elim}
-use mathlib.Core.Bool.{Bool, not, cond, _&&_}
+use mathlib.Core.Logic.{_⊎_, inl, inr}
+use mathlib.Core.Bool.{Bool, not, _&&_}
 use mathlib.Core.List.{List, [], List·Memᴰ}
 use lib.Dec.{T, T-not, not-T}
 use lib.ListN.{length}
 use Rattle.model.specs.Lists.{any, keep, is-nil}
-use Rattle.model.specs.Names.{Name, mem, from-list, union}
+use Rattle.model.specs.Names.{Name, mem, from-list}
 use Rattle.model.specs.Summaries.{Fact}
 use Rattle.model.specs.Reading.{Ask, Summary, Root}
 use Rattle.model.specs.Pruning.{Map}

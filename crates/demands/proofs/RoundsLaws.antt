@@ -1,17 +1,17 @@
 -- What holds at each round of a run, and so at its end.
-use mathlib.Core.Path.{_≡_, refl, sym}
+use mathlib.Core.Path.{_≡_, sym}
 use mathlib.Core.Logic.{_⊎_, inl, inr, ⊎-elim}
 use mathlib.Core.Bool.{Bool, not, _&&_}
-use mathlib.Core.List.{List, [], _∷_, _++_, map, List·Memᴰ, List·Memᴰ·not-nil, List·Memᴰ·append-cases, Memᴰ·append-left, Memᴰ·append-right, Memᴰ·cast}
-use lib.Dec.{T, T-not}
+use mathlib.Core.List.{List, [], _++_, map, List·Memᴰ, List·Memᴰ·not-nil, Memᴰ·append-left, Memᴰ·append-right, Memᴰ·cast}
+use lib.Dec.{T}
 use lib.ListN.{length}
 use Rattle.model.specs.Lists.{any, keep, collect, is-nil}
-use Rattle.model.specs.Names.{Name, mem, from-list, union}
+use Rattle.model.specs.Names.{Name, mem}
 use Rattle.model.specs.Summaries.{Fact}
 use Rattle.model.specs.Reading.{Ask, Summary, Root}
 use Rattle.model.specs.Pruning.{Map}
-use Rattle.model.specs.Rounds.{Run, facts, macros, filed, fires, listed, triggers-in, retainable, met-from, met-after, triggered, fresh, after-round, next-scanned, first-scanned, run, visits}
-use Rattle.model.proofs.ListLaws.{T-and, T-dec, T-ext, any-intro, any-elim, keep-intro, keep-elim, count-keep, collect-intro, collect-elim, is-nil-elim, map-intro, map-elim}
+use Rattle.model.specs.Rounds.{Run, facts, macros, filed, fires, triggers-in, retainable, met-from, met-after, triggered, fresh, after-round, next-scanned, first-scanned, run, visits}
+use Rattle.model.proofs.ListLaws.{T-and, T-dec, keep-intro, keep-elim, count-keep, collect-intro, collect-elim, is-nil-elim, map-intro, map-elim}
 use Rattle.model.proofs.SetLaws.{Within, Ascending, empty, mem-intro, mem-elim, mem-union, ascending-union, ascending-from-list, ascending-ext}
 use Rattle.demands.specs.Accepted.{Distinct, Well-formed}
 use Rattle.demands.specs.Fuel.{Ends, last, more}
