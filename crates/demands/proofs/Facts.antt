@@ -23,11 +23,11 @@ module _ {A : Type 0} where
   distinct-tail (one-more h d) = d
 
 -- the names of some facts, in their order
-abbrev pub names-of : List Fact → List Name
-names-of fs = map (λ (f : Fact). f .name) fs
+abbrev pub fact-names : List Fact → List Name
+fact-names fs = map (λ (f : Fact). f .name) fs
 
 -- the name of a fact of a file is taken
-pub name-taken : {n : Name} (decls : List Summary) → List·Memᴰ n (names-of (facts decls)) → List·Memᴰ n (collect taken-by decls)
+pub name-taken : {n : Name} (decls : List Summary) → List·Memᴰ n (fact-names (facts decls)) → List·Memᴰ n (collect taken-by decls)
 unfolding facts collect taken-by
 name-taken [] m = m
 name-taken (Sum-assume f ∷ decls) m = ⊎-elim List·Memᴰ·head (λ i. List·Memᴰ·tail (name-taken decls i)) (List·Memᴰ·cases-cons m)
@@ -36,7 +36,7 @@ name-taken (Sum-declfun d ∷ decls) m = List·Memᴰ·tail (name-taken decls m)
 name-taken (Sum-retain names ∷ decls) m = name-taken decls m
 
 -- where no name is taken twice, no two facts have one name
-pub names-distinct : (decls : List Summary) → Distinct (collect taken-by decls) → Distinct (names-of (facts decls))
+pub names-distinct : (decls : List Summary) → Distinct (collect taken-by decls) → Distinct (fact-names (facts decls))
 unfolding facts collect taken-by
 names-distinct [] d = d
 names-distinct (Sum-assume f ∷ decls) d = one-more (λ m. distinct-head d (name-taken decls m)) (names-distinct decls (distinct-tail d))
@@ -45,7 +45,7 @@ names-distinct (Sum-declfun e ∷ decls) d = names-distinct decls (distinct-tail
 names-distinct (Sum-retain names ∷ decls) d = names-distinct decls d
 
 -- facts with one name are equal
-pub by-name : {fs : List Fact} {f g : Fact} → Distinct (names-of fs) → List·Memᴰ f fs → List·Memᴰ g fs → f .name ≡ g .name → f ≡ g
+pub by-name : {fs : List Fact} {f g : Fact} → Distinct (fact-names fs) → List·Memᴰ f fs → List·Memᴰ g fs → f .name ≡ g .name → f ≡ g
 by-name d (List·Memᴰ·head p) (List·Memᴰ·head q) e = p ∙ sym q
 by-name d (List·Memᴰ·head p) (List·Memᴰ·tail j) e = absurd (distinct-head d (Memᴰ·cast (cc) (map-intro (λ (f : Fact). f .name) j)))
 by-name d (List·Memᴰ·tail i) (List·Memᴰ·head q) e = absurd (distinct-head d (Memᴰ·cast (cc) (map-intro (λ (f : Fact). f .name) i)))
@@ -57,13 +57,13 @@ pub fact-by-name : {decls : List Summary} {roots : List Root} → Well-formed de
 fact-by-name {decls} wf i j e = by-name (names-distinct decls (wf .distinct)) i j e
 
 -- a name that no fact has keeps no fact
-pub none-of-name : {n : Name} (fs : List Fact) → (List·Memᴰ n (names-of fs) → ⊥) → keep (λ f. same (f .name) n) fs ≡ []
+pub none-of-name : {n : Name} (fs : List Fact) → (List·Memᴰ n (fact-names fs) → ⊥) → keep (λ f. same (f .name) n) fs ≡ []
 unfolding keep
 none-of-name [] h = refl
 none-of-name {n} (f ∷ fs) h = rw (none-of-name fs (λ m. h (List·Memᴰ·tail m)), cond-false (same (f .name) n) _ _ (not-T (same (f .name) n) (λ t. h (List·Memᴰ·head (sym (same-eq t))))))
 
 -- the one fact with a name that a fact has
-pub one-of-name : {n : Name} (fs : List Fact) → Distinct (names-of fs) → List·Memᴰ n (names-of fs) → names-of (keep (λ f. same (f .name) n) fs) ≡ n ∷ []
+pub one-of-name : {n : Name} (fs : List Fact) → Distinct (fact-names fs) → List·Memᴰ n (fact-names fs) → fact-names (keep (λ f. same (f .name) n) fs) ≡ n ∷ []
 unfolding keep
 one-of-name [] d m = absurd (List·Memᴰ·not-nil m)
 one-of-name {n} (f ∷ fs) d m = go (T-dec (same (f .name) n)) (one-of-name fs (distinct-tail d))
@@ -71,7 +71,7 @@ one-of-name {n} (f ∷ fs) d m = go (T-dec (same (f .name) n)) (one-of-name fs (
     others : List Fact
     others = keep (λ g. same (g .name) n) fs
 
-    go : T (same (f .name) n) ⊎ T (not (same (f .name) n)) → (List·Memᴰ n (names-of fs) → names-of others ≡ n ∷ [])
-        → names-of (cond (same (f .name) n) (f ∷ others) others) ≡ n ∷ []
+    go : T (same (f .name) n) ⊎ T (not (same (f .name) n)) → (List·Memᴰ n (fact-names fs) → fact-names others ≡ n ∷ [])
+        → fact-names (cond (same (f .name) n) (f ∷ others) others) ≡ n ∷ []
     go (inl t) below = rw (cond-true (same (f .name) n) (f ∷ others) others t, none-of-name {n = n} fs (λ i. distinct-head d (Memᴰ·cast (same-eq t) i)), same-eq t)
     go (inr t) below = rw (cond-false (same (f .name) n) (f ∷ others) others t) (below (⊎-elim (λ e. absurd (T-not (same (f .name) n) t (eq-same (sym e)))) (λ i. i) (List·Memᴰ·cases-cons m)))

@@ -2,19 +2,21 @@
 use Prim.Native.Nat.{ℕ, zero, suc, _+_, _≤_, _<_}
 use native.Mathlib.Omega.{arith}
 use mathlib.Core.Logic.{_⊎_, inl, inr}
-use mathlib.Core.Bool.{Bool, not, _&&_}
+use mathlib.Core.Bool.{Bool, not}
 use mathlib.Core.List.{List, [], List·Memᴰ}
 use lib.Dec.{T, T-not, not-T}
 use lib.ListN.{length}
-use Rattle.model.specs.Lists.{any, keep, is-nil}
+use Rattle.model.specs.Lists.{keep, is-nil}
 use Rattle.model.specs.Names.{Name, mem, from-list}
 use Rattle.model.specs.Summaries.{Fact}
 use Rattle.model.specs.Reading.{Ask, Summary, Root}
 use Rattle.model.specs.Pruning.{Map}
-use Rattle.model.specs.Rounds.{Run, facts, macros, listed, filed, lies-within, triggers-in, met-from, met-after, triggered, after-round, next-scanned, rounds-from, first-scanned, run}
-use Rattle.model.proofs.ListLaws.{T-and, T-dec, any-elim, keep-elim, keep-less, collect-intro, not-nil-mem, cond-true, cond-false}
-use Rattle.model.proofs.SetLaws.{Within, mem-intro, mem-elim, mem-keep, mem-union, mem-from-list, ascending-from-list, ascending-keep, subset-length}
+use Rattle.model.specs.Rounds.{Run, facts, macros, listed, filed, triggers-in, met-after, triggered, after-round, next-scanned, rounds-from, first-scanned, run}
+use Rattle.model.proofs.ListLaws.{T-dec, keep-elim, keep-less, collect-intro, not-nil-mem, cond-true, cond-false}
+use Rattle.model.proofs.SetLaws.{Within, mem-intro, mem-elim, mem-keep, mem-from-list, ascending-from-list, ascending-keep, subset-length}
 use Rattle.demands.specs.Fuel.{Ends, last, more}
+use Rattle.demands.proofs.MetLaws.{met-grows}
+use Rattle.demands.proofs.FiringLaws.{first-met}
 
 -- the distinct filed trigger names that are not met
 unfoldable pub unmet : List Fact → List Name → List Name
@@ -24,21 +26,6 @@ unmet fs met = keep (λ n. not (mem n met)) (from-list (filed fs))
 pub listed-filed : {fs : List Fact} {f : Fact} {n : Name} → List·Memᴰ f fs → List·Memᴰ n (listed f) → List·Memᴰ n (filed fs)
 unfolding filed
 listed-filed m i = collect-intro listed m i
-
--- what is met before a round is met at its end
-pub met-grows : (ms : Map (List Name)) (r : Run) (scanned : List Name) → Within (r .met) (met-after ms r scanned)
-unfolding met-after
-met-grows ms r scanned k t = mem-union k (met-from ms scanned) (r .met) .1 (inr t)
-
--- a fact that a round triggers has a listed name that is first met in it
-pub first-met : (before after : List Name) (f : Fact) → T (triggers-in before after f)
-    → (n : Name) × List·Memᴰ n (listed f) × T (mem n after) × T (not (mem n before))
-unfolding triggers-in
-first-met before after f t =
-    let new : Name → Bool = λ n. mem n after && not (mem n before) in
-    let (n, i, h) = any-elim new (listed f) (T-and (any new (listed f)) (any (lies-within after) (f .triggers)) .0 t .0) in
-    let (u, v) = T-and (mem n after) (not (mem n before)) .0 h in
-    (n, i, u, v)
 
 -- fewer filed names are unmet where a name that is filed is met as well
 unmet-less : (fs : List Fact) (before after : List Name) {n : Name} → Within before after
@@ -91,9 +78,13 @@ module _ (a : Ask) (ms : Map (List Name)) (fs : List Fact) where
   rounds-few (last t) = omega arith
   rounds-few (more {r} {scanned} t e) = let l = unmet-falls r scanned t in let i = rounds-few e in omega arith
 
+-- a run before its first round
+abbrev pub start : Run
+start = record { met = []; reached = []; rounds = 0 }
+
 module _ (a : Ask) (decls : List Summary) (roots : List Root) where
   -- the run of the records of a file ends with the round that triggers none
-  pub run-ends : Ends a (macros decls) (facts decls) (record { met = []; reached = []; rounds = 0 }) (first-scanned a (facts decls) roots) (run a decls roots)
+  pub run-ends : Ends a (macros decls) (facts decls) start (first-scanned a (facts decls) roots) (run a decls roots)
   unfolding run
   run-ends = rounds-end a (macros decls) (facts decls) (suc (length (from-list (filed (facts decls))))) _ _ (omega (arith, unmet-filed (facts decls) []))
 

@@ -15,7 +15,7 @@ use Rattle.model.specs.declared.AsumKind.the-variants.{Drop, Ambient, Triggers}
 use Rattle.model.proofs.ListLaws.{keep-intro, keep-elim, keep-append, collect-intro, collect-elim, cond-true, cond-false, map-intro}
 use Rattle.model.proofs.SetLaws.{Ascending, mem-intro, mem-elim, same-eq, same-refl}
 use Rattle.demands.specs.Accepted.{Distinct, Without-triggers, Well-formed}
-use Rattle.demands.proofs.Facts.{names-of, by-name, names-distinct, one-of-name}
+use Rattle.demands.proofs.Facts.{fact-names, fact-by-name, names-distinct, one-of-name}
 use Rattle.demands.proofs.FiringLaws.{fires-elim}
 use Rattle.demands.proofs.RoundsLaws.{reached-by, run-end}
 
@@ -61,7 +61,7 @@ unfolding reached-facts
 reached-facts-intro fs reached {f} m t =
     collect-intro (λ name. keep (λ f. same (f .name) name) fs) (mem-elim t) (keep-intro (λ g. same (g .name) (f .name)) m (same-refl (f .name)))
 
--- and they are no others
+-- a reached fact is a fact of the file whose name is reached
 pub reached-facts-elim : (fs : List Fact) (reached : List Name) {f : Fact} → List·Memᴰ f (reached-facts fs reached) → List·Memᴰ f fs × T (mem (f .name) reached)
 unfolding reached-facts
 reached-facts-elim fs reached m =
@@ -70,8 +70,8 @@ reached-facts-elim fs reached m =
     (k, mem-intro (Memᴰ·cast (same-eq t) i))
 
 -- where each name is that of a fact, the names of the reached facts are the names, in their order
-pub reached-names : (fs : List Fact) → Distinct (names-of fs) → (reached : List Name)
-    → ((n : Name) → List·Memᴰ n reached → List·Memᴰ n (names-of fs)) → names-of (reached-facts fs reached) ≡ reached
+pub reached-names : (fs : List Fact) → Distinct (fact-names fs) → (reached : List Name)
+    → ((n : Name) → List·Memᴰ n reached → List·Memᴰ n (fact-names fs)) → fact-names (reached-facts fs reached) ≡ reached
 unfolding reached-facts collect
 reached-names fs once [] h = refl
 reached-names fs once (n ∷ ns) h =
@@ -83,7 +83,7 @@ module _ (a : Ask) (decls : List Summary) (roots : List Root) (wf : Well-formed 
   reached-no-ambient f m t =
       let (g, i, e, r, u) = run-end a decls roots wf .reached-fires (f .name) t in
       let h = fires-elim (run a decls roots .met) g u in
-      rw (← by-name (names-distinct decls (wf .distinct)) i m e) (with-disjunct (g .kind) (wf .good-facts g i .no-triggers) (h .is-disjunct))
+      rw (← fact-by-name wf i m e) (with-disjunct (g .kind) (wf .good-facts g i .no-triggers) (h .is-disjunct))
 
   -- the kept facts that are not ambient are the reached facts
   pub kept-not-ambient : keep (λ f. not (is-ambient (f .kind))) (kept-facts a (facts decls) (run a decls roots .reached)) ≡ reached-facts (facts decls) (run a decls roots .reached)
@@ -99,7 +99,7 @@ module _ (a : Ask) (decls : List Summary) (roots : List Root) (wf : Well-formed 
       (append-nil reached)
 
   -- the names of the reached facts are a set
-  pub reached-ascending : Ascending (names-of (reached-facts (facts decls) (run a decls roots .reached)))
+  pub reached-ascending : Ascending (fact-names (reached-facts (facts decls) (run a decls roots .reached)))
   reached-ascending =
       rw (reached-names (facts decls) (names-distinct decls (wf .distinct)) (run a decls roots .reached)
       (λ n m. let (f, i, e, r, u) = run-end a decls roots wf .reached-fires n (mem-intro m) in Memᴰ·cast (sym e) (map-intro (λ (f : Fact). f .name) i)))

@@ -2,7 +2,7 @@
 use mathlib.Core.Path.{_≡_, sym}
 use mathlib.Core.Logic.{_⊎_, inl, inr, ⊎-elim}
 use mathlib.Core.Bool.{Bool, not, _&&_}
-use mathlib.Core.List.{List, [], _++_, map, List·Memᴰ, List·Memᴰ·not-nil, Memᴰ·append-left, Memᴰ·append-right, Memᴰ·cast}
+use mathlib.Core.List.{List, [], map, List·Memᴰ, List·Memᴰ·not-nil, Memᴰ·cast}
 use lib.Dec.{T}
 use lib.ListN.{length}
 use Rattle.model.specs.Lists.{any, keep, collect, is-nil}
@@ -11,75 +11,19 @@ use Rattle.model.specs.Summaries.{Fact}
 use Rattle.model.specs.Reading.{Ask, Summary, Root}
 use Rattle.model.specs.Pruning.{Map}
 use Rattle.model.specs.Rounds.{Run, facts, macros, filed, fires, triggers-in, retainable, met-from, met-after, triggered, fresh, after-round, next-scanned, first-scanned, run, visits}
-use Rattle.model.proofs.ListLaws.{T-and, T-dec, keep-intro, keep-elim, count-keep, collect-intro, collect-elim, is-nil-elim, map-intro, map-elim}
+use Rattle.model.proofs.ListLaws.{T-and, T-dec, keep-intro, keep-elim, count-keep, is-nil-elim, map-intro, map-elim}
 use Rattle.model.proofs.SetLaws.{Within, Ascending, empty, mem-intro, mem-elim, mem-union, ascending-union, ascending-from-list, ascending-ext}
 use Rattle.demands.specs.Accepted.{Distinct, Well-formed}
 use Rattle.demands.specs.Fuel.{Ends, last, more}
 use Rattle.demands.specs.Demand3.{met-by, Closed}
-use Rattle.demands.proofs.Facts.{names-of, by-name, names-distinct}
-use Rattle.demands.proofs.FuelLaws.{met-grows, run-ends}
-use Rattle.demands.proofs.FiringLaws.{met-intro, met-elim, met-within, met-append, fires-elim, fires-more, triggers-fires, fires-triggers}
-
--- the names met from items with these free names and the facts of a set
-unfoldable pub met-with : Map (List Name) → List Fact → List Name → (Fact → Bool) → List Name
-met-with ms fs first set = met-from ms (first ++ collect (λ f. f .free-names) (keep set fs))
-
-module _ (ms : Map (List Name)) where
-  -- what a fact of a list meets, the list meets
-  pub met-fact : {l : List Fact} {f : Fact} → List·Memᴰ f l → Within (met-from ms (f .free-names)) (met-from ms (collect (λ (f : Fact). f .free-names) l))
-  met-fact {l} {f} m = met-within ms (f .free-names) (collect (λ (f : Fact). f .free-names) l) (λ n i. collect-intro (λ (f : Fact). f .free-names) m i)
-
-  -- what a list of facts meets, one of them meets
-  pub fact-met : (l : List Fact) (k : Name) → T (mem k (met-from ms (collect (λ (f : Fact). f .free-names) l)))
-      → (f : Fact) × List·Memᴰ f l × T (mem k (met-from ms (f .free-names)))
-  fact-met l k t =
-      let (n, i, o) = met-elim ms (collect (λ (f : Fact). f .free-names) l) t in
-      let (f, j, m) = collect-elim (λ (f : Fact). f .free-names) l i in
-      (f, j, met-intro ms m o)
-
-  module _ (fs : List Fact) (first : List Name) where
-    -- the names met from the first items
-    pub with-first : (set : Fact → Bool) → Within (met-from ms first) (met-with ms fs first set)
-    unfolding met-with
-    with-first set = met-within ms first _ (λ n. Memᴰ·append-left _)
-
-    -- and from each fact of the set
-    pub with-fact : (set : Fact → Bool) {f : Fact} → List·Memᴰ f fs → T (set f) → Within (met-from ms (f .free-names)) (met-with ms fs first set)
-    unfolding met-with
-    with-fact set m t = met-within ms _ _ (λ n i. Memᴰ·append-right first (collect-intro (λ (f : Fact). f .free-names) (keep-intro set m t) i))
-
-    -- and no others
-    pub with-elim : (set : Fact → Bool) (k : Name) → T (mem k (met-with ms fs first set))
-        → T (mem k (met-from ms first)) ⊎ ((f : Fact) × List·Memᴰ f fs × T (set f) × T (mem k (met-from ms (f .free-names))))
-    unfolding met-with
-    with-elim set k t =
-        ⊎-elim inl (λ u. let (f, i, v) = fact-met (keep set fs) k u in let (m, w) = keep-elim set fs i in inr (f, m, w, v))
-        (met-append ms first (collect (λ f. f .free-names) (keep set fs)) k t)
-
-    -- more facts meet no less
-    pub with-more : (set set′ : Fact → Bool) → ((f : Fact) → List·Memᴰ f fs → T (set f) → T (set′ f)) → Within (met-with ms fs first set) (met-with ms fs first set′)
-    with-more set set′ h k t =
-        ⊎-elim (with-first set′ k) (λ p. let (f, m, u, v) = p in with-fact set′ m (h f m u) k v) (with-elim set k t)
+use Rattle.demands.proofs.Facts.{fact-names, by-name, names-distinct}
+use Rattle.demands.proofs.FuelLaws.{start, run-ends}
+use Rattle.demands.proofs.MetLaws.{met-elim, met-with, met-fact, fact-met, with-first, with-fact, with-elim, with-more, met-grows, met-scans, after-elim, ascending-after}
+use Rattle.demands.proofs.FiringLaws.{fires-elim, fires-more, triggers-fires, fires-triggers}
 
 -- the facts that a run has reached
 abbrev pub reached-by : Run → Fact → Bool
 reached-by r f = mem (f .name) (r .reached)
-
--- what a round scans is met at its end
-pub met-scans : (ms : Map (List Name)) (r : Run) (scanned : List Name) → Within (met-from ms scanned) (met-after ms r scanned)
-unfolding met-after
-met-scans ms r scanned k t = mem-union k (met-from ms scanned) (r .met) .1 (inl t)
-
--- what is met at its end was met before it, or it scans it
-pub after-elim : (ms : Map (List Name)) (r : Run) (scanned : List Name) (k : Name) → T (mem k (met-after ms r scanned))
-    → T (mem k (met-from ms scanned)) ⊎ T (mem k (r .met))
-unfolding met-after
-after-elim ms r scanned k t = mem-union k (met-from ms scanned) (r .met) .0 t
-
--- the names met at its end are a set where those before it are
-pub ascending-after : (ms : Map (List Name)) (r : Run) (scanned : List Name) → Ascending (r .met) → Ascending (met-after ms r scanned)
-unfolding met-after
-ascending-after ms r scanned m = ascending-union (met-from ms scanned) m
 
 module _ (a : Ask) (ms : Map (List Name)) (fs : List Fact) where
   -- a round that triggers none reaches none
@@ -94,12 +38,13 @@ module _ (a : Ask) (ms : Map (List Name)) (fs : List Fact) where
   at-end P step (last {r} {scanned} t) p = rw (none-next r scanned t) at (step r scanned p)
   at-end P step (more {r} {scanned} t e) p = at-end P step e (step r scanned p)
 
-  -- a fact that a round reaches is a fact of the file, triggered by it, retainable and not reached before
+  -- what makes a fact reached at the end of a round
   pub record Fresh (r : Run) (scanned : List Name) (f : Fact) : Type 0 where
     pub is-fact : List·Memᴰ f fs
     pub is-triggered : T (triggers-in (r .met) (met-after ms r scanned) f)
     pub is-retainable : T (retainable a f)
 
+  -- a fact that a round reaches is a fact of the file, triggered by the round and retainable
   pub fresh-elim : (r : Run) (scanned : List Name) {f : Fact} → List·Memᴰ f (fresh a ms fs r scanned) → Fresh r scanned f
   unfolding fresh triggered
   fresh-elim r scanned {f} m =
@@ -145,7 +90,7 @@ module _ (a : Ask) (ms : Map (List Name)) (fs : List Fact) where
     -- each retainable fact that fires is reached
     pub fires-reached : (f : Fact) → List·Memᴰ f fs → T (retainable a f) → T (fires (r .met) f) → T (reached-by r f)
 
-  module _ (once : Distinct (names-of fs)) where
+  module _ (once : Distinct (fact-names fs)) where
     -- a fact reached at the end of a round was reached before it, or the round reaches it
     pub reached-cases : (r : Run) (scanned : List Name) {f : Fact} → List·Memᴰ f fs → T (reached-by (after-round a ms fs r scanned) f)
         → List·Memᴰ f (fresh a ms fs r scanned) ⊎ T (reached-by r f)
@@ -196,15 +141,15 @@ module _ (a : Ask) (ms : Map (List Name)) (fs : List Fact) where
         after-old : Within (met-after ms r scanned) (met-after ms end (next-scanned a ms fs r scanned))
         after-old k t = met-grows ms end (next-scanned a ms fs r scanned) k t
 
-    -- it holds before the first round
-    pub first-round : (first : List Name) → Before first (record { met = []; reached = []; rounds = 0 }) first
+    -- all that holds before the first round
+    pub first-round : (first : List Name) → Before first start first
     unfolding mem any
     first-round first =
         record {
           met-set = empty;
           reached-set = empty;
-          met-below = λ k t. ⊎-elim (with-first ms fs first (λ f. mem (f .name) []) k) (λ u. absurd u) (after-elim ms (record { met = []; reached = []; rounds = 0 }) first k t);
-          met-above = λ k t. ⊎-elim (met-scans ms (record { met = []; reached = []; rounds = 0 }) first k) (λ p. absurd (p .2)) (with-elim ms fs first (λ f. mem (f .name) []) k t);
+          met-below = λ k t. ⊎-elim (with-first ms fs first (λ f. mem (f .name) []) k) (λ u. absurd u) (after-elim ms start first k t);
+          met-above = λ k t. ⊎-elim (met-scans ms start first k) (λ p. absurd (p .2)) (with-elim ms fs first (λ f. mem (f .name) []) k t);
           reached-fires = λ n t. absurd t;
           fires-reached = λ f m t u. absurd (fires-elim [] f u .is-met);
         }
@@ -219,7 +164,7 @@ module _ (a : Ask) (ms : Map (List Name)) (fs : List Fact) where
     -- the reached facts are in each set that holds every retainable fact which fires on the names met from it
     pub in-closed : (first : List Name) (set : Fact → Bool)
         → ((f : Fact) → List·Memᴰ f fs → T (retainable a f) → T (fires (met-with ms fs first set) f) → T (set f))
-        → {end : Run} → Ends a ms fs (record { met = []; reached = []; rounds = 0 }) first end
+        → {end : Run} → Ends a ms fs start first end
         → (f : Fact) → List·Memᴰ f fs → T (reached-by end f) → T (set f)
     unfolding mem any
     in-closed first set closed {end} e =
@@ -242,7 +187,7 @@ module _ (a : Ask) (ms : Map (List Name)) (fs : List Fact) where
 
 module _ (a : Ask) (decls : List Summary) (roots : List Root) (wf : Well-formed decls roots) where
   -- no two facts have one name
-  once : Distinct (names-of (facts decls))
+  once : Distinct (fact-names (facts decls))
   once = names-distinct decls (wf .distinct)
 
   -- what holds at the end of the run of well-formed records
@@ -256,7 +201,7 @@ module _ (a : Ask) (decls : List Summary) (roots : List Root) (wf : Well-formed 
   pub run-met : run a decls roots .met ≡ met-by a decls roots (reached-by (run a decls roots))
   unfolding met-by met-with
   run-met =
-      met-exact a (macros decls) (facts decls) once (first-scanned a (facts decls) roots) (run a decls roots) (run-end)
+      met-exact a (macros decls) (facts decls) once (first-scanned a (facts decls) roots) (run a decls roots) run-end
 
   -- the visits are the filed entries whose name is met by the reached facts
   pub run-visits : visits (run a decls roots .met) (facts decls)
@@ -268,7 +213,7 @@ module _ (a : Ask) (decls : List Summary) (roots : List Root) (wf : Well-formed 
   pub run-closed : Closed a decls roots (reached-by (run a decls roots))
   run-closed = record { holds-every = λ f m t u. run-end .fires-reached f m t (rw run-met u) }
 
-  -- every closed set contains them
+  -- every closed set contains the reached facts
   pub run-least : (set : Fact → Bool) → Closed a decls roots set
       → (f : Fact) → List·Memᴰ f (facts decls) → T (reached-by (run a decls roots) f) → T (set f)
   unfolding met-by met-with
