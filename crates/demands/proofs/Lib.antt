@@ -1,0 +1,2 @@
+pub mod LineWalk
+pub mod LineForm
