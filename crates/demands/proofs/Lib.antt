@@ -5,3 +5,5 @@ pub mod FuelLaws
 pub mod RoundsLaws
 pub mod ListedLaws
 pub mod Demand3
+pub mod LineWalk
+pub mod LineForm
