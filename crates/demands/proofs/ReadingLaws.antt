@@ -4,14 +4,16 @@ use native.Mathlib.Nat.{add-zero}
 use native.Mathlib.Omega.{arith}
 use mathlib.Core.Path.{_≡_, refl, sym, _∙_, ap, subst}
 use mathlib.Core.Logic.{_⊎_, inl, inr, ⊎-elim}
-use mathlib.Core.Bool.{Bool, true, false, cond, not, _&&_}
+use mathlib.Core.Bool.{Bool, true, false, cond, not, _&&_, Bool·beq}
+use mathlib.Core.Option.{Option, none, some}
 use mathlib.Core.List.{List, [], _∷_, _++_}
-use lib.Dec.{T, leb}
+use lib.Dec.{T, leb, eqb}
 use lib.ListN.{length}
-use Rattle.model.specs.Lists.{all}
-use Rattle.model.specs.Names.{Name}
-use Rattle.model.specs.Lines.{Line, lines, fields}
-use Rattle.model.specs.Reading.{Result, ok, refused, _>>=_, Content, State, start, Reading, read, refused-at, go-on, limits, under-limits, parse, add-line, repeats, read-line, read-lines, read-file}
+use Rattle.model.specs.Lists.{all, holds}
+use Rattle.model.specs.Names.{Name, bytes, same}
+use Rattle.model.specs.Lines.{Line, lines, Field, fields, number}
+use Rattle.model.specs.Reading.{Result, ok, refused, _>>=_, need, next, end, number-field, kinds, word, fixed-count, kind-field, content, Content, State, start, Reading, read, refused-at, go-on, limits, under-limits, parse, add-line, repeats, read-line, read-lines, read-file}
+use Rattle.model.specs.declared.LineKind.{LineKind}
 use Rattle.model.specs.declared.Refusal.{Refusal}
 use Rattle.model.specs.declared.Refusal.the-variants as refusal
 use Rattle.model.proofs.ListLaws.{T-and, T-dec, T-true, T-false, cond-true, cond-false}
@@ -21,6 +23,90 @@ module _ {A : Type 0} where
   pub result-cases : (r : Result A) → ((a : A) × (r ≡ ok a)) ⊎ ((x : Refusal) × (r ≡ refused x))
   result-cases (ok a) = inl (a, refl)
   result-cases (refused x) = inr (x, refl)
+
+  -- a refusal is no value
+  pub not-ok : {x : Refusal} {a : A} → refused x ≡ ok a → ⊥
+  not-ok e = let z : _≡_ {A = ℕ} 0 1 = cc in omega arith
+
+  -- equal values
+  pub ok-eq : {a b : A} → ok a ≡ ok b → a ≡ b
+  ok-eq e = cc
+
+  -- a value needed and given was there
+  pub need-ok : (x : Refusal) (o : Option A) {a : A} → need x o ≡ ok a → o ≡ some a
+  unfolding need
+  need-ok x none e = absurd (not-ok e)
+  need-ok x (some b) e = ap some (ok-eq e)
+
+  -- a value given under a test: the test holds
+  pub cond-ok : (b : Bool) (x : Result A) (r : Refusal) {a : A} → cond b x (refused r) ≡ ok a → T b × (x ≡ ok a)
+  cond-ok true x r e = (tt, e)
+  cond-ok false x r e = absurd (not-ok e)
+
+  -- a value given unless a test holds: it does not
+  pub cond-not-ok : (b : Bool) (x : Result A) (r : Refusal) {a : A} → cond b (refused r) x ≡ ok a → T (not b) × (x ≡ ok a)
+  cond-not-ok true x r e = absurd (not-ok e)
+  cond-not-ok false x r e = (tt, e)
+
+module _ {A : Type 0} where
+  -- a field taken: it was the next, and its judge gave the value
+  pub next-ok : (judge : Field → Result A) (fs : List Field) {a : A} {rest : List Field} → next judge fs ≡ ok (a, rest)
+      → (f : Field) × (fs ≡ f ∷ rest) × (judge f ≡ ok a)
+  unfolding next
+  next-ok judge [] e = absurd (not-ok e)
+  next-ok judge (f ∷ fs) {a} {rest} e = let (judged, left) = go (judge f) e in (f, ap (f ∷_) left, judged)
+    where
+      go : (r : Result A) → _>>=_ {B = A × List Field} r (λ b. ok (b, fs)) ≡ ok (a, rest) → (r ≡ ok a) × (fs ≡ rest)
+      go (ok b) e = (ap (λ p. ok (p .0)) (ok-eq e), ap (λ p. p .1) (ok-eq e))
+      go (refused x) e = absurd (not-ok e)
+
+  -- the end reached: no field is left
+  pub end-ok : {a b : A} (fs : List Field) → end a fs ≡ ok b → (fs ≡ []) × (a ≡ b)
+  unfolding end
+  end-ok [] e = (refl, ok-eq e)
+  end-ok (f ∷ fs) e = absurd (not-ok e)
+
+-- a value that one step hands to the next
+pub bind-ok : {A B : Type 0} (r : Result A) {f : A → Result B} {b : B} → (r >>= f) ≡ ok b → (a : A) × (r ≡ ok a) × (f a ≡ ok b)
+bind-ok (ok a) e = (a, refl, e)
+bind-ok (refused x) e = absurd (not-ok e)
+
+-- a field that is a number within the limit
+pub number-ok : (limit : ℕ) (f : Field) {n : ℕ} → number-field limit f ≡ ok n → (number f ≡ some n) × T (leb n limit)
+unfolding number-field
+number-ok limit f e =
+    let (m, g, h) = bind-ok (need refusal.Number (number f)) e in
+    let (t, k) = cond-ok (leb m limit) (ok m) refusal.Number h in
+    let p = ok-eq k in
+    (rw (← p) (need-ok refusal.Number (number f) g), rw (← p) t)
+
+-- a field that is the kind of the n-th line
+pub kind-ok : (n : ℕ) (f : Field) {k : LineKind} → kind-field n f ≡ ok k → (word kinds f ≡ some k) × T (Bool·beq (eqb n 1) (same f (bytes "ask")))
+unfolding kind-field
+kind-ok n f e =
+    let (m, g, h) = bind-ok (need refusal.Form (word kinds f)) e in
+    let (t, k) = cond-ok (Bool·beq (eqb n 1) (same f (bytes "ask"))) (ok m) refusal.Form h in
+    (rw (← (ok-eq k)) (need-ok refusal.Form (word kinds f) g), t)
+
+-- the fields of a line that were accepted: a kind, and what the fields after it say
+pub record Parsed (n count : ℕ) (all : List Field) (c : Content) : Type 0 where
+  pub kind-word : Field
+  pub others : List Field
+  pub kind : LineKind
+  pub split : all ≡ kind-word ∷ others
+  pub known : word kinds kind-word ≡ some kind
+  pub ask-first : T (Bool·beq (eqb n 1) (same kind-word (bytes "ask")))
+  pub says : content kind count others ≡ ok c
+
+-- what holds of fields that were accepted
+pub parse-ok : (n count : ℕ) (all : List Field) {c : Content} → parse n count all ≡ ok c → Parsed n count all c
+unfolding parse
+parse-ok n count all e =
+    let ((k, fs), g, h) = bind-ok (next (kind-field n) all) e in
+    let (f, split, judged) = next-ok (kind-field n) all g in
+    let (known, first) = kind-ok n f judged in
+    let (t, says) = cond-not-ok (holds (λ c. not (eqb (length all) c)) (fixed-count k)) (content k count fs) refusal.Form h in
+    record { kind-word = f; others = fs; kind = k; split = split; known = known; ask-first = first; says = says }
 
 -- a refusal is no state
 pub not-read : {r : Refusal} {n : ℕ} {s : State} → refused-at r n ≡ read s → ⊥

@@ -360,5 +360,6 @@ accepted-sound exclude file s e =
     (λ n s s′ line r v. let l = line-read exclude n s line s′ r in rw (l .after) (sound-line exclude n s (l .content) (l .fresh) v))
     file s e sound-start
 
+-- the records of an accepted file are well formed
 pub accepted-well-formed : Accepted-well-formed
 accepted-well-formed file s e = accepted-sound exclude-names file s e .well
