@@ -1,3 +1,4 @@
 pub mod ReadingLaws
 pub mod WellFormed
 pub mod Queries
+pub mod Refusals

@@ -3,3 +3,4 @@ pub mod Fuel
 pub mod Demand2
 pub mod Demand3
 pub mod Queries
+pub mod Demand1
