@@ -2,29 +2,29 @@
 use Prim.Native.Nat.{ℕ, _+_, _≤_, _<_}
 use native.Mathlib.Nat.{add-zero}
 use native.Mathlib.Omega.{arith}
-use mathlib.Core.Path.{_≡_, refl, sym, _∙_, ap, subst}
+use mathlib.Core.Path.{_≡_, refl, sym, _∙_, ap}
 use mathlib.Core.Logic.{_↔_, _⊎_, inl, inr, ⊎-elim}
-use mathlib.Core.Bool.{Bool, true, false, cond, not, _&&_}
+use mathlib.Core.Bool.{Bool, true, false, not, _&&_}
 use mathlib.Core.List.{List, [], _∷_, _++_, List·Memᴰ, List·Memᴰ·head, List·Memᴰ·tail, List·Memᴰ·not-nil, List·Memᴰ·append-cases, List·Memᴰ·eq-of-singleton, Memᴰ·append-left, Memᴰ·append-right}
-use lib.Dec.{T, T-not, not-T, leb, ltb, eqb, ltb→lt, lt→ltb, nltb→le, leb→le, le→leb, nleb→lt}
+use lib.Dec.{T, T-not, not-T, leb, ltb, ltb→lt, lt→ltb, nltb→le, leb→le, le→leb, nleb→lt}
 use lib.ListN.{length}
 use Rattle.model.specs.Lists.{any, all, collect}
 use Rattle.model.specs.Names.{Name, mem}
 use Rattle.model.specs.Lines.{Line, lines, fields}
 use Rattle.model.specs.Terms.{Term}
 use Rattle.model.specs.Summaries.{exclude-names, summarize-assumption}
-use Rattle.model.specs.Reading.{Content, ask, term, assume, fun, def, retain, root, Result, ok, refused, Summary, State, start, Reading, read, refused-at, taken-by, summarize-decl, parse, limits, add-line, repeats, read-line, read-lines, read-file}
+use Rattle.model.specs.Reading.{Content, ask, term, assume, fun, def, retain, root, Result, ok, refused, State, start, Reading, read, refused-at, taken-by, summarize-decl, parse, limits, add-line, repeats, read-line, read-lines, read-file}
 use Rattle.model.specs.Rounds.{facts, visits}
 use Rattle.model.specs.Outcome.{Outcome, refusal-at, list, filtered, of-reading, fitting, working-words, outcome}
 use Rattle.model.specs.declared.Refusal.{Refusal}
 use Rattle.model.specs.declared.Refusal.the-variants as refusal
-use Rattle.model.proofs.ListLaws.{T-and, T-dec, T-true, T-false, cond-true, cond-false, any-intro, any-elim, all-elim, collect-append, collect-intro}
+use Rattle.model.proofs.ListLaws.{T-dec, T-true, T-false, any-intro, any-elim, all-elim, collect-append}
 use Rattle.model.proofs.SetLaws.{mem-intro, mem-elim}
 use Rattle.demands.specs.Accepted.{Accepted}
 use Rattle.demands.specs.Demand2.{kept-list}
 use Rattle.demands.specs.Demand3.{run-of}
 use Rattle.demands.specs.Demand1.{Short-slice, Lines-judged, Of-line, repeated as line-repeated, limit as line-limit, Reached-line, Says, Takes, by-assume, by-fun, by-def, Repeats, Past-limit, names, term-lines, term-references, record-lines, trigger-entries, name-uses, Refusal-5, Refusal-6, Refusal-7, Refusal-8, Refusal-9, List-given, Line-refused}
-use Rattle.demands.proofs.ReadingLaws.{ok-eq, Line-view, unended, unparsed, repeated, past-limit, accepted, line-view, repeated-line, past-line, within, Line-read, line-read, lines-read, none-read, not-read}
+use Rattle.demands.proofs.ReadingLaws.{ok-eq, Line-view, unended, unparsed, repeated, past-limit, accepted, line-view, repeated-line, past-line, within, Line-read, line-read, lines-read, none-read}
 use Rattle.demands.proofs.Refusals.{Of-field, parse-refusal, First-refused, lines-on, lines-append, file-refused, refused-file, refused-empty, file-refusal}
 
 -- the test of the working slices
@@ -42,6 +42,7 @@ module _ (file works : List ℕ) (room : ℕ) where
   short-call p = rw (T-true (any (λ n. ltb n working-words) works) (short-test works .1 p))
 
   module _ (long : Short-slice works → ⊥) where
+    -- where no working slice is short the test fails
     long-test : any (λ n. ltb n working-words) works ≡ false
     long-test = T-false _ (not-T (any (λ n. ltb n working-words) works) (λ t. long (short-test works .0 t)))
 
@@ -105,11 +106,11 @@ call-view file works room = ⊎-elim (λ t. let p = short-test works .0 t in rw 
         (λ u. by-reading (record { long-slices = long; fits = nltb→le 65535 (length file) u }) (read-file exclude-names file) refl)
         (T-dec (ltb 65535 (length file)))
 
--- no two numbers are equal that differ
+-- 0 is not 1
 clash : _≡_ {A = ℕ} 0 1 → ⊥
 clash z = omega arith
 
--- a refusal of a line is none of the call
+-- a refusal of a line is none that no line gives
 line-not : {r : Refusal} (q : Refusal) → Of-line r → r ≡ q → (Of-line q → ⊥) → ⊥
 line-not q o e none = none (rw e at o)
 

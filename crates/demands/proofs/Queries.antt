@@ -1,29 +1,23 @@
 -- Two accepted files that differ, line for line, only in root lines of other queries give the same list.
 use Prim.Native.Nat.{ℕ, _+_}
-use native.Mathlib.Omega.{arith}
 use mathlib.Core.Path.{_≡_, refl, sym, _∙_, ap}
 use mathlib.Core.Logic.{_≢_}
-use mathlib.Core.Bool.{Bool, true, false, cond, not, Bool·beq}
-use mathlib.Core.List.{List, [], _∷_, _++_, append-nil}
-use mathlib.Core.Option.{Option, none, some}
-use lib.Dec.{T, T-not, not-T, eqb, leb, eqb→eq}
+use mathlib.Core.List.{List, [], _∷_, append-nil}
+use mathlib.Core.Option.{some}
+use lib.Dec.{not-T, eqb, eqb→eq}
 use lib.ListN.{length}
-use Rattle.model.specs.Lists.{keep, fold-left, holds}
+use Rattle.model.specs.Lists.{keep, fold-left}
 use Rattle.model.specs.Names.{Name, bytes, by-byte, order, is-same, same}
-use Rattle.model.specs.Lines.{Line, lines, Field, fields, number}
-use Rattle.model.specs.Terms.{Term, add-term}
+use Rattle.model.specs.Lines.{Line, Field, fields, number}
 use Rattle.model.specs.Summaries.{exclude-names, free-top-level-names}
-use Rattle.model.specs.Reading.{Result, ok, refused, need, next, end, name-field, number-field, term-field, fixed-count, kinds, word, kind-field, content, parse, Content, root, Ask, Summary, Root, State, start, asked, nodes, summarize-decl, root-of, add-line, read, read-line, read-lines}
-use Rattle.model.specs.Rounds.{Run, facts, goal-roots, first-scanned, run, visits}
+use Rattle.model.specs.Reading.{ok, next, name-field, number-field, term-field, kinds, word, content, parse, Content, root, Ask, Summary, Root, State, start, asked, nodes, summarize-decl, root-of, add-line, read, read-line, read-lines}
+use Rattle.model.specs.Rounds.{goal-roots, first-scanned, run}
 use Rattle.model.specs.Kept.{kept, kept-names}
-use Rattle.model.specs.Outcome.{filtered, list}
+use Rattle.model.specs.Outcome.{filtered}
 use Rattle.model.specs.declared.LineKind.the-variants as kind
-use Rattle.model.specs.declared.Refusal.{Refusal}
-use Rattle.model.specs.declared.Refusal.the-variants as refusal
 use Rattle.model.proofs.ListLaws.{keep-append, cond-false}
-use Rattle.demands.specs.Accepted.{Accepted}
 use Rattle.demands.specs.Queries.{Other-root, Alike, end as no-lines, same as same-line, roots as root-lines, Other-queries-do-not-matter}
-use Rattle.demands.proofs.ReadingLaws.{ok-eq, bind-ok, next-ok, end-ok, number-ok, Parsed, parse-ok, Line-read, line-read, lines-read, none-read, file-read}
+use Rattle.demands.proofs.ReadingLaws.{ok-eq, bind-ok, next-ok, end-ok, number-ok, Parsed, parse-ok, line-read, lines-read, none-read, file-read}
 
 -- the roots of query q
 abbrev of-query : ℕ → List Root → List Root

@@ -2,21 +2,21 @@
 use Prim.Native.Nat.{ℕ, _+_}
 use native.Mathlib.Nat.{add-zero}
 use native.Mathlib.Omega.{arith}
-use mathlib.Core.Path.{_≡_, refl, sym, _∙_, ap, subst}
+use mathlib.Core.Path.{_≡_, refl, _∙_, ap, subst}
 use mathlib.Core.Logic.{_⊎_, inl, inr, ⊎-elim}
 use mathlib.Core.Bool.{Bool, true, false, cond, not, _&&_, Bool·beq}
 use mathlib.Core.Option.{Option, none, some}
-use mathlib.Core.List.{List, [], _∷_, _++_}
+use mathlib.Core.List.{List, [], _∷_}
 use lib.Dec.{T, leb, eqb}
 use lib.ListN.{length}
 use Rattle.model.specs.Lists.{all, holds}
 use Rattle.model.specs.Names.{Name, bytes, same}
 use Rattle.model.specs.Lines.{Line, lines, Field, fields, number}
-use Rattle.model.specs.Reading.{Result, ok, refused, _>>=_, need, next, end, number-field, kinds, word, fixed-count, kind-field, content, Content, State, start, Reading, read, refused-at, go-on, limits, under-limits, parse, add-line, repeats, read-line, read-lines, read-file}
+use Rattle.model.specs.Reading.{Result, ok, refused, _>>=_, need, next, end, number-field, kinds, word, fixed-count, kind-field, content, Content, State, start, read, refused-at, go-on, limits, under-limits, parse, add-line, repeats, read-line, read-lines, read-file}
 use Rattle.model.specs.declared.LineKind.{LineKind}
 use Rattle.model.specs.declared.Refusal.{Refusal}
 use Rattle.model.specs.declared.Refusal.the-variants as refusal
-use Rattle.model.proofs.ListLaws.{T-and, T-dec, T-true, T-false, cond-true, cond-false}
+use Rattle.model.proofs.ListLaws.{T-and, T-dec, T-true, T-false, cond-true}
 
 module _ {A : Type 0} where
   -- a result is a value or a refusal
@@ -28,7 +28,7 @@ module _ {A : Type 0} where
   pub not-ok : {x : Refusal} {a : A} → refused x ≡ ok a → ⊥
   not-ok e = let z : _≡_ {A = ℕ} 0 1 = cc in omega arith
 
-  -- equal values
+  -- equal results have equal values
   pub ok-eq : {a b : A} → ok a ≡ ok b → a ≡ b
   ok-eq e = cc
 
@@ -137,11 +137,12 @@ pub data Line-view (exclude : List Name) (n : ℕ) (s : State) (line : Line) : R
       → T (all within (limits (add-line exclude n s c)))
       → Line-view exclude n s line (ok (add-line exclude n s c))
 
--- every refusal of the list of limits is 6
+-- every refusal of a list of limits is 6
 abbrev Limits-only : List (ℕ × ℕ × Refusal) → Type 0
 Limits-only [] = Unit {0}
 Limits-only ((counted, limit, r) ∷ more) = (r ≡ refusal.Limit) × Limits-only more
 
+-- so it is for the limits of a state
 limits-only : (s : State) → Limits-only (limits s)
 unfolding limits
 limits-only s = (refl, (refl, (refl, (refl, (refl, (refl, tt))))))
@@ -210,7 +211,7 @@ module _ (exclude : List Name) (n : ℕ) (s : State) (line : Line) where
       by-fields : T (line .ended) → Line-view exclude n s line (read-line exclude n s line)
       by-fields t = ⊎-elim (λ p. by-repeat t (p .0) (p .1)) (λ p. rw (unparsed-line t (p .1)) (unparsed t (p .1))) (result-cases (parse n (length (s .terms)) (fields (line .bytes))))
 
--- an accepted line: it has its final 0A, its fields say c, it repeats no name, it passes no limit, and the state after it is that with the line added
+-- an accepted line: it has its final 0A, its fields say its content, it repeats no name, it passes no limit, and the state after it is that with the line added
 pub record Line-read (exclude : List Name) (n : ℕ) (s : State) (line : Line) (s′ : State) : Type 0 where
   pub content : Content
   pub ended : T (line .ended)
@@ -237,7 +238,7 @@ module _ (exclude : List Name) where
       go (ok s′) e = (s′, refl, e)
       go (refused r) e = absurd (not-read e)
 
-  -- no line leaves the state
+  -- where no line is read the state stays
   pub none-read : (n : ℕ) (s end : State) → read-lines exclude n s [] ≡ read end → s ≡ end
   unfolding read-lines
   none-read n s end e = cc

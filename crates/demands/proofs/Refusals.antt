@@ -7,13 +7,13 @@ use mathlib.Core.Logic.{_⊎_, inl, inr, ⊎-elim}
 use mathlib.Core.Bool.{Bool, true, false, cond, not, Bool·beq}
 use mathlib.Core.List.{List, [], _∷_, _++_}
 use mathlib.Core.Option.{Option, none, some}
-use lib.Dec.{T, leb, ltb, eqb}
+use lib.Dec.{leb, ltb, eqb}
 use lib.ListN.{length}
 use Rattle.model.specs.Lists.{holds}
 use Rattle.model.specs.Names.{Name, bytes, same}
 use Rattle.model.specs.Lines.{Line, lines, Field, fields, is-name, number}
-use Rattle.model.specs.Terms.{Node, FreeV, Leaf, Call, App, Forall, Exists, Let, Labeled}
-use Rattle.model.specs.Reading.{Result, ok, refused, _>>=_, need, name-field, number-field, term-field, op-words, kinds, word, fixed-count, next, many, rest, end, groups, Content, ask, term, assume, fun, def, retain, root, quantifier, content, kind-field, parse, State, start, Reading, read, refused-at, go-on, read-line, read-lines, read-file}
+use Rattle.model.specs.Terms.{Node, Leaf, Call, Forall, Exists, Let}
+use Rattle.model.specs.Reading.{Result, ok, refused, _>>=_, need, name-field, number-field, term-field, op-words, kinds, word, fixed-count, next, many, rest, end, groups, ask, term, quantifier, content, kind-field, parse, State, start, read, refused-at, go-on, read-line, read-lines, read-file}
 use Rattle.model.specs.declared.LineKind.{LineKind}
 use Rattle.model.specs.declared.LineKind.the-variants as kind
 use Rattle.model.specs.declared.Refusal.{Refusal}
@@ -44,53 +44,64 @@ fielded-refusal {r} gives e = absurd (let z : _≡_ {A = ℕ} 0 1 = cc in omega 
 fielded-refusal {r} (fails {r = q} o) e = let same-refusal : q ≡ r = cc in rw same-refusal at o
 
 module _ {A B : Type 0} where
+  -- one step after the other
   fielded-bind : {x : Result A} {f : A → Result B} → Fielded x → ((a : A) → Fielded (f a)) → Fielded (x >>= f)
   fielded-bind (gives {a}) h = h a
   fielded-bind (fails o) h = fails o
 
 module _ {A : Type 0} where
+  -- one step or the other
   fielded-cond : (b : Bool) {x y : Result A} → Fielded x → Fielded y → Fielded (cond b x y)
   fielded-cond true h k = h
   fielded-cond false h k = k
 
+  -- a value that may be missing
   fielded-need : {r : Refusal} → Of-field r → (o : Option A) → Fielded (need r o)
   unfolding need
   fielded-need h none = fails h
   fielded-need h (some a) = gives
 
+  -- the end of the fields
   fielded-end : (a : A) (fs : List Field) → Fielded (end a fs)
   unfolding end
   fielded-end a [] = gives
   fielded-end a (f ∷ fs) = fails form
 
 module _ {A : Type 0} (judge : Field → Result A) (judged : (f : Field) → Fielded (judge f)) where
+  -- the next field
   fielded-next : (fs : List Field) → Fielded (next judge fs)
   unfolding next
   fielded-next [] = fails form
   fielded-next (f ∷ fs) = fielded-bind (judged f) (λ a. gives)
 
+  -- the next n fields
   fielded-many : (n : ℕ) (fs : List Field) → Fielded (many n judge fs)
   unfolding many
   fielded-many zero fs = gives
   fielded-many (suc n) fs = fielded-bind (fielded-next fs) (λ p. fielded-bind (fielded-many n (p .1)) (λ q. gives))
 
+  -- all fields that are left
   fielded-rest : (fs : List Field) → Fielded (rest judge fs)
   unfolding rest
   fielded-rest [] = gives
   fielded-rest (f ∷ fs) = fielded-bind (judged f) (λ a. fielded-bind (fielded-rest fs) (λ more. gives))
 
+-- a name field is refused by 2
 fielded-name : (f : Field) → Fielded (name-field f)
 unfolding name-field
 fielded-name f = fielded-cond (is-name f) gives (fails name)
 
+-- a number field by 3
 fielded-number : (limit : ℕ) (f : Field) → Fielded (number-field limit f)
 unfolding number-field
 fielded-number limit f = fielded-bind (fielded-need numeral (number f)) (λ n. fielded-cond (leb n limit) gives (fails numeral))
 
+-- a term field by 3 or 4
 fielded-term : (count : ℕ) (f : Field) → Fielded (term-field count f)
 unfolding term-field
 fielded-term count f = fielded-bind (fielded-number 65535 f) (λ n. fielded-cond (ltb n count) gives (fails term-number))
 
+-- pattern groups
 fielded-groups : (count g : ℕ) (fs : List Field) → Fielded (groups count g fs)
 unfolding groups
 fielded-groups count zero fs = gives
@@ -100,18 +111,23 @@ fielded-groups count (suc g) fs =
     fielded-bind (fielded-groups count g (q .1)) (λ r. gives)))
 
 module _ (count : ℕ) where
+  -- the next field, a name
   next-name : (fs : List Field) → Fielded (next name-field fs)
   next-name = fielded-next name-field fielded-name
 
+  -- the next field, a number
   next-number : (limit : ℕ) (fs : List Field) → Fielded (next (number-field limit) fs)
   next-number limit = fielded-next (number-field limit) (fielded-number limit)
 
+  -- the next field, a term
   next-term : (fs : List Field) → Fielded (next (term-field count) fs)
   next-term = fielded-next (term-field count) (fielded-term count)
 
+  -- all fields that are left, terms
   rest-terms : (fs : List Field) → Fielded (rest (term-field count) fs)
   rest-terms = fielded-rest (term-field count) (fielded-term count)
 
+  -- an `all` or a `some`
   fielded-quantifier : (make : ℕ → List (List ℕ) → Node) (fs : List Field) → Fielded (quantifier make count fs)
   unfolding quantifier
   fielded-quantifier make fs =
@@ -140,11 +156,13 @@ module _ (count : ℕ) where
   fielded-content kind.Root fs =
       fielded-bind (next-number 255 fs) (λ p. fielded-bind (next-name (p .1)) (λ q. fielded-bind (next-term (q .1)) (λ r. fielded-end _ (r .1))))
 
+-- the kind of a line
 fielded-kind : (n : ℕ) (f : Field) → Fielded (kind-field n f)
 unfolding kind-field
 fielded-kind n f =
     fielded-bind (fielded-need form (word kinds f)) (λ k. fielded-cond (Bool·beq (eqb n 1) (same f (bytes "ask"))) gives (fails form))
 
+-- all fields of a line
 fielded-parse : (n count : ℕ) (all : List Field) → Fielded (parse n count all)
 unfolding parse
 fielded-parse n count all =

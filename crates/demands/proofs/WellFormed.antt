@@ -1,26 +1,23 @@
 -- The records of an accepted file are well formed: no name is taken twice, and name lists are sets.
-use Prim.Native.Nat.{ℕ, zero, suc, _+_}
+use Prim.Native.Nat.{ℕ, zero, suc}
 use mathlib.Core.Path.{_≡_, refl, sym, ap, subst}
-use mathlib.Core.Logic.{_⊎_, inl, inr, ⊎-elim}
+use mathlib.Core.Logic.{⊎-elim}
 use mathlib.Core.Bool.{Bool, true, false, cond, not}
-use mathlib.Core.List.{List, [], _∷_, _++_, map, List·Memᴰ, List·Memᴰ·head, List·Memᴰ·tail, List·Memᴰ·cases-cons, List·Memᴰ·not-nil, List·Memᴰ·append-cases, List·Memᴰ·eq-of-singleton, Memᴰ·append-left, Memᴰ·append-right, Memᴰ·cast}
+use mathlib.Core.List.{List, [], _∷_, _++_, List·Memᴰ, List·Memᴰ·head, List·Memᴰ·tail, List·Memᴰ·cases-cons, List·Memᴰ·not-nil, List·Memᴰ·append-cases, List·Memᴰ·eq-of-singleton}
 use mathlib.Core.Option.{Option, none, some, Option·getD}
 use lib.Dec.{T, T-not}
-use lib.ListN.{length, getD}
-use Rattle.model.specs.Lists.{any, concat, collect, fold-left, when, or-else, holds, is-nil, _>>=_}
-use Rattle.model.specs.Names.{Name, bytes, same, mem, starts-with, ends-with, union, add}
-use Rattle.model.specs.Lines.{Line}
+use lib.ListN.{getD}
+use Rattle.model.specs.Lists.{concat, collect, fold-left, when, or-else, holds, is-nil, _>>=_}
+use Rattle.model.specs.Names.{Name, bytes, same, mem, starts-with, ends-with, union}
 use Rattle.model.specs.Terms.{Node, FreeV, Leaf, Call, App, Forall, Exists, Let, Labeled, Term, names-of, add-term, free-top-level-names as node-names, term as term-of}
-use Rattle.model.specs.Summaries.{Kinded, Sum-drop, Sum-ambient, Sum-triggers, Fact, exclude-names, groups-of, token-triggers, is-empty, op-args, call-one, call-two, two, head, free-top-level-names, group-names, triggers-of-term, at, is-ambient-refinement, ambient-refinement-payload, token, has-eq, rule-1, rule-2, rule-3, rule-4, rule-5, rule-6, rule-7, rule-8, rule-9, rule-10, rule-11, rule-12, first-rule, maybe-add-ambient, summarize-assumption}
-use Rattle.model.specs.Reading.{Content, ask, term, assume, fun, def, retain, root, ok, Decl, Summary, Sum-assume, Sum-definefun, Sum-declfun, Sum-retain, Root, State, start, nodes, taken-by, summarize-decl, root-of, add-line, repeats, read-line, read, read-file}
+use Rattle.model.specs.Summaries.{Kinded, Sum-drop, Sum-ambient, Sum-triggers, exclude-names, groups-of, token-triggers, is-empty, op-args, call-one, call-two, two, head, free-top-level-names, group-names, triggers-of-term, at, is-ambient-refinement, ambient-refinement-payload, token, has-eq, rule-1, rule-2, rule-3, rule-4, rule-5, rule-6, rule-7, rule-8, rule-9, rule-10, rule-11, rule-12, first-rule, maybe-add-ambient, summarize-assumption}
+use Rattle.model.specs.Reading.{Content, ask, term, assume, fun, def, retain, root, Summary, Sum-assume, Sum-definefun, Sum-declfun, Sum-retain, Root, State, start, nodes, taken-by, summarize-decl, root-of, add-line, repeats, read, read-file}
 use Rattle.model.specs.Rounds.{facts, definitions}
-use Rattle.model.specs.declared.AsumKind.{AsumKind}
-use Rattle.model.specs.declared.AsumKind.the-variants.{Drop, Ambient, Triggers}
-use Rattle.model.specs.declared.Op.the-variants.{TrueOp, Iff, Eq, And, Other}
+use Rattle.model.specs.declared.Op.the-variants.{TrueOp, Iff, Eq, And}
 use Rattle.model.proofs.ListLaws.{any-intro, collect-append, collect-elim, map-elim}
 use Rattle.model.proofs.SetLaws.{Ascending, empty, one, ascending-add, ascending-union, ascending-diff, mem-intro}
-use Rattle.demands.specs.Accepted.{Accepted, Distinct, none as distinct-none, one-more, Without-triggers, Good-fact, Well-formed, Accepted-well-formed}
-use Rattle.demands.proofs.ReadingLaws.{Line-read, line-read, kept-by-file}
+use Rattle.demands.specs.Accepted.{Distinct, none as distinct-none, one-more, Without-triggers, Good-fact, Well-formed, Accepted-well-formed}
+use Rattle.demands.proofs.ReadingLaws.{line-read, kept-by-file}
 
 -- general law: what holds of both branches holds of the branch taken
 cond-case : {A : Type 0} (P : A → Type 0) (b : Bool) {x y : A} → P x → P y → P (cond b x y)
@@ -102,14 +99,17 @@ record Good-kinded (k : Kinded) : Type 0 where
   no-triggers : Without-triggers (k .kind) (k .triggers)
   trigger-sets : All-sets (k .triggers)
 
+-- triggers that are sets are good
 good-triggers : (ts : List (List Name)) → All-sets ts → Good-kinded (Sum-triggers ts)
 unfolding Sum-triggers
 good-triggers ts h = record { no-triggers = tt; trigger-sets = h }
 
+-- an ambient has no triggers
 good-ambient : (is-root : Bool) → Good-kinded (Sum-ambient is-root)
 unfolding Sum-ambient
 good-ambient is-root = record { no-triggers = refl; trigger-sets = λ d i. absurd (List·Memᴰ·not-nil i) }
 
+-- neither has a dropped fact
 good-drop : Good-kinded Sum-drop
 unfolding Sum-drop
 good-drop = record { no-triggers = refl; trigger-sets = λ d i. absurd (List·Memᴰ·not-nil i) }
@@ -127,20 +127,24 @@ data Good-option : Option Kinded → Type 0 where
   gives-none : Good-option none
   gives : {k : Kinded} → Good-kinded k → Good-option (some k)
 
+-- what a rule gives from a value that may be missing
 good-bind : {A : Type 0} (o : Option A) {f : A → Option Kinded} → ((a : A) → Good-option (f a)) → Good-option (o >>= f)
 good-bind none h = gives-none
 good-bind (some a) h = h a
 
+-- what it gives under a test
 good-when : (b : Bool) {k : Kinded} → Good-kinded k → Good-option (when b k)
 unfolding when
 good-when true g = gives g
 good-when false g = gives-none
 
+-- the first of two
 good-or-else : {o p : Option Kinded} → Good-option o → Good-option p → Good-option (or-else o p)
 unfolding or-else
 good-or-else gives-none h = h
 good-or-else (gives g) h = gives g
 
+-- what it gives, or else another
 good-default : {o : Option Kinded} {k : Kinded} → Good-option o → Good-kinded k → Good-kinded (Option·getD o k)
 good-default gives-none h = h
 good-default (gives g) h = g
@@ -196,15 +200,17 @@ module _ {terms : List Term} (sets : Term-sets terms) where
         let (g, j, e) = map-elim (group-names exclude terms) (Option·getD (groups-of (term-of terms t .bare)) []) i in
         rw (← e) (group-set g)
 
-    -- what every rule gives is good
+    -- what rule 1 gives is good
     good-1 : (name : Name) (t : ℕ) → Good-option (rule-1 exclude terms name t)
     unfolding rule-1
     good-1 name t = good-bind (op-args Iff (at exclude terms t) >>= two) (λ p. good-when (starts-with name (bytes "l_quant_interp")) (good-triggers _ (one-set (free-set (p .0)))))
 
+    -- what rule 2 gives is good
     good-2 : (name : Name) (t : ℕ) → Good-option (rule-2 exclude terms name t)
     unfolding rule-2
     good-2 name t = good-when (starts-with name (bytes "assumption_")) (good-triggers _ (cond-case All-sets (is-empty (triggers-of-term exclude terms t)) (one-set (free-set t)) (term-triggers t)))
 
+    -- what rule 3 gives is good
     good-3 : (name : Name) (t : ℕ) → Good-option (rule-3 exclude terms name t)
     unfolding rule-3
     good-3 name t =
@@ -212,6 +218,7 @@ module _ {terms : List Term} (sets : Term-sets terms) where
         good-when (is-ambient-refinement exclude terms (p .1)) (cond-case Good-kinded (is-empty (triggers-of-term exclude terms (ambient-refinement-payload exclude terms (p .1))))
         (good-ambient true) (good-triggers _ (term-triggers (ambient-refinement-payload exclude terms (p .1))))))
 
+    -- what rule 4 gives is good
     good-4 : (name : Name) (t : ℕ) → Good-option (rule-4 exclude terms name t)
     unfolding rule-4
     good-4 name t =
@@ -220,6 +227,7 @@ module _ {terms : List Term} (sets : Term-sets terms) where
         good-when (holds (same (bytes "__uu__PartialApp")) (head (at exclude terms (p .0))))
         (good-default (good-bind (token exclude terms (p .1)) (λ n. gives (good-token n))) (good-triggers [] (λ d i. absurd (List·Memᴰ·not-nil i))))))
 
+    -- what rule 5 gives is good
     good-5 : (name : Name) (t : ℕ) → Good-option (rule-5 exclude terms name t)
     unfolding rule-5
     good-5 name t =
@@ -229,19 +237,23 @@ module _ {terms : List Term} (sets : Term-sets terms) where
         (or-else (call-one "IsTotFun" (at exclude terms t)) (call-one "is-Tm_arrow" (at exclude terms t)))))
         (λ first. gives (good-triggers _ (one-set (free-set first))))
 
+    -- what rule 6 gives is good
     good-6 : (name : Name) (t : ℕ) → Good-option (rule-6 exclude terms name t)
     unfolding rule-6
     good-6 name t = good-bind (op-args Eq (at exclude terms t) >>= two) (λ p. good-bind (call-one "Term_constr_id" (at exclude terms (p .1))) (λ argument. gives (good-triggers _ (one-set (free-set argument)))))
 
+    -- what rule 7 gives is good
     good-7 : (name : Name) (t : ℕ) → Good-option (rule-7 exclude terms name t)
     unfolding rule-7
     good-7 name t =
         good-bind (op-args And (at exclude terms t)) (λ parts. gives (good-triggers _ (λ d i. let (part, j, k) = collect-elim (triggers-of-term exclude terms) parts i in term-triggers part d k)))
 
+    -- what rule 8 gives is good
     good-8 : (name : Name) (t : ℕ) → Good-option (rule-8 exclude terms name t)
     unfolding rule-8
     good-8 name t = good-bind (op-args Eq (at exclude terms t) >>= two) (λ p. good-when (starts-with name (bytes "equation_")) (good-triggers _ (one-set (free-set (p .0)))))
 
+    -- what rule 9 gives is good
     good-9 : (name : Name) (t : ℕ) → Good-option (rule-9 exclude terms name t)
     unfolding rule-9
     good-9 name t =
@@ -249,14 +261,17 @@ module _ {terms : List Term} (sets : Term-sets terms) where
         (good-bind (has-eq exclude terms (p .0)) (λ l. good-bind (has-eq exclude terms (p .1)) (λ r. gives (good-triggers _ (one-set (free-set l))))))
         (gives (good-triggers _ (more-sets (free-set (p .0)) (one-set (free-set (p .1)))))))
 
+    -- what rule 10 gives is good
     good-10 : (name : Name) (t : ℕ) → Good-option (rule-10 exclude terms name t)
     unfolding rule-10
     good-10 name t = good-bind (op-args Eq (at exclude terms t) >>= two) (λ p. gives (good-triggers _ (more-sets (free-set (p .0)) (one-set (free-set (p .1))))))
 
+    -- what rule 11 gives is good
     good-11 : (name : Name) (t : ℕ) → Good-option (rule-11 exclude terms name t)
     unfolding rule-11
     good-11 name t = good-bind (op-args TrueOp (at exclude terms t)) (λ ts. gives good-drop)
 
+    -- what rule 12 gives is good
     good-12 : (name : Name) (t : ℕ) → Good-option (rule-12 exclude terms name t)
     unfolding rule-12
     good-12 name t = gives (good-ambient false)
@@ -341,10 +356,12 @@ pub record Sound (s : State) : Type 0 where
   pub sets : Term-sets (s .terms)
   pub well : Well-formed (s .decls) (s .roots)
 
+-- the start is sound
 sound-start : Sound start
 unfolding start collect facts definitions
 sound-start = record { sets = record { of-term = λ t i. absurd (List·Memᴰ·not-nil i) }; well = no-records }
 
+-- a line that does not repeat keeps it so
 sound-line : (exclude : List Name) (n : ℕ) (s : State) (c : Content) → T (not (repeats exclude n s c)) → Sound s → Sound (add-line exclude n s c)
 unfolding add-line
 sound-line exclude n s c fresh v =

@@ -12,7 +12,7 @@ use Rattle.model.specs.Lines.{Line, lines, fields}
 use Rattle.model.specs.Summaries.{exclude-names}
 use Rattle.model.specs.Reading.{Content, assume, fun, def, ok, refused, State, start, read, parse, add-line, read-line, read-lines}
 use Rattle.model.specs.Rounds.{facts, visits}
-use Rattle.model.specs.Outcome.{Outcome, refusal-at, list, outcome}
+use Rattle.model.specs.Outcome.{refusal-at, list, outcome}
 use Rattle.model.specs.declared.Refusal.{Refusal}
 use Rattle.model.specs.declared.Refusal.the-variants as refusal
 use Rattle.demands.specs.Accepted.{Accepted}
