@@ -59,7 +59,7 @@ List-given =
     × (seen ≡ visits (run-of s .met) (facts (s .decls))) × (turns ≡ run-of s .rounds)
     × (length (kept-list s) ≤ room)))
 
--- the refusals of a line: 1 to 6
+-- the refusals of "The exporter of the file" that name a line: 1 to 6
 pub data Of-line : Refusal → Type 0 where
   form : Of-line refusal.Form
   name : Of-line refusal.Name
