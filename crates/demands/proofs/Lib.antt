@@ -7,3 +7,8 @@ pub mod ListedLaws
 pub mod Demand3
 pub mod LineWalk
 pub mod LineForm
+pub mod ReadingLaws
+pub mod WellFormed
+pub mod Queries
+pub mod Refusals
+pub mod Demand1

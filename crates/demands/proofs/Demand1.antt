@@ -1,0 +1,435 @@
+-- Demand 1: each of the refusals 5 to 9, and the list, exactly under its condition.
+use Prim.Native.Nat.{ℕ, _+_, _≤_, _<_}
+use native.Mathlib.Nat.{add-zero}
+use native.Mathlib.Omega.{arith}
+use mathlib.Core.Path.{_≡_, refl, sym, _∙_, ap}
+use mathlib.Core.Logic.{_↔_, _⊎_, inl, inr, ⊎-elim}
+use mathlib.Core.Bool.{Bool, true, false, not, _&&_}
+use mathlib.Core.List.{List, [], _∷_, _++_, List·Memᴰ, List·Memᴰ·head, List·Memᴰ·tail, List·Memᴰ·not-nil, List·Memᴰ·append-cases, List·Memᴰ·eq-of-singleton, Memᴰ·append-left, Memᴰ·append-right}
+use lib.Dec.{T, T-not, not-T, leb, ltb, ltb→lt, lt→ltb, nltb→le, leb→le, le→leb, nleb→lt}
+use lib.ListN.{length}
+use Rattle.model.specs.Lists.{any, all, collect}
+use Rattle.model.specs.Names.{Name, mem}
+use Rattle.model.specs.Lines.{Line, lines, fields}
+use Rattle.model.specs.Terms.{Term}
+use Rattle.model.specs.Summaries.{exclude-names, summarize-assumption}
+use Rattle.model.specs.Reading.{Content, ask, term, assume, fun, def, retain, root, Result, ok, refused, State, start, Reading, read, refused-at, taken-by, summarize-decl, parse, limits, add-line, repeats, read-line, read-lines, read-file}
+use Rattle.model.specs.Rounds.{facts, visits}
+use Rattle.model.specs.Outcome.{Outcome, refusal-at, list, filtered, of-reading, fitting, working-words, outcome}
+use Rattle.model.specs.declared.Refusal.{Refusal}
+use Rattle.model.specs.declared.Refusal.the-variants as refusal
+use Rattle.model.proofs.ListLaws.{T-dec, T-true, T-false, any-intro, any-elim, all-elim, collect-append}
+use Rattle.model.proofs.SetLaws.{mem-intro, mem-elim}
+use Rattle.demands.specs.Accepted.{Accepted}
+use Rattle.demands.specs.Demand2.{kept-list}
+use Rattle.demands.specs.Demand3.{run-of}
+use Rattle.demands.specs.Demand1.{Short-slice, Lines-judged, Of-line, repeated as line-repeated, limit as line-limit, Reached-line, Says, Takes, by-assume, by-fun, by-def, Repeats, Past-limit, names, term-lines, term-references, record-lines, trigger-entries, name-uses, Refusal-5, Refusal-6, Refusal-7, Refusal-8, Refusal-9, List-given, Line-refused}
+use Rattle.demands.proofs.ReadingLaws.{ok-eq, Line-view, unended, unparsed, repeated, past-limit, accepted, line-view, repeated-line, past-line, within, Line-read, line-read, lines-read, none-read}
+use Rattle.demands.proofs.Refusals.{Of-field, parse-refusal, First-refused, lines-on, lines-append, file-refused, refused-file, refused-empty, file-refusal}
+
+-- the test of the working slices
+short-test : (works : List ℕ) → T (any (λ n. ltb n working-words) works) ↔ Short-slice works
+unfolding working-words
+short-test works = (
+  λ t. let (n, i, u) = any-elim (λ n. ltb n 16384) works t in (n, i, ltb→lt n 16384 u),
+  λ p. any-intro (λ n. ltb n 16384) (p .1) (lt→ltb (p .0) 16384 (p .2)),
+)
+
+module _ (file works : List ℕ) (room : ℕ) where
+  -- a short working slice is refused
+  short-call : Short-slice works → outcome file works room ≡ refusal-at refusal.Working 0
+  unfolding outcome
+  short-call p = rw (T-true (any (λ n. ltb n working-words) works) (short-test works .1 p))
+
+  module _ (long : Short-slice works → ⊥) where
+    -- where no working slice is short the test fails
+    long-test : any (λ n. ltb n working-words) works ≡ false
+    long-test = T-false _ (not-T (any (λ n. ltb n working-words) works) (λ t. long (short-test works .0 t)))
+
+    -- a file that is too long is refused
+    large-call : 65535 < length file → outcome file works room ≡ refusal-at refusal.Size 0
+    unfolding outcome
+    large-call h = rw (long-test, T-true (ltb 65535 (length file)) (lt→ltb 65535 (length file) h))
+
+  -- any other call is judged by reading
+  judged-call : Lines-judged file works → outcome file works room ≡ fitting room (of-reading (read-file exclude-names file))
+  unfolding outcome
+  judged-call j =
+      let fits = j .fits in
+      rw (long-test (j .long-slices), T-false (ltb 65535 (length file)) (not-T (ltb 65535 (length file)) (λ t. let h = ltb→lt 65535 (length file) t in omega arith)))
+
+  module _ (judged : Lines-judged file works) where
+    -- a refusal of the reading is the answer
+    refused-call : {r : Refusal} {n : ℕ} → read-file exclude-names file ≡ refused-at r n → outcome file works room ≡ refusal-at r n
+    unfolding fitting of-reading
+    refused-call e = judged-call judged ∙ rw e
+
+    module _ (s : State) (read-to : Accepted file s) where
+      -- a list that is too long is refused
+      room-call : room < length (kept-list s) → outcome file works room ≡ refusal-at refusal.Room (length (kept-list s))
+      unfolding fitting of-reading filtered
+      room-call h = judged-call judged ∙ rw (read-to, T-false (leb (length (kept-list s)) room) (not-T (leb (length (kept-list s)) room) (λ t. let k = leb→le (length (kept-list s)) room t in omega arith)))
+
+      -- any other list is the answer
+      list-call : length (kept-list s) ≤ room → outcome file works room ≡ list (kept-list s) (visits (run-of s .met) (facts (s .decls))) (run-of s .rounds)
+      unfolding fitting of-reading filtered
+      list-call h = judged-call judged ∙ rw (read-to, T-true (leb (length (kept-list s)) room) (le→leb (length (kept-list s)) room h))
+
+-- what a call comes to, with the reason: the only ways to each answer
+data Call-view (file works : List ℕ) (room : ℕ) : Outcome → Type 0 where
+  short : Short-slice works → Call-view file works room (refusal-at refusal.Working 0)
+  large : (Short-slice works → ⊥) → 65535 < length file → Call-view file works room (refusal-at refusal.Size 0)
+  refusing : {r : Refusal} {n : ℕ} → Lines-judged file works → read-file exclude-names file ≡ refused-at r n → Call-view file works room (refusal-at r n)
+  lacking : Lines-judged file works → (s : State) → Accepted file s → room < length (kept-list s)
+      → Call-view file works room (refusal-at refusal.Room (length (kept-list s)))
+  listing : Lines-judged file works → (s : State) → Accepted file s → length (kept-list s) ≤ room
+      → Call-view file works room (list (kept-list s) (visits (run-of s .met) (facts (s .decls))) (run-of s .rounds))
+
+-- what a call comes to
+call-view : (file works : List ℕ) (room : ℕ) → Call-view file works room (outcome file works room)
+call-view file works room = ⊎-elim (λ t. let p = short-test works .0 t in rw (short-call file works room p) (short p)) by-size (T-dec (any (λ n. ltb n working-words) works))
+  where
+    by-room : Lines-judged file works → (s : State) → Accepted file s → Call-view file works room (outcome file works room)
+    by-room j s e =
+        ⊎-elim (λ t. let h = leb→le (length (kept-list s)) room t in rw (list-call file works room j s e h) (listing j s e h))
+        (λ t. let h = nleb→lt (length (kept-list s)) room t in rw (room-call file works room j s e h) (lacking j s e h))
+        (T-dec (leb (length (kept-list s)) room))
+
+    by-reading : Lines-judged file works → (x : Reading) → read-file exclude-names file ≡ x → Call-view file works room (outcome file works room)
+    by-reading j (read s) e = by-room j s e
+    by-reading j (refused-at r n) e = rw (refused-call file works room j e) (refusing j e)
+
+    by-size : T (not (any (λ n. ltb n working-words) works)) → Call-view file works room (outcome file works room)
+    by-size t =
+        let long : Short-slice works → ⊥ = λ p. T-not (any (λ n. ltb n working-words) works) t (short-test works .1 p) in
+        ⊎-elim (λ u. let h = ltb→lt 65535 (length file) u in rw (large-call file works room long h) (large long h))
+        (λ u. by-reading (record { long-slices = long; fits = nltb→le 65535 (length file) u }) (read-file exclude-names file) refl)
+        (T-dec (ltb 65535 (length file)))
+
+-- 0 is not 1
+clash : _≡_ {A = ℕ} 0 1 → ⊥
+clash z = omega arith
+
+-- a refusal of a line is none that no line gives
+line-not : {r : Refusal} (q : Refusal) → Of-line r → r ≡ q → (Of-line q → ⊥) → ⊥
+line-not q o e none = none (rw e at o)
+
+-- 7, exactly under its condition
+pub refusal-7 : Refusal-7
+refusal-7 file works room place = (go (call-view file works room), λ p. rw (p .0) (short-call file works room (p .1)))
+  where
+    go : {o : Outcome} → Call-view file works room o → o ≡ refusal-at refusal.Working place → (place ≡ 0) × Short-slice works
+    go (short p) e = ((cc), p)
+    go (large long h) e = absurd (clash (cc))
+    go (refusing j f) e = absurd (line-not refusal.Working (file-refusal exclude-names file f) (cc) (λ o. elim o [ ]))
+    go (lacking j s f h) e = absurd (clash (cc))
+    go (listing j s f h) e = absurd (clash (cc))
+
+-- 9, exactly under its condition
+pub refusal-9 : Refusal-9
+refusal-9 file works room place = (go (call-view file works room), λ p. rw (p .0) (large-call file works room (p .1) (p .2)))
+  where
+    go : {o : Outcome} → Call-view file works room o → o ≡ refusal-at refusal.Size place → (place ≡ 0) × (Short-slice works → ⊥) × (65535 < length file)
+    go (short p) e = absurd (clash (cc))
+    go (large long h) e = ((cc), long, h)
+    go (refusing j f) e = absurd (line-not refusal.Size (file-refusal exclude-names file f) (cc) (λ o. elim o [ ]))
+    go (lacking j s f h) e = absurd (clash (cc))
+    go (listing j s f h) e = absurd (clash (cc))
+
+-- 8, exactly under its condition
+pub refusal-8 : Refusal-8
+refusal-8 file works room place = (go (call-view file works room), λ (j, (s, f, is, h)). rw is (room-call file works room j s f h))
+  where
+    go : {o : Outcome} → Call-view file works room o → o ≡ refusal-at refusal.Room place
+        → Lines-judged file works × ((s : State) × Accepted file s × (place ≡ length (kept-list s)) × (room < length (kept-list s)))
+    go (short p) e = absurd (clash (cc))
+    go (large long h) e = absurd (clash (cc))
+    go (refusing j f) e = absurd (line-not refusal.Room (file-refusal exclude-names file f) (cc) (λ o. elim o [ ]))
+    go (lacking j s f h) e = (j, (s, f, (cc), h))
+    go (listing j s f h) e = absurd (clash (cc))
+
+-- a list, exactly under its condition
+pub list-given : List-given
+list-given file works room given seen turns =
+    (go (call-view file works room), λ (j, (s, f, is, seen-is, turns-are, h)). rw (is, seen-is, turns-are) (list-call file works room j s f h))
+  where
+    go : {o : Outcome} → Call-view file works room o → o ≡ list given seen turns
+        → Lines-judged file works × ((s : State) × Accepted file s × (given ≡ kept-list s)
+        × (seen ≡ visits (run-of s .met) (facts (s .decls))) × (turns ≡ run-of s .rounds) × (length (kept-list s) ≤ room))
+    go (short p) e = absurd (clash (cc))
+    go (large long h) e = absurd (clash (cc))
+    go (refusing j f) e = absurd (clash (cc))
+    go (lacking j s f h) e = absurd (clash (cc))
+    go (listing j s f h) e = (j, (s, f, (cc), (cc), (cc), h))
+
+-- the first refused line is the line reached
+reached-refused : {ls : List Line} {r : Refusal} {n : ℕ} → First-refused exclude-names 1 start ls r n
+    → (l : Reached-line ls n) × (read-line exclude-names n (l .state) (l .line) ≡ refused r)
+reached-refused f =
+    let place = f .place in
+    (record { before = f .before; line = f .line; after = f .after; is-line = f .is-line; place = omega arith; state = f .state; reading = f .reading }, f .refusing)
+
+-- and back
+refused-reached : {ls : List Line} {r : Refusal} {n : ℕ} (l : Reached-line ls n) → read-line exclude-names n (l .state) (l .line) ≡ refused r → First-refused exclude-names 1 start ls r n
+refused-reached l e =
+    let place = l .place in
+    record { before = l .before; line = l .line; after = l .after; is-line = l .is-line; place = omega arith; state = l .state; reading = l .reading; refusing = e }
+
+-- a refusal of a line, exactly where a line is refused
+pub line-refused : Line-refused
+line-refused file works room r n o = (go (call-view file works room), λ (j, p). refused-call file works room j (⊎-elim empty-file (λ (l, e). refused-file exclude-names file (refused-reached l e)) p))
+  where
+    empty-file : (file ≡ []) × (r ≡ refusal.Form) × (n ≡ 1) → read-file exclude-names file ≡ refused-at r n
+    empty-file (e, is, place) = rw (e, is, place) (refused-empty exclude-names)
+
+    go : {x : Outcome} → Call-view file works room x → x ≡ refusal-at r n
+        → Lines-judged file works
+        × (((file ≡ []) × (r ≡ refusal.Form) × (n ≡ 1))
+        ⊎ ((l : Reached-line (lines file) n) × (read-line exclude-names n (l .state) (l .line) ≡ refused r)))
+    go (short p) e = absurd (line-not refusal.Working o (cc) (λ o. elim o [ ]))
+    go (large long h) e = absurd (line-not refusal.Size o (cc) (λ o. elim o [ ]))
+    go (refusing {r = q} {n = m} j f) e =
+        let is : q ≡ r = cc in
+        let place : m ≡ n = cc in
+        (j, ⊎-elim inl (λ g. inr (reached-refused g)) (file-refused exclude-names file (rw (is, place) at f)))
+    go (lacking j s f h) e = absurd (line-not refusal.Room o (cc) (λ o. elim o [ ]))
+    go (listing j s f h) e = absurd (clash (cc))
+
+module _ (exclude : List Name) where
+  -- the names that a line adds to those taken are the name that it takes
+  taken-takes : (terms : List Term) (n : ℕ) (c : Content) {k : Name} → List·Memᴰ k (collect taken-by (summarize-decl exclude terms n c)) → Takes c k
+  unfolding collect taken-by summarize-decl summarize-assumption
+  taken-takes terms n (ask q options) i = absurd (List·Memᴰ·not-nil i)
+  taken-takes terms n (term node) i = absurd (List·Memᴰ·not-nil i)
+  taken-takes terms n (assume name flag t) i = rw (List·Memᴰ·eq-of-singleton i) by-assume
+  taken-takes terms n (fun name) i = rw (List·Memᴰ·eq-of-singleton i) by-fun
+  taken-takes terms n (def name t) i = rw (List·Memᴰ·eq-of-singleton i) by-def
+  taken-takes terms n (retain spelled) i = absurd (List·Memᴰ·not-nil i)
+  taken-takes terms n (root q name t) i = absurd (List·Memᴰ·not-nil i)
+
+  -- and back
+  takes-taken : (terms : List Term) (n : ℕ) {c : Content} {k : Name} → Takes c k → List·Memᴰ k (collect taken-by (summarize-decl exclude terms n c))
+  unfolding collect taken-by summarize-decl summarize-assumption
+  takes-taken terms n by-assume = List·Memᴰ·head refl
+  takes-taken terms n by-fun = List·Memᴰ·head refl
+  takes-taken terms n by-def = List·Memᴰ·head refl
+
+-- a line among these, read from a state on, that takes this name
+record Taken-in (n : ℕ) (s : State) (ls : List Line) (k : Name) : Type 0 where
+  before : List Line
+  line : Line
+  after : List Line
+  is-line : ls ≡ before ++ (line ∷ after)
+  state : State
+  reading : read-lines exclude-names n s before ≡ read state
+  content : Content
+  ended : T (line .ended)
+  parsed : parse (n + length before) (length (state .terms)) (fields (line .bytes)) ≡ ok content
+  takes : Takes content k
+
+-- the names taken after a line are those before it and the name that it takes
+line-taken : (n : ℕ) (s t : State) (line : Line) (k : Name) → (l : Line-read exclude-names n s line t)
+    → List·Memᴰ k (collect taken-by (t .decls)) ↔ (List·Memᴰ k (collect taken-by (s .decls)) ⊎ Takes (l .content) k)
+unfolding add-line
+line-taken n s t line k l =
+    rw (l .after, collect-append) (
+      λ i. ⊎-elim inl (λ j. inr (taken-takes exclude-names (s .terms) n (l .content) j)) (List·Memᴰ·append-cases (collect taken-by (s .decls)) i),
+      ⊎-elim (Memᴰ·append-left _) (λ u. Memᴰ·append-right (collect taken-by (s .decls)) (takes-taken exclude-names (s .terms) n u)),
+    )
+
+-- a name that is taken after some lines was taken before them or by one of them
+taken-lines : (ls : List Line) (n : ℕ) (s t : State) (k : Name) → read-lines exclude-names n s ls ≡ read t
+    → List·Memᴰ k (collect taken-by (t .decls)) → List·Memᴰ k (collect taken-by (s .decls)) ⊎ Taken-in n s ls k
+unfolding read-lines
+taken-lines [] n s t k e i = inl (rw (none-read exclude-names n s t e) i)
+taken-lines (line ∷ ls) n s t k e i =
+    let (u, r, others) = lines-read exclude-names n s line ls t e in
+    let l = line-read exclude-names n s line u r in
+    ⊎-elim (λ j. ⊎-elim inl (λ takes. inr (here u l takes)) (line-taken n s u line k l .0 j)) (λ w. inr (there u r w)) (taken-lines ls (n + 1) u t k others i)
+  where
+    here : (u : State) (l : Line-read exclude-names n s line u) → Takes (l .content) k → Taken-in n s (line ∷ ls) k
+    here u l takes =
+        record {
+          before = [];
+          line = line;
+          after = ls;
+          is-line = refl;
+          state = s;
+          reading = refl;
+          content = l .content;
+          ended = l .ended;
+          parsed = rw add-zero (l .parsed);
+          takes = takes;
+        }
+
+    there : (u : State) → read-line exclude-names n s line ≡ ok u → Taken-in (n + 1) u ls k → Taken-in n s (line ∷ ls) k
+    there u r w =
+        let count : n + length (line ∷ w .before) ≡ n + 1 + length (w .before) = omega arith in
+        record {
+          before = line ∷ w .before;
+          line = w .line;
+          after = w .after;
+          is-line = ap (line ∷_) (w .is-line);
+          state = w .state;
+          reading = lines-on exclude-names n s u line (w .before) r ∙ w .reading;
+          content = w .content;
+          ended = w .ended;
+          parsed = rw count (w .parsed);
+          takes = w .takes;
+        }
+
+-- a name that is taken before some lines is taken after them
+taken-on : (ls : List Line) (n : ℕ) (s t : State) (k : Name) → read-lines exclude-names n s ls ≡ read t
+    → List·Memᴰ k (collect taken-by (s .decls)) → List·Memᴰ k (collect taken-by (t .decls))
+taken-on [] n s t k e i = rw (none-read exclude-names n s t e) at i
+taken-on (line ∷ ls) n s t k e i =
+    let (u, r, others) = lines-read exclude-names n s line ls t e in
+    taken-on ls (n + 1) u t k others (line-taken n s u line k (line-read exclude-names n s line u r) .1 (inl i))
+
+-- no name is taken at the start
+none-taken : {k : Name} → List·Memᴰ k (collect taken-by (start .decls)) → ⊥
+unfolding start collect
+none-taken i = List·Memᴰ·not-nil i
+
+module _ {ls : List Line} {n : ℕ} (l : Reached-line ls n) where
+  -- a name is taken where the line is reached if an earlier line takes it
+  earlier-taken : {m : ℕ} {k : Name} {c : Content} (e : Reached-line (l .before) m) → Says e c → Takes c k → List·Memᴰ k (collect taken-by (l .state .decls))
+  earlier-taken {m} {k} e says takes =
+      let place = e .place in
+      let count : m ≡ 1 + length (e .before) = omega arith in
+      let rest : read-lines exclude-names m (e .state) (e .line ∷ e .after) ≡ read (l .state) = rw (count, ← (lines-append exclude-names (e .before) (e .line ∷ e .after) 1 start (e .state) (e .reading)), ← (e .is-line)) (l .reading) in
+      let (u, r, others) = lines-read exclude-names m (e .state) (e .line) (e .after) (l .state) rest in
+      let read-line-m = line-read exclude-names m (e .state) (e .line) u r in
+      let same-content = ok-eq (sym (says .parsed) ∙ read-line-m .parsed) in
+      taken-on (e .after) (m + 1) u (l .state) k others
+      (line-taken m (e .state) u (e .line) k read-line-m .1 (inr (rw same-content at takes)))
+
+  -- a name that is taken where the line is reached is taken by an earlier line
+  taken-earlier : (c : Content) (k : Name) → Takes c k → Taken-in 1 start (l .before) k → Repeats l c
+  taken-earlier c k takes w =
+      let count : length (w .before) + 1 ≡ 1 + length (w .before) = omega arith in
+      record {
+        taken = k;
+        takes = takes;
+        earlier-place = length (w .before) + 1;
+        earlier = record { before = w .before; line = w .line; after = w .after; is-line = w .is-line; place = refl; state = w .state; reading = w .reading };
+        earlier-content = w .content;
+        earlier-says = record { ended = w .ended; parsed = rw count (w .parsed) };
+        earlier-takes = w .takes;
+      }
+
+  -- the test of 5
+  repeats-test : (c : Content) → T (repeats exclude-names n (l .state) c) ↔ Repeats l c
+  unfolding repeats
+  repeats-test c = (to, from)
+    where
+      to : T (repeats exclude-names n (l .state) c) → Repeats l c
+      to t =
+          let (k, i, m) = any-elim (λ k. mem k (collect taken-by (l .state .decls))) (collect taken-by (summarize-decl exclude-names (l .state .terms) n c)) t in
+          taken-earlier c k (taken-takes exclude-names (l .state .terms) n c i)
+          (⊎-elim (λ j. absurd (none-taken j)) (λ w. w) (taken-lines (l .before) 1 start (l .state) k (l .reading) (mem-elim m)))
+
+      from : Repeats l c → T (repeats exclude-names n (l .state) c)
+      from q =
+          any-intro (λ k. mem k (collect taken-by (l .state .decls))) (takes-taken exclude-names (l .state .terms) n (q .takes))
+          (mem-intro (earlier-taken (q .earlier) (q .earlier-says) (q .earlier-takes)))
+
+-- general law: where a conjunction fails one of its parts does
+not-and : (a b : Bool) → T (not (a && b)) → T (not a) ⊎ T (not b)
+not-and true b t = inr t
+not-and false b t = inl tt
+
+-- the test of 6
+past-test : (s : State) → T (not (all within (limits s))) ↔ Past-limit s
+unfolding limits all
+past-test s = (to, λ p. not-T (all within (limits s)) (from p))
+  where
+    to : T (not (all within (limits s))) → Past-limit s
+    to t =
+        ⊎-elim (λ u. names (nleb→lt _ 2048 u)) (λ t.
+        ⊎-elim (λ u. term-lines (nleb→lt _ 4096 u)) (λ t.
+        ⊎-elim (λ u. term-references (nleb→lt _ 16384 u)) (λ t.
+        ⊎-elim (λ u. record-lines (nleb→lt _ 1024 u)) (λ t.
+        ⊎-elim (λ u. trigger-entries (nleb→lt _ 2048 u)) (λ t.
+        ⊎-elim (λ u. name-uses (nleb→lt _ 6144 u)) (λ t. absurd t)
+        (not-and (leb (s .uses) 6144) true t))
+        (not-and (leb (s .entries) 2048) _ t))
+        (not-and (leb (length (s .decls) + length (s .roots)) 1024) _ t))
+        (not-and (leb (s .references) 16384) _ t))
+        (not-and (leb (length (s .terms)) 4096) _ t))
+        (not-and (leb (length (s .names)) 2048) _ t)
+
+    at-most : (counted limit : ℕ) → limit < counted → List·Memᴰ (counted, limit, refusal.Limit) (limits s) → T (all within (limits s)) → ⊥
+    at-most counted limit h i t = let k = leb→le counted limit (all-elim within t i) in omega arith
+
+    from : Past-limit s → T (all within (limits s)) → ⊥
+    from (names h) = at-most _ 2048 h (List·Memᴰ·head refl)
+    from (term-lines h) = at-most _ 4096 h (List·Memᴰ·tail (List·Memᴰ·head refl))
+    from (term-references h) = at-most _ 16384 h (List·Memᴰ·tail (List·Memᴰ·tail (List·Memᴰ·head refl)))
+    from (record-lines h) = at-most _ 1024 h (List·Memᴰ·tail (List·Memᴰ·tail (List·Memᴰ·tail (List·Memᴰ·head refl))))
+    from (trigger-entries h) = at-most _ 2048 h (List·Memᴰ·tail (List·Memᴰ·tail (List·Memᴰ·tail (List·Memᴰ·tail (List·Memᴰ·head refl)))))
+    from (name-uses h) = at-most _ 6144 h (List·Memᴰ·tail (List·Memᴰ·tail (List·Memᴰ·tail (List·Memᴰ·tail (List·Memᴰ·tail (List·Memᴰ·head refl))))))
+
+-- 5 is no refusal of a field
+field-not-5 : {r : Refusal} → Of-field r → r ≡ refusal.Repeated → ⊥
+field-not-5 o e = let p = rw e at o in elim p [ ]
+
+-- 6 is no refusal of a field
+field-not-6 : {r : Refusal} → Of-field r → r ≡ refusal.Limit → ⊥
+field-not-6 o e = let p = rw e at o in elim p [ ]
+
+-- 5, exactly under its condition
+pub refusal-5 : Refusal-5
+refusal-5 file works room n = (to, from)
+  where
+    at-line : (l : Reached-line (lines file) n) {x : Result State} → Line-view exclude-names n (l .state) (l .line) x → x ≡ refused refusal.Repeated
+        → (m : Reached-line (lines file) n) × (c : Content) × Says m c × Repeats m c
+    at-line l (unended t) e = absurd (clash (cc))
+    at-line l (unparsed {r} t p) e = absurd (field-not-5 (parse-refusal n _ _ p) (cc))
+    at-line l (repeated c t p u) e = (l, c, record { ended = t; parsed = p }, repeats-test l c .0 u)
+    at-line l (past-limit c t p u v) e = absurd (clash (cc))
+    at-line l (accepted c t p u v) e = absurd (clash (cc))
+
+    to : outcome file works room ≡ refusal-at refusal.Repeated n
+        → Lines-judged file works × ((l : Reached-line (lines file) n) × (c : Content) × Says l c × Repeats l c)
+    to e =
+        let (j, p) = line-refused file works room refusal.Repeated n line-repeated .0 e in
+        (j, ⊎-elim (λ q. absurd (clash (let is = q .1 in cc))) (λ (l, r). at-line l (line-view exclude-names n (l .state) (l .line)) r) p)
+
+    from : Lines-judged file works × ((l : Reached-line (lines file) n) × (c : Content) × Says l c × Repeats l c)
+        → outcome file works room ≡ refusal-at refusal.Repeated n
+    from (j, (l, c, says, q)) =
+        line-refused file works room refusal.Repeated n line-repeated .1
+        (j, inr (l, repeated-line exclude-names n (l .state) (l .line) (says .ended) c (says .parsed) (repeats-test l c .1 q)))
+
+-- 6, exactly under its condition
+pub refusal-6 : Refusal-6
+refusal-6 file works room n = (to, from)
+  where
+    at-line : (l : Reached-line (lines file) n) {x : Result State} → Line-view exclude-names n (l .state) (l .line) x → x ≡ refused refusal.Limit
+        → (m : Reached-line (lines file) n) × (c : Content) × Says m c × (Repeats m c → ⊥) × Past-limit (add-line exclude-names n (m .state) c)
+    at-line l (unended t) e = absurd (clash (cc))
+    at-line l (unparsed t p) e = absurd (field-not-6 (parse-refusal n _ _ p) (cc))
+    at-line l (repeated c t p u) e = absurd (clash (cc))
+    at-line l (past-limit c t p u v) e =
+        (l, c, record { ended = t; parsed = p }, λ q. T-not (repeats exclude-names n (l .state) c) u (repeats-test l c .1 q), past-test (add-line exclude-names n (l .state) c) .0 v)
+    at-line l (accepted c t p u v) e = absurd (clash (cc))
+
+    to : outcome file works room ≡ refusal-at refusal.Limit n
+        → Lines-judged file works × ((l : Reached-line (lines file) n) × (c : Content) × Says l c × (Repeats l c → ⊥) × Past-limit (add-line exclude-names n (l .state) c))
+    to e =
+        let (j, p) = line-refused file works room refusal.Limit n line-limit .0 e in
+        (j, ⊎-elim (λ q. absurd (clash (let is = q .1 in cc))) (λ (l, r). at-line l (line-view exclude-names n (l .state) (l .line)) r) p)
+
+    from : Lines-judged file works × ((l : Reached-line (lines file) n) × (c : Content) × Says l c × (Repeats l c → ⊥) × Past-limit (add-line exclude-names n (l .state) c))
+        → outcome file works room ≡ refusal-at refusal.Limit n
+    from (j, (l, c, says, fresh, past)) =
+        line-refused file works room refusal.Limit n line-limit .1 (
+          j,
+          inr (
+            l,
+            past-line exclude-names n (l .state) (l .line) (says .ended) c (says .parsed)
+                (not-T (repeats exclude-names n (l .state) c) (λ t. fresh (repeats-test l c .0 t)))
+                (past-test (add-line exclude-names n (l .state) c) .1 past),
+          ),
+        )
