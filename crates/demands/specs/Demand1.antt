@@ -1,9 +1,9 @@
 -- Demand 1, of the answer of a call: "with a list or with one of the nine refusals of document 01 and its place, each under
--- its condition there and never otherwise". Here 5 to 9, the list, and where a line is refused.
+-- its condition there and never otherwise".
 use Prim.Native.Nat.{ℕ, _+_, _≤_, _<_}
 use mathlib.Core.Path.{_≡_}
 use mathlib.Core.Logic.{_↔_, _⊎_}
-use mathlib.Core.Bool.{Bool}
+use mathlib.Core.Bool.{Bool, not}
 use mathlib.Core.List.{List, [], _∷_, _++_, List·Memᴰ}
 use lib.Dec.{T}
 use lib.ListN.{length}
@@ -18,6 +18,7 @@ use Rattle.model.specs.declared.Refusal.the-variants as refusal
 use Rattle.demands.specs.Accepted.{Accepted}
 use Rattle.demands.specs.Demand2.{kept-list}
 use Rattle.demands.specs.Demand3.{run-of}
+use Rattle.demands.specs.LineForm.{Faulty-line}
 
 -- "a working slice is too short": "The caller lends six working slices of 16,384 or more 32-bit words"
 abbrev pub Short-slice : List ℕ → Type 0
@@ -86,6 +87,28 @@ Line-refused =
     ↔ (Lines-judged file works
     × (((file ≡ []) × (r ≡ refusal.Form) × (n ≡ 1))
     ⊎ ((l : Reached-line (lines file) n) × (read-line exclude-names n (l .state) (l .line) ≡ refused r))))
+
+-- the refusals 1 to 4
+pub data Of-fields : Refusal → Type 0 where
+  form : Of-fields refusal.Form
+  name : Of-fields refusal.Name
+  number : Of-fields refusal.Number
+  term : Of-fields refusal.Term
+
+-- "no final 0A", which is 1, or a fault of the line's kind or fields
+pub data Fields-refused {ls : List Line} {n : ℕ} (l : Reached-line ls n) : Refusal → Type 0 where
+  no-final-0a : T (not (l .line .ended)) → Fields-refused l refusal.Form
+  faulty : {r : Refusal} → T (l .line .ended) → Faulty-line n (length (l .state .terms)) (fields (l .line .bytes)) r
+      → Fields-refused l r
+
+-- "1: not a line of this form ..; 2: a field is no name; 3: a field is no number, or q, options or flag is outside its range;
+-- 4: a term number not below the term line's own, or, in a record, not below the count of term lines so far"
+abbrev pub Refusals-1-to-4 : Type 0
+Refusals-1-to-4 =
+    (file works : List ℕ) (room : ℕ) (r : Refusal) (n : ℕ) → Of-fields r
+    → (outcome file works room ≡ refusal-at r n)
+    ↔ (Lines-judged file works
+    × (((file ≡ []) × (r ≡ refusal.Form) × (n ≡ 1)) ⊎ ((l : Reached-line (lines file) n) × Fields-refused l r)))
 
 -- "In a line: final 0A, kind, field count where it is fixed, fields left to right": all these pass, and the line says c
 pub record Says {ls : List Line} {n : ℕ} (l : Reached-line ls n) (c : Content) : Type 0 where

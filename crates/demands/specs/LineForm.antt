@@ -1,5 +1,5 @@
 -- Demand 1, the refusals 1 to 4: what document 01 says that each field of a line must be, and which refusal a line gets.
-use Prim.Native.Nat.{ℕ, zero, suc, _≤_}
+use Prim.Native.Nat.{ℕ, zero, suc, _+_, _≤_}
 use mathlib.Core.Path.{_≡_}
 use mathlib.Core.Bool.{Bool, cond}
 use mathlib.Core.List.{List, [], _∷_, _++_}
@@ -150,3 +150,8 @@ abbrev pub Refused-line : Type 0
 Refused-line =
     (n count : ℕ) (f : Field) (fs : List Field) (r : Refusal)
     → (parse n count (f ∷ fs) ≡ refused r) ↔ Faulty-line n count (f ∷ fs) r
+
+-- where the field count is fixed, the kind counted, it is the number of fields after which nothing more is due
+abbrev pub Fixed-counts : Type 0
+Fixed-counts =
+    (k : LineKind) (n : ℕ) → fixed-count k ≡ some n → (fs : List Field) → (due k fs ≡ nothing) ↔ (n ≤ length fs + 1)
