@@ -1,16 +1,15 @@
--- Demand 1: each of the refusals 5 to 9, and the list, exactly under its condition.
+-- Demand 1: each of the nine refusals, and the list, exactly under its condition.
 use Prim.Native.Nat.{ℕ, _+_, _≤_, _<_}
-use native.Mathlib.Nat.{add-zero}
 use native.Mathlib.Omega.{arith}
-use mathlib.Core.Path.{_≡_, refl, sym, _∙_, ap}
+use mathlib.Core.Path.{_≡_, refl, sym, _∙_}
 use mathlib.Core.Logic.{_↔_, _⊎_, inl, inr, ⊎-elim}
-use mathlib.Core.Bool.{Bool, true, false, not, _&&_}
-use mathlib.Core.List.{List, [], _∷_, _++_, List·Memᴰ, List·Memᴰ·head, List·Memᴰ·tail, List·Memᴰ·not-nil, List·Memᴰ·append-cases, List·Memᴰ·eq-of-singleton, Memᴰ·append-left, Memᴰ·append-right}
-use lib.Dec.{T, T-not, not-T, leb, ltb, ltb→lt, lt→ltb, nltb→le, leb→le, le→leb, nleb→lt}
+use mathlib.Core.Bool.{Bool, true, false, cond, not}
+use mathlib.Core.List.{List, [], _∷_, List·Memᴰ, List·Memᴰ·head, List·Memᴰ·tail, List·Memᴰ·not-nil, List·Memᴰ·append-cases, List·Memᴰ·eq-of-singleton, Memᴰ·append-left, Memᴰ·append-right}
+use lib.Dec.{T, T-not, not-T, eqb, leb, ltb, ltb→lt, lt→ltb, nltb→le, leb→le, le→leb, nleb→lt}
 use lib.ListN.{length}
 use Rattle.model.specs.Lists.{any, all, collect}
 use Rattle.model.specs.Names.{Name, mem}
-use Rattle.model.specs.Lines.{Line, lines, fields}
+use Rattle.model.specs.Lines.{Line, lines, Field, field-cons, fields}
 use Rattle.model.specs.Terms.{Term}
 use Rattle.model.specs.Summaries.{exclude-names, summarize-assumption}
 use Rattle.model.specs.Reading.{Content, ask, term, assume, fun, def, retain, root, Result, ok, refused, State, start, Reading, read, refused-at, taken-by, summarize-decl, parse, limits, add-line, repeats, read-line, read-lines, read-file}
@@ -18,14 +17,17 @@ use Rattle.model.specs.Rounds.{facts, visits}
 use Rattle.model.specs.Outcome.{Outcome, refusal-at, list, filtered, of-reading, fitting, working-words, outcome}
 use Rattle.model.specs.declared.Refusal.{Refusal}
 use Rattle.model.specs.declared.Refusal.the-variants as refusal
-use Rattle.model.proofs.ListLaws.{T-dec, T-true, T-false, any-intro, any-elim, all-elim, collect-append}
+use Rattle.model.proofs.ListLaws.{not-and, T-dec, T-true, T-false, any-intro, any-elim, all-elim, collect-append}
 use Rattle.model.proofs.SetLaws.{mem-intro, mem-elim}
+use Rattle.model.proofs.ResultLaws.{ok-eq}
 use Rattle.demands.specs.Accepted.{Accepted}
 use Rattle.demands.specs.Demand2.{kept-list}
 use Rattle.demands.specs.Demand3.{run-of}
-use Rattle.demands.specs.Demand1.{Short-slice, Lines-judged, Of-line, repeated as line-repeated, limit as line-limit, Reached-line, Says, Takes, by-assume, by-fun, by-def, Repeats, Past-limit, names, term-lines, term-references, record-lines, trigger-entries, name-uses, Refusal-5, Refusal-6, Refusal-7, Refusal-8, Refusal-9, List-given, Line-refused}
-use Rattle.demands.proofs.ReadingLaws.{ok-eq, Line-view, unended, unparsed, repeated, past-limit, accepted, line-view, repeated-line, past-line, within, Line-read, line-read, lines-read, none-read}
-use Rattle.demands.proofs.Refusals.{Of-field, parse-refusal, First-refused, lines-on, lines-append, file-refused, refused-file, refused-empty, file-refusal}
+use Rattle.demands.specs.LineForm.{Faulty-line}
+use Rattle.demands.specs.Demand1.{Short-slice, Lines-judged, Of-line, Of-fields, repeated as line-repeated, limit as line-limit, Reached-line, Fields-refused, no-final-0a, faulty, Says, Takes, by-assume, by-fun, by-def, Repeats, Past-limit, names, term-lines, term-references, record-lines, trigger-entries, name-uses, Refusal-5, Refusal-6, Refusal-7, Refusal-8, Refusal-9, List-given, Line-refused, Refusals-1-to-4}
+use Rattle.demands.proofs.ReadingLaws.{Line-view, unended, unparsed, repeated, past-limit, accepted, line-view, unended-line, unparsed-line, repeated-line, past-line, within, Line-read, line-read, lines-read, none-read}
+use Rattle.demands.proofs.LineForm.{refused-line}
+use Rattle.demands.proofs.Refusals.{parse-refusal, fields-line, Reaches, reaches-first, reaches-later, lines-append, file-refused, refused-file, refused-empty, file-refusal}
 
 -- the test of the working slices
 short-test : (works : List ℕ) → T (any (λ n. ltb n working-words) works) ↔ Short-slice works
@@ -110,9 +112,9 @@ call-view file works room = ⊎-elim (λ t. let p = short-test works .0 t in rw 
 clash : _≡_ {A = ℕ} 0 1 → ⊥
 clash z = omega arith
 
--- a refusal of a line is none that no line gives
-line-not : {r : Refusal} (q : Refusal) → Of-line r → r ≡ q → (Of-line q → ⊥) → ⊥
-line-not q o e none = none (rw e at o)
+-- a refusal of some kind is none that is not of the kind
+other-than : (Kind : Refusal → Type 0) {r : Refusal} (q : Refusal) → Kind r → r ≡ q → (Kind q → ⊥) → ⊥
+other-than Kind q o e none = none (rw e at o)
 
 -- 7, exactly under its condition
 pub refusal-7 : Refusal-7
@@ -121,7 +123,7 @@ refusal-7 file works room place = (go (call-view file works room), λ p. rw (p .
     go : {o : Outcome} → Call-view file works room o → o ≡ refusal-at refusal.Working place → (place ≡ 0) × Short-slice works
     go (short p) e = ((cc), p)
     go (large long h) e = absurd (clash (cc))
-    go (refusing j f) e = absurd (line-not refusal.Working (file-refusal exclude-names file f) (cc) (λ o. elim o [ ]))
+    go (refusing j f) e = absurd (other-than Of-line refusal.Working (file-refusal exclude-names file f) (cc) (λ o. elim o [ ]))
     go (lacking j s f h) e = absurd (clash (cc))
     go (listing j s f h) e = absurd (clash (cc))
 
@@ -132,7 +134,7 @@ refusal-9 file works room place = (go (call-view file works room), λ p. rw (p .
     go : {o : Outcome} → Call-view file works room o → o ≡ refusal-at refusal.Size place → (place ≡ 0) × (Short-slice works → ⊥) × (65535 < length file)
     go (short p) e = absurd (clash (cc))
     go (large long h) e = ((cc), long, h)
-    go (refusing j f) e = absurd (line-not refusal.Size (file-refusal exclude-names file f) (cc) (λ o. elim o [ ]))
+    go (refusing j f) e = absurd (other-than Of-line refusal.Size (file-refusal exclude-names file f) (cc) (λ o. elim o [ ]))
     go (lacking j s f h) e = absurd (clash (cc))
     go (listing j s f h) e = absurd (clash (cc))
 
@@ -144,7 +146,7 @@ refusal-8 file works room place = (go (call-view file works room), λ (j, (s, f,
         → Lines-judged file works × ((s : State) × Accepted file s × (place ≡ length (kept-list s)) × (room < length (kept-list s)))
     go (short p) e = absurd (clash (cc))
     go (large long h) e = absurd (clash (cc))
-    go (refusing j f) e = absurd (line-not refusal.Room (file-refusal exclude-names file f) (cc) (λ o. elim o [ ]))
+    go (refusing j f) e = absurd (other-than Of-line refusal.Room (file-refusal exclude-names file f) (cc) (λ o. elim o [ ]))
     go (lacking j s f h) e = (j, (s, f, (cc), h))
     go (listing j s f h) e = absurd (clash (cc))
 
@@ -162,22 +164,18 @@ list-given file works room given seen turns =
     go (lacking j s f h) e = absurd (clash (cc))
     go (listing j s f h) e = (j, (s, f, (cc), (cc), (cc), h))
 
--- the first refused line is the line reached
-reached-refused : {ls : List Line} {r : Refusal} {n : ℕ} → First-refused exclude-names 1 start ls r n
-    → (l : Reached-line ls n) × (read-line exclude-names n (l .state) (l .line) ≡ refused r)
-reached-refused f =
-    let place = f .place in
-    (record { before = f .before; line = f .line; after = f .after; is-line = f .is-line; place = omega arith; state = f .state; reading = f .reading }, f .refusing)
+-- a line that is reached from the start
+reached : {ls : List Line} {n : ℕ} → Reaches exclude-names 1 start ls n → Reached-line ls n
+reached l = let place = l .place in record { before = l .before; line = l .line; after = l .after; is-line = l .is-line; place = omega arith; state = l .state; reading = l .reading }
 
 -- and back
-refused-reached : {ls : List Line} {r : Refusal} {n : ℕ} (l : Reached-line ls n) → read-line exclude-names n (l .state) (l .line) ≡ refused r → First-refused exclude-names 1 start ls r n
-refused-reached l e =
-    let place = l .place in
-    record { before = l .before; line = l .line; after = l .after; is-line = l .is-line; place = omega arith; state = l .state; reading = l .reading; refusing = e }
+reaches : {ls : List Line} {n : ℕ} → Reached-line ls n → Reaches exclude-names 1 start ls n
+reaches l = let place = l .place in record { before = l .before; line = l .line; after = l .after; is-line = l .is-line; place = omega arith; state = l .state; reading = l .reading }
 
 -- a refusal of a line, exactly where a line is refused
 pub line-refused : Line-refused
-line-refused file works room r n o = (go (call-view file works room), λ (j, p). refused-call file works room j (⊎-elim empty-file (λ (l, e). refused-file exclude-names file (refused-reached l e)) p))
+unfolding reached reaches
+line-refused file works room r n o = (go (call-view file works room), λ (j, p). refused-call file works room j (⊎-elim empty-file (λ (l, e). refused-file exclude-names file (reaches l, e)) p))
   where
     empty-file : (file ≡ []) × (r ≡ refusal.Form) × (n ≡ 1) → read-file exclude-names file ≡ refused-at r n
     empty-file (e, is, place) = rw (e, is, place) (refused-empty exclude-names)
@@ -186,14 +184,54 @@ line-refused file works room r n o = (go (call-view file works room), λ (j, p).
         → Lines-judged file works
         × (((file ≡ []) × (r ≡ refusal.Form) × (n ≡ 1))
         ⊎ ((l : Reached-line (lines file) n) × (read-line exclude-names n (l .state) (l .line) ≡ refused r)))
-    go (short p) e = absurd (line-not refusal.Working o (cc) (λ o. elim o [ ]))
-    go (large long h) e = absurd (line-not refusal.Size o (cc) (λ o. elim o [ ]))
+    go (short p) e = absurd (other-than Of-line refusal.Working o (cc) (λ o. elim o [ ]))
+    go (large long h) e = absurd (other-than Of-line refusal.Size o (cc) (λ o. elim o [ ]))
     go (refusing {r = q} {n = m} j f) e =
         let is : q ≡ r = cc in
         let place : m ≡ n = cc in
-        (j, ⊎-elim inl (λ g. inr (reached-refused g)) (file-refused exclude-names file (rw (is, place) at f)))
-    go (lacking j s f h) e = absurd (line-not refusal.Room o (cc) (λ o. elim o [ ]))
+        (j, ⊎-elim inl (λ (l, g). inr (reached l, g)) (file-refused exclude-names file (rw (is, place) at f)))
+    go (lacking j s f h) e = absurd (other-than Of-line refusal.Room o (cc) (λ o. elim o [ ]))
     go (listing j s f h) e = absurd (clash (cc))
+
+-- a line has a field, if an empty one
+some-field : (bs : List ℕ) → (f : Field) × (fs : List Field) × (fields bs ≡ f ∷ fs)
+unfolding fields field-cons
+some-field [] = ([], [], refl)
+some-field (b ∷ bs) = go (eqb b 0x2c) (fields bs)
+  where
+    go : (comma : Bool) (others : List Field) → (f : Field) × (fs : List Field) × (cond comma ([] ∷ others) (field-cons b others) ≡ f ∷ fs)
+    go true others = ([], others, refl)
+    go false [] = (b ∷ [], [], refl)
+    go false (f ∷ fs) = (b ∷ f, fs, refl)
+
+-- the fields of a line are refused exactly for a fault
+refused-bytes : (n count : ℕ) (bs : List ℕ) (r : Refusal) → (parse n count (fields bs) ≡ refused r) ↔ Faulty-line n count (fields bs) r
+refused-bytes n count bs r = let (f, fs, e) = some-field bs in rw e (refused-line n count f fs r)
+
+module _ {ls : List Line} {n : ℕ} (l : Reached-line ls n) where
+  -- a line that is refused by 1 to 4 lacks its final 0A or has a fault of its fields
+  fields-refused : {r : Refusal} → Of-fields r → read-line exclude-names n (l .state) (l .line) ≡ refused r → Fields-refused l r
+  fields-refused {r} o e = go (line-view exclude-names n (l .state) (l .line)) e
+    where
+      go : {x : Result State} → Line-view exclude-names n (l .state) (l .line) x → x ≡ refused r → Fields-refused l r
+      go (unended t) e = let is : r ≡ refusal.Form = cc in rw is (no-final-0a t)
+      go (unparsed {r = q} t p) e = let is : r ≡ q = cc in rw is (faulty t (refused-bytes n _ (l .line .bytes) q .0 p))
+      go (repeated c t p u) e = absurd (other-than Of-fields refusal.Repeated o (cc) (λ o. elim o [ ]))
+      go (past-limit c t p u v) e = absurd (other-than Of-fields refusal.Limit o (cc) (λ o. elim o [ ]))
+      go (accepted c t p u v) e = absurd (clash (cc))
+
+  -- and back
+  refused-fields : {r : Refusal} → Fields-refused l r → read-line exclude-names n (l .state) (l .line) ≡ refused r
+  refused-fields (no-final-0a t) = unended-line exclude-names n (l .state) (l .line) t
+  refused-fields {r} (faulty t x) = unparsed-line exclude-names n (l .state) (l .line) t (refused-bytes n _ (l .line .bytes) r .1 x)
+
+-- 1 to 4, exactly under their conditions
+pub refusals-1-to-4 : Refusals-1-to-4
+refusals-1-to-4 file works room r n o =
+    let (to, from) = line-refused file works room r n (fields-line o) in (
+      λ e. let (j, p) = to e in (j, ⊎-elim inl (λ (l, x). inr (l, fields-refused l o x)) p),
+      λ (j, p). from (j, ⊎-elim inl (λ (l, x). inr (l, refused-fields l x)) p),
+    )
 
 module _ (exclude : List Name) where
   -- the names that a line adds to those taken are the name that it takes
@@ -216,15 +254,11 @@ module _ (exclude : List Name) where
 
 -- a line among these, read from a state on, that takes this name
 record Taken-in (n : ℕ) (s : State) (ls : List Line) (k : Name) : Type 0 where
-  before : List Line
-  line : Line
-  after : List Line
-  is-line : ls ≡ before ++ (line ∷ after)
-  state : State
-  reading : read-lines exclude-names n s before ≡ read state
+  place : ℕ
+  at : Reaches exclude-names n s ls place
   content : Content
-  ended : T (line .ended)
-  parsed : parse (n + length before) (length (state .terms)) (fields (line .bytes)) ≡ ok content
+  ended : T (at .line .ended)
+  parsed : parse place (length (at .state .terms)) (fields (at .line .bytes)) ≡ ok content
   takes : Takes content k
 
 -- the names taken after a line are those before it and the name that it takes
@@ -240,7 +274,7 @@ line-taken n s t line k l =
 -- a name that is taken after some lines was taken before them or by one of them
 taken-lines : (ls : List Line) (n : ℕ) (s t : State) (k : Name) → read-lines exclude-names n s ls ≡ read t
     → List·Memᴰ k (collect taken-by (t .decls)) → List·Memᴰ k (collect taken-by (s .decls)) ⊎ Taken-in n s ls k
-unfolding read-lines
+unfolding reaches-first reaches-later
 taken-lines [] n s t k e i = inl (rw (none-read exclude-names n s t e) i)
 taken-lines (line ∷ ls) n s t k e i =
     let (u, r, others) = lines-read exclude-names n s line ls t e in
@@ -249,34 +283,11 @@ taken-lines (line ∷ ls) n s t k e i =
   where
     here : (u : State) (l : Line-read exclude-names n s line u) → Takes (l .content) k → Taken-in n s (line ∷ ls) k
     here u l takes =
-        record {
-          before = [];
-          line = line;
-          after = ls;
-          is-line = refl;
-          state = s;
-          reading = refl;
-          content = l .content;
-          ended = l .ended;
-          parsed = rw add-zero (l .parsed);
-          takes = takes;
-        }
+        record { place = n; at = reaches-first exclude-names n s line ls; content = l .content; ended = l .ended; parsed = l .parsed; takes = takes }
 
     there : (u : State) → read-line exclude-names n s line ≡ ok u → Taken-in (n + 1) u ls k → Taken-in n s (line ∷ ls) k
     there u r w =
-        let count : n + length (line ∷ w .before) ≡ n + 1 + length (w .before) = omega arith in
-        record {
-          before = line ∷ w .before;
-          line = w .line;
-          after = w .after;
-          is-line = ap (line ∷_) (w .is-line);
-          state = w .state;
-          reading = lines-on exclude-names n s u line (w .before) r ∙ w .reading;
-          content = w .content;
-          ended = w .ended;
-          parsed = rw count (w .parsed);
-          takes = w .takes;
-        }
+        record { place = w .place; at = reaches-later exclude-names n s u line r (w .at); content = w .content; ended = w .ended; parsed = w .parsed; takes = w .takes }
 
 -- a name that is taken before some lines is taken after them
 taken-on : (ls : List Line) (n : ℕ) (s t : State) (k : Name) → read-lines exclude-names n s ls ≡ read t
@@ -306,15 +317,15 @@ module _ {ls : List Line} {n : ℕ} (l : Reached-line ls n) where
 
   -- a name that is taken where the line is reached is taken by an earlier line
   taken-earlier : (c : Content) (k : Name) → Takes c k → Taken-in 1 start (l .before) k → Repeats l c
+  unfolding reached
   taken-earlier c k takes w =
-      let count : length (w .before) + 1 ≡ 1 + length (w .before) = omega arith in
       record {
         taken = k;
         takes = takes;
-        earlier-place = length (w .before) + 1;
-        earlier = record { before = w .before; line = w .line; after = w .after; is-line = w .is-line; place = refl; state = w .state; reading = w .reading };
+        earlier-place = w .place;
+        earlier = reached (w .at);
         earlier-content = w .content;
-        earlier-says = record { ended = w .ended; parsed = rw count (w .parsed) };
+        earlier-says = record { ended = w .ended; parsed = w .parsed };
         earlier-takes = w .takes;
       }
 
@@ -333,11 +344,6 @@ module _ {ls : List Line} {n : ℕ} (l : Reached-line ls n) where
       from q =
           any-intro (λ k. mem k (collect taken-by (l .state .decls))) (takes-taken exclude-names (l .state .terms) n (q .takes))
           (mem-intro (earlier-taken (q .earlier) (q .earlier-says) (q .earlier-takes)))
-
--- general law: where a conjunction fails one of its parts does
-not-and : (a b : Bool) → T (not (a && b)) → T (not a) ⊎ T (not b)
-not-and true b t = inr t
-not-and false b t = inl tt
 
 -- the test of 6
 past-test : (s : State) → T (not (all within (limits s))) ↔ Past-limit s
@@ -370,14 +376,6 @@ past-test s = (to, λ p. not-T (all within (limits s)) (from p))
     from (trigger-entries h) = at-most _ 2048 h (List·Memᴰ·tail (List·Memᴰ·tail (List·Memᴰ·tail (List·Memᴰ·tail (List·Memᴰ·head refl)))))
     from (name-uses h) = at-most _ 6144 h (List·Memᴰ·tail (List·Memᴰ·tail (List·Memᴰ·tail (List·Memᴰ·tail (List·Memᴰ·tail (List·Memᴰ·head refl))))))
 
--- 5 is no refusal of a field
-field-not-5 : {r : Refusal} → Of-field r → r ≡ refusal.Repeated → ⊥
-field-not-5 o e = let p = rw e at o in elim p [ ]
-
--- 6 is no refusal of a field
-field-not-6 : {r : Refusal} → Of-field r → r ≡ refusal.Limit → ⊥
-field-not-6 o e = let p = rw e at o in elim p [ ]
-
 -- 5, exactly under its condition
 pub refusal-5 : Refusal-5
 refusal-5 file works room n = (to, from)
@@ -385,7 +383,7 @@ refusal-5 file works room n = (to, from)
     at-line : (l : Reached-line (lines file) n) {x : Result State} → Line-view exclude-names n (l .state) (l .line) x → x ≡ refused refusal.Repeated
         → (m : Reached-line (lines file) n) × (c : Content) × Says m c × Repeats m c
     at-line l (unended t) e = absurd (clash (cc))
-    at-line l (unparsed {r} t p) e = absurd (field-not-5 (parse-refusal n _ _ p) (cc))
+    at-line l (unparsed t p) e = absurd (other-than Of-fields refusal.Repeated (parse-refusal n _ _ p) (cc) (λ o. elim o [ ]))
     at-line l (repeated c t p u) e = (l, c, record { ended = t; parsed = p }, repeats-test l c .0 u)
     at-line l (past-limit c t p u v) e = absurd (clash (cc))
     at-line l (accepted c t p u v) e = absurd (clash (cc))
@@ -409,7 +407,7 @@ refusal-6 file works room n = (to, from)
     at-line : (l : Reached-line (lines file) n) {x : Result State} → Line-view exclude-names n (l .state) (l .line) x → x ≡ refused refusal.Limit
         → (m : Reached-line (lines file) n) × (c : Content) × Says m c × (Repeats m c → ⊥) × Past-limit (add-line exclude-names n (m .state) c)
     at-line l (unended t) e = absurd (clash (cc))
-    at-line l (unparsed t p) e = absurd (field-not-6 (parse-refusal n _ _ p) (cc))
+    at-line l (unparsed t p) e = absurd (other-than Of-fields refusal.Limit (parse-refusal n _ _ p) (cc) (λ o. elim o [ ]))
     at-line l (repeated c t p u) e = absurd (clash (cc))
     at-line l (past-limit c t p u v) e =
         (l, c, record { ended = t; parsed = p }, λ q. T-not (repeats exclude-names n (l .state) c) u (repeats-test l c .1 q), past-test (add-line exclude-names n (l .state) c) .0 v)

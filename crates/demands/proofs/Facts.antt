@@ -2,7 +2,7 @@
 use mathlib.Core.Path.{_≡_, refl, sym, _∙_}
 use mathlib.Core.Logic.{_⊎_, inl, inr, ⊎-elim}
 use mathlib.Core.Bool.{cond, not}
-use mathlib.Core.List.{List, [], _∷_, map, List·Memᴰ, List·Memᴰ·head, List·Memᴰ·tail, List·Memᴰ·cases-cons, List·Memᴰ·not-nil, Memᴰ·cast}
+use mathlib.Core.List.{List, [], _∷_, _++_, map, List·Memᴰ, List·Memᴰ·head, List·Memᴰ·tail, List·Memᴰ·cases-cons, List·Memᴰ·not-nil, List·Memᴰ·append-cases, Memᴰ·cast}
 use lib.Dec.{T, T-not, not-T}
 use Rattle.model.specs.Lists.{keep, collect}
 use Rattle.model.specs.Names.{Name, same}
@@ -11,16 +11,23 @@ use Rattle.model.specs.Reading.{Summary, Sum-assume, Sum-definefun, Sum-declfun
 use Rattle.model.specs.Rounds.{facts}
 use Rattle.model.proofs.ListLaws.{T-dec, cond-true, cond-false, map-intro}
 use Rattle.model.proofs.SetLaws.{same-eq, eq-same}
-use Rattle.demands.specs.Accepted.{Distinct, one-more, Well-formed}
+use Rattle.demands.specs.Accepted.{Distinct, none, one-more, Well-formed}
 
 module _ {A : Type 0} where
-  -- general law: the first of a list that holds nothing twice is not among the others
+  -- the first of a list that holds nothing twice is not among the others
   pub distinct-head : {a : A} {l : List A} → Distinct (a ∷ l) → List·Memᴰ a l → ⊥
   distinct-head (one-more h d) = h
 
-  -- general law: the others of such a list hold nothing twice
+  -- the others of such a list hold nothing twice
   pub distinct-tail : {a : A} {l : List A} → Distinct (a ∷ l) → Distinct l
   distinct-tail (one-more h d) = d
+
+  -- a list that holds nothing twice, then another that has nothing of it
+  pub distinct-append : {l m : List A} → Distinct l → Distinct m → ((a : A) → List·Memᴰ a l → List·Memᴰ a m → ⊥) → Distinct (l ++ m)
+  distinct-append none e apart = e
+  distinct-append (one-more {a} {l} new d) e apart =
+      one-more (λ i. ⊎-elim new (apart a (List·Memᴰ·head refl)) (List·Memᴰ·append-cases l i))
+      (distinct-append d e (λ b i. apart b (List·Memᴰ·tail i)))
 
 -- the names of some facts, in their order
 abbrev pub fact-names : List Fact → List Name

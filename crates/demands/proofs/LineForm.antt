@@ -1,8 +1,9 @@
 -- Demand 1, the refusals 1 to 4: a line is refused exactly for a fault of its form.
-use Prim.Native.Nat.{ℕ}
+use Prim.Native.Nat.{ℕ, _+_, _≤_}
+use native.Mathlib.Omega.{arith}
 use mathlib.Core.Path.{_≡_, refl, sym, _∙_}
 use mathlib.Core.Bool.{Bool, true, false, cond, not, Bool·beq, Bool·not-not}
-use mathlib.Core.List.{List, _∷_}
+use mathlib.Core.List.{List, [], _∷_}
 use mathlib.Core.Logic.{_↔_, _≢_, _⊎_, inl, inr, ⊎-elim, Iff·trans}
 use mathlib.Core.Option.{Option, none, some, Option·some-injective, Option·none-ne-some}
 use lib.Dec.{T, T-not, not-T, eqb, eqb→eq, eqb-refl}
@@ -11,34 +12,16 @@ use Rattle.model.specs.Lists.{holds}
 use Rattle.model.specs.Names.{bytes, same}
 use Rattle.model.specs.Lines.{Field}
 use Rattle.model.specs.Terms.{Node}
-use Rattle.model.specs.Reading.{Result, ok, refused, _>>=_, need, next, kinds, word, fixed-count, quantifier, content, kind-field, parse}
+use Rattle.model.specs.Reading.{ok, refused, need, next, kinds, word, fixed-count, quantifier, content, kind-field, parse}
 use Rattle.model.specs.declared.LineKind.{LineKind}
 use Rattle.model.specs.declared.LineKind.the-variants as kind
 use Rattle.model.specs.declared.Refusal.{Refusal}
 use Rattle.model.specs.declared.Refusal.the-variants as refusal
-use Rattle.model.proofs.ListLaws.{T-dec, cond-true, cond-false}
+use Rattle.model.proofs.ListLaws.{T-dec, beq-exact, beq-differ, cond-true, cond-false}
 use Rattle.model.proofs.SetLaws.{same-eq, eq-same}
-use Rattle.demands.specs.LineForm.{group-due, quantifier-due, in-order, then-terms, due, Refused-fields, Placed-kind, Faulty-line, unknown, late-ask, no-ask, miscounted, field, Refused-line}
-use Rattle.demands.proofs.LineWalk.{why, refused-why, bind-assoc, walk, walk-exact, walk-next, walk-rest, walk-groups, walk-end, name-judged, number-judged, number-value, term-judged, op-judged}
-
--- general law: to go on from a value that a test lets pass is to go on where the test holds
-cond-bind : {A B : Type 0} (b : Bool) (a : A) (r : Refusal) (on : A → Result B) → (cond b (ok a) (refused r) >>= on) ≡ cond b (on a) (refused r)
-cond-bind true a r on = refl
-cond-bind false a r on = refl
-
--- general law: the equality test holds exactly of two tests that imply each other
-beq-exact : (a b : Bool) → T (Bool·beq a b) ↔ ((T a → T b) × (T b → T a))
-beq-exact true true = (λ t. (λ u. tt, λ u. tt), λ p. tt)
-beq-exact true false = (λ t. absurd t, λ p. p .0 tt)
-beq-exact false true = (λ t. absurd t, λ p. p .1 tt)
-beq-exact false false = (λ t. (λ u. u, λ u. u), λ p. tt)
-
--- general law: of two tests that the equality test finds different one holds and the other fails
-beq-differ : (a b : Bool) → T (not (Bool·beq a b)) → (T a × T (not b)) ⊎ (T (not a) × T b)
-beq-differ true true t = absurd t
-beq-differ true false t = inl (tt, tt)
-beq-differ false true t = inr (tt, tt)
-beq-differ false false t = absurd t
+use Rattle.model.proofs.ResultLaws.{bind-assoc, cond-bind}
+use Rattle.demands.specs.LineForm.{Sort, nothing, group-due, quantifier-due, in-order, then-terms, due, Refused-fields, Placed-kind, Faulty-line, unknown, late-ask, no-ask, miscounted, field, Refused-line, Fixed-counts}
+use Rattle.demands.proofs.LineWalk.{why, refused-why, walk, walk-exact, walk-next, walk-rest, walk-groups, walk-end, name-judged, number-judged, number-value, term-judged, op-judged}
 
 -- an `all` or a `some` is refused for what the walk meets
 quantifier-walk : (make : ℕ → List (List ℕ) → Node) (count : ℕ) (fs : List Field) → why (quantifier make count fs) ≡ walk count quantifier-due fs
@@ -186,3 +169,35 @@ line-refused {n} {count} {fs} {r} (field {f} {k} e p c x) =
 -- a line is refused with 1 to 4 exactly for a fault
 pub refused-line : Refused-line
 refused-line n count f fs r = (line-faulty n count f fs, line-refused)
+
+-- nothing more is due exactly after as many fields as there are sorts
+in-order-done : (ss : List Sort) (fs : List Field) → (in-order ss fs ≡ nothing) ↔ (length ss ≤ length fs)
+unfolding in-order
+in-order-done [] fs = (λ e. omega arith, λ h. refl)
+in-order-done (s ∷ ss) [] = (λ e. let z : _≡_ {A = ℕ} 0 1 = cc in omega arith, λ h. absurd (omega arith))
+in-order-done (s ∷ ss) (f ∷ fs) = let (to, back) = in-order-done ss fs in (λ e. let h = to e in omega arith, λ h. back (omega arith))
+
+-- the same with the kind counted
+counted-done : (ss : List Sort) {n : ℕ} → some (length ss + 1) ≡ some n → (fs : List Field) → (in-order ss fs ≡ nothing) ↔ (n ≤ length fs + 1)
+counted-done ss {n} e fs =
+    let count = Option·some-injective (length ss + 1) n e in
+    let (to, back) = in-order-done ss fs in
+    (λ d. let h = to d in omega arith, λ h. back (omega arith))
+
+-- a fixed field count is the number of fields after which nothing more is due
+pub fixed-counts : Fixed-counts
+unfolding fixed-count due
+fixed-counts kind.Ask n e fs = counted-done _ e fs
+fixed-counts kind.Free n e fs = counted-done _ e fs
+fixed-counts kind.Leaf n e fs = counted-done _ e fs
+fixed-counts kind.Call n e fs = absurd (Option·none-ne-some n e)
+fixed-counts kind.Op n e fs = absurd (Option·none-ne-some n e)
+fixed-counts kind.All n e fs = absurd (Option·none-ne-some n e)
+fixed-counts kind.Some n e fs = absurd (Option·none-ne-some n e)
+fixed-counts kind.Let n e fs = absurd (Option·none-ne-some n e)
+fixed-counts kind.Label n e fs = counted-done _ e fs
+fixed-counts kind.Assume n e fs = counted-done _ e fs
+fixed-counts kind.Fun n e fs = counted-done _ e fs
+fixed-counts kind.Def n e fs = counted-done _ e fs
+fixed-counts kind.Retain n e fs = absurd (Option·none-ne-some n e)
+fixed-counts kind.Root n e fs = counted-done _ e fs

@@ -4,7 +4,7 @@ use mathlib.Core.Path.{_≡_, refl, sym, _∙_, ap}
 use mathlib.Core.Bool.{Bool, true, false, cond}
 use mathlib.Core.List.{List, [], _∷_, _++_, append-nil, append-assoc}
 use mathlib.Core.Logic.{_↔_}
-use mathlib.Core.Option.{Option, none, some, Option·getD, Option·some-injective, Option·none-ne-some}
+use mathlib.Core.Option.{Option, none, some, Option·some-injective, Option·none-ne-some}
 use lib.Dec.{T, leb, ltb, eqb}
 use lib.ListN.{length}
 use Rattle.model.specs.Lists.{or-else, when, _>>=_ as _>>=ᵒ_}
@@ -15,12 +15,9 @@ use Rattle.model.specs.declared.Op.{Op}
 use Rattle.model.specs.declared.Refusal.{Refusal}
 use Rattle.model.specs.declared.Refusal.the-variants as refusal
 use Rattle.model.proofs.ListLaws.{true-T, cond-ap, cond-true}
+use Rattle.model.proofs.ResultLaws.{bind-assoc}
 use Rattle.demands.specs.LineForm.{Sort, a-name, a-number, a-term, an-op-word, Due, must, may, nothing, value, group-due, due, number-fault, term-fault, fault, sort-due, Faulty, lacking, left-over, not-so, later}
-
--- general law: to go on with f and then with g is to go on with f followed by g
-pub bind-assoc : {A B C : Type 0} (x : Result A) (f : A → Result B) (g : B → Result C) → (x >>= f >>= g) ≡ (x >>= λ a. f a >>= g)
-bind-assoc (ok a) f g = refl
-bind-assoc (refused r) f g = refl
+use Rattle.demands.proofs.ReadingLaws.{number-ok}
 
 module _ {A : Type 0} where
   -- why there is no value, if there is none
@@ -135,16 +132,8 @@ number-limit (b ∷ bs) {n} e = zero-or (eqb b 0x30) (leb (length bs) 0) (decima
 
 -- the number that is read from a field is the field's value
 pub number-value : (limit : ℕ) (f : Field) {n : ℕ} → number-field limit f ≡ ok n → value f ≡ n
-unfolding number-field value need
-number-value limit f {n} e = go (number f) e
-  where
-    limited : (m : ℕ) (b : Bool) → cond b (ok m) (refused refusal.Number) ≡ ok n → m ≡ n
-    limited m true e = cc
-    limited m false e = cc
-
-    go : (o : Option ℕ) → (need refusal.Number o >>= λ n. cond (leb n limit) (ok n) (refused refusal.Number)) ≡ ok n → Option·getD o 0 ≡ n
-    go none e = cc
-    go (some m) e = limited m (leb m limit) e
+unfolding value
+number-value limit f e = rw (number-ok limit f e .0)
 
 module _ (count : ℕ) where
   -- `name-field` judges names

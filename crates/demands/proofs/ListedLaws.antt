@@ -1,8 +1,7 @@
 -- The reached facts are the facts of the kept list that are not ambient.
 use mathlib.Core.Path.{_≡_, refl, sym}
-use mathlib.Core.Logic.{⊎-elim}
 use mathlib.Core.Bool.{Bool, true, false, not, cond}
-use mathlib.Core.List.{List, [], _∷_, reverse, reverse-cons, map-append, append-nil, List·Memᴰ, List·Memᴰ·head, List·Memᴰ·tail, List·Memᴰ·not-nil, List·Memᴰ·append-cases, List·Memᴰ·eq-of-singleton, Memᴰ·cast}
+use mathlib.Core.List.{List, [], _∷_, reverse, map-append, append-nil, List·Memᴰ, List·Memᴰ·head, List·Memᴰ·tail, List·Memᴰ·not-nil, Memᴰ·cast}
 use lib.Dec.{T, T-not, not-T}
 use Rattle.model.specs.Lists.{keep, collect}
 use Rattle.model.specs.Names.{Name, same, mem}
@@ -12,32 +11,12 @@ use Rattle.model.specs.Rounds.{facts, is-ambient, run}
 use Rattle.model.specs.Kept.{reached-facts, ambients, kept-facts}
 use Rattle.model.specs.declared.AsumKind.{AsumKind}
 use Rattle.model.specs.declared.AsumKind.the-variants.{Drop, Ambient, Triggers}
-use Rattle.model.proofs.ListLaws.{keep-intro, keep-elim, keep-append, collect-intro, collect-elim, cond-true, cond-false, map-intro}
+use Rattle.model.proofs.ListLaws.{keep-intro, keep-elim, keep-all, keep-none, keep-append, reverse-elim, collect-intro, collect-elim, map-intro}
 use Rattle.model.proofs.SetLaws.{Ascending, mem-intro, mem-elim, same-eq, same-refl}
 use Rattle.demands.specs.Accepted.{Distinct, Without-triggers, Well-formed}
 use Rattle.demands.proofs.Facts.{fact-names, fact-by-name, names-distinct, one-of-name}
 use Rattle.demands.proofs.FiringLaws.{fires-elim}
 use Rattle.demands.proofs.RoundsLaws.{reached-by, run-end}
-
-module _ {A : Type 0} where
-  -- general law: a test that holds of every member keeps the list
-  pub keep-all : (test : A → Bool) (l : List A) → ((x : A) → List·Memᴰ x l → T (test x)) → keep test l ≡ l
-  unfolding keep
-  keep-all test [] h = refl
-  keep-all test (x ∷ xs) h = rw (cond-true (test x) (x ∷ keep test xs) (keep test xs) (h x (List·Memᴰ·head refl)), keep-all test xs (λ y m. h y (List·Memᴰ·tail m)))
-
-  -- general law: a test that holds of no member keeps nothing
-  pub keep-none : (test : A → Bool) (l : List A) → ((x : A) → List·Memᴰ x l → T (not (test x))) → keep test l ≡ []
-  unfolding keep
-  keep-none test [] h = refl
-  keep-none test (x ∷ xs) h = rw (cond-false (test x) (x ∷ keep test xs) (keep test xs) (h x (List·Memᴰ·head refl)), keep-none test xs (λ y m. h y (List·Memᴰ·tail m)))
-
-  -- general law: the members of a list the other way round are members of the list
-  pub reverse-elim : {x : A} (l : List A) → List·Memᴰ x (reverse l) → List·Memᴰ x l
-  reverse-elim [] m = m
-  reverse-elim (y ∷ ys) m =
-      ⊎-elim (λ i. List·Memᴰ·tail (reverse-elim ys i)) (λ i. List·Memᴰ·head (List·Memᴰ·eq-of-singleton i))
-      (List·Memᴰ·append-cases (reverse ys) (rw reverse-cons at m))
 
 -- a fact with a disjunct is not ambient
 pub with-disjunct : (kind : AsumKind) {ts : List (List Name)} {d : List Name} → Without-triggers kind ts → List·Memᴰ d ts → T (not (is-ambient kind))

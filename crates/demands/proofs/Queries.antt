@@ -16,8 +16,9 @@ use Rattle.model.specs.Kept.{kept, kept-names}
 use Rattle.model.specs.Outcome.{filtered}
 use Rattle.model.specs.declared.LineKind.the-variants as kind
 use Rattle.model.proofs.ListLaws.{keep-append, cond-false}
+use Rattle.model.proofs.ResultLaws.{ok-eq, bind-ok}
 use Rattle.demands.specs.Queries.{Other-root, Alike, end as no-lines, same as same-line, roots as root-lines, Other-queries-do-not-matter}
-use Rattle.demands.proofs.ReadingLaws.{ok-eq, bind-ok, next-ok, end-ok, number-ok, Parsed, parse-ok, line-read, lines-read, none-read, file-read}
+use Rattle.demands.proofs.ReadingLaws.{next-ok, end-ok, number-ok, Parsed, parse-ok, line-read, lines-read, none-read, file-read}
 
 -- the roots of query q
 abbrev of-query : ℕ → List Root → List Root

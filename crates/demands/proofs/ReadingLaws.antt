@@ -3,9 +3,9 @@ use Prim.Native.Nat.{ℕ, _+_}
 use native.Mathlib.Nat.{add-zero}
 use native.Mathlib.Omega.{arith}
 use mathlib.Core.Path.{_≡_, refl, _∙_, ap, subst}
-use mathlib.Core.Logic.{_⊎_, inl, inr, ⊎-elim}
+use mathlib.Core.Logic.{⊎-elim}
 use mathlib.Core.Bool.{Bool, true, false, cond, not, _&&_, Bool·beq}
-use mathlib.Core.Option.{Option, none, some}
+use mathlib.Core.Option.{some}
 use mathlib.Core.List.{List, [], _∷_}
 use lib.Dec.{T, leb, eqb}
 use lib.ListN.{length}
@@ -17,36 +17,7 @@ use Rattle.model.specs.declared.LineKind.{LineKind}
 use Rattle.model.specs.declared.Refusal.{Refusal}
 use Rattle.model.specs.declared.Refusal.the-variants as refusal
 use Rattle.model.proofs.ListLaws.{T-and, T-dec, T-true, T-false, cond-true}
-
-module _ {A : Type 0} where
-  -- a result is a value or a refusal
-  pub result-cases : (r : Result A) → ((a : A) × (r ≡ ok a)) ⊎ ((x : Refusal) × (r ≡ refused x))
-  result-cases (ok a) = inl (a, refl)
-  result-cases (refused x) = inr (x, refl)
-
-  -- a refusal is no value
-  pub not-ok : {x : Refusal} {a : A} → refused x ≡ ok a → ⊥
-  not-ok e = let z : _≡_ {A = ℕ} 0 1 = cc in omega arith
-
-  -- equal results have equal values
-  pub ok-eq : {a b : A} → ok a ≡ ok b → a ≡ b
-  ok-eq e = cc
-
-  -- a value needed and given was there
-  pub need-ok : (x : Refusal) (o : Option A) {a : A} → need x o ≡ ok a → o ≡ some a
-  unfolding need
-  need-ok x none e = absurd (not-ok e)
-  need-ok x (some b) e = ap some (ok-eq e)
-
-  -- a value given under a test: the test holds
-  pub cond-ok : (b : Bool) (x : Result A) (r : Refusal) {a : A} → cond b x (refused r) ≡ ok a → T b × (x ≡ ok a)
-  cond-ok true x r e = (tt, e)
-  cond-ok false x r e = absurd (not-ok e)
-
-  -- a value given unless a test holds: it does not
-  pub cond-not-ok : (b : Bool) (x : Result A) (r : Refusal) {a : A} → cond b (refused r) x ≡ ok a → T (not b) × (x ≡ ok a)
-  cond-not-ok true x r e = absurd (not-ok e)
-  cond-not-ok false x r e = (tt, e)
+use Rattle.model.proofs.ResultLaws.{result-cases, not-ok, ok-eq, need-ok, cond-ok, cond-not-ok, bind-ok}
 
 module _ {A : Type 0} where
   -- a field taken: it was the next, and its judge gave the value
@@ -65,11 +36,6 @@ module _ {A : Type 0} where
   unfolding end
   end-ok [] e = (refl, ok-eq e)
   end-ok (f ∷ fs) e = absurd (not-ok e)
-
--- a value that one step hands to the next
-pub bind-ok : {A B : Type 0} (r : Result A) {f : A → Result B} {b : B} → (r >>= f) ≡ ok b → (a : A) × (r ≡ ok a) × (f a ≡ ok b)
-bind-ok (ok a) e = (a, refl, e)
-bind-ok (refused x) e = absurd (not-ok e)
 
 -- a field that is a number within the limit
 pub number-ok : (limit : ℕ) (f : Field) {n : ℕ} → number-field limit f ≡ ok n → (number f ≡ some n) × T (leb n limit)

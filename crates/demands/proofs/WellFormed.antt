@@ -1,12 +1,11 @@
 -- The records of an accepted file are well formed: no name is taken twice, and name lists are sets.
-use Prim.Native.Nat.{ℕ, zero, suc}
+use Prim.Native.Nat.{ℕ}
 use mathlib.Core.Path.{_≡_, refl, sym, ap, subst}
 use mathlib.Core.Logic.{⊎-elim}
-use mathlib.Core.Bool.{Bool, true, false, cond, not}
-use mathlib.Core.List.{List, [], _∷_, _++_, List·Memᴰ, List·Memᴰ·head, List·Memᴰ·tail, List·Memᴰ·cases-cons, List·Memᴰ·not-nil, List·Memᴰ·append-cases, List·Memᴰ·eq-of-singleton}
+use mathlib.Core.Bool.{Bool, true, false, not}
+use mathlib.Core.List.{List, [], _∷_, _++_, List·Memᴰ, List·Memᴰ·cases-cons, List·Memᴰ·not-nil, List·Memᴰ·append-cases, List·Memᴰ·eq-of-singleton}
 use mathlib.Core.Option.{Option, none, some, Option·getD}
 use lib.Dec.{T, T-not}
-use lib.ListN.{getD}
 use Rattle.model.specs.Lists.{concat, collect, fold-left, when, or-else, holds, is-nil, _>>=_}
 use Rattle.model.specs.Names.{Name, bytes, same, mem, starts-with, ends-with, union}
 use Rattle.model.specs.Terms.{Node, FreeV, Leaf, Call, App, Forall, Exists, Let, Labeled, Term, names-of, add-term, free-top-level-names as node-names, term as term-of}
@@ -14,28 +13,11 @@ use Rattle.model.specs.Summaries.{Kinded, Sum-drop, Sum-ambient, Sum-triggers, 
 use Rattle.model.specs.Reading.{Content, ask, term, assume, fun, def, retain, root, Summary, Sum-assume, Sum-definefun, Sum-declfun, Sum-retain, Root, State, start, nodes, taken-by, summarize-decl, root-of, add-line, repeats, read, read-file}
 use Rattle.model.specs.Rounds.{facts, definitions}
 use Rattle.model.specs.declared.Op.the-variants.{TrueOp, Iff, Eq, And}
-use Rattle.model.proofs.ListLaws.{any-intro, collect-append, collect-elim, map-elim}
+use Rattle.model.proofs.ListLaws.{cond-case, getD-case, any-intro, collect-append, collect-elim, map-elim}
 use Rattle.model.proofs.SetLaws.{Ascending, empty, one, ascending-add, ascending-union, ascending-diff, mem-intro}
 use Rattle.demands.specs.Accepted.{Distinct, none as distinct-none, one-more, Without-triggers, Good-fact, Well-formed, Accepted-well-formed}
+use Rattle.demands.proofs.Facts.{distinct-append}
 use Rattle.demands.proofs.ReadingLaws.{line-read, kept-by-file}
-
--- general law: what holds of both branches holds of the branch taken
-cond-case : {A : Type 0} (P : A → Type 0) (b : Bool) {x y : A} → P x → P y → P (cond b x y)
-cond-case P true p q = p
-cond-case P false p q = q
-
--- general law: what holds of every element and of the default holds of the element at a place
-getD-case : {A : Type 0} (P : A → Type 0) (l : List A) (i : ℕ) (d : A) → ((x : A) → List·Memᴰ x l → P x) → P d → P (getD l i d)
-getD-case P [] i d h p = p
-getD-case P (x ∷ xs) zero d h p = h x (List·Memᴰ·head refl)
-getD-case P (x ∷ xs) (suc i) d h p = getD-case P xs i d (λ y m. h y (List·Memᴰ·tail m)) p
-
--- general law: a list that holds nothing twice, then another that has nothing of it
-distinct-append : {A : Type 0} {l m : List A} → Distinct l → Distinct m → ((a : A) → List·Memᴰ a l → List·Memᴰ a m → ⊥) → Distinct (l ++ m)
-distinct-append distinct-none e apart = e
-distinct-append (one-more {a} {l} new d) e apart =
-    one-more (λ i. ⊎-elim new (apart a (List·Memᴰ·head refl)) (List·Memᴰ·append-cases l i))
-    (distinct-append d e (λ b i. apart b (List·Memᴰ·tail i)))
 
 -- the facts of two lists of records, one after the other
 pub facts-append : (l m : List Summary) → facts (l ++ m) ≡ facts l ++ facts m
@@ -55,16 +37,20 @@ definitions-append (Sum-definefun d ∷ l) m = ap (d ∷_) (definitions-append l
 definitions-append (Sum-declfun d ∷ l) m = definitions-append l m
 definitions-append (Sum-retain names ∷ l) m = definitions-append l m
 
+-- records without a fact or a definition, and no root
+no-sets : {l : List Summary} → Distinct (collect taken-by l) → facts l ≡ [] → definitions l ≡ [] → Well-formed l []
+no-sets once no-facts no-definitions =
+    record {
+      distinct = once;
+      good-facts = λ f i. absurd (List·Memᴰ·not-nil (rw no-facts at i));
+      definition-sets = λ d i. absurd (List·Memᴰ·not-nil (rw no-definitions at i));
+      root-sets = λ r i. absurd (List·Memᴰ·not-nil i);
+    }
+
 -- no record at all
 no-records : Well-formed [] []
 unfolding collect facts definitions
-no-records =
-    record {
-      distinct = distinct-none;
-      good-facts = λ f i. absurd (List·Memᴰ·not-nil i);
-      definition-sets = λ d i. absurd (List·Memᴰ·not-nil i);
-      root-sets = λ r i. absurd (List·Memᴰ·not-nil i);
-    }
+no-records = no-sets distinct-none refl refl
 
 -- two lists of records, one after the other, of which the second takes no name that the first takes
 well-append : {l m : List Summary} {rs qs : List Root} → Well-formed l rs → Well-formed m qs
@@ -304,13 +290,7 @@ module _ {terms : List Term} (sets : Term-sets terms) where
           definition-sets = λ d i. absurd (List·Memᴰ·not-nil i);
           root-sets = λ r i. absurd (List·Memᴰ·not-nil i);
         }
-    well-line n (fun name) =
-        record {
-          distinct = one-more List·Memᴰ·not-nil distinct-none;
-          good-facts = λ f i. absurd (List·Memᴰ·not-nil i);
-          definition-sets = λ d i. absurd (List·Memᴰ·not-nil i);
-          root-sets = λ r i. absurd (List·Memᴰ·not-nil i);
-        }
+    well-line n (fun name) = no-sets (one-more List·Memᴰ·not-nil distinct-none) refl refl
     well-line n (def name t) =
         record {
           distinct = one-more List·Memᴰ·not-nil distinct-none;
@@ -318,13 +298,7 @@ module _ {terms : List Term} (sets : Term-sets terms) where
           definition-sets = λ d i. subst (λ x. Ascending (x .free-names)) (sym (List·Memᴰ·eq-of-singleton i)) (free-set t);
           root-sets = λ r i. absurd (List·Memᴰ·not-nil i);
         }
-    well-line n (retain names) =
-        record {
-          distinct = distinct-none;
-          good-facts = λ f i. absurd (List·Memᴰ·not-nil i);
-          definition-sets = λ d i. absurd (List·Memᴰ·not-nil i);
-          root-sets = λ r i. absurd (List·Memᴰ·not-nil i);
-        }
+    well-line n (retain names) = no-sets distinct-none refl refl
     well-line n (root q name t) =
         record {
           distinct = distinct-none;

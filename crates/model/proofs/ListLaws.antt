@@ -1,21 +1,26 @@
 -- Laws of tests and of the list functions of specs/Lists.antt.
-use Prim.Native.Nat.{ℕ, _+_, _≤_, _<_}
+use Prim.Native.Nat.{ℕ, zero, suc, _+_, _≤_, _<_}
 use native.Mathlib.Numerals.{one-add}
 use native.Mathlib.Omega.{arith}
 use mathlib.Core.Path.{_≡_, refl, sym}
 use mathlib.Core.Logic.{_↔_, _⊎_, inl, inr, ⊎-elim}
-use mathlib.Core.Bool.{Bool, true, false, cond, not, _&&_, _||_, or-assoc, and-assoc}
-use mathlib.Core.List.{List, [], _∷_, _++_, map, append-assoc, map-append, List·Memᴰ, List·Memᴰ·head, List·Memᴰ·tail, List·Memᴰ·cases-cons, List·Memᴰ·not-nil, List·Memᴰ·append-cases, Memᴰ·append-left, Memᴰ·append-right}
+use mathlib.Core.Bool.{Bool, true, false, cond, not, _&&_, _||_, Bool·beq, or-assoc, and-assoc}
+use mathlib.Core.List.{List, [], _∷_, _++_, map, reverse, reverse-cons, append-assoc, map-append, List·Memᴰ, List·Memᴰ·head, List·Memᴰ·tail, List·Memᴰ·cases-cons, List·Memᴰ·not-nil, List·Memᴰ·append-cases, List·Memᴰ·eq-of-singleton, Memᴰ·append-left, Memᴰ·append-right}
 -- a member's value is a member of the mapped list, and back
 pub use mathlib.Core.List.{Memᴰ·map as map-intro, Memᴰ·of-map as map-elim}
 use lib.Dec.{T}
-use lib.ListN.{length, length-append}
+use lib.ListN.{length, length-append, getD}
 use Rattle.model.specs.Lists.{any, all, keep, count, concat, collect, fold-left, sum, is-nil}
 
 -- both hold where the conjunction does, and back
 pub T-and : (a b : Bool) → T (a && b) ↔ (T a × T b)
 T-and true b = (λ t. (tt, t), λ p. p .1)
 T-and false b = (λ t. absurd t, λ p. absurd (p .0))
+
+-- where a conjunction fails one of its parts does
+pub not-and : (a b : Bool) → T (not (a && b)) → T (not a) ⊎ T (not b)
+not-and true b t = inr t
+not-and false b t = inl tt
 
 -- one holds where the disjunction does, and back
 pub T-or : (a b : Bool) → T (a || b) ↔ (T a ⊎ T b)
@@ -51,6 +56,20 @@ T-ext {a = true} {b} f g = sym (T-true b (f tt))
 T-ext {a = false} {b = true} f g = absurd (g tt)
 T-ext {a = false} {b = false} f g = refl
 
+-- the equality test holds exactly of two tests that imply each other
+pub beq-exact : (a b : Bool) → T (Bool·beq a b) ↔ ((T a → T b) × (T b → T a))
+beq-exact true true = (λ t. (λ u. tt, λ u. tt), λ p. tt)
+beq-exact true false = (λ t. absurd t, λ p. p .0 tt)
+beq-exact false true = (λ t. absurd t, λ p. p .1 tt)
+beq-exact false false = (λ t. (λ u. u, λ u. u), λ p. tt)
+
+-- of two tests that the equality test finds different one holds and the other fails
+pub beq-differ : (a b : Bool) → T (not (Bool·beq a b)) → (T a × T (not b)) ⊎ (T (not a) × T b)
+beq-differ true true t = absurd t
+beq-differ true false t = inl (tt, tt)
+beq-differ false true t = inr (tt, tt)
+beq-differ false false t = absurd t
+
 module _ {A : Type 0} where
   -- the branch that is taken where the test holds
   pub cond-true : (b : Bool) (x y : A) → T b → cond b x y ≡ x
@@ -61,6 +80,11 @@ module _ {A : Type 0} where
   pub cond-false : (b : Bool) (x y : A) → T (not b) → cond b x y ≡ y
   cond-false true x y t = absurd t
   cond-false false x y t = refl
+
+  -- what holds of both branches holds of the branch taken
+  pub cond-case : (P : A → Type 0) (b : Bool) {x y : A} → P x → P y → P (cond b x y)
+  cond-case P true p q = p
+  cond-case P false p q = q
 
   -- a function of a branch is the branch of the function
   pub cond-ap : {B : Type 0} (f : A → B) (b : Bool) (x y : A) → f (cond b x y) ≡ cond b (f x) (f y)
@@ -114,6 +138,18 @@ module _ {A : Type 0} where
   unfolding keep
   keep-cong p q [] h = refl
   keep-cong p q (x ∷ xs) h = rw (h x (List·Memᴰ·head refl), keep-cong p q xs (λ y m. h y (List·Memᴰ·tail m)))
+
+  -- a test that holds of every member keeps the list
+  pub keep-all : (test : A → Bool) (l : List A) → ((x : A) → List·Memᴰ x l → T (test x)) → keep test l ≡ l
+  unfolding keep
+  keep-all test [] h = refl
+  keep-all test (x ∷ xs) h = rw (cond-true (test x) (x ∷ keep test xs) (keep test xs) (h x (List·Memᴰ·head refl)), keep-all test xs (λ y m. h y (List·Memᴰ·tail m)))
+
+  -- a test that holds of no member keeps nothing
+  pub keep-none : (test : A → Bool) (l : List A) → ((x : A) → List·Memᴰ x l → T (not (test x))) → keep test l ≡ []
+  unfolding keep
+  keep-none test [] h = refl
+  keep-none test (x ∷ xs) h = rw (cond-false (test x) (x ∷ keep test xs) (keep test xs) (h x (List·Memᴰ·head refl)), keep-none test xs (λ y m. h y (List·Memᴰ·tail m)))
 
   -- tests that agree on the members hold of one alike
   pub any-cong : (p q : A → Bool) (l : List A) → ((x : A) → List·Memᴰ x l → p x ≡ q x) → any p l ≡ any q l
@@ -194,6 +230,19 @@ module _ {A : Type 0} where
   unfolding is-nil
   not-nil-mem [] t = absurd t
   not-nil-mem (x ∷ xs) t = (x, List·Memᴰ·head refl)
+
+  -- the members of a list the other way round are members of the list
+  pub reverse-elim : {x : A} (l : List A) → List·Memᴰ x (reverse l) → List·Memᴰ x l
+  reverse-elim [] m = m
+  reverse-elim (y ∷ ys) m =
+      ⊎-elim (λ i. List·Memᴰ·tail (reverse-elim ys i)) (λ i. List·Memᴰ·head (List·Memᴰ·eq-of-singleton i))
+      (List·Memᴰ·append-cases (reverse ys) (rw reverse-cons at m))
+
+  -- what holds of every element and of the default holds of the element at a place
+  pub getD-case : (P : A → Type 0) (l : List A) (i : ℕ) (d : A) → ((x : A) → List·Memᴰ x l → P x) → P d → P (getD l i d)
+  getD-case P [] i d h p = p
+  getD-case P (x ∷ xs) zero d h p = h x (List·Memᴰ·head refl)
+  getD-case P (x ∷ xs) (suc i) d h p = getD-case P xs i d (λ y m. h y (List·Memᴰ·tail m)) p
 
 module _ {A B : Type 0} where
   -- the members of a member's list are collected
