@@ -112,9 +112,9 @@ call-view file works room = ⊎-elim (λ t. let p = short-test works .0 t in rw 
 clash : _≡_ {A = ℕ} 0 1 → ⊥
 clash z = omega arith
 
--- a refusal of some kind is none that is not of the kind
-other-than : (Kind : Refusal → Type 0) {r : Refusal} (q : Refusal) → Kind r → r ≡ q → (Kind q → ⊥) → ⊥
-other-than Kind q o e none = none (rw e at o)
+-- a refusal that has a property is none that lacks it
+other-than : (P : Refusal → Type 0) {r : Refusal} (q : Refusal) → P r → r ≡ q → (P q → ⊥) → ⊥
+other-than P q o e lacks = lacks (rw e at o)
 
 -- 7, exactly under its condition
 pub refusal-7 : Refusal-7
@@ -221,16 +221,16 @@ module _ {ls : List Line} {n : ℕ} (l : Reached-line ls n) where
       go (accepted c t p u v) e = absurd (clash (cc))
 
   -- and back
-  refused-fields : {r : Refusal} → Fields-refused l r → read-line exclude-names n (l .state) (l .line) ≡ refused r
-  refused-fields (no-final-0a t) = unended-line exclude-names n (l .state) (l .line) t
-  refused-fields {r} (faulty t x) = unparsed-line exclude-names n (l .state) (l .line) t (refused-bytes n _ (l .line .bytes) r .1 x)
+  refused-by-fields : {r : Refusal} → Fields-refused l r → read-line exclude-names n (l .state) (l .line) ≡ refused r
+  refused-by-fields (no-final-0a t) = unended-line exclude-names n (l .state) (l .line) t
+  refused-by-fields {r} (faulty t x) = unparsed-line exclude-names n (l .state) (l .line) t (refused-bytes n _ (l .line .bytes) r .1 x)
 
 -- 1 to 4, exactly under their conditions
 pub refusals-1-to-4 : Refusals-1-to-4
 refusals-1-to-4 file works room r n o =
     let (to, from) = line-refused file works room r n (fields-line o) in (
       λ e. let (j, p) = to e in (j, ⊎-elim inl (λ (l, x). inr (l, fields-refused l o x)) p),
-      λ (j, p). from (j, ⊎-elim inl (λ (l, x). inr (l, refused-fields l x)) p),
+      λ (j, p). from (j, ⊎-elim inl (λ (l, x). inr (l, refused-by-fields l x)) p),
     )
 
 module _ (exclude : List Name) where
