@@ -1,0 +1,147 @@
+-- Laws of maps, of lists that hold nothing twice, and of folds that put elements in front.
+use Prim.Native.Nat.{ℕ}
+use mathlib.Core.Path.{_≡_, refl, sym, _∙_, ap}
+use mathlib.Core.Logic.{_⊎_, inl, inr, ⊎-elim}
+use mathlib.Core.Bool.{Bool, true, false, cond, not}
+use mathlib.Core.List.{List, [], _∷_, _++_, map, reverse, reverseAux, reverse-cons, append-assoc, append-nil, List·Memᴰ, List·Memᴰ·head, List·Memᴰ·tail, List·Memᴰ·cases-cons, List·Memᴰ·not-nil, List·Memᴰ·append-cases, Memᴰ·append-left, Memᴰ·append-right, Memᴰ·cast}
+use mathlib.Core.Option.{Option, none, some}
+use lib.Dec.{T, T-not}
+use Rattle.model.specs.Lists.{keep, collect, fold-left, or-else}
+use Rattle.model.specs.Names.{Name, same}
+use Rattle.model.specs.Pruning.{Map, try-find}
+use Rattle.model.proofs.ListLaws.{T-dec, cond-true, cond-false, cond-ap, collect-append, collect-intro, collect-elim, keep-elim}
+use Rattle.model.proofs.SetLaws.{same-eq, eq-same}
+use Rattle.demands.specs.Accepted.{Distinct, none as no-more, one-more}
+
+module _ {A B : Type 0} where
+  -- general law: what each step leaves as it is, the fold leaves as it is
+  pub fold-keeps : {X : Type 0} (step : A → B → A) (part : A → X) → ((a : A) (b : B) → part (step a b) ≡ part a) → (a : A) (l : List B) → part (fold-left step a l) ≡ part a
+  unfolding fold-left
+  fold-keeps step part h a [] = refl
+  fold-keeps step part h a (b ∷ l) = fold-keeps step part h (step a b) l ∙ h a b
+
+  -- general law: where each step puts elements in front, the fold puts all of them in front, the last step's first
+  pub fold-collects : {X : Type 0} (step : A → B → A) (part : A → List X) (new : B → List X) → ((a : A) (b : B) → part (step a b) ≡ new b ++ part a) → (a : A) (l : List B) → part (fold-left step a l) ≡ collect new (reverse l) ++ part a
+  unfolding fold-left collect
+  fold-collects step part new h a [] = refl
+  fold-collects step part new h a (b ∷ l) =
+      fold-collects step part new h (step a b) l
+      ∙ rw (h a b, reverse-cons, collect-append, append-nil, append-assoc)
+
+module _ {A : Type 0} where
+  -- a member of the list turned round, before another, is a member of one of the two
+  reverseAux-elim : {x : A} (l r : List A) → List·Memᴰ x (reverseAux l r) → List·Memᴰ x l ⊎ List·Memᴰ x r
+  reverseAux-elim [] r m = inr m
+  reverseAux-elim (y ∷ ys) r m = ⊎-elim (λ n. inl (List·Memᴰ·tail n)) (λ n. ⊎-elim (λ e. inl (List·Memᴰ·head e)) inr (List·Memᴰ·cases-cons n)) (reverseAux-elim ys (y ∷ r) m)
+
+  -- and back
+  reverseAux-intro : {x : A} (l r : List A) → List·Memᴰ x l ⊎ List·Memᴰ x r → List·Memᴰ x (reverseAux l r)
+  reverseAux-intro [] r (inl m) = absurd (List·Memᴰ·not-nil m)
+  reverseAux-intro [] r (inr m) = m
+  reverseAux-intro (y ∷ ys) r (inl m) = reverseAux-intro ys (y ∷ r) (⊎-elim (λ e. inr (List·Memᴰ·head e)) inl (List·Memᴰ·cases-cons m))
+  reverseAux-intro (y ∷ ys) r (inr m) = reverseAux-intro ys (y ∷ r) (inr (List·Memᴰ·tail m))
+
+  -- general law: a member of the list turned round is a member
+  pub reverse-elim : {x : A} (l : List A) → List·Memᴰ x (reverse l) → List·Memᴰ x l
+  reverse-elim l m = ⊎-elim (λ n. n) (λ n. absurd (List·Memᴰ·not-nil n)) (reverseAux-elim l [] m)
+
+  -- general law: a member is a member of the list turned round
+  pub reverse-intro : {x : A} (l : List A) → List·Memᴰ x l → List·Memᴰ x (reverse l)
+  reverse-intro l m = reverseAux-intro l [] (inl m)
+
+  -- general law: the second of two lists without repeats has none
+  pub distinct-right : (l : List A) {m : List A} → Distinct (l ++ m) → Distinct m
+  distinct-right [] d = d
+  distinct-right (x ∷ l) (one-more n d) = distinct-right l d
+
+  -- general law: two lists that together hold nothing twice have no common member
+  pub distinct-apart : {x : A} (l m : List A) → Distinct (l ++ m) → List·Memᴰ x l → List·Memᴰ x m → ⊥
+  distinct-apart [] m d i j = List·Memᴰ·not-nil i
+  distinct-apart (y ∷ l) m (one-more n d) i j = ⊎-elim (λ e. n (Memᴰ·append-right l (Memᴰ·cast (sym e) j))) (λ k. distinct-apart l m d k j) (List·Memᴰ·cases-cons i)
+
+  -- general law: what is kept of a list without repeats has none
+  pub distinct-keep : (test : A → Bool) {l : List A} → Distinct l → Distinct (keep test l)
+  unfolding keep
+  distinct-keep test no-more = no-more
+  distinct-keep test (one-more {a = x} {l} n d) = go (test x) (distinct-keep test d)
+    where
+      go : (b : Bool) → Distinct (keep test l) → Distinct (cond b (x ∷ keep test l) (keep test l))
+      go true r = one-more (λ m. n (keep-elim test l m .0)) r
+      go false r = r
+
+module _ {A B : Type 0} where
+  -- general law: if what is collected holds nothing twice, one element alone gives a member of it
+  pub distinct-collect : (f : A → List B) {x y : A} {z : B} (l : List A) → Distinct (collect f l) → List·Memᴰ x l → List·Memᴰ y l → List·Memᴰ z (f x) → List·Memᴰ z (f y) → x ≡ y
+  unfolding collect
+  distinct-collect f [] d m n i j = absurd (List·Memᴰ·not-nil m)
+  distinct-collect f {x} {y} {z} (w ∷ l) d m n i j = go (distinct-collect f l (distinct-right (f w) d)) (List·Memᴰ·cases-cons m) (List·Memᴰ·cases-cons n)
+    where
+      go : (List·Memᴰ x l → List·Memᴰ y l → List·Memᴰ z (f x) → List·Memᴰ z (f y) → x ≡ y) → (x ≡ w) ⊎ List·Memᴰ x l → (y ≡ w) ⊎ List·Memᴰ y l → x ≡ y
+      go below (inl e) (inl e′) = e ∙ sym e′
+      go below (inl e) (inr n′) = absurd (distinct-apart (f w) (collect f l) d (rw e at i) (collect-intro f n′ j))
+      go below (inr m′) (inl e) = absurd (distinct-apart (f w) (collect f l) d (rw e at j) (collect-intro f m′ i))
+      go below (inr m′) (inr n′) = below m′ n′ i j
+
+module _ {A : Type 0} where
+  -- a map that binds each key once
+  abbrev pub Functional : Map A → Type 0
+  Functional m = (k : Name) (a b : A) → List·Memᴰ (k, a) m → List·Memᴰ (k, b) m → a ≡ b
+
+  -- the first binding of a key is found
+  pub try-find-head : {k key : Name} (a : A) (m : Map A) → k ≡ key → try-find ((k, a) ∷ m) key ≡ some a
+  unfolding try-find
+  try-find-head {k} {key} a m e = cond-true (same k key) (some a) (try-find m key) (eq-same e)
+
+  -- under another key, what the other bindings give is found
+  pub try-find-tail : {k key : Name} (a : A) (m : Map A) → (k ≡ key → ⊥) → try-find ((k, a) ∷ m) key ≡ try-find m key
+  unfolding try-find
+  try-find-tail {k} {key} a m n = ⊎-elim (λ t. absurd (n (same-eq t))) (cond-false (same k key) (some a) (try-find m key)) (T-dec (same k key))
+
+  -- what is found under a key, with the binding or with none
+  pub data Found (m : Map A) (key : Name) : Option A → Type 0 where
+    bound : {a : A} → List·Memᴰ (key, a) m → Found m key (some a)
+    unbound : ((a : A) → List·Memᴰ (key, a) m → ⊥) → Found m key none
+
+  -- a key is bound or not
+  pub found : (m : Map A) (key : Name) → Found m key (try-find m key)
+  unfolding try-find
+  found [] key = unbound (λ a n. List·Memᴰ·not-nil n)
+  found ((k, a) ∷ m) key = ⊎-elim
+      (λ t. rw (cond-true (same k key) (some a) (try-find m key) t) (bound (List·Memᴰ·head (λ i. (sym (same-eq t) i, a)))))
+      (λ t. rw (cond-false (same k key) (some a) (try-find m key) t) (later t (found m key)))
+      (T-dec (same k key))
+    where
+      later : T (not (same k key)) → {o : Option A} → Found m key o → Found ((k, a) ∷ m) key o
+      later t (bound n) = bound (List·Memᴰ·tail n)
+      later t (unbound lacks) = unbound (λ b n. ⊎-elim (λ e. T-not (same k key) t (eq-same (ap (λ (x : Name × A). x .0) (sym e)))) (lacks b) (List·Memᴰ·cases-cons n))
+
+  -- the binding of a key is found where each key is bound once
+  pub try-find-intro : (m : Map A) {k : Name} {a : A} → Functional m → List·Memᴰ (k, a) m → try-find m k ≡ some a
+  try-find-intro m {k} {a} u n = go (found m k)
+    where
+      go : {o : Option A} → Found m k o → o ≡ some a
+      go (bound {a = b} n′) = ap some (u k b a n′ n)
+      go (unbound lacks) = absurd (lacks a n)
+
+  -- what is found is bound
+  pub try-find-elim : (m : Map A) (k : Name) {a : A} → try-find m k ≡ some a → List·Memᴰ (k, a) m
+  try-find-elim m k {a} e = go (rw e at (found m k))
+    where
+      go : Found m k (some a) → List·Memᴰ (k, a) m
+      go (bound n) = n
+
+  -- maps with the same bindings, each key bound once, give the same
+  pub try-find-same : (l m : Map A) → Functional m → ((x : Name × A) → List·Memᴰ x l → List·Memᴰ x m) → ((x : Name × A) → List·Memᴰ x m → List·Memᴰ x l) → (k : Name) → try-find l k ≡ try-find m k
+  try-find-same l m u to from k = go (found l k) (found m k)
+    where
+      go : {o o′ : Option A} → Found l k o → Found m k o′ → o ≡ o′
+      go (bound {a} n) (bound {a = b} n′) = ap some (u k a b (to (k, a) n) n′)
+      go (bound {a} n) (unbound lacks) = absurd (lacks a (to (k, a) n))
+      go (unbound lacks) (bound {a} n) = absurd (lacks a (from (k, a) n))
+      go (unbound lacks) (unbound lacks′) = refl
+
+  -- what is found in two maps, one after the other
+  pub try-find-append : (l m : Map A) (k : Name) → try-find (l ++ m) k ≡ or-else (try-find l k) (try-find m k)
+  unfolding try-find or-else
+  try-find-append [] m k = refl
+  try-find-append ((key, a) ∷ l) m k = rw (try-find-append l m k) (sym (cond-ap (λ (o : Option A). or-else o (try-find m k)) (same key k) (some a) (try-find l k)))
