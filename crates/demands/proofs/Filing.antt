@@ -168,42 +168,42 @@ module _ {X : Type 0} where
       go p (Sum-retain names) = refl
 
 -- the facts by name
-filed-names : (b : Bool) (decls : List Summary) → add-summaries b decls init .assumption-name-map ≡ collect (from-summary (λ f. (f .name, passumption f) ∷ []) nothing nothing) (reverse decls) ++ []
+pub filed-names : (b : Bool) (decls : List Summary) → add-summaries b decls init .assumption-name-map ≡ collect (from-summary (λ f. (f .name, passumption f) ∷ []) nothing nothing) (reverse decls) ++ []
 unfolding init add-assumption-summary with-ambient with-assumption-to-triggers with-trigger-to-assumption with-assumption map-add passumption with-def
 filed-names b = filed-part b (λ p. p .assumption-name-map) (λ f. (f .name, passumption f) ∷ []) nothing nothing
     (λ p f. kind-keeps b (λ p. p .assumption-name-map) (λ p a r. refl) (λ p m. refl) (λ p m. refl) (f .kind) (f .triggers) (passumption f) (with-assumption p (passumption f)))
     (λ p d. refl) (λ p d. refl)
 
 -- the definitions and declarations by name
-filed-defs : (b : Bool) (decls : List Summary) → add-summaries b decls init .defs-and-decls-map ≡ collect (from-summary nothing (λ d. (d .name, record { pd-is-declfun = false; pd-resolve = d .line }) ∷ []) (λ d. (d .name, record { pd-is-declfun = true; pd-resolve = d .line }) ∷ [])) (reverse decls) ++ []
+pub filed-defs : (b : Bool) (decls : List Summary) → add-summaries b decls init .defs-and-decls-map ≡ collect (from-summary nothing (λ d. (d .name, record { pd-is-declfun = false; pd-resolve = d .line }) ∷ []) (λ d. (d .name, record { pd-is-declfun = true; pd-resolve = d .line }) ∷ [])) (reverse decls) ++ []
 unfolding init add-assumption-summary with-ambient with-assumption-to-triggers with-trigger-to-assumption with-assumption map-add with-def
 filed-defs b = filed-part b (λ p. p .defs-and-decls-map) nothing (λ d. (d .name, record { pd-is-declfun = false; pd-resolve = d .line }) ∷ []) (λ d. (d .name, record { pd-is-declfun = true; pd-resolve = d .line }) ∷ [])
     (λ p f. kind-keeps b (λ p. p .defs-and-decls-map) (λ p a r. refl) (λ p m. refl) (λ p m. refl) (f .kind) (f .triggers) (passumption f) (with-assumption p (passumption f)))
     (λ p d. refl) (λ p d. refl)
 
 -- the macros by name
-filed-macros : (b : Bool) (decls : List Summary) → add-summaries b decls init .macro-freenames ≡ collect (from-summary nothing (λ d. (d .name, d .free-names) ∷ []) nothing) (reverse decls) ++ init-macro-freenames
+pub filed-macros : (b : Bool) (decls : List Summary) → add-summaries b decls init .macro-freenames ≡ collect (from-summary nothing (λ d. (d .name, d .free-names) ∷ []) nothing) (reverse decls) ++ init-macro-freenames
 unfolding init add-assumption-summary with-ambient with-assumption-to-triggers with-trigger-to-assumption with-assumption map-add with-def
 filed-macros b = filed-part b (λ p. p .macro-freenames) nothing (λ d. (d .name, d .free-names) ∷ []) nothing
     (λ p f. kind-keeps b (λ p. p .macro-freenames) (λ p a r. refl) (λ p m. refl) (λ p m. refl) (f .kind) (f .triggers) (passumption f) (with-assumption p (passumption f)))
     (λ p d. refl) (λ p d. refl)
 
 -- the disjuncts of the facts by name
-filed-triggers : (b : Bool) (decls : List Summary) → add-summaries b decls init .assumption-to-triggers ≡ collect (from-summary (λ f. on-kind nothing ((f .name, map from-list (f .triggers)) ∷ []) (f .kind)) nothing nothing) (reverse decls) ++ []
+pub filed-triggers : (b : Bool) (decls : List Summary) → add-summaries b decls init .assumption-to-triggers ≡ collect (from-summary (λ f. on-kind nothing ((f .name, map from-list (f .triggers)) ∷ []) (f .kind)) nothing nothing) (reverse decls) ++ []
 unfolding init add-assumption-summary with-ambient with-assumption-to-triggers with-trigger-to-assumption with-assumption map-add with-def passumption
 filed-triggers b = filed-part b (λ p. p .assumption-to-triggers) (λ f. on-kind nothing ((f .name, map from-list (f .triggers)) ∷ []) (f .kind)) nothing nothing
     (λ p f. kind-part b (λ p. p .assumption-to-triggers) (λ a r. []) (λ a ts. (a .pa-name, map from-list ts) ∷ []) (λ p a r. refl) (λ p a ts. entries-keep (λ p. p .assumption-to-triggers) (λ p m. refl) a (with-triggers p a ts) ts) (f .kind) (f .triggers) (passumption f) (with-assumption p (passumption f)))
     (λ p d. refl) (λ p d. refl)
 
 -- the ambients
-filed-ambients : (b : Bool) (decls : List Summary) → add-summaries b decls init .ambients ≡ collect (from-summary (λ f. on-kind (λ r. cond b [] (f .name ∷ [])) [] (f .kind)) nothing nothing) (reverse decls) ++ []
+pub filed-ambients : (b : Bool) (decls : List Summary) → add-summaries b decls init .ambients ≡ collect (from-summary (λ f. on-kind (λ r. cond b [] (f .name ∷ [])) [] (f .kind)) nothing nothing) (reverse decls) ++ []
 unfolding init add-assumption-summary with-ambient with-assumption-to-triggers with-trigger-to-assumption with-assumption map-add with-def passumption
 filed-ambients b = filed-part b (λ p. p .ambients) (λ f. on-kind (λ r. cond b [] (f .name ∷ [])) [] (f .kind)) nothing nothing
     (λ p f. kind-part b (λ p. p .ambients) (λ a r. cond b [] (a .pa-name ∷ [])) (λ a ts. []) (λ p a r. sym (cond-ap (_++ p .ambients) b [] (a .pa-name ∷ []))) (λ p a ts. entries-keep (λ p. p .ambients) (λ p m. refl) a (with-triggers p a ts) ts) (f .kind) (f .triggers) (passumption f) (with-assumption p (passumption f)))
     (λ p d. refl) (λ p d. refl)
 
 -- the ambient roots
-filed-roots : (b : Bool) (decls : List Summary) → add-summaries b decls init .extra-roots ≡ collect (from-summary (λ f. on-kind (λ r. cond r (passumption f ∷ []) []) [] (f .kind)) nothing nothing) (reverse decls) ++ []
+pub filed-roots : (b : Bool) (decls : List Summary) → add-summaries b decls init .extra-roots ≡ collect (from-summary (λ f. on-kind (λ r. cond r (passumption f ∷ []) []) [] (f .kind)) nothing nothing) (reverse decls) ++ []
 unfolding init add-assumption-summary with-ambient with-assumption-to-triggers with-trigger-to-assumption with-assumption map-add with-def passumption
 filed-roots b = filed-part b (λ p. p .extra-roots) (λ f. on-kind (λ r. cond r (passumption f ∷ []) []) [] (f .kind)) nothing nothing
     (λ p f. kind-part b (λ p. p .extra-roots) (λ a r. cond r (a ∷ []) []) (λ a ts. []) (λ p a r. sym (cond-ap (_++ p .extra-roots) r (a ∷ []) [])) (λ p a ts. entries-keep (λ p. p .extra-roots) (λ p m. refl) a (with-triggers p a ts) ts) (f .kind) (f .triggers) (passumption f) (with-assumption p (passumption f)))
@@ -218,21 +218,21 @@ waiting-step n a p t = ⊎-elim
     (T-dec (same t n))
 
 -- what a fact's entries of a name add
-abbrev entries-of : {X : Type 0} → (Name → List X) → List (List Name) → List X
+abbrev pub entries-of : {X : Type 0} → (Name → List X) → List (List Name) → List X
 entries-of new ts = collect (λ d. collect new (reverse d)) (reverse ts)
 
 -- the facts that wait on a name
-filed-waiting : (n : Name) (b : Bool) (decls : List Summary) → waiting (add-summaries b decls init) n ≡ collect (from-summary (λ f. on-kind nothing (entries-of (λ t. cond (same t n) (passumption f ∷ []) []) (f .triggers)) (f .kind)) nothing nothing) (reverse decls) ++ []
+pub filed-waiting : (n : Name) (b : Bool) (decls : List Summary) → waiting (add-summaries b decls init) n ≡ collect (from-summary (λ f. on-kind nothing (entries-of (λ t. cond (same t n) (passumption f ∷ []) []) (f .triggers)) (f .kind)) nothing nothing) (reverse decls) ++ []
 unfolding init add-assumption-summary with-ambient with-assumption-to-triggers with-assumption with-def try-find
 filed-waiting n b = filed-part b (λ p. waiting p n) (λ f. on-kind nothing (entries-of (λ t. cond (same t n) (passumption f ∷ []) []) (f .triggers)) (f .kind)) nothing nothing
     (λ p f. kind-part b (λ p. waiting p n) (λ a r. []) (λ a ts. entries-of (λ t. cond (same t n) (a ∷ []) []) ts) (λ p a r. refl) (λ p a ts. entries-collect (λ p. waiting p n) a (λ t. cond (same t n) (a ∷ []) []) (waiting-step n a) (with-triggers p a ts) ts) (f .kind) (f .triggers) (passumption f) (with-assumption p (passumption f)))
     (λ p d. refl) (λ p d. refl)
 
 -- the names that facts wait on, one for each entry
-abbrev keys : PruningState → List Name
+abbrev pub keys : PruningState → List Name
 keys p = map (λ (x : Name × List Passumption). x .0) (p .trigger-to-assumption)
 
-filed-keys : (b : Bool) (decls : List Summary) → keys (add-summaries b decls init) ≡ collect (from-summary (λ f. on-kind nothing (entries-of itself (f .triggers)) (f .kind)) nothing nothing) (reverse decls) ++ []
+pub filed-keys : (b : Bool) (decls : List Summary) → keys (add-summaries b decls init) ≡ collect (from-summary (λ f. on-kind nothing (entries-of itself (f .triggers)) (f .kind)) nothing nothing) (reverse decls) ++ []
 unfolding init add-assumption-summary with-ambient with-assumption-to-triggers with-trigger-to-assumption with-assumption with-def add-trigger-to-assumption map-add
 filed-keys b = filed-part b keys (λ f. on-kind nothing (entries-of itself (f .triggers)) (f .kind)) nothing nothing
     (λ p f. kind-part b keys (λ a r. []) (λ a ts. entries-of itself ts) (λ p a r. refl) (λ p a ts. entries-collect keys a itself (λ p t. refl) (with-triggers p a ts) ts) (f .kind) (f .triggers) (passumption f) (with-assumption p (passumption f)))

@@ -3,7 +3,7 @@ use Prim.Native.Nat.{ℕ}
 use mathlib.Core.Path.{_≡_, refl, sym, _∙_, ap}
 use mathlib.Core.Logic.{_⊎_, inl, inr, ⊎-elim}
 use mathlib.Core.Bool.{Bool, true, false, cond, not}
-use mathlib.Core.List.{List, [], _∷_, _++_, map, reverse, reverseAux, reverse-cons, append-assoc, append-nil, List·Memᴰ, List·Memᴰ·head, List·Memᴰ·tail, List·Memᴰ·cases-cons, List·Memᴰ·not-nil, List·Memᴰ·append-cases, Memᴰ·append-left, Memᴰ·append-right, Memᴰ·cast}
+use mathlib.Core.List.{List, [], _∷_, _++_, map, reverse, reverseAux, reverse-cons, reverse-append, map-append, append-assoc, append-nil, List·Memᴰ, List·Memᴰ·head, List·Memᴰ·tail, List·Memᴰ·cases-cons, List·Memᴰ·not-nil, List·Memᴰ·append-cases, Memᴰ·append-left, Memᴰ·append-right, Memᴰ·cast}
 use mathlib.Core.Option.{Option, none, some}
 use lib.Dec.{T, T-not}
 use Rattle.model.specs.Lists.{keep, collect, fold-left, or-else}
@@ -70,6 +70,25 @@ module _ {A : Type 0} where
       go false r = r
 
 module _ {A B : Type 0} where
+  -- general law: what is collected of the list turned round is collected of the list
+  pub collect-reverse-elim : (f : A → List B) (l : List A) {y : B} → List·Memᴰ y (collect f (reverse l)) → List·Memᴰ y (collect f l)
+  collect-reverse-elim f l m = let (x, n, o) = collect-elim f (reverse l) m in collect-intro f (reverse-elim l n) o
+
+  -- general law: and back
+  pub collect-reverse-intro : (f : A → List B) (l : List A) {y : B} → List·Memᴰ y (collect f l) → List·Memᴰ y (collect f (reverse l))
+  collect-reverse-intro f l m = let (x, n, o) = collect-elim f l m in collect-intro f (reverse-intro l n) o
+
+  -- general law: to collect short lists from the list turned round is to turn round what is collected
+  pub collect-reverse : (f : A → List B) → ((x : A) → reverse (f x) ≡ f x) → (l : List A) → collect f (reverse l) ≡ reverse (collect f l)
+  unfolding collect
+  collect-reverse f h [] = refl
+  collect-reverse f h (x ∷ l) = rw (reverse-cons, collect-append, append-nil, collect-reverse f h l, reverse-append, h x)
+
+  -- general law: a function of the list turned round
+  pub map-reverse : (f : A → B) (l : List A) → map f (reverse l) ≡ reverse (map f l)
+  map-reverse f [] = refl
+  map-reverse f (x ∷ l) = rw (reverse-cons x l, map-append, map-reverse f l) (sym (reverse-cons (f x) (map f l)))
+
   -- general law: if what is collected holds nothing twice, one element alone gives a member of it
   pub distinct-collect : (f : A → List B) {x y : A} {z : B} (l : List A) → Distinct (collect f l) → List·Memᴰ x l → List·Memᴰ y l → List·Memᴰ z (f x) → List·Memᴰ z (f y) → x ≡ y
   unfolding collect

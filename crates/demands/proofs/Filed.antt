@@ -1,0 +1,323 @@
+-- What the filed state of well-formed records finds: the laws that the scan and `prune` rest on.
+use Prim.Native.Nat.{ℕ, zero, suc, _≤_}
+use native.Mathlib.Omega.{arith}
+use mathlib.Core.Path.{_≡_, refl, sym, _∙_, ap, ap₂}
+use mathlib.Core.Logic.{_⊎_, inl, inr, ⊎-elim}
+use mathlib.Core.Bool.{Bool, true, false, cond, not}
+use mathlib.Core.List.{List, [], _∷_, _++_, map, reverse, append-nil, List·Memᴰ, List·Memᴰ·head, List·Memᴰ·tail, List·Memᴰ·cases-cons, List·Memᴰ·not-nil, List·Memᴰ·append-cases, List·Memᴰ·eq-of-singleton, Memᴰ·append-left, Memᴰ·append-right, Memᴰ·cast}
+use mathlib.Core.Option.{Option, none, some, Option·getD}
+use lib.Dec.{T, T-not}
+use lib.ListN.{length, length-map}
+use Rattle.model.specs.Lists.{keep, concat, collect, fold-left, or-else, to-list}
+use Rattle.model.specs.Names.{Name, same, mem, add, add-by, from-list, union}
+use Rattle.model.specs.Summaries.{Fact}
+use Rattle.model.specs.Reading.{Root, Decl, Summary, Sum-assume, Sum-definefun, Sum-declfun, Sum-retain, taken-by}
+use Rattle.model.specs.Pruning.{Map, try-find, Passumption, Pdef, PruningState, init, init-macro-freenames, passumption, add-summaries}
+use Rattle.model.specs.Rounds.{facts, definitions, declarations, macros, listed, filed, is-ambient, is-ambient-root}
+use Rattle.model.specs.declared.AsumKind.{AsumKind}
+use Rattle.model.specs.declared.AsumKind.the-variants.{Drop, Ambient, Triggers}
+use Rattle.model.specs.declared.Order.{Order}
+use Rattle.model.specs.declared.Order.the-variants.{Before, Same, After}
+use Rattle.model.proofs.ListLaws.{T-dec, cond-true, cond-false, cond-ap, collect-append, collect-intro, collect-elim, concat-intro, concat-elim, keep-intro, keep-elim, map-intro, map-elim}
+use Rattle.model.proofs.SetLaws.{same-eq, eq-same, same-refl, mem-intro, mem-elim, mem-from-list, Ascending, ascending-from-list, subset-length, from-list-ascending, compared, Compared, first, equal, second}
+use Rattle.demands.specs.Accepted.{Distinct, one-more, Good-fact, Well-formed, Without-triggers}
+use Rattle.demands.proofs.MapLaws.{collect-reverse-intro, collect-reverse-elim, collect-reverse, map-reverse, reverse-intro, reverse-elim, distinct-collect, distinct-right, Functional, Found, bound, unbound, found, try-find-intro, try-find-elim, try-find-same, try-find-append}
+use Rattle.demands.proofs.Filing.{from-summary, on-kind, nothing, itself, waiting, entries-of, keys, filed-names, filed-defs, filed-macros, filed-triggers, filed-ambients, filed-roots, filed-waiting, filed-keys, fact-summary, summary-fact, definition-summary, summary-definition, declaration-summary, summary-declaration}
+
+-- the member of a list of at most one
+cond-itself : {A : Type 0} {x y : A} (b : Bool) → List·Memᴰ y (cond b (x ∷ []) []) → T b × (y ≡ x)
+cond-itself true m = (tt, List·Memᴰ·eq-of-singleton m)
+cond-itself false m = absurd (List·Memᴰ·not-nil m)
+
+itself-cond : {A : Type 0} (b : Bool) (x : A) → T b → List·Memᴰ x (cond b (x ∷ []) [])
+itself-cond true x t = List·Memᴰ·head refl
+itself-cond false x t = absurd t
+
+module _ {X : Type 0} where
+  -- what the entries of a fact add comes from one of its listed names
+  entries-elim : (new : Name → List X) (ts : List (List Name)) {x : X} → List·Memᴰ x (entries-of new ts) → (t : Name) × List·Memᴰ t (concat ts) × List·Memᴰ x (new t)
+  entries-elim new ts m =
+      let (d, n, o) = collect-elim (λ d. collect new (reverse d)) (reverse ts) m in
+      let (t, i, j) = collect-elim new (reverse d) o in
+      (t, concat-intro (reverse-elim ts n) (reverse-elim d i), j)
+
+  -- and back
+  entries-intro : (new : Name → List X) (ts : List (List Name)) {t : Name} {x : X} → List·Memᴰ t (concat ts) → List·Memᴰ x (new t) → List·Memᴰ x (entries-of new ts)
+  entries-intro new ts m o =
+      let (d, n, i) = concat-elim ts m in
+      collect-intro (λ d. collect new (reverse d)) (reverse-intro ts n) (collect-intro new (reverse-intro d i) o)
+
+  -- what a fact adds that no ambient adds, its triggers add
+  triggers-elim : {x : X} (added : List X) (k : AsumKind) → List·Memᴰ x (on-kind nothing added k) → List·Memᴰ x added
+  triggers-elim added Drop m = absurd (List·Memᴰ·not-nil m)
+  triggers-elim added (Ambient r) m = absurd (List·Memᴰ·not-nil m)
+  triggers-elim added (Triggers n) m = m
+
+  -- a fact that lists a name adds what its triggers add
+  triggers-intro : {n : Name} {x : X} {added : List X} (k : AsumKind) (ts : List (List Name)) → Without-triggers k ts → List·Memᴰ n (concat ts) → List·Memᴰ x added → List·Memᴰ x (on-kind nothing added k)
+  unfolding concat
+  triggers-intro Drop ts e m i = absurd (List·Memᴰ·not-nil (rw e at m))
+  triggers-intro (Ambient r) ts e m i = absurd (List·Memᴰ·not-nil (rw e at m))
+  triggers-intro (Triggers n) ts e m i = i
+
+-- general law: sets of names, made sets again, are the same
+sets-again : (ts : List (List Name)) → ((d : List Name) → List·Memᴰ d ts → Ascending d) → map from-list ts ≡ ts
+sets-again [] h = refl
+sets-again (d ∷ ts) h = ap₂ _∷_ (from-list-ascending (h d (List·Memᴰ·head refl))) (sets-again ts (λ e m. h e (List·Memᴰ·tail m)))
+
+-- general law: a set with one name more has at most one more
+add-length : (n : Name) (l : List Name) → length (add n l) ≤ suc (length l)
+unfolding add add-by
+add-length n [] = omega arith
+add-length n (m ∷ ms) = go (add-length n ms) (compared n m)
+  where
+    go : length (add n ms) ≤ suc (length ms) → {o : Order} → Compared n m o → length (add-by o n m ms (add n ms)) ≤ suc (suc (length ms))
+    go h (first p) = omega arith
+    go h (equal e) = omega arith
+    go h (second p) = omega arith
+
+-- general law: the set of the names of a list is no longer than the list
+from-list-length : (l : List Name) → length (from-list l) ≤ length l
+unfolding from-list
+from-list-length [] = omega arith
+from-list-length (n ∷ l) = omega (arith, add-length n (from-list l), from-list-length l)
+
+-- the macros of definitions, collected
+macros-collect : (decls : List Summary) → map {B = Name × List Name} (λ d. (d .name, d .free-names)) (definitions decls) ≡ collect (from-summary nothing (λ d. (d .name, d .free-names) ∷ []) nothing) decls
+unfolding definitions collect
+macros-collect [] = refl
+macros-collect (Sum-assume f ∷ decls) = macros-collect decls
+macros-collect (Sum-definefun d ∷ decls) = ap ((d .name, d .free-names) ∷_) (macros-collect decls)
+macros-collect (Sum-declfun d ∷ decls) = macros-collect decls
+macros-collect (Sum-retain names ∷ decls) = macros-collect decls
+
+module _ (decls : List Summary) (d : Distinct (collect taken-by decls)) where
+  -- one summary alone takes a name
+  one-summary : {s t : Summary} {n : Name} → List·Memᴰ s decls → List·Memᴰ t decls → List·Memᴰ n (taken-by s) → List·Memᴰ n (taken-by t) → s ≡ t
+  one-summary = distinct-collect taken-by decls d
+
+  -- a map whose keys are the names taken, by one summary each, binds each once
+  taken-once : {A : Type 0} (new : Summary → Map A) → ((s : Summary) (k : Name) (a : A) → List·Memᴰ (k, a) (new s) → List·Memᴰ k (taken-by s)) → ((s : Summary) → Functional (new s)) → Functional (collect new decls)
+  taken-once new h u k a b m n =
+      let (s, i, j) = collect-elim new decls m in
+      let (t, i′, j′) = collect-elim new decls n in
+      let e : s ≡ t = one-summary i i′ (h s k a j) (h t k b j′) in
+      u s k a b j (rw e j′)
+
+  -- such a map finds the same whether its bindings stand in file order or last first
+  lookup : {A : Type 0} (new : Summary → Map A) (rest : Map A) → Functional (collect new decls) → (k : Name) → try-find (collect new (reverse decls) ++ rest) k ≡ try-find (collect new decls ++ rest) k
+  lookup new rest u k = rw (try-find-append (collect new (reverse decls)), try-find-append (collect new decls), try-find-same (collect new (reverse decls)) (collect new decls) u (λ x. collect-reverse-elim new decls) (λ x. collect-reverse-intro new decls) k)
+
+-- what each summary binds in the maps of the state
+abbrev pub names-of : Summary → Map Passumption
+names-of = from-summary (λ f. (f .name, passumption f) ∷ []) nothing nothing
+
+abbrev pub pdef : Bool → Decl → Pdef
+pdef is-declfun d = record { pd-is-declfun = is-declfun; pd-resolve = d .line }
+
+abbrev pub defs-of : Summary → Map Pdef
+defs-of = from-summary nothing (λ d. (d .name, pdef false d) ∷ []) (λ d. (d .name, pdef true d) ∷ [])
+
+abbrev pub macros-of : Summary → Map (List Name)
+macros-of = from-summary nothing (λ d. (d .name, d .free-names) ∷ []) nothing
+
+abbrev pub triggers-of : Summary → Map (List (List Name))
+triggers-of = from-summary (λ f. on-kind nothing ((f .name, map from-list (f .triggers)) ∷ []) (f .kind)) nothing nothing
+
+module _ {A : Type 0} where
+  -- a single binding
+  once : {key : Name} {x : A} → Functional ((key, x) ∷ [])
+  once k a b m n = ap (λ (y : Name × A). y .1) (List·Memᴰ·eq-of-singleton m ∙ sym (List·Memᴰ·eq-of-singleton n))
+
+  -- its key
+  its-key : {key k : Name} {x a : A} → List·Memᴰ {A = Name × A} (k, a) ((key, x) ∷ []) → List·Memᴰ k (key ∷ [])
+  its-key m = List·Memᴰ·head (ap (λ (y : Name × A). y .0) (List·Memᴰ·eq-of-singleton m))
+
+  -- no binding
+  no-binding : Functional {A = A} []
+  no-binding k a b m n = absurd (List·Memᴰ·not-nil m)
+
+names-taken : (s : Summary) (k : Name) (a : Passumption) → List·Memᴰ (k, a) (names-of s) → List·Memᴰ k (taken-by s)
+unfolding taken-by
+names-taken (Sum-assume f) k a m = its-key m
+names-taken (Sum-definefun d) k a m = absurd (List·Memᴰ·not-nil m)
+names-taken (Sum-declfun d) k a m = absurd (List·Memᴰ·not-nil m)
+names-taken (Sum-retain names) k a m = absurd (List·Memᴰ·not-nil m)
+
+names-once : (s : Summary) → Functional (names-of s)
+names-once (Sum-assume f) = once
+names-once (Sum-definefun d) = no-binding
+names-once (Sum-declfun d) = no-binding
+names-once (Sum-retain names) = no-binding
+
+defs-taken : (s : Summary) (k : Name) (a : Pdef) → List·Memᴰ (k, a) (defs-of s) → List·Memᴰ k (taken-by s)
+unfolding taken-by
+defs-taken (Sum-assume f) k a m = absurd (List·Memᴰ·not-nil m)
+defs-taken (Sum-definefun d) k a m = its-key m
+defs-taken (Sum-declfun d) k a m = its-key m
+defs-taken (Sum-retain names) k a m = absurd (List·Memᴰ·not-nil m)
+
+defs-once : (s : Summary) → Functional (defs-of s)
+defs-once (Sum-assume f) = no-binding
+defs-once (Sum-definefun d) = once
+defs-once (Sum-declfun d) = once
+defs-once (Sum-retain names) = no-binding
+
+macros-taken : (s : Summary) (k : Name) (a : List Name) → List·Memᴰ (k, a) (macros-of s) → List·Memᴰ k (taken-by s)
+unfolding taken-by
+macros-taken (Sum-assume f) k a m = absurd (List·Memᴰ·not-nil m)
+macros-taken (Sum-definefun d) k a m = its-key m
+macros-taken (Sum-declfun d) k a m = absurd (List·Memᴰ·not-nil m)
+macros-taken (Sum-retain names) k a m = absurd (List·Memᴰ·not-nil m)
+
+macros-once : (s : Summary) → Functional (macros-of s)
+macros-once (Sum-assume f) = no-binding
+macros-once (Sum-definefun d) = once
+macros-once (Sum-declfun d) = no-binding
+macros-once (Sum-retain names) = no-binding
+
+triggers-taken : (s : Summary) (k : Name) (a : List (List Name)) → List·Memᴰ (k, a) (triggers-of s) → List·Memᴰ k (taken-by s)
+unfolding taken-by
+triggers-taken (Sum-assume f) k a m = its-key (triggers-elim ((f .name, map from-list (f .triggers)) ∷ []) (f .kind) m)
+triggers-taken (Sum-definefun d) k a m = absurd (List·Memᴰ·not-nil m)
+triggers-taken (Sum-declfun d) k a m = absurd (List·Memᴰ·not-nil m)
+triggers-taken (Sum-retain names) k a m = absurd (List·Memᴰ·not-nil m)
+
+triggers-once : (s : Summary) → Functional (triggers-of s)
+triggers-once (Sum-assume f) = λ k a b m n. once k a b (triggers-elim ((f .name, map from-list (f .triggers)) ∷ []) (f .kind) m) (triggers-elim ((f .name, map from-list (f .triggers)) ∷ []) (f .kind) n)
+triggers-once (Sum-definefun d) = no-binding
+triggers-once (Sum-declfun d) = no-binding
+triggers-once (Sum-retain names) = no-binding
+
+-- the waiting facts that a summary adds
+waiting-of : Name → Summary → List Passumption
+waiting-of n = from-summary (λ f. on-kind nothing (entries-of (λ t. cond (same t n) (passumption f ∷ []) []) (f .triggers)) (f .kind)) nothing nothing
+
+-- the ambient roots that it adds
+roots-of : Summary → List Passumption
+roots-of = from-summary (λ f. on-kind (λ r. cond r (passumption f ∷ []) []) [] (f .kind)) nothing nothing
+
+-- a fact that a summary adds to those that wait on a name lists it
+waiting-of-elim : {decls : List Summary} {a : Passumption} (n : Name) (s : Summary) → List·Memᴰ s decls → List·Memᴰ a (waiting-of n s) → (f : Fact) × List·Memᴰ (Sum-assume f) decls × List·Memᴰ n (listed f) × (a ≡ passumption f)
+unfolding waiting-of listed
+waiting-of-elim n (Sum-assume f) i m =
+    let new : Name → List Passumption = λ t. cond (same t n) (passumption f ∷ []) [] in
+    let (t, j, o) = entries-elim new (f .triggers) (triggers-elim (entries-of new (f .triggers)) (f .kind) m) in
+    let (h, e) = cond-itself (same t n) o in
+    (f, i, Memᴰ·cast (sym (same-eq h)) j, e)
+waiting-of-elim n (Sum-definefun d) i m = absurd (List·Memᴰ·not-nil m)
+waiting-of-elim n (Sum-declfun d) i m = absurd (List·Memᴰ·not-nil m)
+waiting-of-elim n (Sum-retain names) i m = absurd (List·Memᴰ·not-nil m)
+
+-- what an ambient adds where it is a root
+ambient-elim : {A : Type 0} {x y : A} (k : AsumKind) → List·Memᴰ y (on-kind (λ r. cond r (x ∷ []) []) [] k) → T (is-ambient-root k) × (y ≡ x)
+unfolding is-ambient-root
+ambient-elim Drop m = absurd (List·Memᴰ·not-nil m)
+ambient-elim (Ambient r) m = cond-itself r m
+ambient-elim (Triggers n) m = absurd (List·Memᴰ·not-nil m)
+
+ambient-intro : {A : Type 0} (x : A) (k : AsumKind) → T (is-ambient-root k) → List·Memᴰ x (on-kind (λ r. cond r (x ∷ []) []) [] k)
+unfolding is-ambient-root
+ambient-intro x Drop t = absurd t
+ambient-intro x (Ambient r) t = itself-cond r x t
+ambient-intro x (Triggers n) t = absurd t
+
+roots-of-elim : {decls : List Summary} {a : Passumption} (s : Summary) → List·Memᴰ s decls → List·Memᴰ a (roots-of s) → (f : Fact) × List·Memᴰ (Sum-assume f) decls × T (is-ambient-root (f .kind)) × (a ≡ passumption f)
+unfolding roots-of
+roots-of-elim (Sum-assume f) i m = let (t, e) = ambient-elim (f .kind) m in (f, i, t, e)
+roots-of-elim (Sum-definefun d) i m = absurd (List·Memᴰ·not-nil m)
+roots-of-elim (Sum-declfun d) i m = absurd (List·Memᴰ·not-nil m)
+roots-of-elim (Sum-retain names) i m = absurd (List·Memᴰ·not-nil m)
+
+module _ {roots : List Root} (decls : List Summary) (w : Well-formed decls roots) where
+  -- facts of one name are one fact
+  pub one-fact : {f g : Fact} → List·Memᴰ f (facts decls) → List·Memᴰ g (facts decls) → f .name ≡ g .name → f ≡ g
+  unfolding taken-by
+  one-fact {f} {g} m n e =
+      let s : Sum-assume f ≡ Sum-assume g = one-summary decls (w .distinct) {n = f .name} (fact-summary decls m) (fact-summary decls n) (List·Memᴰ·head refl) (List·Memᴰ·head e) in
+      cc
+
+  -- the state finds a fact by its name
+  pub finds-fact : (b : Bool) {f : Fact} → List·Memᴰ f (facts decls) → try-find (add-summaries b decls init .assumption-name-map) (f .name) ≡ some (passumption f)
+  finds-fact b {f} m =
+      let u = taken-once decls (w .distinct) names-of names-taken names-once in
+      rw (filed-names, lookup decls (w .distinct) names-of [] u (f .name), append-nil)
+      (try-find-intro (collect names-of decls) u (collect-intro names-of (fact-summary decls m) (List·Memᴰ·head refl)))
+
+  -- what it finds by a name is a fact
+  pub fact-found : (b : Bool) (n : Name) {a : Passumption} → try-find (add-summaries b decls init .assumption-name-map) n ≡ some a → (f : Fact) × List·Memᴰ f (facts decls) × (n ≡ f .name) × (a ≡ passumption f)
+  fact-found b n {a} e =
+      let m : List·Memᴰ (n, a) (collect names-of (reverse decls)) = rw (filed-names, append-nil) at (try-find-elim (add-summaries b decls init .assumption-name-map) n e) in
+      let (s, i, j) = collect-elim names-of decls (collect-reverse-elim names-of decls m) in
+      go s i j
+    where
+      go : (s : Summary) → List·Memᴰ s decls → List·Memᴰ (n, a) (names-of s) → (f : Fact) × List·Memᴰ f (facts decls) × (n ≡ f .name) × (a ≡ passumption f)
+      go (Sum-assume f) i j = let e = List·Memᴰ·eq-of-singleton j in (f, summary-fact decls i, ap (λ (y : Name × Passumption). y .0) e, ap (λ (y : Name × Passumption). y .1) e)
+      go (Sum-definefun d) i j = absurd (List·Memᴰ·not-nil j)
+      go (Sum-declfun d) i j = absurd (List·Memᴰ·not-nil j)
+      go (Sum-retain names) i j = absurd (List·Memᴰ·not-nil j)
+
+  -- a fact that lists a name waits for its own disjuncts
+  pub finds-triggers : (b : Bool) {f : Fact} {n : Name} → List·Memᴰ f (facts decls) → List·Memᴰ n (listed f) → try-find (add-summaries b decls init .assumption-to-triggers) (f .name) ≡ some (f .triggers)
+  unfolding listed
+  finds-triggers b {f} m i =
+      let u = taken-once decls (w .distinct) triggers-of triggers-taken triggers-once in
+      let g = w .good-facts f m in
+      rw (filed-triggers, lookup decls (w .distinct) triggers-of [] u (f .name), append-nil)
+      (try-find-intro (collect triggers-of decls) u
+      (collect-intro triggers-of (fact-summary decls m) (triggers-intro (f .kind) (f .triggers) (g .no-triggers) i (List·Memᴰ·head (λ j. (f .name, sym (sets-again (f .triggers) (g .trigger-sets)) j))))))
+
+  -- the facts that wait on a name list it
+  pub waits-elim : (b : Bool) (n : Name) {a : Passumption} → List·Memᴰ a (waiting (add-summaries b decls init) n) → (f : Fact) × List·Memᴰ f (facts decls) × List·Memᴰ n (listed f) × (a ≡ passumption f)
+  unfolding waiting-of
+  waits-elim b n m =
+      let (s, i, j) = collect-elim (waiting-of n) decls (collect-reverse-elim (waiting-of n) decls (rw (filed-waiting, append-nil) at m)) in
+      let (f, k, l, e) = waiting-of-elim n s i j in
+      (f, summary-fact decls k, l, e)
+
+  -- and the facts that list it wait on it
+  pub waits-intro : (b : Bool) (n : Name) {f : Fact} → List·Memᴰ f (facts decls) → List·Memᴰ n (listed f) → List·Memᴰ (passumption f) (waiting (add-summaries b decls init) n)
+  unfolding waiting-of listed
+  waits-intro b n {f} m i =
+      rw (filed-waiting, append-nil)
+      (collect-reverse-intro (waiting-of n) decls
+      (collect-intro (waiting-of n) (fact-summary decls m) (triggers-intro (f .kind) (f .triggers) (w .good-facts f m .no-triggers) i (entries-intro (λ t. cond (same t n) (passumption f ∷ []) []) (f .triggers) i (itself-cond (same n n) (passumption f) (same-refl n))))))
+
+  -- the state's macros are the file's
+  pub finds-macro : (b : Bool) (n : Name) → try-find (add-summaries b decls init .macro-freenames) n ≡ try-find (macros decls) n
+  unfolding macros
+  finds-macro b n =
+      rw (filed-macros, lookup decls (w .distinct) macros-of init-macro-freenames (taken-once decls (w .distinct) macros-of macros-taken macros-once) n, macros-collect)
+
+  -- its extra roots are the ambient roots
+  pub extra-root-elim : (b : Bool) {a : Passumption} → List·Memᴰ a (add-summaries b decls init .extra-roots) → (f : Fact) × List·Memᴰ f (facts decls) × T (is-ambient-root (f .kind)) × (a ≡ passumption f)
+  unfolding roots-of
+  extra-root-elim b m =
+      let (s, i, j) = collect-elim roots-of decls (collect-reverse-elim roots-of decls (rw (filed-roots, append-nil) at m)) in
+      let (f, k, l, e) = roots-of-elim s i j in
+      (f, summary-fact decls k, l, e)
+
+  pub extra-root-intro : (b : Bool) {f : Fact} → List·Memᴰ f (facts decls) → T (is-ambient-root (f .kind)) → List·Memᴰ (passumption f) (add-summaries b decls init .extra-roots)
+  unfolding roots-of
+  extra-root-intro b {f} m t =
+      rw (filed-roots, append-nil)
+      (collect-reverse-intro roots-of decls (collect-intro roots-of (fact-summary decls m) (ambient-intro (passumption f) (f .kind) t)))
+
+  -- each name that a fact lists is bound, so the map is no shorter than the distinct names are many
+  pub bound-keys : (b : Bool) → length (from-list (filed (facts decls))) ≤ length (add-summaries b decls init .trigger-to-assumption)
+  unfolding filed listed
+  bound-keys b = omega (arith, inside, from-list-length all-keys, length-map (add-summaries b decls init .trigger-to-assumption) (λ (x : Name × List Passumption). x .0))
+    where
+      all-keys : List Name
+      all-keys = keys (add-summaries b decls init)
+
+      new : Summary → List Name
+      new = from-summary (λ f. on-kind nothing (entries-of itself (f .triggers)) (f .kind)) nothing nothing
+
+      within : (n : Name) → T (mem n (filed (facts decls))) → T (mem n all-keys)
+      within n t =
+          let (f, i, j) = collect-elim listed (facts decls) (mem-elim t) in
+          mem-intro (rw (filed-keys, append-nil) (collect-reverse-intro new decls (collect-intro new (fact-summary decls i) (triggers-intro (f .kind) (f .triggers) (w .good-facts f i .no-triggers) j (entries-intro itself (f .triggers) j (List·Memᴰ·head refl))))))
+
+      inside : length (from-list (filed (facts decls))) ≤ length (from-list all-keys)
+      inside = subset-length (ascending-from-list (filed (facts decls))) (ascending-from-list all-keys) (λ n t. mem-from-list n all-keys .1 (within n (mem-from-list n (filed (facts decls)) .0 t)))
