@@ -1,3 +1,4 @@
 pub mod MapLaws
 pub mod Filing
 pub mod Filed
+pub mod ScanSteps

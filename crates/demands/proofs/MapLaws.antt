@@ -8,8 +8,8 @@ use mathlib.Core.Option.{Option, none, some}
 use lib.Dec.{T, T-not}
 use Rattle.model.specs.Lists.{keep, collect, fold-left, or-else}
 use Rattle.model.specs.Names.{Name, same}
-use Rattle.model.specs.Pruning.{Map, try-find}
-use Rattle.model.proofs.ListLaws.{T-dec, cond-true, cond-false, cond-ap, collect-append, collect-intro, collect-elim, keep-elim}
+use Rattle.model.specs.Pruning.{Map, try-find, map-remove}
+use Rattle.model.proofs.ListLaws.{T-dec, true-T, cond-true, cond-false, cond-ap, collect-append, collect-intro, collect-elim, keep-elim}
 use Rattle.model.proofs.SetLaws.{same-eq, eq-same}
 use Rattle.demands.specs.Accepted.{Distinct, none as no-more, one-more}
 
@@ -164,3 +164,24 @@ module _ {A : Type 0} where
   unfolding try-find or-else
   try-find-append [] m k = refl
   try-find-append ((key, a) ∷ l) m k = rw (try-find-append l m k) (sym (cond-ap (λ (o : Option A). or-else o (try-find m k)) (same key k) (some a) (try-find l k)))
+
+  -- what is found after a key is removed
+  pub try-find-remove : (m : Map A) (key k : Name) → try-find (map-remove m key) k ≡ cond (same key k) none (try-find m k)
+  unfolding map-remove keep try-find
+  try-find-remove [] key k = go (same key k)
+    where
+      go : (b : Bool) → _≡_ {A = Option A} none (cond b none none)
+      go true = refl
+      go false = refl
+  try-find-remove ((k′, a) ∷ m) key k = go (same k′ key) (same k′ k) (same key k) refl refl refl (try-find-remove m key k)
+    where
+      go : (x y z : Bool) → same k′ key ≡ x → same k′ k ≡ y → same key k ≡ z → try-find (map-remove m key) k ≡ cond z none (try-find m k)
+          → try-find (cond (not x) ((k′, a) ∷ map-remove m key) (map-remove m key)) k ≡ cond z none (cond y (some a) (try-find m k))
+      go true true true p q r h = h
+      go true true false p q r h = absurd (rw r at (eq-same (sym (same-eq (true-T p)) ∙ same-eq (true-T q))))
+      go true false true p q r h = h
+      go true false false p q r h = h
+      go false true true p q r h = absurd (rw p at (eq-same (same-eq (true-T q) ∙ sym (same-eq (true-T r)))))
+      go false true false p q r h = rw q
+      go false false true p q r h = rw q h
+      go false false false p q r h = rw q h
