@@ -2,3 +2,4 @@ pub mod MapLaws
 pub mod Filing
 pub mod Filed
 pub mod ScanSteps
+pub mod ScanRounds

@@ -23,7 +23,6 @@ pub record Laws (P : PruningState) (ms : Map (List Name)) (fs : List Fact) : Typ
   pub left : {f : Fact} {n : Name} → List·Memᴰ f fs → List·Memᴰ n (listed f) → try-find (P .assumption-to-triggers) (f .name) ≡ some (f .triggers)
   pub opens : (n : Name) → try-find (P .macro-freenames) n ≡ try-find ms n
   pub one-fact : {f g : Fact} → List·Memᴰ f fs → List·Memᴰ g fs → f .name ≡ g .name → f ≡ g
-  pub free-set : {f : Fact} → List·Memᴰ f fs → from-list (f .free-names) ≡ f .free-names
 
 -- the met names and one more
 abbrev pub with-name : Name → (Name → Bool) → Name → Bool
@@ -269,7 +268,7 @@ module _ {P : PruningState} {ms : Map (List Name)} {fs : List Fact} (laws : Laws
       go (untold e k) = absurd (List·Memᴰ·not-nil k)
 
 -- general law: what holds of both branches, each under its test, holds of the branch taken
-branch : {A : Type 0} (R : A → Type 0) (b : Bool) (x y : A) → (T b → R x) → (T (not b) → R y) → R (cond b x y)
+pub branch : {A : Type 0} (R : A → Type 0) (b : Bool) (x y : A) → (T b → R x) → (T (not b) → R y) → R (cond b x y)
 branch R true x y h k = h tt
 branch R false x y h k = k tt
 
