@@ -3,3 +3,5 @@ pub mod Filing
 pub mod Filed
 pub mod ScanSteps
 pub mod ScanRounds
+pub mod ScanFile
+pub mod Demand2

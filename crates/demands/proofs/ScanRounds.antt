@@ -190,11 +190,11 @@ moved i e e′ =
     }
 
 -- the names free in a fact, in its `passumption`
-fact-free : (f : Fact) (n : Name) → List·Memᴰ n (f .free-names) → List·Memᴰ n (passumption f .pa-free-names)
+pub fact-free : (f : Fact) (n : Name) → List·Memᴰ n (f .free-names) → List·Memᴰ n (passumption f .pa-free-names)
 unfolding passumption
 fact-free f n m = mem-elim (mem-from-list n (f .free-names) .1 (mem-intro m))
 
-free-fact : (f : Fact) (n : Name) → List·Memᴰ n (passumption f .pa-free-names) → List·Memᴰ n (f .free-names)
+pub free-fact : (f : Fact) (n : Name) → List·Memᴰ n (passumption f .pa-free-names) → List·Memᴰ n (f .free-names)
 unfolding passumption
 free-fact f n m = mem-elim (mem-from-list n (f .free-names) .0 (mem-intro m))
 
