@@ -11,7 +11,8 @@ use lib.ListN.{length, length-map}
 use Rattle.model.specs.Lists.{keep, concat, collect, fold-left, or-else, to-list}
 use Rattle.model.specs.Names.{Name, same, mem, add, add-by, from-list, union}
 use Rattle.model.specs.Summaries.{Fact}
-use Rattle.model.specs.Reading.{Root, Decl, Summary, Sum-assume, Sum-definefun, Sum-declfun, Sum-retain, taken-by}
+use Rattle.model.specs.Kept.{ambients}
+use Rattle.model.specs.Reading.{Ask, no-ambients, Root, Decl, Summary, Sum-assume, Sum-definefun, Sum-declfun, Sum-retain, taken-by}
 use Rattle.model.specs.Pruning.{Map, try-find, Passumption, Pdef, PruningState, init, init-macro-freenames, passumption, add-summaries}
 use Rattle.model.specs.Rounds.{facts, definitions, declarations, macros, listed, filed, is-ambient, is-ambient-root}
 use Rattle.model.specs.declared.AsumKind.{AsumKind}
@@ -20,7 +21,7 @@ use Rattle.model.specs.declared.Order.{Order}
 use Rattle.model.specs.declared.Order.the-variants.{Before, Same, After}
 use Rattle.model.proofs.ListLaws.{T-dec, cond-true, cond-false, cond-ap, collect-append, collect-intro, collect-elim, concat-intro, concat-elim, keep-intro, keep-elim, map-intro, map-elim}
 use Rattle.model.proofs.SetLaws.{same-eq, eq-same, same-refl, mem-intro, mem-elim, mem-from-list, Ascending, ascending-from-list, subset-length, from-list-ascending, compared, Compared, first, equal, second}
-use Rattle.demands.specs.Accepted.{Distinct, one-more, Good-fact, Well-formed, Without-triggers}
+use Rattle.demands.specs.Accepted.{Distinct, none as no-more, one-more, Good-fact, Well-formed, Without-triggers}
 use Rattle.demands.proofs.MapLaws.{collect-reverse-intro, collect-reverse-elim, collect-reverse, map-reverse, reverse-intro, reverse-elim, distinct-collect, distinct-right, Functional, Found, bound, unbound, found, try-find-intro, try-find-elim, try-find-same, try-find-append}
 use Rattle.demands.proofs.Filing.{from-summary, on-kind, nothing, itself, waiting, entries-of, keys, filed-names, filed-defs, filed-macros, filed-triggers, filed-ambients, filed-roots, filed-waiting, filed-keys, fact-summary, summary-fact, definition-summary, summary-definition, declaration-summary, summary-declaration}
 
@@ -229,6 +230,11 @@ roots-of-elim (Sum-definefun d) i m = absurd (List·Memᴰ·not-nil m)
 roots-of-elim (Sum-declfun d) i m = absurd (List·Memᴰ·not-nil m)
 roots-of-elim (Sum-retain names) i m = absurd (List·Memᴰ·not-nil m)
 
+-- a definition or declaration of the file, as it is found under its name
+pub data Declared (decls : List Summary) (n : Name) (x : Pdef) : Type 0 where
+  definition : {d : Decl} → List·Memᴰ d (definitions decls) → n ≡ d .name → x ≡ pdef false d → Declared decls n x
+  declaration : {d : Decl} → List·Memᴰ d (declarations decls) → n ≡ d .name → x ≡ pdef true d → Declared decls n x
+
 module _ {roots : List Root} (decls : List Summary) (w : Well-formed decls roots) where
   -- facts of one name are one fact
   pub one-fact : {f g : Fact} → List·Memᴰ f (facts decls) → List·Memᴰ g (facts decls) → f .name ≡ g .name → f ≡ g
@@ -321,3 +327,84 @@ module _ {roots : List Root} (decls : List Summary) (w : Well-formed decls roots
 
       inside : length (from-list (filed (facts decls))) ≤ length (from-list all-keys)
       inside = subset-length (ascending-from-list (filed (facts decls))) (ascending-from-list all-keys) (λ n t. mem-from-list n all-keys .1 (within n (mem-from-list n (filed (facts decls)) .0 t)))
+
+  -- the state finds a definition by its name
+  pub finds-definition : (b : Bool) {d : Decl} → List·Memᴰ d (definitions decls) → try-find (add-summaries b decls init .defs-and-decls-map) (d .name) ≡ some (pdef false d)
+  finds-definition b {d} m =
+      let u = taken-once decls (w .distinct) defs-of defs-taken defs-once in
+      rw (filed-defs, lookup decls (w .distinct) defs-of [] u (d .name), append-nil)
+      (try-find-intro (collect defs-of decls) u (collect-intro defs-of (definition-summary decls m) (List·Memᴰ·head refl)))
+
+  -- and a declaration
+  pub finds-declaration : (b : Bool) {d : Decl} → List·Memᴰ d (declarations decls) → try-find (add-summaries b decls init .defs-and-decls-map) (d .name) ≡ some (pdef true d)
+  finds-declaration b {d} m =
+      let u = taken-once decls (w .distinct) defs-of defs-taken defs-once in
+      rw (filed-defs, lookup decls (w .distinct) defs-of [] u (d .name), append-nil)
+      (try-find-intro (collect defs-of decls) u (collect-intro defs-of (declaration-summary decls m) (List·Memᴰ·head refl)))
+
+  -- what it finds under a name is a definition or a declaration of that name
+  pub declared : (b : Bool) (n : Name) {x : Pdef} → try-find (add-summaries b decls init .defs-and-decls-map) n ≡ some x → Declared decls n x
+  declared b n {x} e =
+      let m : List·Memᴰ (n, x) (collect defs-of (reverse decls)) = rw (filed-defs, append-nil) at (try-find-elim (add-summaries b decls init .defs-and-decls-map) n e) in
+      let (s, i, j) = collect-elim defs-of decls (collect-reverse-elim defs-of decls m) in
+      go s i j
+    where
+      go : (s : Summary) → List·Memᴰ s decls → List·Memᴰ (n, x) (defs-of s) → Declared decls n x
+      go (Sum-assume f) i j = absurd (List·Memᴰ·not-nil j)
+      go (Sum-definefun d) i j = let e = List·Memᴰ·eq-of-singleton j in definition (summary-definition decls i) (ap (λ (y : Name × Pdef). y .0) e) (ap (λ (y : Name × Pdef). y .1) e)
+      go (Sum-declfun d) i j = let e = List·Memᴰ·eq-of-singleton j in declaration (summary-declaration decls i) (ap (λ (y : Name × Pdef). y .0) e) (ap (λ (y : Name × Pdef). y .1) e)
+      go (Sum-retain names) i j = absurd (List·Memᴰ·not-nil j)
+
+-- the facts have distinct names
+pub distinct-facts : (decls : List Summary) → Distinct (collect taken-by decls) → Distinct (map (λ f. f .name) (facts decls))
+unfolding collect taken-by facts
+distinct-facts [] d = no-more
+distinct-facts (Sum-assume f ∷ decls) (one-more n d) = one-more (λ m. let (g, i, e) = map-elim (λ (f : Fact). f .name) (facts decls) m in n (collect-intro taken-by (fact-summary decls i) (List·Memᴰ·head (sym e)))) (distinct-facts decls d)
+distinct-facts (Sum-definefun f ∷ decls) (one-more n d) = distinct-facts decls d
+distinct-facts (Sum-declfun f ∷ decls) (one-more n d) = distinct-facts decls d
+distinct-facts (Sum-retain names ∷ decls) d = distinct-facts decls d
+
+-- the ambients' names, collected
+ambients-collect : (b : Bool) (decls : List Summary) → collect (from-summary (λ f. on-kind (λ r. cond b [] (f .name ∷ [])) [] (f .kind)) nothing nothing) decls ≡ map (λ f. f .name) (cond b [] (keep (λ f. is-ambient (f .kind)) (facts decls)))
+unfolding collect facts keep is-ambient
+ambients-collect true [] = refl
+ambients-collect false [] = refl
+ambients-collect b (Sum-definefun f ∷ decls) = ambients-collect b decls
+ambients-collect b (Sum-declfun f ∷ decls) = ambients-collect b decls
+ambients-collect b (Sum-retain names ∷ decls) = ambients-collect b decls
+ambients-collect b (Sum-assume f ∷ decls) = rw (ambients-collect b decls) (go b (f .kind))
+  where
+    go : (b : Bool) (k : AsumKind) → on-kind (λ r. cond b [] (f .name ∷ [])) [] k ++ map (λ f. f .name) (cond b [] (keep (λ f. is-ambient (f .kind)) (facts decls))) ≡ map (λ f. f .name) (cond b [] (cond (is-ambient k) (f ∷ keep (λ f. is-ambient (f .kind)) (facts decls)) (keep (λ f. is-ambient (f .kind)) (facts decls))))
+    go true Drop = refl
+    go true (Ambient r) = refl
+    go true (Triggers n) = refl
+    go false Drop = refl
+    go false (Ambient r) = refl
+    go false (Triggers n) = refl
+
+-- the state's ambients are the file's, last filed first
+pub filed-ambient-names : (a : Ask) (decls : List Summary) → add-summaries (no-ambients a) decls init .ambients ≡ map (λ f. f .name) (ambients a (facts decls))
+unfolding ambients
+filed-ambient-names a decls =
+    filed-ambients (no-ambients a) decls ∙ append-nil (collect (new (no-ambients a)) (reverse decls))
+    ∙ collect-reverse (new (no-ambients a)) (short (no-ambients a)) decls ∙ ap reverse (ambients-collect (no-ambients a) decls)
+    ∙ turned (no-ambients a) (keep (λ f. is-ambient (f .kind)) (facts decls))
+  where
+    new : Bool → Summary → List Name
+    new b = from-summary (λ f. on-kind (λ r. cond b [] (f .name ∷ [])) [] (f .kind)) nothing nothing
+
+    short-kind : (b : Bool) (n : Name) (k : AsumKind) → reverse (on-kind (λ r. cond b [] (n ∷ [])) [] k) ≡ on-kind (λ r. cond b [] (n ∷ [])) [] k
+    short-kind b n Drop = refl
+    short-kind true n (Ambient r) = refl
+    short-kind false n (Ambient r) = refl
+    short-kind b n (Triggers k) = refl
+
+    short : (b : Bool) (s : Summary) → reverse (new b s) ≡ new b s
+    short b (Sum-assume f) = short-kind b (f .name) (f .kind)
+    short b (Sum-definefun d) = refl
+    short b (Sum-declfun d) = refl
+    short b (Sum-retain names) = refl
+
+    turned : (b : Bool) (l : List Fact) → reverse (map (λ f. f .name) (cond b [] l)) ≡ map (λ f. f .name) (cond b [] (reverse l))
+    turned true l = refl
+    turned false l = sym (map-reverse (λ f. f .name) l)

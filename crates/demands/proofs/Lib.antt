@@ -4,4 +4,5 @@ pub mod Filed
 pub mod ScanSteps
 pub mod ScanRounds
 pub mod ScanFile
+pub mod Pruned
 pub mod Demand2

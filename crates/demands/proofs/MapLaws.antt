@@ -1,6 +1,6 @@
 -- Laws of maps, of lists that hold nothing twice, and of folds that put elements in front.
 use Prim.Native.Nat.{ℕ}
-use mathlib.Core.Path.{_≡_, refl, sym, _∙_, ap}
+use mathlib.Core.Path.{_≡_, refl, sym, _∙_, ap, ap₂}
 use mathlib.Core.Logic.{_⊎_, inl, inr, ⊎-elim}
 use mathlib.Core.Bool.{Bool, true, false, cond, not}
 use mathlib.Core.List.{List, [], _∷_, _++_, map, reverse, reverseAux, reverse-cons, reverse-append, map-append, append-assoc, append-nil, List·Memᴰ, List·Memᴰ·head, List·Memᴰ·tail, List·Memᴰ·cases-cons, List·Memᴰ·not-nil, List·Memᴰ·append-cases, Memᴰ·append-left, Memᴰ·append-right, Memᴰ·cast}
@@ -9,7 +9,7 @@ use lib.Dec.{T, T-not}
 use Rattle.model.specs.Lists.{keep, collect, fold-left, or-else}
 use Rattle.model.specs.Names.{Name, same}
 use Rattle.model.specs.Pruning.{Map, try-find, map-remove}
-use Rattle.model.proofs.ListLaws.{T-dec, true-T, cond-true, cond-false, cond-ap, collect-append, collect-intro, collect-elim, keep-elim}
+use Rattle.model.proofs.ListLaws.{T-dec, true-T, cond-true, cond-false, cond-ap, collect-append, collect-intro, collect-elim, keep-elim, fold-left-append, map-intro, map-elim}
 use Rattle.model.proofs.SetLaws.{same-eq, eq-same}
 use Rattle.demands.specs.Accepted.{Distinct, none as no-more, one-more}
 
@@ -100,6 +100,57 @@ module _ {A B : Type 0} where
       go below (inl e) (inr n′) = absurd (distinct-apart (f w) (collect f l) d (rw e at i) (collect-intro f n′ j))
       go below (inr m′) (inl e) = absurd (distinct-apart (f w) (collect f l) d (rw e at j) (collect-intro f m′ i))
       go below (inr m′) (inr n′) = below m′ n′ i j
+
+module _ {A B : Type 0} where
+  -- general law: a function of what is collected is collected
+  pub map-collect : {C : Type 0} (g : B → C) (f : A → List B) (l : List A) → map g (collect f l) ≡ collect (λ x. map g (f x)) l
+  unfolding collect
+  map-collect g f [] = refl
+  map-collect g f (x ∷ l) = rw (map-append, map-collect g f l)
+
+  -- general law: functions that agree on the members collect the same
+  pub collect-cong : (f g : A → List B) (l : List A) → ((x : A) → List·Memᴰ x l → f x ≡ g x) → collect f l ≡ collect g l
+  unfolding collect
+  collect-cong f g [] h = refl
+  collect-cong f g (x ∷ l) h = ap₂ _++_ (h x (List·Memᴰ·head refl)) (collect-cong f g l (λ y m. h y (List·Memᴰ·tail m)))
+
+  -- general law: to collect single elements is to map
+  pub collect-itself : (f : A → B) (l : List A) → collect (λ x. f x ∷ []) l ≡ map f l
+  unfolding collect
+  collect-itself f [] = refl
+  collect-itself f (x ∷ l) = ap (f x ∷_) (collect-itself f l)
+
+  -- general law: to fold over lists, one after the other
+  pub fold-left-collect : {C : Type 0} (g : C → B → C) (h : A → List B) (z : C) (l : List A) → fold-left (λ y x. fold-left g y (h x)) z l ≡ fold-left g z (collect h l)
+  unfolding fold-left collect
+  fold-left-collect g h z [] = refl
+  fold-left-collect g h z (x ∷ l) = fold-left-collect g h (fold-left g z (h x)) l ∙ sym (fold-left-append g z (h x) (collect h l))
+
+  -- general law: what a function gives of the elements kept holds nothing twice where it does of all
+  pub distinct-map-keep : (f : A → B) (test : A → Bool) (l : List A) → Distinct (map f l) → Distinct (map f (keep test l))
+  unfolding keep
+  distinct-map-keep f test [] d = no-more
+  distinct-map-keep f test (x ∷ l) (one-more n d) = go (test x) (distinct-map-keep f test l d)
+    where
+      go : (b : Bool) → Distinct (map f (keep test l)) → Distinct (map f (cond b (x ∷ keep test l) (keep test l)))
+      go true r = one-more (λ m. let (y, i, e) = map-elim f (keep test l) m in n (Memᴰ·cast (sym e) (map-intro f (keep-elim test l i .0)))) r
+      go false r = r
+
+module _ {A : Type 0} (key : A → Name) where
+  -- general law: nothing is kept by a key that nothing has
+  pub keep-none : (n : Name) (l : List A) → (List·Memᴰ n (map key l) → ⊥) → keep (λ x. same (key x) n) l ≡ []
+  unfolding keep
+  keep-none n [] h = refl
+  keep-none n (x ∷ l) h = cond-false (same (key x) n) (x ∷ keep (λ x. same (key x) n) l) (keep (λ x. same (key x) n) l) (⊎-elim (λ t. absurd (h (List·Memᴰ·head (sym (same-eq t))))) (λ t. t) (T-dec (same (key x) n))) ∙ keep-none n l (λ m. h (List·Memᴰ·tail m))
+
+  -- general law: by a key that one element has, this is kept
+  pub keep-one : (x : A) (l : List A) → Distinct (map key l) → List·Memᴰ x l → keep (λ y. same (key y) (key x)) l ≡ x ∷ []
+  unfolding keep
+  keep-one x [] d m = absurd (List·Memᴰ·not-nil m)
+  keep-one x (y ∷ l) (one-more n d) m = ⊎-elim
+      (λ e. cond-true (same (key y) (key x)) (y ∷ keep (λ y. same (key y) (key x)) l) (keep (λ y. same (key y) (key x)) l) (eq-same (ap key (sym e))) ∙ ap₂ _∷_ (sym e) (keep-none (key x) l (λ i. n (Memᴰ·cast (ap key (sym e)) i))))
+      (λ i. cond-false (same (key y) (key x)) (y ∷ keep (λ y. same (key y) (key x)) l) (keep (λ y. same (key y) (key x)) l) (⊎-elim (λ t. absurd (n (Memᴰ·cast (same-eq t) (map-intro key i)))) (λ t. t) (T-dec (same (key y) (key x)))) ∙ keep-one x l d i)
+      (List·Memᴰ·cases-cons m)
 
 module _ {A : Type 0} where
   -- a map that binds each key once
