@@ -13,7 +13,7 @@ use Rattle.model.specs.Summaries.{Fact}
 use Rattle.model.specs.Reading.{Ask, no-ambients, pretyping-axioms, prune-decls, Root, Decl, Summary, Sum-assume, Sum-definefun, Sum-declfun, Sum-retain}
 use Rattle.model.specs.Pruning.{Map, try-find, Passumption, Pdef, PruningState, init, add-summaries, passumption, passumption-of-root, Ctxt, scan, include-found, include-name, decls-and-defs, prune}
 use Rattle.model.specs.Rounds.{facts, definitions, declarations, is-ambient, goal-roots, Run}
-use Rattle.model.specs.Kept.{reached-facts, ambients, kept-facts, kept-names, kept-decls}
+use Rattle.model.specs.Kept.{reached-facts, ambients, kept-facts, kept-names, kept-decls, kept}
 use Rattle.model.proofs.ListLaws.{T-dec, cond-true, cond-false, collect-append, collect-intro, collect-elim, keep-intro, keep-elim, map-intro, map-elim}
 use Rattle.model.proofs.SetLaws.{same-eq, mem-intro, mem-elim, mem-add}
 use Rattle.demands.specs.Accepted.{Distinct, none as no-more, one-more, Well-formed}
@@ -237,3 +237,76 @@ module _ (a : Ask) (decls : List Summary) (roots : List Root) (reached : List Na
       (λ k. let (f, l, e) = map-elim passumption (kept-facts a (facts decls) reached) k in Memᴰ·append-left (collect (λ r. r .free-names) (goal-roots a roots)) (collect-intro (λ (f : Fact). f .free-names) l (free-fact f n (rw e j))))
       (λ k. let (r, l, e) = map-elim passumption-of-root (goal-roots a roots) k in Memᴰ·append-right (collect (λ f. f .free-names) (kept-facts a (facts decls) reached)) (collect-intro (λ (r : Root). r .free-names) l (subst (λ (x : Passumption). List·Memᴰ n (x .pa-free-names)) (sym e) j)))
       (List·Memᴰ·append-cases (map passumption (kept-facts a (facts decls) reached)) i))
+
+-- nothing is the same as nothing
+no-lines : Same-lines [] []
+no-lines = record { to = λ n m. m; from = λ n m. m; once-ours = no-more; once-theirs = no-more }
+
+-- with an option or without, the same lines
+optional : (b : Bool) {l m : List ℕ} → Same-lines l m → Same-lines (cond b l []) (cond b m [])
+optional true s = s
+optional false s = no-lines
+
+-- two parts with an option are two parts, each with the option
+option-append : (b : Bool) (l m : List ℕ) → cond b (l ++ m) [] ≡ cond b l [] ++ cond b m []
+option-append true l m = refl
+option-append false l m = refl
+
+module _ (a : Ask) {roots : List Root} (decls : List Summary) (w : Well-formed decls roots) where
+  -- the list of `prune`: the lines of the kept facts, of definitions, of declarations
+  pub pruned-list : {end : Run} → Scanned (add-summaries (no-ambients a) decls init) (pretyping-axioms a) (first-roots a roots (add-summaries (no-ambients a) decls init .extra-roots)) (record { p = add-summaries (no-ambients a) decls init; reached = [] }) (suc (length (add-summaries (no-ambients a) decls init .trigger-to-assumption))) end
+      → prune (no-ambients a) (pretyping-axioms a) (prune-decls a) (add-summaries (no-ambients a) decls init) (goal-roots a roots)
+      ≡ map (λ f. f .line) (kept-facts a (facts decls) (end .reached)) ++ (pruned-lines (λ d. not (d .pd-is-declfun)) a decls roots (end .reached) ++ pruned-lines (λ d. d .pd-is-declfun) a decls roots (end .reached))
+  unfolding prune
+  pruned-list {end} s =
+      ap list-of
+      (ap₂ (λ (names : Map Passumption) (reached : List Name). collect (λ name. to-list (try-find names name)) (reached ++ P .ambients)) (s .finds) (s .reaches)
+      ∙ kept-assumptions a decls w (end .reached))
+      ∙ ap₂ _++_ (kept-lines a decls w (kept-facts a (facts decls) (end .reached)))
+      (ap (λ (l : List ℕ). cond (prune-decls a) l []) (two-parts (P .defs-and-decls-map) (kept-with-roots a decls roots (end .reached)))
+      ∙ option-append (prune-decls a) (lines-of (λ d. not (d .pd-is-declfun)) (P .defs-and-decls-map) (kept-with-roots a decls roots (end .reached))) (lines-of (λ d. d .pd-is-declfun) (P .defs-and-decls-map) (kept-with-roots a decls roots (end .reached))))
+    where
+      P : PruningState
+      P = add-summaries (no-ambients a) decls init
+
+      list-of : List Passumption → List ℕ
+      list-of l = map (λ x. x .pa-resolve) l ++ cond (prune-decls a) (decls-and-defs (P .defs-and-decls-map) (l ++ map passumption-of-root (goal-roots a roots))) []
+
+  module _ (once : Distinct (collect line-of decls)) (reached : List Name) where
+    -- the same definitions, each once
+    pub same-definitions : Same-lines (cond (prune-decls a) (map (λ d. d .line) (kept-decls (kept-names a (facts decls) roots reached) (definitions decls))) []) (pruned-lines (λ d. not (d .pd-is-declfun)) a decls roots reached)
+    same-definitions = optional (prune-decls a)
+        (same-lines (add-summaries (no-ambients a) decls init .defs-and-decls-map) (kept-with-roots a decls roots reached) (kept-names a (facts decls) roots reached)
+        (names-to a decls roots reached) (names-from a decls roots reached)
+        (λ n m d e p q h. lines-apart decls once (declared decls w (no-ambients a) n p) (declared decls w (no-ambients a) m q) h)
+        (λ d. not (d .pd-is-declfun)) (definitions decls) false (λ d. tt)
+        (λ d m. finds-definition decls w (no-ambients a) m) (λ n x e t. go (declared decls w (no-ambients a) n e) t)
+        (distinct-definitions decls once))
+      where
+        go : {n : Name} {x : Pdef} → Declared decls n x → T (not (x .pd-is-declfun)) → (d : Decl) × List·Memᴰ d (definitions decls) × (n ≡ d .name) × (x ≡ pdef false d)
+        go (definition {d} m p q) t = (d, m, p, q)
+        go (declaration {d} m p q) t = absurd (subst (λ (x : Pdef). T (not (x .pd-is-declfun))) q t)
+
+    -- the same declarations, each once
+    pub same-declarations : Same-lines (cond (prune-decls a) (map (λ d. d .line) (kept-decls (kept-names a (facts decls) roots reached) (declarations decls))) []) (pruned-lines (λ d. d .pd-is-declfun) a decls roots reached)
+    same-declarations = optional (prune-decls a)
+        (same-lines (add-summaries (no-ambients a) decls init .defs-and-decls-map) (kept-with-roots a decls roots reached) (kept-names a (facts decls) roots reached)
+        (names-to a decls roots reached) (names-from a decls roots reached)
+        (λ n m d e p q h. lines-apart decls once (declared decls w (no-ambients a) n p) (declared decls w (no-ambients a) m q) h)
+        (λ d. d .pd-is-declfun) (declarations decls) true (λ d. tt)
+        (λ d m. finds-declaration decls w (no-ambients a) m) (λ n x e t. go (declared decls w (no-ambients a) n e) t)
+        (distinct-declarations decls once))
+      where
+        go : {n : Name} {x : Pdef} → Declared decls n x → T (x .pd-is-declfun) → (d : Decl) × List·Memᴰ d (declarations decls) × (n ≡ d .name) × (x ≡ pdef true d)
+        go (definition {d} m p q) t = absurd (subst (λ (x : Pdef). T (x .pd-is-declfun)) q t)
+        go (declaration {d} m p q) t = (d, m, p, q)
+
+-- document 01's list in its three parts
+pub kept-parts : (a : Ask) (decls : List Summary) (roots : List Root) (reached : List Name) → kept a decls roots reached
+    ≡ map (λ f. f .line) (kept-facts a (facts decls) reached) ++ (cond (prune-decls a) (map (λ d. d .line) (kept-decls (kept-names a (facts decls) roots reached) (definitions decls))) [] ++ cond (prune-decls a) (map (λ d. d .line) (kept-decls (kept-names a (facts decls) roots reached) (declarations decls))) [])
+unfolding kept
+kept-parts a decls roots reached =
+    let names = kept-names a (facts decls) roots reached in
+    ap (map (λ f. f .line) (kept-facts a (facts decls) reached) ++_)
+    (ap (λ (l : List ℕ). cond (prune-decls a) l []) (map-append (λ (d : Decl). d .line) (kept-decls names (definitions decls)) (kept-decls names (declarations decls)))
+    ∙ option-append (prune-decls a) (map (λ d. d .line) (kept-decls names (definitions decls))) (map (λ d. d .line) (kept-decls names (declarations decls))))
