@@ -5,4 +5,5 @@ pub mod ScanSteps
 pub mod ScanRounds
 pub mod ScanFile
 pub mod Pruned
+pub mod RecordLines
 pub mod Demand2
