@@ -1,11 +1,8 @@
 -- The theorems of specs/Demand2.antt.
-use Prim.Native.Nat.{ℕ}
 use mathlib.Core.Bool.{not}
-use mathlib.Core.List.{List}
-use Rattle.model.specs.Reading.{State}
 use Rattle.model.specs.Summaries.{exclude-names}
 use Rattle.model.specs.Rounds.{run}
-use Rattle.demands.specs.Accepted.{Accepted, Accepted-well-formed}
+use Rattle.demands.specs.Accepted.{Accepted-well-formed}
 use Rattle.demands.specs.Demand2.{Scan-ends, Kept-is-pruned}
 use Rattle.demands.specs.Demand3.{Rounds-exact, Rounds-bound}
 use Rattle.demands.proofs.ScanFile.{scanned-file}

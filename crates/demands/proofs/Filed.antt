@@ -1,35 +1,33 @@
 -- What the filed state of well-formed records finds: the laws that the scan and `prune` rest on.
-use Prim.Native.Nat.{ℕ, zero, suc, _≤_}
+use Prim.Native.Nat.{_≤_}
 use native.Mathlib.Omega.{arith}
-use mathlib.Core.Path.{_≡_, refl, sym, _∙_, ap, ap₂}
-use mathlib.Core.Logic.{_⊎_, inl, inr, ⊎-elim}
-use mathlib.Core.Bool.{Bool, true, false, cond, not}
-use mathlib.Core.List.{List, [], _∷_, _++_, map, reverse, append-nil, List·Memᴰ, List·Memᴰ·head, List·Memᴰ·tail, List·Memᴰ·cases-cons, List·Memᴰ·not-nil, List·Memᴰ·append-cases, List·Memᴰ·eq-of-singleton, Memᴰ·append-left, Memᴰ·append-right, Memᴰ·cast}
-use mathlib.Core.Option.{Option, none, some, Option·getD}
-use lib.Dec.{T, T-not}
+use mathlib.Core.Path.{_≡_, refl, sym, _∙_, ap}
+use mathlib.Core.Bool.{Bool, true, false, cond}
+use mathlib.Core.List.{List, [], _∷_, _++_, map, reverse, append-nil, List·Memᴰ, List·Memᴰ·head, List·Memᴰ·not-nil, List·Memᴰ·eq-of-singleton, Memᴰ·cast}
+use mathlib.Core.Option.{some}
+use lib.Dec.{T}
 use lib.ListN.{length, length-map}
-use Rattle.model.specs.Lists.{keep, concat, collect, fold-left, or-else, to-list}
-use Rattle.model.specs.Names.{Name, same, mem, add, add-by, from-list, union}
+use Rattle.model.specs.Lists.{keep, concat, collect}
+use Rattle.model.specs.Names.{Name, same, mem, from-list}
 use Rattle.model.specs.Summaries.{Fact}
 use Rattle.model.specs.Kept.{ambients}
 use Rattle.model.specs.Reading.{Ask, no-ambients, Root, Decl, Summary, Sum-assume, Sum-definefun, Sum-declfun, Sum-retain, taken-by}
-use Rattle.model.specs.Pruning.{Map, try-find, Passumption, Pdef, PruningState, init, init-macro-freenames, passumption, add-summaries}
+use Rattle.model.specs.Pruning.{Map, try-find, Passumption, Pdef, init, init-macro-freenames, passumption, add-summaries}
 use Rattle.model.specs.Rounds.{facts, definitions, declarations, macros, listed, filed, is-ambient, is-ambient-root}
 use Rattle.model.specs.declared.AsumKind.{AsumKind}
 use Rattle.model.specs.declared.AsumKind.the-variants.{Drop, Ambient, Triggers}
-use Rattle.model.specs.declared.Order.{Order}
-use Rattle.model.specs.declared.Order.the-variants.{Before, Same, After}
-use Rattle.model.proofs.ListLaws.{T-dec, cond-true, cond-false, cond-ap, collect-append, collect-intro, collect-elim, concat-intro, concat-elim, keep-intro, keep-elim, map-intro, map-elim}
-use Rattle.model.proofs.SetLaws.{same-eq, eq-same, same-refl, mem-intro, mem-elim, mem-from-list, Ascending, ascending-from-list, subset-length, from-list-ascending, compared, Compared, first, equal, second}
-use Rattle.demands.specs.Accepted.{Distinct, none as no-more, one-more, Good-fact, Well-formed, Without-triggers}
-use Rattle.demands.proofs.MapLaws.{collect-reverse-intro, collect-reverse-elim, collect-reverse, map-reverse, reverse-intro, reverse-elim, distinct-collect, distinct-right, Functional, Found, bound, unbound, found, try-find-intro, try-find-elim, try-find-same, try-find-append}
+use Rattle.model.proofs.ListLaws.{collect-intro, collect-elim, concat-intro, concat-elim, map-elim}
+use Rattle.model.proofs.SetLaws.{same-eq, same-refl, mem-intro, mem-elim, mem-from-list, ascending-from-list, subset-length}
+use Rattle.demands.specs.Accepted.{Distinct, none as no-more, one-more, Well-formed, Without-triggers}
+use Rattle.demands.proofs.MapLaws.{sets-again, from-list-length, collect-reverse-intro, collect-reverse-elim, collect-reverse, map-reverse, reverse-intro, reverse-elim, distinct-collect, Functional, try-find-intro, try-find-elim, try-find-same, try-find-append}
 use Rattle.demands.proofs.Filing.{from-summary, on-kind, nothing, itself, waiting, entries-of, keys, filed-names, filed-defs, filed-macros, filed-triggers, filed-ambients, filed-roots, filed-waiting, filed-keys, fact-summary, summary-fact, definition-summary, summary-definition, declaration-summary, summary-declaration}
 
--- the member of a list of at most one
+-- a member of a list of at most one: the test holds, and it is the element
 cond-itself : {A : Type 0} {x y : A} (b : Bool) → List·Memᴰ y (cond b (x ∷ []) []) → T b × (y ≡ x)
 cond-itself true m = (tt, List·Memᴰ·eq-of-singleton m)
 cond-itself false m = absurd (List·Memᴰ·not-nil m)
 
+-- the element of such a list where the test holds
 itself-cond : {A : Type 0} (b : Bool) (x : A) → T b → List·Memᴰ x (cond b (x ∷ []) [])
 itself-cond true x t = List·Memᴰ·head refl
 itself-cond false x t = absurd t
@@ -61,28 +59,6 @@ module _ {X : Type 0} where
   triggers-intro (Ambient r) ts e m i = absurd (List·Memᴰ·not-nil (rw e at m))
   triggers-intro (Triggers n) ts e m i = i
 
--- general law: sets of names, made sets again, are the same
-sets-again : (ts : List (List Name)) → ((d : List Name) → List·Memᴰ d ts → Ascending d) → map from-list ts ≡ ts
-sets-again [] h = refl
-sets-again (d ∷ ts) h = ap₂ _∷_ (from-list-ascending (h d (List·Memᴰ·head refl))) (sets-again ts (λ e m. h e (List·Memᴰ·tail m)))
-
--- general law: a set with one name more has at most one more
-add-length : (n : Name) (l : List Name) → length (add n l) ≤ suc (length l)
-unfolding add add-by
-add-length n [] = omega arith
-add-length n (m ∷ ms) = go (add-length n ms) (compared n m)
-  where
-    go : length (add n ms) ≤ suc (length ms) → {o : Order} → Compared n m o → length (add-by o n m ms (add n ms)) ≤ suc (suc (length ms))
-    go h (first p) = omega arith
-    go h (equal e) = omega arith
-    go h (second p) = omega arith
-
--- general law: the set of the names of a list is no longer than the list
-from-list-length : (l : List Name) → length (from-list l) ≤ length l
-unfolding from-list
-from-list-length [] = omega arith
-from-list-length (n ∷ l) = omega (arith, add-length n (from-list l), from-list-length l)
-
 -- the macros of definitions, collected
 macros-collect : (decls : List Summary) → map {B = Name × List Name} (λ d. (d .name, d .free-names)) (definitions decls) ≡ collect (from-summary nothing (λ d. (d .name, d .free-names) ∷ []) nothing) decls
 unfolding definitions collect
@@ -92,103 +68,89 @@ macros-collect (Sum-definefun d ∷ decls) = ap ((d .name, d .free-names) ∷_) 
 macros-collect (Sum-declfun d ∷ decls) = macros-collect decls
 macros-collect (Sum-retain names ∷ decls) = macros-collect decls
 
+-- the bindings of a summary are of the name that it takes, to one value
+abbrev Own : {A : Type 0} → Summary → Map A → Type 0
+Own {A} s m = (k : Name) (a b : A) → List·Memᴰ (k, a) m → List·Memᴰ (k, b) m → List·Memᴰ k (taken-by s) × (a ≡ b)
+
 module _ (decls : List Summary) (d : Distinct (collect taken-by decls)) where
   -- one summary alone takes a name
   one-summary : {s t : Summary} {n : Name} → List·Memᴰ s decls → List·Memᴰ t decls → List·Memᴰ n (taken-by s) → List·Memᴰ n (taken-by t) → s ≡ t
   one-summary = distinct-collect taken-by decls d
 
-  -- a map whose keys are the names taken, by one summary each, binds each once
-  taken-once : {A : Type 0} (new : Summary → Map A) → ((s : Summary) (k : Name) (a : A) → List·Memᴰ (k, a) (new s) → List·Memᴰ k (taken-by s)) → ((s : Summary) → Functional (new s)) → Functional (collect new decls)
-  taken-once new h u k a b m n =
+  -- a map in which each summary binds its own name, to one value, binds each name once
+  taken-once : {A : Type 0} (new : Summary → Map A) → ((s : Summary) → Own s (new s)) → Functional (collect new decls)
+  taken-once new h k a b m n =
       let (s, i, j) = collect-elim new decls m in
       let (t, i′, j′) = collect-elim new decls n in
-      let e : s ≡ t = one-summary i i′ (h s k a j) (h t k b j′) in
-      u s k a b j (rw e j′)
+      let e : s ≡ t = one-summary i i′ (h s k a a j j .0) (h t k b b j′ j′ .0) in
+      h s k a b j (rw e j′) .1
 
   -- such a map finds the same whether its bindings stand in file order or last first
   lookup : {A : Type 0} (new : Summary → Map A) (rest : Map A) → Functional (collect new decls) → (k : Name) → try-find (collect new (reverse decls) ++ rest) k ≡ try-find (collect new decls ++ rest) k
   lookup new rest u k = rw (try-find-append (collect new (reverse decls)), try-find-append (collect new decls), try-find-same (collect new (reverse decls)) (collect new decls) u (λ x. collect-reverse-elim new decls) (λ x. collect-reverse-intro new decls) k)
 
--- what each summary binds in the maps of the state
-abbrev pub names-of : Summary → Map Passumption
+-- what a summary binds in `assumption_name_map`
+abbrev names-of : Summary → Map Passumption
 names-of = from-summary (λ f. (f .name, passumption f) ∷ []) nothing nothing
 
+-- a definition or declaration, as the state files it
 abbrev pub pdef : Bool → Decl → Pdef
 pdef is-declfun d = record { pd-is-declfun = is-declfun; pd-resolve = d .line }
 
-abbrev pub defs-of : Summary → Map Pdef
+-- what a summary binds in `defs_and_decls_map`
+abbrev defs-of : Summary → Map Pdef
 defs-of = from-summary nothing (λ d. (d .name, pdef false d) ∷ []) (λ d. (d .name, pdef true d) ∷ [])
 
-abbrev pub macros-of : Summary → Map (List Name)
+-- what a summary binds in `macro_freenames`
+abbrev macros-of : Summary → Map (List Name)
 macros-of = from-summary nothing (λ d. (d .name, d .free-names) ∷ []) nothing
 
-abbrev pub triggers-of : Summary → Map (List (List Name))
+-- what a summary binds in `assumption_to_triggers`
+abbrev triggers-of : Summary → Map (List (List Name))
 triggers-of = from-summary (λ f. on-kind nothing ((f .name, map from-list (f .triggers)) ∷ []) (f .kind)) nothing nothing
 
 module _ {A : Type 0} where
-  -- a single binding
-  once : {key : Name} {x : A} → Functional ((key, x) ∷ [])
-  once k a b m n = ap (λ (y : Name × A). y .1) (List·Memᴰ·eq-of-singleton m ∙ sym (List·Memᴰ·eq-of-singleton n))
+  -- bindings of one name, to one value
+  abbrev Single : Name → Map A → Type 0
+  Single key m = (k : Name) (a b : A) → List·Memᴰ (k, a) m → List·Memᴰ (k, b) m → List·Memᴰ k (key ∷ []) × (a ≡ b)
 
-  -- its key
-  its-key : {key k : Name} {x a : A} → List·Memᴰ {A = Name × A} (k, a) ((key, x) ∷ []) → List·Memᴰ k (key ∷ [])
-  its-key m = List·Memᴰ·head (ap (λ (y : Name × A). y .0) (List·Memᴰ·eq-of-singleton m))
+  -- one binding is such
+  one-binding : (key : Name) (x : A) → Single key ((key, x) ∷ [])
+  one-binding key x k a b m n = (
+    List·Memᴰ·head (ap (λ (y : Name × A). y .0) (List·Memᴰ·eq-of-singleton m)),
+    ap (λ (y : Name × A). y .1) (List·Memᴰ·eq-of-singleton m ∙ sym (List·Memᴰ·eq-of-singleton n)),
+  )
 
-  -- no binding
-  no-binding : Functional {A = A} []
-  no-binding k a b m n = absurd (List·Memᴰ·not-nil m)
+  -- and none
+  no-binding : (key : Name) → Single key []
+  no-binding key k a b m n = absurd (List·Memᴰ·not-nil m)
 
-names-taken : (s : Summary) (k : Name) (a : Passumption) → List·Memᴰ (k, a) (names-of s) → List·Memᴰ k (taken-by s)
-unfolding taken-by
-names-taken (Sum-assume f) k a m = its-key m
-names-taken (Sum-definefun d) k a m = absurd (List·Memᴰ·not-nil m)
-names-taken (Sum-declfun d) k a m = absurd (List·Memᴰ·not-nil m)
-names-taken (Sum-retain names) k a m = absurd (List·Memᴰ·not-nil m)
+  -- what a summary binds by what it is, under its own name
+  own : (ofFact : Fact → Map A) (ofDef ofFun : Decl → Map A) → ((f : Fact) → Single (f .name) (ofFact f)) → ((d : Decl) → Single (d .name) (ofDef d)) → ((d : Decl) → Single (d .name) (ofFun d)) → (s : Summary) → Own s (from-summary ofFact ofDef ofFun s)
+  unfolding taken-by
+  own ofFact ofDef ofFun h i j (Sum-assume f) = h f
+  own ofFact ofDef ofFun h i j (Sum-definefun d) = i d
+  own ofFact ofDef ofFun h i j (Sum-declfun d) = j d
+  own ofFact ofDef ofFun h i j (Sum-retain names) = λ k a b m n. absurd (List·Memᴰ·not-nil m)
 
-names-once : (s : Summary) → Functional (names-of s)
-names-once (Sum-assume f) = once
-names-once (Sum-definefun d) = no-binding
-names-once (Sum-declfun d) = no-binding
-names-once (Sum-retain names) = no-binding
+module _ (decls : List Summary) (d : Distinct (collect taken-by decls)) where
+  -- each of the maps binds each name once
+  names-once : Functional (collect names-of decls)
+  names-once = taken-once decls d names-of (own (λ f. (f .name, passumption f) ∷ []) nothing nothing (λ f. one-binding (f .name) (passumption f)) (λ d. no-binding (d .name)) (λ d. no-binding (d .name)))
 
-defs-taken : (s : Summary) (k : Name) (a : Pdef) → List·Memᴰ (k, a) (defs-of s) → List·Memᴰ k (taken-by s)
-unfolding taken-by
-defs-taken (Sum-assume f) k a m = absurd (List·Memᴰ·not-nil m)
-defs-taken (Sum-definefun d) k a m = its-key m
-defs-taken (Sum-declfun d) k a m = its-key m
-defs-taken (Sum-retain names) k a m = absurd (List·Memᴰ·not-nil m)
+  defs-once : Functional (collect defs-of decls)
+  defs-once = taken-once decls d defs-of (own nothing (λ d. (d .name, pdef false d) ∷ []) (λ d. (d .name, pdef true d) ∷ []) (λ f. no-binding (f .name)) (λ d. one-binding (d .name) (pdef false d)) (λ d. one-binding (d .name) (pdef true d)))
 
-defs-once : (s : Summary) → Functional (defs-of s)
-defs-once (Sum-assume f) = no-binding
-defs-once (Sum-definefun d) = once
-defs-once (Sum-declfun d) = once
-defs-once (Sum-retain names) = no-binding
+  macros-once : Functional (collect macros-of decls)
+  macros-once = taken-once decls d macros-of (own nothing (λ d. (d .name, d .free-names) ∷ []) nothing (λ f. no-binding (f .name)) (λ d. one-binding (d .name) (d .free-names)) (λ d. no-binding (d .name)))
 
-macros-taken : (s : Summary) (k : Name) (a : List Name) → List·Memᴰ (k, a) (macros-of s) → List·Memᴰ k (taken-by s)
-unfolding taken-by
-macros-taken (Sum-assume f) k a m = absurd (List·Memᴰ·not-nil m)
-macros-taken (Sum-definefun d) k a m = its-key m
-macros-taken (Sum-declfun d) k a m = absurd (List·Memᴰ·not-nil m)
-macros-taken (Sum-retain names) k a m = absurd (List·Memᴰ·not-nil m)
-
-macros-once : (s : Summary) → Functional (macros-of s)
-macros-once (Sum-assume f) = no-binding
-macros-once (Sum-definefun d) = once
-macros-once (Sum-declfun d) = no-binding
-macros-once (Sum-retain names) = no-binding
-
-triggers-taken : (s : Summary) (k : Name) (a : List (List Name)) → List·Memᴰ (k, a) (triggers-of s) → List·Memᴰ k (taken-by s)
-unfolding taken-by
-triggers-taken (Sum-assume f) k a m = its-key (triggers-elim ((f .name, map from-list (f .triggers)) ∷ []) (f .kind) m)
-triggers-taken (Sum-definefun d) k a m = absurd (List·Memᴰ·not-nil m)
-triggers-taken (Sum-declfun d) k a m = absurd (List·Memᴰ·not-nil m)
-triggers-taken (Sum-retain names) k a m = absurd (List·Memᴰ·not-nil m)
-
-triggers-once : (s : Summary) → Functional (triggers-of s)
-triggers-once (Sum-assume f) = λ k a b m n. once k a b (triggers-elim ((f .name, map from-list (f .triggers)) ∷ []) (f .kind) m) (triggers-elim ((f .name, map from-list (f .triggers)) ∷ []) (f .kind) n)
-triggers-once (Sum-definefun d) = no-binding
-triggers-once (Sum-declfun d) = no-binding
-triggers-once (Sum-retain names) = no-binding
+  triggers-once : Functional (collect triggers-of decls)
+  triggers-once =
+      let single : Fact → Map (List (List Name)) = λ f. (f .name, map from-list (f .triggers)) ∷ [] in
+      taken-once decls d triggers-of
+      (own (λ f. on-kind nothing (single f) (f .kind)) nothing nothing
+      (λ f k a b m n. one-binding (f .name) (map from-list (f .triggers)) k a b (triggers-elim (single f) (f .kind) m) (triggers-elim (single f) (f .kind) n))
+      (λ d. no-binding (d .name)) (λ d. no-binding (d .name)))
 
 -- the waiting facts that a summary adds
 waiting-of : Name → Summary → List Passumption
@@ -217,12 +179,14 @@ ambient-elim Drop m = absurd (List·Memᴰ·not-nil m)
 ambient-elim (Ambient r) m = cond-itself r m
 ambient-elim (Triggers n) m = absurd (List·Memᴰ·not-nil m)
 
+-- and back
 ambient-intro : {A : Type 0} (x : A) (k : AsumKind) → T (is-ambient-root k) → List·Memᴰ x (on-kind (λ r. cond r (x ∷ []) []) [] k)
 unfolding is-ambient-root
 ambient-intro x Drop t = absurd t
 ambient-intro x (Ambient r) t = itself-cond r x t
 ambient-intro x (Triggers n) t = absurd t
 
+-- an ambient root that a summary adds is a fact of that kind
 roots-of-elim : {decls : List Summary} {a : Passumption} (s : Summary) → List·Memᴰ s decls → List·Memᴰ a (roots-of s) → (f : Fact) × List·Memᴰ (Sum-assume f) decls × T (is-ambient-root (f .kind)) × (a ≡ passumption f)
 unfolding roots-of
 roots-of-elim (Sum-assume f) i m = let (t, e) = ambient-elim (f .kind) m in (f, i, t, e)
@@ -246,7 +210,7 @@ module _ {roots : List Root} (decls : List Summary) (w : Well-formed decls roots
   -- the state finds a fact by its name
   pub finds-fact : (b : Bool) {f : Fact} → List·Memᴰ f (facts decls) → try-find (add-summaries b decls init .assumption-name-map) (f .name) ≡ some (passumption f)
   finds-fact b {f} m =
-      let u = taken-once decls (w .distinct) names-of names-taken names-once in
+      let u = names-once decls (w .distinct) in
       rw (filed-names, lookup decls (w .distinct) names-of [] u (f .name), append-nil)
       (try-find-intro (collect names-of decls) u (collect-intro names-of (fact-summary decls m) (List·Memᴰ·head refl)))
 
@@ -267,7 +231,7 @@ module _ {roots : List Root} (decls : List Summary) (w : Well-formed decls roots
   pub finds-triggers : (b : Bool) {f : Fact} {n : Name} → List·Memᴰ f (facts decls) → List·Memᴰ n (listed f) → try-find (add-summaries b decls init .assumption-to-triggers) (f .name) ≡ some (f .triggers)
   unfolding listed
   finds-triggers b {f} m i =
-      let u = taken-once decls (w .distinct) triggers-of triggers-taken triggers-once in
+      let u = triggers-once decls (w .distinct) in
       let g = w .good-facts f m in
       rw (filed-triggers, lookup decls (w .distinct) triggers-of [] u (f .name), append-nil)
       (try-find-intro (collect triggers-of decls) u
@@ -293,7 +257,7 @@ module _ {roots : List Root} (decls : List Summary) (w : Well-formed decls roots
   pub finds-macro : (b : Bool) (n : Name) → try-find (add-summaries b decls init .macro-freenames) n ≡ try-find (macros decls) n
   unfolding macros
   finds-macro b n =
-      rw (filed-macros, lookup decls (w .distinct) macros-of init-macro-freenames (taken-once decls (w .distinct) macros-of macros-taken macros-once) n, macros-collect)
+      rw (filed-macros, lookup decls (w .distinct) macros-of init-macro-freenames (macros-once decls (w .distinct)) n, macros-collect)
 
   -- its extra roots are the ambient roots
   pub extra-root-elim : (b : Bool) {a : Passumption} → List·Memᴰ a (add-summaries b decls init .extra-roots) → (f : Fact) × List·Memᴰ f (facts decls) × T (is-ambient-root (f .kind)) × (a ≡ passumption f)
@@ -303,6 +267,7 @@ module _ {roots : List Root} (decls : List Summary) (w : Well-formed decls roots
       let (f, k, l, e) = roots-of-elim s i j in
       (f, summary-fact decls k, l, e)
 
+  -- and each of them is there
   pub extra-root-intro : (b : Bool) {f : Fact} → List·Memᴰ f (facts decls) → T (is-ambient-root (f .kind)) → List·Memᴰ (passumption f) (add-summaries b decls init .extra-roots)
   unfolding roots-of
   extra-root-intro b {f} m t =
@@ -331,14 +296,14 @@ module _ {roots : List Root} (decls : List Summary) (w : Well-formed decls roots
   -- the state finds a definition by its name
   pub finds-definition : (b : Bool) {d : Decl} → List·Memᴰ d (definitions decls) → try-find (add-summaries b decls init .defs-and-decls-map) (d .name) ≡ some (pdef false d)
   finds-definition b {d} m =
-      let u = taken-once decls (w .distinct) defs-of defs-taken defs-once in
+      let u = defs-once decls (w .distinct) in
       rw (filed-defs, lookup decls (w .distinct) defs-of [] u (d .name), append-nil)
       (try-find-intro (collect defs-of decls) u (collect-intro defs-of (definition-summary decls m) (List·Memᴰ·head refl)))
 
   -- and a declaration
   pub finds-declaration : (b : Bool) {d : Decl} → List·Memᴰ d (declarations decls) → try-find (add-summaries b decls init .defs-and-decls-map) (d .name) ≡ some (pdef true d)
   finds-declaration b {d} m =
-      let u = taken-once decls (w .distinct) defs-of defs-taken defs-once in
+      let u = defs-once decls (w .distinct) in
       rw (filed-defs, lookup decls (w .distinct) defs-of [] u (d .name), append-nil)
       (try-find-intro (collect defs-of decls) u (collect-intro defs-of (declaration-summary decls m) (List·Memᴰ·head refl)))
 

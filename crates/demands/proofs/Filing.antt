@@ -1,25 +1,21 @@
 -- The state of Pruning.fst after `add_summaries`: what each of its maps finds.
-use Prim.Native.Nat.{ℕ, suc, _≤_}
-use native.Mathlib.Omega.{arith}
 use mathlib.Core.Path.{_≡_, refl, sym, _∙_, ap}
-use mathlib.Core.Logic.{_⊎_, inl, inr, ⊎-elim}
-use mathlib.Core.Bool.{Bool, true, false, cond, not}
-use mathlib.Core.List.{List, [], _∷_, _++_, map, reverse, reverse-cons, append-assoc, append-nil, map-append, List·Memᴰ, List·Memᴰ·head, List·Memᴰ·tail, List·Memᴰ·cases-cons, List·Memᴰ·not-nil, List·Memᴰ·append-cases, List·Memᴰ·eq-of-singleton, Memᴰ·append-left, Memᴰ·append-right, Memᴰ·cast}
-use mathlib.Core.Option.{Option, none, some, Option·getD}
-use lib.Dec.{T, T-not}
-use lib.ListN.{length}
-use Rattle.model.specs.Lists.{keep, concat, collect, fold-left, or-else, to-list}
-use Rattle.model.specs.Names.{Name, same, mem, from-list}
+use mathlib.Core.Logic.{_⊎_, ⊎-elim}
+use mathlib.Core.Bool.{Bool, true, false, cond}
+use mathlib.Core.List.{List, [], _∷_, _++_, map, reverse, List·Memᴰ, List·Memᴰ·head, List·Memᴰ·not-nil, List·Memᴰ·eq-of-singleton, Memᴰ·cast}
+use mathlib.Core.Option.{Option·getD}
+use lib.Dec.{T-not}
+use Rattle.model.specs.Lists.{collect, fold-left}
+use Rattle.model.specs.Names.{Name, same, from-list}
 use Rattle.model.specs.Summaries.{Fact}
-use Rattle.model.specs.Reading.{Root, Decl, Summary, Sum-assume, Sum-definefun, Sum-declfun, Sum-retain, taken-by}
-use Rattle.model.specs.Pruning.{Map, try-find, map-add, Passumption, Pdef, PruningState, init, init-macro-freenames, with-trigger-to-assumption, with-assumption-to-triggers, add-trigger-to-assumption, passumption, with-assumption, with-ambient, add-by-kind, add-assumption-summary, with-def, add-summary, add-summaries}
-use Rattle.model.specs.Rounds.{facts, definitions, declarations, macros, listed, filed, is-ambient, is-ambient-root}
+use Rattle.model.specs.Reading.{Decl, Summary, Sum-assume, Sum-definefun, Sum-declfun, Sum-retain}
+use Rattle.model.specs.Pruning.{Map, try-find, map-add, Passumption, PruningState, init, init-macro-freenames, with-trigger-to-assumption, with-assumption-to-triggers, add-trigger-to-assumption, passumption, with-assumption, with-ambient, add-by-kind, add-assumption-summary, with-def, add-summary, add-summaries}
+use Rattle.model.specs.Rounds.{facts, definitions, declarations}
 use Rattle.model.specs.declared.AsumKind.{AsumKind}
 use Rattle.model.specs.declared.AsumKind.the-variants.{Drop, Ambient, Triggers}
-use Rattle.model.proofs.ListLaws.{T-dec, cond-true, cond-false, cond-ap, collect-append, collect-intro, collect-elim, concat-intro, concat-elim, keep-intro, keep-elim, map-intro, map-elim}
-use Rattle.model.proofs.SetLaws.{same-eq, eq-same, same-refl}
-use Rattle.demands.specs.Accepted.{Distinct, Good-fact, Well-formed, Without-triggers}
-use Rattle.demands.proofs.MapLaws.{fold-keeps, fold-collects, reverse-intro, reverse-elim, distinct-collect, Functional, try-find-head, try-find-tail, Found, bound, unbound, found, try-find-intro, try-find-elim, try-find-same, try-find-append}
+use Rattle.model.proofs.ListLaws.{T-dec, cond-true, cond-false, cond-ap, collect-intro, collect-elim}
+use Rattle.model.proofs.SetLaws.{same-eq, eq-same}
+use Rattle.demands.proofs.MapLaws.{fold-keeps, fold-collects, try-find-head, try-find-tail}
 
 -- what a summary adds, by what it is
 abbrev pub from-summary : {X : Type 0} → (Fact → List X) → (Decl → List X) → (Decl → List X) → Summary → List X
@@ -73,19 +69,21 @@ declarations-collect (Sum-definefun d ∷ decls) = declarations-collect decls
 declarations-collect (Sum-declfun d ∷ decls) = ap (d ∷_) (declarations-collect decls)
 declarations-collect (Sum-retain names ∷ decls) = declarations-collect decls
 
--- a summary's fact, definition or declaration, as a summary
+-- the fact of a summary, as a summary
 is-fact : {decls : List Summary} {f : Fact} (s : Summary) → List·Memᴰ s decls → List·Memᴰ f (from-summary itself nothing nothing s) → List·Memᴰ (Sum-assume f) decls
 is-fact (Sum-assume g) m n = Memᴰ·cast (ap Sum-assume (List·Memᴰ·eq-of-singleton n)) m
 is-fact (Sum-definefun d) m n = absurd (List·Memᴰ·not-nil n)
 is-fact (Sum-declfun d) m n = absurd (List·Memᴰ·not-nil n)
 is-fact (Sum-retain names) m n = absurd (List·Memᴰ·not-nil n)
 
+-- the definition of a summary, as a summary
 is-definition : {decls : List Summary} {d : Decl} (s : Summary) → List·Memᴰ s decls → List·Memᴰ d (from-summary nothing itself nothing s) → List·Memᴰ (Sum-definefun d) decls
 is-definition (Sum-assume g) m n = absurd (List·Memᴰ·not-nil n)
 is-definition (Sum-definefun d) m n = Memᴰ·cast (ap Sum-definefun (List·Memᴰ·eq-of-singleton n)) m
 is-definition (Sum-declfun d) m n = absurd (List·Memᴰ·not-nil n)
 is-definition (Sum-retain names) m n = absurd (List·Memᴰ·not-nil n)
 
+-- the declaration of a summary, as a summary
 is-declaration : {decls : List Summary} {d : Decl} (s : Summary) → List·Memᴰ s decls → List·Memᴰ d (from-summary nothing nothing itself s) → List·Memᴰ (Sum-declfun d) decls
 is-declaration (Sum-assume g) m n = absurd (List·Memᴰ·not-nil n)
 is-declaration (Sum-definefun d) m n = absurd (List·Memᴰ·not-nil n)
@@ -232,6 +230,7 @@ filed-waiting n b = filed-part b (λ p. waiting p n) (λ f. on-kind nothing (ent
 abbrev pub keys : PruningState → List Name
 keys p = map (λ (x : Name × List Passumption). x .0) (p .trigger-to-assumption)
 
+-- they are the listed names
 pub filed-keys : (b : Bool) (decls : List Summary) → keys (add-summaries b decls init) ≡ collect (from-summary (λ f. on-kind nothing (entries-of itself (f .triggers)) (f .kind)) nothing nothing) (reverse decls) ++ []
 unfolding init add-assumption-summary with-ambient with-assumption-to-triggers with-trigger-to-assumption with-assumption with-def add-trigger-to-assumption map-add
 filed-keys b = filed-part b keys (λ f. on-kind nothing (entries-of itself (f .triggers)) (f .kind)) nothing nothing

@@ -1,16 +1,19 @@
--- Laws of maps, of lists that hold nothing twice, and of folds that put elements in front.
-use Prim.Native.Nat.{ℕ}
+-- Laws of lists, of lists that hold nothing twice, of sets of names, and of maps.
+use Prim.Native.Nat.{ℕ, suc, _≤_, _<_}
+use native.Mathlib.Omega.{arith}
 use mathlib.Core.Path.{_≡_, refl, sym, _∙_, ap, ap₂}
 use mathlib.Core.Logic.{_⊎_, inl, inr, ⊎-elim}
-use mathlib.Core.Bool.{Bool, true, false, cond, not}
-use mathlib.Core.List.{List, [], _∷_, _++_, map, reverse, reverseAux, reverse-cons, reverse-append, map-append, append-assoc, append-nil, List·Memᴰ, List·Memᴰ·head, List·Memᴰ·tail, List·Memᴰ·cases-cons, List·Memᴰ·not-nil, List·Memᴰ·append-cases, Memᴰ·append-left, Memᴰ·append-right, Memᴰ·cast}
+use mathlib.Core.Bool.{Bool, true, false, cond, not, _&&_, _||_}
+use mathlib.Core.List.{List, [], _∷_, _++_, map, reverse, reverseAux, reverse-cons, reverse-append, map-append, append-assoc, append-nil, List·Memᴰ, List·Memᴰ·head, List·Memᴰ·tail, List·Memᴰ·cases-cons, List·Memᴰ·not-nil, List·Memᴰ·append-cases, List·Memᴰ·eq-of-singleton, Memᴰ·append-right, Memᴰ·cast}
 use mathlib.Core.Option.{Option, none, some}
 use lib.Dec.{T, T-not}
-use Rattle.model.specs.Lists.{keep, collect, fold-left, or-else}
-use Rattle.model.specs.Names.{Name, same}
+use lib.ListN.{length}
+use Rattle.model.specs.Lists.{all, keep, collect, fold-left, is-nil, or-else}
+use Rattle.model.specs.Names.{Name, same, add, add-by, from-list}
 use Rattle.model.specs.Pruning.{Map, try-find, map-remove}
 use Rattle.model.proofs.ListLaws.{T-dec, true-T, cond-true, cond-false, cond-ap, collect-append, collect-intro, collect-elim, keep-elim, fold-left-append, map-intro, map-elim}
-use Rattle.model.proofs.SetLaws.{same-eq, eq-same}
+use Rattle.model.proofs.SetLaws.{same-eq, eq-same, Ascending, from-list-ascending, compared, Compared, first, equal, second}
+use Rattle.model.specs.declared.Order.{Order}
 use Rattle.demands.specs.Accepted.{Distinct, none as no-more, one-more}
 
 module _ {A B : Type 0} where
@@ -58,16 +61,6 @@ module _ {A : Type 0} where
   pub distinct-apart : {x : A} (l m : List A) → Distinct (l ++ m) → List·Memᴰ x l → List·Memᴰ x m → ⊥
   distinct-apart [] m d i j = List·Memᴰ·not-nil i
   distinct-apart (y ∷ l) m (one-more n d) i j = ⊎-elim (λ e. n (Memᴰ·append-right l (Memᴰ·cast (sym e) j))) (λ k. distinct-apart l m d k j) (List·Memᴰ·cases-cons i)
-
-  -- general law: what is kept of a list without repeats has none
-  pub distinct-keep : (test : A → Bool) {l : List A} → Distinct l → Distinct (keep test l)
-  unfolding keep
-  distinct-keep test no-more = no-more
-  distinct-keep test (one-more {a = x} {l} n d) = go (test x) (distinct-keep test d)
-    where
-      go : (b : Bool) → Distinct (keep test l) → Distinct (cond b (x ∷ keep test l) (keep test l))
-      go true r = one-more (λ m. n (keep-elim test l m .0)) r
-      go false r = r
 
 module _ {A B : Type 0} where
   -- general law: what is collected of the list turned round is collected of the list
@@ -151,6 +144,75 @@ module _ {A : Type 0} (key : A → Name) where
       (λ e. cond-true (same (key y) (key x)) (y ∷ keep (λ y. same (key y) (key x)) l) (keep (λ y. same (key y) (key x)) l) (eq-same (ap key (sym e))) ∙ ap₂ _∷_ (sym e) (keep-none (key x) l (λ i. n (Memᴰ·cast (ap key (sym e)) i))))
       (λ i. cond-false (same (key y) (key x)) (y ∷ keep (λ y. same (key y) (key x)) l) (keep (λ y. same (key y) (key x)) l) (⊎-elim (λ t. absurd (n (Memᴰ·cast (same-eq t) (map-intro key i)))) (λ t. t) (T-dec (same (key y) (key x)))) ∙ keep-one x l d i)
       (List·Memᴰ·cases-cons m)
+
+-- general law: what holds of both branches, each under its test, holds of the branch taken
+pub branch : {A : Type 0} (R : A → Type 0) (b : Bool) (x y : A) → (T b → R x) → (T (not b) → R y) → R (cond b x y)
+branch R true x y h k = h tt
+branch R false x y h k = k tt
+
+module _ {A : Type 0} where
+  -- general law: to keep what fails two tests, one after the other
+  pub keep-not : (p q : A → Bool) (l : List A) → keep (λ x. not (p x)) (keep (λ x. not (q x)) l) ≡ keep (λ x. not (p x || q x)) l
+  unfolding keep
+  keep-not p q [] = refl
+  keep-not p q (x ∷ l) = go (p x) (q x) refl (keep-not p q l)
+    where
+      go : (a b : Bool) → p x ≡ a → keep (λ x. not (p x)) (keep (λ x. not (q x)) l) ≡ keep (λ x. not (p x || q x)) l → keep (λ x. not (p x)) (cond (not b) (x ∷ keep (λ x. not (q x)) l) (keep (λ x. not (q x)) l)) ≡ cond (not (a || b)) (x ∷ keep (λ x. not (p x || q x)) l) (keep (λ x. not (p x || q x)) l)
+      go true true e h = h
+      go true false e h = rw e h
+      go false true e h = h
+      go false false e h = rw e (ap (x ∷_) h)
+
+  -- general law: nothing is kept of what fails a test where all pass it
+  pub nil-keep-not : (p : A → Bool) (l : List A) → is-nil (keep (λ x. not (p x)) l) ≡ all p l
+  unfolding keep all is-nil
+  nil-keep-not p [] = refl
+  nil-keep-not p (x ∷ l) = go (p x) (nil-keep-not p l)
+    where
+      go : (a : Bool) → is-nil (keep (λ x. not (p x)) l) ≡ all p l → is-nil (cond (not a) (x ∷ keep (λ x. not (p x)) l) (keep (λ x. not (p x)) l)) ≡ (a && all p l)
+      go true h = h
+      go false h = refl
+
+-- general law: to keep all is to keep the list
+pub keep-all : {A : Type 0} (l : List A) → keep (λ x. true) l ≡ l
+unfolding keep
+keep-all [] = refl
+keep-all (x ∷ l) = ap (x ∷_) (keep-all l)
+
+-- general law: to collect from what a function gives
+pub collect-map : {A B C : Type 0} (f : B → List C) (g : A → B) (l : List A) → collect f (map g l) ≡ collect (λ x. f (g x)) l
+unfolding collect
+collect-map f g [] = refl
+collect-map f g (x ∷ l) = ap (f (g x) ++_) (collect-map f g l)
+
+-- general law: one more at the end, greater than all before
+pub distinct-snoc : (l : List ℕ) (n : ℕ) → Distinct l → ((k : ℕ) → List·Memᴰ k l → k < n) → Distinct (l ++ (n ∷ []))
+distinct-snoc [] n d h = one-more (λ m. List·Memᴰ·not-nil m) no-more
+distinct-snoc (x ∷ l) n (one-more i d) h =
+    one-more (λ m. ⊎-elim i (λ j. let e : x ≡ n = List·Memᴰ·eq-of-singleton j in absurd (omega (arith, h x (List·Memᴰ·head refl)))) (List·Memᴰ·append-cases l m))
+    (distinct-snoc l n d (λ k m. h k (List·Memᴰ·tail m)))
+
+-- general law: sets of names, made sets again, are the same
+pub sets-again : (ts : List (List Name)) → ((d : List Name) → List·Memᴰ d ts → Ascending d) → map from-list ts ≡ ts
+sets-again [] h = refl
+sets-again (d ∷ ts) h = ap₂ _∷_ (from-list-ascending (h d (List·Memᴰ·head refl))) (sets-again ts (λ e m. h e (List·Memᴰ·tail m)))
+
+-- general law: a set with one name more has at most one more
+pub add-length : (n : Name) (l : List Name) → length (add n l) ≤ suc (length l)
+unfolding add add-by
+add-length n [] = omega arith
+add-length n (m ∷ ms) = go (add-length n ms) (compared n m)
+  where
+    go : length (add n ms) ≤ suc (length ms) → {o : Order} → Compared n m o → length (add-by o n m ms (add n ms)) ≤ suc (suc (length ms))
+    go h (first p) = omega arith
+    go h (equal e) = omega arith
+    go h (second p) = omega arith
+
+-- general law: the set of the names of a list is no longer than the list
+pub from-list-length : (l : List Name) → length (from-list l) ≤ length l
+unfolding from-list
+from-list-length [] = omega arith
+from-list-length (n ∷ l) = omega (arith, add-length n (from-list l), from-list-length l)
 
 module _ {A : Type 0} where
   -- a map that binds each key once

@@ -11,19 +11,18 @@ use Rattle.model.specs.Lists.{any, keep, collect, fold-left, to-list}
 use Rattle.model.specs.Names.{Name, same, mem, add}
 use Rattle.model.specs.Summaries.{Fact}
 use Rattle.model.specs.Reading.{Ask, no-ambients, pretyping-axioms, prune-decls, Root, Decl, Summary, Sum-assume, Sum-definefun, Sum-declfun, Sum-retain}
-use Rattle.model.specs.Pruning.{Map, try-find, Passumption, Pdef, PruningState, init, add-summaries, passumption, passumption-of-root, Ctxt, scan, include-found, include-name, decls-and-defs, prune}
+use Rattle.model.specs.Pruning.{Map, try-find, Passumption, Pdef, PruningState, init, add-summaries, passumption, passumption-of-root, include-found, include-name, decls-and-defs, prune}
 use Rattle.model.specs.Rounds.{facts, definitions, declarations, is-ambient, goal-roots, Run}
 use Rattle.model.specs.Kept.{reached-facts, ambients, kept-facts, kept-names, kept-decls, kept}
-use Rattle.model.proofs.ListLaws.{T-dec, cond-true, cond-false, collect-append, collect-intro, collect-elim, keep-intro, keep-elim, map-intro, map-elim}
-use Rattle.model.proofs.SetLaws.{same-eq, mem-intro, mem-elim, mem-add}
+use Rattle.model.proofs.ListLaws.{collect-append, collect-intro, collect-elim, keep-intro, keep-elim, map-intro, map-elim}
+use Rattle.model.proofs.SetLaws.{mem-intro, mem-elim, mem-add}
 use Rattle.demands.specs.Accepted.{Distinct, none as no-more, one-more, Well-formed}
 use Rattle.demands.specs.Demand2.{Same-lines}
-use Rattle.demands.proofs.MapLaws.{reverse-elim, map-collect, collect-cong, collect-itself, fold-left-collect, distinct-map-keep, distinct-collect, keep-none, keep-one}
+use Rattle.demands.proofs.MapLaws.{branch, reverse-elim, collect-map, map-collect, collect-cong, collect-itself, fold-left-collect, distinct-map-keep, distinct-collect, keep-none, keep-one}
 use Rattle.demands.proofs.Filing.{definition-summary, declaration-summary}
 use Rattle.demands.proofs.Filed.{finds-fact, fact-found, distinct-facts, filed-ambient-names, pdef, Declared, definition, declaration, finds-definition, finds-declaration, declared}
-use Rattle.demands.proofs.ScanSteps.{branch}
 use Rattle.demands.proofs.ScanRounds.{free-in, fact-free, free-fact, Scanned}
-use Rattle.demands.proofs.ScanFile.{collect-map, first-roots}
+use Rattle.demands.proofs.ScanFile.{first-roots}
 
 -- the members of the kept ambients are facts
 ambient-fact : (a : Ask) (fs : List Fact) {f : Fact} → List·Memᴰ f (ambients a fs) → List·Memᴰ f fs
@@ -218,8 +217,8 @@ kept-with-roots a decls roots reached = map passumption (kept-facts a (facts dec
 abbrev pub pruned-lines : (Pdef → Bool) → Ask → List Summary → List Root → List Name → List ℕ
 pruned-lines test a decls roots reached = cond (prune-decls a) (lines-of test (add-summaries (no-ambients a) decls init .defs-and-decls-map) (kept-with-roots a decls roots reached)) []
 
--- the names free there are those of the kept facts and the roots
 module _ (a : Ask) (decls : List Summary) (roots : List Root) (reached : List Name) where
+  -- a name free in a kept fact or a root of the query is free in what `prune` keeps
   names-to : (n : Name) → T (mem n (kept-names a (facts decls) roots reached)) → List·Memᴰ n (free-in (kept-with-roots a decls roots reached))
   unfolding kept-names passumption-of-root
   names-to n t = ⊎-elim
@@ -229,6 +228,7 @@ module _ (a : Ask) (decls : List Summary) (roots : List Root) (reached : List Na
       collect-intro (λ (x : Passumption). x .pa-free-names) (Memᴰ·append-right (map passumption (kept-facts a (facts decls) reached)) (map-intro passumption-of-root i)) j)
       (List·Memᴰ·append-cases (collect (λ f. f .free-names) (kept-facts a (facts decls) reached)) (mem-elim t))
 
+  -- and back
   names-from : (n : Name) → List·Memᴰ n (free-in (kept-with-roots a decls roots reached)) → T (mem n (kept-names a (facts decls) roots reached))
   unfolding kept-names passumption-of-root
   names-from n m =

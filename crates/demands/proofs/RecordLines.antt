@@ -1,10 +1,10 @@
 -- No two records of an accepted file stand on one line.
-use Prim.Native.Nat.{ℕ, suc, _+_, _≤_, _<_}
+use Prim.Native.Nat.{ℕ, _+_, _<_}
 use native.Mathlib.Omega.{arith}
-use mathlib.Core.Path.{_≡_, refl, sym, _∙_, ap, subst}
+use mathlib.Core.Path.{_≡_, refl, sym, subst}
 use mathlib.Core.Logic.{_⊎_, inl, inr, ⊎-elim}
 use mathlib.Core.Bool.{Bool, true, false, cond}
-use mathlib.Core.List.{List, [], _∷_, _++_, append-nil, List·Memᴰ, List·Memᴰ·head, List·Memᴰ·tail, List·Memᴰ·cases-cons, List·Memᴰ·not-nil, List·Memᴰ·append-cases, List·Memᴰ·eq-of-singleton}
+use mathlib.Core.List.{List, [], _∷_, _++_, append-nil, List·Memᴰ, List·Memᴰ·not-nil, List·Memᴰ·append-cases, List·Memᴰ·eq-of-singleton}
 use lib.Dec.{leb}
 use lib.ListN.{length}
 use Rattle.model.specs.Lists.{collect}
@@ -12,11 +12,12 @@ use Rattle.model.specs.Names.{Name}
 use Rattle.model.specs.Lines.{Line, lines, fields}
 use Rattle.model.specs.Terms.{Term}
 use Rattle.model.specs.Summaries.{summarize-assumption}
-use Rattle.model.specs.Reading.{Result, ok, refused, _>>=_, Content, ask, term, assume, fun, def, retain, root, Summary, Sum-assume, Sum-definefun, Sum-declfun, Sum-retain, State, start, parse, repeats, limits, Reading, read, refused-at, go-on, under-limits, summarize-decl, add-line, read-line, read-lines, read-file}
+use Rattle.model.specs.Reading.{Result, ok, refused, _>>=_, Content, ask, term, assume, fun, def, retain, root, State, start, parse, repeats, limits, read, go-on, under-limits, summarize-decl, add-line, read-line, read-lines, read-file}
 use Rattle.model.specs.declared.Refusal.{Refusal}
 use Rattle.model.specs.declared.Refusal.the-variants as refusal
 use Rattle.model.proofs.ListLaws.{collect-append}
-use Rattle.demands.specs.Accepted.{Distinct, none as no-more, one-more}
+use Rattle.demands.specs.Accepted.{Distinct, none as no-more}
+use Rattle.demands.proofs.MapLaws.{distinct-snoc}
 use Rattle.demands.proofs.Pruned.{line-of}
 
 module _ {A : Type 0} where
@@ -38,13 +39,6 @@ module _ {A : Type 0} where
 bind-ok : {A B : Type 0} (r : Result A) (f : A → Result B) {b : B} → (r >>= f) ≡ ok b → (a : A) × (f a ≡ ok b)
 bind-ok (ok a) f e = (a, e)
 bind-ok (refused r) f e = absurd (no-value e)
-
--- general law: one more at the end, greater than all before
-distinct-snoc : (l : List ℕ) (n : ℕ) → Distinct l → ((k : ℕ) → List·Memᴰ k l → k < n) → Distinct (l ++ (n ∷ []))
-distinct-snoc [] n d h = one-more (λ m. List·Memᴰ·not-nil m) no-more
-distinct-snoc (x ∷ l) n (one-more i d) h =
-    one-more (λ m. ⊎-elim i (λ j. let e : x ≡ n = List·Memᴰ·eq-of-singleton j in absurd (omega (arith, h x (List·Memᴰ·head refl)))) (List·Memᴰ·append-cases l m))
-    (distinct-snoc l n d (λ k m. h k (List·Memᴰ·tail m)))
 
 module _ (exclude : List Name) where
   -- a line that is read adds what it states
@@ -83,6 +77,7 @@ lines-step n l m i (inr e) =
     })
 
 module _ (exclude : List Name) where
+  -- one line
   add-line-lines : (n : ℕ) (s : State) (c : Content) → Lines-below n (collect line-of (s .decls)) → Lines-below (n + 1) (collect line-of (add-line exclude n s c .decls))
   unfolding add-line
   add-line-lines n s c i = rw collect-append (lines-step n (collect line-of (s .decls)) (collect line-of (summarize-decl exclude (s .terms) n c)) i (line-n exclude (s .terms) n c))

@@ -1,39 +1,25 @@
 -- The scan of a file's records: it starts as round 1 does, so it ends with what the run reaches.
-use Prim.Native.Nat.{ℕ, zero, suc, _≤_}
+use Prim.Native.Nat.{suc, _≤_}
 use native.Mathlib.Omega.{arith}
 use mathlib.Core.Path.{_≡_, refl, sym, _∙_, ap, ap₂}
-use mathlib.Core.Logic.{_⊎_, inl, inr, ⊎-elim}
-use mathlib.Core.Bool.{Bool, true, false, cond, not, _||_}
-use mathlib.Core.List.{List, [], _∷_, _++_, map, append-nil, List·Memᴰ}
+use mathlib.Core.Bool.{Bool, true, false, cond, _||_}
+use mathlib.Core.List.{List, [], _∷_, _++_, map, append-nil}
 use mathlib.Core.Option.{some}
-use lib.Dec.{T}
 use lib.ListN.{length}
 use Rattle.model.specs.Lists.{any, keep, collect}
 use Rattle.model.specs.Names.{Name, same, mem, from-list}
 use Rattle.model.specs.Summaries.{Fact}
 use Rattle.model.specs.Reading.{Ask, no-ambients, pretyping-axioms, Root, Summary}
-use Rattle.model.specs.Pruning.{Passumption, PruningState, Ctxt, init, passumption, passumption-of-root, add-summaries}
+use Rattle.model.specs.Pruning.{Passumption, init, passumption-of-root, add-summaries}
 use Rattle.model.specs.Rounds.{Run, facts, macros, filed, is-ambient-root, goal-roots, ambient-roots, first-scanned, run}
-use Rattle.model.proofs.ListLaws.{T-ext, T-or, any-append, collect-append, collect-intro, collect-elim, keep-intro, keep-elim}
+use Rattle.model.proofs.ListLaws.{T-ext, any-append, collect-append, collect-intro, collect-elim, keep-intro, keep-elim}
 use Rattle.model.proofs.SetLaws.{mem-intro, mem-elim, empty}
 use Rattle.demands.specs.Accepted.{Well-formed}
 use Rattle.demands.specs.Fuel.{Ends}
-use Rattle.demands.proofs.Filing.{waiting}
+use Rattle.demands.proofs.MapLaws.{keep-all, collect-map}
 use Rattle.demands.proofs.Filed.{one-fact, finds-triggers, waits-elim, waits-intro, finds-macro, extra-root-elim, extra-root-intro, bound-keys}
 use Rattle.demands.proofs.ScanSteps.{Laws, left-of}
 use Rattle.demands.proofs.ScanRounds.{free-in, fact-free, free-fact, Together, Scanned, scans-run}
-
--- general law: to keep all is to keep the list
-pub keep-all : {A : Type 0} (l : List A) → keep (λ x. true) l ≡ l
-unfolding keep
-keep-all [] = refl
-keep-all (x ∷ l) = ap (x ∷_) (keep-all l)
-
--- general law: to collect from what a function gives
-pub collect-map : {A B C : Type 0} (f : B → List C) (g : A → B) (l : List A) → collect f (map g l) ≡ collect (λ x. f (g x)) l
-unfolding collect
-collect-map f g [] = refl
-collect-map f g (x ∷ l) = ap (f (g x) ++_) (collect-map f g l)
 
 -- with nothing met, a fact waits for its disjuncts
 left-all : (ts : List (List Name)) → left-of (λ n. mem n []) ts ≡ ts
@@ -61,7 +47,6 @@ module _ {roots : List Root} (decls : List Summary) (w : Well-formed decls roots
       record {
         waits = λ n m. waits-elim decls w b n m;
         waits-for = λ n m i. waits-intro decls w b n m i;
-        left = λ m i. finds-triggers decls w b m i;
         opens = finds-macro decls w b;
         one-fact = λ m n e. one-fact decls w m n e;
       }

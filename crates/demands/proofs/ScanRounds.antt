@@ -1,24 +1,24 @@
 -- `scan` and the rounds go together, so the scan ends with the facts that the run reaches.
 use Prim.Native.Nat.{ℕ, zero, suc, _+_, _≤_, _<_}
 use native.Mathlib.Omega.{arith}
-use native.Mathlib.Numerals.{add-one}
-use mathlib.Core.Path.{_≡_, refl, sym, _∙_, ap, ap₂, subst, fun-ext}
-use mathlib.Core.Logic.{_↔_, _⊎_, inl, inr, ⊎-elim}
+use mathlib.Core.Path.{_≡_, refl, sym, _∙_, ap, subst, fun-ext}
+use mathlib.Core.Logic.{_⊎_, inl, inr, ⊎-elim}
 use mathlib.Core.Bool.{Bool, true, false, cond, not, _&&_, _||_}
 use mathlib.Core.List.{List, [], _∷_, _++_, map, List·Memᴰ, List·Memᴰ·head, List·Memᴰ·tail, List·Memᴰ·cases-cons, List·Memᴰ·not-nil, Memᴰ·cast}
-use mathlib.Core.Option.{Option, none, some, Option·getD}
+use mathlib.Core.Option.{Option·getD}
 use lib.Dec.{T, T-not}
-use Rattle.model.specs.Lists.{any, all, keep, concat, collect, fold-left, is-nil}
-use Rattle.model.specs.Names.{Name, same, mem, add, union, from-list}
+use Rattle.model.specs.Lists.{keep, collect, fold-left, is-nil}
+use Rattle.model.specs.Names.{Name, mem, add, union}
 use Rattle.model.specs.Summaries.{Fact}
 use Rattle.model.specs.Reading.{Ask, pretyping-axioms}
 use Rattle.model.specs.Pruning.{Map, try-find, Passumption, PruningState, passumption, should-retain-assumption, Ctxt, already-reached, reached-assumption, macro-expand, new-syms, reach, pending, to-scan, scan}
-use Rattle.model.specs.Rounds.{listed, met-from, lies-within, triggers-in, retainable, Run, met-after, triggered, fresh, after-round, next-scanned}
-use Rattle.model.proofs.ListLaws.{T-and, T-or, T-dec, T-true, T-false, true-T, T-ext, cond-true, cond-false, is-nil-elim, mem-not-nil, not-nil-mem, collect-intro, collect-elim, keep-intro, keep-elim, map-intro, map-elim}
-use Rattle.model.proofs.SetLaws.{same-eq, eq-same, mem-intro, mem-elim, mem-append, mem-from-list, mem-add, mem-union, union-mem, Ascending, ascending-add, ascending-union, ascending-ext, union-within}
+use Rattle.model.specs.Rounds.{met-from, lies-within, triggers-in, retainable, Run, met-after, triggered, fresh, after-round, next-scanned}
+use Rattle.model.proofs.ListLaws.{T-and, T-or, T-dec, T-ext, cond-true, cond-false, is-nil-elim, mem-not-nil, not-nil-mem, collect-intro, collect-elim, keep-intro, keep-elim, map-intro, map-elim}
+use Rattle.model.proofs.SetLaws.{mem-intro, mem-elim, mem-append, mem-from-list, mem-add, mem-union, union-mem, Ascending, ascending-add, ascending-union, ascending-ext}
 use Rattle.demands.specs.Fuel.{Scans, Ends}
 use Rattle.demands.proofs.Filing.{waiting}
-use Rattle.demands.proofs.ScanSteps.{Laws, hits, Inv, Round, pending-round, branch}
+use Rattle.demands.proofs.ScanSteps.{Laws, Inv, Round, pending-round}
+use Rattle.demands.proofs.MapLaws.{branch}
 
 -- the names free in what is scanned
 abbrev pub free-in : List Passumption → List Name
@@ -194,6 +194,7 @@ pub fact-free : (f : Fact) (n : Name) → List·Memᴰ n (f .free-names) → Lis
 unfolding passumption
 fact-free f n m = mem-elim (mem-from-list n (f .free-names) .1 (mem-intro m))
 
+-- and back
 pub free-fact : (f : Fact) (n : Name) → List·Memᴰ n (passumption f .pa-free-names) → List·Memᴰ n (f .free-names)
 unfolding passumption
 free-fact f n m = mem-elim (mem-from-list n (f .free-names) .0 (mem-intro m))
@@ -206,11 +207,12 @@ module _ {P : PruningState} {ms : Map (List Name)} {fs : List Fact} (laws : Laws
       (fun-ext (λ n. ap (λ (b : Bool). b || mem n (r .met)) (symbols ms ds c scanned (λ n. ap (λ (m : Map (List Name)). try-find m n) (s .inv .macs) ∙ laws .opens n) (s .scans) n) ∙ sym (union-mem n (met-from ms scanned) (r .met))))
       (pending-round laws (new-syms ds c) c (s .inv))
 
-  -- each of them, both ways
+  -- what the entry triggers is a fact that the round triggers
   triggered-elim : (x : Passumption) → List·Memᴰ x (pending ds c .0) → (f : Fact) × List·Memᴰ f (triggered ms fs r scanned) × (x ≡ passumption f)
   unfolding triggered triggers-in lies-within
   triggered-elim x m = let (f, i, e, h) = in-round .sound m in (f, keep-intro (triggers-in (r .met) (met-after ms r scanned)) i h, e)
 
+  -- and back
   triggered-intro : (f : Fact) → List·Memᴰ f (triggered ms fs r scanned) → List·Memᴰ (passumption f) (pending ds c .0)
   unfolding triggered triggers-in lies-within
   triggered-intro f m = let (i, h) = keep-elim (triggers-in (r .met) (met-after ms r scanned)) fs m in in-round .complete i h

@@ -1,26 +1,24 @@
 -- One entry of `scan`: its symbols, one after the other, trigger the facts that a round triggers.
-use Prim.Native.Nat.{ℕ}
 use mathlib.Core.Path.{_≡_, refl, sym, _∙_, ap, ap₂, subst, fun-ext}
 use mathlib.Core.Logic.{_⊎_, inl, inr, ⊎-elim}
 use mathlib.Core.Bool.{Bool, true, false, cond, not, _&&_, _||_, or-self-left}
-use mathlib.Core.List.{List, [], _∷_, _++_, map, List·Memᴰ, List·Memᴰ·head, List·Memᴰ·tail, List·Memᴰ·cases-cons, List·Memᴰ·not-nil, Memᴰ·cast}
+use mathlib.Core.List.{List, [], _∷_, map, List·Memᴰ, List·Memᴰ·head, List·Memᴰ·tail, List·Memᴰ·cases-cons, List·Memᴰ·not-nil, Memᴰ·cast}
 use mathlib.Core.Option.{Option, none, some, Option·getD}
 use lib.Dec.{T, T-not}
-use Rattle.model.specs.Lists.{any, all, keep, concat, collect, fold-left, is-nil}
-use Rattle.model.specs.Names.{Name, same, mem, remove, from-list}
+use Rattle.model.specs.Lists.{any, all, keep, concat, fold-left, is-nil}
+use Rattle.model.specs.Names.{Name, same, mem, remove}
 use Rattle.model.specs.Summaries.{Fact}
-use Rattle.model.specs.Pruning.{Map, try-find, map-add, map-remove, Passumption, PruningState, passumption, with-trigger-to-assumption, with-assumption-to-triggers, trigger-reached, remove-trigger, remove-trigger-for-assumption, Ctxt, mark-trigger-reached, find-assumptions-waiting-on-trigger, remove-trigger-for, trigger-assumption, trigger-pending, trigger-pending-assumptions}
+use Rattle.model.specs.Pruning.{Map, try-find, map-add, Passumption, PruningState, passumption, with-trigger-to-assumption, with-assumption-to-triggers, trigger-reached, remove-trigger, remove-trigger-for-assumption, Ctxt, mark-trigger-reached, find-assumptions-waiting-on-trigger, remove-trigger-for, trigger-assumption, trigger-pending, trigger-pending-assumptions}
 use Rattle.model.specs.Rounds.{listed}
-use Rattle.model.proofs.ListLaws.{T-and, T-or, T-dec, T-true, T-false, true-T, T-ext, cond-true, cond-false, any-intro, any-elim, all-intro, all-elim, keep-cong, is-nil-elim, concat-intro}
+use Rattle.model.proofs.ListLaws.{T-and, T-or, T-dec, true-T, T-ext, cond-true, cond-false, any-intro, any-elim, all-intro, all-elim, keep-cong, is-nil-elim, concat-intro}
 use Rattle.model.proofs.SetLaws.{same-eq, eq-same, same-refl, same-sym, mem-intro, mem-elim}
-use Rattle.demands.proofs.MapLaws.{try-find-head, try-find-tail, try-find-remove, Found, bound, unbound, found}
+use Rattle.demands.proofs.MapLaws.{branch, keep-not, nil-keep-not, try-find-head, try-find-tail, try-find-remove}
 use Rattle.demands.proofs.Filing.{waiting}
 
 -- what the scan needs of the filed state
 pub record Laws (P : PruningState) (ms : Map (List Name)) (fs : List Fact) : Type 0 where
   pub waits : (n : Name) {a : Passumption} → List·Memᴰ a (waiting P n) → (f : Fact) × List·Memᴰ f fs × List·Memᴰ n (listed f) × (a ≡ passumption f)
   pub waits-for : (n : Name) {f : Fact} → List·Memᴰ f fs → List·Memᴰ n (listed f) → List·Memᴰ (passumption f) (waiting P n)
-  pub left : {f : Fact} {n : Name} → List·Memᴰ f fs → List·Memᴰ n (listed f) → try-find (P .assumption-to-triggers) (f .name) ≡ some (f .triggers)
   pub opens : (n : Name) → try-find (P .macro-freenames) n ≡ try-find ms n
   pub one-fact : {f g : Fact} → List·Memᴰ f fs → List·Memᴰ g fs → f .name ≡ g .name → f ≡ g
 
@@ -35,29 +33,6 @@ left-of met ts = map (keep (λ n. not (met n))) ts
 -- whether a fact has an entry met since `before` and a disjunct wholly met
 abbrev pub hits : (Name → Bool) → (Name → Bool) → Fact → Bool
 hits before met f = any (λ n. met n && not (before n)) (listed f) && any (all met) (f .triggers)
-
-module _ {A : Type 0} where
-  -- general law: to keep what fails two tests, one after the other
-  pub keep-not : (p q : A → Bool) (l : List A) → keep (λ x. not (p x)) (keep (λ x. not (q x)) l) ≡ keep (λ x. not (p x || q x)) l
-  unfolding keep
-  keep-not p q [] = refl
-  keep-not p q (x ∷ l) = go (p x) (q x) refl (keep-not p q l)
-    where
-      go : (a b : Bool) → p x ≡ a → keep (λ x. not (p x)) (keep (λ x. not (q x)) l) ≡ keep (λ x. not (p x || q x)) l → keep (λ x. not (p x)) (cond (not b) (x ∷ keep (λ x. not (q x)) l) (keep (λ x. not (q x)) l)) ≡ cond (not (a || b)) (x ∷ keep (λ x. not (p x || q x)) l) (keep (λ x. not (p x || q x)) l)
-      go true true e h = h
-      go true false e h = rw e h
-      go false true e h = h
-      go false false e h = rw e (ap (x ∷_) h)
-
-  -- general law: nothing is kept of what fails a test where all pass it
-  pub nil-keep-not : (p : A → Bool) (l : List A) → is-nil (keep (λ x. not (p x)) l) ≡ all p l
-  unfolding keep all is-nil
-  nil-keep-not p [] = refl
-  nil-keep-not p (x ∷ l) = go (p x) (nil-keep-not p l)
-    where
-      go : (a : Bool) → is-nil (keep (λ x. not (p x)) l) ≡ all p l → is-nil (cond (not a) (x ∷ keep (λ x. not (p x)) l) (keep (λ x. not (p x)) l)) ≡ (a && all p l)
-      go true h = h
-      go false h = refl
 
 -- a fact is eligible where a disjunct is wholly met
 pub eligible : (met : Name → Bool) (ts : List (List Name)) → any is-nil (left-of met ts) ≡ any (all met) ts
@@ -266,11 +241,6 @@ module _ {P : PruningState} {ms : Map (List Name)} {fs : List Fact} (laws : Laws
       go : {f : Fact} {o : Option (List (List Name))} → Told lid met [] f o → o ≡ some (left-of (with-name lid met) (f .triggers))
       go (told e) = e
       go (untold e k) = absurd (List·Memᴰ·not-nil k)
-
--- general law: what holds of both branches, each under its test, holds of the branch taken
-pub branch : {A : Type 0} (R : A → Type 0) (b : Bool) (x y : A) → (T b → R x) → (T (not b) → R y) → R (cond b x y)
-branch R true x y h k = h tt
-branch R false x y h k = k tt
 
 -- what one symbol comes to, by the facts that wait on it
 pending-by : (acc : List Passumption) (c : Ctxt) (lid : Name) (l : List Passumption) → waiting (c .p) lid ≡ l → trigger-pending (acc, c) lid ≡ cond (is-nil l) (acc, c) (fold-left (trigger-assumption lid) (acc, mark-trigger-reached lid c) l)
