@@ -12,3 +12,12 @@ pub mod WellFormed
 pub mod Queries
 pub mod Refusals
 pub mod Demand1
+pub mod MapLaws
+pub mod Filing
+pub mod Filed
+pub mod ScanSteps
+pub mod ScanRounds
+pub mod ScanFile
+pub mod Pruned
+pub mod RecordLines
+pub mod Demand2
