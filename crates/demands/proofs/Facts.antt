@@ -40,7 +40,7 @@ name-taken [] m = m
 name-taken (Sum-assume f ∷ decls) m = ⊎-elim List·Memᴰ·head (λ i. List·Memᴰ·tail (name-taken decls i)) (List·Memᴰ·cases-cons m)
 name-taken (Sum-definefun d ∷ decls) m = List·Memᴰ·tail (name-taken decls m)
 name-taken (Sum-declfun d ∷ decls) m = List·Memᴰ·tail (name-taken decls m)
-name-taken (Sum-retain names ∷ decls) m = name-taken decls m
+name-taken (Sum-retain ∷ decls) m = name-taken decls m
 
 -- where no name is taken twice, no two facts have one name
 pub names-distinct : (decls : List Summary) → Distinct (collect taken-by decls) → Distinct (fact-names (facts decls))
@@ -49,7 +49,7 @@ names-distinct [] d = d
 names-distinct (Sum-assume f ∷ decls) d = one-more (λ m. distinct-head d (name-taken decls m)) (names-distinct decls (distinct-tail d))
 names-distinct (Sum-definefun e ∷ decls) d = names-distinct decls (distinct-tail d)
 names-distinct (Sum-declfun e ∷ decls) d = names-distinct decls (distinct-tail d)
-names-distinct (Sum-retain names ∷ decls) d = names-distinct decls d
+names-distinct (Sum-retain ∷ decls) d = names-distinct decls d
 
 -- facts with one name are equal
 pub by-name : {fs : List Fact} {f g : Fact} → Distinct (fact-names fs) → List·Memᴰ f fs → List·Memᴰ g fs → f .name ≡ g .name → f ≡ g

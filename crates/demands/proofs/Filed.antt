@@ -66,7 +66,7 @@ macros-collect [] = refl
 macros-collect (Sum-assume f ∷ decls) = macros-collect decls
 macros-collect (Sum-definefun d ∷ decls) = ap ((d .name, d .free-names) ∷_) (macros-collect decls)
 macros-collect (Sum-declfun d ∷ decls) = macros-collect decls
-macros-collect (Sum-retain names ∷ decls) = macros-collect decls
+macros-collect (Sum-retain ∷ decls) = macros-collect decls
 
 -- the bindings of a summary are of the name that it takes, to one value
 abbrev Own : {A : Type 0} → Summary → Map A → Type 0
@@ -131,7 +131,7 @@ module _ {A : Type 0} where
   own ofFact ofDef ofFun h i j (Sum-assume f) = h f
   own ofFact ofDef ofFun h i j (Sum-definefun d) = i d
   own ofFact ofDef ofFun h i j (Sum-declfun d) = j d
-  own ofFact ofDef ofFun h i j (Sum-retain names) = λ k a b m n. absurd (List·Memᴰ·not-nil m)
+  own ofFact ofDef ofFun h i j Sum-retain = λ k a b m n. absurd (List·Memᴰ·not-nil m)
 
 module _ (decls : List Summary) (d : Distinct (collect taken-by decls)) where
   -- each of the maps binds each name once
@@ -170,7 +170,7 @@ waiting-of-elim n (Sum-assume f) i m =
     (f, i, Memᴰ·cast (sym (same-eq h)) j, e)
 waiting-of-elim n (Sum-definefun d) i m = absurd (List·Memᴰ·not-nil m)
 waiting-of-elim n (Sum-declfun d) i m = absurd (List·Memᴰ·not-nil m)
-waiting-of-elim n (Sum-retain names) i m = absurd (List·Memᴰ·not-nil m)
+waiting-of-elim n Sum-retain i m = absurd (List·Memᴰ·not-nil m)
 
 -- what an ambient adds where it is a root
 ambient-elim : {A : Type 0} {x y : A} (k : AsumKind) → List·Memᴰ y (on-kind (λ r. cond r (x ∷ []) []) [] k) → T (is-ambient-root k) × (y ≡ x)
@@ -192,7 +192,7 @@ unfolding roots-of
 roots-of-elim (Sum-assume f) i m = let (t, e) = ambient-elim (f .kind) m in (f, i, t, e)
 roots-of-elim (Sum-definefun d) i m = absurd (List·Memᴰ·not-nil m)
 roots-of-elim (Sum-declfun d) i m = absurd (List·Memᴰ·not-nil m)
-roots-of-elim (Sum-retain names) i m = absurd (List·Memᴰ·not-nil m)
+roots-of-elim Sum-retain i m = absurd (List·Memᴰ·not-nil m)
 
 -- a definition or declaration of the file, as it is found under its name
 pub data Declared (decls : List Summary) (n : Name) (x : Pdef) : Type 0 where
@@ -225,7 +225,7 @@ module _ {roots : List Root} (decls : List Summary) (w : Well-formed decls roots
       go (Sum-assume f) i j = let e = List·Memᴰ·eq-of-singleton j in (f, summary-fact decls i, ap (λ (y : Name × Passumption). y .0) e, ap (λ (y : Name × Passumption). y .1) e)
       go (Sum-definefun d) i j = absurd (List·Memᴰ·not-nil j)
       go (Sum-declfun d) i j = absurd (List·Memᴰ·not-nil j)
-      go (Sum-retain names) i j = absurd (List·Memᴰ·not-nil j)
+      go Sum-retain i j = absurd (List·Memᴰ·not-nil j)
 
   -- a fact that lists a name waits for its own disjuncts
   pub finds-triggers : (b : Bool) {f : Fact} {n : Name} → List·Memᴰ f (facts decls) → List·Memᴰ n (listed f) → try-find (add-summaries b decls init .assumption-to-triggers) (f .name) ≡ some (f .triggers)
@@ -318,7 +318,7 @@ module _ {roots : List Root} (decls : List Summary) (w : Well-formed decls roots
       go (Sum-assume f) i j = absurd (List·Memᴰ·not-nil j)
       go (Sum-definefun d) i j = let e = List·Memᴰ·eq-of-singleton j in definition (summary-definition decls i) (ap (λ (y : Name × Pdef). y .0) e) (ap (λ (y : Name × Pdef). y .1) e)
       go (Sum-declfun d) i j = let e = List·Memᴰ·eq-of-singleton j in declaration (summary-declaration decls i) (ap (λ (y : Name × Pdef). y .0) e) (ap (λ (y : Name × Pdef). y .1) e)
-      go (Sum-retain names) i j = absurd (List·Memᴰ·not-nil j)
+      go Sum-retain i j = absurd (List·Memᴰ·not-nil j)
 
 -- the facts have distinct names
 pub distinct-facts : (decls : List Summary) → Distinct (collect taken-by decls) → Distinct (map (λ f. f .name) (facts decls))
@@ -327,7 +327,7 @@ distinct-facts [] d = no-more
 distinct-facts (Sum-assume f ∷ decls) (one-more n d) = one-more (λ m. let (g, i, e) = map-elim (λ (f : Fact). f .name) (facts decls) m in n (collect-intro taken-by (fact-summary decls i) (List·Memᴰ·head (sym e)))) (distinct-facts decls d)
 distinct-facts (Sum-definefun f ∷ decls) (one-more n d) = distinct-facts decls d
 distinct-facts (Sum-declfun f ∷ decls) (one-more n d) = distinct-facts decls d
-distinct-facts (Sum-retain names ∷ decls) d = distinct-facts decls d
+distinct-facts (Sum-retain ∷ decls) d = distinct-facts decls d
 
 -- the ambients' names, collected
 ambients-collect : (b : Bool) (decls : List Summary) → collect (from-summary (λ f. on-kind (λ r. cond b [] (f .name ∷ [])) [] (f .kind)) nothing nothing) decls ≡ map (λ f. f .name) (cond b [] (keep (λ f. is-ambient (f .kind)) (facts decls)))
@@ -336,7 +336,7 @@ ambients-collect true [] = refl
 ambients-collect false [] = refl
 ambients-collect b (Sum-definefun f ∷ decls) = ambients-collect b decls
 ambients-collect b (Sum-declfun f ∷ decls) = ambients-collect b decls
-ambients-collect b (Sum-retain names ∷ decls) = ambients-collect b decls
+ambients-collect b (Sum-retain ∷ decls) = ambients-collect b decls
 ambients-collect b (Sum-assume f ∷ decls) = rw (ambients-collect b decls) (go b (f .kind))
   where
     go : (b : Bool) (k : AsumKind) → on-kind (λ r. cond b [] (f .name ∷ [])) [] k ++ map (λ f. f .name) (cond b [] (keep (λ f. is-ambient (f .kind)) (facts decls))) ≡ map (λ f. f .name) (cond b [] (cond (is-ambient k) (f ∷ keep (λ f. is-ambient (f .kind)) (facts decls)) (keep (λ f. is-ambient (f .kind)) (facts decls))))
@@ -368,7 +368,7 @@ filed-ambient-names a decls =
     short b (Sum-assume f) = short-kind b (f .name) (f .kind)
     short b (Sum-definefun d) = refl
     short b (Sum-declfun d) = refl
-    short b (Sum-retain names) = refl
+    short b Sum-retain = refl
 
     turned : (b : Bool) (l : List Fact) → reverse (map (λ f. f .name) (cond b [] l)) ≡ map (λ f. f .name) (cond b [] (reverse l))
     turned true l = refl

@@ -22,7 +22,7 @@ abbrev pub from-summary : {X : Type 0} → (Fact → List X) → (Decl → List 
 from-summary ofFact ofDef ofFun (Sum-assume f) = ofFact f
 from-summary ofFact ofDef ofFun (Sum-definefun d) = ofDef d
 from-summary ofFact ofDef ofFun (Sum-declfun d) = ofFun d
-from-summary ofFact ofDef ofFun (Sum-retain names) = []
+from-summary ofFact ofDef ofFun Sum-retain = []
 
 -- what a fact adds, by its kind
 abbrev pub on-kind : {X : Type 0} → (Bool → List X) → List X → AsumKind → List X
@@ -49,7 +49,7 @@ facts-collect [] = refl
 facts-collect (Sum-assume f ∷ decls) = ap (f ∷_) (facts-collect decls)
 facts-collect (Sum-definefun d ∷ decls) = facts-collect decls
 facts-collect (Sum-declfun d ∷ decls) = facts-collect decls
-facts-collect (Sum-retain names ∷ decls) = facts-collect decls
+facts-collect (Sum-retain ∷ decls) = facts-collect decls
 
 -- the definitions, collected
 definitions-collect : (decls : List Summary) → definitions decls ≡ collect (from-summary nothing itself nothing) decls
@@ -58,7 +58,7 @@ definitions-collect [] = refl
 definitions-collect (Sum-assume f ∷ decls) = definitions-collect decls
 definitions-collect (Sum-definefun d ∷ decls) = ap (d ∷_) (definitions-collect decls)
 definitions-collect (Sum-declfun d ∷ decls) = definitions-collect decls
-definitions-collect (Sum-retain names ∷ decls) = definitions-collect decls
+definitions-collect (Sum-retain ∷ decls) = definitions-collect decls
 
 -- the declarations, collected
 declarations-collect : (decls : List Summary) → declarations decls ≡ collect (from-summary nothing nothing itself) decls
@@ -67,28 +67,28 @@ declarations-collect [] = refl
 declarations-collect (Sum-assume f ∷ decls) = declarations-collect decls
 declarations-collect (Sum-definefun d ∷ decls) = declarations-collect decls
 declarations-collect (Sum-declfun d ∷ decls) = ap (d ∷_) (declarations-collect decls)
-declarations-collect (Sum-retain names ∷ decls) = declarations-collect decls
+declarations-collect (Sum-retain ∷ decls) = declarations-collect decls
 
 -- the fact of a summary, as a summary
 is-fact : {decls : List Summary} {f : Fact} (s : Summary) → List·Memᴰ s decls → List·Memᴰ f (from-summary itself nothing nothing s) → List·Memᴰ (Sum-assume f) decls
 is-fact (Sum-assume g) m n = Memᴰ·cast (ap Sum-assume (List·Memᴰ·eq-of-singleton n)) m
 is-fact (Sum-definefun d) m n = absurd (List·Memᴰ·not-nil n)
 is-fact (Sum-declfun d) m n = absurd (List·Memᴰ·not-nil n)
-is-fact (Sum-retain names) m n = absurd (List·Memᴰ·not-nil n)
+is-fact Sum-retain m n = absurd (List·Memᴰ·not-nil n)
 
 -- the definition of a summary, as a summary
 is-definition : {decls : List Summary} {d : Decl} (s : Summary) → List·Memᴰ s decls → List·Memᴰ d (from-summary nothing itself nothing s) → List·Memᴰ (Sum-definefun d) decls
 is-definition (Sum-assume g) m n = absurd (List·Memᴰ·not-nil n)
 is-definition (Sum-definefun d) m n = Memᴰ·cast (ap Sum-definefun (List·Memᴰ·eq-of-singleton n)) m
 is-definition (Sum-declfun d) m n = absurd (List·Memᴰ·not-nil n)
-is-definition (Sum-retain names) m n = absurd (List·Memᴰ·not-nil n)
+is-definition Sum-retain m n = absurd (List·Memᴰ·not-nil n)
 
 -- the declaration of a summary, as a summary
 is-declaration : {decls : List Summary} {d : Decl} (s : Summary) → List·Memᴰ s decls → List·Memᴰ d (from-summary nothing nothing itself s) → List·Memᴰ (Sum-declfun d) decls
 is-declaration (Sum-assume g) m n = absurd (List·Memᴰ·not-nil n)
 is-declaration (Sum-definefun d) m n = absurd (List·Memᴰ·not-nil n)
 is-declaration (Sum-declfun d) m n = Memᴰ·cast (ap Sum-declfun (List·Memᴰ·eq-of-singleton n)) m
-is-declaration (Sum-retain names) m n = absurd (List·Memᴰ·not-nil n)
+is-declaration Sum-retain m n = absurd (List·Memᴰ·not-nil n)
 
 module _ (decls : List Summary) where
   -- a fact of the file is one of its summaries
@@ -163,7 +163,7 @@ module _ {X : Type 0} where
       go p (Sum-assume f) = h p f
       go p (Sum-definefun d) = i p d
       go p (Sum-declfun d) = j p d
-      go p (Sum-retain names) = refl
+      go p Sum-retain = refl
 
 -- the facts by name
 pub filed-names : (b : Bool) (decls : List Summary) → add-summaries b decls init .assumption-name-map ≡ collect (from-summary (λ f. (f .name, passumption f) ∷ []) nothing nothing) (reverse decls) ++ []

@@ -171,7 +171,7 @@ unfoldable pub line-of : Summary → List ℕ
 line-of (Sum-assume f) = f .line ∷ []
 line-of (Sum-definefun d) = d .line ∷ []
 line-of (Sum-declfun d) = d .line ∷ []
-line-of (Sum-retain names) = []
+line-of Sum-retain = []
 
 -- definitions stand on distinct lines
 distinct-definitions : (decls : List Summary) → Distinct (collect line-of decls) → Distinct (map (λ d. d .line) (definitions decls))
@@ -180,7 +180,7 @@ distinct-definitions [] d = no-more
 distinct-definitions (Sum-assume f ∷ decls) (one-more n d) = distinct-definitions decls d
 distinct-definitions (Sum-definefun f ∷ decls) (one-more n d) = one-more (λ m. let (g, i, e) = map-elim (λ (f : Decl). f .line) (definitions decls) m in n (collect-intro line-of (definition-summary decls i) (List·Memᴰ·head (sym e)))) (distinct-definitions decls d)
 distinct-definitions (Sum-declfun f ∷ decls) (one-more n d) = distinct-definitions decls d
-distinct-definitions (Sum-retain names ∷ decls) d = distinct-definitions decls d
+distinct-definitions (Sum-retain ∷ decls) d = distinct-definitions decls d
 
 -- and so do declarations
 distinct-declarations : (decls : List Summary) → Distinct (collect line-of decls) → Distinct (map (λ d. d .line) (declarations decls))
@@ -189,7 +189,7 @@ distinct-declarations [] d = no-more
 distinct-declarations (Sum-assume f ∷ decls) (one-more n d) = distinct-declarations decls d
 distinct-declarations (Sum-definefun f ∷ decls) (one-more n d) = distinct-declarations decls d
 distinct-declarations (Sum-declfun f ∷ decls) (one-more n d) = one-more (λ m. let (g, i, e) = map-elim (λ (f : Decl). f .line) (declarations decls) m in n (collect-intro line-of (declaration-summary decls i) (List·Memᴰ·head (sym e)))) (distinct-declarations decls d)
-distinct-declarations (Sum-retain names ∷ decls) d = distinct-declarations decls d
+distinct-declarations (Sum-retain ∷ decls) d = distinct-declarations decls d
 
 -- what is found on one line is found under one name
 lines-apart : (decls : List Summary) → Distinct (collect line-of decls) → {n m : Name} {x y : Pdef} → Declared decls n x → Declared decls m y → x .pd-resolve ≡ y .pd-resolve → n ≡ m

@@ -9,7 +9,7 @@ use lib.Dec.{T, T-not}
 use Rattle.model.specs.Lists.{concat, collect, fold-left, when, or-else, holds, is-nil, _>>=_}
 use Rattle.model.specs.Names.{Name, bytes, same, mem, starts-with, ends-with, union}
 use Rattle.model.specs.Terms.{Node, FreeV, Leaf, Call, App, Forall, Exists, Let, Labeled, Term, names-of, add-term, free-top-level-names as node-names, term as term-of}
-use Rattle.model.specs.Summaries.{Kinded, Sum-drop, Sum-ambient, Sum-triggers, exclude-names, groups-of, token-triggers, is-empty, op-args, call-one, call-two, two, head, free-top-level-names, group-names, triggers-of-term, at, is-ambient-refinement, ambient-refinement-payload, token, has-eq, rule-1, rule-2, rule-3, rule-4, rule-5, rule-6, rule-7, rule-8, rule-9, rule-10, rule-11, rule-12, first-rule, maybe-add-ambient, summarize-assumption}
+use Rattle.model.specs.Summaries.{Kinded, Sum-drop, Sum-ambient, Sum-triggers, exclude-names, groups-of, token-triggers, is-empty, op-args, call-one, call-two, two, head, free-top-level-names, group-names, triggers-of-term, at, is-ambient-refinement, ambient-refinement-payload, token, has-eq, rule-1, rule-2, rule-3, rule-4, rule-5, rule-6, rule-7, rule-8, rule-9, rule-10, rule-11, rule-12, first-rule, maybe-add-ambient, summarize-kind, summarize-assumption}
 use Rattle.model.specs.Reading.{Content, ask, term, assume, fun, def, retain, root, Summary, Sum-assume, Sum-definefun, Sum-declfun, Sum-retain, Root, State, start, nodes, taken-by, summarize-decl, root-of, add-line, repeats, read, read-file}
 use Rattle.model.specs.Rounds.{facts, definitions}
 use Rattle.model.specs.declared.Op.the-variants.{TrueOp, Iff, Eq, And}
@@ -26,7 +26,7 @@ facts-append [] m = refl
 facts-append (Sum-assume f ∷ l) m = ap (f ∷_) (facts-append l m)
 facts-append (Sum-definefun d ∷ l) m = facts-append l m
 facts-append (Sum-declfun d ∷ l) m = facts-append l m
-facts-append (Sum-retain names ∷ l) m = facts-append l m
+facts-append (Sum-retain ∷ l) m = facts-append l m
 
 -- the definitions of two lists of records, one after the other
 pub definitions-append : (l m : List Summary) → definitions (l ++ m) ≡ definitions l ++ definitions m
@@ -35,7 +35,7 @@ definitions-append [] m = refl
 definitions-append (Sum-assume f ∷ l) m = definitions-append l m
 definitions-append (Sum-definefun d ∷ l) m = ap (d ∷_) (definitions-append l m)
 definitions-append (Sum-declfun d ∷ l) m = definitions-append l m
-definitions-append (Sum-retain names ∷ l) m = definitions-append l m
+definitions-append (Sum-retain ∷ l) m = definitions-append l m
 
 -- records without a fact or a definition, and no root
 no-sets : {l : List Summary} → Distinct (collect taken-by l) → facts l ≡ [] → definitions l ≡ [] → Well-formed l []
@@ -273,7 +273,7 @@ module _ {terms : List Term} (sets : Term-sets terms) where
 
     -- the summary of an assumption is good
     good-summary : (line : ℕ) (name : Name) (pretyping : Bool) (t : ℕ) → Good-fact (summarize-assumption exclude terms line name pretyping t)
-    unfolding summarize-assumption
+    unfolding summarize-assumption summarize-kind
     good-summary line name pretyping t =
         let k = cond-case Good-kinded (is-nil (triggers-of-term exclude terms t)) (good-rules name t) (good-triggers _ (term-triggers t)) in
         record { no-triggers = k .no-triggers; free-set = free-set t; trigger-sets = k .trigger-sets }

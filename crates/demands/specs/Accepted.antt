@@ -1,7 +1,6 @@
 -- What the theorems are about: every accepted file; and what holds of its records.
 use Prim.Native.Nat.{ℕ}
 use mathlib.Core.Path.{_≡_}
-use mathlib.Core.Bool.{Bool, true, false}
 use mathlib.Core.List.{List, [], _∷_, List·Memᴰ}
 use Rattle.model.specs.Lists.{collect}
 use Rattle.model.specs.Names.{Name}

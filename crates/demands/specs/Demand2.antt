@@ -1,11 +1,10 @@
 -- Demand 2, for every accepted file: the list of Pruning.fst, read as definitions over lists, is the kept list.
 use Prim.Native.Nat.{ℕ}
 use mathlib.Core.Path.{_≡_}
-use mathlib.Core.Bool.{Bool, cond}
+use mathlib.Core.Bool.{cond}
 use mathlib.Core.List.{List, [], _++_, map, List·Memᴰ}
 use lib.ListN.{length}
 use Prim.Native.Nat.{suc}
-use Rattle.model.specs.Names.{Name}
 use Rattle.model.specs.Summaries.{Fact}
 use Rattle.model.specs.Reading.{no-ambients, pretyping-axioms, prune-decls, Decl, State}
 use Rattle.model.specs.Pruning.{Ctxt, Passumption, PruningState, init, add-summaries, passumption-of-root, prune, scan}

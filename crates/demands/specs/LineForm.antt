@@ -1,7 +1,7 @@
 -- Demand 1, the refusals 1 to 4: what document 01 says that each field of a line must be, and which refusal a line gets.
 use Prim.Native.Nat.{ℕ, zero, suc, _+_, _≤_}
 use mathlib.Core.Path.{_≡_}
-use mathlib.Core.Bool.{Bool, cond}
+use mathlib.Core.Bool.{cond}
 use mathlib.Core.List.{List, [], _∷_, _++_}
 use mathlib.Core.Logic.{_↔_, _≢_}
 use mathlib.Core.Option.{Option, none, some, Option·getD}
@@ -9,7 +9,7 @@ use lib.Dec.{leb, ltb}
 use lib.ListN.{length}
 use Rattle.model.specs.Names.{bytes}
 use Rattle.model.specs.Lines.{Field, is-name, number}
-use Rattle.model.specs.Reading.{Result, ok, refused, word, op-words, kinds, fixed-count, content, parse}
+use Rattle.model.specs.Reading.{refused, word, op-words, kinds, fixed-count, content, parse}
 use Rattle.model.specs.declared.LineKind.{LineKind}
 use Rattle.model.specs.declared.LineKind.the-variants as kind
 use Rattle.model.specs.declared.Refusal.{Refusal}
