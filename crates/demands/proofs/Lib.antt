@@ -8,6 +8,7 @@ pub mod Demand3
 pub mod LineWalk
 pub mod LineForm
 pub mod ReadingLaws
+pub mod Disjuncts
 pub mod WellFormed
 pub mod Queries
 pub mod Refusals

@@ -13,10 +13,11 @@ use Rattle.model.specs.Summaries.{Kinded, Sum-drop, Sum-ambient, Sum-triggers, 
 use Rattle.model.specs.Reading.{Content, ask, term, assume, fun, def, retain, root, Summary, Sum-assume, Sum-definefun, Sum-declfun, Sum-retain, Root, State, start, nodes, taken-by, summarize-decl, root-of, add-line, repeats, read, read-file}
 use Rattle.model.specs.Rounds.{facts, definitions}
 use Rattle.model.specs.declared.Op.the-variants.{TrueOp, Iff, Eq, And}
-use Rattle.model.proofs.ListLaws.{cond-case, getD-case, any-intro, collect-append, collect-elim, map-elim}
+use Rattle.model.proofs.ListLaws.{getD-case, any-intro, collect-append, fold-left-case}
 use Rattle.model.proofs.SetLaws.{Ascending, empty, one, ascending-add, ascending-union, ascending-diff, mem-intro}
 use Rattle.demands.specs.Accepted.{Distinct, none as distinct-none, one-more, Without-triggers, Good-fact, Well-formed, Accepted-well-formed}
 use Rattle.demands.proofs.Facts.{distinct-append}
+use Rattle.demands.proofs.Disjuncts.{Parts, lawful-kind}
 use Rattle.demands.proofs.ReadingLaws.{line-read, kept-by-file}
 
 -- the facts of two lists of records, one after the other
@@ -68,73 +69,6 @@ well-append {l} {m} {rs} {qs} v w apart =
 pub record Term-sets (terms : List Term) : Type 0 where
   pub of-term : (t : Term) → List·Memᴰ t terms → Ascending (t .names)
 
--- each of these lists is a set
-abbrev pub All-sets : List (List Name) → Type 0
-All-sets l = (d : List Name) → List·Memᴰ d l → Ascending d
-
--- one set
-one-set : {a : List Name} → Ascending a → All-sets (a ∷ [])
-one-set s d i = rw (List·Memᴰ·eq-of-singleton i) s
-
--- a set in front of sets
-more-sets : {a : List Name} {l : List (List Name)} → Ascending a → All-sets l → All-sets (a ∷ l)
-more-sets s h d i = ⊎-elim (λ e. rw e s) (h d) (List·Memᴰ·cases-cons i)
-
--- what holds of how a fact is triggered
-record Good-kinded (k : Kinded) : Type 0 where
-  no-triggers : Without-triggers (k .kind) (k .triggers)
-  trigger-sets : All-sets (k .triggers)
-
--- triggers that are sets are good
-good-triggers : (ts : List (List Name)) → All-sets ts → Good-kinded (Sum-triggers ts)
-unfolding Sum-triggers
-good-triggers ts h = record { no-triggers = tt; trigger-sets = h }
-
--- an ambient has no triggers
-good-ambient : (is-root : Bool) → Good-kinded (Sum-ambient is-root)
-unfolding Sum-ambient
-good-ambient is-root = record { no-triggers = refl; trigger-sets = λ d i. absurd (List·Memᴰ·not-nil i) }
-
--- neither has a dropped fact
-good-drop : Good-kinded Sum-drop
-unfolding Sum-drop
-good-drop = record { no-triggers = refl; trigger-sets = λ d i. absurd (List·Memᴰ·not-nil i) }
-
--- what a token gives: one or two sets of one name
-good-token : (token : Name) → Good-kinded (token-triggers token)
-unfolding token-triggers
-good-token token =
-    cond-case Good-kinded (ends-with token (bytes "@tok"))
-    (record { no-triggers = tt; trigger-sets = more-sets one (one-set one) })
-    (good-triggers ((token ∷ []) ∷ []) (one-set one))
-
--- what holds of what a rule gives, if it gives something
-data Good-option : Option Kinded → Type 0 where
-  gives-none : Good-option none
-  gives : {k : Kinded} → Good-kinded k → Good-option (some k)
-
--- what a rule gives from a value that may be missing
-good-bind : {A : Type 0} (o : Option A) {f : A → Option Kinded} → ((a : A) → Good-option (f a)) → Good-option (o >>= f)
-good-bind none h = gives-none
-good-bind (some a) h = h a
-
--- what it gives under a test
-good-when : (b : Bool) {k : Kinded} → Good-kinded k → Good-option (when b k)
-unfolding when
-good-when true g = gives g
-good-when false g = gives-none
-
--- the first of two
-good-or-else : {o p : Option Kinded} → Good-option o → Good-option p → Good-option (or-else o p)
-unfolding or-else
-good-or-else gives-none h = h
-good-or-else (gives g) h = gives g
-
--- what it gives, or else another
-good-default : {o : Option Kinded} {k : Kinded} → Good-option o → Good-kinded k → Good-kinded (Option·getD o k)
-good-default gives-none h = h
-good-default (gives g) h = g
-
 module _ {terms : List Term} (sets : Term-sets terms) where
   -- the free names of a term are a set
   term-set : (t : ℕ) → Ascending (term-of terms t .names)
@@ -179,104 +113,16 @@ module _ {terms : List Term} (sets : Term-sets terms) where
         go [] out a = a
         go (t ∷ ts) out a = go ts (union out (free-top-level-names exclude terms t)) (ascending-union out (free-set t))
 
-    -- the triggers of a term are sets
-    term-triggers : (t : ℕ) → All-sets (triggers-of-term exclude terms t)
-    unfolding triggers-of-term
-    term-triggers t d i =
-        let (g, j, e) = map-elim (group-names exclude terms) (Option·getD (groups-of (term-of terms t .bare)) []) i in
-        rw (← e) (group-set g)
-
-    -- what rule 1 gives is good
-    good-1 : (name : Name) (t : ℕ) → Good-option (rule-1 exclude terms name t)
-    unfolding rule-1
-    good-1 name t = good-bind (op-args Iff (at exclude terms t) >>= two) (λ p. good-when (starts-with name (bytes "l_quant_interp")) (good-triggers _ (one-set (free-set (p .0)))))
-
-    -- what rule 2 gives is good
-    good-2 : (name : Name) (t : ℕ) → Good-option (rule-2 exclude terms name t)
-    unfolding rule-2
-    good-2 name t = good-when (starts-with name (bytes "assumption_")) (good-triggers _ (cond-case All-sets (is-empty (triggers-of-term exclude terms t)) (one-set (free-set t)) (term-triggers t)))
-
-    -- what rule 3 gives is good
-    good-3 : (name : Name) (t : ℕ) → Good-option (rule-3 exclude terms name t)
-    unfolding rule-3
-    good-3 name t =
-        good-bind (call-two "HasType" (at exclude terms t)) (λ p.
-        good-when (is-ambient-refinement exclude terms (p .1)) (cond-case Good-kinded (is-empty (triggers-of-term exclude terms (ambient-refinement-payload exclude terms (p .1))))
-        (good-ambient true) (good-triggers _ (term-triggers (ambient-refinement-payload exclude terms (p .1))))))
-
-    -- what rule 4 gives is good
-    good-4 : (name : Name) (t : ℕ) → Good-option (rule-4 exclude terms name t)
-    unfolding rule-4
-    good-4 name t =
-        good-bind (call-one "Valid" (at exclude terms t)) (λ applied.
-        good-bind (call-two "ApplyTT" (at exclude terms applied)) (λ p.
-        good-when (holds (same (bytes "__uu__PartialApp")) (head (at exclude terms (p .0))))
-        (good-default (good-bind (token exclude terms (p .1)) (λ n. gives (good-token n))) (good-triggers [] (λ d i. absurd (List·Memᴰ·not-nil i))))))
-
-    -- what rule 5 gives is good
-    good-5 : (name : Name) (t : ℕ) → Good-option (rule-5 exclude terms name t)
-    unfolding rule-5
-    good-5 name t =
-        good-bind
-        (or-else (call-one "Valid" (at exclude terms t))
-        (or-else (call-two "HasType" (at exclude terms t) >>= λ (subject, ty). some subject)
-        (or-else (call-one "IsTotFun" (at exclude terms t)) (call-one "is-Tm_arrow" (at exclude terms t)))))
-        (λ first. gives (good-triggers _ (one-set (free-set first))))
-
-    -- what rule 6 gives is good
-    good-6 : (name : Name) (t : ℕ) → Good-option (rule-6 exclude terms name t)
-    unfolding rule-6
-    good-6 name t = good-bind (op-args Eq (at exclude terms t) >>= two) (λ p. good-bind (call-one "Term_constr_id" (at exclude terms (p .1))) (λ argument. gives (good-triggers _ (one-set (free-set argument)))))
-
-    -- what rule 7 gives is good
-    good-7 : (name : Name) (t : ℕ) → Good-option (rule-7 exclude terms name t)
-    unfolding rule-7
-    good-7 name t =
-        good-bind (op-args And (at exclude terms t)) (λ parts. gives (good-triggers _ (λ d i. let (part, j, k) = collect-elim (triggers-of-term exclude terms) parts i in term-triggers part d k)))
-
-    -- what rule 8 gives is good
-    good-8 : (name : Name) (t : ℕ) → Good-option (rule-8 exclude terms name t)
-    unfolding rule-8
-    good-8 name t = good-bind (op-args Eq (at exclude terms t) >>= two) (λ p. good-when (starts-with name (bytes "equation_")) (good-triggers _ (one-set (free-set (p .0)))))
-
-    -- what rule 9 gives is good
-    good-9 : (name : Name) (t : ℕ) → Good-option (rule-9 exclude terms name t)
-    unfolding rule-9
-    good-9 name t =
-        good-bind (op-args Iff (at exclude terms t) >>= two) (λ p. good-or-else
-        (good-bind (has-eq exclude terms (p .0)) (λ l. good-bind (has-eq exclude terms (p .1)) (λ r. gives (good-triggers _ (one-set (free-set l))))))
-        (gives (good-triggers _ (more-sets (free-set (p .0)) (one-set (free-set (p .1)))))))
-
-    -- what rule 10 gives is good
-    good-10 : (name : Name) (t : ℕ) → Good-option (rule-10 exclude terms name t)
-    unfolding rule-10
-    good-10 name t = good-bind (op-args Eq (at exclude terms t) >>= two) (λ p. gives (good-triggers _ (more-sets (free-set (p .0)) (one-set (free-set (p .1))))))
-
-    -- what rule 11 gives is good
-    good-11 : (name : Name) (t : ℕ) → Good-option (rule-11 exclude terms name t)
-    unfolding rule-11
-    good-11 name t = good-bind (op-args TrueOp (at exclude terms t)) (λ ts. gives good-drop)
-
-    -- what rule 12 gives is good
-    good-12 : (name : Name) (t : ℕ) → Good-option (rule-12 exclude terms name t)
-    unfolding rule-12
-    good-12 name t = gives (good-ambient false)
-
-    -- and so is what the twelve give together
-    good-rules : (name : Name) (t : ℕ) → Good-kinded (maybe-add-ambient exclude terms name t)
-    unfolding maybe-add-ambient first-rule
-    good-rules name t =
-        good-default (good-1 name t) (good-default (good-2 name t) (good-default (good-3 name t) (good-default (good-4 name t)
-        (good-default (good-5 name t) (good-default (good-6 name t) (good-default (good-7 name t) (good-default (good-8 name t)
-        (good-default (good-9 name t) (good-default (good-10 name t) (good-default (good-11 name t) (good-default (good-12 name t)
-        good-drop)))))))))))
+    -- what disjuncts are made of is sets
+    part-sets : Parts (λ trimmed d. Ascending d) exclude terms
+    part-sets = record { of-term = free-set; of-group = group-set; of-token = λ t n e trimmed. one; of-trimmed = λ n. one }
 
     -- the summary of an assumption is good
     good-summary : (line : ℕ) (name : Name) (pretyping : Bool) (t : ℕ) → Good-fact (summarize-assumption exclude terms line name pretyping t)
-    unfolding summarize-assumption summarize-kind
+    unfolding summarize-assumption
     good-summary line name pretyping t =
-        let k = cond-case Good-kinded (is-nil (triggers-of-term exclude terms t)) (good-rules name t) (good-triggers _ (term-triggers t)) in
-        record { no-triggers = k .no-triggers; free-set = free-set t; trigger-sets = k .trigger-sets }
+        let k = lawful-kind (λ trimmed d. Ascending d) exclude terms part-sets name t in
+        record { no-triggers = k .no-triggers; free-set = free-set t; trigger-sets = k .disjuncts }
 
     -- what a line adds is well formed
     well-line : (n : ℕ) (c : Content) → Well-formed (summarize-decl exclude terms n c) (root-of exclude terms n c)
@@ -309,14 +155,7 @@ module _ {terms : List Term} (sets : Term-sets terms) where
 
 -- the table after a line
 sets-after : {terms : List Term} → Term-sets terms → (c : Content) → Term-sets (fold-left add-term terms (nodes c))
-unfolding nodes fold-left
-sets-after sets (ask q options) = sets
-sets-after sets (term node) = more-terms sets node
-sets-after sets (assume name flag t) = sets
-sets-after sets (fun name) = sets
-sets-after sets (def name t) = sets
-sets-after sets (retain names) = sets
-sets-after sets (root q name t) = sets
+sets-after sets c = fold-left-case Term-sets add-term (nodes c) (λ terms node i s. more-terms s node) sets
 
 -- a line that does not repeat takes no name that is taken
 apart : (exclude : List Name) (n : ℕ) (s : State) (c : Content) → T (not (repeats exclude n s c))

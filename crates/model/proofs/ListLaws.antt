@@ -244,6 +244,13 @@ module _ {A : Type 0} where
   getD-case P (x ∷ xs) zero d h p = h x (List·Memᴰ·head refl)
   getD-case P (x ∷ xs) (suc i) d h p = getD-case P xs i d (λ y m. h y (List·Memᴰ·tail m)) p
 
+  -- what holds of the element at each place, of the default too, holds with one element more at the end
+  pub getD-one-more : (P : ℕ → A → Type 0) (l : List A) (x d : A) → ((i : ℕ) → P i (getD l i d)) → P (length l) x → ((i : ℕ) → P i d) → (i : ℕ) → P i (getD (l ++ (x ∷ [])) i d)
+  getD-one-more P [] x d h p q zero = p
+  getD-one-more P [] x d h p q (suc i) = q (suc i)
+  getD-one-more P (y ∷ ys) x d h p q zero = h zero
+  getD-one-more P (y ∷ ys) x d h p q (suc i) = getD-one-more (λ j. P (suc j)) ys x d (λ j. h (suc j)) p (λ j. q (suc j)) i
+
 module _ {A B : Type 0} where
   -- the members of a member's list are collected
   pub collect-intro : (f : A → List B) {x : A} {l : List A} {y : B} → List·Memᴰ x l → List·Memᴰ y (f x) → List·Memᴰ y (collect f l)
@@ -268,6 +275,12 @@ module _ {A B : Type 0} where
   unfolding fold-left
   fold-left-append f a [] m = refl
   fold-left-append f a (x ∷ xs) m = fold-left-append f (f a x) xs m
+
+  -- what every step keeps the fold keeps
+  pub fold-left-case : (P : A → Type 0) (f : A → B → A) (l : List B) → ((a : A) (x : B) → List·Memᴰ x l → P a → P (f a x)) → {a : A} → P a → P (fold-left f a l)
+  unfolding fold-left
+  fold-left-case P f [] h p = p
+  fold-left-case P f (x ∷ xs) h {a} p = fold-left-case P f xs (λ b y m. h b y (List·Memᴰ·tail m)) (h a x (List·Memᴰ·head refl) p)
 
 module _ {A : Type 0} where
   -- to put lists one after the other is to collect them
