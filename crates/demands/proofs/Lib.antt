@@ -9,7 +9,9 @@ pub mod LineWalk
 pub mod LineForm
 pub mod ReadingLaws
 pub mod Disjuncts
+pub mod TermNumbers
 pub mod WellFormed
+pub mod StateLaws
 pub mod Queries
 pub mod Refusals
 pub mod Demand1

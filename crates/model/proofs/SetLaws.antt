@@ -314,6 +314,27 @@ ascending-remove n a = ascending-keep (λ m. not (same n m)) a
 abbrev pub Within : List Name → List Name → Type 0
 Within l m = (k : Name) → T (mem k l) → T (mem k m)
 
+-- no names are within any list
+pub within-nil : (m : List Name) → Within [] m
+unfolding mem any
+within-nil m k t = absurd t
+
+-- where two lists together are within a list the first is
+pub within-left : (k l m : List Name) → Within (k ++ l) m → Within k m
+within-left k l m w n t = w n (mem-append n k l .1 (inl t))
+
+-- and so is the second
+pub within-right : (k l m : List Name) → Within (k ++ l) m → Within l m
+within-right k l m w n t = w n (mem-append n k l .1 (inr t))
+
+-- a list within a list is so with a name of that list added
+pub within-add : (n : Name) (l m : List Name) → T (mem n m) → Within l m → Within (add n l) m
+within-add n l m t w k u = ⊎-elim (λ e. rw e t) (w k) (mem-add k n l .0 u)
+
+-- the union of two lists within a list is within it
+pub within-union : (k l m : List Name) → Within k m → Within l m → Within (union k l) m
+within-union k l m v w n t = ⊎-elim (v n) (w n) (mem-union n k l .0 t)
+
 -- a set within a list whose first name is before it is within the others
 within-tail : {n : Name} {l : List Name} (ns : List Name) → Ascending (n ∷ l) → Within l (n ∷ ns) → Within l ns
 within-tail {n} ns a w k t = ⊎-elim (λ e. absurd (order-irrefl (ascending-head a k t) (sym e))) (λ u. u) (mem-cons k n ns .0 (w k t))
