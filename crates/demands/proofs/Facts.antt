@@ -1,33 +1,15 @@
 -- The facts of a file by their names: no two facts have one name.
-use mathlib.Core.Path.{_≡_, refl, sym, _∙_}
-use mathlib.Core.Logic.{_⊎_, inl, inr, ⊎-elim}
-use mathlib.Core.Bool.{cond, not}
-use mathlib.Core.List.{List, [], _∷_, _++_, map, List·Memᴰ, List·Memᴰ·head, List·Memᴰ·tail, List·Memᴰ·cases-cons, List·Memᴰ·not-nil, List·Memᴰ·append-cases, Memᴰ·cast}
-use lib.Dec.{T, T-not, not-T}
+use mathlib.Core.Path.{_≡_}
+use mathlib.Core.Logic.{⊎-elim}
+use mathlib.Core.List.{List, [], _∷_, map, List·Memᴰ, List·Memᴰ·head, List·Memᴰ·tail, List·Memᴰ·cases-cons}
 use Rattle.model.specs.Lists.{keep, collect}
 use Rattle.model.specs.Names.{Name, same}
 use Rattle.model.specs.Summaries.{Fact}
 use Rattle.model.specs.Reading.{Summary, Sum-assume, Sum-definefun, Sum-declfun, Sum-retain, Root, taken-by}
 use Rattle.model.specs.Rounds.{facts}
-use Rattle.model.proofs.ListLaws.{T-dec, cond-true, cond-false, map-intro}
-use Rattle.model.proofs.SetLaws.{same-eq, eq-same}
-use Rattle.demands.specs.Accepted.{Distinct, none, one-more, Well-formed}
-
-module _ {A : Type 0} where
-  -- the first of a list that holds nothing twice is not among the others
-  pub distinct-head : {a : A} {l : List A} → Distinct (a ∷ l) → List·Memᴰ a l → ⊥
-  distinct-head (one-more h d) = h
-
-  -- the others of such a list hold nothing twice
-  pub distinct-tail : {a : A} {l : List A} → Distinct (a ∷ l) → Distinct l
-  distinct-tail (one-more h d) = d
-
-  -- a list that holds nothing twice, then another that has nothing of it
-  pub distinct-append : {l m : List A} → Distinct l → Distinct m → ((a : A) → List·Memᴰ a l → List·Memᴰ a m → ⊥) → Distinct (l ++ m)
-  distinct-append none e apart = e
-  distinct-append (one-more {a} {l} new d) e apart =
-      one-more (λ i. ⊎-elim new (apart a (List·Memᴰ·head refl)) (List·Memᴰ·append-cases l i))
-      (distinct-append d e (λ b i. apart b (List·Memᴰ·tail i)))
+use Rattle.model.proofs.ListLaws.{map-elim}
+use Rattle.demands.specs.Accepted.{Distinct, one-more, Well-formed}
+use Rattle.demands.proofs.Distinct.{distinct-head, distinct-tail, distinct-map, keep-one-name}
 
 -- the names of some facts, in their order
 abbrev pub fact-names : List Fact → List Name
@@ -53,32 +35,15 @@ names-distinct (Sum-retain ∷ decls) d = names-distinct decls d
 
 -- facts with one name are equal
 pub by-name : {fs : List Fact} {f g : Fact} → Distinct (fact-names fs) → List·Memᴰ f fs → List·Memᴰ g fs → f .name ≡ g .name → f ≡ g
-by-name d (List·Memᴰ·head p) (List·Memᴰ·head q) e = p ∙ sym q
-by-name d (List·Memᴰ·head p) (List·Memᴰ·tail j) e = absurd (distinct-head d (Memᴰ·cast (cc) (map-intro (λ (f : Fact). f .name) j)))
-by-name d (List·Memᴰ·tail i) (List·Memᴰ·head q) e = absurd (distinct-head d (Memᴰ·cast (cc) (map-intro (λ (f : Fact). f .name) i)))
-by-name d (List·Memᴰ·tail i) (List·Memᴰ·tail j) e = by-name (distinct-tail d) i j e
+by-name {fs} d i j e = distinct-map (λ (f : Fact). f .name) fs d i j e
 
 -- two facts of a file with one name are equal
 pub fact-by-name : {decls : List Summary} {roots : List Root} → Well-formed decls roots
     → {f g : Fact} → List·Memᴰ f (facts decls) → List·Memᴰ g (facts decls) → f .name ≡ g .name → f ≡ g
 fact-by-name {decls} wf i j e = by-name (names-distinct decls (wf .distinct)) i j e
 
--- a name that no fact has keeps no fact
-pub none-of-name : {n : Name} (fs : List Fact) → (List·Memᴰ n (fact-names fs) → ⊥) → keep (λ f. same (f .name) n) fs ≡ []
-unfolding keep
-none-of-name [] h = refl
-none-of-name {n} (f ∷ fs) h = rw (none-of-name fs (λ m. h (List·Memᴰ·tail m)), cond-false (same (f .name) n) _ _ (not-T (same (f .name) n) (λ t. h (List·Memᴰ·head (sym (same-eq t))))))
-
--- the one fact with a name that a fact has
+-- the names of the facts of a name are that name alone, where a fact has it
 pub one-of-name : {n : Name} (fs : List Fact) → Distinct (fact-names fs) → List·Memᴰ n (fact-names fs) → fact-names (keep (λ f. same (f .name) n) fs) ≡ n ∷ []
-unfolding keep
-one-of-name [] d m = absurd (List·Memᴰ·not-nil m)
-one-of-name {n} (f ∷ fs) d m = go (T-dec (same (f .name) n)) (one-of-name fs (distinct-tail d))
-  where
-    others : List Fact
-    others = keep (λ g. same (g .name) n) fs
-
-    go : T (same (f .name) n) ⊎ T (not (same (f .name) n)) → (List·Memᴰ n (fact-names fs) → fact-names others ≡ n ∷ [])
-        → fact-names (cond (same (f .name) n) (f ∷ others) others) ≡ n ∷ []
-    go (inl t) below = rw (cond-true (same (f .name) n) (f ∷ others) others t, none-of-name {n = n} fs (λ i. distinct-head d (Memᴰ·cast (same-eq t) i)), same-eq t)
-    go (inr t) below = rw (cond-false (same (f .name) n) (f ∷ others) others t) (below (⊎-elim (λ e. absurd (T-not (same (f .name) n) t (eq-same (sym e)))) (λ i. i) (List·Memᴰ·cases-cons m)))
+one-of-name fs d m =
+    let (f, i, e) = map-elim (λ (f : Fact). f .name) fs m in
+    rw (← e, keep-one-name (λ (f : Fact). f .name) f fs d i)

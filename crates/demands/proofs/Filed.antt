@@ -16,10 +16,11 @@ use Rattle.model.specs.Pruning.{Map, try-find, Passumption, Pdef, init, init-ma
 use Rattle.model.specs.Rounds.{facts, definitions, declarations, macros, listed, filed, is-ambient, is-ambient-root}
 use Rattle.model.specs.declared.AsumKind.{AsumKind}
 use Rattle.model.specs.declared.AsumKind.the-variants.{Drop, Ambient, Triggers}
-use Rattle.model.proofs.ListLaws.{collect-intro, collect-elim, concat-intro, concat-elim, map-elim}
-use Rattle.model.proofs.SetLaws.{same-eq, same-refl, mem-intro, mem-elim, mem-from-list, ascending-from-list, subset-length}
-use Rattle.demands.specs.Accepted.{Distinct, none as no-more, one-more, Well-formed, Without-triggers}
-use Rattle.demands.proofs.MapLaws.{sets-again, from-list-length, collect-reverse-intro, collect-reverse-elim, collect-reverse, map-reverse, reverse-intro, reverse-elim, distinct-collect, Functional, try-find-intro, try-find-elim, try-find-same, try-find-append}
+use Rattle.model.proofs.ListLaws.{collect-intro, collect-elim, collect-reverse-intro, collect-reverse-elim, collect-reverse, concat-intro, concat-elim, map-reverse, reverse-intro, reverse-elim}
+use Rattle.model.proofs.SetLaws.{same-eq, same-refl, mem-intro, mem-elim, mem-from-list, ascending-from-list, subset-length, sets-again, from-list-length}
+use Rattle.demands.specs.Accepted.{Distinct, Well-formed, Without-triggers}
+use Rattle.demands.proofs.Distinct.{distinct-collect}
+use Rattle.demands.proofs.MapLaws.{Functional, try-find-intro, try-find-elim, try-find-same, try-find-append}
 use Rattle.demands.proofs.Filing.{from-summary, on-kind, nothing, itself, waiting, entries-of, keys, filed-names, filed-defs, filed-macros, filed-triggers, filed-ambients, filed-roots, filed-waiting, filed-keys, fact-summary, summary-fact, definition-summary, summary-definition, declaration-summary, summary-declaration}
 
 -- a member of a list of at most one: the test holds, and it is the element
@@ -44,7 +45,7 @@ module _ {X : Type 0} where
   entries-intro : (new : Name → List X) (ts : List (List Name)) {t : Name} {x : X} → List·Memᴰ t (concat ts) → List·Memᴰ x (new t) → List·Memᴰ x (entries-of new ts)
   entries-intro new ts m o =
       let (d, n, i) = concat-elim ts m in
-      collect-intro (λ d. collect new (reverse d)) (reverse-intro ts n) (collect-intro new (reverse-intro d i) o)
+      collect-intro (λ d. collect new (reverse d)) (reverse-intro n) (collect-intro new (reverse-intro i) o)
 
   -- what a fact adds that no ambient adds, its triggers add
   triggers-elim : {x : X} (added : List X) (k : AsumKind) → List·Memᴰ x (on-kind nothing added k) → List·Memᴰ x added
@@ -200,13 +201,6 @@ pub data Declared (decls : List Summary) (n : Name) (x : Pdef) : Type 0 where
   declaration : {d : Decl} → List·Memᴰ d (declarations decls) → n ≡ d .name → x ≡ pdef true d → Declared decls n x
 
 module _ {roots : List Root} (decls : List Summary) (w : Well-formed decls roots) where
-  -- facts of one name are one fact
-  pub one-fact : {f g : Fact} → List·Memᴰ f (facts decls) → List·Memᴰ g (facts decls) → f .name ≡ g .name → f ≡ g
-  unfolding taken-by
-  one-fact {f} {g} m n e =
-      let s : Sum-assume f ≡ Sum-assume g = one-summary decls (w .distinct) {n = f .name} (fact-summary decls m) (fact-summary decls n) (List·Memᴰ·head refl) (List·Memᴰ·head e) in
-      cc
-
   -- the state finds a fact by its name
   pub finds-fact : (b : Bool) {f : Fact} → List·Memᴰ f (facts decls) → try-find (add-summaries b decls init .assumption-name-map) (f .name) ≡ some (passumption f)
   finds-fact b {f} m =
@@ -319,15 +313,6 @@ module _ {roots : List Root} (decls : List Summary) (w : Well-formed decls roots
       go (Sum-definefun d) i j = let e = List·Memᴰ·eq-of-singleton j in definition (summary-definition decls i) (ap (λ (y : Name × Pdef). y .0) e) (ap (λ (y : Name × Pdef). y .1) e)
       go (Sum-declfun d) i j = let e = List·Memᴰ·eq-of-singleton j in declaration (summary-declaration decls i) (ap (λ (y : Name × Pdef). y .0) e) (ap (λ (y : Name × Pdef). y .1) e)
       go Sum-retain i j = absurd (List·Memᴰ·not-nil j)
-
--- the facts have distinct names
-pub distinct-facts : (decls : List Summary) → Distinct (collect taken-by decls) → Distinct (map (λ f. f .name) (facts decls))
-unfolding collect taken-by facts
-distinct-facts [] d = no-more
-distinct-facts (Sum-assume f ∷ decls) (one-more n d) = one-more (λ m. let (g, i, e) = map-elim (λ (f : Fact). f .name) (facts decls) m in n (collect-intro taken-by (fact-summary decls i) (List·Memᴰ·head (sym e)))) (distinct-facts decls d)
-distinct-facts (Sum-definefun f ∷ decls) (one-more n d) = distinct-facts decls d
-distinct-facts (Sum-declfun f ∷ decls) (one-more n d) = distinct-facts decls d
-distinct-facts (Sum-retain ∷ decls) d = distinct-facts decls d
 
 -- the ambients' names, collected
 ambients-collect : (b : Bool) (decls : List Summary) → collect (from-summary (λ f. on-kind (λ r. cond b [] (f .name ∷ [])) [] (f .kind)) nothing nothing) decls ≡ map (λ f. f .name) (cond b [] (keep (λ f. is-ambient (f .kind)) (facts decls)))

@@ -13,9 +13,9 @@ use Rattle.model.specs.Pruning.{Map, try-find, map-add, Passumption, PruningSta
 use Rattle.model.specs.Rounds.{facts, definitions, declarations}
 use Rattle.model.specs.declared.AsumKind.{AsumKind}
 use Rattle.model.specs.declared.AsumKind.the-variants.{Drop, Ambient, Triggers}
-use Rattle.model.proofs.ListLaws.{T-dec, cond-true, cond-false, cond-ap, collect-intro, collect-elim}
+use Rattle.model.proofs.ListLaws.{T-dec, cond-true, cond-false, cond-ap, collect-intro, collect-elim, fold-keeps, fold-collects}
 use Rattle.model.proofs.SetLaws.{same-eq, eq-same}
-use Rattle.demands.proofs.MapLaws.{fold-keeps, fold-collects, try-find-head, try-find-tail}
+use Rattle.demands.proofs.MapLaws.{try-find-head, try-find-tail}
 
 -- what a summary adds, by what it is
 abbrev pub from-summary : {X : Type 0} → (Fact → List X) → (Decl → List X) → (Decl → List X) → Summary → List X

@@ -79,12 +79,12 @@ module _ (a : Ask) (ms : Map (List Name)) (fs : List Fact) where
   rounds-few (more {r} {scanned} t e) = let l = unmet-falls r scanned t in let i = rounds-few e in omega arith
 
 -- a run before its first round
-abbrev pub start : Run
-start = record { met = []; reached = []; rounds = 0 }
+abbrev pub first-run : Run
+first-run = record { met = []; reached = []; rounds = 0 }
 
 module _ (a : Ask) (decls : List Summary) (roots : List Root) where
   -- the run of the records of a file ends with the round that triggers none
-  pub run-ends : Ends a (macros decls) (facts decls) start (first-scanned a (facts decls) roots) (run a decls roots)
+  pub run-ends : Ends a (macros decls) (facts decls) first-run (first-scanned a (facts decls) roots) (run a decls roots)
   unfolding run
   run-ends = rounds-end a (macros decls) (facts decls) (suc (length (from-list (filed (facts decls))))) _ _ (omega (arith, unmet-filed (facts decls) []))
 

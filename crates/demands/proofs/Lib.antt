@@ -1,3 +1,4 @@
+pub mod Distinct
 pub mod Facts
 pub mod MetLaws
 pub mod FiringLaws

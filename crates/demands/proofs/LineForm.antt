@@ -157,18 +157,18 @@ module _ (n count : ℕ) (f : Field) (fs : List Field) where
         by-kind (some k) e = by-place e (T-dec (placed n f))
 
 -- a line that is faulty is refused
-line-refused : {n count : ℕ} {f : Field} {fs : List Field} {r : Refusal} → Faulty-line n count (f ∷ fs) r → parse n count (f ∷ fs) ≡ refused r
-line-refused {n} {count} {fs} (unknown {f} e) = parse-unknown n count f fs e
-line-refused {n} {count} {fs} (late-ask h) = parse-misplaced n count (bytes "ask") fs (λ p. h (p .ask-first refl))
-line-refused {n} {count} {fs} (no-ask {f} e h) = parse-misplaced n count f fs (λ p. h (p .first-ask e))
-line-refused {n} {count} {fs} (miscounted {f} {k} {fixed} e h d) =
+faulty-refused : {n count : ℕ} {f : Field} {fs : List Field} {r : Refusal} → Faulty-line n count (f ∷ fs) r → parse n count (f ∷ fs) ≡ refused r
+faulty-refused {n} {count} {fs} (unknown {f} e) = parse-unknown n count f fs e
+faulty-refused {n} {count} {fs} (late-ask h) = parse-misplaced n count (bytes "ask") fs (λ p. h (p .ask-first refl))
+faulty-refused {n} {count} {fs} (no-ask {f} e h) = parse-misplaced n count f fs (λ p. h (p .first-ask e))
+faulty-refused {n} {count} {fs} (miscounted {f} {k} {fixed} e h d) =
     parse-miscounted n count f fs e (other-count-exact (length (f ∷ fs)) (fixed-count k) .1 (fixed, h, d))
-line-refused {n} {count} {fs} {r} (field {f} {k} e p c x) =
+faulty-refused {n} {count} {fs} {r} (field {f} {k} e p c x) =
     parse-fields n count f fs e (placed-exact n f .1 p) (counted-exact (length (f ∷ fs)) (fixed-count k) .1 c) ∙ refused-fields k count fs r .1 x
 
 -- a line is refused with 1 to 4 exactly for a fault
 pub refused-line : Refused-line
-refused-line n count f fs r = (line-faulty n count f fs, line-refused)
+refused-line n count f fs r = (line-faulty n count f fs, faulty-refused)
 
 -- nothing more is due exactly after as many fields as there are sorts
 in-order-done : (ss : List Sort) (fs : List Field) → (in-order ss fs ≡ nothing) ↔ (length ss ≤ length fs)

@@ -3,7 +3,7 @@ use Prim.Native.Nat.{ℕ, suc}
 use mathlib.Core.Path.{_≡_, refl, sym, _∙_, ap, ap₂, subst}
 use mathlib.Core.Logic.{_⊎_, inl, inr, ⊎-elim}
 use mathlib.Core.Bool.{Bool, true, false, cond, not}
-use mathlib.Core.List.{List, [], _∷_, _++_, map, map-append, map-map, List·Memᴰ, List·Memᴰ·head, List·Memᴰ·tail, List·Memᴰ·cases-cons, List·Memᴰ·not-nil, List·Memᴰ·append-cases, Memᴰ·append-left, Memᴰ·append-right, Memᴰ·cast, reverse}
+use mathlib.Core.List.{List, [], _∷_, _++_, map, map-append, map-map, List·Memᴰ, List·Memᴰ·head, List·Memᴰ·tail, List·Memᴰ·cases-cons, List·Memᴰ·not-nil, List·Memᴰ·append-cases, Memᴰ·append-left, Memᴰ·append-right, Memᴰ·cast}
 use mathlib.Core.Option.{Option, none, some, Option·none-ne-some, Option·some-injective}
 use lib.Dec.{T, T-not}
 use lib.ListN.{length}
@@ -12,26 +12,19 @@ use Rattle.model.specs.Names.{Name, same, mem, add}
 use Rattle.model.specs.Summaries.{Fact}
 use Rattle.model.specs.Reading.{Ask, no-ambients, pretyping-axioms, prune-decls, Root, Decl, Summary, Sum-assume, Sum-definefun, Sum-declfun, Sum-retain}
 use Rattle.model.specs.Pruning.{Map, try-find, Passumption, Pdef, PruningState, init, add-summaries, passumption, passumption-of-root, include-found, include-name, decls-and-defs, prune}
-use Rattle.model.specs.Rounds.{facts, definitions, declarations, is-ambient, goal-roots, Run}
+use Rattle.model.specs.Rounds.{facts, definitions, declarations, goal-roots, Run}
 use Rattle.model.specs.Kept.{reached-facts, ambients, kept-facts, kept-names, kept-decls, kept}
-use Rattle.model.proofs.ListLaws.{collect-append, collect-intro, collect-elim, keep-intro, keep-elim, map-intro, map-elim}
-use Rattle.model.proofs.SetLaws.{mem-intro, mem-elim, mem-add}
+use Rattle.model.proofs.ListLaws.{branch, collect-append, collect-intro, collect-elim, collect-cong, collect-one, collect-map, map-collect, fold-left-collect, keep-intro, keep-elim, map-intro, map-elim}
+use Rattle.model.proofs.SetLaws.{keep-no-name, mem-intro, mem-elim, mem-add}
 use Rattle.demands.specs.Accepted.{Distinct, none as no-more, one-more, Well-formed}
 use Rattle.demands.specs.Demand2.{Same-lines}
-use Rattle.demands.proofs.MapLaws.{branch, reverse-elim, collect-map, map-collect, collect-cong, collect-itself, fold-left-collect, distinct-map-keep, distinct-collect, keep-none, keep-one}
+use Rattle.demands.proofs.Distinct.{distinct-map-keep, distinct-collect, keep-one-name}
+use Rattle.demands.proofs.Facts.{names-distinct}
+use Rattle.demands.proofs.ListedLaws.{ambients-elim}
 use Rattle.demands.proofs.Filing.{definition-summary, declaration-summary}
-use Rattle.demands.proofs.Filed.{finds-fact, fact-found, distinct-facts, filed-ambient-names, pdef, Declared, definition, declaration, finds-definition, finds-declaration, declared}
+use Rattle.demands.proofs.Filed.{finds-fact, fact-found, filed-ambient-names, pdef, Declared, definition, declaration, finds-definition, finds-declaration, declared}
 use Rattle.demands.proofs.ScanRounds.{free-in, fact-free, free-fact, Scanned}
 use Rattle.demands.proofs.ScanFile.{first-roots}
-
--- the members of the kept ambients are facts
-ambient-fact : (a : Ask) (fs : List Fact) {f : Fact} → List·Memᴰ f (ambients a fs) → List·Memᴰ f fs
-unfolding ambients
-ambient-fact a fs m = go (no-ambients a) m
-  where
-    go : (b : Bool) {f : Fact} → List·Memᴰ f (cond b [] (reverse (keep (λ f. is-ambient (f .kind)) fs))) → List·Memᴰ f fs
-    go true m = absurd (List·Memᴰ·not-nil m)
-    go false m = keep-elim (λ f. is-ambient (f .kind)) fs (reverse-elim (keep (λ f. is-ambient (f .kind)) fs) m) .0
 
 module _ (a : Ask) {roots : List Root} (decls : List Summary) (w : Well-formed decls roots) where
   -- what is found by a name is the fact of that name
@@ -40,12 +33,12 @@ module _ (a : Ask) {roots : List Root} (decls : List Summary) (w : Well-formed d
   by-name n = go (try-find (add-summaries (no-ambients a) decls init .assumption-name-map) n) refl
     where
       go : (o : Option Passumption) → try-find (add-summaries (no-ambients a) decls init .assumption-name-map) n ≡ o → to-list o ≡ map passumption (keep (λ f. same (f .name) n) (facts decls))
-      go none e = sym (ap (map passumption) (keep-none (λ (f : Fact). f .name) n (facts decls) (λ m.
+      go none e = sym (ap (map passumption) (keep-no-name (λ (f : Fact). f .name) n (facts decls) (λ m.
           let (f, i, p) = map-elim (λ (f : Fact). f .name) (facts decls) m in
           Option·none-ne-some (passumption f) (sym e ∙ ap (try-find (add-summaries (no-ambients a) decls init .assumption-name-map)) (sym p) ∙ finds-fact decls w (no-ambients a) i))))
       go (some x) e =
           let (f, i, p, q) = fact-found decls w (no-ambients a) n e in
-          ap (_∷ []) q ∙ sym (ap (map passumption) (ap (λ (m : Name). keep (λ (g : Fact). same (g .name) m) (facts decls)) p ∙ keep-one (λ (f : Fact). f .name) f (facts decls) (distinct-facts decls (w .distinct)) i))
+          ap (_∷ []) q ∙ sym (ap (map passumption) (ap (λ (m : Name). keep (λ (g : Fact). same (g .name) m) (facts decls)) p ∙ keep-one-name (λ (f : Fact). f .name) f (facts decls) (names-distinct decls (w .distinct)) i))
 
   -- the assumptions that `prune` keeps are the kept facts
   kept-assumptions : (reached : List Name) → collect (λ name. to-list (try-find (add-summaries (no-ambients a) decls init .assumption-name-map) name)) (reached ++ add-summaries (no-ambients a) decls init .ambients) ≡ map passumption (kept-facts a (facts decls) reached)
@@ -56,8 +49,8 @@ module _ (a : Ask) {roots : List Root} (decls : List Summary) (w : Well-formed d
       ∙ ap₂ _++_
       (collect-cong F (λ n. map passumption (keep (λ f. same (f .name) n) (facts decls))) reached (λ n m. by-name n) ∙ sym (map-collect passumption (λ n. keep (λ f. same (f .name) n) (facts decls)) reached))
       (ap (collect F) (filed-ambient-names a decls) ∙ collect-map F (λ f. f .name) (ambients a (facts decls))
-      ∙ collect-cong (λ f. F (f .name)) (λ f. passumption f ∷ []) (ambients a (facts decls)) (λ f m. ap to-list (finds-fact decls w (no-ambients a) (ambient-fact a (facts decls) m)))
-      ∙ collect-itself passumption (ambients a (facts decls)))
+      ∙ collect-cong (λ f. F (f .name)) (λ f. passumption f ∷ []) (ambients a (facts decls)) (λ f m. ap to-list (finds-fact decls w (no-ambients a) (ambients-elim a (facts decls) m .0)))
+      ∙ collect-one passumption (ambients a (facts decls)))
       ∙ sym (map-append passumption (collect (λ n. keep (λ f. same (f .name) n) (facts decls)) reached) (ambients a (facts decls)))
 
   -- their lines

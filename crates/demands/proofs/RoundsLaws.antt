@@ -17,7 +17,7 @@ use Rattle.demands.specs.Accepted.{Distinct, Well-formed}
 use Rattle.demands.specs.Fuel.{Ends, last, more}
 use Rattle.demands.specs.Demand3.{met-by, Closed}
 use Rattle.demands.proofs.Facts.{fact-names, by-name, names-distinct}
-use Rattle.demands.proofs.FuelLaws.{start, run-ends}
+use Rattle.demands.proofs.FuelLaws.{first-run, run-ends}
 use Rattle.demands.proofs.MetLaws.{met-elim, met-with, met-fact, fact-met, with-first, with-fact, with-elim, with-more, met-grows, met-scans, after-elim, ascending-after}
 use Rattle.demands.proofs.FiringLaws.{fires-elim, fires-more, triggers-fires, fires-triggers}
 
@@ -142,14 +142,14 @@ module _ (a : Ask) (ms : Map (List Name)) (fs : List Fact) where
         after-old k t = met-grows ms end (next-scanned a ms fs r scanned) k t
 
     -- all that holds before the first round
-    pub first-round : (first : List Name) → Before first start first
+    pub first-round : (first : List Name) → Before first first-run first
     unfolding mem any
     first-round first =
         record {
           met-set = empty;
           reached-set = empty;
-          met-below = λ k t. ⊎-elim (with-first ms fs first (λ f. mem (f .name) []) k) (λ u. absurd u) (after-elim ms start first k t);
-          met-above = λ k t. ⊎-elim (met-scans ms start first k) (λ p. absurd (p .2)) (with-elim ms fs first (λ f. mem (f .name) []) k t);
+          met-below = λ k t. ⊎-elim (with-first ms fs first (λ f. mem (f .name) []) k) (λ u. absurd u) (after-elim ms first-run first k t);
+          met-above = λ k t. ⊎-elim (met-scans ms first-run first k) (λ p. absurd (p .2)) (with-elim ms fs first (λ f. mem (f .name) []) k t);
           reached-fires = λ n t. absurd t;
           fires-reached = λ f m t u. absurd (fires-elim [] f u .is-met);
         }
@@ -164,7 +164,7 @@ module _ (a : Ask) (ms : Map (List Name)) (fs : List Fact) where
     -- the reached facts are in each set that holds every retainable fact which fires on the names met from it
     pub in-closed : (first : List Name) (set : Fact → Bool)
         → ((f : Fact) → List·Memᴰ f fs → T (retainable a f) → T (fires (met-with ms fs first set) f) → T (set f))
-        → {end : Run} → Ends a ms fs start first end
+        → {end : Run} → Ends a ms fs first-run first end
         → (f : Fact) → List·Memᴰ f fs → T (reached-by end f) → T (set f)
     unfolding mem any
     in-closed first set closed {end} e =

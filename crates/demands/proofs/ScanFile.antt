@@ -11,13 +11,14 @@ use Rattle.model.specs.Names.{Name, same, mem, from-list}
 use Rattle.model.specs.Summaries.{Fact}
 use Rattle.model.specs.Reading.{Ask, no-ambients, pretyping-axioms, Root, Summary}
 use Rattle.model.specs.Pruning.{Passumption, init, passumption-of-root, add-summaries}
-use Rattle.model.specs.Rounds.{Run, facts, macros, filed, is-ambient-root, goal-roots, ambient-roots, first-scanned, run}
-use Rattle.model.proofs.ListLaws.{T-ext, any-append, collect-append, collect-intro, collect-elim, keep-intro, keep-elim}
+use Rattle.model.specs.Rounds.{facts, macros, filed, is-ambient-root, goal-roots, ambient-roots, first-scanned, run}
+use Rattle.model.proofs.ListLaws.{T-ext, any-append, collect-append, collect-intro, collect-elim, collect-map, keep-intro, keep-elim, keep-all}
 use Rattle.model.proofs.SetLaws.{mem-intro, mem-elim, empty}
 use Rattle.demands.specs.Accepted.{Well-formed}
 use Rattle.demands.specs.Fuel.{Ends}
-use Rattle.demands.proofs.MapLaws.{keep-all, collect-map}
-use Rattle.demands.proofs.Filed.{one-fact, finds-triggers, waits-elim, waits-intro, finds-macro, extra-root-elim, extra-root-intro, bound-keys}
+use Rattle.demands.proofs.Facts.{fact-by-name}
+use Rattle.demands.proofs.FuelLaws.{first-run}
+use Rattle.demands.proofs.Filed.{finds-triggers, waits-elim, waits-intro, finds-macro, extra-root-elim, extra-root-intro, bound-keys}
 use Rattle.demands.proofs.ScanSteps.{Laws, left-of}
 use Rattle.demands.proofs.ScanRounds.{free-in, fact-free, free-fact, Together, Scanned, scans-run}
 
@@ -25,11 +26,7 @@ use Rattle.demands.proofs.ScanRounds.{free-in, fact-free, free-fact, To
 left-all : (ts : List (List Name)) → left-of (λ n. mem n []) ts ≡ ts
 unfolding mem any
 left-all [] = refl
-left-all (d ∷ ts) = ap₂ _∷_ (keep-all d) (left-all ts)
-
--- before round 1
-abbrev pub first-run : Run
-first-run = record { met = []; reached = []; rounds = 0 }
+left-all (d ∷ ts) = ap₂ _∷_ (keep-all (λ n. true) d (λ n m. tt)) (left-all ts)
 
 -- what `prune` scans first
 abbrev pub first-roots : Ask → List Root → List Passumption → List Passumption
@@ -48,7 +45,7 @@ module _ {roots : List Root} (decls : List Summary) (w : Well-formed decls roots
         waits = λ n m. waits-elim decls w b n m;
         waits-for = λ n m i. waits-intro decls w b n m i;
         opens = finds-macro decls w b;
-        one-fact = λ m n e. one-fact decls w m n e;
+        one-fact = fact-by-name w;
       }
 
   -- the names free in the extra roots are those free in the ambient roots

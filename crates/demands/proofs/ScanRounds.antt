@@ -13,12 +13,11 @@ use Rattle.model.specs.Summaries.{Fact}
 use Rattle.model.specs.Reading.{Ask, pretyping-axioms}
 use Rattle.model.specs.Pruning.{Map, try-find, Passumption, PruningState, passumption, should-retain-assumption, Ctxt, already-reached, reached-assumption, macro-expand, new-syms, reach, pending, to-scan, scan}
 use Rattle.model.specs.Rounds.{met-from, lies-within, triggers-in, retainable, Run, met-after, triggered, fresh, after-round, next-scanned}
-use Rattle.model.proofs.ListLaws.{T-and, T-or, T-dec, T-ext, cond-true, cond-false, is-nil-elim, mem-not-nil, not-nil-mem, collect-intro, collect-elim, keep-intro, keep-elim, map-intro, map-elim}
+use Rattle.model.proofs.ListLaws.{branch, T-and, T-or, T-dec, T-ext, cond-true, cond-false, is-nil-elim, mem-not-nil, not-nil-mem, collect-intro, collect-elim, keep-intro, keep-elim, map-intro, map-elim}
 use Rattle.model.proofs.SetLaws.{mem-intro, mem-elim, mem-append, mem-from-list, mem-add, mem-union, union-mem, Ascending, ascending-add, ascending-union, ascending-ext}
 use Rattle.demands.specs.Fuel.{Scans, Ends}
 use Rattle.demands.proofs.Filing.{waiting}
 use Rattle.demands.proofs.ScanSteps.{Laws, Inv, Round, pending-round}
-use Rattle.demands.proofs.MapLaws.{branch}
 
 -- the names free in what is scanned
 abbrev pub free-in : List Passumption → List Name

@@ -10,9 +10,9 @@ use Rattle.model.specs.Names.{Name, same, mem, remove}
 use Rattle.model.specs.Summaries.{Fact}
 use Rattle.model.specs.Pruning.{Map, try-find, map-add, Passumption, PruningState, passumption, with-trigger-to-assumption, with-assumption-to-triggers, trigger-reached, remove-trigger, remove-trigger-for-assumption, Ctxt, mark-trigger-reached, find-assumptions-waiting-on-trigger, remove-trigger-for, trigger-assumption, trigger-pending, trigger-pending-assumptions}
 use Rattle.model.specs.Rounds.{listed}
-use Rattle.model.proofs.ListLaws.{T-and, T-or, T-dec, true-T, T-ext, cond-true, cond-false, any-intro, any-elim, all-intro, all-elim, keep-cong, is-nil-elim, concat-intro}
+use Rattle.model.proofs.ListLaws.{branch, keep-not, nil-keep-not, T-and, T-or, T-dec, true-T, T-ext, cond-true, cond-false, any-intro, any-elim, all-intro, all-elim, keep-cong, is-nil-elim, concat-intro}
 use Rattle.model.proofs.SetLaws.{same-eq, eq-same, same-refl, same-sym, mem-intro, mem-elim}
-use Rattle.demands.proofs.MapLaws.{branch, keep-not, nil-keep-not, try-find-head, try-find-tail, try-find-remove}
+use Rattle.demands.proofs.MapLaws.{try-find-head, try-find-tail, try-find-remove}
 use Rattle.demands.proofs.Filing.{waiting}
 
 -- what the scan needs of the filed state

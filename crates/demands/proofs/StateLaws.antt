@@ -1,13 +1,13 @@
 -- Laws of the state that reading carries from line to line: how names are numbered, which terms a term names, what is counted.
-use Prim.Native.Nat.{ℕ, _+_, _<_}
+use Prim.Native.Nat.{ℕ, _+_}
 use native.Mathlib.Omega.{arith}
 use mathlib.Core.Path.{_≡_, refl, sym, _∙_, ap, subst}
 use mathlib.Core.Logic.{_⊎_, inl, inr, ⊎-elim}
-use mathlib.Core.Bool.{Bool, true, false, cond, not}
-use mathlib.Core.List.{List, [], _∷_, _++_, map, append-nil, append-assoc, List·Memᴰ, List·Memᴰ·head, List·Memᴰ·not-nil, List·Memᴰ·append-cases, List·Memᴰ·eq-of-singleton, Memᴰ·append-left, Memᴰ·append-right}
+use mathlib.Core.Bool.{not}
+use mathlib.Core.List.{List, [], _∷_, _++_, map, append-nil, append-assoc, List·Memᴰ, List·Memᴰ·head, List·Memᴰ·not-nil, List·Memᴰ·append-cases, List·Memᴰ·eq-of-singleton}
 use mathlib.Core.Option.{some, Option·none-ne-some, Option·some-injective}
 use lib.Dec.{T, T-not}
-use lib.ListN.{length, length-append, getD}
+use lib.ListN.{length, length-append}
 use Rattle.model.specs.Lists.{concat, collect, fold-left, sum, when, or-else, is-nil, _>>=_}
 use Rattle.model.specs.Names.{Name, mem, union}
 use Rattle.model.specs.Lines.{Line}
@@ -18,7 +18,7 @@ use Rattle.model.specs.Rounds.{facts, definitions, declarations}
 use Rattle.model.proofs.ListLaws.{T-dec, cond-true, cond-false, getD-case, getD-one-more, fold-left-case, collect-elim, sum-map-append}
 use Rattle.model.proofs.SetLaws.{Within, within-nil, within-left, within-right, within-add, within-union, mem-intro, mem-elim, mem-cons, mem-first, mem-append, mem-diff}
 use Rattle.demands.specs.Accepted.{Accepted, Distinct, none, one-more}
-use Rattle.demands.proofs.Facts.{distinct-append}
+use Rattle.demands.proofs.Distinct.{distinct-append}
 use Rattle.demands.proofs.Filing.{fact-summary, definition-summary, declaration-summary}
 use Rattle.demands.proofs.ReadingLaws.{line-read, kept-by-file}
 use Rattle.demands.proofs.Disjuncts.{Parts, lawful-kind}

@@ -1,12 +1,10 @@
 -- The terms that an accepted line names are below the count of the term lines before it.
 use Prim.Native.Nat.{ℕ, zero, suc, _<_}
-use native.Mathlib.Omega.{arith}
 use mathlib.Core.Path.{_≡_, refl, subst}
 use mathlib.Core.Logic.{⊎-elim}
-use mathlib.Core.Bool.{Bool, true, false, cond, not}
-use mathlib.Core.List.{List, [], _∷_, _++_, List·Memᴰ, List·Memᴰ·cases-cons, List·Memᴰ·not-nil, List·Memᴰ·append-cases, List·Memᴰ·eq-of-singleton}
-use lib.Dec.{T, ltb, ltb→lt}
-use lib.ListN.{length}
+use mathlib.Core.Bool.{Bool, true, false, cond}
+use mathlib.Core.List.{List, [], _∷_, _++_, List·Memᴰ, List·Memᴰ·cases-cons, List·Memᴰ·not-nil, List·Memᴰ·append-cases}
+use lib.Dec.{ltb, ltb→lt}
 use Rattle.model.specs.Lists.{concat}
 use Rattle.model.specs.Lines.{Field}
 use Rattle.model.specs.Terms.{Node, references}

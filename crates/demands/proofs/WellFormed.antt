@@ -2,21 +2,19 @@
 use Prim.Native.Nat.{ℕ}
 use mathlib.Core.Path.{_≡_, refl, sym, ap, subst}
 use mathlib.Core.Logic.{⊎-elim}
-use mathlib.Core.Bool.{Bool, true, false, not}
-use mathlib.Core.List.{List, [], _∷_, _++_, List·Memᴰ, List·Memᴰ·cases-cons, List·Memᴰ·not-nil, List·Memᴰ·append-cases, List·Memᴰ·eq-of-singleton}
-use mathlib.Core.Option.{Option, none, some, Option·getD}
+use mathlib.Core.Bool.{Bool, not}
+use mathlib.Core.List.{List, [], _∷_, _++_, List·Memᴰ, List·Memᴰ·not-nil, List·Memᴰ·append-cases, List·Memᴰ·eq-of-singleton}
 use lib.Dec.{T, T-not}
-use Rattle.model.specs.Lists.{concat, collect, fold-left, when, or-else, holds, is-nil, _>>=_}
-use Rattle.model.specs.Names.{Name, bytes, same, mem, starts-with, ends-with, union}
+use Rattle.model.specs.Lists.{concat, collect, fold-left}
+use Rattle.model.specs.Names.{Name, mem, union}
 use Rattle.model.specs.Terms.{Node, FreeV, Leaf, Call, App, Forall, Exists, Let, Labeled, Term, names-of, add-term, free-top-level-names as node-names, term as term-of}
-use Rattle.model.specs.Summaries.{Kinded, Sum-drop, Sum-ambient, Sum-triggers, exclude-names, groups-of, token-triggers, is-empty, op-args, call-one, call-two, two, head, free-top-level-names, group-names, triggers-of-term, at, is-ambient-refinement, ambient-refinement-payload, token, has-eq, rule-1, rule-2, rule-3, rule-4, rule-5, rule-6, rule-7, rule-8, rule-9, rule-10, rule-11, rule-12, first-rule, maybe-add-ambient, summarize-kind, summarize-assumption}
+use Rattle.model.specs.Summaries.{exclude-names, free-top-level-names, group-names, at, summarize-assumption}
 use Rattle.model.specs.Reading.{Content, ask, term, assume, fun, def, retain, root, Summary, Sum-assume, Sum-definefun, Sum-declfun, Sum-retain, Root, State, start, nodes, taken-by, summarize-decl, root-of, add-line, repeats, read, read-file}
 use Rattle.model.specs.Rounds.{facts, definitions}
-use Rattle.model.specs.declared.Op.the-variants.{TrueOp, Iff, Eq, And}
 use Rattle.model.proofs.ListLaws.{getD-case, any-intro, collect-append, fold-left-case}
 use Rattle.model.proofs.SetLaws.{Ascending, empty, one, ascending-add, ascending-union, ascending-diff, mem-intro}
-use Rattle.demands.specs.Accepted.{Distinct, none as distinct-none, one-more, Without-triggers, Good-fact, Well-formed, Accepted-well-formed}
-use Rattle.demands.proofs.Facts.{distinct-append}
+use Rattle.demands.specs.Accepted.{Distinct, none as distinct-none, one-more, Good-fact, Well-formed, Accepted-well-formed}
+use Rattle.demands.proofs.Distinct.{distinct-append}
 use Rattle.demands.proofs.Disjuncts.{Parts, lawful-kind}
 use Rattle.demands.proofs.ReadingLaws.{line-read, kept-by-file}
 
