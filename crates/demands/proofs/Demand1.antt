@@ -29,7 +29,7 @@ use Rattle.demands.proofs.ReadingLaws.{Line-view, unended, unparsed, re
 use Rattle.demands.proofs.LineForm.{refused-line}
 use Rattle.demands.proofs.Refusals.{parse-refusal, fields-line, Reaches, reaches-first, reaches-later, lines-append, file-refused, refused-file, refused-empty, file-refusal}
 
--- the test of the working slices
+-- the test of the working slices holds exactly where one is too short
 short-test : (works : List ℕ) → T (any (λ n. ltb n working-words) works) ↔ Short-slice works
 unfolding working-words
 short-test works = (
@@ -87,7 +87,7 @@ data Call-view (file works : List ℕ) (room : ℕ) : Outcome → Type 0 where
   listing : Lines-judged file works → (s : State) → Accepted file s → length (kept-list s) ≤ room
       → Call-view file works room (list (kept-list s) (visits (run-of s .met) (facts (s .decls))) (run-of s .rounds))
 
--- what a call comes to
+-- every call comes to its answer in one of these ways
 call-view : (file works : List ℕ) (room : ℕ) → Call-view file works room (outcome file works room)
 call-view file works room = ⊎-elim (λ t. let p = short-test works .0 t in rw (short-call file works room p) (short p)) by-size (T-dec (any (λ n. ltb n working-words) works))
   where
@@ -116,7 +116,7 @@ clash z = omega arith
 other-than : (P : Refusal → Type 0) {r : Refusal} (q : Refusal) → P r → r ≡ q → (P q → ⊥) → ⊥
 other-than P q o e lacks = lacks (rw e at o)
 
--- 7, exactly under its condition
+-- the answer is 7 exactly under its condition
 pub refusal-7 : Refusal-7
 refusal-7 file works room place = (go (call-view file works room), λ p. rw (p .0) (short-call file works room (p .1)))
   where
@@ -127,7 +127,7 @@ refusal-7 file works room place = (go (call-view file works room), λ p. rw (p .
     go (lacking j s f h) e = absurd (clash (cc))
     go (listing j s f h) e = absurd (clash (cc))
 
--- 9, exactly under its condition
+-- the answer is 9 exactly under its condition
 pub refusal-9 : Refusal-9
 refusal-9 file works room place = (go (call-view file works room), λ p. rw (p .0) (large-call file works room (p .1) (p .2)))
   where
@@ -138,7 +138,7 @@ refusal-9 file works room place = (go (call-view file works room), λ p. rw (p .
     go (lacking j s f h) e = absurd (clash (cc))
     go (listing j s f h) e = absurd (clash (cc))
 
--- 8, exactly under its condition
+-- the answer is 8 exactly under its condition
 pub refusal-8 : Refusal-8
 refusal-8 file works room place = (go (call-view file works room), λ (j, (s, f, is, h)). rw is (room-call file works room j s f h))
   where
@@ -150,7 +150,7 @@ refusal-8 file works room place = (go (call-view file works room), λ (j, (s, f,
     go (lacking j s f h) e = (j, (s, f, (cc), h))
     go (listing j s f h) e = absurd (clash (cc))
 
--- a list, exactly under its condition
+-- the answer is a list exactly under its condition
 pub list-given : List-given
 list-given file works room given seen turns =
     (go (call-view file works room), λ (j, (s, f, is, seen-is, turns-are, h)). rw (is, seen-is, turns-are) (list-call file works room j s f h))
@@ -164,15 +164,15 @@ list-given file works room given seen turns =
     go (lacking j s f h) e = absurd (clash (cc))
     go (listing j s f h) e = (j, (s, f, (cc), (cc), (cc), h))
 
--- a line that is reached from the start
+-- a line that is reached from the start, in the words of the statement
 reached : {ls : List Line} {n : ℕ} → Reaches exclude-names 1 start ls n → Reached-line ls n
 reached l = let place = l .place in record { before = l .before; line = l .line; after = l .after; is-line = l .is-line; place = omega arith; state = l .state; reading = l .reading }
 
--- and back
+-- and from those words back
 reaches : {ls : List Line} {n : ℕ} → Reached-line ls n → Reaches exclude-names 1 start ls n
 reaches l = let place = l .place in record { before = l .before; line = l .line; after = l .after; is-line = l .is-line; place = omega arith; state = l .state; reading = l .reading }
 
--- a refusal of a line, exactly where a line is refused
+-- the answer is a refusal of a line exactly where a line is refused
 pub line-refused : Line-refused
 unfolding reached reaches
 line-refused file works room r n o = (go (call-view file works room), λ (j, p). refused-call file works room j (⊎-elim empty-file (λ (l, e). refused-file exclude-names file (reaches l, e)) p))
@@ -220,12 +220,12 @@ module _ {ls : List Line} {n : ℕ} (l : Reached-line ls n) where
       go (past-limit c t p u v) e = absurd (other-than Of-fields refusal.Limit o (cc) (λ o. elim o [ ]))
       go (accepted c t p u v) e = absurd (clash (cc))
 
-  -- and back
+  -- a line that lacks its final 0A or has a fault of its fields is refused so
   refused-by-fields : {r : Refusal} → Fields-refused l r → read-line exclude-names n (l .state) (l .line) ≡ refused r
   refused-by-fields (no-final-0a t) = unended-line exclude-names n (l .state) (l .line) t
   refused-by-fields {r} (faulty t x) = unparsed-line exclude-names n (l .state) (l .line) t (refused-bytes n _ (l .line .bytes) r .1 x)
 
--- 1 to 4, exactly under their conditions
+-- the answer is one of 1 to 4 exactly under its condition
 pub refusals-1-to-4 : Refusals-1-to-4
 refusals-1-to-4 file works room r n o =
     let (to, from) = line-refused file works room r n (fields-line o) in (
@@ -245,7 +245,7 @@ module _ (exclude : List Name) where
   taken-takes terms n (retain spelled) i = absurd (List·Memᴰ·not-nil i)
   taken-takes terms n (root q name t) i = absurd (List·Memᴰ·not-nil i)
 
-  -- and back
+  -- the name that a line takes is added to those taken
   takes-taken : (terms : List Term) (n : ℕ) {c : Content} {k : Name} → Takes c k → List·Memᴰ k (collect taken-by (summarize-decl exclude terms n c))
   unfolding collect taken-by summarize-decl summarize-assumption
   takes-taken terms n by-assume = List·Memᴰ·head refl
@@ -329,7 +329,7 @@ module _ {ls : List Line} {n : ℕ} (l : Reached-line ls n) where
         earlier-takes = w .takes;
       }
 
-  -- the test of 5
+  -- the test of 5 holds exactly where the line repeats a name
   repeats-test : (c : Content) → T (repeats exclude-names n (l .state) c) ↔ Repeats l c
   unfolding repeats
   repeats-test c = (to, from)
@@ -345,7 +345,7 @@ module _ {ls : List Line} {n : ℕ} (l : Reached-line ls n) where
           any-intro (λ k. mem k (collect taken-by (l .state .decls))) (takes-taken exclude-names (l .state .terms) n (q .takes))
           (mem-intro (earlier-taken (q .earlier) (q .earlier-says) (q .earlier-takes)))
 
--- the test of 6
+-- the test of 6 holds exactly where a limit is passed
 past-test : (s : State) → T (not (all within (limits s))) ↔ Past-limit s
 unfolding limits all
 past-test s = (to, λ p. not-T (all within (limits s)) (from p))
@@ -376,7 +376,7 @@ past-test s = (to, λ p. not-T (all within (limits s)) (from p))
     from (trigger-entries h) = at-most _ 2048 h (List·Memᴰ·tail (List·Memᴰ·tail (List·Memᴰ·tail (List·Memᴰ·tail (List·Memᴰ·head refl)))))
     from (name-uses h) = at-most _ 6144 h (List·Memᴰ·tail (List·Memᴰ·tail (List·Memᴰ·tail (List·Memᴰ·tail (List·Memᴰ·tail (List·Memᴰ·head refl))))))
 
--- 5, exactly under its condition
+-- the answer is 5 exactly under its condition
 pub refusal-5 : Refusal-5
 refusal-5 file works room n = (to, from)
   where
@@ -400,7 +400,7 @@ refusal-5 file works room n = (to, from)
         line-refused file works room refusal.Repeated n line-repeated .1
         (j, inr (l, repeated-line exclude-names n (l .state) (l .line) (says .ended) c (says .parsed) (repeats-test l c .1 q)))
 
--- 6, exactly under its condition
+-- the answer is 6 exactly under its condition
 pub refusal-6 : Refusal-6
 refusal-6 file works room n = (to, from)
   where

@@ -13,8 +13,7 @@ use Rattle.model.specs.declared.Op.the-variants.{TrueOp, Iff, Eq, And}
 use Rattle.model.proofs.ListLaws.{cond-case, collect-elim, map-elim}
 use Rattle.demands.specs.Accepted.{Without-triggers}
 
--- the law holds of all that disjuncts are made of: the free names of a term, those of a pattern group, a token, and what a
--- token is trimmed to. It may speak of the names that the fact trims off its token beside the disjunct
+-- the law holds of all that disjuncts are made of, each beside the names that its fact trims off a token
 pub record Parts (law : List Name → List Name → Type 0) (exclude : List Name) (terms : List Term) : Type 0 where
   pub of-term : (t : ℕ) → law [] (free-top-level-names exclude terms t)
   pub of-group : (ts : List ℕ) → law [] (group-names exclude terms ts)
@@ -32,24 +31,24 @@ data Lawful-option (law : List Name → List Name → Type 0) : Option Kinded �
   gives : {k : Kinded} → Lawful law k → Lawful-option law (some k)
 
 module _ {law : List Name → List Name → Type 0} where
-  -- what a rule gives from a value that may be missing
+  -- what a rule gives from a value that may be missing is lawful, if it is so from each value
   lawful-bind : {A : Type 0} (o : Option A) {f : A → Option Kinded} → ((a : A) → o ≡ some a → Lawful-option law (f a)) → Lawful-option law (o >>= f)
   lawful-bind none h = gives-none
   lawful-bind (some a) h = h a refl
 
-  -- what it gives under a test
+  -- what it gives under a test is lawful
   lawful-when : (b : Bool) {k : Kinded} → Lawful law k → Lawful-option law (when b k)
   unfolding when
   lawful-when true g = gives g
   lawful-when false g = gives-none
 
-  -- the first of two
+  -- the first of two that are lawful is
   lawful-or-else : {o p : Option Kinded} → Lawful-option law o → Lawful-option law p → Lawful-option law (or-else o p)
   unfolding or-else
   lawful-or-else gives-none h = h
   lawful-or-else (gives g) h = gives g
 
-  -- what it gives, or else another
+  -- what it gives, or else another, is lawful where both are
   lawful-default : {o : Option Kinded} {k : Kinded} → Lawful-option law o → Lawful law k → Lawful law (Option·getD o k)
   lawful-default gives-none h = h
   lawful-default (gives g) h = g
@@ -59,11 +58,11 @@ module _ (law : List Name → List Name → Type 0) where
   abbrev Each : List Name → List (List Name) → Type 0
   Each trimmed l = (d : List Name) → List·Memᴰ d l → law trimmed d
 
-  -- it holds of a list of one disjunct where it holds of that one
+  -- the law holds of a list of one disjunct where it holds of that one
   each-one : {trimmed a : List Name} → law trimmed a → Each trimmed (a ∷ [])
   each-one s d i = rw (List·Memᴰ·eq-of-singleton i) s
 
-  -- and of one disjunct in front of others
+  -- it holds with one disjunct more where it holds of that one
   each-more : {trimmed a : List Name} {l : List (List Name)} → law trimmed a → Each trimmed l → Each trimmed (a ∷ l)
   each-more s h d i = ⊎-elim (λ e. rw e s) (h d) (List·Memᴰ·cases-cons i)
 
@@ -72,12 +71,12 @@ module _ (law : List Name → List Name → Type 0) where
   unfolding Sum-triggers
   lawful-triggers ts h = record { no-triggers = tt; disjuncts = h }
 
-  -- an ambient has no triggers
+  -- an ambient, which has no triggers, is lawful
   lawful-ambient : (is-root : Bool) → Lawful law (Sum-ambient is-root)
   unfolding Sum-ambient
   lawful-ambient is-root = record { no-triggers = refl; disjuncts = λ d i. absurd (List·Memᴰ·not-nil i) }
 
-  -- neither has a dropped fact
+  -- a dropped fact, which has no triggers, is lawful
   lawful-drop : Lawful law Sum-drop
   unfolding Sum-drop
   lawful-drop = record { no-triggers = refl; disjuncts = λ d i. absurd (List·Memᴰ·not-nil i) }
@@ -91,18 +90,18 @@ module _ (law : List Name → List Name → Type 0) where
       (lawful-triggers ((token ∷ []) ∷ []) (each-one (whole [])))
 
   module _ (exclude : List Name) (terms : List Term) (parts : Parts law exclude terms) where
-    -- the law holds of the triggers of a term
+    -- the law holds of each of the triggers of a term
     each-of-term : (t : ℕ) → Each [] (triggers-of-term exclude terms t)
     unfolding triggers-of-term
     each-of-term t d i =
         let (g, j, e) = map-elim (group-names exclude terms) (Option·getD (groups-of (term terms t .bare)) []) i in
         rw (← e) (parts .of-group g)
 
-    -- one trigger set, the free names of a term
+    -- one trigger set, the free names of a term, is lawful
     of-one : (t : ℕ) → Lawful law (Sum-triggers (free-top-level-names exclude terms t ∷ []))
     of-one t = lawful-triggers _ (each-one (parts .of-term t))
 
-    -- two of them
+    -- two trigger sets, the free names of two terms, are lawful
     of-two : (t u : ℕ) → Lawful law (Sum-triggers (free-top-level-names exclude terms t ∷ free-top-level-names exclude terms u ∷ []))
     of-two t u = lawful-triggers _ (each-more (parts .of-term t) (each-one (parts .of-term u)))
 
@@ -191,7 +190,7 @@ module _ (law : List Name → List Name → Type 0) where
     unfolding rule-12
     lawful-12 name t = gives (lawful-ambient false)
 
-    -- and so is what the twelve give together
+    -- what the twelve rules give together is lawful
     lawful-rules : (name : Name) (t : ℕ) → Lawful law (maybe-add-ambient exclude terms name t)
     unfolding maybe-add-ambient first-rule
     lawful-rules name t =

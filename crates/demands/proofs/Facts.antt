@@ -1,36 +1,29 @@
 -- The facts of a file by their names: no two facts have one name.
-use mathlib.Core.Path.{_≡_}
-use mathlib.Core.Logic.{⊎-elim}
-use mathlib.Core.List.{List, [], _∷_, map, List·Memᴰ, List·Memᴰ·head, List·Memᴰ·tail, List·Memᴰ·cases-cons}
+use mathlib.Core.Path.{_≡_, sym}
+use mathlib.Core.List.{List, [], _∷_, map, List·Memᴰ, List·Memᴰ·head}
 use Rattle.model.specs.Lists.{keep, collect}
 use Rattle.model.specs.Names.{Name, same}
 use Rattle.model.specs.Summaries.{Fact}
 use Rattle.model.specs.Reading.{Summary, Sum-assume, Sum-definefun, Sum-declfun, Sum-retain, Root, taken-by}
 use Rattle.model.specs.Rounds.{facts}
-use Rattle.model.proofs.ListLaws.{map-elim}
+use Rattle.model.proofs.ListLaws.{collect-intro, map-elim}
 use Rattle.demands.specs.Accepted.{Distinct, one-more, Well-formed}
-use Rattle.demands.proofs.Distinct.{distinct-head, distinct-tail, distinct-map, keep-one-name}
+use Rattle.demands.proofs.Records.{fact-summary}
+use Rattle.demands.proofs.Distinct.{distinct-map, keep-one-name}
 
 -- the names of some facts, in their order
 abbrev pub fact-names : List Fact → List Name
 fact-names fs = map (λ (f : Fact). f .name) fs
 
--- the name of a fact of a file is taken
-pub name-taken : {n : Name} (decls : List Summary) → List·Memᴰ n (fact-names (facts decls)) → List·Memᴰ n (collect taken-by decls)
-unfolding facts collect taken-by
-name-taken [] m = m
-name-taken (Sum-assume f ∷ decls) m = ⊎-elim List·Memᴰ·head (λ i. List·Memᴰ·tail (name-taken decls i)) (List·Memᴰ·cases-cons m)
-name-taken (Sum-definefun d ∷ decls) m = List·Memᴰ·tail (name-taken decls m)
-name-taken (Sum-declfun d ∷ decls) m = List·Memᴰ·tail (name-taken decls m)
-name-taken (Sum-retain ∷ decls) m = name-taken decls m
-
 -- where no name is taken twice, no two facts have one name
 pub names-distinct : (decls : List Summary) → Distinct (collect taken-by decls) → Distinct (fact-names (facts decls))
 unfolding facts collect taken-by
 names-distinct [] d = d
-names-distinct (Sum-assume f ∷ decls) d = one-more (λ m. distinct-head d (name-taken decls m)) (names-distinct decls (distinct-tail d))
-names-distinct (Sum-definefun e ∷ decls) d = names-distinct decls (distinct-tail d)
-names-distinct (Sum-declfun e ∷ decls) d = names-distinct decls (distinct-tail d)
+names-distinct (Sum-assume f ∷ decls) (one-more n d) =
+    one-more (λ m. let (g, i, e) = map-elim (λ (f : Fact). f .name) (facts decls) m in n (collect-intro taken-by (fact-summary decls i) (List·Memᴰ·head (sym e))))
+    (names-distinct decls d)
+names-distinct (Sum-definefun e ∷ decls) (one-more n d) = names-distinct decls d
+names-distinct (Sum-declfun e ∷ decls) (one-more n d) = names-distinct decls d
 names-distinct (Sum-retain ∷ decls) d = names-distinct decls d
 
 -- facts with one name are equal

@@ -21,7 +21,8 @@ use Rattle.model.proofs.SetLaws.{same-eq, same-refl, mem-intro, mem-elim, mem-f
 use Rattle.demands.specs.Accepted.{Distinct, Well-formed, Without-triggers}
 use Rattle.demands.proofs.Distinct.{distinct-collect}
 use Rattle.demands.proofs.MapLaws.{Functional, try-find-intro, try-find-elim, try-find-same, try-find-append}
-use Rattle.demands.proofs.Filing.{from-summary, on-kind, nothing, itself, waiting, entries-of, keys, filed-names, filed-defs, filed-macros, filed-triggers, filed-ambients, filed-roots, filed-waiting, filed-keys, fact-summary, summary-fact, definition-summary, summary-definition, declaration-summary, summary-declaration}
+use Rattle.demands.proofs.Filing.{on-kind, waiting, entries-of, keys, filed-names, filed-defs, filed-macros, filed-triggers, filed-ambients, filed-roots, filed-waiting, filed-keys}
+use Rattle.demands.proofs.Records.{from-summary, nothing, itself, fact-summary, summary-fact, definition-summary, summary-definition, declaration-summary, summary-declaration}
 
 -- a member of a list of at most one: the test holds, and it is the element
 cond-itself : {A : Type 0} {x y : A} (b : Bool) → List·Memᴰ y (cond b (x ∷ []) []) → T b × (y ≡ x)
@@ -41,7 +42,7 @@ module _ {X : Type 0} where
       let (t, i, j) = collect-elim new (reverse d) o in
       (t, concat-intro (reverse-elim ts n) (reverse-elim d i), j)
 
-  -- and back
+  -- what the new elements of a listed name are, the entries of the fact add
   entries-intro : (new : Name → List X) (ts : List (List Name)) {t : Name} {x : X} → List·Memᴰ t (concat ts) → List·Memᴰ x (new t) → List·Memᴰ x (entries-of new ts)
   entries-intro new ts m o =
       let (d, n, i) = concat-elim ts m in
@@ -60,7 +61,7 @@ module _ {X : Type 0} where
   triggers-intro (Ambient r) ts e m i = absurd (List·Memᴰ·not-nil (rw e at m))
   triggers-intro (Triggers n) ts e m i = i
 
--- the macros of definitions, collected
+-- the macros of definitions are collected from the summaries
 macros-collect : (decls : List Summary) → map {B = Name × List Name} (λ d. (d .name, d .free-names)) (definitions decls) ≡ collect (from-summary nothing (λ d. (d .name, d .free-names) ∷ []) nothing) decls
 unfolding definitions collect
 macros-collect [] = refl
@@ -115,14 +116,14 @@ module _ {A : Type 0} where
   abbrev Single : Name → Map A → Type 0
   Single key m = (k : Name) (a b : A) → List·Memᴰ (k, a) m → List·Memᴰ (k, b) m → List·Memᴰ k (key ∷ []) × (a ≡ b)
 
-  -- one binding is such
+  -- a map of one binding is such
   one-binding : (key : Name) (x : A) → Single key ((key, x) ∷ [])
   one-binding key x k a b m n = (
     List·Memᴰ·head (ap (λ (y : Name × A). y .0) (List·Memᴰ·eq-of-singleton m)),
     ap (λ (y : Name × A). y .1) (List·Memᴰ·eq-of-singleton m ∙ sym (List·Memᴰ·eq-of-singleton n)),
   )
 
-  -- and none
+  -- an empty map is such
   no-binding : (key : Name) → Single key []
   no-binding key k a b m n = absurd (List·Memᴰ·not-nil m)
 
@@ -135,16 +136,19 @@ module _ {A : Type 0} where
   own ofFact ofDef ofFun h i j Sum-retain = λ k a b m n. absurd (List·Memᴰ·not-nil m)
 
 module _ (decls : List Summary) (d : Distinct (collect taken-by decls)) where
-  -- each of the maps binds each name once
+  -- the facts by name: each name is bound once
   names-once : Functional (collect names-of decls)
   names-once = taken-once decls d names-of (own (λ f. (f .name, passumption f) ∷ []) nothing nothing (λ f. one-binding (f .name) (passumption f)) (λ d. no-binding (d .name)) (λ d. no-binding (d .name)))
 
+  -- the definitions and declarations by name: each name is bound once
   defs-once : Functional (collect defs-of decls)
   defs-once = taken-once decls d defs-of (own nothing (λ d. (d .name, pdef false d) ∷ []) (λ d. (d .name, pdef true d) ∷ []) (λ f. no-binding (f .name)) (λ d. one-binding (d .name) (pdef false d)) (λ d. one-binding (d .name) (pdef true d)))
 
+  -- the macros by name: each name is bound once
   macros-once : Functional (collect macros-of decls)
   macros-once = taken-once decls d macros-of (own nothing (λ d. (d .name, d .free-names) ∷ []) nothing (λ f. no-binding (f .name)) (λ d. one-binding (d .name) (d .free-names)) (λ d. no-binding (d .name)))
 
+  -- the disjuncts by name: each name is bound once
   triggers-once : Functional (collect triggers-of decls)
   triggers-once =
       let single : Fact → Map (List (List Name)) = λ f. (f .name, map from-list (f .triggers)) ∷ [] in
@@ -153,11 +157,11 @@ module _ (decls : List Summary) (d : Distinct (collect taken-by decls)) where
       (λ f k a b m n. one-binding (f .name) (map from-list (f .triggers)) k a b (triggers-elim (single f) (f .kind) m) (triggers-elim (single f) (f .kind) n))
       (λ d. no-binding (d .name)) (λ d. no-binding (d .name)))
 
--- the waiting facts that a summary adds
+-- the facts that a summary adds to those that wait on a name
 waiting-of : Name → Summary → List Passumption
 waiting-of n = from-summary (λ f. on-kind nothing (entries-of (λ t. cond (same t n) (passumption f ∷ []) []) (f .triggers)) (f .kind)) nothing nothing
 
--- the ambient roots that it adds
+-- the ambient roots that a summary adds
 roots-of : Summary → List Passumption
 roots-of = from-summary (λ f. on-kind (λ r. cond r (passumption f ∷ []) []) [] (f .kind)) nothing nothing
 
@@ -173,14 +177,14 @@ waiting-of-elim n (Sum-definefun d) i m = absurd (List·Memᴰ·not-nil m)
 waiting-of-elim n (Sum-declfun d) i m = absurd (List·Memᴰ·not-nil m)
 waiting-of-elim n Sum-retain i m = absurd (List·Memᴰ·not-nil m)
 
--- what an ambient adds where it is a root
+-- what an ambient fact adds, if only a root adds it: the fact is an ambient root
 ambient-elim : {A : Type 0} {x y : A} (k : AsumKind) → List·Memᴰ y (on-kind (λ r. cond r (x ∷ []) []) [] k) → T (is-ambient-root k) × (y ≡ x)
 unfolding is-ambient-root
 ambient-elim Drop m = absurd (List·Memᴰ·not-nil m)
 ambient-elim (Ambient r) m = cond-itself r m
 ambient-elim (Triggers n) m = absurd (List·Memᴰ·not-nil m)
 
--- and back
+-- an ambient root adds it
 ambient-intro : {A : Type 0} (x : A) (k : AsumKind) → T (is-ambient-root k) → List·Memᴰ x (on-kind (λ r. cond r (x ∷ []) []) [] k)
 unfolding is-ambient-root
 ambient-intro x Drop t = absurd t
@@ -208,7 +212,7 @@ module _ {roots : List Root} (decls : List Summary) (w : Well-formed decls roots
       rw (filed-names, lookup decls (w .distinct) names-of [] u (f .name), append-nil)
       (try-find-intro (collect names-of decls) u (collect-intro names-of (fact-summary decls m) (List·Memᴰ·head refl)))
 
-  -- what it finds by a name is a fact
+  -- what the state finds by a name is the fact of that name
   pub fact-found : (b : Bool) (n : Name) {a : Passumption} → try-find (add-summaries b decls init .assumption-name-map) n ≡ some a → (f : Fact) × List·Memᴰ f (facts decls) × (n ≡ f .name) × (a ≡ passumption f)
   fact-found b n {a} e =
       let m : List·Memᴰ (n, a) (collect names-of (reverse decls)) = rw (filed-names, append-nil) at (try-find-elim (add-summaries b decls init .assumption-name-map) n e) in
@@ -239,7 +243,7 @@ module _ {roots : List Root} (decls : List Summary) (w : Well-formed decls roots
       let (f, k, l, e) = waiting-of-elim n s i j in
       (f, summary-fact decls k, l, e)
 
-  -- and the facts that list it wait on it
+  -- the facts that list a name wait on it
   pub waits-intro : (b : Bool) (n : Name) {f : Fact} → List·Memᴰ f (facts decls) → List·Memᴰ n (listed f) → List·Memᴰ (passumption f) (waiting (add-summaries b decls init) n)
   unfolding waiting-of listed
   waits-intro b n {f} m i =
@@ -247,13 +251,13 @@ module _ {roots : List Root} (decls : List Summary) (w : Well-formed decls roots
       (collect-reverse-intro (waiting-of n) decls
       (collect-intro (waiting-of n) (fact-summary decls m) (triggers-intro (f .kind) (f .triggers) (w .good-facts f m .no-triggers) i (entries-intro (λ t. cond (same t n) (passumption f ∷ []) []) (f .triggers) i (itself-cond (same n n) (passumption f) (same-refl n))))))
 
-  -- the state's macros are the file's
+  -- the state's macros are those of the file
   pub finds-macro : (b : Bool) (n : Name) → try-find (add-summaries b decls init .macro-freenames) n ≡ try-find (macros decls) n
   unfolding macros
   finds-macro b n =
       rw (filed-macros, lookup decls (w .distinct) macros-of init-macro-freenames (macros-once decls (w .distinct)) n, macros-collect)
 
-  -- its extra roots are the ambient roots
+  -- the state's extra roots are the ambient roots of the file
   pub extra-root-elim : (b : Bool) {a : Passumption} → List·Memᴰ a (add-summaries b decls init .extra-roots) → (f : Fact) × List·Memᴰ f (facts decls) × T (is-ambient-root (f .kind)) × (a ≡ passumption f)
   unfolding roots-of
   extra-root-elim b m =
@@ -261,7 +265,7 @@ module _ {roots : List Root} (decls : List Summary) (w : Well-formed decls roots
       let (f, k, l, e) = roots-of-elim s i j in
       (f, summary-fact decls k, l, e)
 
-  -- and each of them is there
+  -- each ambient root of the file is an extra root
   pub extra-root-intro : (b : Bool) {f : Fact} → List·Memᴰ f (facts decls) → T (is-ambient-root (f .kind)) → List·Memᴰ (passumption f) (add-summaries b decls init .extra-roots)
   unfolding roots-of
   extra-root-intro b {f} m t =
@@ -294,14 +298,14 @@ module _ {roots : List Root} (decls : List Summary) (w : Well-formed decls roots
       rw (filed-defs, lookup decls (w .distinct) defs-of [] u (d .name), append-nil)
       (try-find-intro (collect defs-of decls) u (collect-intro defs-of (definition-summary decls m) (List·Memᴰ·head refl)))
 
-  -- and a declaration
+  -- the state finds a declaration by its name
   pub finds-declaration : (b : Bool) {d : Decl} → List·Memᴰ d (declarations decls) → try-find (add-summaries b decls init .defs-and-decls-map) (d .name) ≡ some (pdef true d)
   finds-declaration b {d} m =
       let u = defs-once decls (w .distinct) in
       rw (filed-defs, lookup decls (w .distinct) defs-of [] u (d .name), append-nil)
       (try-find-intro (collect defs-of decls) u (collect-intro defs-of (declaration-summary decls m) (List·Memᴰ·head refl)))
 
-  -- what it finds under a name is a definition or a declaration of that name
+  -- what the state finds under a name is a definition or a declaration of that name
   pub declared : (b : Bool) (n : Name) {x : Pdef} → try-find (add-summaries b decls init .defs-and-decls-map) n ≡ some x → Declared decls n x
   declared b n {x} e =
       let m : List·Memᴰ (n, x) (collect defs-of (reverse decls)) = rw (filed-defs, append-nil) at (try-find-elim (add-summaries b decls init .defs-and-decls-map) n e) in
@@ -314,7 +318,7 @@ module _ {roots : List Root} (decls : List Summary) (w : Well-formed decls roots
       go (Sum-declfun d) i j = let e = List·Memᴰ·eq-of-singleton j in declaration (summary-declaration decls i) (ap (λ (y : Name × Pdef). y .0) e) (ap (λ (y : Name × Pdef). y .1) e)
       go Sum-retain i j = absurd (List·Memᴰ·not-nil j)
 
--- the ambients' names, collected
+-- the ambients' names are collected from the summaries
 ambients-collect : (b : Bool) (decls : List Summary) → collect (from-summary (λ f. on-kind (λ r. cond b [] (f .name ∷ [])) [] (f .kind)) nothing nothing) decls ≡ map (λ f. f .name) (cond b [] (keep (λ f. is-ambient (f .kind)) (facts decls)))
 unfolding collect facts keep is-ambient
 ambients-collect true [] = refl

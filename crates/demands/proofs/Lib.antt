@@ -1,4 +1,5 @@
 pub mod Distinct
+pub mod Records
 pub mod Facts
 pub mod MetLaws
 pub mod FiringLaws

@@ -177,7 +177,7 @@ in-order-done [] fs = (λ e. omega arith, λ h. refl)
 in-order-done (s ∷ ss) [] = (λ e. let z : _≡_ {A = ℕ} 0 1 = cc in omega arith, λ h. absurd (omega arith))
 in-order-done (s ∷ ss) (f ∷ fs) = let (to, back) = in-order-done ss fs in (λ e. let h = to e in omega arith, λ h. back (omega arith))
 
--- the same with the kind counted
+-- the same where the count includes the kind
 counted-done : (ss : List Sort) {n : ℕ} → some (length ss + 1) ≡ some n → (fs : List Field) → (in-order ss fs ≡ nothing) ↔ (n ≤ length fs + 1)
 counted-done ss {n} e fs =
     let count = Option·some-injective (length ss + 1) n e in

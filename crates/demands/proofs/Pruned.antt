@@ -10,7 +10,7 @@ use lib.ListN.{length}
 use Rattle.model.specs.Lists.{any, keep, collect, fold-left, to-list}
 use Rattle.model.specs.Names.{Name, same, mem, add}
 use Rattle.model.specs.Summaries.{Fact}
-use Rattle.model.specs.Reading.{Ask, no-ambients, pretyping-axioms, prune-decls, Root, Decl, Summary, Sum-assume, Sum-definefun, Sum-declfun, Sum-retain}
+use Rattle.model.specs.Reading.{Ask, no-ambients, pretyping-axioms, prune-decls, Root, Decl, Summary, Sum-assume, Sum-definefun, Sum-declfun, Sum-retain, taken-by}
 use Rattle.model.specs.Pruning.{Map, try-find, Passumption, Pdef, PruningState, init, add-summaries, passumption, passumption-of-root, include-found, include-name, decls-and-defs, prune}
 use Rattle.model.specs.Rounds.{facts, definitions, declarations, goal-roots, Run}
 use Rattle.model.specs.Kept.{reached-facts, ambients, kept-facts, kept-names, kept-decls, kept}
@@ -21,7 +21,7 @@ use Rattle.demands.specs.Demand2.{Same-lines}
 use Rattle.demands.proofs.Distinct.{distinct-map-keep, distinct-collect, keep-one-name}
 use Rattle.demands.proofs.Facts.{names-distinct}
 use Rattle.demands.proofs.ListedLaws.{ambients-elim}
-use Rattle.demands.proofs.Filing.{definition-summary, declaration-summary}
+use Rattle.demands.proofs.Records.{definition-summary, declaration-summary}
 use Rattle.demands.proofs.Filed.{finds-fact, fact-found, filed-ambient-names, pdef, Declared, definition, declaration, finds-definition, finds-declaration, declared}
 use Rattle.demands.proofs.ScanRounds.{free-in, fact-free, free-fact, Scanned}
 use Rattle.demands.proofs.ScanFile.{first-roots}
@@ -53,7 +53,7 @@ module _ (a : Ask) {roots : List Root} (decls : List Summary) (w : Well-formed d
       ∙ collect-one passumption (ambients a (facts decls)))
       ∙ sym (map-append passumption (collect (λ n. keep (λ f. same (f .name) n) (facts decls)) reached) (ambients a (facts decls)))
 
-  -- their lines
+  -- a kept fact has the line of its record
   kept-lines : (fs : List Fact) → map (λ x. x .pa-resolve) (map passumption fs) ≡ map (λ f. f .line) fs
   unfolding passumption
   kept-lines fs = map-map (λ (x : Passumption). x .pa-resolve) passumption fs
@@ -66,7 +66,7 @@ record Including (defs : Map Pdef) (names rest included : List Name) (ds : List 
   complete : (n : Name) (d : Pdef) → List·Memᴰ n names → try-find defs n ≡ some d → List·Memᴰ d ds ⊎ List·Memᴰ n rest
 
 module _ (defs : Map Pdef) (names : List Name) (lines-once : (n m : Name) (d e : Pdef) → try-find defs n ≡ some d → try-find defs m ≡ some e → d .pd-resolve ≡ e .pd-resolve → n ≡ m) where
-  -- a name that adds nothing
+  -- a name that adds nothing leaves what was found
   include-none : {n : Name} {rest included : List Name} {ds : List Pdef} → Including defs names (n ∷ rest) included ds → ((d : Pdef) → try-find defs n ≡ some d → List·Memᴰ d ds) → Including defs names rest included ds
   include-none {n} i h =
       record {
@@ -76,7 +76,7 @@ module _ (defs : Map Pdef) (names : List Name) (lines-once : (n m : Name) (d e :
         complete = λ m d k e. ⊎-elim inl (λ j. ⊎-elim (λ p. inl (h d (rw p at e))) inr (List·Memᴰ·cases-cons j)) (i .complete m d k e);
       }
 
-  -- a name that adds a definition or declaration
+  -- a name that is new and found adds what is found under it
   include-new : {n : Name} {rest included : List Name} {ds : List Pdef} (d : Pdef) → Including defs names (n ∷ rest) included ds → List·Memᴰ n names → T (not (mem n included)) → try-find defs n ≡ some d → Including defs names rest (add n included) (d ∷ ds)
   include-new {n} {rest} {included} {ds} d i j t e =
       record {
@@ -86,7 +86,7 @@ module _ (defs : Map Pdef) (names : List Name) (lines-once : (n m : Name) (d e :
         complete = λ m x k q. ⊎-elim (λ l. inl (List·Memᴰ·tail l)) (λ l. ⊎-elim (λ p. inl (List·Memᴰ·head (Option·some-injective x d (sym q ∙ ap (try-find defs) p ∙ e)))) inr (List·Memᴰ·cases-cons l)) (i .complete m x k q);
       }
 
-  -- one name
+  -- each name keeps the account of what was found
   include-step : {n : Name} {rest included : List Name} {ds : List Pdef} → Including defs names (n ∷ rest) included ds → List·Memᴰ n names → Including defs names rest (include-name defs (included, ds) n .0) (include-name defs (included, ds) n .1)
   unfolding include-name include-found
   include-step {n} {rest} {included} {ds} i j = branch (λ (x : List Name × List Pdef). Including defs names rest (x .0) (x .1)) (mem n included) (included, ds) (include-found (included, ds) n (try-find defs n))
@@ -97,13 +97,13 @@ module _ (defs : Map Pdef) (names : List Name) (lines-once : (n m : Name) (d e :
       go t none e = include-none i (λ d q. absurd (Option·none-ne-some d (sym e ∙ q)))
       go t (some d) e = include-new d i j t e
 
-  -- all names
+  -- so do all names, one after the other
   include-all : (rest included : List Name) (ds : List Pdef) → ((n : Name) → List·Memᴰ n rest → List·Memᴰ n names) → Including defs names rest included ds → Including defs names [] (fold-left (include-name defs) (included, ds) rest .0) (fold-left (include-name defs) (included, ds) rest .1)
   unfolding fold-left
   include-all [] included ds h i = i
   include-all (n ∷ rest) included ds h i = include-all rest (include-name defs (included, ds) n .0) (include-name defs (included, ds) n .1) (λ m k. h m (List·Memᴰ·tail k)) (include-step i (h n (List·Memᴰ·head refl)))
 
-  -- from none
+  -- the account holds at the end of the fold over all names
   included : Including defs names [] (fold-left (include-name defs) ([], []) names .0) (fold-left (include-name defs) ([], []) names .1)
   unfolding mem any
   included = include-all names [] [] (λ n m. m)
@@ -175,7 +175,7 @@ distinct-definitions (Sum-definefun f ∷ decls) (one-more n d) = one-more (λ m
 distinct-definitions (Sum-declfun f ∷ decls) (one-more n d) = distinct-definitions decls d
 distinct-definitions (Sum-retain ∷ decls) d = distinct-definitions decls d
 
--- and so do declarations
+-- declarations stand on distinct lines
 distinct-declarations : (decls : List Summary) → Distinct (collect line-of decls) → Distinct (map (λ d. d .line) (declarations decls))
 unfolding collect line-of declarations
 distinct-declarations [] d = no-more
@@ -184,23 +184,19 @@ distinct-declarations (Sum-definefun f ∷ decls) (one-more n d) = distinct-decl
 distinct-declarations (Sum-declfun f ∷ decls) (one-more n d) = one-more (λ m. let (g, i, e) = map-elim (λ (f : Decl). f .line) (declarations decls) m in n (collect-intro line-of (declaration-summary decls i) (List·Memᴰ·head (sym e)))) (distinct-declarations decls d)
 distinct-declarations (Sum-retain ∷ decls) d = distinct-declarations decls d
 
+-- what the state finds is a record on that line that takes the name
+declared-record : (decls : List Summary) {n : Name} {x : Pdef} → Declared decls n x → (s : Summary) × List·Memᴰ s decls × List·Memᴰ (x .pd-resolve) (line-of s) × (taken-by s ≡ n ∷ [])
+unfolding line-of taken-by
+declared-record decls (definition {d} i p q) = (Sum-definefun d, definition-summary decls i, List·Memᴰ·head (ap (λ (x : Pdef). x .pd-resolve) q), ap (_∷ []) (sym p))
+declared-record decls (declaration {d} i p q) = (Sum-declfun d, declaration-summary decls i, List·Memᴰ·head (ap (λ (x : Pdef). x .pd-resolve) q), ap (_∷ []) (sym p))
+
 -- what is found on one line is found under one name
 lines-apart : (decls : List Summary) → Distinct (collect line-of decls) → {n m : Name} {x y : Pdef} → Declared decls n x → Declared decls m y → x .pd-resolve ≡ y .pd-resolve → n ≡ m
-unfolding line-of
-lines-apart decls u {n} {m} {x} {y} (definition {d} i p q) (definition {d = e} j p′ q′) h =
-    let s : Sum-definefun d ≡ Sum-definefun e = distinct-collect line-of {z = d .line} decls u (definition-summary decls i) (definition-summary decls j) (List·Memᴰ·head refl) (List·Memᴰ·head (sym (ap (λ (x : Pdef). x .pd-resolve) q) ∙ h ∙ ap (λ (x : Pdef). x .pd-resolve) q′)) in
-    let t : d ≡ e = cc in
-    p ∙ ap (λ (d : Decl). d .name) t ∙ sym p′
-lines-apart decls u {n} {m} {x} {y} (definition {d} i p q) (declaration {d = e} j p′ q′) h =
-    let s : Sum-definefun d ≡ Sum-declfun e = distinct-collect line-of {z = d .line} decls u (definition-summary decls i) (declaration-summary decls j) (List·Memᴰ·head refl) (List·Memᴰ·head (sym (ap (λ (x : Pdef). x .pd-resolve) q) ∙ h ∙ ap (λ (x : Pdef). x .pd-resolve) q′)) in
+lines-apart decls u {x} {y} a b h =
+    let (s, i, j, e) = declared-record decls a in
+    let (t, i′, j′, e′) = declared-record decls b in
+    let one : s ≡ t = distinct-collect line-of {z = x .pd-resolve} decls u i i′ j (Memᴰ·cast h j′) in
     cc
-lines-apart decls u {n} {m} {x} {y} (declaration {d} i p q) (definition {d = e} j p′ q′) h =
-    let s : Sum-declfun d ≡ Sum-definefun e = distinct-collect line-of {z = d .line} decls u (declaration-summary decls i) (definition-summary decls j) (List·Memᴰ·head refl) (List·Memᴰ·head (sym (ap (λ (x : Pdef). x .pd-resolve) q) ∙ h ∙ ap (λ (x : Pdef). x .pd-resolve) q′)) in
-    cc
-lines-apart decls u {n} {m} {x} {y} (declaration {d} i p q) (declaration {d = e} j p′ q′) h =
-    let s : Sum-declfun d ≡ Sum-declfun e = distinct-collect line-of {z = d .line} decls u (declaration-summary decls i) (declaration-summary decls j) (List·Memᴰ·head refl) (List·Memᴰ·head (sym (ap (λ (x : Pdef). x .pd-resolve) q) ∙ h ∙ ap (λ (x : Pdef). x .pd-resolve) q′)) in
-    let t : d ≡ e = cc in
-    p ∙ ap (λ (d : Decl). d .name) t ∙ sym p′
 
 -- what `prune` keeps besides the definitions and declarations: the kept facts and the roots of the query
 abbrev pub kept-with-roots : Ask → List Summary → List Root → List Name → List Passumption
@@ -221,7 +217,7 @@ module _ (a : Ask) (decls : List Summary) (roots : List Root) (reached : List Na
       collect-intro (λ (x : Passumption). x .pa-free-names) (Memᴰ·append-right (map passumption (kept-facts a (facts decls) reached)) (map-intro passumption-of-root i)) j)
       (List·Memᴰ·append-cases (collect (λ f. f .free-names) (kept-facts a (facts decls) reached)) (mem-elim t))
 
-  -- and back
+  -- a name free in what `prune` keeps is free in a kept fact or a root of the query
   names-from : (n : Name) → List·Memᴰ n (free-in (kept-with-roots a decls roots reached)) → T (mem n (kept-names a (facts decls) roots reached))
   unfolding kept-names passumption-of-root
   names-from n m =
@@ -231,11 +227,11 @@ module _ (a : Ask) (decls : List Summary) (roots : List Root) (reached : List Na
       (λ k. let (r, l, e) = map-elim passumption-of-root (goal-roots a roots) k in Memᴰ·append-right (collect (λ f. f .free-names) (kept-facts a (facts decls) reached)) (collect-intro (λ (r : Root). r .free-names) l (subst (λ (x : Passumption). List·Memᴰ n (x .pa-free-names)) (sym e) j)))
       (List·Memᴰ·append-cases (map passumption (kept-facts a (facts decls) reached)) i))
 
--- nothing is the same as nothing
+-- no lines are the same as no lines
 no-lines : Same-lines [] []
 no-lines = record { to = λ n m. m; from = λ n m. m; once-ours = no-more; once-theirs = no-more }
 
--- with an option or without, the same lines
+-- lines that are the same are so with an option and without
 optional : (b : Bool) {l m : List ℕ} → Same-lines l m → Same-lines (cond b l []) (cond b m [])
 optional true s = s
 optional false s = no-lines
@@ -266,7 +262,7 @@ module _ (a : Ask) {roots : List Root} (decls : List Summary) (w : Well-formed d
       list-of l = map (λ x. x .pa-resolve) l ++ cond (prune-decls a) (decls-and-defs (P .defs-and-decls-map) (l ++ map passumption-of-root (goal-roots a roots))) []
 
   module _ (once : Distinct (collect line-of decls)) (reached : List Name) where
-    -- the same definitions, each once
+    -- the kept definitions of both accounts have the same lines, each once
     pub same-definitions : Same-lines (cond (prune-decls a) (map (λ d. d .line) (kept-decls (kept-names a (facts decls) roots reached) (definitions decls))) []) (pruned-lines (λ d. not (d .pd-is-declfun)) a decls roots reached)
     same-definitions = optional (prune-decls a)
         (same-lines (add-summaries (no-ambients a) decls init .defs-and-decls-map) (kept-with-roots a decls roots reached) (kept-names a (facts decls) roots reached)
@@ -280,7 +276,7 @@ module _ (a : Ask) {roots : List Root} (decls : List Summary) (w : Well-formed d
         go (definition {d} m p q) t = (d, m, p, q)
         go (declaration {d} m p q) t = absurd (subst (λ (x : Pdef). T (not (x .pd-is-declfun))) q t)
 
-    -- the same declarations, each once
+    -- the kept declarations of both accounts have the same lines, each once
     pub same-declarations : Same-lines (cond (prune-decls a) (map (λ d. d .line) (kept-decls (kept-names a (facts decls) roots reached) (declarations decls))) []) (pruned-lines (λ d. d .pd-is-declfun) a decls roots reached)
     same-declarations = optional (prune-decls a)
         (same-lines (add-summaries (no-ambients a) decls init .defs-and-decls-map) (kept-with-roots a decls roots reached) (kept-names a (facts decls) roots reached)
@@ -294,7 +290,7 @@ module _ (a : Ask) {roots : List Root} (decls : List Summary) (w : Well-formed d
         go (definition {d} m p q) t = absurd (subst (λ (x : Pdef). T (x .pd-is-declfun)) q t)
         go (declaration {d} m p q) t = (d, m, p, q)
 
--- document 01's list in its three parts
+-- document 01's list is its three parts, one after the other
 pub kept-parts : (a : Ask) (decls : List Summary) (roots : List Root) (reached : List Name) → kept a decls roots reached
     ≡ map (λ f. f .line) (kept-facts a (facts decls) reached) ++ (cond (prune-decls a) (map (λ d. d .line) (kept-decls (kept-names a (facts decls) roots reached) (definitions decls))) [] ++ cond (prune-decls a) (map (λ d. d .line) (kept-decls (kept-names a (facts decls) roots reached) (declarations decls))) [])
 unfolding kept

@@ -31,7 +31,7 @@ record Agree (q : ℕ) (s s′ : State) : Type 0 where
   records : s .decls ≡ s′ .decls
   queried : of-query q (s .roots) ≡ of-query q (s′ .roots)
 
--- the same line leaves them so
+-- states that agree do so after the same line
 agree-line : (exclude : List Name) (q n : ℕ) (s s′ : State) (c : Content) → Agree q s s′ → Agree q (add-line exclude n s c) (add-line exclude n s′ c)
 unfolding add-line
 agree-line exclude q n s s′ c a =
@@ -59,12 +59,12 @@ agree-root exclude q n s s′ p name t other a =
       queried = rw (keep-append, other-root q r other, append-nil) (a .queried);
     }
 
--- the kind of a root line
+-- the word of a root line is the kind of a root
 root-kind : word kinds (bytes "root") ≡ some kind.Root
 unfolding word kinds same order by-byte is-same bytes
 root-kind = refl
 
--- what the fields of a root line say
+-- the fields of a root line say a root of the query in its first field
 root-fields : (count : ℕ) (f : Field) (rest : List Field) (p : ℕ) (c : Content) → number f ≡ some p
     → content kind.Root count (f ∷ rest) ≡ ok c → (name : Name) × (t : ℕ) × (c ≡ root p name t)
 unfolding content
@@ -99,7 +99,7 @@ agree-other exclude q n line s t s′ o e a =
     let (name, number, says) = root-content n (length (s .terms)) (o .query-field) (o .rest) (o .query) (l .content) (o .is-query) (parse-ok n _ _ (rw (o .is-root) at (l .parsed))) in
     rw (l .after, says) (agree-root exclude q n s s′ (o .query) name number (o .other) a)
 
--- the same line, accepted in both states
+-- states that agree do so after a line that both accept
 agree-same : (exclude : List Name) (q n : ℕ) (line : Line) (s t s′ t′ : State) → read-line exclude n s line ≡ ok t → read-line exclude n s′ line ≡ ok t′ → Agree q s s′ → Agree q t t′
 agree-same exclude q n line s t s′ t′ e e′ a =
     let l = line-read exclude n s line t e in
@@ -108,7 +108,7 @@ agree-same exclude q n line s t s′ t′ e e′ a =
     let same-content : l .content ≡ l′ .content = ok-eq (sym (l .parsed) ∙ ap (λ ts. parse n (length ts) (fields (line .bytes))) tables ∙ l′ .parsed) in
     rw (l .after, l′ .after, same-content) (agree-line exclude q n s s′ (l′ .content) a)
 
--- and the other way round
+-- states agree both ways round
 agree-sym : {q : ℕ} {s s′ : State} → Agree q s s′ → Agree q s′ s
 agree-sym a = record { goals = sym (a .goals); tables = sym (a .tables); records = sym (a .records); queried = sym (a .queried) }
 
@@ -126,7 +126,7 @@ agree-lines exclude {q} (root-lines {l} {m} {ls} {ms} o o′ alike) n s s′ t t
     agree-lines exclude alike (n + 1) u u′ t t′ others others′
     (agree-sym (agree-other exclude q n m s′ u′ u o′ r′ (agree-sym (agree-other exclude q n l s u s′ o r a))))
 
--- the run reads the roots of its query only
+-- the run depends on the roots of its query only
 run-roots : (a : Ask) (decls : List Summary) (roots roots′ : List Root) → goal-roots a roots ≡ goal-roots a roots′ → run a decls roots ≡ run a decls roots′
 unfolding run first-scanned
 run-roots a decls roots roots′ e = rw e

@@ -108,7 +108,7 @@ abbrev Limits-only : List (ℕ × ℕ × Refusal) → Type 0
 Limits-only [] = Unit {0}
 Limits-only ((counted, limit, r) ∷ more) = (r ≡ refusal.Limit) × Limits-only more
 
--- so it is for the limits of a state
+-- every refusal of the limits of a state is 6
 limits-only : (s : State) → Limits-only (limits s)
 unfolding limits
 limits-only s = (refl, (refl, (refl, (refl, (refl, (refl, tt))))))
@@ -163,7 +163,7 @@ module _ (exclude : List Name) (n : ℕ) (s : State) (line : Line) where
       pub added-line : T (not (repeats exclude n s c)) → T (all within (limits (add-line exclude n s c))) → read-line exclude n s line ≡ ok (add-line exclude n s c)
       added-line t u = fresh-line t ∙ under-all (limits (add-line exclude n s c)) (add-line exclude n s c) u
 
-  -- what a line comes to
+  -- every line comes to its result in one of these ways
   pub line-view : Line-view exclude n s line (read-line exclude n s line)
   line-view = ⊎-elim by-fields (λ t. rw (unended-line t) (unended t)) (T-dec (line .ended))
     where

@@ -31,7 +31,7 @@ record Lines-below (n : ℕ) (l : List ℕ) : Type 0 where
   once : Distinct l
   below : (k : ℕ) → List·Memᴰ k l → k < n
 
--- one record more, or none
+-- with a record on the n-th line, or none, they stand on distinct lines below n + 1
 lines-step : (n : ℕ) (l m : List ℕ) → Lines-below n l → (m ≡ []) ⊎ (m ≡ n ∷ []) → Lines-below (n + 1) (l ++ m)
 lines-step n l m i (inl e) = rw (e, append-nil) (record { once = i .once; below = λ k j. omega (arith, i .below k j) })
 lines-step n l m i (inr e) =
@@ -41,7 +41,7 @@ lines-step n l m i (inr e) =
       below = λ k j. ⊎-elim (λ h. omega (arith, i .below k h)) (λ h. let p : k ≡ n = List·Memᴰ·eq-of-singleton h in omega arith) (List·Memᴰ·append-cases l j);
     })
 
--- so they stand after the line
+-- after the n-th line the records stand on distinct lines below n + 1
 lines-line : (exclude : List Name) (n : ℕ) (s : State) (c : Content) → Lines-below n (collect line-of (s .decls)) → Lines-below (n + 1) (collect line-of (add-line exclude n s c .decls))
 unfolding add-line
 lines-line exclude n s c i = rw collect-append (lines-step n (collect line-of (s .decls)) (collect line-of (summarize-decl exclude (s .terms) n c)) i (line-n exclude (s .terms) n c))

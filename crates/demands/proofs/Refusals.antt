@@ -54,7 +54,7 @@ faulty-refusal (left-over e) = of-form
 faulty-refusal {count} (not-so {f} {s} p e) = rw e at (fault-only count s f)
 faulty-refusal (later p e x) = faulty-refusal x
 
--- so is a faulty line
+-- a faulty line is refused by 1 to 4
 faulty-line-refusal : {n count : ℕ} {all : List Field} {r : Refusal} → Faulty-line n count all r → Of-fields r
 faulty-line-refusal (unknown e) = of-form
 faulty-line-refusal (late-ask h) = of-form
@@ -106,7 +106,7 @@ module _ (exclude : List Name) where
   unfolding read-lines go-on
   lines-on n s s′ line ls e = rw e
 
-  -- and stops at one that is refused
+  -- reading stops at a line that is refused
   pub lines-stop : (n : ℕ) (s : State) (line : Line) (ls : List Line) {r : Refusal} → read-line exclude n s line ≡ refused r → read-lines exclude n s (line ∷ ls) ≡ refused-at r n
   unfolding read-lines go-on
   lines-stop n s line ls e = rw e
@@ -124,7 +124,7 @@ module _ (exclude : List Name) where
   unfolding read-lines
   reaches-first n s line ls = record { before = []; line = line; after = ls; is-line = refl; place = sym (add-zero n); state = s; reading = refl }
 
-  -- a later line after the first is read
+  -- a line after the first is reached where the first is read
   unfoldable pub reaches-later : (n : ℕ) (s u : State) (line : Line) {ls : List Line} {m : ℕ} → read-line exclude n s line ≡ ok u
       → Reaches exclude (n + 1) u ls m → Reaches exclude n s (line ∷ ls) m
   reaches-later n s u line e l =

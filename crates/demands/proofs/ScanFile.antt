@@ -32,7 +32,7 @@ left-all (d ∷ ts) = ap₂ _∷_ (keep-all (λ n. true) d (λ n m. tt)) (left-a
 abbrev pub first-roots : Ask → List Root → List Passumption → List Passumption
 first-roots a roots extra = cond (no-ambients a) (map passumption-of-root (goal-roots a roots)) (map passumption-of-root (goal-roots a roots) ++ extra)
 
--- the names free in roots
+-- the names free in what roots are scanned as are those free in the roots
 free-in-roots : (rs : List Root) → free-in (map passumption-of-root rs) ≡ collect (λ r. r .free-names) rs
 unfolding passumption-of-root
 free-in-roots rs = collect-map (λ (a : Passumption). a .pa-free-names) passumption-of-root rs

@@ -4,8 +4,7 @@ use native.Mathlib.Omega.{arith}
 use mathlib.Core.Path.{_≡_, refl, sym, _∙_, ap, subst, fun-ext}
 use mathlib.Core.Logic.{_⊎_, inl, inr, ⊎-elim}
 use mathlib.Core.Bool.{Bool, true, false, cond, not, _&&_, _||_}
-use mathlib.Core.List.{List, [], _∷_, _++_, map, List·Memᴰ, List·Memᴰ·head, List·Memᴰ·tail, List·Memᴰ·cases-cons, List·Memᴰ·not-nil, Memᴰ·cast}
-use mathlib.Core.Option.{Option·getD}
+use mathlib.Core.List.{List, [], _∷_, map, List·Memᴰ, List·Memᴰ·head, List·Memᴰ·tail, List·Memᴰ·cases-cons, List·Memᴰ·not-nil, Memᴰ·cast}
 use lib.Dec.{T, T-not}
 use Rattle.model.specs.Lists.{keep, collect, fold-left, is-nil}
 use Rattle.model.specs.Names.{Name, mem, add, union}
@@ -14,10 +13,11 @@ use Rattle.model.specs.Reading.{Ask, pretyping-axioms}
 use Rattle.model.specs.Pruning.{Map, try-find, Passumption, PruningState, passumption, should-retain-assumption, Ctxt, already-reached, reached-assumption, macro-expand, new-syms, reach, pending, to-scan, scan}
 use Rattle.model.specs.Rounds.{met-from, lies-within, triggers-in, retainable, Run, met-after, triggered, fresh, after-round, next-scanned}
 use Rattle.model.proofs.ListLaws.{branch, T-and, T-or, T-dec, T-ext, cond-true, cond-false, is-nil-elim, mem-not-nil, not-nil-mem, collect-intro, collect-elim, keep-intro, keep-elim, map-intro, map-elim}
-use Rattle.model.proofs.SetLaws.{mem-intro, mem-elim, mem-append, mem-from-list, mem-add, mem-union, union-mem, Ascending, ascending-add, ascending-union, ascending-ext}
+use Rattle.model.proofs.SetLaws.{mem-intro, mem-elim, mem-from-list, mem-add, mem-union, union-mem, Ascending, ascending-add, ascending-union, ascending-ext}
 use Rattle.demands.specs.Fuel.{Scans, Ends}
 use Rattle.demands.proofs.Filing.{waiting}
-use Rattle.demands.proofs.ScanSteps.{Laws, Inv, Round, pending-round}
+use Rattle.demands.proofs.ScanSteps.{Laws, Inv, Round, same-name, pending-round}
+use Rattle.demands.proofs.MetLaws.{opened, met-intro, met-elim}
 
 -- the names free in what is scanned
 abbrev pub free-in : List Passumption → List Name
@@ -25,37 +25,18 @@ free-in ds = collect (λ (a : Passumption). a .pa-free-names) ds
 
 -- the symbols of an entry are the names met from what it scans
 symbols : (ms : Map (List Name)) (ds : List Passumption) (c : Ctxt) (scanned : List Name) → ((n : Name) → try-find (c .p .macro-freenames) n ≡ try-find ms n) → ((n : Name) → mem n (free-in ds) ≡ mem n scanned) → (n : Name) → mem n (new-syms ds c) ≡ mem n (met-from ms scanned)
-unfolding new-syms macro-expand met-from
-symbols ms ds c scanned opens h n = T-ext to from
-  where
-    opened : Name → List Name
-    opened s = Option·getD (try-find ms s) []
-
-    to : T (mem n (new-syms ds c)) → T (mem n (met-from ms scanned))
-    to t =
-        let (a, i, j) = collect-elim (λ a. collect (macro-expand c) (a .pa-free-names)) ds (mem-elim t) in
-        let (s, k, l) = collect-elim (macro-expand c) (a .pa-free-names) j in
-        let m : T (mem s scanned) = rw h at (mem-intro (collect-intro (λ (a : Passumption). a .pa-free-names) i k)) in
-        mem-from-list n (scanned ++ collect opened scanned) .1
-        (mem-append n scanned (collect opened scanned) .1
-        (⊎-elim (λ e. inl (rw e m)) (λ q. inr (mem-intro (collect-intro opened (mem-elim m) (rw opens at q)))) (List·Memᴰ·cases-cons l)))
-
-    from : T (mem n (met-from ms scanned)) → T (mem n (new-syms ds c))
-    from t = ⊎-elim
-        (λ u. from-symbol n u (List·Memᴰ·head refl))
-        (λ u. let (s, i, j) = collect-elim opened scanned (mem-elim u) in from-symbol s (mem-intro i) (List·Memᴰ·tail (rw opens j)))
-        (mem-append n scanned (collect opened scanned) .0 (mem-from-list n (scanned ++ collect opened scanned) .0 t))
-      where
-        from-symbol : (s : Name) → T (mem s scanned) → List·Memᴰ n (macro-expand c s) → T (mem n (new-syms ds c))
-        from-symbol s u l =
-            let v : T (mem s (free-in ds)) = rw h u in
-            let (a, i, k) = collect-elim (λ (a : Passumption). a .pa-free-names) ds (mem-elim v) in
-            mem-intro (collect-intro (λ a. collect (macro-expand c) (a .pa-free-names)) i (collect-intro (macro-expand c) k l))
-
--- a fact's name, in its `passumption`
-name-of : (f : Fact) → passumption f .pa-name ≡ f .name
-unfolding passumption
-name-of f = refl
+unfolding new-syms macro-expand opened
+symbols ms ds c scanned opens h n = T-ext
+    (λ t.
+    let (a, i, j) = collect-elim (λ a. collect (macro-expand c) (a .pa-free-names)) ds (mem-elim t) in
+    let (s, k, l) = collect-elim (macro-expand c) (a .pa-free-names) j in
+    let m : T (mem s scanned) = rw h at (mem-intro (collect-intro (λ (a : Passumption). a .pa-free-names) i k)) in
+    met-intro ms (mem-elim m) (rw opens at l))
+    (λ t.
+    let (s, m, l) = met-elim ms scanned t in
+    let u : T (mem s (free-in ds)) = rw h (mem-intro m) in
+    let (a, i, k) = collect-elim (λ (a : Passumption). a .pa-free-names) ds (mem-elim u) in
+    mem-intro (collect-intro (λ a. collect (macro-expand c) (a .pa-free-names)) i (collect-intro (macro-expand c) k (rw opens l))))
 
 -- both accounts of which facts are retained
 retained : (a : Ask) (f : Fact) → should-retain-assumption (pretyping-axioms a) (passumption f) ≡ retainable a f
@@ -103,15 +84,12 @@ module _ (a : Ask) (trig : List Fact) (before : List Name) (P : PruningState) (o
 
       passed : (f : Fact) → List·Memᴰ f (fresh-of a before trig) → passumption f ≡ passumption g → T (mem (g .name) (c .reached)) ⊎ T (not (retainable a g)) → List·Memᴰ (passumption f) acc
       passed f m e (inl t) = ⊎-elim
-          (λ u. absurd (T-not (mem (f .name) before) (is-new m .2) (rw (name-eq f e) u)))
-          (λ h. Memᴰ·cast (ap passumption (one-fact f (h .0) (is-new m .0) (is-new (h .1) .0) (name-eq f e ∙ h .2))) (h .3))
+          (λ u. absurd (T-not (mem (f .name) before) (is-new m .2) (rw (same-name f g e) u)))
+          (λ h. Memᴰ·cast (ap passumption (one-fact f (h .0) (is-new m .0) (is-new (h .1) .0) (same-name f g e ∙ h .2))) (h .3))
           (r .within (g .name) t)
-        where
-          name-eq : (f : Fact) → passumption f ≡ passumption g → f .name ≡ g .name
-          name-eq f e = sym (name-of f) ∙ ap (λ (x : Passumption). x .pa-name) e ∙ name-of g
-      passed f m e (inr t) = absurd (T-not (retainable a g) t (rw (one-fact f g (is-new m .0) i (sym (name-of f) ∙ ap (λ (x : Passumption). x .pa-name) e ∙ name-of g)) at (is-new m .1)))
+      passed f m e (inr t) = absurd (T-not (retainable a g) t (rw (one-fact f g (is-new m .0) i (same-name f g e)) at (is-new m .1)))
 
-  -- any other fact is reached
+  -- a fact that is not reached and is retained is reached
   take-in : {rest acc : List Passumption} {c : Ctxt} (g : Fact) → List·Memᴰ g trig → Reaching a trig before P (passumption g ∷ rest) acc c
       → T (not (mem (g .name) (c .reached))) → T (retainable a g) → Reaching a trig before P rest (passumption g ∷ acc) (record { p = c .p; reached = add (g .name) (c .reached) })
   take-in {rest} {acc} {c} g i r t u =
@@ -121,14 +99,14 @@ module _ (a : Ask) (trig : List Fact) (before : List Name) (P : PruningState) (o
         sound = λ m. ⊎-elim (λ e. (g, g-new, e)) (r .sound) (List·Memᴰ·cases-cons m);
         within = λ n h. ⊎-elim (λ e. inr (g, g-new, e, List·Memᴰ·head refl)) (λ k. ⊎-elim inl (λ q. inr (q .0, q .1, q .2, List·Memᴰ·tail (q .3))) (r .within n k)) (mem-add n (g .name) (c .reached) .0 h);
         stays = λ n h. mem-add n (g .name) (c .reached) .1 (inr (r .stays n h));
-        added = λ f m. mem-add (f .name) (g .name) (c .reached) .1 (⊎-elim (λ e. inl (sym (name-of f) ∙ ap (λ (x : Passumption). x .pa-name) e ∙ name-of g)) (λ k. inr (r .added f k)) (List·Memᴰ·cases-cons m));
+        added = λ f m. mem-add (f .name) (g .name) (c .reached) .1 (⊎-elim (λ e. inl (same-name f g e)) (λ k. inr (r .added f k)) (List·Memᴰ·cases-cons m));
         complete = λ m. ⊎-elim (λ k. inl (List·Memᴰ·tail k)) (λ k. ⊎-elim (λ e. inl (List·Memᴰ·head e)) inr (List·Memᴰ·cases-cons k)) (r .complete m);
       }
     where
       g-new : List·Memᴰ g (fresh-of a before trig)
       g-new = keep-intro (λ f. retainable a f && not (mem (f .name) before)) i (T-and (retainable a g) (not (mem (g .name) before)) .1 (u, ⊎-elim (λ v. absurd (T-not (mem (g .name) (c .reached)) t (r .stays (g .name) v))) (λ v. v) (T-dec (mem (g .name) before))))
 
-  -- one triggered fact
+  -- each triggered fact keeps the account of what was reached
   reach-step : {rest acc : List Passumption} {c : Ctxt} (g : Fact) → List·Memᴰ g trig → Reaching a trig before P (passumption g ∷ rest) acc c
       → Reaching a trig before P rest (reach (pretyping-axioms a) (acc, c) (passumption g) .0) (reach (pretyping-axioms a) (acc, c) (passumption g) .1)
   unfolding reach already-reached reached-assumption passumption
@@ -148,7 +126,7 @@ module _ (a : Ask) (trig : List Fact) (before : List Name) (P : PruningState) (o
       not-right false true t = tt
       not-right false false t = absurd t
 
-  -- all of them
+  -- so do all triggered facts, one after the other
   reach-all : (rest acc : List Passumption) (c : Ctxt) → ((x : Passumption) → List·Memᴰ x rest → (g : Fact) × List·Memᴰ g trig × (x ≡ passumption g)) → Reaching a trig before P rest acc c
       → Reaching a trig before P [] (fold-left (reach (pretyping-axioms a)) (acc, c) rest .0) (fold-left (reach (pretyping-axioms a)) (acc, c) rest .1)
   unfolding fold-left
@@ -177,7 +155,7 @@ pub record Together (P : PruningState) (fs : List Fact) (ds : List Passumption) 
   pub set : Ascending (r .reached)
   pub scans : (n : Name) → mem n (free-in ds) ≡ mem n scanned
 
--- the invariant is of the state's maps alone
+-- what holds of the state of the scan holds of another with the same maps and its own reached facts
 moved : {P : PruningState} {fs : List Fact} {R R′ : List Name} {met : Name → Bool} {c c′ : Ctxt} → Inv P fs R met c → c′ .p ≡ c .p → c′ .reached ≡ R′ → Inv P fs R′ met c′
 moved i e e′ =
     record {
@@ -193,7 +171,7 @@ pub fact-free : (f : Fact) (n : Name) → List·Memᴰ n (f .free-names) → Lis
 unfolding passumption
 fact-free f n m = mem-elim (mem-from-list n (f .free-names) .1 (mem-intro m))
 
--- and back
+-- a name free in a fact's `passumption` is free in the fact
 pub free-fact : (f : Fact) (n : Name) → List·Memᴰ n (passumption f .pa-free-names) → List·Memᴰ n (f .free-names)
 unfolding passumption
 free-fact f n m = mem-elim (mem-from-list n (f .free-names) .0 (mem-intro m))
@@ -211,12 +189,12 @@ module _ {P : PruningState} {ms : Map (List Name)} {fs : List Fact} (laws : Laws
   unfolding triggered triggers-in lies-within
   triggered-elim x m = let (f, i, e, h) = in-round .sound m in (f, keep-intro (triggers-in (r .met) (met-after ms r scanned)) i h, e)
 
-  -- and back
+  -- a fact that the round triggers the entry triggers
   triggered-intro : (f : Fact) → List·Memᴰ f (triggered ms fs r scanned) → List·Memᴰ (passumption f) (pending ds c .0)
   unfolding triggered triggers-in lies-within
   triggered-intro f m = let (i, h) = keep-elim (triggers-in (r .met) (met-after ms r scanned)) fs m in in-round .complete i h
 
-  -- so both are empty or neither is
+  -- an entry triggers nothing exactly where the round does not
   both-nil : is-nil (pending ds c .0) ≡ is-nil (triggered ms fs r scanned)
   both-nil = T-ext
       (λ t. ⊎-elim (λ u. u) (λ u. let (f, m) = not-nil-mem (triggered ms fs r scanned) u in absurd (T-not (is-nil (pending ds c .0)) (mem-not-nil (triggered-intro f m)) t)) (T-dec (is-nil (triggered ms fs r scanned))))
@@ -227,7 +205,7 @@ module _ {P : PruningState} {ms : Map (List Name)} {fs : List Fact} (laws : Laws
   unfolding triggered
   trig-one f g m n e = laws .one-fact (keep-elim (triggers-in (r .met) (met-after ms r scanned)) fs m .0) (keep-elim (triggers-in (r .met) (met-after ms r scanned)) fs n .0) e
 
-  -- what the scan goes on with
+  -- what the scan goes on with is what the round reaches
   reaching : Reaching a (triggered ms fs r scanned) (r .reached) (pending ds c .1 .p) [] (to-scan (pretyping-axioms a) ds c .0) (to-scan (pretyping-axioms a) ds c .1)
   unfolding to-scan
   reaching =
@@ -243,7 +221,7 @@ module _ {P : PruningState} {ms : Map (List Name)} {fs : List Fact} (laws : Laws
         complete = λ {f} m. inr (triggered-intro f (keep-elim (λ f. retainable a f && not (mem (f .name) (r .reached))) (triggered ms fs r scanned) m .0));
       })
 
-  -- the next round starts together
+  -- the scan and the rounds are together at the start of the next round
   next-together : Together P fs (to-scan (pretyping-axioms a) ds c .0) (to-scan (pretyping-axioms a) ds c .1) (after-round a ms fs r scanned) (next-scanned a ms fs r scanned)
   unfolding after-round next-scanned fresh
   next-together =
@@ -272,7 +250,7 @@ pub record Scanned (P : PruningState) (pretyping : Bool) (ds : List Passumption)
   pub reaches : scan pretyping fuel ds c .reached ≡ end .reached
   pub finds : scan pretyping fuel ds c .p .assumption-name-map ≡ P .assumption-name-map
 
--- so much for what the scan comes to
+-- a scan that comes to a state that ends for its own reason with what the run reaches
 scanned-as : {P : PruningState} {pretyping : Bool} {ds : List Passumption} {c : Ctxt} {fuel : ℕ} {end : Run} (x : Ctxt) → scan pretyping fuel ds c ≡ x → Scans pretyping ds c x → x .reached ≡ end .reached → x .p .assumption-name-map ≡ P .assumption-name-map → Scanned P pretyping ds c fuel end
 scanned-as {pretyping} {ds} {c} x e t r f =
     record {
@@ -287,7 +265,7 @@ module _ (pretyping : Bool) (fuel : ℕ) (ds : List Passumption) (c : Ctxt) wher
   unfolding scan
   scan-stops t = cond-true (is-nil (pending ds c .0)) (pending ds c .1) (scan pretyping fuel (to-scan pretyping ds c .0) (to-scan pretyping ds c .1)) t
 
-  -- else it goes on
+  -- the scan goes on where something is triggered
   scan-goes-on : T (not (is-nil (pending ds c .0))) → scan pretyping (suc fuel) ds c ≡ scan pretyping fuel (to-scan pretyping ds c .0) (to-scan pretyping ds c .1)
   unfolding scan
   scan-goes-on t = cond-false (is-nil (pending ds c .0)) (pending ds c .1) (scan pretyping fuel (to-scan pretyping ds c .0) (to-scan pretyping ds c .1)) t
@@ -297,7 +275,7 @@ nothing-reached : (a : Ask) (ms : Map (List Name)) (fs : List Fact) (r : Run) (s
 unfolding after-round fresh keep union
 nothing-reached a ms fs r scanned t = rw (is-nil-elim (triggered ms fs r scanned) t)
 
--- as long as the fuel is at least the rounds that are left
+-- a scan and rounds that start together end together, if the fuel is at least the rounds that are left
 pub scans-run : {P : PruningState} {a : Ask} {ms : Map (List Name)} {fs : List Fact} (laws : Laws P ms fs) {r end : Run} {scanned : List Name} (fuel : ℕ) → Ends a ms fs r scanned end → end .rounds ≤ r .rounds + fuel
     → {ds : List Passumption} {c : Ctxt} → Together P fs ds c r scanned → Scanned P (pretyping-axioms a) ds c fuel end
 unfolding after-round

@@ -15,7 +15,7 @@ use Rattle.model.proofs.SetLaws.{same-eq, eq-same, same-refl, same-sym, mem-int
 use Rattle.demands.proofs.MapLaws.{try-find-head, try-find-tail, try-find-remove}
 use Rattle.demands.proofs.Filing.{waiting}
 
--- what the scan needs of the filed state
+-- what the scan needs of the filed state: which facts wait on a name, the macros, and that no two facts have one name
 pub record Laws (P : PruningState) (ms : Map (List Name)) (fs : List Fact) : Type 0 where
   pub waits : (n : Name) {a : Passumption} → List·Memᴰ a (waiting P n) → (f : Fact) × List·Memᴰ f fs × List·Memᴰ n (listed f) × (a ≡ passumption f)
   pub waits-for : (n : Name) {f : Fact} → List·Memᴰ f fs → List·Memᴰ n (listed f) → List·Memᴰ (passumption f) (waiting P n)
@@ -40,7 +40,7 @@ unfolding any
 eligible met [] = refl
 eligible met (d ∷ ts) = ap₂ _||_ (nil-keep-not met d) (eligible met ts)
 
--- a name met removed
+-- a name removed from the disjuncts less the met names is one name met more
 remove-left : (lid : Name) (met : Name → Bool) (ts : List (List Name)) → map (remove lid) (left-of met ts) ≡ left-of (with-name lid met) ts
 unfolding remove
 remove-left lid met [] = refl
@@ -109,7 +109,7 @@ record Telling (P : PruningState) (fs : List Fact) (reached : List Name) (before
   complete : {f : Fact} → List·Memᴰ f fs → T (hits before (with-name lid met) f) → List·Memᴰ (passumption f) acc ⊎ List·Memᴰ (passumption f) rest
 
 -- facts with one `passumption` have one name
-same-name : (f g : Fact) → passumption f ≡ passumption g → f .name ≡ g .name
+pub same-name : (f g : Fact) → passumption f ≡ passumption g → f .name ≡ g .name
 unfolding passumption
 same-name f g e = ap (λ (a : Passumption). a .pa-name) e
 
@@ -125,7 +125,7 @@ after-telling {lid} {met} {f} (told e) = (left-of (with-name lid met) (f .trigge
 after-telling {lid} {met} {f} (untold e m) = (left-of met (f .triggers), e, remove-left lid met (f .triggers))
 
 module _ {P : PruningState} {ms : Map (List Name)} {fs : List Fact} (laws : Laws P ms fs) {reached : List Name} {before met : Name → Bool} (lid : Name) (new : T (not (before lid))) where
-  -- one fact is told of the name
+  -- after one fact is told of the name, the others are still to be told
   tell : {rest acc : List Passumption} {c : Ctxt} (g : Fact) → List·Memᴰ g fs → List·Memᴰ lid (listed g) → Telling P fs reached before met lid (passumption g ∷ rest) acc c
       → (b : Bool) → any (all (with-name lid met)) (g .triggers) ≡ b → (l : List (List Name)) → l ≡ left-of (with-name lid met) (g .triggers)
       → Telling P fs reached before met lid rest (cond b (passumption g ∷ acc) acc) (record { p = with-assumption-to-triggers (c .p) ((g .name, l) ∷ c .p .assumption-to-triggers); reached = c .reached })
@@ -170,7 +170,7 @@ module _ {P : PruningState} {ms : Map (List Name)} {fs : List Fact} (laws : Laws
           let u : T (any (all (with-name lid met)) (g .triggers)) = rw p at (T-and (any (λ n. with-name lid met n && not (before n)) (listed f)) (any (all (with-name lid met)) (f .triggers)) .0 h .1) in
           absurd (rw e at u)
 
-  -- one that waits is told
+  -- the same of what waits on the name
   tell-one : {rest acc : List Passumption} {c : Ctxt} (a : Passumption) → List·Memᴰ a (waiting P lid) → Telling P fs reached before met lid (a ∷ rest) acc c
       → Telling P fs reached before met lid rest (trigger-assumption lid (acc, c) a .0) (trigger-assumption lid (acc, c) a .1)
   tell-one {rest} {acc} {c} a m t =
@@ -185,7 +185,7 @@ module _ {P : PruningState} {ms : Map (List Name)} {fs : List Fact} (laws : Laws
           (sym (ap (trigger-assumption lid (acc, c)) e ∙ turn lid acc c g l o))
           (tell g i j t′ (any is-nil (map (remove lid) l)) (sym (ap (any is-nil) r ∙ eligible (with-name lid met) (g .triggers))) (map (remove lid) l) r)
 
-  -- all of them are told
+  -- after all that wait are told, none is left to be told
   tell-all : (rest : List Passumption) (acc : List Passumption) (c : Ctxt) → ((a : Passumption) → List·Memᴰ a rest → List·Memᴰ a (waiting P lid)) → Telling P fs reached before met lid rest acc c
       → Telling P fs reached before met lid [] (fold-left (trigger-assumption lid) (acc, c) rest .0) (fold-left (trigger-assumption lid) (acc, c) rest .1)
   unfolding fold-left
@@ -264,7 +264,7 @@ unmarked lid c e n = ⊎-elim
     (T-dec (same lid n))
 
 module _ {P : PruningState} {ms : Map (List Name)} {fs : List Fact} (laws : Laws P ms fs) {reached : List Name} {before : Name → Bool} where
-  -- a symbol not met before
+  -- a symbol not met before is met at the end of its turn
   unmet-step : {met : Name → Bool} {acc : List Passumption} {c : Ctxt} (lid : Name) → Round P fs reached before met acc c → T (not (met lid)) → T (not (before lid)) → waiting (c .p) lid ≡ waiting P lid
       → Round P fs reached before (with-name lid met) (trigger-pending (acc, c) lid .0) (trigger-pending (acc, c) lid .1)
   unfolding mark-trigger-reached trigger-reached with-trigger-to-assumption
@@ -275,7 +275,7 @@ module _ {P : PruningState} {ms : Map (List Name)} {fs : List Fact} (laws : Laws
       (λ n. told-all laws lid new (r .since) (subst (λ (rest : List Passumption). Telling P fs reached before met lid rest acc c) (is-nil-elim (waiting P lid) n) (start-telling laws lid new r t refl refl refl refl (unmarked lid c (e ∙ is-nil-elim (waiting P lid) n)))))
       (λ n. told-all laws lid new (r .since) (tell-all laws lid new (waiting P lid) acc (mark-trigger-reached lid c) (λ a m. m) (start-telling laws lid new r t refl refl refl refl (marked lid c)))))
 
-  -- one symbol
+  -- any symbol is met at the end of its turn
   pending-step : {met : Name → Bool} {acc : List Passumption} {c : Ctxt} (lid : Name) → Round P fs reached before met acc c
       → Round P fs reached before (with-name lid met) (trigger-pending (acc, c) lid .0) (trigger-pending (acc, c) lid .1)
   unfolding is-nil
@@ -286,7 +286,7 @@ module _ {P : PruningState} {ms : Map (List Name)} {fs : List Fact} (laws : Laws
       (λ t. unmet-step lid r t (⊎-elim (λ b. absurd (T-not (met lid) t (r .since lid b))) (λ b. b) (T-dec (before lid))) (r .inv .waits lid ∙ cond-false (met lid) [] (waiting P lid) t))
       (T-dec (met lid))
 
-  -- all symbols of a list
+  -- so are all symbols of a list
   pending-all : {met : Name → Bool} (lids : List Name) (acc : List Passumption) (c : Ctxt) → Round P fs reached before met acc c
       → Round P fs reached before (λ n. mem n lids || met n) (fold-left trigger-pending (acc, c) lids .0) (fold-left trigger-pending (acc, c) lids .1)
   unfolding fold-left mem any

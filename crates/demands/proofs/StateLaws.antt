@@ -19,12 +19,12 @@ use Rattle.model.proofs.ListLaws.{T-dec, cond-true, cond-false, getD-case, getD
 use Rattle.model.proofs.SetLaws.{Within, within-nil, within-left, within-right, within-add, within-union, mem-intro, mem-elim, mem-cons, mem-first, mem-append, mem-diff}
 use Rattle.demands.specs.Accepted.{Accepted, Distinct, none, one-more}
 use Rattle.demands.proofs.Distinct.{distinct-append}
-use Rattle.demands.proofs.Filing.{fact-summary, definition-summary, declaration-summary}
+use Rattle.demands.proofs.Records.{fact-summary, definition-summary, declaration-summary}
 use Rattle.demands.proofs.ReadingLaws.{line-read, kept-by-file}
 use Rattle.demands.proofs.Disjuncts.{Parts, lawful-kind}
 use Rattle.demands.proofs.TermNumbers.{Below, terms-named, named-below}
 
--- the names with one more: it stands at the end, or was there
+-- a name that is there leaves the names as they are, a new one stands at their end
 spell-cases : (names : List Name) (n : Name) → (T (mem n names) × (spell names n ≡ names)) ⊎ (T (not (mem n names)) × (spell names n ≡ names ++ (n ∷ [])))
 unfolding spell
 spell-cases names n = ⊎-elim (λ t. inl (t, cond-true (mem n names) names (names ++ (n ∷ [])) t)) (λ t. inr (t, cond-false (mem n names) names (names ++ (n ∷ [])) t)) (T-dec (mem n names))
@@ -39,19 +39,19 @@ spell-distinct names n d = ⊎-elim (λ p. rw (p .1) d)
 abbrev Prefix : List Name → List Name → Type 0
 Prefix names after = (new : List Name) × (after ≡ names ++ new)
 
--- one name more
+-- they do with one name more
 spell-prefix : (names after : List Name) (n : Name) → Prefix names after → Prefix names (spell after n)
 spell-prefix names after n (new, e) = ⊎-elim (λ p. (new, p .1 ∙ e)) (λ p. (new ++ (n ∷ []), rw (p .1, e, append-assoc))) (spell-cases after n)
 
--- the names that were there stay
+-- the names that were there are there with one more
 spell-keeps : (names : List Name) (n : Name) → Within names (spell names n)
 spell-keeps names n k t = ⊎-elim (λ p. rw (p .1) t) (λ p. rw (p .1) (mem-append k names (n ∷ []) .1 (inl t))) (spell-cases names n)
 
--- and the new one is there
+-- and so is the new one
 spell-has : (names : List Name) (n : Name) → T (mem n (spell names n))
 spell-has names n = ⊎-elim (λ p. rw (p .1) (p .0)) (λ p. rw (p .1) (mem-append n names (n ∷ []) .1 (inr (mem-first n [])))) (spell-cases names n)
 
--- names spelled one after the other are all there, beside those that were
+-- after some names are spelled they are there, beside those that were
 spelled-within : (names l : List Name) → Within (names ++ l) (fold-left spell names l)
 unfolding fold-left
 spelled-within names [] k t = rw append-nil at t
@@ -122,13 +122,13 @@ module _ {names : List Name} {terms : List Term} (numbered : (t : Term) → List
   unfolding term-of
   term-within t = getD-case (λ x. Within (x .names) names) terms t _ (λ x i. numbered x i .free) (within-nil names)
 
-  -- so are those of some terms
+  -- the free names of some terms are numbered
   names-within : (ts : List ℕ) → Within (names-of terms ts) names
   unfolding names-of
   names-within [] = within-nil names
   names-within (t ∷ ts) = within-union (term-of terms t .names) (names-of terms ts) names (term-within t) (names-within ts)
 
-  -- and those of a term line whose own name is
+  -- the free names of a term line whose own name is numbered are numbered
   node-within : (node : Node) → Within (spelled-by node) names → Within (node-names terms node) names
   unfolding node-names spelled-by
   node-within (FreeV name) w = within-add name [] names (w name (mem-first name [])) (within-nil names)
@@ -146,14 +146,14 @@ module _ {names : List Name} {terms : List Term} (numbered : (t : Term) → List
     unfolding free-top-level-names
     free-within t k u = term-within t k (mem-diff k (term-of terms t .names) exclude .0 u .0)
 
-    -- so are those of a pattern group
+    -- the free names of a pattern group are numbered
     group-within : (ts : List ℕ) → Within (group-names exclude terms ts) names
     unfolding group-names
     group-within ts =
         fold-left-case (λ out. Within out names) (λ out t. union out (free-top-level-names exclude terms t)) ts
         (λ out t i w. within-union out (free-top-level-names exclude terms t) names w (free-within t)) (within-nil names)
 
-    -- and the token of a partial application
+    -- the token of a partial application is numbered
     token-within : (t : ℕ) (n : Name) → token exclude terms t ≡ some n → T (mem n names)
     unfolding token at term-of spelled-by
     token-within t n e = getD-case (λ x. Within (spelled-by (x .node)) names) terms t _ (λ x i. numbered x i .spells) (within-nil names) n (token-spelled n (at exclude terms t) e)
@@ -191,7 +191,7 @@ module _ {names : List Name} {terms : List Term} (numbered : (t : Term) → List
       records-line (retain ns) old new short x i = subst (Summary-numbered names′) (sym (List·Memᴰ·eq-of-singleton i)) tt
       records-line (root q name t) old new short x i = absurd (List·Memᴰ·not-nil i)
 
-      -- so is every name of its root
+      -- every name of the root that a line is is numbered after it
       roots-line : (c : Content) → Within names names′ → Within (spelled c) names′
           → (r : Root) → List·Memᴰ r (root-of exclude terms n c) → Root-numbered names′ r
       unfolding spelled root-of
@@ -261,14 +261,14 @@ bare-below terms h (Exists body groups) w = w
 bare-below terms h (Let body ts) w = w
 bare-below terms h (Labeled t) w = λ u i. omega (arith, h t .1 u i, w t (List·Memᴰ·head refl))
 
--- a table whose terms name lower ones, with one term line more that names terms of the table
+-- where each term names lower ones it does so with one term line more that names terms of the table
 lower-more : (terms : List Term) (node : Node) → Below (length terms) (references node) → Lower terms → Lower (add-term terms node)
 unfolding add-term term-of references
 lower-more terms node w h =
     getD-one-more (λ t x. Below t (references (x .node)) × Below t (references (x .bare))) terms _ _ h (w, bare-below terms h node w)
     (λ t. (λ u i. absurd (List·Memᴰ·not-nil i), λ u i. absurd (List·Memᴰ·not-nil i)))
 
--- so it stays after a line that names terms of the table
+-- where each term names lower ones it does so after a line that names terms of the table
 lower-line : (terms : List Term) (c : Content) → Below (length terms) (terms-named c) → Lower terms → Lower (fold-left add-term terms (nodes c))
 unfolding nodes fold-left terms-named
 lower-line terms (ask q options) w h = h
@@ -285,7 +285,7 @@ pub record Counts (s : State) : Type 0 where
   pub entries : s .entries ≡ sum (map entries-of (s .decls))
   pub uses : s .uses ≡ sum (map uses-of (s .decls)) + sum (map (λ (r : Root). length (r .free-names)) (s .roots))
 
--- the references of a table with term lines more
+-- the references of the table with term lines more are those before and those of the lines
 references-more : (terms : List Term) (ns : List Node)
     → sum (map (λ (t : Term). length (references (t .node))) (fold-left add-term terms ns)) ≡ sum (map (λ (t : Term). length (references (t .node))) terms) + length (collect references ns)
 unfolding fold-left collect add-term sum
@@ -294,7 +294,7 @@ references-more terms (node ∷ ns) =
     references-more (add-term terms node) ns
     ∙ rw (sum-map-append (λ (t : Term). length (references (t .node))) terms, length-append (references node) (collect references ns)) (omega arith)
 
--- a line keeps the counts
+-- the counts are those of the table and the records after a line, if before
 counts-line : (exclude : List Name) (n : ℕ) (s : State) (c : Content) → Counts s → Counts (add-line exclude n s c)
 unfolding add-line
 counts-line exclude n s c h =
@@ -320,7 +320,7 @@ pub record State-laws (s : State) : Type 0 where
   pub lower : Lower (s .terms)
   pub counts : Counts s
 
--- they hold before line 1
+-- the laws hold before line 1
 pub laws-start : State-laws start
 unfolding start term-of references sum
 laws-start =
@@ -331,7 +331,7 @@ laws-start =
       counts = record { references = refl; entries = refl; uses = omega arith };
     }
 
--- every accepted line keeps them
+-- every accepted line keeps the laws
 pub laws-line : (exclude : List Name) (n : ℕ) (s s′ : State) (line : Line) → read-line exclude n s line ≡ ok s′ → State-laws s → State-laws s′
 unfolding add-line
 laws-line exclude n s s′ line e h =
@@ -344,7 +344,7 @@ laws-line exclude n s s′ line e h =
       counts = counts-line exclude n s (l .content) (h .counts);
     })
 
--- they hold of every accepted file
+-- the laws hold of the state of every accepted file
 pub laws-file : (file : List ℕ) (s : State) → Accepted file s → State-laws s
 laws-file file s e = kept-by-file exclude-names (λ n s. State-laws s) (laws-line exclude-names) file s e laws-start
 

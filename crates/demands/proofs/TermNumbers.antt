@@ -30,15 +30,15 @@ terms-named (def name t) = t ∷ []
 terms-named (retain names) = []
 terms-named (root q name t) = t ∷ []
 
--- no number is below any count
+-- the numbers of an empty list are below any count
 none-below : {count : ℕ} → Below count []
 none-below t i = absurd (List·Memᴰ·not-nil i)
 
--- one number more
+-- a number and others below the count are so together
 more-below : {count t : ℕ} {ts : List ℕ} → t < count → Below count ts → Below count (t ∷ ts)
 more-below h hs u i = ⊎-elim (λ e. rw e h) (hs u) (List·Memᴰ·cases-cons i)
 
--- two lists of numbers, one after the other
+-- two lists of numbers below the count are so one after the other
 append-below : {count : ℕ} (ts : List ℕ) {us : List ℕ} → Below count ts → Below count us → Below count (ts ++ us)
 append-below ts h k u i = ⊎-elim (h u) (k u) (List·Memᴰ·append-cases ts i)
 
@@ -48,18 +48,18 @@ data Gives {A : Type 0} (law : A → Type 0) : Result A → Type 0 where
   no-value : {r : Refusal} → Gives law (refused r)
 
 module _ {A : Type 0} where
-  -- a value of which nothing is said
+  -- a result gives a value of which nothing is said
   any-value : (r : Result A) → Gives (λ a. Unit {0}) r
   any-value (ok a) = value tt
   any-value (refused r) = no-value
 
-  -- the law holds of the value
+  -- the law holds of the value that is given
   given : {law : A → Type 0} {r : Result A} {a : A} → Gives law r → r ≡ ok a → law a
   given {law} (value h) e = subst law (ok-eq e) h
   given no-value e = absurd (not-ok e)
 
   module _ {law : A → Type 0} where
-    -- the value of the next field
+    -- the law holds of the value of the next field where it holds of each field
     gives-next : {judge : Field → Result A} → ((f : Field) → Gives law (judge f)) → (fs : List Field) → Gives (λ p. law (p .0)) (next judge fs)
     unfolding next
     gives-next h [] = no-value
@@ -69,13 +69,13 @@ module _ {A : Type 0} where
         go (value x) = value x
         go no-value = no-value
 
-    -- the value where no field is left over
+    -- the law holds of the value where no field is left over
     gives-end : (a : A) → law a → (fs : List Field) → Gives law (end a fs)
     unfolding end
     gives-end a h [] = value h
     gives-end a h (f ∷ fs) = no-value
 
--- what a step gives from the value of the one before
+-- what a step gives from each value of the one before
 gives-bind : {A B : Type 0} {law : A → Type 0} {law′ : B → Type 0} {r : Result A} {f : A → Result B}
     → Gives law r → ((a : A) → law a → Gives law′ (f a)) → Gives law′ (r >>= f)
 gives-bind (value {a} h) k = k a h
@@ -91,7 +91,7 @@ module _ (count : ℕ) where
       go n true e = value (ltb→lt n count (rw e tt))
       go n false e = no-value
 
-  -- so do the next n fields
+  -- the next n fields that name terms give numbers below the count
   gives-many : (n : ℕ) (fs : List Field) → Gives (λ p. Below count (p .0)) (many n (term-field count) fs)
   unfolding many
   gives-many zero fs = value none-below
@@ -99,13 +99,13 @@ module _ (count : ℕ) where
       gives-bind (gives-next gives-term fs) (λ p h.
       gives-bind (gives-many n (p .1)) (λ q k. value (more-below h k)))
 
-  -- and all fields that are left
+  -- all fields that are left and name terms give numbers below the count
   gives-rest : (fs : List Field) → Gives (Below count) (rest (term-field count) fs)
   unfolding rest
   gives-rest [] = value none-below
   gives-rest (f ∷ fs) = gives-bind (gives-term f) (λ t h. gives-bind (gives-rest fs) (λ ts k. value (more-below h k)))
 
-  -- and the pattern groups
+  -- pattern groups give numbers below the count
   gives-groups : (g : ℕ) (fs : List Field) → Gives (λ p. Below count (concat (p .0))) (groups count g fs)
   unfolding groups concat
   gives-groups zero fs = value none-below
@@ -114,7 +114,7 @@ module _ (count : ℕ) where
       gives-bind (gives-many (n .0) (n .1)) (λ p h.
       gives-bind (gives-groups g (p .1)) (λ q k. value (append-below (p .0) h k))))
 
-  -- and an `all` or a `some`
+  -- an `all` or a `some` names terms below the count
   gives-quantifier : (make : ℕ → List (List ℕ) → Node) → ((body : ℕ) (gs : List (List ℕ)) → references (make body gs) ≡ body ∷ concat gs)
       → (fs : List Field) → Gives (λ c. Below count (terms-named c)) (quantifier make count fs)
   unfolding quantifier terms-named
@@ -123,7 +123,7 @@ module _ (count : ℕ) where
       gives-bind (any-value (next (number-field 65535) (body .1))) (λ g u.
       gives-bind (gives-groups (g .0) (g .1)) (λ gs k. gives-end _ (rw e (more-below h k)) (gs .1))))
 
-  -- and every line
+  -- every line names terms below the count
   gives-content : (k : LineKind) (fs : List Field) → Gives (λ c. Below count (terms-named c)) (content k count fs)
   unfolding content terms-named references
   gives-content kind.Ask fs =

@@ -1,6 +1,6 @@
 -- The records of an accepted file are well formed: no name is taken twice, and name lists are sets.
 use Prim.Native.Nat.{ℕ}
-use mathlib.Core.Path.{_≡_, refl, sym, ap, subst}
+use mathlib.Core.Path.{_≡_, refl, sym, subst}
 use mathlib.Core.Logic.{⊎-elim}
 use mathlib.Core.Bool.{Bool, not}
 use mathlib.Core.List.{List, [], _∷_, _++_, List·Memᴰ, List·Memᴰ·not-nil, List·Memᴰ·append-cases, List·Memᴰ·eq-of-singleton}
@@ -9,34 +9,17 @@ use Rattle.model.specs.Lists.{concat, collect, fold-left}
 use Rattle.model.specs.Names.{Name, mem, union}
 use Rattle.model.specs.Terms.{Node, FreeV, Leaf, Call, App, Forall, Exists, Let, Labeled, Term, names-of, add-term, free-top-level-names as node-names, term as term-of}
 use Rattle.model.specs.Summaries.{exclude-names, free-top-level-names, group-names, at, summarize-assumption}
-use Rattle.model.specs.Reading.{Content, ask, term, assume, fun, def, retain, root, Summary, Sum-assume, Sum-definefun, Sum-declfun, Sum-retain, Root, State, start, nodes, taken-by, summarize-decl, root-of, add-line, repeats, read, read-file}
+use Rattle.model.specs.Reading.{Content, ask, term, assume, fun, def, retain, root, Summary, Root, State, start, nodes, taken-by, summarize-decl, root-of, add-line, repeats, read, read-file}
 use Rattle.model.specs.Rounds.{facts, definitions}
 use Rattle.model.proofs.ListLaws.{getD-case, any-intro, collect-append, fold-left-case}
 use Rattle.model.proofs.SetLaws.{Ascending, empty, one, ascending-add, ascending-union, ascending-diff, mem-intro}
 use Rattle.demands.specs.Accepted.{Distinct, none as distinct-none, one-more, Good-fact, Well-formed, Accepted-well-formed}
 use Rattle.demands.proofs.Distinct.{distinct-append}
+use Rattle.demands.proofs.Records.{facts-append, definitions-append}
 use Rattle.demands.proofs.Disjuncts.{Parts, lawful-kind}
 use Rattle.demands.proofs.ReadingLaws.{line-read, kept-by-file}
 
--- the facts of two lists of records, one after the other
-pub facts-append : (l m : List Summary) → facts (l ++ m) ≡ facts l ++ facts m
-unfolding facts
-facts-append [] m = refl
-facts-append (Sum-assume f ∷ l) m = ap (f ∷_) (facts-append l m)
-facts-append (Sum-definefun d ∷ l) m = facts-append l m
-facts-append (Sum-declfun d ∷ l) m = facts-append l m
-facts-append (Sum-retain ∷ l) m = facts-append l m
-
--- the definitions of two lists of records, one after the other
-pub definitions-append : (l m : List Summary) → definitions (l ++ m) ≡ definitions l ++ definitions m
-unfolding definitions
-definitions-append [] m = refl
-definitions-append (Sum-assume f ∷ l) m = definitions-append l m
-definitions-append (Sum-definefun d ∷ l) m = ap (d ∷_) (definitions-append l m)
-definitions-append (Sum-declfun d ∷ l) m = definitions-append l m
-definitions-append (Sum-retain ∷ l) m = definitions-append l m
-
--- records without a fact or a definition, and no root
+-- records without a fact or a definition, and no root, are well formed where no name is taken twice
 no-sets : {l : List Summary} → Distinct (collect taken-by l) → facts l ≡ [] → definitions l ≡ [] → Well-formed l []
 no-sets once no-facts no-definitions =
     record {
@@ -46,12 +29,12 @@ no-sets once no-facts no-definitions =
       root-sets = λ r i. absurd (List·Memᴰ·not-nil i);
     }
 
--- no record at all
+-- no records at all are well formed
 no-records : Well-formed [] []
 unfolding collect facts definitions
 no-records = no-sets distinct-none refl refl
 
--- two lists of records, one after the other, of which the second takes no name that the first takes
+-- two lists of records, of which the second takes no name that the first takes, are well formed one after the other
 well-append : {l m : List Summary} {rs qs : List Root} → Well-formed l rs → Well-formed m qs
     → ((n : Name) → List·Memᴰ n (collect taken-by l) → List·Memᴰ n (collect taken-by m) → ⊥)
     → Well-formed (l ++ m) (rs ++ qs)
@@ -73,13 +56,13 @@ module _ {terms : List Term} (sets : Term-sets terms) where
   unfolding term-of
   term-set t = getD-case (λ x. Ascending (x .names)) terms t _ (sets .of-term) empty
 
-  -- so are those of some terms
+  -- the free names of some terms are a set
   names-set : (ts : List ℕ) → Ascending (names-of terms ts)
   unfolding names-of
   names-set [] = empty
   names-set (t ∷ ts) = ascending-union (term-of terms t .names) (names-set ts)
 
-  -- and those of a term line
+  -- the free names of a term line are a set
   node-set : (node : Node) → Ascending (node-names terms node)
   unfolding node-names
   node-set (FreeV name) = ascending-add name empty
@@ -91,7 +74,7 @@ module _ {terms : List Term} (sets : Term-sets terms) where
   node-set (Let body ts) = ascending-union (names-of terms ts) (term-set body)
   node-set (Labeled t) = term-set t
 
-  -- the table with one term line more
+  -- the names of a table with one term line more are sets
   more-terms : (node : Node) → Term-sets (add-term terms node)
   unfolding add-term
   more-terms node = record { of-term = λ t i. ⊎-elim (sets .of-term t) (λ j. subst (λ x. Ascending (x .names)) (sym (List·Memᴰ·eq-of-singleton j)) (node-set node)) (List·Memᴰ·append-cases terms i) }
@@ -102,16 +85,13 @@ module _ {terms : List Term} (sets : Term-sets terms) where
     unfolding free-top-level-names
     free-set t = ascending-diff exclude (term-set t)
 
-    -- so are those of a pattern group
+    -- the free names of a pattern group are a set
     group-set : (ts : List ℕ) → Ascending (group-names exclude terms ts)
-    unfolding group-names fold-left
-    group-set ts = go ts [] empty
-      where
-        go : (ts : List ℕ) (out : List Name) → Ascending out → Ascending (fold-left (λ out t. union out (free-top-level-names exclude terms t)) out ts)
-        go [] out a = a
-        go (t ∷ ts) out a = go ts (union out (free-top-level-names exclude terms t)) (ascending-union out (free-set t))
+    unfolding group-names
+    group-set ts =
+        fold-left-case Ascending (λ out t. union out (free-top-level-names exclude terms t)) ts (λ out t i a. ascending-union out (free-set t)) empty
 
-    -- what disjuncts are made of is sets
+    -- what disjuncts are made of is a set each
     part-sets : Parts (λ trimmed d. Ascending d) exclude terms
     part-sets = record { of-term = free-set; of-group = group-set; of-token = λ t n e trimmed. one; of-trimmed = λ n. one }
 
@@ -151,7 +131,7 @@ module _ {terms : List Term} (sets : Term-sets terms) where
           root-sets = λ r i. subst (λ x. Ascending (x .free-names)) (sym (List·Memᴰ·eq-of-singleton i)) (free-set t);
         }
 
--- the table after a line
+-- the names of the table after a line are sets
 sets-after : {terms : List Term} → Term-sets terms → (c : Content) → Term-sets (fold-left add-term terms (nodes c))
 sets-after sets c = fold-left-case Term-sets add-term (nodes c) (λ terms node i s. more-terms s node) sets
 
@@ -172,7 +152,7 @@ sound-start : Sound start
 unfolding start collect facts definitions
 sound-start = record { sets = record { of-term = λ t i. absurd (List·Memᴰ·not-nil i) }; well = no-records }
 
--- a line that does not repeat keeps it so
+-- a line that does not repeat a name keeps the state sound
 sound-line : (exclude : List Name) (n : ℕ) (s : State) (c : Content) → T (not (repeats exclude n s c)) → Sound s → Sound (add-line exclude n s c)
 unfolding add-line
 sound-line exclude n s c fresh v =
