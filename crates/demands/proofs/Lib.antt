@@ -10,6 +10,7 @@ pub mod Demand3
 pub mod LineWalk
 pub mod LineForm
 pub mod ReadingLaws
+pub mod TermNames
 pub mod Disjuncts
 pub mod TermNumbers
 pub mod WellFormed

@@ -8,10 +8,10 @@ use mathlib.Core.List.{List, [], _∷_, _++_, map, append-nil, append-assoc, Lis
 use mathlib.Core.Option.{some, Option·none-ne-some, Option·some-injective}
 use lib.Dec.{T, T-not}
 use lib.ListN.{length, length-append}
-use Rattle.model.specs.Lists.{concat, collect, fold-left, sum, when, or-else, is-nil, _>>=_}
-use Rattle.model.specs.Names.{Name, mem, union}
+use Rattle.model.specs.Lists.{collect, fold-left, sum, when, or-else, is-nil, _>>=_}
+use Rattle.model.specs.Names.{Name, mem}
 use Rattle.model.specs.Lines.{Line}
-use Rattle.model.specs.Terms.{Node, FreeV, Leaf, Call, App, Forall, Exists, Let, Labeled, Term, names-of, add-term, references, unlabeled, free-top-level-names as node-names, term as term-of}
+use Rattle.model.specs.Terms.{Node, FreeV, Leaf, Call, App, Forall, Exists, Let, Labeled, Term, add-term, references, unlabeled, free-top-level-names as node-names, term as term-of}
 use Rattle.model.specs.Summaries.{Fact, exclude-names, free-of, call-of, free-top-level-names, group-names, at, token, summarize-kind, summarize-assumption}
 use Rattle.model.specs.Reading.{ok, Content, ask, term, assume, fun, def, retain, root, Summary, Sum-assume, Sum-definefun, Sum-declfun, Sum-retain, Decl, Root, State, start, nodes, spelled-by, spelled, spell, entries-of, uses-of, taken-by, summarize-decl, trimmed, root-of, add-line, read-line}
 use Rattle.model.specs.Rounds.{facts, definitions, declarations}
@@ -21,6 +21,7 @@ use Rattle.demands.specs.Accepted.{Accepted, Distinct, none, one-more}
 use Rattle.demands.proofs.Distinct.{distinct-append}
 use Rattle.demands.proofs.Records.{fact-summary, definition-summary, declaration-summary}
 use Rattle.demands.proofs.ReadingLaws.{line-read, kept-by-file}
+use Rattle.demands.proofs.TermNames.{Name-law, node-law, free-law, group-law}
 use Rattle.demands.proofs.Disjuncts.{Parts, lawful-kind}
 use Rattle.demands.proofs.TermNumbers.{Below, terms-named, named-below}
 
@@ -116,42 +117,28 @@ module _ (names names′ : List Name) (w : Within names names′) where
   grown (Sum-declfun d) h = record { name = w (d .name) (h .name); free = λ k t. w k (h .free k t) }
   grown Sum-retain h = tt
 
+-- among the names are the unions and the parts of what is among them
+within-law : (names : List Name) → Name-law (λ l. Within l names)
+within-law names =
+    record {
+      of-none = within-nil names;
+      of-union = λ l m. within-union l m names;
+      of-diff = λ l m w k u. w k (mem-diff k l m .0 u .0);
+    }
+
 module _ {names : List Name} {terms : List Term} (numbered : (t : Term) → List·Memᴰ t terms → Term-numbered names t) where
-  -- the free names of a term are numbered
-  term-within : (t : ℕ) → Within (term-of terms t .names) names
-  unfolding term-of
-  term-within t = getD-case (λ x. Within (x .names) names) terms t _ (λ x i. numbered x i .free) (within-nil names)
-
-  -- the free names of some terms are numbered
-  names-within : (ts : List ℕ) → Within (names-of terms ts) names
-  unfolding names-of
-  names-within [] = within-nil names
-  names-within (t ∷ ts) = within-union (term-of terms t .names) (names-of terms ts) names (term-within t) (names-within ts)
-
   -- the free names of a term line whose own name is numbered are numbered
   node-within : (node : Node) → Within (spelled-by node) names → Within (node-names terms node) names
-  unfolding node-names spelled-by
-  node-within (FreeV name) w = within-add name [] names (w name (mem-first name [])) (within-nil names)
-  node-within Leaf w = within-nil names
-  node-within (Call name ts) w = within-add name (names-of terms ts) names (w name (mem-first name [])) (names-within ts)
-  node-within (App word ts) w = names-within ts
-  node-within (Forall body groups) w = within-union (names-of terms (concat groups)) (term-of terms body .names) names (names-within (concat groups)) (term-within body)
-  node-within (Exists body groups) w = within-union (names-of terms (concat groups)) (term-of terms body .names) names (names-within (concat groups)) (term-within body)
-  node-within (Let body ts) w = within-union (names-of terms ts) (term-of terms body .names) names (names-within ts) (term-within body)
-  node-within (Labeled t) w = term-within t
+  node-within node w = node-law (within-law names) terms (λ t i. numbered t i .free) node (λ n l i v. within-add n l names (w n (mem-intro i)) v)
 
   module _ (exclude : List Name) where
     -- the counted free names of a term are numbered
     free-within : (t : ℕ) → Within (free-top-level-names exclude terms t) names
-    unfolding free-top-level-names
-    free-within t k u = term-within t k (mem-diff k (term-of terms t .names) exclude .0 u .0)
+    free-within = free-law (within-law names) terms (λ t i. numbered t i .free) exclude
 
-    -- the free names of a pattern group are numbered
+    -- those of a pattern group are numbered
     group-within : (ts : List ℕ) → Within (group-names exclude terms ts) names
-    unfolding group-names
-    group-within ts =
-        fold-left-case (λ out. Within out names) (λ out t. union out (free-top-level-names exclude terms t)) ts
-        (λ out t i w. within-union out (free-top-level-names exclude terms t) names w (free-within t)) (within-nil names)
+    group-within = group-law (within-law names) terms (λ t i. numbered t i .free) exclude
 
     -- the token of a partial application is numbered
     token-within : (t : ℕ) (n : Name) → token exclude terms t ≡ some n → T (mem n names)
@@ -245,9 +232,14 @@ numbered-line exclude n s c h =
           (roots-line (h .terms) exclude names′ n c old new r) (List·Memᴰ·append-cases (s .roots) i);
     }
 
--- the terms that each term names, on its line and under its labels, are below it
+-- the terms that the t-th term names, on its line and under its labels, are below t
+pub record Names-lower (t : ℕ) (x : Term) : Type 0 where
+  pub node : Below t (references (x .node))
+  pub bare : Below t (references (x .bare))
+
+-- each term of the table names lower ones
 abbrev pub Lower : List Term → Type 0
-Lower terms = (t : ℕ) → Below t (references (term-of terms t .node)) × Below t (references (term-of terms t .bare))
+Lower terms = (t : ℕ) → Names-lower t (term-of terms t)
 
 -- the line under the labels of a line names only lower terms where that line does
 bare-below : (terms : List Term) {count : ℕ} → Lower terms → (node : Node) → Below count (references node) → Below count (references (unlabeled terms node))
@@ -259,14 +251,14 @@ bare-below terms h (App word ts) w = w
 bare-below terms h (Forall body groups) w = w
 bare-below terms h (Exists body groups) w = w
 bare-below terms h (Let body ts) w = w
-bare-below terms h (Labeled t) w = λ u i. omega (arith, h t .1 u i, w t (List·Memᴰ·head refl))
+bare-below terms h (Labeled t) w = λ u i. omega (arith, h t .bare u i, w t (List·Memᴰ·head refl))
 
 -- where each term names lower ones it does so with one term line more that names terms of the table
 lower-more : (terms : List Term) (node : Node) → Below (length terms) (references node) → Lower terms → Lower (add-term terms node)
 unfolding add-term term-of references
 lower-more terms node w h =
-    getD-one-more (λ t x. Below t (references (x .node)) × Below t (references (x .bare))) terms _ _ h (w, bare-below terms h node w)
-    (λ t. (λ u i. absurd (List·Memᴰ·not-nil i), λ u i. absurd (List·Memᴰ·not-nil i)))
+    getD-one-more Names-lower terms _ _ h (record { node = w; bare = bare-below terms h node w })
+    (λ t. record { node = λ u i. absurd (List·Memᴰ·not-nil i); bare = λ u i. absurd (List·Memᴰ·not-nil i) })
 
 -- where each term names lower ones it does so after a line that names terms of the table
 lower-line : (terms : List Term) (c : Content) → Below (length terms) (terms-named c) → Lower terms → Lower (fold-left add-term terms (nodes c))
@@ -327,7 +319,7 @@ laws-start =
     record {
       numbered-once = none;
       numbered = record { terms = λ t i. absurd (List·Memᴰ·not-nil i); records = λ x i. absurd (List·Memᴰ·not-nil i); roots = λ r i. absurd (List·Memᴰ·not-nil i) };
-      lower = λ t. (λ u i. absurd (List·Memᴰ·not-nil i), λ u i. absurd (List·Memᴰ·not-nil i));
+      lower = λ t. record { node = λ u i. absurd (List·Memᴰ·not-nil i); bare = λ u i. absurd (List·Memᴰ·not-nil i) };
       counts = record { references = refl; entries = refl; uses = omega arith };
     }
 

@@ -3,19 +3,20 @@ use Prim.Native.Nat.{ℕ}
 use mathlib.Core.Path.{_≡_, refl, sym, subst}
 use mathlib.Core.Logic.{⊎-elim}
 use mathlib.Core.Bool.{Bool, not}
-use mathlib.Core.List.{List, [], _∷_, _++_, List·Memᴰ, List·Memᴰ·not-nil, List·Memᴰ·append-cases, List·Memᴰ·eq-of-singleton}
+use mathlib.Core.List.{List, [], _++_, List·Memᴰ, List·Memᴰ·not-nil, List·Memᴰ·append-cases, List·Memᴰ·eq-of-singleton}
 use lib.Dec.{T, T-not}
-use Rattle.model.specs.Lists.{concat, collect, fold-left}
-use Rattle.model.specs.Names.{Name, mem, union}
-use Rattle.model.specs.Terms.{Node, FreeV, Leaf, Call, App, Forall, Exists, Let, Labeled, Term, names-of, add-term, free-top-level-names as node-names, term as term-of}
-use Rattle.model.specs.Summaries.{exclude-names, free-top-level-names, group-names, at, summarize-assumption}
+use Rattle.model.specs.Lists.{collect, fold-left}
+use Rattle.model.specs.Names.{Name, mem}
+use Rattle.model.specs.Terms.{Node, Term, add-term}
+use Rattle.model.specs.Summaries.{exclude-names, free-top-level-names, at, summarize-assumption}
 use Rattle.model.specs.Reading.{Content, ask, term, assume, fun, def, retain, root, Summary, Root, State, start, nodes, taken-by, summarize-decl, root-of, add-line, repeats, read, read-file}
 use Rattle.model.specs.Rounds.{facts, definitions}
-use Rattle.model.proofs.ListLaws.{getD-case, any-intro, collect-append, fold-left-case}
+use Rattle.model.proofs.ListLaws.{any-intro, collect-append, fold-left-case}
 use Rattle.model.proofs.SetLaws.{Ascending, empty, one, ascending-add, ascending-union, ascending-diff, mem-intro}
 use Rattle.demands.specs.Accepted.{Distinct, none as distinct-none, one-more, Good-fact, Well-formed, Accepted-well-formed}
 use Rattle.demands.proofs.Distinct.{distinct-append}
 use Rattle.demands.proofs.Records.{facts-append, definitions-append}
+use Rattle.demands.proofs.TermNames.{Name-law, node-law, free-law, group-law}
 use Rattle.demands.proofs.Disjuncts.{Parts, lawful-kind}
 use Rattle.demands.proofs.ReadingLaws.{line-read, kept-by-file}
 
@@ -50,50 +51,24 @@ well-append {l} {m} {rs} {qs} v w apart =
 pub record Term-sets (terms : List Term) : Type 0 where
   pub of-term : (t : Term) → List·Memᴰ t terms → Ascending (t .names)
 
+-- a set is what unions and parts of sets are
+set-law : Name-law Ascending
+set-law = record { of-none = empty; of-union = λ l m a b. ascending-union l b; of-diff = λ l m a. ascending-diff m a }
+
 module _ {terms : List Term} (sets : Term-sets terms) where
-  -- the free names of a term are a set
-  term-set : (t : ℕ) → Ascending (term-of terms t .names)
-  unfolding term-of
-  term-set t = getD-case (λ x. Ascending (x .names)) terms t _ (sets .of-term) empty
-
-  -- the free names of some terms are a set
-  names-set : (ts : List ℕ) → Ascending (names-of terms ts)
-  unfolding names-of
-  names-set [] = empty
-  names-set (t ∷ ts) = ascending-union (term-of terms t .names) (names-set ts)
-
-  -- the free names of a term line are a set
-  node-set : (node : Node) → Ascending (node-names terms node)
-  unfolding node-names
-  node-set (FreeV name) = ascending-add name empty
-  node-set Leaf = empty
-  node-set (Call name ts) = ascending-add name (names-set ts)
-  node-set (App word ts) = names-set ts
-  node-set (Forall body groups) = ascending-union (names-of terms (concat groups)) (term-set body)
-  node-set (Exists body groups) = ascending-union (names-of terms (concat groups)) (term-set body)
-  node-set (Let body ts) = ascending-union (names-of terms ts) (term-set body)
-  node-set (Labeled t) = term-set t
-
   -- the names of a table with one term line more are sets
   more-terms : (node : Node) → Term-sets (add-term terms node)
   unfolding add-term
-  more-terms node = record { of-term = λ t i. ⊎-elim (sets .of-term t) (λ j. subst (λ x. Ascending (x .names)) (sym (List·Memᴰ·eq-of-singleton j)) (node-set node)) (List·Memᴰ·append-cases terms i) }
+  more-terms node = record { of-term = λ t i. ⊎-elim (sets .of-term t) (λ j. subst (λ x. Ascending (x .names)) (sym (List·Memᴰ·eq-of-singleton j)) (node-law set-law terms (sets .of-term) node (λ n l i a. ascending-add n a))) (List·Memᴰ·append-cases terms i) }
 
   module _ (exclude : List Name) where
     -- the counted free names of a term are a set
     free-set : (t : ℕ) → Ascending (free-top-level-names exclude terms t)
-    unfolding free-top-level-names
-    free-set t = ascending-diff exclude (term-set t)
-
-    -- the free names of a pattern group are a set
-    group-set : (ts : List ℕ) → Ascending (group-names exclude terms ts)
-    unfolding group-names
-    group-set ts =
-        fold-left-case Ascending (λ out t. union out (free-top-level-names exclude terms t)) ts (λ out t i a. ascending-union out (free-set t)) empty
+    free-set = free-law set-law terms (sets .of-term) exclude
 
     -- what disjuncts are made of is a set each
     part-sets : Parts (λ trimmed d. Ascending d) exclude terms
-    part-sets = record { of-term = free-set; of-group = group-set; of-token = λ t n e trimmed. one; of-trimmed = λ n. one }
+    part-sets = record { of-term = free-set; of-group = group-law set-law terms (sets .of-term) exclude; of-token = λ t n e trimmed. one; of-trimmed = λ n. one }
 
     -- the summary of an assumption is good
     good-summary : (line : ℕ) (name : Name) (pretyping : Bool) (t : ℕ) → Good-fact (summarize-assumption exclude terms line name pretyping t)
