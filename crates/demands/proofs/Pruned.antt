@@ -28,9 +28,9 @@ use Rattle.demands.proofs.ScanFile.{first-roots}
 
 module _ (a : Ask) {roots : List Root} (decls : List Summary) (w : Well-formed decls roots) where
   -- what is found by a name is the fact of that name
-  by-name : (n : Name) → to-list (try-find (add-summaries (no-ambients a) decls init .assumption-name-map) n) ≡ map passumption (keep (λ f. same (f .name) n) (facts decls))
+  found-by-name : (n : Name) → to-list (try-find (add-summaries (no-ambients a) decls init .assumption-name-map) n) ≡ map passumption (keep (λ f. same (f .name) n) (facts decls))
   unfolding to-list
-  by-name n = go (try-find (add-summaries (no-ambients a) decls init .assumption-name-map) n) refl
+  found-by-name n = go (try-find (add-summaries (no-ambients a) decls init .assumption-name-map) n) refl
     where
       go : (o : Option Passumption) → try-find (add-summaries (no-ambients a) decls init .assumption-name-map) n ≡ o → to-list o ≡ map passumption (keep (λ f. same (f .name) n) (facts decls))
       go none e = sym (ap (map passumption) (keep-no-name (λ (f : Fact). f .name) n (facts decls) (λ m.
@@ -47,7 +47,7 @@ module _ (a : Ask) {roots : List Root} (decls : List Summary) (w : Well-formed d
       let F : Name → List Passumption = λ name. to-list (try-find (add-summaries (no-ambients a) decls init .assumption-name-map) name) in
       collect-append F reached (add-summaries (no-ambients a) decls init .ambients)
       ∙ ap₂ _++_
-      (collect-cong F (λ n. map passumption (keep (λ f. same (f .name) n) (facts decls))) reached (λ n m. by-name n) ∙ sym (map-collect passumption (λ n. keep (λ f. same (f .name) n) (facts decls)) reached))
+      (collect-cong F (λ n. map passumption (keep (λ f. same (f .name) n) (facts decls))) reached (λ n m. found-by-name n) ∙ sym (map-collect passumption (λ n. keep (λ f. same (f .name) n) (facts decls)) reached))
       (ap (collect F) (filed-ambient-names a decls) ∙ collect-map F (λ f. f .name) (ambients a (facts decls))
       ∙ collect-cong (λ f. F (f .name)) (λ f. passumption f ∷ []) (ambients a (facts decls)) (λ f m. ap to-list (finds-fact decls w (no-ambients a) (ambients-elim a (facts decls) m .0)))
       ∙ collect-one passumption (ambients a (facts decls)))
