@@ -18,7 +18,7 @@ use Rattle.model.specs.declared.AsumKind.{AsumKind}
 use Rattle.model.specs.declared.AsumKind.the-variants.{Drop, Ambient, Triggers}
 use Rattle.model.proofs.ListLaws.{collect-intro, collect-elim, collect-reverse-intro, collect-reverse-elim, collect-reverse, concat-intro, concat-elim, map-reverse, reverse-intro, reverse-elim}
 use Rattle.model.proofs.SetLaws.{same-eq, same-refl, mem-intro, mem-elim, mem-from-list, ascending-from-list, subset-length, sets-again, from-list-length}
-use Rattle.demands.specs.Accepted.{Distinct, Well-formed, Without-triggers}
+use Rattle.demands.specs.Accepted.{Distinct, Well-formed, Counts-disjuncts}
 use Rattle.demands.proofs.Distinct.{distinct-collect}
 use Rattle.demands.proofs.MapLaws.{Functional, try-find-intro, try-find-elim, try-find-same, try-find-append}
 use Rattle.demands.proofs.Filing.{on-kind, waiting, entries-of, keys, filed-names, filed-defs, filed-macros, filed-triggers, filed-ambients, filed-roots, filed-waiting, filed-keys}
@@ -55,7 +55,7 @@ module _ {X : Type 0} where
   triggers-elim added (Triggers n) m = m
 
   -- a fact that lists a name adds what its triggers add
-  triggers-intro : {n : Name} {x : X} {added : List X} (k : AsumKind) (ts : List (List Name)) → Without-triggers k ts → List·Memᴰ n (concat ts) → List·Memᴰ x added → List·Memᴰ x (on-kind nothing added k)
+  triggers-intro : {n : Name} {x : X} {added : List X} (k : AsumKind) (ts : List (List Name)) → Counts-disjuncts k ts → List·Memᴰ n (concat ts) → List·Memᴰ x added → List·Memᴰ x (on-kind nothing added k)
   unfolding concat
   triggers-intro Drop ts e m i = absurd (List·Memᴰ·not-nil (rw e at m))
   triggers-intro (Ambient r) ts e m i = absurd (List·Memᴰ·not-nil (rw e at m))

@@ -13,13 +13,13 @@ use Rattle.model.specs.declared.AsumKind.{AsumKind}
 use Rattle.model.specs.declared.AsumKind.the-variants.{Drop, Ambient, Triggers}
 use Rattle.model.proofs.ListLaws.{keep-intro, keep-elim, keep-all, keep-none, keep-append, reverse-elim, collect-intro, collect-elim, map-intro}
 use Rattle.model.proofs.SetLaws.{Ascending, mem-intro, mem-elim, same-eq, same-refl}
-use Rattle.demands.specs.Accepted.{Distinct, Without-triggers, Well-formed}
+use Rattle.demands.specs.Accepted.{Distinct, Counts-disjuncts, Well-formed}
 use Rattle.demands.proofs.Facts.{fact-names, fact-by-name, names-distinct, one-of-name}
 use Rattle.demands.proofs.FiringLaws.{fires-elim}
 use Rattle.demands.proofs.RoundsLaws.{reached-by, run-end}
 
 -- a fact with a disjunct is not ambient
-pub with-disjunct : (kind : AsumKind) {ts : List (List Name)} {d : List Name} → Without-triggers kind ts → List·Memᴰ d ts → T (not (is-ambient kind))
+pub with-disjunct : (kind : AsumKind) {ts : List (List Name)} {d : List Name} → Counts-disjuncts kind ts → List·Memᴰ d ts → T (not (is-ambient kind))
 unfolding is-ambient
 with-disjunct Drop e m = tt
 with-disjunct (Ambient is-root) e m = absurd (List·Memᴰ·not-nil (rw e at m))

@@ -2,6 +2,7 @@
 use Prim.Native.Nat.{ℕ}
 use mathlib.Core.Path.{_≡_}
 use mathlib.Core.List.{List, [], _∷_, List·Memᴰ}
+use lib.ListN.{length}
 use Rattle.model.specs.Lists.{collect}
 use Rattle.model.specs.Names.{Name}
 use Rattle.model.specs.Summaries.{exclude-names, Fact}
@@ -20,15 +21,15 @@ pub data Distinct {A : Type 0} : List A → Type 0 where
   none : Distinct []
   one-more : {a : A} {l : List A} → (List·Memᴰ a l → ⊥) → Distinct l → Distinct (a ∷ l)
 
--- a summary without triggers has no disjunct
-abbrev pub Without-triggers : AsumKind → List (List Name) → Type 0
-Without-triggers Drop triggers = triggers ≡ []
-Without-triggers (Ambient is-root) triggers = triggers ≡ []
-Without-triggers (Triggers n) triggers = Unit {0}
+-- a summary of triggers has as many disjuncts as it says, and any other has none
+abbrev pub Counts-disjuncts : AsumKind → List (List Name) → Type 0
+Counts-disjuncts Drop triggers = triggers ≡ []
+Counts-disjuncts (Ambient is-root) triggers = triggers ≡ []
+Counts-disjuncts (Triggers n) triggers = n ≡ length triggers
 
--- what holds of a fact that was read: its name lists are sets, and only a summary of triggers has disjuncts
+-- what holds of a fact that was read: its name lists are sets, and its kind tells how many disjuncts it has
 pub record Good-fact (f : Fact) : Type 0 where
-  pub no-triggers : Without-triggers (f .kind) (f .triggers)
+  pub no-triggers : Counts-disjuncts (f .kind) (f .triggers)
   pub free-set : Ascending (f .free-names)
   pub trigger-sets : (d : List Name) → List·Memᴰ d (f .triggers) → Ascending d
 

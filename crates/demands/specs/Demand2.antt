@@ -74,3 +74,7 @@ pub record Same-list (s : State) : Type 0 where
 
 abbrev pub Kept-is-pruned : Type 0
 Kept-is-pruned = (file : List ℕ) (s : State) → Accepted file s → Same-list s
+
+-- "each kept line stands once"
+abbrev pub Kept-once : Type 0
+Kept-once = (file : List ℕ) (s : State) → Accepted file s → Distinct (kept-list s)

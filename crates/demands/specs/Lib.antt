@@ -5,3 +5,4 @@ pub mod Demand3
 pub mod Queries
 pub mod LineForm
 pub mod Demand1
+pub mod FactSummaries
