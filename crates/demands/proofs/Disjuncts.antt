@@ -20,7 +20,7 @@ pub record Parts (law : List Name → List Name → Type 0) (exclude : List Name
   pub of-token : (t : ℕ) (n : Name) → token exclude terms t ≡ some n → (trimmed : List Name) → law trimmed (n ∷ [])
   pub of-trimmed : (n : Name) → law (n ∷ []) (n ∷ [])
 
--- the law holds of every disjunct, and only a summary of triggers has disjuncts
+-- the law holds of every disjunct, and the kind tells how many disjuncts there are
 pub record Lawful (law : List Name → List Name → Type 0) (k : Kinded) : Type 0 where
   pub no-triggers : Counts-disjuncts (k .kind) (k .triggers)
   pub disjuncts : (d : List Name) → List·Memᴰ d (k .triggers) → law (k .trimmed) d
@@ -69,7 +69,7 @@ module _ (law : List Name → List Name → Type 0) where
   -- triggers of which the law holds are lawful
   lawful-triggers : (ts : List (List Name)) → Each [] ts → Lawful law (Sum-triggers ts)
   unfolding Sum-triggers
-  lawful-triggers ts h = record { no-triggers = tt; disjuncts = h }
+  lawful-triggers ts h = record { no-triggers = refl; disjuncts = h }
 
   -- an ambient, which has no triggers, is lawful
   lawful-ambient : (is-root : Bool) → Lawful law (Sum-ambient is-root)
@@ -86,7 +86,7 @@ module _ (law : List Name → List Name → Type 0) where
   unfolding token-triggers
   lawful-token token whole short =
       cond-case (Lawful law) (ends-with token (bytes "@tok"))
-      (record { no-triggers = tt; disjuncts = each-more (whole _) (each-one (short _)) })
+      (record { no-triggers = refl; disjuncts = each-more (whole _) (each-one (short _)) })
       (lawful-triggers ((token ∷ []) ∷ []) (each-one (whole [])))
 
   module _ (exclude : List Name) (terms : List Term) (parts : Parts law exclude terms) where
