@@ -18,6 +18,7 @@ pub mod StateLaws
 pub mod Queries
 pub mod Refusals
 pub mod Demand1
+pub mod Slices
 pub mod MapLaws
 pub mod Filing
 pub mod Filed
