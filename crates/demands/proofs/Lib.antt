@@ -15,6 +15,7 @@ pub mod Disjuncts
 pub mod TermNumbers
 pub mod WellFormed
 pub mod StateLaws
+pub mod Counts
 pub mod Queries
 pub mod Refusals
 pub mod Demand1

@@ -3,19 +3,19 @@ use Prim.Native.Nat.{ℕ, _+_}
 use native.Mathlib.Omega.{arith}
 use mathlib.Core.Path.{_≡_, refl, sym, _∙_, ap, subst}
 use mathlib.Core.Logic.{_⊎_, inl, inr, ⊎-elim}
-use mathlib.Core.Bool.{not}
+use mathlib.Core.Bool.{not, _||_}
 use mathlib.Core.List.{List, [], _∷_, _++_, map, append-nil, append-assoc, List·Memᴰ, List·Memᴰ·head, List·Memᴰ·not-nil, List·Memᴰ·append-cases, List·Memᴰ·eq-of-singleton}
 use mathlib.Core.Option.{some, Option·none-ne-some, Option·some-injective}
 use lib.Dec.{T, T-not}
 use lib.ListN.{length, length-append}
 use Rattle.model.specs.Lists.{collect, fold-left, sum, when, or-else, is-nil, _>>=_}
-use Rattle.model.specs.Names.{Name, mem}
+use Rattle.model.specs.Names.{Name, same, mem}
 use Rattle.model.specs.Lines.{Line}
 use Rattle.model.specs.Terms.{Node, FreeV, Leaf, Call, App, Forall, Exists, Let, Labeled, Term, add-term, references, unlabeled, free-top-level-names as node-names, term as term-of}
 use Rattle.model.specs.Summaries.{Fact, exclude-names, free-of, call-of, free-top-level-names, group-names, at, token, summarize-kind, summarize-assumption}
 use Rattle.model.specs.Reading.{ok, Content, ask, term, assume, fun, def, retain, root, Summary, Sum-assume, Sum-definefun, Sum-declfun, Sum-retain, Decl, Root, State, start, nodes, spelled-by, spelled, spell, entries-of, uses-of, taken-by, summarize-decl, trimmed, root-of, add-line, read-line}
 use Rattle.model.specs.Rounds.{facts, definitions, declarations}
-use Rattle.model.proofs.ListLaws.{T-dec, cond-true, cond-false, getD-case, getD-one-more, fold-left-case, collect-elim, sum-map-append}
+use Rattle.model.proofs.ListLaws.{T-dec, T-ext, any-append, cond-true, cond-false, getD-case, getD-one-more, fold-left-case, collect-elim, sum-map-append}
 use Rattle.model.proofs.SetLaws.{Within, within-nil, within-left, within-right, within-add, within-union, mem-intro, mem-elim, mem-cons, mem-first, mem-append, mem-diff}
 use Rattle.demands.specs.Accepted.{Accepted, Distinct, none, one-more}
 use Rattle.demands.proofs.Distinct.{distinct-append}
@@ -61,6 +61,22 @@ spelled-within names (n ∷ l) k t =
     (mem-append k (spell names n) l .1
     (⊎-elim (λ u. inl (spell-keeps names n k u)) (λ u. ⊎-elim (λ e. inl (rw e (spell-has names n))) inr (mem-cons k n l .0 u))
     (mem-append k names (n ∷ l) .0 t)))
+
+-- names that are among others are so with one more that is among those
+spell-within : (names m : List Name) (n : Name) → T (mem n m) → Within names m → Within (spell names n) m
+spell-within names m n t w k u =
+    ⊎-elim (λ p. w k (rw (p .1) at u))
+    (λ p. ⊎-elim (w k) (λ v. ⊎-elim (λ e. rw e t) (within-nil m k) (mem-cons k n [] .0 v)) (mem-append k names (n ∷ []) .0 (rw (p .1) at u)))
+    (spell-cases names n)
+
+-- after some names are spelled there are those that were and these, and no others
+pub spelled-exact : (names l : List Name) (k : Name) → mem k (fold-left spell names l) ≡ (mem k names || mem k l)
+unfolding mem
+spelled-exact names l k =
+    let both = fold-left-case (λ after. Within after (names ++ l)) spell l
+    (λ after n i w. spell-within after (names ++ l) n (mem-append n names l .1 (inr (mem-intro i))) w)
+    (λ n t. mem-append n names l .1 (inl t)) in
+    T-ext (both k) (spelled-within names l k) ∙ any-append (same k) names l
 
 -- every name of a term is numbered: the one that its line spells, and its free names
 pub record Term-numbered (names : List Name) (t : Term) : Type 0 where
@@ -323,18 +339,22 @@ laws-start =
       counts = record { references = refl; entries = refl; uses = omega arith };
     }
 
+-- every line that names terms of the table keeps the laws, whether it passes 5 and the limits or not
+pub laws-added : (exclude : List Name) (n : ℕ) (s : State) (c : Content) → Below (length (s .terms)) (terms-named c) → State-laws s → State-laws (add-line exclude n s c)
+unfolding add-line
+laws-added exclude n s c below h =
+    record {
+      numbered-once = fold-left-case Distinct spell (spelled c ++ trimmed exclude (s .terms) c) (λ names name i d. spell-distinct names name d) (h .numbered-once);
+      numbered = numbered-line exclude n s c (h .numbered);
+      lower = lower-line (s .terms) c below (h .lower);
+      counts = counts-line exclude n s c (h .counts);
+    }
+
 -- every accepted line keeps the laws
 pub laws-line : (exclude : List Name) (n : ℕ) (s s′ : State) (line : Line) → read-line exclude n s line ≡ ok s′ → State-laws s → State-laws s′
-unfolding add-line
 laws-line exclude n s s′ line e h =
     let l = line-read exclude n s line s′ e in
-    rw (l .after)
-    (record {
-      numbered-once = fold-left-case Distinct spell (spelled (l .content) ++ trimmed exclude (s .terms) (l .content)) (λ names name i d. spell-distinct names name d) (h .numbered-once);
-      numbered = numbered-line exclude n s (l .content) (h .numbered);
-      lower = lower-line (s .terms) (l .content) (named-below n (length (s .terms)) _ (l .parsed)) (h .lower);
-      counts = counts-line exclude n s (l .content) (h .counts);
-    })
+    rw (l .after) (laws-added exclude n s (l .content) (named-below n (length (s .terms)) _ (l .parsed)) h)
 
 -- the laws hold of the state of every accepted file
 pub laws-file : (file : List ℕ) (s : State) → Accepted file s → State-laws s
