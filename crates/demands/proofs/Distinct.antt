@@ -2,12 +2,12 @@
 use mathlib.Core.Path.{_≡_, refl, sym, _∙_, ap}
 use mathlib.Core.Logic.{_⊎_, inl, inr, ⊎-elim}
 use mathlib.Core.Bool.{Bool, true, false, cond}
-use mathlib.Core.List.{List, [], _∷_, _++_, map, List·Memᴰ, List·Memᴰ·head, List·Memᴰ·tail, List·Memᴰ·cases-cons, List·Memᴰ·not-nil, List·Memᴰ·append-cases, Memᴰ·append-right, Memᴰ·cast}
+use mathlib.Core.List.{List, [], _∷_, _++_, map, reverse, reverse-cons, List·Memᴰ, List·Memᴰ·head, List·Memᴰ·tail, List·Memᴰ·cases-cons, List·Memᴰ·not-nil, List·Memᴰ·append-cases, List·Memᴰ·eq-of-singleton, Memᴰ·append-right, Memᴰ·cast}
 use lib.Dec.{not-T}
 use Rattle.model.specs.Lists.{keep, collect}
 use Rattle.model.specs.Names.{Name, same}
-use Rattle.model.proofs.ListLaws.{cond-true, cond-false, collect-one, collect-intro, keep-elim, map-intro, map-elim}
-use Rattle.model.proofs.SetLaws.{same-eq, eq-same, keep-no-name}
+use Rattle.model.proofs.ListLaws.{cond-true, cond-false, collect-one, collect-intro, keep-elim, map-intro, map-elim, reverse-elim}
+use Rattle.model.proofs.SetLaws.{Ascending, ascending-tail, distinct, mem-intro, same-eq, eq-same, keep-no-name}
 use Rattle.demands.specs.Accepted.{Distinct, none, one-more}
 
 module _ {A : Type 0} where
@@ -36,6 +36,12 @@ module _ {A : Type 0} where
   distinct-apart [] m d i j = List·Memᴰ·not-nil i
   distinct-apart (y ∷ l) m d i j = ⊎-elim (λ e. distinct-head d (Memᴰ·append-right l (Memᴰ·cast (sym e) j))) (λ k. distinct-apart l m (distinct-tail d) k j) (List·Memᴰ·cases-cons i)
 
+  -- a list that holds nothing twice holds nothing twice the other way round
+  pub distinct-reverse : {l : List A} → Distinct l → Distinct (reverse l)
+  distinct-reverse none = none
+  distinct-reverse (one-more {a} {l} new d) =
+      rw reverse-cons (distinct-append (distinct-reverse d) (one-more List·Memᴰ·not-nil none) (λ b i j. new (Memᴰ·cast (sym (List·Memᴰ·eq-of-singleton j)) (reverse-elim l i))))
+
 module _ {A B : Type 0} where
   -- if what is collected holds nothing twice, one element alone gives a member of it
   pub distinct-collect : (f : A → List B) {x y : A} {z : B} (l : List A) → Distinct (collect f l) → List·Memᴰ x l → List·Memᴰ y l → List·Memᴰ z (f x) → List·Memᴰ z (f y) → x ≡ y
@@ -53,6 +59,18 @@ module _ {A B : Type 0} where
   pub distinct-map : (f : A → B) {x y : A} (l : List A) → Distinct (map f l) → List·Memᴰ x l → List·Memᴰ y l → f x ≡ f y → x ≡ y
   distinct-map f {x} l d m n e = distinct-collect (λ x. f x ∷ []) {z = f x} l (rw (collect-one f l) d) m n (List·Memᴰ·head refl) (List·Memᴰ·head e)
 
+  -- where what a function gives holds nothing twice the list holds nothing twice
+  pub distinct-of-map : (f : A → B) (l : List A) → Distinct (map f l) → Distinct l
+  distinct-of-map f [] d = none
+  distinct-of-map f (x ∷ l) (one-more n d) = one-more (λ m. n (map-intro f m)) (distinct-of-map f l d)
+
+  -- what a function gives of a list that holds nothing twice holds nothing twice, if it tells the members apart
+  pub distinct-to-map : (f : A → B) {l : List A} → Distinct l → ((x y : A) → List·Memᴰ x l → List·Memᴰ y l → f x ≡ f y → x ≡ y) → Distinct (map f l)
+  distinct-to-map f none apart = none
+  distinct-to-map f (one-more {a} {l} n d) apart =
+      one-more (λ m. let (y, i, e) = map-elim f l m in n (Memᴰ·cast (apart a y (List·Memᴰ·head refl) (List·Memᴰ·tail i) (sym e)) i))
+      (distinct-to-map f d (λ x y i j. apart x y (List·Memᴰ·tail i) (List·Memᴰ·tail j)))
+
   -- what a function gives of the elements kept holds nothing twice where it does of all
   pub distinct-map-keep : (f : A → B) (test : A → Bool) (l : List A) → Distinct (map f l) → Distinct (map f (keep test l))
   unfolding keep
@@ -62,6 +80,11 @@ module _ {A B : Type 0} where
       go : (b : Bool) → Distinct (map f (keep test l)) → Distinct (map f (cond b (x ∷ keep test l) (keep test l)))
       go true r = one-more (λ m. let (y, i, e) = map-elim f (keep test l) m in n (Memᴰ·cast (sym e) (map-intro f (keep-elim test l i .0)))) r
       go false r = r
+
+-- a set holds nothing twice
+pub ascending-distinct : (l : List Name) → Ascending l → Distinct l
+ascending-distinct [] a = none
+ascending-distinct (n ∷ l) a = one-more (λ i. distinct a (mem-intro i)) (ascending-distinct l (ascending-tail a))
 
 -- where no two elements have one name, the element of a name is kept by it alone
 pub keep-one-name : {A : Type 0} (name : A → Name) (x : A) (l : List A) → Distinct (map name l) → List·Memᴰ x l → keep (λ y. same (name y) (name x)) l ≡ x ∷ []

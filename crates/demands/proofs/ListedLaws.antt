@@ -1,7 +1,8 @@
 -- The reached facts are the facts of the kept list that are not ambient.
 use mathlib.Core.Path.{_≡_, refl, sym}
+use mathlib.Core.Logic.{⊎-elim}
 use mathlib.Core.Bool.{Bool, true, false, not, cond}
-use mathlib.Core.List.{List, [], _∷_, reverse, map-append, append-nil, List·Memᴰ, List·Memᴰ·head, List·Memᴰ·tail, List·Memᴰ·not-nil, Memᴰ·cast}
+use mathlib.Core.List.{List, [], _∷_, reverse, map-append, append-nil, List·Memᴰ, List·Memᴰ·head, List·Memᴰ·tail, List·Memᴰ·not-nil, List·Memᴰ·append-cases, Memᴰ·cast}
 use lib.Dec.{T, T-not, not-T}
 use Rattle.model.specs.Lists.{keep, collect}
 use Rattle.model.specs.Names.{Name, same, mem}
@@ -11,9 +12,10 @@ use Rattle.model.specs.Rounds.{facts, is-ambient, run}
 use Rattle.model.specs.Kept.{reached-facts, ambients, kept-facts}
 use Rattle.model.specs.declared.AsumKind.{AsumKind}
 use Rattle.model.specs.declared.AsumKind.the-variants.{Drop, Ambient, Triggers}
-use Rattle.model.proofs.ListLaws.{keep-intro, keep-elim, keep-all, keep-none, keep-append, reverse-elim, collect-intro, collect-elim, map-intro}
+use Rattle.model.proofs.ListLaws.{cond-case, keep-intro, keep-elim, keep-all, keep-none, keep-append, reverse-elim, collect-intro, collect-elim, map-intro}
 use Rattle.model.proofs.SetLaws.{Ascending, mem-intro, mem-elim, same-eq, same-refl}
-use Rattle.demands.specs.Accepted.{Distinct, Counts-disjuncts, Well-formed}
+use Rattle.demands.specs.Accepted.{Distinct, none, Counts-disjuncts, Well-formed}
+use Rattle.demands.proofs.Distinct.{distinct-append, distinct-reverse, distinct-of-map, distinct-map-keep, ascending-distinct}
 use Rattle.demands.proofs.Facts.{fact-names, fact-by-name, names-distinct, one-of-name}
 use Rattle.demands.proofs.FiringLaws.{fires-elim}
 use Rattle.demands.proofs.RoundsLaws.{reached-by, run-end}
@@ -47,6 +49,18 @@ reached-facts-elim fs reached m =
     let (n, i, j) = collect-elim (λ name. keep (λ f. same (f .name) name) fs) reached m in
     let (k, t) = keep-elim (λ f. same (f .name) n) fs j in
     (k, mem-intro (Memᴰ·cast (same-eq t) i))
+
+-- a kept fact is a fact of the file
+pub kept-facts-elim : (a : Ask) (fs : List Fact) (reached : List Name) {f : Fact} → List·Memᴰ f (kept-facts a fs reached) → List·Memᴰ f fs
+unfolding kept-facts
+kept-facts-elim a fs reached m = ⊎-elim (λ i. reached-facts-elim fs reached i .0) (λ i. ambients-elim a fs i .0) (List·Memᴰ·append-cases (reached-facts fs reached) m)
+
+-- where no two facts have one name no ambient stands twice
+ambients-once : (a : Ask) (fs : List Fact) → Distinct (fact-names fs) → Distinct (ambients a fs)
+unfolding ambients
+ambients-once a fs d =
+    cond-case Distinct (no-ambients a) none
+    (distinct-reverse (distinct-of-map (λ (f : Fact). f .name) (keep (λ f. is-ambient (f .kind)) fs) (distinct-map-keep (λ (f : Fact). f .name) (λ f. is-ambient (f .kind)) fs d)))
 
 -- where each name is that of a fact, the names of the reached facts are the names, in their order
 pub reached-names : (fs : List Fact) → Distinct (fact-names fs) → (reached : List Name)
@@ -83,3 +97,12 @@ module _ (a : Ask) (decls : List Summary) (roots : List Root) (wf : Well-formed 
       rw (reached-names (facts decls) (names-distinct decls (wf .distinct)) (run a decls roots .reached)
       (λ n m. let (f, i, e, r, u) = run-end a decls roots wf .reached-fires n (mem-intro m) in Memᴰ·cast (sym e) (map-intro (λ (f : Fact). f .name) i)))
       (run-end a decls roots wf .reached-set)
+
+  -- no kept fact stands twice
+  pub kept-facts-once : Distinct (kept-facts a (facts decls) (run a decls roots .reached))
+  unfolding kept-facts
+  kept-facts-once =
+      distinct-append
+      (distinct-of-map (λ (f : Fact). f .name) _ (ascending-distinct _ reached-ascending))
+      (ambients-once a (facts decls) (names-distinct decls (wf .distinct)))
+      (λ f i j. let (k, t) = reached-facts-elim (facts decls) (run a decls roots .reached) i in T-not (is-ambient (f .kind)) (reached-no-ambient f k t) (ambients-elim a (facts decls) j .1))
