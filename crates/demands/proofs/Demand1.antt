@@ -1,7 +1,7 @@
 -- Demand 1: each of the nine refusals, and the list, exactly under its condition.
 use Prim.Native.Nat.{ℕ, _+_, _≤_, _<_}
 use native.Mathlib.Omega.{arith}
-use mathlib.Core.Path.{_≡_, refl, sym, _∙_}
+use mathlib.Core.Path.{_≡_, refl, _∙_}
 use mathlib.Core.Logic.{_↔_, _⊎_, inl, inr, ⊎-elim}
 use mathlib.Core.Bool.{Bool, true, false, cond, not}
 use mathlib.Core.List.{List, [], _∷_, List·Memᴰ, List·Memᴰ·head, List·Memᴰ·tail, List·Memᴰ·not-nil, List·Memᴰ·append-cases, List·Memᴰ·eq-of-singleton, Memᴰ·append-left, Memᴰ·append-right}
@@ -12,22 +12,22 @@ use Rattle.model.specs.Names.{Name, mem}
 use Rattle.model.specs.Lines.{Line, lines, Field, field-cons, fields}
 use Rattle.model.specs.Terms.{Term}
 use Rattle.model.specs.Summaries.{exclude-names, summarize-assumption}
-use Rattle.model.specs.Reading.{Content, ask, term, assume, fun, def, retain, root, Result, ok, refused, State, start, Reading, read, refused-at, taken-by, summarize-decl, parse, limits, add-line, repeats, read-line, read-lines, read-file}
+use Rattle.model.specs.Reading.{Content, ask, term, assume, fun, def, retain, root, Result, refused, State, start, Reading, read, refused-at, taken-by, summarize-decl, parse, limits, add-line, repeats, read-line, read-file}
 use Rattle.model.specs.Rounds.{facts, visits}
 use Rattle.model.specs.Outcome.{Outcome, refusal-at, list, filtered, of-reading, fitting, working-words, outcome}
 use Rattle.model.specs.declared.Refusal.{Refusal}
 use Rattle.model.specs.declared.Refusal.the-variants as refusal
 use Rattle.model.proofs.ListLaws.{not-and, T-dec, T-true, T-false, any-intro, any-elim, all-elim, collect-append}
 use Rattle.model.proofs.SetLaws.{mem-intro, mem-elim}
-use Rattle.model.proofs.ResultLaws.{ok-eq}
 use Rattle.demands.specs.Accepted.{Accepted}
 use Rattle.demands.specs.Demand2.{kept-list}
 use Rattle.demands.specs.Demand3.{run-of}
 use Rattle.demands.specs.LineForm.{Faulty-line}
 use Rattle.demands.specs.Demand1.{Short-slice, Lines-judged, Of-line, Of-fields, repeated as line-repeated, limit as line-limit, Reached-line, Fields-refused, no-final-0a, faulty, Says, Takes, by-assume, by-fun, by-def, Repeats, Past-limit, names, term-lines, term-references, record-lines, trigger-entries, name-uses, Refusal-5, Refusal-6, Refusal-7, Refusal-8, Refusal-9, List-given, Line-refused, Refusals-1-to-4}
-use Rattle.demands.proofs.ReadingLaws.{Line-view, unended, unparsed, repeated, past-limit, accepted, line-view, unended-line, unparsed-line, repeated-line, past-line, within, Line-read, line-read, lines-read, none-read}
+use Rattle.demands.proofs.ReadingLaws.{Line-view, unended, unparsed, repeated, past-limit, accepted, line-view, unended-line, unparsed-line, repeated-line, past-line, within}
 use Rattle.demands.proofs.LineForm.{refused-line}
-use Rattle.demands.proofs.Refusals.{parse-refusal, fields-line, Reaches, reaches-first, reaches-later, lines-append, file-refused, refused-file, refused-empty, file-refusal}
+use Rattle.demands.proofs.Refusals.{parse-refusal, fields-line, Reaches, file-refused, refused-file, refused-empty, file-refusal}
+use Rattle.demands.proofs.SaidLines.{reached, Said-in, Said-by, said-lines, said-reached}
 
 -- the test of the working slices holds exactly where one is too short
 short-test : (works : List ℕ) → T (any (λ n. ltb n working-words) works) ↔ Short-slice works
@@ -164,11 +164,7 @@ list-given file works room given seen turns =
     go (lacking j s f h) e = absurd (clash (cc))
     go (listing j s f h) e = (j, (s, f, (cc), (cc), (cc), h))
 
--- a line that is reached from the start, in the words of the statement
-reached : {ls : List Line} {n : ℕ} → Reaches exclude-names 1 start ls n → Reached-line ls n
-reached l = let place = l .place in record { before = l .before; line = l .line; after = l .after; is-line = l .is-line; place = omega arith; state = l .state; reading = l .reading }
-
--- and from those words back
+-- a line that is reached in the words of the statement is reached from the start
 reaches : {ls : List Line} {n : ℕ} → Reached-line ls n → Reaches exclude-names 1 start ls n
 reaches l = let place = l .place in record { before = l .before; line = l .line; after = l .after; is-line = l .is-line; place = omega arith; state = l .state; reading = l .reading }
 
@@ -252,50 +248,14 @@ module _ (exclude : List Name) where
   takes-taken terms n by-fun = List·Memᴰ·head refl
   takes-taken terms n by-def = List·Memᴰ·head refl
 
--- a line among these, read from a state on, that takes this name
-record Taken-in (n : ℕ) (s : State) (ls : List Line) (k : Name) : Type 0 where
-  place : ℕ
-  at : Reaches exclude-names n s ls place
-  content : Content
-  ended : T (at .line .ended)
-  parsed : parse place (length (at .state .terms)) (fields (at .line .bytes)) ≡ ok content
-  takes : Takes content k
-
 -- the names taken after a line are those before it and the name that it takes
-line-taken : (n : ℕ) (s t : State) (line : Line) (k : Name) → (l : Line-read exclude-names n s line t)
-    → List·Memᴰ k (collect taken-by (t .decls)) ↔ (List·Memᴰ k (collect taken-by (s .decls)) ⊎ Takes (l .content) k)
+line-taken : (k : Name) → Said-by (λ s. List·Memᴰ k (collect taken-by (s .decls))) (λ n s c. Takes c k)
 unfolding add-line
-line-taken n s t line k l =
-    rw (l .after, collect-append) (
-      λ i. ⊎-elim inl (λ j. inr (taken-takes exclude-names (s .terms) n (l .content) j)) (List·Memᴰ·append-cases (collect taken-by (s .decls)) i),
+line-taken k n s c =
+    rw collect-append (
+      λ i. ⊎-elim inl (λ j. inr (taken-takes exclude-names (s .terms) n c j)) (List·Memᴰ·append-cases (collect taken-by (s .decls)) i),
       ⊎-elim (Memᴰ·append-left _) (λ u. Memᴰ·append-right (collect taken-by (s .decls)) (takes-taken exclude-names (s .terms) n u)),
     )
-
--- a name that is taken after some lines was taken before them or by one of them
-taken-lines : (ls : List Line) (n : ℕ) (s t : State) (k : Name) → read-lines exclude-names n s ls ≡ read t
-    → List·Memᴰ k (collect taken-by (t .decls)) → List·Memᴰ k (collect taken-by (s .decls)) ⊎ Taken-in n s ls k
-unfolding reaches-first reaches-later
-taken-lines [] n s t k e i = inl (rw (none-read exclude-names n s t e) i)
-taken-lines (line ∷ ls) n s t k e i =
-    let (u, r, others) = lines-read exclude-names n s line ls t e in
-    let l = line-read exclude-names n s line u r in
-    ⊎-elim (λ j. ⊎-elim inl (λ takes. inr (here u l takes)) (line-taken n s u line k l .0 j)) (λ w. inr (there u r w)) (taken-lines ls (n + 1) u t k others i)
-  where
-    here : (u : State) (l : Line-read exclude-names n s line u) → Takes (l .content) k → Taken-in n s (line ∷ ls) k
-    here u l takes =
-        record { place = n; at = reaches-first exclude-names n s line ls; content = l .content; ended = l .ended; parsed = l .parsed; takes = takes }
-
-    there : (u : State) → read-line exclude-names n s line ≡ ok u → Taken-in (n + 1) u ls k → Taken-in n s (line ∷ ls) k
-    there u r w =
-        record { place = w .place; at = reaches-later exclude-names n s u line r (w .at); content = w .content; ended = w .ended; parsed = w .parsed; takes = w .takes }
-
--- a name that is taken before some lines is taken after them
-taken-on : (ls : List Line) (n : ℕ) (s t : State) (k : Name) → read-lines exclude-names n s ls ≡ read t
-    → List·Memᴰ k (collect taken-by (s .decls)) → List·Memᴰ k (collect taken-by (t .decls))
-taken-on [] n s t k e i = rw (none-read exclude-names n s t e) at i
-taken-on (line ∷ ls) n s t k e i =
-    let (u, r, others) = lines-read exclude-names n s line ls t e in
-    taken-on ls (n + 1) u t k others (line-taken n s u line k (line-read exclude-names n s line u r) .1 (inl i))
 
 -- no name is taken at the start
 none-taken : {k : Name} → List·Memᴰ k (collect taken-by (start .decls)) → ⊥
@@ -303,20 +263,8 @@ unfolding start collect
 none-taken i = List·Memᴰ·not-nil i
 
 module _ {ls : List Line} {n : ℕ} (l : Reached-line ls n) where
-  -- a name is taken where the line is reached if an earlier line takes it
-  earlier-taken : {m : ℕ} {k : Name} {c : Content} (e : Reached-line (l .before) m) → Says e c → Takes c k → List·Memᴰ k (collect taken-by (l .state .decls))
-  earlier-taken {m} {k} e says takes =
-      let place = e .place in
-      let count : m ≡ 1 + length (e .before) = omega arith in
-      let rest : read-lines exclude-names m (e .state) (e .line ∷ e .after) ≡ read (l .state) = rw (count, ← (lines-append exclude-names (e .before) (e .line ∷ e .after) 1 start (e .state) (e .reading)), ← (e .is-line)) (l .reading) in
-      let (u, r, others) = lines-read exclude-names m (e .state) (e .line) (e .after) (l .state) rest in
-      let read-line-m = line-read exclude-names m (e .state) (e .line) u r in
-      let same-content = ok-eq (sym (says .parsed) ∙ read-line-m .parsed) in
-      taken-on (e .after) (m + 1) u (l .state) k others
-      (line-taken m (e .state) u (e .line) k read-line-m .1 (inr (rw same-content at takes)))
-
   -- a name that is taken where the line is reached is taken by an earlier line
-  taken-earlier : (c : Content) (k : Name) → Takes c k → Taken-in 1 start (l .before) k → Repeats l c
+  taken-earlier : (c : Content) (k : Name) → Takes c k → Said-in (λ n s c. Takes c k) 1 start (l .before) → Repeats l c
   unfolding reached
   taken-earlier c k takes w =
       record {
@@ -326,7 +274,7 @@ module _ {ls : List Line} {n : ℕ} (l : Reached-line ls n) where
         earlier = reached (w .at);
         earlier-content = w .content;
         earlier-says = record { ended = w .ended; parsed = w .parsed };
-        earlier-takes = w .takes;
+        earlier-takes = w .lawful;
       }
 
   -- the test of 5 holds exactly where the line repeats a name
@@ -338,12 +286,12 @@ module _ {ls : List Line} {n : ℕ} (l : Reached-line ls n) where
       to t =
           let (k, i, m) = any-elim (λ k. mem k (collect taken-by (l .state .decls))) (collect taken-by (summarize-decl exclude-names (l .state .terms) n c)) t in
           taken-earlier c k (taken-takes exclude-names (l .state .terms) n c i)
-          (⊎-elim (λ j. absurd (none-taken j)) (λ w. w) (taken-lines (l .before) 1 start (l .state) k (l .reading) (mem-elim m)))
+          (⊎-elim (λ j. absurd (none-taken j)) (λ w. w) (said-lines (line-taken k) (l .before) 1 start (l .state) (l .reading) (mem-elim m)))
 
       from : Repeats l c → T (repeats exclude-names n (l .state) c)
       from q =
           any-intro (λ k. mem k (collect taken-by (l .state .decls))) (takes-taken exclude-names (l .state .terms) n (q .takes))
-          (mem-intro (earlier-taken (q .earlier) (q .earlier-says) (q .earlier-takes)))
+          (mem-intro (said-reached (line-taken (q .taken)) (l .reading) (q .earlier) (q .earlier-says) (q .earlier-takes)))
 
 -- the test of 6 holds exactly where a limit is passed
 past-test : (s : State) → T (not (all within (limits s))) ↔ Past-limit s

@@ -18,7 +18,9 @@ pub mod StateLaws
 pub mod Counts
 pub mod Queries
 pub mod Refusals
+pub mod SaidLines
 pub mod Demand1
+pub mod FactSummaries
 pub mod Slices
 pub mod MapLaws
 pub mod Filing
