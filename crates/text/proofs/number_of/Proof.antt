@@ -40,11 +40,11 @@ shared-slice-read-b c = omega arith
 
 returns-4 : tie.Need-returns-4 Inv-loop μ-loop
 unfolding as-decimal
-returns-4 c = ap as-decimal (sym (c .before .before .before .loop .inv .2 ∙ valued-bad _ _ _ _ (c .before .before .loop-test .taken) (c .before .before .before .before .before .before .before .pre .1) (digit-low _ (c .if4 .taken))))
+returns-4 c = ap as-decimal (sym (c .before .before .before .loop .inv .2 ∙ valued-bad _ _ _ (c .before .before .loop-test .taken) (c .before .before .before .before .before .before .before .pre .1) _ (digit-low _ (c .if4 .taken))))
 
 returns-5 : tie.Need-returns-5 Inv-loop μ-loop
 unfolding as-decimal
-returns-5 c = ap as-decimal (sym (c .before .before .before .before .loop .inv .2 ∙ valued-bad _ _ _ _ (c .before .before .before .loop-test .taken) (c .before .before .before .before .before .before .before .before .pre .1) (digit-high _ (c .if5 .taken))))
+returns-5 c = ap as-decimal (sym (c .before .before .before .before .loop .inv .2 ∙ valued-bad _ _ _ (c .before .before .before .loop-test .taken) (c .before .before .before .before .before .before .before .before .pre .1) _ (digit-high _ (c .if5 .taken))))
 
 mul-n : tie.Need-mul-n Inv-loop μ-loop
 mul-n c = omega arith
@@ -61,7 +61,7 @@ returns-6 c =
     ap as-decimal
     (sym
     (c .before .before .before .before .before .loop .inv .2
-    ∙ valued-on _ _ _ _ (c .before .before .before .before .loop-test .taken) (c .before .before .before .before .before .before .before .before .before .pre .1) (digit-good _ (c .before .before .if4 .left) (c .before .if5 .left))
+    ∙ valued-on _ _ _ (c .before .before .before .before .loop-test .taken) (c .before .before .before .before .before .before .before .before .before .pre .1) _ (digit-good _ (c .before .before .if4 .left) (c .before .if5 .left))
     ∙ valued-large _ _ (c .if6 .taken)))
 
 add-i : tie.Need-add-i Inv-loop μ-loop
@@ -74,12 +74,12 @@ loop-again : tie.Need-loop-again Inv-loop μ-loop
 loop-again c = (
   omega arith,
   c .if6 .left,
-  c .before .before .before .before .before .loop .inv .2 ∙ valued-on _ _ _ _ (c .before .before .before .before .loop-test .taken) (c .before .before .before .before .before .before .before .before .before .pre .1) (digit-good _ (c .before .before .if4 .left) (c .before .if5 .left)),
+  c .before .before .before .before .before .loop .inv .2 ∙ valued-on _ _ _ (c .before .before .before .before .loop-test .taken) (c .before .before .before .before .before .before .before .before .before .pre .1) _ (digit-good _ (c .before .before .if4 .left) (c .before .if5 .left)),
 )
 
 returns-7 : tie.Need-returns-7 Inv-loop μ-loop
 unfolding as-decimal
-returns-7 c = ap as-decimal (sym (c .before .loop .inv .2 ∙ valued-end _ _ _ _ (c .loop-test .left) (c .before .loop .inv .1)))
+returns-7 c = ap as-decimal (sym (c .before .loop .inv .2 ∙ valued-end _ _ _ (c .loop-test .left) _ (c .before .loop .inv .1)))
 
 pub number-of-spec : {M : Type 1} → statement M
 number-of-spec =
