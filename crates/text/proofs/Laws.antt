@@ -4,7 +4,7 @@ use native.Mathlib.Numerals.{add-one, one-add}
 use native.Mathlib.Nat.{add-zero, sub-zero, not-suc-le-zero, zero-sub, suc-sub-suc}
 use native.Mathlib.Omega.{arith}
 use mathlib.Core.Path.{_≡_, refl, sym, ap, _∙_}
-use mathlib.Core.Bool.{Bool, true, false, cond, not, _&&_, and-false, true≢false, false≢true}
+use mathlib.Core.Bool.{Bool, true, false, cond, and-false, true≢false, false≢true}
 use mathlib.Core.List.{List, [], _∷_}
 use mathlib.Core.Option.{Option, none, some}
 use lib.ListN.{length, take, drop, getD, length-take, length-drop, drop-of-length-le}
@@ -20,7 +20,6 @@ use Rattle.model.specs.declared.Order.the-variants.{Before, Same, After}
 use Rattle.model.specs.declared.Refusal.{Refusal}
 use Rattle.model.specs.declared.Refusal.the-variants as refusal
 use Rattle.text.specs.declared.Cursor.{Cursor}
-use Rattle.text.specs.declared.Decimal.{Decimal}
 use Rattle.text.specs.declared.Decimal.the-variants as answer
 use Rattle.text.specs.declared.FieldStep.{FieldStep}
 use Rattle.text.specs.declared.FieldStep.the-variants as field
@@ -379,7 +378,8 @@ module _ (s t : List ℕ) (p e q f : ℕ) where
         (lt-leb (getD s p 0) (getD t q 0) d)
 
     -- the bytes are equal: on with the next two positions
-    pub order-on : (p′ q′ : ℕ) → p′ ≡ p + 1 → q′ ≡ q + 1 → getD s p 0 ≡ getD t q 0 → order (part s p e) (part t q f) ≡ order (part s p′ e) (part t q′ f)
+    pub order-on : (p′ q′ : ℕ) → p′ ≡ p + 1 → q′ ≡ q + 1 → getD s p 0 ≡ getD t q 0
+        → order (part s p e) (part t q f) ≡ order (part s p′ e) (part t q′ f)
     order-on p′ q′ x y d =
         rw (x, y)
         (order-cons
@@ -387,7 +387,8 @@ module _ (s t : List ℕ) (p e q f : ℕ) where
         (eq-eqb (getD s p 0) (getD t q 0) d))
 
     -- the same of whether the parts are the same
-    pub same-on : (p′ q′ : ℕ) → p′ ≡ p + 1 → q′ ≡ q + 1 → getD s p 0 ≡ getD t q 0 → same (part s p e) (part t q f) ≡ same (part s p′ e) (part t q′ f)
+    pub same-on : (p′ q′ : ℕ) → p′ ≡ p + 1 → q′ ≡ q + 1 → getD s p 0 ≡ getD t q 0
+        → same (part s p e) (part t q f) ≡ same (part s p′ e) (part t q′ f)
     unfolding same
     same-on p′ q′ x y d = ap is-same (order-on p′ q′ x y d)
 
@@ -402,20 +403,25 @@ module _ (s t : List ℕ) (p e q f : ℕ) where
 -- a part with too few bytes does not begin with the word
 pub starts-short : (s : List ℕ) (a e : ℕ) (word : Name) → e ≤ length s → e - a < length word → starts-with (part s a e) word ≡ false
 unfolding starts-with
-starts-short s a e word k h = same-lengths (take (length word) (part s a e)) word (rw (length-take, part-length s a e k) (λ d. omega arith))
+starts-short s a e word k h =
+    same-lengths (take (length word) (part s a e)) word (rw (length-take, part-length s a e k) (λ d. omega arith))
 
 -- a part with bytes enough begins with the word if its first bytes are the word
-pub starts-part : (s : List ℕ) (a e : ℕ) (word : Name) → a + length word ≤ e → starts-with (part s a e) word ≡ same (part s a (a + length word)) word
+pub starts-part : (s : List ℕ) (a e : ℕ) (word : Name) → a + length word ≤ e
+    → starts-with (part s a e) word ≡ same (part s a (a + length word)) word
 unfolding starts-with
 starts-part s a e word h = rw (part-take s a e (length word) h)
 
 -- a part with too few bytes does not end with the word
 pub ends-short : (s : List ℕ) (a e : ℕ) (word : Name) → e ≤ length s → e - a < length word → ends-with (part s a e) word ≡ false
 unfolding ends-with
-ends-short s a e word k h = same-lengths (drop (length (part s a e) - length word) (part s a e)) word (rw (length-drop, part-length s a e k) (λ d. omega arith))
+ends-short s a e word k h =
+    same-lengths (drop (length (part s a e) - length word) (part s a e)) word
+    (rw (length-drop, part-length s a e k) (λ d. omega arith))
 
 -- a part with bytes enough ends with the word if its last bytes are the word
-pub ends-part : (s : List ℕ) (a e : ℕ) (word : Name) → e ≤ length s → a ≤ e → length word ≤ e - a → ends-with (part s a e) word ≡ same (part s (e - length word) e) word
+pub ends-part : (s : List ℕ) (a e : ℕ) (word : Name) → e ≤ length s → a ≤ e → length word ≤ e - a
+    → ends-with (part s a e) word ≡ same (part s (e - length word) e) word
 unfolding ends-with
 ends-part s a e word k h l =
     let n : a + (e - a - length word) ≡ e - length word = omega arith in
@@ -536,18 +542,6 @@ pub field-some : (s : List ℕ) (c : Cursor) (m : ℕ) → c .at ≤ c .end → 
 unfolding field-at
 field-some s c m h k = rw (k, le-leb (c .at) (c .end) h)
 
--- the next field, and the fields after it
-pub field-law : (s : List ℕ) (c : Cursor) → Placed s c → field-result s (field-at s c) ≡ next ok (fields-left s c)
-unfolding field-result next fields-left
-field-law s c p = go (leb (c .at) (c .end)) refl
-  where
-    go : (t : Bool) → leb (c .at) (c .end) ≡ t → field-result s (field-at s c) ≡ next ok (cond t (fields (part s (c .at) (c .end))) [])
-    go true d =
-        let h = leb-true (c .at) (c .end) d in
-        let m = mark-at 0x2c s (c .at) (c .end) in
-        rw (field-some s c m h refl, fields-part s (c .at) (c .end) m h (p .inside) refl)
-    go false d = rw (field-none s c (leb-false (c .at) (c .end) d))
-
 -- a cursor past its end has no fields left
 pub left-none : (s : List ℕ) (c : Cursor) → c .end < c .at → fields-left s c ≡ []
 unfolding fields-left
@@ -588,29 +582,32 @@ module _ (s : List ℕ) (c : Cursor) (a e : ℕ) (n : Cursor) (h : field-at s c 
   number-none limit d = rw (h, decimal-none (number (part s a e)) d)
 
   -- a field that is a number of at most `limit`
-  pub number-good : (limit v : ℕ) → as-decimal (number (part s a e)) ≡ answer.Value v → v ≤ limit → number-at limit s c ≡ numbered.Number v n
+  pub number-good : (limit v : ℕ) → as-decimal (number (part s a e)) ≡ answer.Value v → v ≤ limit
+      → number-at limit s c ≡ numbered.Number v n
   unfolding number-at as-number at-most
   number-good limit v d k = rw (h, decimal-some (number (part s a e)) v d, le-leb v limit k)
 
   -- a field that is a larger number
-  pub number-over : (limit v : ℕ) → as-decimal (number (part s a e)) ≡ answer.Value v → limit < v → number-at limit s c ≡ numbered.Refused refusal.Number
+  pub number-over : (limit v : ℕ) → as-decimal (number (part s a e)) ≡ answer.Value v → limit < v
+      → number-at limit s c ≡ numbered.Refused refusal.Number
   unfolding number-at as-number at-most
   number-over limit v d k = rw (h, decimal-some (number (part s a e)) v d, lt-leb v limit k)
 
--- where no number is answered, no term is
-pub term-refused : (count : ℕ) (s : List ℕ) (c : Cursor) (r : Refusal) → number-at 65535 s c ≡ numbered.Refused r → term-at count s c ≡ numbered.Refused r
-unfolding term-at as-term
-term-refused count s c r h = rw h
+module _ (count : ℕ) (s : List ℕ) (c : Cursor) where
+  -- where no number is answered, no term is
+  pub term-refused : (r : Refusal) → number-at 65535 s c ≡ numbered.Refused r → term-at count s c ≡ numbered.Refused r
+  unfolding term-at as-term
+  term-refused r h = rw h
 
--- a number below `count` is a term
-pub term-good : (count : ℕ) (s : List ℕ) (c : Cursor) (v : ℕ) (n : Cursor) → number-at 65535 s c ≡ numbered.Number v n → v < count → term-at count s c ≡ numbered.Number v n
-unfolding term-at as-term
-term-good count s c v n h k = rw (h, lt-ltb v count k)
+  -- a number below `count` is a term
+  pub term-good : (v : ℕ) (n : Cursor) → number-at 65535 s c ≡ numbered.Number v n → v < count → term-at count s c ≡ numbered.Number v n
+  unfolding term-at as-term
+  term-good v n h k = rw (h, lt-ltb v count k)
 
--- any other number is not
-pub term-over : (count : ℕ) (s : List ℕ) (c : Cursor) (v : ℕ) (n : Cursor) → number-at 65535 s c ≡ numbered.Number v n → count ≤ v → term-at count s c ≡ numbered.Refused refusal.Term
-unfolding term-at as-term
-term-over count s c v n h k = rw (h, le-ltb v count k)
+  -- any other number is not
+  pub term-over : (v : ℕ) (n : Cursor) → number-at 65535 s c ≡ numbered.Number v n → count ≤ v → term-at count s c ≡ numbered.Refused refusal.Term
+  unfolding term-at as-term
+  term-over v n h k = rw (h, le-ltb v count k)
 
 -- a function of a choice is the choice of what it gives
 choice : {A B : Type 0} (f : A → B) (t : Bool) (x y : A) → f (cond t x y) ≡ cond t (f x) (f y)
@@ -643,12 +640,15 @@ as-name-law s (field.Part a e n) =
     ∙ sym (choice (with-rest (fields-left s n)) t (ok (part s a e)) (refused refusal.Name))
 
 -- a field taken for a number
-as-number-law : (limit : ℕ) (s : List ℕ) (step : FieldStep) → number-result s (as-number limit s step) ≡ judged (number-field limit) (field-result s step)
+as-number-law : (limit : ℕ) (s : List ℕ) (step : FieldStep)
+    → number-result s (as-number limit s step) ≡ judged (number-field limit) (field-result s step)
 unfolding field-result number-result as-number at-most judged with-rest number-field need
 as-number-law limit s (field.Refused r) = refl
 as-number-law limit s (field.Part a e n) = go (number (part s a e))
   where
-    go : (o : Option ℕ) → number-result s (at-most limit n o) ≡ with-rest (fields-left s n) (need refusal.Number o >>=ᴿ λ m. cond (leb m limit) (ok m) (refused refusal.Number))
+    go : (o : Option ℕ)
+        → number-result s (at-most limit n o)
+        ≡ with-rest (fields-left s n) (need refusal.Number o >>=ᴿ λ m. cond (leb m limit) (ok m) (refused refusal.Number))
     go none = refl
     go (some m) =
         choice (number-result s) (leb m limit) (numbered.Number m n) (numbered.Refused refusal.Number)
@@ -671,31 +671,46 @@ unfolding narrowed judged with-rest term-field
 term-judged count (refused r) = refl
 term-judged count (ok f) = go (number-field 65535 (f .0))
   where
-    go : (v : Result ℕ) → narrowed count (with-rest (f .1) v) ≡ with-rest (f .1) (v >>=ᴿ λ n. cond (ltb n count) (ok n) (refused refusal.Term))
+    go : (v : Result ℕ)
+        → narrowed count (with-rest (f .1) v)
+        ≡ with-rest (f .1) (v >>=ᴿ λ n. cond (ltb n count) (ok n) (refused refusal.Term))
     go (refused r) = refl
     go (ok n) = sym (choice (with-rest (f .1)) (ltb n count) (ok n) (refused refusal.Term))
 
--- the next field, a name, and the fields after it
-pub name-law : (s : List ℕ) (c : Cursor) → Placed s c → field-result s (name-at s c) ≡ next name-field (fields-left s c)
-unfolding name-at
-name-law s c p = as-name-law s (field-at s c) ∙ ap (judged name-field) (field-law s c p) ∙ sym (next-judged name-field (fields-left s c))
+module _ (s : List ℕ) (c : Cursor) (p : Placed s c) where
+  -- the next field, and the fields after it
+  pub field-law : field-result s (field-at s c) ≡ next ok (fields-left s c)
+  unfolding field-result next fields-left
+  field-law = go (leb (c .at) (c .end)) refl
+    where
+      go : (t : Bool) → leb (c .at) (c .end) ≡ t → field-result s (field-at s c) ≡ next ok (cond t (fields (part s (c .at) (c .end))) [])
+      go true d =
+          let h = leb-true (c .at) (c .end) d in
+          let m = mark-at 0x2c s (c .at) (c .end) in
+          rw (field-some s c m h refl, fields-part s (c .at) (c .end) m h (p .inside) refl)
+      go false d = rw (field-none s c (leb-false (c .at) (c .end) d))
 
--- the next field, a number, and the fields after it
-pub number-law : (limit : ℕ) (s : List ℕ) (c : Cursor) → Placed s c → number-result s (number-at limit s c) ≡ next (number-field limit) (fields-left s c)
-unfolding number-at
-number-law limit s c p =
-    as-number-law limit s (field-at s c)
-    ∙ ap (judged (number-field limit)) (field-law s c p)
-    ∙ sym (next-judged (number-field limit) (fields-left s c))
+  -- the next field, a name, and the fields after it
+  pub name-law : field-result s (name-at s c) ≡ next name-field (fields-left s c)
+  unfolding name-at
+  name-law = as-name-law s (field-at s c) ∙ ap (judged name-field) (field-law) ∙ sym (next-judged name-field (fields-left s c))
 
--- the next field, a term, and the fields after it
-pub term-law : (count : ℕ) (s : List ℕ) (c : Cursor) → Placed s c → number-result s (term-at count s c) ≡ next (term-field count) (fields-left s c)
-unfolding term-at
-term-law count s c p =
-    as-term-law count s (number-at 65535 s c)
-    ∙ ap (narrowed count) (number-law 65535 s c p ∙ next-judged (number-field 65535) (fields-left s c))
-    ∙ term-judged count (next ok (fields-left s c))
-    ∙ sym (next-judged (term-field count) (fields-left s c))
+  -- the next field, a number, and the fields after it
+  pub number-law : (limit : ℕ) → number-result s (number-at limit s c) ≡ next (number-field limit) (fields-left s c)
+  unfolding number-at
+  number-law limit =
+      as-number-law limit s (field-at s c)
+      ∙ ap (judged (number-field limit)) (field-law)
+      ∙ sym (next-judged (number-field limit) (fields-left s c))
+
+  -- the next field, a term, and the fields after it
+  pub term-law : (count : ℕ) → number-result s (term-at count s c) ≡ next (term-field count) (fields-left s c)
+  unfolding term-at
+  term-law count =
+      as-term-law count s (number-at 65535 s c)
+      ∙ ap (narrowed count) (number-law 65535 ∙ next-judged (number-field 65535) (fields-left s c))
+      ∙ term-judged count (next ok (fields-left s c))
+      ∙ sym (next-judged (term-field count) (fields-left s c))
 
 -- ---- what a step of a cursor answers
 
@@ -727,25 +742,9 @@ chosen : {A : Type 0} (t : Bool) (x y z : A) → (y ≡ z → ⊥) → cond t x 
 chosen true x y z other h = (refl, h)
 chosen false x y z other h = absurd (other h)
 
--- a field that is answered was read
-pub field-next : (s : List ℕ) (c : Cursor) (a e : ℕ) (n : Cursor) → Placed s c → field-at s c ≡ field.Part a e n → Stepped s c a e n
-field-next s c a e n p h = go (leb (c .at) (c .end)) refl
-  where
-    go : (t : Bool) → leb (c .at) (c .end) ≡ t → Stepped s c a e n
-    go true d =
-        let k = leb-true (c .at) (c .end) d in
-        let m = mark-at 0x2c s (c .at) (c .end) in
-        let w = field-some s c m k refl in
-        let x : c .at ≡ a = cc in
-        let y : m ≡ e = cc in
-        let z : record { at = m + 1; end = c .end } ≡ n = cc in
-        let u = ap (λ (q : Cursor). q .at) z in
-        let v = ap (λ (q : Cursor). q .end) z in
-        omega (arith, mark-from 0x2c s (c .at) (c .end), mark-to 0x2c s (c .at) (c .end) k (p .inside))
-    go false d = absurd (field-apart refusal.Form a e n (sym (field-none s c (leb-false (c .at) (c .end) d)) ∙ h))
-
 -- a name that is answered is a field that was answered, and is a name
-as-name-part : (s : List ℕ) (step : FieldStep) (a e : ℕ) (n : Cursor) → as-name s step ≡ field.Part a e n → (step ≡ field.Part a e n) × (is-name (part s a e) ≡ true)
+as-name-part : (s : List ℕ) (step : FieldStep) (a e : ℕ) (n : Cursor) → as-name s step ≡ field.Part a e n
+    → (step ≡ field.Part a e n) × (is-name (part s a e) ≡ true)
 unfolding as-name
 as-name-part s (field.Refused r) a e n h = absurd (field-apart r a e n h)
 as-name-part s (field.Part a′ e′ n′) a e n h =
@@ -753,13 +752,6 @@ as-name-part s (field.Part a′ e′ n′) a e n h =
     let x : a′ ≡ a = cc in
     let y : e′ ≡ e = cc in
     (k, rw (← x, ← y) d)
-
--- a name that is answered was read, and is a name
-pub name-next : (s : List ℕ) (c : Cursor) (a e : ℕ) (n : Cursor) → Placed s c → name-at s c ≡ field.Part a e n → Stepped s c a e n × (is-name (part s a e) ≡ true)
-unfolding name-at
-name-next s c a e n p h =
-    let (k, d) = as-name-part s (field-at s c) a e n h in
-    (field-next s c a e n p k, d)
 
 -- a number that is answered is that of a field that was answered, and at most `limit`
 as-number-part : (limit : ℕ) (s : List ℕ) (step : FieldStep) (v : ℕ) (n : Cursor) → as-number limit s step ≡ numbered.Number v n
@@ -777,15 +769,9 @@ as-number-part limit s (field.Part a e n′) v n h =
         let x : m ≡ v = cc in
         (cc, omega (arith, leb-true m limit d))
 
--- a number that is answered is at most `limit`, and the next cursor stands further on
-pub number-next : (limit : ℕ) (s : List ℕ) (c : Cursor) (v : ℕ) (n : Cursor) → Placed s c → number-at limit s c ≡ numbered.Number v n → Onward s c n × (v ≤ limit)
-unfolding number-at
-number-next limit s c v n p h =
-    let (a, e, k, l) = as-number-part limit s (field-at s c) v n h in
-    (field-next s c a e n p k .onward, l)
-
 -- a term that is answered is a number that was answered, and below `count`
-as-term-part : (count : ℕ) (step : NumberStep) (v : ℕ) (n : Cursor) → as-term count step ≡ numbered.Number v n → (step ≡ numbered.Number v n) × (v < count)
+as-term-part : (count : ℕ) (step : NumberStep) (v : ℕ) (n : Cursor) → as-term count step ≡ numbered.Number v n
+    → (step ≡ numbered.Number v n) × (v < count)
 unfolding as-term
 as-term-part count (numbered.Refused r) v n h = absurd (number-apart r v n h)
 as-term-part count (numbered.Number m n′) v n h =
@@ -793,9 +779,41 @@ as-term-part count (numbered.Number m n′) v n h =
     let x : m ≡ v = cc in
     (k, omega (arith, ltb-true m count d))
 
--- a term that is answered is below `count`, and the next cursor stands further on
-pub term-next : (count : ℕ) (s : List ℕ) (c : Cursor) (v : ℕ) (n : Cursor) → Placed s c → term-at count s c ≡ numbered.Number v n → Onward s c n × (v < count)
-unfolding term-at
-term-next count s c v n p h =
-    let (k, l) = as-term-part count (number-at 65535 s c) v n h in
-    (number-next 65535 s c v n p k .0, l)
+module _ (s : List ℕ) (c : Cursor) (p : Placed s c) where
+  -- a field that is answered was read
+  pub field-next : (a e : ℕ) (n : Cursor) → field-at s c ≡ field.Part a e n → Stepped s c a e n
+  field-next a e n h = go (leb (c .at) (c .end)) refl
+    where
+      go : (t : Bool) → leb (c .at) (c .end) ≡ t → Stepped s c a e n
+      go true d =
+          let k = leb-true (c .at) (c .end) d in
+          let m = mark-at 0x2c s (c .at) (c .end) in
+          let w = field-some s c m k refl in
+          let x : c .at ≡ a = cc in
+          let y : m ≡ e = cc in
+          let z : record { at = m + 1; end = c .end } ≡ n = cc in
+          let u = ap (λ (q : Cursor). q .at) z in
+          let v = ap (λ (q : Cursor). q .end) z in
+          omega (arith, mark-from 0x2c s (c .at) (c .end), mark-to 0x2c s (c .at) (c .end) k (p .inside))
+      go false d = absurd (field-apart refusal.Form a e n (sym (field-none s c (leb-false (c .at) (c .end) d)) ∙ h))
+
+  -- a name that is answered was read, and is a name
+  pub name-next : (a e : ℕ) (n : Cursor) → name-at s c ≡ field.Part a e n → Stepped s c a e n × (is-name (part s a e) ≡ true)
+  unfolding name-at
+  name-next a e n h =
+      let (k, d) = as-name-part s (field-at s c) a e n h in
+      (field-next a e n k, d)
+
+  -- a number that is answered is at most `limit`, and the next cursor stands further on
+  pub number-next : (limit v : ℕ) (n : Cursor) → number-at limit s c ≡ numbered.Number v n → Onward s c n × (v ≤ limit)
+  unfolding number-at
+  number-next limit v n h =
+      let (a, e, k, l) = as-number-part limit s (field-at s c) v n h in
+      (field-next a e n k .onward, l)
+
+  -- a term that is answered is below `count`, and the next cursor stands further on
+  pub term-next : (count v : ℕ) (n : Cursor) → term-at count s c ≡ numbered.Number v n → Onward s c n × (v < count)
+  unfolding term-at
+  term-next count v n h =
+      let (k, l) = as-term-part count (number-at 65535 s c) v n h in
+      (number-next 65535 v n k .0, l)

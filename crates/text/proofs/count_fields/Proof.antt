@@ -1,6 +1,6 @@
 -- `text::count_fields` meets its contract. The loop's invariant: the fields counted, but the one that is begun, and the fields from `i` on are the fields of the part.
 use Prim.Native.Nat.{_≤_, _+_, _-_}
-use mathlib.Core.Path.{_≡_, refl, sym, _∙_}
+use mathlib.Core.Path.{_≡_, refl}
 use mathlib.Core.Logic.{⊎-elim}
 use native.Mathlib.Omega.{arith}
 use lib.ListN.{length}

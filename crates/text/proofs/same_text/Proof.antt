@@ -1,6 +1,6 @@
 -- `text::same_text` meets its contract. The loop's invariant: the part is the word if what is left of it from `i` on is what is left of the word.
 use Prim.Native.Nat.{_≤_, _+_, _-_}
-use mathlib.Core.Path.{_≡_, refl, sym, ap, _∙_}
+use mathlib.Core.Path.{_≡_, refl, sym, _∙_}
 use native.Mathlib.Omega.{arith}
 use lib.ListN.{length}
 use Rattle.model.specs.Names.{same}

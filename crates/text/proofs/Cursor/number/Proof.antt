@@ -12,7 +12,7 @@ enum-known-start c = c .match .keys1
 
 number-of-requires : tie.Need-number-of-requires
 number-of-requires c κs =
-    let read = field-next _ _ _ _ _ (c .before .before .before .before .before .pre) (sym (c .before .before .before .field .ensures) ∙ c .before .start .given .1) in
+    let read = field-next _ _ (c .before .before .before .before .before .pre) _ _ _ (sym (c .before .before .before .field .ensures) ∙ c .before .start .given .1) in
     (read .ordered, read .inside)
 
 enum-known-n : tie.Need-enum-known-n
