@@ -439,27 +439,27 @@ before-le mark (b ∷ bs) = go (eqb b mark) (before-le mark bs)
     go true h = omega arith
     go false h = omega arith
 
--- the mark is not before the part
-pub mark-from : (mark : ℕ) (s : List ℕ) (at e : ℕ) → at ≤ mark-at mark s at e
+-- the first mark, at m, is not before the part
+pub mark-from : (m mark : ℕ) (s : List ℕ) (at e : ℕ) → m ≡ mark-at mark s at e → at ≤ m
 unfolding mark-at
-mark-from mark s at e = omega arith
+mark-from m mark s at e d = omega arith
+
+-- and not after its end
+pub mark-to : (m mark : ℕ) (s : List ℕ) (at e : ℕ) → m ≡ mark-at mark s at e → at ≤ e → e ≤ length s → m ≤ e
+unfolding mark-at
+mark-to m mark s at e d h k = omega (arith, before-le mark (part s at e), part-length s at e k)
 
 -- the bytes from the mark on
 mark-back : (mark : ℕ) (s : List ℕ) (at e : ℕ) → drop (before mark (part s at e)) (part s at e) ≡ part s (mark-at mark s at e) e
 unfolding mark-at
 mark-back mark s at e = part-drop s at e (before mark (part s at e))
 
-module _ (mark : ℕ) (s : List ℕ) (at e : ℕ) (h : at ≤ e) (k : e ≤ length s) where
-  -- the mark is not after the part
-  pub mark-to : mark-at mark s at e ≤ e
-  unfolding mark-at
-  mark-to = omega (arith, before-le mark (part s at e), part-length s at e k)
-
-  -- the bytes before the mark
-  mark-front : take (before mark (part s at e)) (part s at e) ≡ part s at (mark-at mark s at e)
-  unfolding mark-at
-  mark-front =
-      part-take s at e (before mark (part s at e)) (omega (arith, before-le mark (part s at e), part-length s at e k))
+-- the bytes before the mark
+mark-front : (mark : ℕ) (s : List ℕ) (at e : ℕ) → at ≤ e → e ≤ length s
+    → take (before mark (part s at e)) (part s at e) ≡ part s at (mark-at mark s at e)
+unfolding mark-at
+mark-front mark s at e h k =
+    part-take s at e (before mark (part s at e)) (omega (arith, before-le mark (part s at e), part-length s at e k))
 
 -- the fields after the comma at m, if m is not the end
 after-part : (s : List ℕ) (m e : ℕ) → e ≤ length s
@@ -794,7 +794,7 @@ module _ (s : List ℕ) (c : Cursor) (p : Placed s c) where
           let z : record { at = m + 1; end = c .end } ≡ n = cc in
           let u = ap (λ (q : Cursor). q .at) z in
           let v = ap (λ (q : Cursor). q .end) z in
-          omega (arith, mark-from 0x2c s (c .at) (c .end), mark-to 0x2c s (c .at) (c .end) k (p .inside))
+          omega (arith, mark-from m 0x2c s (c .at) (c .end) refl, mark-to m 0x2c s (c .at) (c .end) refl k (p .inside))
       go false d = absurd (field-apart refusal.Form a e n (sym (field-none s c (leb-false (c .at) (c .end) d)) ∙ h))
 
   -- a name that is answered was read, and is a name
