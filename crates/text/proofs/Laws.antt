@@ -34,7 +34,7 @@ part-start : (s : List ℕ) (a e : ℕ) → part s (a + 0) e ≡ part s a e
 part-start s a e = rw (add-zero a)
 
 -- the part from the start to the end is the list
-part-all : (s : List ℕ) → part s 0 (length s) ≡ s
+pub part-all : (s : List ℕ) → part s 0 (length s) ≡ s
 part-all s = rw (sub-zero (length s), take-length s)
 
 -- the part from a position to the end is the rest of the list
@@ -53,13 +53,13 @@ drop-take (suc n) (suc m) [] = rw (take-nil (suc m - suc n))
 drop-take (suc n) (suc m) (x ∷ xs) = rw (suc-sub-suc m n, drop-take n m xs)
 
 -- the first k bytes of a part
-part-take : (s : List ℕ) (a e k : ℕ) → a + k ≤ e → take k (part s a e) ≡ part s a (a + k)
+pub part-take : (s : List ℕ) (a e k : ℕ) → a + k ≤ e → take k (part s a e) ≡ part s a (a + k)
 part-take s a e k h =
     let n : a + k - a ≡ k = omega arith in
     rw (n, take-take k (e - a) (drop a s) (omega arith))
 
 -- a part without its first k bytes
-part-drop : (s : List ℕ) (a e k : ℕ) → drop k (part s a e) ≡ part s (a + k) e
+pub part-drop : (s : List ℕ) (a e k : ℕ) → drop k (part s a e) ≡ part s (a + k) e
 part-drop s a e k =
     let n : e - a - k ≡ e - (a + k) = omega arith in
     rw (drop-take, n, drop-drop)
@@ -161,7 +161,7 @@ decimal-none (some n) h = cc
 
 module _ (s : List ℕ) (i e : ℕ) (h : i < e) (k : e ≤ length s) where
   -- the part begins with the byte
-  part-cons : part s i e ≡ getD s i 0 ∷ part s (i + 1) e
+  pub part-cons : part s i e ≡ getD s i 0 ∷ part s (i + 1) e
   part-cons =
       let n : e - i ≡ suc (e - (i + 1)) = omega arith in
       rw (n, drop-cons s i 0 (omega arith), add-one i)
@@ -229,7 +229,7 @@ module _ (s : List ℕ) (i e : ℕ) (h : i < e) (k : e ≤ length s) where
 
 module _ (s : List ℕ) (i e : ℕ) (h : e ≤ i) where
   -- the part is empty
-  part-nil : part s i e ≡ []
+  pub part-nil : part s i e ≡ []
   part-nil =
       let n : e - i ≡ 0 = omega arith in
       rw n
