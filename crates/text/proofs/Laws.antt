@@ -109,7 +109,7 @@ pub byte-comma : (b : ℕ) → b ≡ 0x2c → is-name-byte b ≡ false
 unfolding is-name-byte
 byte-comma b h = rw h
 
--- any other byte is of a name
+-- a byte in the range that is no comma is of a name
 pub byte-good : (b : ℕ) → 0x21 ≤ b → b ≤ 0x7e → (b ≡ 0x2c → ⊥) → is-name-byte b ≡ true
 unfolding is-name-byte
 byte-good b low high comma = rw (le-leb 0x21 b low, le-leb b 0x7e high, ne-eqb b 0x2c comma)
@@ -386,7 +386,7 @@ module _ (s t : List ℕ) (p e q f : ℕ) where
         ∙ by-equal (compare (getD s p 0) (getD t q 0)) (order (part s (p + 1) e) (part t (q + 1) f))
         (eq-eqb (getD s p 0) (getD t q 0) d))
 
-    -- the same of whether the parts are the same
+    -- the bytes are equal: whether the parts are the same is said by the next two positions
     pub same-on : (p′ q′ : ℕ) → p′ ≡ p + 1 → q′ ≡ q + 1 → getD s p 0 ≡ getD t q 0
         → same (part s p e) (part t q f) ≡ same (part s p′ e) (part t q′ f)
     unfolding same
@@ -444,7 +444,7 @@ pub mark-from : (m mark : ℕ) (s : List ℕ) (at e : ℕ) → m ≡ mark-at mar
 unfolding mark-at
 mark-from m mark s at e d = omega arith
 
--- and not after its end
+-- the first mark, at m, is not after the part's end
 pub mark-to : (m mark : ℕ) (s : List ℕ) (at e : ℕ) → m ≡ mark-at mark s at e → at ≤ e → e ≤ length s → m ≤ e
 unfolding mark-at
 mark-to m mark s at e d h k = omega (arith, before-le mark (part s at e), part-length s at e k)
@@ -536,7 +536,7 @@ pub field-none : (s : List ℕ) (c : Cursor) → c .end < c .at → field-at s c
 unfolding field-at
 field-none s c h = rw (lt-leb (c .at) (c .end) h)
 
--- any other cursor has a field, up to m
+-- a cursor that is not past its end has a field, up to m
 pub field-some : (s : List ℕ) (c : Cursor) (m : ℕ) → c .at ≤ c .end → m ≡ mark-at 0x2c s (c .at) (c .end)
     → field-at s c ≡ field.Part (c .at) m (record { at = m + 1; end = c .end })
 unfolding field-at
@@ -547,19 +547,19 @@ pub left-none : (s : List ℕ) (c : Cursor) → c .end < c .at → fields-left s
 unfolding fields-left
 left-none s c h = rw (lt-leb (c .at) (c .end) h)
 
--- any other cursor has the fields of the part before it
+-- a cursor that is not past its end has the fields of the part before it left
 pub left-some : (s : List ℕ) (c : Cursor) → c .at ≤ c .end → fields-left s c ≡ fields (part s (c .at) (c .end))
 unfolding fields-left
 left-some s c h = rw (le-leb (c .at) (c .end) h)
 
 -- no field is answered
 module _ (s : List ℕ) (c : Cursor) (r : Refusal) (h : field-at s c ≡ field.Refused r) where
-  -- no name is
+  -- no name is answered
   pub name-refused : name-at s c ≡ field.Refused r
   unfolding name-at as-name
   name-refused = rw h
 
-  -- no number is
+  -- no number is answered
   pub number-refused : (limit : ℕ) → number-at limit s c ≡ numbered.Refused r
   unfolding number-at as-number
   number-refused limit = rw h
@@ -604,7 +604,7 @@ module _ (count : ℕ) (s : List ℕ) (c : Cursor) where
   unfolding term-at as-term
   term-good v n h k = rw (h, lt-ltb v count k)
 
-  -- any other number is not
+  -- a number from `count` on is no term
   pub term-over : (v : ℕ) (n : Cursor) → number-at 65535 s c ≡ numbered.Number v n → count ≤ v → term-at count s c ≡ numbered.Refused refusal.Term
   unfolding term-at as-term
   term-over v n h k = rw (h, le-ltb v count k)
