@@ -76,18 +76,37 @@ pub record Run : Type 0 where
   pub reached : List Name
   pub rounds : ℕ
 
-module _ (a : Ask) (ms : Map (List Name)) (fs : List Fact) where
-  -- the rounds from a state on, the next one scanning items with these free names, as long as the fuel lasts
-  unfoldable pub rounds-from : ℕ → Run → List Name → Run
-  rounds-from zero r scanned = r
-  rounds-from (suc fuel) r scanned =
-      let met = union (met-from ms scanned) (r .met) in
-      let triggered = keep (triggers-in (r .met) met) fs in
-      let fresh = keep (λ f. retainable a f && not (mem (f .name) (r .reached))) triggered in
-      let reached = union (map (λ f. f .name) fresh) (r .reached) in
-      let after : Run = record { met = met; reached = reached; rounds = r .rounds + 1 } in
-      let further = rounds-from fuel after (collect (λ f. f .free-names) fresh) in
-      cond (is-nil triggered) after further
+-- the names met at the end of a round that scans items with these free names
+unfoldable pub met-after : Map (List Name) → Run → List Name → List Name
+met-after ms r scanned = union (met-from ms scanned) (r .met)
+
+-- the facts that the round triggers
+unfoldable pub triggered : Map (List Name) → List Fact → Run → List Name → List Fact
+triggered ms fs r scanned = keep (triggers-in (r .met) (met-after ms r scanned)) fs
+
+-- those of them that it reaches: retainable and not yet reached
+unfoldable pub fresh : Ask → Map (List Name) → List Fact → Run → List Name → List Fact
+fresh a ms fs r scanned = keep (λ f. retainable a f && not (mem (f .name) (r .reached))) (triggered ms fs r scanned)
+
+-- the state after the round
+unfoldable pub after-round : Ask → Map (List Name) → List Fact → Run → List Name → Run
+after-round a ms fs r scanned =
+    record {
+      met = met-after ms r scanned;
+      reached = union (map (λ f. f .name) (fresh a ms fs r scanned)) (r .reached);
+      rounds = r .rounds + 1;
+    }
+
+-- the free names of what the next round scans
+unfoldable pub next-scanned : Ask → Map (List Name) → List Fact → Run → List Name → List Name
+next-scanned a ms fs r scanned = collect (λ f. f .free-names) (fresh a ms fs r scanned)
+
+-- the rounds from a state on, as long as the fuel lasts
+unfoldable pub rounds-from : Ask → Map (List Name) → List Fact → ℕ → Run → List Name → Run
+rounds-from a ms fs zero r scanned = r
+rounds-from a ms fs (suc fuel) r scanned =
+    let further = rounds-from a ms fs fuel (after-round a ms fs r scanned) (next-scanned a ms fs r scanned) in
+    cond (is-nil (triggered ms fs r scanned)) (after-round a ms fs r scanned) further
 
 -- whether a summary is ambient
 unfoldable pub is-ambient : AsumKind → Bool
