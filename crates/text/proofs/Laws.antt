@@ -1,14 +1,14 @@
 -- What the functions of this crate rest on, said of plain lists: parts of a file, the first mark in one, fields, names, numbers, byte order, lines.
 use Prim.Native.Nat.{ℕ, zero, suc, _+_, _-_, _*_, _≤_, _<_, compare, Ordering, Ordering·lt, Ordering·eq, Ordering·gt}
 use native.Mathlib.Numerals.{add-one, one-add}
-use native.Mathlib.Nat.{sub-zero, zero-sub, suc-sub-suc}
+use native.Mathlib.Nat.{add-zero, sub-zero, zero-sub, suc-sub-suc}
 use native.Mathlib.Omega.{arith}
 use mathlib.Core.Path.{_≡_, refl, sym, ap, _∙_}
 use mathlib.Core.Bool.{Bool, true, false, cond, not, _&&_, and-false, true≢false, false≢true}
 use mathlib.Core.List.{List, [], _∷_}
 use mathlib.Core.Option.{Option, none, some}
 use lib.ListN.{length, take, drop, getD, length-take, length-drop}
-use lib.Seq.{drop-cons, take-nil, take-take, drop-drop}
+use lib.Seq.{drop-cons, take-nil, take-length, take-take, drop-drop}
 use lib.Dec.{leb, eqb, isLe, isEq}
 use borrow.Author.Tests.{eq-eqb, ne-eqb, le-leb, lt-leb}
 use Rattle.model.specs.Lists.{all, when, _>>=_}
@@ -31,6 +31,14 @@ pub part-nil : (s : List ℕ) (a e : ℕ) → e ≤ a → part s a e ≡ []
 part-nil s a e h =
     let n : e - a ≡ 0 = omega arith in
     rw n
+
+-- the part from 0 more on is the part
+pub part-start : (s : List ℕ) (a e : ℕ) → part s (a + 0) e ≡ part s a e
+part-start s a e = rw (add-zero a)
+
+-- the part from the start to the end is the list
+pub part-all : (s : List ℕ) → part s 0 (length s) ≡ s
+part-all s = rw (sub-zero (length s), take-length s)
 
 -- the length of a part
 pub part-length : (s : List ℕ) (a e : ℕ) → e ≤ length s → length (part s a e) ≡ e - a
@@ -88,9 +96,9 @@ unfolding mark-at
 mark-on mark s i e h k b = rw (part-cons s i e h k, before-on mark (getD s i 0) (part s (i + 1) e) b) (omega arith)
 
 -- the search is at its end
-pub mark-end : (mark : ℕ) (s : List ℕ) (i e : ℕ) → e ≤ i → mark-at mark s i e ≡ i
+pub mark-end : (mark : ℕ) (s : List ℕ) (i e : ℕ) → i ≤ e → e ≤ i → mark-at mark s i e ≡ e
 unfolding mark-at before
-mark-end mark s i e h = rw (part-nil s i e h) (omega arith)
+mark-end mark s i e h k = rw (part-nil s i e k) (omega arith)
 
 -- ---- fields
 
@@ -151,10 +159,15 @@ name-bytes s a e k h m =
     let n : 1 ≤ e - a = omega arith in
     rw (part-length s a e k, le-leb 1 (e - a) n, le-leb (e - a) 255 m)
 
--- the test of a part's bytes is that of the first, and that of the others
-pub all-part : (test : ℕ → Bool) (s : List ℕ) (i e : ℕ) → i < e → e ≤ length s → all test (part s i e) ≡ (test (getD s i 0) && all test (part s (i + 1) e))
+-- the test fails at the byte where it is: it fails of the part
+pub all-bad : (test : ℕ → Bool) (s : List ℕ) (i e : ℕ) → i < e → e ≤ length s → test (getD s i 0) ≡ false → all test (part s i e) ≡ false
 unfolding all
-all-part test s i e h k = rw (part-cons s i e h k)
+all-bad test s i e h k b = rw (part-cons s i e h k, b)
+
+-- the test holds at the byte where it is: the bytes after it decide
+pub all-on : (test : ℕ → Bool) (s : List ℕ) (i e : ℕ) → i < e → e ≤ length s → test (getD s i 0) ≡ true → all test (part s i e) ≡ all test (part s (i + 1) e)
+unfolding all
+all-on test s i e h k b = rw (part-cons s i e h k, b)
 
 -- the test of an empty part's bytes holds
 pub all-end : (test : ℕ → Bool) (s : List ℕ) (i e : ℕ) → e ≤ i → all test (part s i e) ≡ true
@@ -193,9 +206,23 @@ unfolding number
 number-empty s a e h = rw (part-nil s a e h)
 
 -- a part that begins with 0 is a number if nothing follows
-pub number-zero : (s : List ℕ) (a e : ℕ) → a < e → e ≤ length s → getD s a 0 ≡ 0x30 → number (part s a e) ≡ when (leb (e - (a + 1)) 0) 0
+number-zero : (s : List ℕ) (a e : ℕ) → a < e → e ≤ length s → getD s a 0 ≡ 0x30 → number (part s a e) ≡ when (leb (e - (a + 1)) 0) 0
 unfolding number
 number-zero s a e h k b = rw (part-cons s a e h k, eq-eqb (getD s a 0) 0x30 b, part-length s (a + 1) e k)
+
+-- 0 alone is the number 0
+pub number-alone : (s : List ℕ) (a e : ℕ) → a < e → e ≤ length s → getD s a 0 ≡ 0x30 → e - a ≡ 1 → number (part s a e) ≡ some 0
+unfolding when
+number-alone s a e h k b n =
+    let m : e - (a + 1) ≤ 0 = omega arith in
+    rw (number-zero s a e h k b, le-leb (e - (a + 1)) 0 m)
+
+-- 0 before another byte: no number
+pub number-leading : (s : List ℕ) (a e : ℕ) → a < e → e ≤ length s → getD s a 0 ≡ 0x30 → (e - a ≡ 1 → ⊥) → number (part s a e) ≡ none
+unfolding when
+number-leading s a e h k b n =
+    let m : 0 < e - (a + 1) = omega arith in
+    rw (number-zero s a e h k b, lt-leb (e - (a + 1)) 0 m)
 
 -- any other part is the number that its digits make
 pub number-digits : (s : List ℕ) (a e : ℕ) → a < e → e ≤ length s → (getD s a 0 ≡ 0x30 → ⊥) → number (part s a e) ≡ valued 0 (part s a e)
@@ -287,6 +314,18 @@ same-lengths [] (b ∷ bs) h = refl
 same-lengths (a ∷ bs) [] h = refl
 same-lengths (a ∷ bs) (c ∷ cs) h = by-rest (compare a c) (order bs cs) (same-lengths bs cs (λ e. h (ap suc e)))
 
+-- a part of another length than the word is not the word
+pub same-sized : (s : List ℕ) (a e : ℕ) (word : Name) → e ≤ length s → (length word ≡ e - a → ⊥) → same (part s a e) word ≡ false
+same-sized s a e word k h = same-lengths (part s a e) word (rw (part-length s a e k) (λ d. h (sym d)))
+
+-- a part against a word, as both stand where a loop begins
+pub same-start : (s : List ℕ) (a e : ℕ) (word : Name) → same (part s a e) word ≡ same (part s (a + 0) e) (part word 0 (length word))
+same-start s a e word = rw (part-start s a e, part-all word)
+
+-- two parts, as both stand where a loop begins
+pub order-start : (s t : List ℕ) (a e b f : ℕ) → order (part s a e) (part t b f) ≡ order (part s (a + 0) e) (part t (b + 0) f)
+order-start s t a e b f = rw (part-start s a e, part-start t b f)
+
 -- the part of s from p up to e against the part of t from q up to f
 module _ (s t : List ℕ) (p e q f : ℕ) where
   -- the first part is over, and the second is not
@@ -303,6 +342,11 @@ module _ (s t : List ℕ) (p e q f : ℕ) where
   pub order-same : e ≤ p → f ≤ q → order (part s p e) (part t q f) ≡ Same
   unfolding order
   order-same h l = rw (part-nil s p e h, part-nil t q f l)
+
+  -- parts that are over are the same
+  pub same-end : e ≤ p → f ≤ q → same (part s p e) (part t q f) ≡ true
+  unfolding same is-same
+  same-end h l = rw (order-same h l)
 
   module _ (h : p < e) (k : e ≤ length s) (l : q < f) (m : f ≤ length t) where
     -- the first bytes of the parts, and then the others
@@ -332,6 +376,11 @@ module _ (s t : List ℕ) (p e q f : ℕ) where
         (order-cons
         ∙ by-equal (compare (getD s p 0) (getD t q 0)) (order (part s (p + 1) e) (part t (q + 1) f))
           (eq-eqb (getD s p 0) (getD t q 0) d))
+
+    -- the same of whether the parts are the same
+    pub same-on : (p′ q′ : ℕ) → p′ ≡ p + 1 → q′ ≡ q + 1 → getD s p 0 ≡ getD t q 0 → same (part s p e) (part t q f) ≡ same (part s p′ e) (part t q′ f)
+    unfolding same
+    same-on p′ q′ x y d = ap is-same (order-on p′ q′ x y d)
 
     -- the bytes differ: the parts are not the same
     pub same-differ : (getD s p 0 ≡ getD t q 0 → ⊥) → same (part s p e) (part t q f) ≡ false
