@@ -2,7 +2,7 @@
 -- its length (1), its head code (3); by rank in byte order: the number (2). The other columns are others' concern.
 use Prim.Native.Nat.{ℕ, zero, suc, _+_, _-_, _≤_, _<_}
 use mathlib.Core.Path.{_≡_}
-use mathlib.Core.Bool.{Bool, cond}
+use mathlib.Core.Bool.{Bool, true, false, cond}
 use mathlib.Core.List.{List, [], _∷_, _++_}
 use mathlib.Core.Option.{Option, none, some}
 use lib.ListN.{length, take, drop, getD, set}
@@ -12,8 +12,11 @@ use Rattle.model.specs.declared.Order.{Order}
 use Rattle.model.specs.declared.Order.the-variants.{Before, Same, After}
 use Rattle.text.specs.Parts.{part}
 use Rattle.names.specs.Known.{head-code}
+use lib.Dec.{ltb}
 use Rattle.names.specs.declared.Found.{Found}
 use Rattle.names.specs.declared.Found.the-variants as found
+use Rattle.names.specs.declared.Spelled.{Spelled}
+use Rattle.names.specs.declared.Spelled.the-variants as spelled
 
 -- the name of a number: the part of the file that its row says
 unfoldable pub name-of : List ℕ → List ℕ → ℕ → Name
@@ -48,10 +51,11 @@ unfoldable pub place-from : ℕ → List Name → Name → Option ℕ
 place-from n [] name = none
 place-from n (m ∷ ms) name = let other = place-from (n + 1) ms name in cond (same m name) (some n) other
 
+-- whether the order is that of a name before another
 unfoldable pub is-before : Order → Bool
-is-before Before = mathlib.Core.Bool.true
-is-before Same = mathlib.Core.Bool.false
-is-before After = mathlib.Core.Bool.false
+is-before Before = true
+is-before Same = false
+is-before After = false
 
 -- where a name belongs in byte order: how many names stand before it
 unfoldable pub rank-among : List Name → Name → ℕ
@@ -62,6 +66,7 @@ unfoldable pub found-or : Option ℕ → ℕ → Found
 found-or none rank = found.Missing rank
 found-or (some n) rank = found.At n
 
+-- the number of a name in a list of names, or the rank where it belongs
 unfoldable pub look-up : List Name → Name → Found
 look-up names name = found-or (place-from 0 names name) (rank-among names name)
 
@@ -76,3 +81,13 @@ index-with w many rank =
 unfoldable pub entered : List ℕ → List ℕ → ℕ → ℕ → ℕ → ℕ → List ℕ
 entered file w many a e rank =
     set (set (set (index-with w many rank) many a) (2048 + many) (e - a)) (6144 + many) (head-code (part file a e))
+
+-- what spelling a name comes to, by what the look-up found: at 2,048 names the table is full
+unfoldable pub spell-answer : ℕ → Found → Spelled
+spell-answer many (found.At n) = spelled.Known n
+spell-answer many (found.Missing rank) = cond (ltb many 2048) (spelled.New many) spelled.Full
+
+-- the slice then: only a new name changes it, and a full table changes nothing
+unfoldable pub spell-table : List ℕ → List ℕ → ℕ → ℕ → ℕ → Found → List ℕ
+spell-table file w many a e (found.At n) = w
+spell-table file w many a e (found.Missing rank) = cond (ltb many 2048) (entered file w many a e rank) w

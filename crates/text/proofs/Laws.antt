@@ -359,15 +359,15 @@ module _ (s t : List ℕ) (p e q f : ℕ) where
     order-less d =
         order-cons
         ∙ by-less (compare (getD s p 0) (getD t q 0)) (order (part s (p + 1) e) (part t (q + 1) f))
-          (le-leb (getD s p 0) (getD t q 0) (omega arith))
-          (ne-eqb (getD s p 0) (getD t q 0) (λ b. omega arith))
+        (le-leb (getD s p 0) (getD t q 0) (omega arith))
+        (ne-eqb (getD s p 0) (getD t q 0) (λ b. omega arith))
 
     -- the first part has the larger byte
     pub order-more : getD t q 0 < getD s p 0 → order (part s p e) (part t q f) ≡ After
     order-more d =
         order-cons
         ∙ by-more (compare (getD s p 0) (getD t q 0)) (order (part s (p + 1) e) (part t (q + 1) f))
-          (lt-leb (getD s p 0) (getD t q 0) d)
+        (lt-leb (getD s p 0) (getD t q 0) d)
 
     -- the bytes are equal: on with the next two positions
     pub order-on : (p′ q′ : ℕ) → p′ ≡ p + 1 → q′ ≡ q + 1 → getD s p 0 ≡ getD t q 0 → order (part s p e) (part t q f) ≡ order (part s p′ e) (part t q′ f)
@@ -375,7 +375,7 @@ module _ (s t : List ℕ) (p e q f : ℕ) where
         rw (x, y)
         (order-cons
         ∙ by-equal (compare (getD s p 0) (getD t q 0)) (order (part s (p + 1) e) (part t (q + 1) f))
-          (eq-eqb (getD s p 0) (getD t q 0) d))
+        (eq-eqb (getD s p 0) (getD t q 0) d))
 
     -- the same of whether the parts are the same
     pub same-on : (p′ q′ : ℕ) → p′ ≡ p + 1 → q′ ≡ q + 1 → getD s p 0 ≡ getD t q 0 → same (part s p e) (part t q f) ≡ same (part s p′ e) (part t q′ f)
@@ -388,7 +388,7 @@ module _ (s t : List ℕ) (p e q f : ℕ) where
     same-differ d =
         rw order-cons
         (by-other (compare (getD s p 0) (getD t q 0)) (order (part s (p + 1) e) (part t (q + 1) f))
-          (ne-eqb (getD s p 0) (getD t q 0) d))
+        (ne-eqb (getD s p 0) (getD t q 0) d))
 
 -- a part with too few bytes does not begin with the word
 pub starts-short : (s : List ℕ) (a e : ℕ) (word : Name) → e ≤ length s → e - a < length word → starts-with (part s a e) word ≡ false
@@ -411,4 +411,3 @@ unfolding ends-with
 ends-part s a e word k h l =
     let n : a + (e - a - length word) ≡ e - length word = omega arith in
     rw (part-length s a e k, part-drop s a e (e - a - length word), n)
-

@@ -1,5 +1,5 @@
-use model::{Order, Refusal};
-
+use model::Order;
+use model::Refusal;
 ghost use Prim.Native.Nat.{_≤_};
 ghost use mathlib.Core.Path.{_≡_};
 ghost use lib.ListN.{length};

@@ -46,10 +46,11 @@ loop-less : tie.Need-loop-less Inv-loop μ-loop
 loop-less c = omega arith
 
 loop-again : tie.Need-loop-again Inv-loop μ-loop
-loop-again c =
-    (omega arith,
-    c .before .before .before .before .before .loop .inv .1
-    ∙ all-on is-name-byte _ _ _ (c .before .before .before .before .loop-test .taken) (c .before .before .before .before .before .before .before .before .pre .1) (byte-good _ (c .before .before .if3 .left) (c .before .if4 .left) (c .if5 .left)))
+loop-again c = (
+  omega arith,
+  c .before .before .before .before .before .loop .inv .1
+      ∙ all-on is-name-byte _ _ _ (c .before .before .before .before .loop-test .taken) (c .before .before .before .before .before .before .before .before .pre .1) (byte-good _ (c .before .before .if3 .left) (c .before .if4 .left) (c .if5 .left)),
+)
 
 returns-6 : tie.Need-returns-6 Inv-loop μ-loop
 returns-6 c = sym (c .before .loop .inv .1 ∙ all-end is-name-byte _ _ _ (c .loop-test .left))

@@ -71,10 +71,11 @@ loop-less : tie.Need-loop-less Inv-loop μ-loop
 loop-less c = omega arith
 
 loop-again : tie.Need-loop-again Inv-loop μ-loop
-loop-again c =
-    (omega arith,
-    c .if6 .left,
-    c .before .before .before .before .before .loop .inv .2 ∙ valued-on _ _ _ _ (c .before .before .before .before .loop-test .taken) (c .before .before .before .before .before .before .before .before .before .pre .1) (digit-good _ (c .before .before .if4 .left) (c .before .if5 .left)))
+loop-again c = (
+  omega arith,
+  c .if6 .left,
+  c .before .before .before .before .before .loop .inv .2 ∙ valued-on _ _ _ _ (c .before .before .before .before .loop-test .taken) (c .before .before .before .before .before .before .before .before .before .pre .1) (digit-good _ (c .before .before .if4 .left) (c .before .if5 .left)),
+)
 
 returns-7 : tie.Need-returns-7 Inv-loop μ-loop
 unfolding as-decimal

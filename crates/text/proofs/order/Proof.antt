@@ -9,7 +9,7 @@ use Rattle.text.proofs.order.Statement.{statement}
 use Rattle.text.proofs.order.Tie as tie
 
 abbrev Inv-loop : tie.InvT-loop
-Inv-loop s a e b f i₀ i =     (i ≤ e - a) × (i ≤ f - b) × (Names.order (part s a e) (part s b f) ≡ Names.order (part s (a + i) e) (part s (b + i) f))
+Inv-loop s a e b f i₀ i = (i ≤ e - a) × (i ≤ f - b) × (Names.order (part s a e) (part s b f) ≡ Names.order (part s (a + i) e) (part s (b + i) f))
 
 abbrev μ-loop : tie.MeasureT-loop
 μ-loop s a e b f i₀ i = e - a - i
@@ -61,11 +61,12 @@ loop-less : tie.Need-loop-less Inv-loop μ-loop
 loop-less c = omega arith
 
 loop-again : tie.Need-loop-again Inv-loop μ-loop
-loop-again c =
-    (omega arith,
-    omega arith,
-    c .before .before .before .before .before .before .loop .inv .2
-    ∙ order-on _ _ _ _ _ _ (omega arith) (c .before .before .before .before .before .before .before .pre .1) (omega arith) (c .before .before .before .before .before .before .before .pre .3) _ _ (omega arith) (omega arith) (omega arith))
+loop-again c = (
+  omega arith,
+  omega arith,
+  c .before .before .before .before .before .before .loop .inv .2
+      ∙ order-on _ _ _ _ _ _ (omega arith) (c .before .before .before .before .before .before .before .pre .1) (omega arith) (c .before .before .before .before .before .before .before .pre .3) _ _ (omega arith) (omega arith) (omega arith),
+)
 
 sub-if4 : tie.Need-sub-if4 Inv-loop μ-loop
 sub-if4 c = omega arith

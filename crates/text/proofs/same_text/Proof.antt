@@ -46,10 +46,11 @@ loop-less : tie.Need-loop-less Inv-loop μ-loop
 loop-less c = omega arith
 
 loop-again : tie.Need-loop-again Inv-loop μ-loop
-loop-again c =
-    (omega arith,
-    c .before .before .before .before .loop .inv .1
-    ∙ same-on _ _ _ _ _ _ (omega arith) (c .before .before .before .before .before .before .pre .1) (c .before .before .before .loop-test .taken) (omega arith) _ _ (omega arith) refl (c .if2 .left))
+loop-again c = (
+  omega arith,
+  c .before .before .before .before .loop .inv .1
+      ∙ same-on _ _ _ _ _ _ (omega arith) (c .before .before .before .before .before .before .pre .1) (c .before .before .before .loop-test .taken) (omega arith) _ _ (omega arith) refl (c .if2 .left),
+)
 
 returns-3 : tie.Need-returns-3 Inv-loop μ-loop
 returns-3 c =
