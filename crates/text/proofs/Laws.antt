@@ -1,22 +1,32 @@
 -- What the functions of this crate rest on, said of plain lists: parts of a file, the first mark in one, fields, names, numbers, byte order, lines.
-use Prim.Native.Nat.{ℕ, zero, suc, _+_, _-_, _*_, _≤_, _<_, compare, Ordering, Ordering·lt, Ordering·eq, Ordering·gt}
+use Prim.Native.Nat.{ℕ, zero, suc, _+_, _-_, _*_, _≤_, _<_, zero-le, suc-le-suc, compare, Ordering, Ordering·lt, Ordering·eq, Ordering·gt}
 use native.Mathlib.Numerals.{add-one, one-add}
-use native.Mathlib.Nat.{add-zero, sub-zero, zero-sub, suc-sub-suc}
+use native.Mathlib.Nat.{add-zero, sub-zero, not-suc-le-zero, zero-sub, suc-sub-suc}
 use native.Mathlib.Omega.{arith}
 use mathlib.Core.Path.{_≡_, refl, sym, ap, _∙_}
 use mathlib.Core.Bool.{Bool, true, false, cond, not, _&&_, and-false, true≢false, false≢true}
 use mathlib.Core.List.{List, [], _∷_}
 use mathlib.Core.Option.{Option, none, some}
-use lib.ListN.{length, take, drop, getD, length-take, length-drop}
-use lib.Seq.{drop-cons, take-nil, take-length, take-take, drop-drop}
-use lib.Dec.{leb, eqb, isLe, isEq}
-use borrow.Author.Tests.{eq-eqb, ne-eqb, le-leb, lt-leb}
+use lib.ListN.{length, take, drop, getD, length-take, length-drop, drop-of-length-le}
+use lib.Seq.{drop-cons, take-nil, take-all, take-length, take-take, drop-drop}
+use lib.Dec.{leb, ltb, eqb, isLe, isEq}
+use borrow.Author.Tests.{eq-eqb, ne-eqb, le-leb, lt-leb, lt-ltb, le-ltb, ltb-true, leb-true, leb-false}
 use Rattle.model.specs.Lists.{all, when, _>>=_}
 use Rattle.model.specs.Names.{Name, order, by-byte, same, is-same, starts-with, ends-with}
-use Rattle.model.specs.Lines.{fields, field-cons, is-name-byte, is-name, is-digit, decimal, number}
+use Rattle.model.specs.Lines.{Line, lines, line-cons, Field, fields, field-cons, is-name-byte, is-name, is-digit, decimal, number}
+use Rattle.model.specs.Reading.{Result, ok, refused, need, name-field, number-field, term-field, next, _>>=_ as _>>=ᴿ_}
 use Rattle.model.specs.declared.Order.{Order}
 use Rattle.model.specs.declared.Order.the-variants.{Before, Same, After}
-use Rattle.text.specs.Parts.{part, before, mark-at}
+use Rattle.model.specs.declared.Refusal.{Refusal}
+use Rattle.model.specs.declared.Refusal.the-variants as refusal
+use Rattle.text.specs.declared.Cursor.{Cursor}
+use Rattle.text.specs.declared.Decimal.{Decimal}
+use Rattle.text.specs.declared.Decimal.the-variants as answer
+use Rattle.text.specs.declared.FieldStep.{FieldStep}
+use Rattle.text.specs.declared.FieldStep.the-variants as field
+use Rattle.text.specs.declared.NumberStep.{NumberStep}
+use Rattle.text.specs.declared.NumberStep.the-variants as numbered
+use Rattle.text.specs.Parts.{part, before, mark-at, as-decimal, Placed, fields-left, field-at, as-name, name-at, at-most, as-number, number-at, as-term, term-at, field-result, number-result}
 
 -- ---- parts
 
@@ -269,6 +279,18 @@ pub digit-good : (b : ℕ) → 0x30 ≤ b → b ≤ 0x39 → is-digit b ≡ true
 unfolding is-digit
 digit-good b low high = rw (le-leb 0x30 b low, le-leb b 0x39 high)
 
+-- an answer that is a value is of a number
+decimal-some : (o : Option ℕ) (v : ℕ) → as-decimal o ≡ answer.Value v → o ≡ some v
+unfolding as-decimal
+decimal-some none v h = cc
+decimal-some (some n) v h = cc
+
+-- an answer that is none is of no number
+decimal-none : (o : Option ℕ) → as-decimal o ≡ answer.Nothing → o ≡ none
+unfolding as-decimal
+decimal-none none h = refl
+decimal-none (some n) h = cc
+
 -- ---- byte order
 
 -- a smaller first byte comes first
@@ -411,3 +433,356 @@ unfolding ends-with
 ends-part s a e word k h l =
     let n : a + (e - a - length word) ≡ e - length word = omega arith in
     rw (part-length s a e k, part-drop s a e (e - a - length word), n)
+
+-- ---- what stands from a position on
+
+-- the search for a mark in a part does not go back
+pub mark-from : (mark : ℕ) (s : List ℕ) (at e : ℕ) → at ≤ mark-at mark s at e
+unfolding mark-at
+mark-from mark s at e = omega arith
+
+-- and does not leave the part
+pub mark-to : (mark : ℕ) (s : List ℕ) (at e : ℕ) → at ≤ e → e ≤ length s → mark-at mark s at e ≤ e
+unfolding mark-at
+mark-to mark s at e h k = omega (arith, before-le mark (part s at e), part-length s at e k)
+
+-- the bytes of a part before the first mark
+mark-front : (mark : ℕ) (s : List ℕ) (at e : ℕ) → at ≤ e → e ≤ length s → take (before mark (part s at e)) (part s at e) ≡ part s at (mark-at mark s at e)
+unfolding mark-at
+mark-front mark s at e h k = part-take s at e (before mark (part s at e)) (omega (arith, before-le mark (part s at e), part-length s at e k))
+
+-- the bytes of a part from the first mark on
+mark-back : (mark : ℕ) (s : List ℕ) (at e : ℕ) → drop (before mark (part s at e)) (part s at e) ≡ part s (mark-at mark s at e) e
+unfolding mark-at
+mark-back mark s at e = part-drop s at e (before mark (part s at e))
+
+-- the fields after the comma at m, if m is not the end
+after-part : (s : List ℕ) (m e : ℕ) → m ≤ e → e ≤ length s → fields-after (part s m e) ≡ cond (leb (m + 1) e) (fields (part s (m + 1) e)) []
+unfolding fields-after
+after-part s m e h k = go (leb (m + 1) e) refl
+  where
+    go : (t : Bool) → leb (m + 1) e ≡ t → fields-after (part s m e) ≡ cond t (fields (part s (m + 1) e)) []
+    go true d = rw (part-cons s m e (omega (arith, leb-true (m + 1) e d)) k)
+    go false d = rw (part-nil s m e (omega (arith, leb-false (m + 1) e d)))
+
+-- the fields of a part: the bytes up to the first comma, then the fields after it
+fields-part : (s : List ℕ) (at e : ℕ) → at ≤ e → e ≤ length s
+    → fields (part s at e) ≡ part s at (mark-at 0x2c s at e) ∷ cond (leb (mark-at 0x2c s at e + 1) e) (fields (part s (mark-at 0x2c s at e + 1) e)) []
+fields-part s at e h k =
+    rw (fields-split (part s at e), mark-front 0x2c s at e h k, mark-back 0x2c s at e, after-part s (mark-at 0x2c s at e) e (mark-to 0x2c s at e h k) k)
+
+-- whether a list has an element
+some-left : List ℕ → Bool
+some-left [] = false
+some-left (b ∷ bs) = true
+
+-- the line of the first n bytes, and the lines after the byte that ends it
+lines-at : ℕ → List ℕ → List Line
+lines-at n l = record { bytes = take n l; ended = some-left (drop n l) } ∷ lines (drop 1 (drop n l))
+
+-- the lines of bytes that are not none: the first 0A parts them
+lines-split : (l : List ℕ) → 0 < length l → lines l ≡ lines-at (before 0x0a l) l
+unfolding lines line-cons before some-left lines-at
+lines-split [] h = absurd (not-suc-le-zero h)
+lines-split (b ∷ bs) h = go bs (eqb b 0x0a) (lines-split bs)
+  where
+    go : (bs : List ℕ) (t : Bool) → (0 < length bs → lines bs ≡ lines-at (before 0x0a bs) bs)
+        → cond t (record { bytes = []; ended = true } ∷ lines bs) (line-cons b (lines bs)) ≡ lines-at (cond t 0 (1 + before 0x0a bs)) (b ∷ bs)
+    go bs true more = refl
+    go [] false more = refl
+    go (c ∷ cs) false more = rw (more (suc-le-suc zero-le), one-add (before 0x0a (c ∷ cs)))
+
+-- the part from a position to the end of the list
+part-rest : (s : List ℕ) (at : ℕ) → part s at (length s) ≡ drop at s
+part-rest s at = take-all (length s - at) (drop at s) (rw (length-drop) (omega arith))
+
+-- the lines from a position on: the bytes up to the first 0A, and the lines after it
+lines-part : (s : List ℕ) (at e : ℕ) → at < length s → e ≡ mark-at 0x0a s at (length s)
+    → lines (drop at s) ≡ record { bytes = part s at e; ended = some-left (part s e (length s)) } ∷ lines (drop (e + 1) s)
+unfolding lines-at
+lines-part s at e h m =
+    ap lines (sym (part-rest s at))
+    ∙ lines-split (part s at (length s)) (rw (part-length s at (length s) (omega arith)) (omega arith))
+    ∙ rw (
+      m,
+      mark-front 0x0a s at (length s) (omega arith) (omega arith),
+      mark-back 0x0a s at (length s),
+      part-rest s (mark-at 0x0a s at (length s)),
+      drop-drop 1 (mark-at 0x0a s at (length s)) s,
+    )
+
+-- a line that a 0A ends, at e
+pub line-ended : (s : List ℕ) (at e : ℕ) → at < length s → e ≡ mark-at 0x0a s at (length s) → e < length s
+    → lines (drop at s) ≡ record { bytes = part s at e; ended = true } ∷ lines (drop (e + 1) s)
+unfolding some-left
+line-ended s at e h m k = lines-part s at e h m ∙ rw (part-cons s e (length s) k (omega arith))
+
+-- the last line, that no 0A ends
+pub line-last : (s : List ℕ) (at e : ℕ) → at < length s → e ≡ mark-at 0x0a s at (length s) → e ≡ length s
+    → lines (drop at s) ≡ record { bytes = part s at e; ended = false } ∷ []
+unfolding some-left lines
+line-last s at e h m k = lines-part s at e h m ∙ rw (part-nil s e (length s) (omega arith), drop-of-length-le s {i = e + 1} (omega arith))
+
+-- ---- cursors
+
+-- a cursor past its end has no field
+pub field-none : (s : List ℕ) (c : Cursor) → c .end < c .at → field-at s c ≡ field.Refused refusal.Form
+unfolding field-at
+field-none s c h = rw (lt-leb (c .at) (c .end) h)
+
+-- any other cursor has a field, up to m
+pub field-some : (s : List ℕ) (c : Cursor) (m : ℕ) → c .at ≤ c .end → m ≡ mark-at 0x2c s (c .at) (c .end)
+    → field-at s c ≡ field.Part (c .at) m (record { at = m + 1; end = c .end })
+unfolding field-at
+field-some s c m h k = rw (k, le-leb (c .at) (c .end) h)
+
+-- the next field, and the fields after it
+pub field-law : (s : List ℕ) (c : Cursor) → Placed s c → field-result s (field-at s c) ≡ next ok (fields-left s c)
+unfolding field-result next fields-left
+field-law s c p = go (leb (c .at) (c .end)) refl
+  where
+    go : (t : Bool) → leb (c .at) (c .end) ≡ t → field-result s (field-at s c) ≡ next ok (cond t (fields (part s (c .at) (c .end))) [])
+    go true d =
+        let h = leb-true (c .at) (c .end) d in
+        rw (field-some s c (mark-at 0x2c s (c .at) (c .end)) h refl, fields-part s (c .at) (c .end) h (p .inside))
+    go false d = rw (field-none s c (leb-false (c .at) (c .end) d))
+
+-- where no field is answered, no name and no number is
+module _ (s : List ℕ) (c : Cursor) (r : Refusal) (h : field-at s c ≡ field.Refused r) where
+  pub name-refused : name-at s c ≡ field.Refused r
+  unfolding name-at as-name
+  name-refused = rw h
+
+  pub number-refused : (limit : ℕ) → number-at limit s c ≡ numbered.Refused r
+  unfolding number-at as-number
+  number-refused limit = rw h
+
+-- where a field is answered, the test of its bytes decides
+module _ (s : List ℕ) (c : Cursor) (a e : ℕ) (n : Cursor) (h : field-at s c ≡ field.Part a e n) where
+  -- a field that is a name
+  pub name-good : true ≡ is-name (part s a e) → name-at s c ≡ field.Part a e n
+  unfolding name-at as-name
+  name-good t = rw (h, ← t)
+
+  -- a field that is no name
+  pub name-bad : false ≡ is-name (part s a e) → name-at s c ≡ field.Refused refusal.Name
+  unfolding name-at as-name
+  name-bad t = rw (h, ← t)
+
+  -- a field that is no number
+  pub number-none : (limit : ℕ) → as-decimal (number (part s a e)) ≡ answer.Nothing → number-at limit s c ≡ numbered.Refused refusal.Number
+  unfolding number-at as-number at-most
+  number-none limit d = rw (h, decimal-none (number (part s a e)) d)
+
+  -- a field that is a number of at most `limit`
+  pub number-good : (limit v : ℕ) → as-decimal (number (part s a e)) ≡ answer.Value v → v ≤ limit → number-at limit s c ≡ numbered.Number v n
+  unfolding number-at as-number at-most
+  number-good limit v d k = rw (h, decimal-some (number (part s a e)) v d, le-leb v limit k)
+
+  -- a field that is a larger number
+  pub number-over : (limit v : ℕ) → as-decimal (number (part s a e)) ≡ answer.Value v → limit < v → number-at limit s c ≡ numbered.Refused refusal.Number
+  unfolding number-at as-number at-most
+  number-over limit v d k = rw (h, decimal-some (number (part s a e)) v d, lt-leb v limit k)
+
+-- where no number is answered, no term is
+pub term-refused : (count : ℕ) (s : List ℕ) (c : Cursor) (r : Refusal) → number-at 65535 s c ≡ numbered.Refused r → term-at count s c ≡ numbered.Refused r
+unfolding term-at as-term
+term-refused count s c r h = rw h
+
+-- a number below `count` is a term
+pub term-good : (count : ℕ) (s : List ℕ) (c : Cursor) (v : ℕ) (n : Cursor) → number-at 65535 s c ≡ numbered.Number v n → v < count → term-at count s c ≡ numbered.Number v n
+unfolding term-at as-term
+term-good count s c v n h k = rw (h, lt-ltb v count k)
+
+-- any other number is not
+pub term-over : (count : ℕ) (s : List ℕ) (c : Cursor) (v : ℕ) (n : Cursor) → number-at 65535 s c ≡ numbered.Number v n → count ≤ v → term-at count s c ≡ numbered.Refused refusal.Term
+unfolding term-at as-term
+term-over count s c v n h k = rw (h, le-ltb v count k)
+
+-- a function of a choice is the choice of what it gives
+choice : {A B : Type 0} (f : A → B) (t : Bool) (x y : A) → f (cond t x y) ≡ cond t (f x) (f y)
+choice f true x y = refl
+choice f false x y = refl
+
+module _ {A : Type 0} where
+  -- a value, with the fields after it
+  with-rest : List Field → Result A → Result (A × List Field)
+  with-rest fs r = r >>=ᴿ λ a. ok (a, fs)
+
+  -- a field and those after it, the field judged
+  judged : (Field → Result A) → Result (Field × List Field) → Result (A × List Field)
+  judged judge (ok f) = with-rest (f .1) (judge (f .0))
+  judged judge (refused r) = refused r
+
+  -- the next field is judged as it is read
+  next-judged : (judge : Field → Result A) (fs : List Field) → next judge fs ≡ judged judge (next ok fs)
+  unfolding next judged with-rest
+  next-judged judge [] = refl
+  next-judged judge (f ∷ fs) = refl
+
+-- a field taken for a name
+as-name-law : (s : List ℕ) (step : FieldStep) → field-result s (as-name s step) ≡ judged name-field (field-result s step)
+unfolding field-result as-name judged with-rest name-field
+as-name-law s (field.Refused r) = refl
+as-name-law s (field.Part a e n) =
+    let t = is-name (part s a e) in
+    choice (field-result s) t (field.Part a e n) (field.Refused refusal.Name)
+    ∙ sym (choice (with-rest (fields-left s n)) t (ok (part s a e)) (refused refusal.Name))
+
+-- a field taken for a number
+as-number-law : (limit : ℕ) (s : List ℕ) (step : FieldStep) → number-result s (as-number limit s step) ≡ judged (number-field limit) (field-result s step)
+unfolding field-result number-result as-number at-most judged with-rest number-field need
+as-number-law limit s (field.Refused r) = refl
+as-number-law limit s (field.Part a e n) = go (number (part s a e))
+  where
+    go : (o : Option ℕ) → number-result s (at-most limit n o) ≡ with-rest (fields-left s n) (need refusal.Number o >>=ᴿ λ m. cond (leb m limit) (ok m) (refused refusal.Number))
+    go none = refl
+    go (some m) =
+        choice (number-result s) (leb m limit) (numbered.Number m n) (numbered.Refused refusal.Number)
+        ∙ sym (choice (with-rest (fields-left s n)) (leb m limit) (ok m) (refused refusal.Number))
+
+-- a number, where it names one of `count` terms
+narrowed : ℕ → Result (ℕ × List Field) → Result (ℕ × List Field)
+narrowed count (ok n) = cond (ltb (n .0) count) (ok n) (refused refusal.Term)
+narrowed count (refused r) = refused r
+
+-- a number taken for a term
+as-term-law : (count : ℕ) (s : List ℕ) (step : NumberStep) → number-result s (as-term count step) ≡ narrowed count (number-result s step)
+unfolding number-result as-term narrowed
+as-term-law count s (numbered.Refused r) = refl
+as-term-law count s (numbered.Number m n) = choice (number-result s) (ltb m count) (numbered.Number m n) (numbered.Refused refusal.Term)
+
+-- a term field is a number field that is narrowed
+term-judged : (count : ℕ) (r : Result (Field × List Field)) → narrowed count (judged (number-field 65535) r) ≡ judged (term-field count) r
+unfolding narrowed judged with-rest term-field
+term-judged count (refused r) = refl
+term-judged count (ok f) = go (number-field 65535 (f .0))
+  where
+    go : (v : Result ℕ) → narrowed count (with-rest (f .1) v) ≡ with-rest (f .1) (v >>=ᴿ λ n. cond (ltb n count) (ok n) (refused refusal.Term))
+    go (refused r) = refl
+    go (ok n) = sym (choice (with-rest (f .1)) (ltb n count) (ok n) (refused refusal.Term))
+
+-- the next field, a name, and the fields after it
+pub name-law : (s : List ℕ) (c : Cursor) → Placed s c → field-result s (name-at s c) ≡ next name-field (fields-left s c)
+unfolding name-at
+name-law s c p = as-name-law s (field-at s c) ∙ ap (judged name-field) (field-law s c p) ∙ sym (next-judged name-field (fields-left s c))
+
+-- the next field, a number, and the fields after it
+pub number-law : (limit : ℕ) (s : List ℕ) (c : Cursor) → Placed s c → number-result s (number-at limit s c) ≡ next (number-field limit) (fields-left s c)
+unfolding number-at
+number-law limit s c p =
+    as-number-law limit s (field-at s c)
+    ∙ ap (judged (number-field limit)) (field-law s c p)
+    ∙ sym (next-judged (number-field limit) (fields-left s c))
+
+-- the next field, a term, and the fields after it
+pub term-law : (count : ℕ) (s : List ℕ) (c : Cursor) → Placed s c → number-result s (term-at count s c) ≡ next (term-field count) (fields-left s c)
+unfolding term-at
+term-law count s c p =
+    as-term-law count s (number-at 65535 s c)
+    ∙ ap (narrowed count) (number-law 65535 s c p ∙ next-judged (number-field 65535) (fields-left s c))
+    ∙ term-judged count (next ok (fields-left s c))
+    ∙ sym (next-judged (term-field count) (fields-left s c))
+
+-- ---- what a step of a cursor answers
+
+-- a cursor that stands further on in the same line
+pub record Onward (s : List ℕ) (c n : Cursor) : Type 0 where
+  pub further : c .at < n .at
+  pub bounded : n .at ≤ c .end + 1
+  pub stays : n .end ≡ c .end
+  pub placed : Placed s n
+
+-- a field that was read from a up to e: it starts at the cursor, lies in the file, and the next cursor stands past it
+pub record Stepped (s : List ℕ) (c : Cursor) (a e : ℕ) (n : Cursor) : Type 0 where
+  pub start : a ≡ c .at
+  pub ordered : a ≤ e
+  pub inside : e ≤ length s
+  pub past : n .at ≡ e + 1
+  pub onward : Onward s c n
+
+-- no refusal is a field
+field-apart : (r : Refusal) (a e : ℕ) (n : Cursor) → field.Refused r ≡ field.Part a e n → ⊥
+field-apart r a e n h = let z : _≡_ {A = ℕ} 0 1 = cc in omega arith
+
+-- no refusal is a number
+number-apart : (r : Refusal) (v : ℕ) (n : Cursor) → numbered.Refused r ≡ numbered.Number v n → ⊥
+number-apart r v n h = let z : _≡_ {A = ℕ} 0 1 = cc in omega arith
+
+-- a choice that is not the second is the first
+chosen : {A : Type 0} (t : Bool) (x y z : A) → (y ≡ z → ⊥) → cond t x y ≡ z → (t ≡ true) × (x ≡ z)
+chosen true x y z other h = (refl, h)
+chosen false x y z other h = absurd (other h)
+
+-- a field that is answered was read
+pub field-next : (s : List ℕ) (c : Cursor) (a e : ℕ) (n : Cursor) → Placed s c → field-at s c ≡ field.Part a e n → Stepped s c a e n
+field-next s c a e n p h = go (leb (c .at) (c .end)) refl
+  where
+    go : (t : Bool) → leb (c .at) (c .end) ≡ t → Stepped s c a e n
+    go true d =
+        let k = leb-true (c .at) (c .end) d in
+        let m = mark-at 0x2c s (c .at) (c .end) in
+        let w = field-some s c m k refl in
+        let x : c .at ≡ a = cc in
+        let y : m ≡ e = cc in
+        let z : record { at = m + 1; end = c .end } ≡ n = cc in
+        let u = ap (λ (q : Cursor). q .at) z in
+        let v = ap (λ (q : Cursor). q .end) z in
+        omega (arith, mark-from 0x2c s (c .at) (c .end), mark-to 0x2c s (c .at) (c .end) k (p .inside))
+    go false d = absurd (field-apart refusal.Form a e n (sym (field-none s c (leb-false (c .at) (c .end) d)) ∙ h))
+
+-- a name that is answered is a field that was answered, and is a name
+as-name-part : (s : List ℕ) (step : FieldStep) (a e : ℕ) (n : Cursor) → as-name s step ≡ field.Part a e n → (step ≡ field.Part a e n) × (is-name (part s a e) ≡ true)
+unfolding as-name
+as-name-part s (field.Refused r) a e n h = absurd (field-apart r a e n h)
+as-name-part s (field.Part a′ e′ n′) a e n h =
+    let (d, k) = chosen (is-name (part s a′ e′)) (field.Part a′ e′ n′) (field.Refused refusal.Name) (field.Part a e n) (field-apart refusal.Name a e n) h in
+    let x : a′ ≡ a = cc in
+    let y : e′ ≡ e = cc in
+    (k, rw (← x, ← y) d)
+
+-- a name that is answered was read, and is a name
+pub name-next : (s : List ℕ) (c : Cursor) (a e : ℕ) (n : Cursor) → Placed s c → name-at s c ≡ field.Part a e n → Stepped s c a e n × (is-name (part s a e) ≡ true)
+unfolding name-at
+name-next s c a e n p h =
+    let (k, d) = as-name-part s (field-at s c) a e n h in
+    (field-next s c a e n p k, d)
+
+-- a number that is answered is that of a field that was answered, and at most `limit`
+as-number-part : (limit : ℕ) (s : List ℕ) (step : FieldStep) (v : ℕ) (n : Cursor) → as-number limit s step ≡ numbered.Number v n
+    → (a : ℕ) × (e : ℕ) × (step ≡ field.Part a e n) × (v ≤ limit)
+unfolding as-number at-most
+as-number-part limit s (field.Refused r) v n h = absurd (number-apart r v n h)
+as-number-part limit s (field.Part a e n′) v n h =
+    let (k, l) = go (number (part s a e)) h in
+    (a, e, ap (field.Part a e) k, l)
+  where
+    go : (o : Option ℕ) → at-most limit n′ o ≡ numbered.Number v n → (n′ ≡ n) × (v ≤ limit)
+    go none h = absurd (number-apart refusal.Number v n h)
+    go (some m) h =
+        let (d, k) = chosen (leb m limit) (numbered.Number m n′) (numbered.Refused refusal.Number) (numbered.Number v n) (number-apart refusal.Number v n) h in
+        let x : m ≡ v = cc in
+        (cc, omega (arith, leb-true m limit d))
+
+-- a number that is answered is at most `limit`, and the next cursor stands further on
+pub number-next : (limit : ℕ) (s : List ℕ) (c : Cursor) (v : ℕ) (n : Cursor) → Placed s c → number-at limit s c ≡ numbered.Number v n → Onward s c n × (v ≤ limit)
+unfolding number-at
+number-next limit s c v n p h =
+    let (a, e, k, l) = as-number-part limit s (field-at s c) v n h in
+    (field-next s c a e n p k .onward, l)
+
+-- a term that is answered is a number that was answered, and below `count`
+as-term-part : (count : ℕ) (step : NumberStep) (v : ℕ) (n : Cursor) → as-term count step ≡ numbered.Number v n → (step ≡ numbered.Number v n) × (v < count)
+unfolding as-term
+as-term-part count (numbered.Refused r) v n h = absurd (number-apart r v n h)
+as-term-part count (numbered.Number m n′) v n h =
+    let (d, k) = chosen (ltb m count) (numbered.Number m n′) (numbered.Refused refusal.Term) (numbered.Number v n) (number-apart refusal.Term v n) h in
+    let x : m ≡ v = cc in
+    (k, omega (arith, ltb-true m count d))
+
+-- a term that is answered is below `count`, and the next cursor stands further on
+pub term-next : (count : ℕ) (s : List ℕ) (c : Cursor) (v : ℕ) (n : Cursor) → Placed s c → term-at count s c ≡ numbered.Number v n → Onward s c n × (v < count)
+unfolding term-at
+term-next count s c v n p h =
+    let (k, l) = as-term-part count (number-at 65535 s c) v n h in
+    (number-next 65535 s c v n p k .0, l)
