@@ -1,1 +1,5 @@
-pub mod Cases
+pub mod ListLaws
+pub mod SetLaws
+mod Printing
+mod Cases
+mod Edges

@@ -1,7 +1,7 @@
 -- The answer of the whole call: document 01, "Who can cause a refusal", with the refusals 7, 8 and 9.
 use Prim.Native.Nat.{ℕ}
 use mathlib.Core.Bool.{Bool, cond}
-use mathlib.Core.List.{List, [], _∷_, _++_}
+use mathlib.Core.List.{List, _++_}
 use lib.ListN.{length, drop, replicate}
 use lib.Dec.{leb, ltb, eqb}
 use Rattle.model.specs.Lists.{any}
@@ -12,7 +12,6 @@ use Rattle.model.specs.Kept.{kept}
 use Rattle.model.specs.declared.Answer.{Answer}
 use Rattle.model.specs.declared.Refusal.{Refusal}
 use Rattle.model.specs.declared.Refusal.the-variants as refusal
-use Rattle.model.specs.declared.Verdict.{Verdict}
 use Rattle.model.specs.declared.Verdict.the-variants.{Accepted, Refused}
 
 -- document 01's number of a refusal
@@ -27,7 +26,7 @@ refusal-number refusal.Working = 7
 refusal-number refusal.Room = 8
 refusal-number refusal.Size = 9
 
--- what a call comes to: a refusal and its place, or the kept lines, the visits and the rounds
+-- what a call comes to: a refusal and its place; or the kept lines, the visits and the rounds, in this order
 pub data Outcome : Type 0 where
   refusal-at : Refusal → ℕ → Outcome
   list : List ℕ → ℕ → ℕ → Outcome

@@ -1,7 +1,7 @@
 -- Reading a file, line after line: document 01, "The file" and "Who can cause a refusal", the refusals 1 to 6.
 use Prim.Native.Nat.{ℕ, zero, suc, _+_, _/_, _%_, max}
 use Prim.Native.String.{String}
-use mathlib.Core.Bool.{Bool, true, false, cond, not, Bool·beq}
+use mathlib.Core.Bool.{Bool, cond, not, Bool·beq}
 use mathlib.Core.List.{List, [], _∷_, _++_, map}
 use mathlib.Core.Option.{Option, none, some}
 use lib.ListN.{length}
@@ -11,7 +11,6 @@ use Rattle.model.specs.Names.{Name, bytes, same, mem}
 use Rattle.model.specs.Lines.{Line, lines, Field, fields, is-name, number}
 use Rattle.model.specs.Terms.{Node, FreeV, Leaf, Call, App, Forall, Exists, Let, Labeled, Term, add-term, references}
 use Rattle.model.specs.Summaries.{Fact, free-top-level-names, summarize-assumption}
-use Rattle.model.specs.declared.AsumKind.{AsumKind}
 use Rattle.model.specs.declared.LineKind.{LineKind}
 use Rattle.model.specs.declared.LineKind.the-variants as kind
 use Rattle.model.specs.declared.Op.{Op}
@@ -129,7 +128,7 @@ groups count (suc g) fs = do
   (gs, fs₃) ← groups count g fs₂
   ok (ts ∷ gs, fs₃)
 
--- what a line says
+-- what a line says, in the order of its fields
 pub data Content : Type 0 where
   ask : ℕ → ℕ → Content
   term : Node → Content

@@ -21,7 +21,7 @@ facts (Sum-definefun d ∷ decls) = facts decls
 facts (Sum-declfun d ∷ decls) = facts decls
 facts (Sum-retain names ∷ decls) = facts decls
 
--- its definitions
+-- the definitions of a file, in file order
 unfoldable pub definitions : List Summary → List Decl
 definitions [] = []
 definitions (Sum-assume f ∷ decls) = definitions decls
@@ -29,7 +29,7 @@ definitions (Sum-definefun d ∷ decls) = d ∷ definitions decls
 definitions (Sum-declfun d ∷ decls) = definitions decls
 definitions (Sum-retain names ∷ decls) = definitions decls
 
--- its declarations
+-- the declarations of a file, in file order
 unfoldable pub declarations : List Summary → List Decl
 declarations [] = []
 declarations (Sum-assume f ∷ decls) = declarations decls
@@ -37,7 +37,7 @@ declarations (Sum-definefun d ∷ decls) = declarations decls
 declarations (Sum-declfun d ∷ decls) = d ∷ declarations decls
 declarations (Sum-retain names ∷ decls) = declarations decls
 
--- its macros: a def's name opens to its term's free names; the five of the start, unless a def replaces them
+-- the macros of a file: a def's name opens to its term's free names; the five of the start, unless a def replaces them
 unfoldable pub macros : List Summary → Map (List Name)
 macros decls = map (λ d. (d .name, d .free-names)) (definitions decls) ++ init-macro-freenames
 
@@ -114,7 +114,7 @@ is-ambient Drop = false
 is-ambient (Ambient is-root) = true
 is-ambient (Triggers n) = false
 
--- whether it is an ambient root
+-- whether a summary is that of an ambient root
 unfoldable pub is-ambient-root : AsumKind → Bool
 is-ambient-root Drop = false
 is-ambient-root (Ambient is-root) = is-root

@@ -7,7 +7,7 @@ use mathlib.Core.Option.{Option, none, some, Option·getD}
 use lib.ListN.{length, take}
 use lib.Dec.{eqb}
 use Rattle.model.specs.Lists.{collect, fold-left, holds, is-nil, or-else, when, _>>=_}
-use Rattle.model.specs.Names.{Name, bytes, same, add, union, diff, from-list, starts-with, ends-with}
+use Rattle.model.specs.Names.{Name, bytes, same, union, diff, from-list, starts-with, ends-with}
 use Rattle.model.specs.Terms.{Node, FreeV, Leaf, Call, App, Forall, Exists, Let, Labeled, Term, term}
 use Rattle.model.specs.declared.Op.{Op}
 use Rattle.model.specs.declared.Op.the-variants.{TrueOp, Iff, Eq, And, Other}

@@ -1,4 +1,4 @@
-// Why a file or a call is refused. Document 01's number of each is `refusal-number` of specs/Answer.antt.
+// Why a file or a call is refused. Document 01's number of each is `refusal-number` of specs/Outcome.antt.
 pub enum Refusal {
     Form,
     Name,
