@@ -20,7 +20,8 @@ pub enum Spelled {
 }
 
 // The known names in the order of their codes.
-const KNOWN: &[u8] = b"SFuel,ZFuel,HasType";
+const KNOWN: [u8; 249] =
+    *b"SFuel,ZFuel,HasType,HasTypeZ,HasTypeFuel,Valid,ApplyTT,ApplyTF,Prims.lex_t,is-BoxBool,is-BoxInt,is-BoxString,is-BoxReal,is-BoxProp,BoxBool,BoxInt,BoxString,BoxReal,BoxProp,Prims.squash,Prims.hasEq,IsTotFun,is-Tm_arrow,Term_constr_id,__uu__PartialApp";
 
 // The word at a place of a slice.
 fn at(w: &[u32], i: usize) -> usize
@@ -35,7 +36,25 @@ pub fn head_code(file: &[u8], a: usize, e: usize) -> u32
     requires { ⌜ (a ≤ e) × (e ≤ length (now file)) ⌝ }
     ensures { λ r. ⌜ r ≡ head-code (part (now (file .entry)) a e) ⌝ }
 {
+    let known = KNOWN;
+    let mut code: u32 = 1;
+    let mut i: usize = 0;
+    while i <= 249 {
+        let stop = text::find(&known, b',', i, 249);
+        if text::same_text(file, a, e, &known[i..stop]) {
+            return code;
+        }
+        code += 1;
+        i = stop + 1;
+    }
     0
+}
+
+// The order of the name of a number and of the part from `a` up to `e`.
+fn compare(file: &[u8], w: &[u32], n: usize, a: usize, e: usize) -> Order {
+    let start = at(w, n);
+    let len = at(w, 2048 + n);
+    text::order(file, start, start + len, a, e)
 }
 
 // The number of the name from `a` up to `e`, or the rank where it belongs: a binary search in the byte-order index.
@@ -43,7 +62,24 @@ pub fn look_up(file: &[u8], w: &[u32], many: usize, a: usize, e: usize) -> Found
     requires { ⌜ Table (now file) (now w) many × (a ≤ e) × (e ≤ length (now file)) ⌝ }
     ensures { λ r. ⌜ r ≡ look-up (names-of (now (file .entry)) (now (w .entry)) many) (part (now (file .entry)) a e) ⌝ }
 {
-    Found::Missing(0)
+    let mut low: usize = 0;
+    let mut high = many;
+    while low < high {
+        let middle = low + (high - low) / 2;
+        let n = at(w, 4096 + middle);
+        match compare(file, w, n, a, e) {
+            Order::Before => {
+                low = middle + 1;
+            }
+            Order::Same => {
+                return Found::At(n);
+            }
+            Order::After => {
+                high = middle;
+            }
+        }
+    }
+    Found::Missing(low)
 }
 
 // Spells the name from `a` up to `e`: a new one takes the number `many`, unless the table is full.
@@ -52,7 +88,32 @@ pub fn spell(file: &[u8], w: &mut [u32], many: usize, a: usize, e: usize) -> Spe
     ensures answer { λ r. ⌜ r ≡ spell-answer many (look-up (names-of (now (file .entry)) (now (w .entry)) many) (part (now (file .entry)) a e)) ⌝ }
     ensures table { λ r. ⌜ now (w .exit) ≡ spell-table (now (file .entry)) (now (w .entry)) many a e (look-up (names-of (now (file .entry)) (now (w .entry)) many) (part (now (file .entry)) a e)) ⌝ }
 {
-    Spelled::Full
+    match look_up(file, w, many, a, e) {
+        Found::At(n) => Spelled::Known(n),
+        Found::Missing(rank) => enter(file, w, many, a, e, rank),
+    }
+}
+
+// Enters the name from `a` up to `e`, which belongs at a rank: it takes the number `many`, unless the table is full.
+fn enter(file: &[u8], w: &mut [u32], many: usize, a: usize, e: usize, rank: usize) -> Spelled {
+    if 2048 <= many {
+        return Spelled::Full;
+    }
+    put_index(w, many, rank);
+    w[many] = a as u32;
+    w[2048 + many] = (e - a) as u32;
+    w[6144 + many] = head_code(file, a, e);
+    Spelled::New(many)
+}
+
+// Puts the number `many` into the byte-order index at a rank, the later ranks moved up by one.
+fn put_index(w: &mut [u32], many: usize, rank: usize) {
+    let mut i = many;
+    while rank < i {
+        w[4096 + i] = w[4096 + i - 1];
+        i -= 1;
+    }
+    w[4096 + rank] = many as u32;
 }
 
 // The part of the file that holds a name's bytes.
