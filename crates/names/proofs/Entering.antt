@@ -156,6 +156,12 @@ shift-end old new many i rank q h room s =
 
 -- ---- the slice with one name more
 
+-- the index with one number more, and then the new row, is the slice with one name more
+pub entered-row : (file w l : List ℕ) (many a e rank code : ℕ) → l ≡ index-with w many rank → code ≡ head-code (part file a e)
+    → set (set (set l many a) (2048 + many) (e - a)) (6144 + many) code ≡ entered file w many a e rank
+unfolding entered
+entered-row file w l many a e rank code p q = rw (p, q)
+
 module _ (file w : List ℕ) (many a e rank : ℕ) (h : rank ≤ many) (few : many < 2048) (room : 16384 ≤ length w) where
   within : 4096 + many < length w
   within = omega arith

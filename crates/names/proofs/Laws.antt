@@ -17,6 +17,7 @@ use Rattle.model.specs.declared.Order.{Order}
 use Rattle.model.specs.declared.Order.the-variants.{Before, Same, After}
 use Rattle.model.proofs.ListLaws.{T-dec, T-true, T-false, false-T, any-append, cond-true, cond-false, count-append}
 use Rattle.model.proofs.SetLaws.{order-refl, order-same, order-flip, order-trans, order-irrefl, Compared, first, equal, second, compared, same-refl, same-eq, mem-cons, mem-first, mem-later, mem-append, add-mem, Ascending, empty, one, more, ascending-tail, ascending-head, ascending-cons, ascending-add, ascending-ext}
+use Rattle.text.specs.Parts.{part}
 use Rattle.names.specs.declared.Found.{Found}
 use Rattle.names.specs.declared.Found.the-variants.{At, Missing}
 use Rattle.names.specs.Table.{name-of, ranked, names-of, Table, place-from, is-before, rank-among, found-or, look-up}
@@ -261,6 +262,20 @@ names-intro file w many n h = rw (names-listed file w many) (listed-intro (name-
 pub names-elim : (file w : List ℕ) (many : ℕ) (name : Name) → T (mem name (names-of file w many)) → (n : ℕ) × (n < many) × (name ≡ name-of file w n)
 names-elim file w many name t = listed-elim (name-of file w) many name (rw (names-listed file w many) at t)
 
+-- the part of the file that a row says is the name of its number
+pub name-row : (file w : List ℕ) (n start size : ℕ) → start ≡ getD w n 0 → size ≡ getD w (2048 + n) 0 → part file start (start + size) ≡ name-of file w n
+unfolding name-of
+name-row file w n start size p q = rw (p, q)
+
+-- and so is the order of it and a name
+pub order-row : (file w : List ℕ) (n start size : ℕ) (name : Name) → start ≡ getD w n 0 → size ≡ getD w (2048 + n) 0
+    → order (part file start (start + size)) name ≡ order (name-of file w n) name
+order-row file w n start size name p q = rw (name-row file w n start size p q)
+
+-- the order of a rank's name, from the number that was read there and the order that was answered
+pub met : (file w : List ℕ) (m n : ℕ) (name : Name) (r o : Order) → n ≡ ranked w m → r ≡ order (name-of file w n) name → r ≡ o → order (name-at file w m) name ≡ o
+met file w m n name r o p q t = rw (← p) (sym q ∙ t)
+
 -- a name that a table lacks: the names at the ranks below one stand before it, and the others after it
 pub record Lacks (file w : List ℕ) (many : ℕ) (name : Name) (rank : ℕ) : Type 0 where
   pub within : rank ≤ many
@@ -299,6 +314,19 @@ module _ {file w : List ℕ} {many : ℕ} (table : Table file w many) where
     λ t. let (n, h, e) = names-elim file w many name t in let (r, l, d) = table .each n h in rw (e, ← d) (listed-intro (name-at file w) many r l),
     λ t. let (r, h, e) = listed-elim (name-at file w) many name t in rw e (names-intro file w many (ranked w r) (table .numbers r h)),
   )
+
+  -- where a rank's name stands before a name, those of the lower ranks do
+  pub all-before : (m : ℕ) (name : Name) → m < many → order (name-at file w m) name ≡ Before → (q : ℕ) → q < m + 1 → order (name-at file w q) name ≡ Before
+  all-before m name h p q l =
+      ⊎-elim (λ e. rw e p) (λ k. order-trans (name-at file w q) (name-at file w m) name (table .ascending q m k h) p) (last-or m (omega arith))
+
+  -- where a rank's name stands after a name, those of the higher ranks do
+  pub all-after : (m : ℕ) (name : Name) → order (name-at file w m) name ≡ After → (q : ℕ) → m ≤ q → q < many → order (name-at file w q) name ≡ After
+  all-after m name p q l k =
+      ⊎-elim
+      (λ e. rw (← e) p)
+      (λ h. order-flip name (name-at file w q) .0 (order-trans name (name-at file w m) (name-at file w q) (order-flip name (name-at file w m) .1 p) (table .ascending m q h k)))
+      (eq-or-lt-of-le l)
 
   -- a name that stands at a rank is found there
   pub look-up-at : (r : ℕ) (name : Name) → r < many → name-at file w r ≡ name → look-up (names-of file w many) name ≡ At (ranked w r)

@@ -1,22 +1,17 @@
+use native.Mathlib.Omega.{arith}
 use borrow.Author.Needs.{needs}
 use Rattle.names.proofs.at.Statement.{statement}
 use Rattle.names.proofs.at.Tie as tie
-use Rattle.names.proofs.at.Reads as reads
-use Rattle.names.proofs.at.Lts as lts
 
--- src/lib.rt:32:5
 mul-result : tie.Need-mul-result
 mul-result c = search needs
 
--- src/lib.rt:32:5
 shared-slice-read-result : tie.Need-shared-slice-read-result
 shared-slice-read-result c = search needs
 
--- src/lib.rt:32:5
 cast-result : tie.Need-cast-result
-cast-result c = ?
+cast-result c = omega (arith, c .shared-slice-known .given (c .before .args .i))
 
--- src/lib.rt:28:1
 returns : tie.Need-returns
 returns c = search needs
 

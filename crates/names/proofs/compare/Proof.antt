@@ -1,34 +1,27 @@
+use mathlib.Core.Path.{_∙_}
+use native.Mathlib.Omega.{arith}
+use Rattle.names.proofs.Laws.{order-row}
 use borrow.Author.Needs.{needs}
 use Rattle.names.proofs.compare.Statement.{statement}
 use Rattle.names.proofs.compare.Tie as tie
-use Rattle.names.proofs.compare.Reads as reads
-use Rattle.names.proofs.compare.Lts as lts
-use Rattle.names.proofs.at.Reads as at-reads
-use Rattle.text.proofs.order.Reads as order-reads
 
--- src/lib.rt:59:9
 at-requires : tie.Need-at-requires
-at-requires c κs = ?
+at-requires c κs = omega arith
 
--- src/lib.rt:60:21
 add-at : tie.Need-add-at
-add-at c = ?
+add-at c = omega arith
 
--- src/lib.rt:60:9
 at-requires-2 : tie.Need-at-requires-2
-at-requires-2 c κs = ?
+at-requires-2 c κs = omega arith
 
--- src/lib.rt:61:30
 add-order : tie.Need-add-order
-add-order c = ?
+add-order c = search needs
 
--- src/lib.rt:61:5
 order-requires : tie.Need-order-requires
-order-requires c κs = ?
+order-requires c κs = search needs
 
--- src/lib.rt:55:1
 returns : tie.Need-returns
-returns c = ?
+returns c = c .order .ensures ∙ order-row _ _ _ _ _ _ (c .before .before .at .ensures) (c .before .at2 .ensures)
 
 pub compare-spec : {M : Type 1} → statement M
 compare-spec =

@@ -1,17 +1,15 @@
 use Prim.Native.Nat.{_+_, _-_, _≤_}
-use mathlib.Core.Path.{_≡_}
+use mathlib.Core.Path.{_≡_, refl, sym, _∙_}
 use lib.ListN.{length}
+use Rattle.model.specs.Names.{bytes}
+use Rattle.model.specs.Lines.{fields, field-cons}
 use Rattle.text.specs.Parts.{part, fields-left}
-use Rattle.names.specs.Known.{head-code, code-from}
-use Rattle.names.proofs.Codes.{code-here, code-on, code-end}
+use Rattle.names.specs.Known.{head-code, code-from, known-names}
+use Rattle.names.proofs.Codes.{mark-within, code-here, code-on, code-end}
 use borrow.Author.Needs.{needs}
 use native.Mathlib.Omega.{arith}
 use Rattle.names.proofs.head_code.Statement.{statement}
 use Rattle.names.proofs.head_code.Tie as tie
-use Rattle.names.proofs.head_code.Reads as reads
-use Rattle.names.proofs.head_code.Lts as lts
-use Rattle.text.proofs.find.Reads as find-reads
-use Rattle.text.proofs.same_text.Reads as same-text-reads
 
 abbrev Inv-loop : tie.InvT-loop
 Inv-loop file a e known code₀ i₀ code i =
@@ -23,57 +21,56 @@ Inv-loop file a e known code₀ i₀ code i =
 abbrev μ-loop : tie.MeasureT-loop
 μ-loop file a e known code₀ i₀ code i = 250 - i
 
--- src/lib.rt:43:5
 loop-holds : tie.Need-loop-holds Inv-loop μ-loop
-loop-holds c = ?
+unfolding head-code known-names bytes fields-left fields field-cons
+loop-holds c = (omega arith, omega arith, refl, refl)
 
--- src/lib.rt:44:31
 slice-aggregate-find : tie.Need-slice-aggregate-find Inv-loop μ-loop
-slice-aggregate-find c = ?
+slice-aggregate-find c = refl
 
--- src/lib.rt:44:13
 find-requires : tie.Need-find-requires Inv-loop μ-loop
-find-requires c κs = ?
+find-requires c κs = (omega arith, omega arith)
 
--- src/lib.rt:45:40
 sub-same-text : tie.Need-sub-same-text Inv-loop μ-loop
-sub-same-text c = ?
+sub-same-text c = mark-within _ _ _ _ _ (c .find .ensures) (c .before .before .loop-test .taken) (omega arith) .0
 
--- src/lib.rt:45:40
 part-same-text-start : tie.Need-part-same-text-start Inv-loop μ-loop
-part-same-text-start c = ?
+part-same-text-start c = mark-within _ _ _ _ _ (c .before .find .ensures) (c .before .before .before .loop-test .taken) (omega arith) .0
 
--- src/lib.rt:45:40
 part-same-text-end : tie.Need-part-same-text-end Inv-loop μ-loop
-part-same-text-end c = ?
+part-same-text-end c = mark-within _ _ _ _ _ (c .before .find .ensures) (c .before .before .before .loop-test .taken) (omega arith) .1
 
--- src/lib.rt:45:12
 same-text-requires : tie.Need-same-text-requires Inv-loop μ-loop
-same-text-requires c κs = ?
+same-text-requires c κs = c .before .before .before .before .before .before .before .pre
 
--- src/lib.rt:46:13
 returns : tie.Need-returns Inv-loop μ-loop
-returns c = ?
+returns c = sym (c .before .before .before .before .before .before .before .loop .inv .3 ∙ code-here _ _ _ _ (c .before .before .before .before .before .before .loop-test .taken) (omega arith) (omega arith) (c .before .before .before .before .find .ensures) _ _ (sym (c .before .same-text .ensures) ∙ c .if1 .taken))
 
--- src/lib.rt:48:9
 add-code : tie.Need-add-code Inv-loop μ-loop
-add-code c = ?
+add-code c = omega arith
 
--- src/lib.rt:49:13
 add-i : tie.Need-add-i Inv-loop μ-loop
-add-i c = ?
+add-i c =
+    let b = mark-within _ _ _ _ _ (c .before .before .before .before .find .ensures) (c .before .before .before .before .before .before .loop-test .taken) (omega arith) in
+    omega arith
 
--- src/lib.rt:43:5
 loop-less : tie.Need-loop-less Inv-loop μ-loop
-loop-less c = ?
+loop-less c =
+    let b = mark-within _ _ _ _ _ (c .before .before .before .before .find .ensures) (c .before .before .before .before .before .before .loop-test .taken) (omega arith) in
+    omega arith
 
--- src/lib.rt:43:5
 loop-again : tie.Need-loop-again Inv-loop μ-loop
-loop-again c = ?
+loop-again c =
+    let b = mark-within _ _ _ _ _ (c .before .before .before .before .find .ensures) (c .before .before .before .before .before .before .loop-test .taken) (omega arith) in
+    (
+      omega arith,
+      omega arith,
+      refl,
+      c .before .before .before .before .before .before .before .loop .inv .3 ∙ code-on _ _ _ _ (c .before .before .before .before .before .before .loop-test .taken) (omega arith) (omega arith) (c .before .before .before .before .find .ensures) _ _ (sym (c .before .same-text .ensures) ∙ c .if1 .left),
+    )
 
--- src/lib.rt:36:1
 returns-2 : tie.Need-returns-2 Inv-loop μ-loop
-returns-2 c = ?
+returns-2 c = sym (c .before .loop .inv .3 ∙ code-end _ _ _ _ _ (c .loop-test .left))
 
 pub head-code-spec : {M : Type 1} → statement M
 head-code-spec =

@@ -1,17 +1,15 @@
-use Prim.Native.Nat.{ℕ, _-_, _≤_, _<_}
-use mathlib.Core.Path.{_≡_}
+use Prim.Native.Nat.{ℕ, _+_, _-_, _/_, _≤_, _<_}
+use mathlib.Core.Path.{_≡_, sym, ap, _∙_}
 use Rattle.model.specs.Names.{order}
 use Rattle.model.specs.declared.Order.the-variants.{Before, After}
+use Rattle.model.proofs.SetLaws.{order-same}
 use Rattle.text.specs.Parts.{part}
-use Rattle.names.proofs.Laws.{name-at, look-up-at, look-up-missing}
+use Rattle.names.specs.declared.Found.the-variants.{At}
+use Rattle.names.proofs.Laws.{name-at, met, all-before, all-after, look-up-at, look-up-missing}
 use borrow.Author.Needs.{needs}
 use native.Mathlib.Omega.{arith}
 use Rattle.names.proofs.look_up.Statement.{statement}
 use Rattle.names.proofs.look_up.Tie as tie
-use Rattle.names.proofs.look_up.Reads as reads
-use Rattle.names.proofs.look_up.Lts as lts
-use Rattle.names.proofs.at.Reads as at-reads
-use Rattle.names.proofs.compare.Reads as compare-reads
 
 abbrev Inv-loop : tie.InvT-loop
 Inv-loop file w many a e low₀ high₀ low high =
@@ -23,69 +21,68 @@ Inv-loop file w many a e low₀ high₀ low high =
 abbrev μ-loop : tie.MeasureT-loop
 μ-loop file w many a e low₀ high₀ low high = high - low
 
--- src/lib.rt:71:5
 loop-holds : tie.Need-loop-holds Inv-loop μ-loop
-loop-holds c = ?
+loop-holds c = (omega arith, omega arith, λ q h. absurd (omega arith), λ q h l. absurd (omega arith))
 
--- src/lib.rt:72:29
 sub-middle : tie.Need-sub-middle Inv-loop μ-loop
-sub-middle c = ?
+sub-middle c = omega arith
 
--- src/lib.rt:72:22
 add-middle : tie.Need-add-middle Inv-loop μ-loop
-add-middle c = ?
+add-middle c = omega arith
 
--- src/lib.rt:73:23
 add-at : tie.Need-add-at Inv-loop μ-loop
-add-at c = ?
+add-at c = omega arith
 
--- src/lib.rt:73:13
 at-requires : tie.Need-at-requires Inv-loop μ-loop
-at-requires c κs = ?
+at-requires c κs = omega (arith, c .before .before .before .before .pre .0 .room)
 
--- src/lib.rt:74:15
 compare-requires : tie.Need-compare-requires Inv-loop μ-loop
-compare-requires c κs = ?
+compare-requires c κs =
+    let low = c .before .before .loop .low in
+    let middle = low + (c .before .before .loop .high - low) / 2 in
+    let table = c .before .before .before .before .before .pre .0 in
+    let n = c .at .result in
+    let h : n < c .before .before .before .before .before .args .many = rw (c .at .ensures) (table .numbers middle (omega arith)) in
+    (omega (arith, table .room, table .few), table .inside n h, c .before .before .before .before .before .pre .1, c .before .before .before .before .before .pre .2)
 
--- src/lib.rt:76:23
 enum-told : tie.Need-enum-told Inv-loop μ-loop
-enum-told c = ?
+enum-told c = c .match .keys1
 
--- src/lib.rt:76:23
 add-low : tie.Need-add-low Inv-loop μ-loop
-add-low c = ?
+add-low c = omega arith
 
--- src/lib.rt:71:5
 loop-less : tie.Need-loop-less Inv-loop μ-loop
-loop-less c = ?
+loop-less c = omega arith
 
--- src/lib.rt:71:5
 loop-again : tie.Need-loop-again Inv-loop μ-loop
-loop-again c = ?
+loop-again c =
+    let low = c .before .before .before .before .before .loop .low in
+    let middle = low + (c .before .before .before .before .before .loop .high - low) / 2 in
+    (omega arith, omega arith, all-before (c .before .before .before .before .before .before .before .before .pre .0) middle _ (omega arith) (met _ _ middle _ _ _ _ (c .before .before .before .at .ensures) (c .before .before .compare .ensures) (c .enum-told .given .1)), c .before .before .before .before .before .loop .inv .3)
 
--- src/lib.rt:79:17
 enum-told-2 : tie.Need-enum-told-2 Inv-loop μ-loop
-enum-told-2 c = ?
+enum-told-2 c = c .match .keys2
 
--- src/lib.rt:79:17
 returns : tie.Need-returns Inv-loop μ-loop
-returns c = ?
+returns c =
+    let low = c .before .before .before .before .before .loop .low in
+    let middle = low + (c .before .before .before .before .before .loop .high - low) / 2 in
+    ap At (c .before .before .before .at .ensures) ∙ sym (look-up-at (c .before .before .before .before .before .before .before .before .pre .0) middle _ (omega arith) (order-same (met _ _ middle _ _ _ _ (c .before .before .before .at .ensures) (c .before .before .compare .ensures) (c .enum-told2 .given .1))))
 
--- src/lib.rt:82:17
 enum-told-3 : tie.Need-enum-told-3 Inv-loop μ-loop
-enum-told-3 c = ?
+enum-told-3 c = c .match .keys3
 
--- src/lib.rt:71:5
 loop-less-2 : tie.Need-loop-less-2 Inv-loop μ-loop
-loop-less-2 c = ?
+loop-less-2 c = omega arith
 
--- src/lib.rt:71:5
 loop-again-2 : tie.Need-loop-again-2 Inv-loop μ-loop
-loop-again-2 c = ?
+loop-again-2 c =
+    let low = c .before .before .before .before .before .loop .low in
+    let middle = low + (c .before .before .before .before .before .loop .high - low) / 2 in
+    (omega arith, omega arith, c .before .before .before .before .before .loop .inv .2, all-after (c .before .before .before .before .before .before .before .before .pre .0) middle _ (met _ _ middle _ _ _ _ (c .before .before .before .at .ensures) (c .before .before .compare .ensures) (c .enum-told3 .given .1)))
 
--- src/lib.rt:65:1
 returns-2 : tie.Need-returns-2 Inv-loop μ-loop
-returns-2 c = ?
+returns-2 c = sym (look-up-missing (c .before .before .before .before .pre .0) (c .before .loop .low) _ (omega arith) (c .before .loop .inv .2) (λ q h l. c .before .loop .inv .3 q (omega arith) l))
 
 pub look-up-spec : {M : Type 1} → statement M
 look-up-spec =

@@ -1,41 +1,32 @@
+use Rattle.names.proofs.Laws.{name-row}
+use native.Mathlib.Omega.{arith}
 use borrow.Author.Needs.{needs}
 use Rattle.names.proofs.name_part.Statement.{statement}
 use Rattle.names.proofs.name_part.Tie as tie
-use Rattle.names.proofs.name_part.Reads as reads
-use Rattle.names.proofs.name_part.Lts as lts
-use Rattle.names.proofs.at.Reads as at-reads
 
--- src/lib.rt:135:9
 at-requires : tie.Need-at-requires
-at-requires c κs = ?
+at-requires c κs = omega arith
 
--- src/lib.rt:136:21
 add-at : tie.Need-add-at
-add-at c = ?
+add-at c = omega arith
 
--- src/lib.rt:136:9
 at-requires-2 : tie.Need-at-requires-2
-at-requires-2 c κs = ?
+at-requires-2 c κs = omega arith
 
--- src/lib.rt:137:18
 add-result : tie.Need-add-result
-add-result c = ?
+add-result c = omega (arith, c .before .before .before .before .pre .0 .inside (c .before .before .before .before .args .n) (c .before .before .before .before .pre .1))
 
--- src/lib.rt:137:5
 sub-result : tie.Need-sub-result
-sub-result c = ?
+sub-result c = omega arith
 
--- src/lib.rt:137:5
 part-result-start : tie.Need-part-result-start
-part-result-start c = ?
+part-result-start c = search needs
 
--- src/lib.rt:137:5
 part-result-end : tie.Need-part-result-end
-part-result-end c = ?
+part-result-end c = omega (arith, c .before .before .before .before .pre .0 .inside (c .before .before .before .before .args .n) (c .before .before .before .before .pre .1))
 
--- src/lib.rt:131:1
 returns : tie.Need-returns
-returns c = ?
+returns c = name-row _ _ _ _ _ (c .before .before .at .ensures) (c .before .at2 .ensures)
 
 pub name-part-spec : {M : Type 1} → statement M
 name-part-spec =

@@ -1,11 +1,10 @@
+use lib.ListN.{length-set}
 use Prim.Native.Nat.{_≤_}
 use Rattle.names.proofs.Entering.{Shifted, shift-start, shift-on, shift-end}
 use borrow.Author.Needs.{needs}
 use native.Mathlib.Omega.{arith}
 use Rattle.names.proofs.put_index.Statement.{statement}
 use Rattle.names.proofs.put_index.Tie as tie
-use Rattle.names.proofs.put_index.Reads as reads
-use Rattle.names.proofs.put_index.Lts as lts
 
 abbrev Inv-loop : tie.InvT-loop
 Inv-loop w₀ many rank i₀ w i = (rank ≤ i) × (i ≤ many) × Shifted w₀ w many i
@@ -13,73 +12,58 @@ Inv-loop w₀ many rank i₀ w i = (rank ≤ i) × (i ≤ many) × Shifted w₀ 
 abbrev μ-loop : tie.MeasureT-loop
 μ-loop w₀ many rank i₀ w i = i
 
--- src/lib.rt:123:5
 loop-holds : tie.Need-loop-holds Inv-loop μ-loop
-loop-holds c = ?
+loop-holds c = (c .pre .0, omega arith, shift-start (c .args .w .now) (c .args .many))
 
--- src/lib.rt:124:25
 add-w : tie.Need-add-w Inv-loop μ-loop
-add-w c = ?
+add-w c = omega arith
 
--- src/lib.rt:124:25
 sub-w : tie.Need-sub-w Inv-loop μ-loop
-sub-w c = ?
+sub-w c = omega arith
 
--- src/lib.rt:124:23
 mul-w : tie.Need-mul-w Inv-loop μ-loop
-mul-w c = ?
+mul-w c = omega arith
 
--- src/lib.rt:124:23
 slice-read-w : tie.Need-slice-read-w Inv-loop μ-loop
-slice-read-w c = ?
+slice-read-w c = omega arith
 
--- src/lib.rt:124:11
 add-w-2 : tie.Need-add-w-2 Inv-loop μ-loop
-add-w-2 c = ?
+add-w-2 c = omega arith
 
--- src/lib.rt:124:9
 mul-w-2 : tie.Need-mul-w-2 Inv-loop μ-loop
-mul-w-2 c = ?
+mul-w-2 c = omega arith
 
--- src/lib.rt:124:9
 slice-write-w : tie.Need-slice-write-w Inv-loop μ-loop
-slice-write-w c = ?
+slice-write-w c = omega arith
 
--- src/lib.rt:125:9
 sub-i : tie.Need-sub-i Inv-loop μ-loop
-sub-i c = ?
+sub-i c = omega arith
 
--- src/lib.rt:123:5
 loop-less : tie.Need-loop-less Inv-loop μ-loop
-loop-less c = ?
+loop-less c = omega arith
 
--- src/lib.rt:123:5
 loop-again : tie.Need-loop-again Inv-loop μ-loop
-loop-again c = ?
+loop-again c = (omega arith, omega arith, shift-on _ _ _ _ (omega arith) (omega arith) (omega arith) (c .before .before .loop .inv .2))
 
--- src/lib.rt:127:22
 cast-w : tie.Need-cast-w Inv-loop μ-loop
-cast-w c = ?
+cast-w c = omega arith
 
--- src/lib.rt:127:7
 add-w-3 : tie.Need-add-w-3 Inv-loop μ-loop
-add-w-3 c = ?
+add-w-3 c = omega arith
 
--- src/lib.rt:127:5
 mul-w-3 : tie.Need-mul-w-3 Inv-loop μ-loop
-mul-w-3 c = ?
+mul-w-3 c = omega arith
 
--- src/lib.rt:127:5
 slice-write-w-2 : tie.Need-slice-write-w-2 Inv-loop μ-loop
-slice-write-w-2 c = ?
+slice-write-w-2 c = omega arith
 
--- src/lib.rt:118:1
 same-length : tie.Need-same-length Inv-loop μ-loop
-same-length c = ?
+same-length c =
+    let w = c .before .loop .w in
+    simp length-set (omega arith)
 
--- src/lib.rt:118:1
 returns : tie.Need-returns Inv-loop μ-loop
-returns c = ?
+returns c = shift-end _ _ _ _ _ (omega arith) (omega arith) (omega arith) (c .before .loop .inv .2)
 
 pub put-index-spec : {M : Type 1} → statement M
 put-index-spec =

@@ -1,0 +1,50 @@
+use mathlib.Core.Path.{sym, ap, _∙_}
+use Rattle.names.specs.Table.{spell-answer, spell-table}
+use Rattle.names.proofs.Laws.{found-missing}
+use borrow.Author.Needs.{needs}
+use Rattle.names.proofs.spell.Statement.{statement}
+use Rattle.names.proofs.spell.Tie as tie
+
+look-up-requires : tie.Need-look-up-requires
+look-up-requires c κs = c .before .before .before .pre
+
+enum-known-n : tie.Need-enum-known-n
+enum-known-n c = c .match .keys1
+
+enum-known-rank : tie.Need-enum-known-rank
+enum-known-rank c = c .match .keys2
+
+enter-requires : tie.Need-enter-requires
+enter-requires c κs =
+    let lacks = found-missing (c .before .before .before .before .before .before .before .before .pre .0) _ _ (sym (c .before .before .before .before .look-up .ensures) ∙ c .before .before .rank .given .1) in
+    (c .before .before .before .before .before .before .before .before .pre .0, c .before .before .before .before .before .before .before .before .pre .1, c .before .before .before .before .before .before .before .before .pre .2, lacks .within)
+
+same-length : tie.Need-same-length
+same-length c = search needs
+
+returns : tie.Need-returns
+unfolding spell-answer spell-table
+returns c =
+    let d = sym (c .before .before .before .look-up .ensures) ∙ c .before .n .given .1 in
+    (ap (spell-answer _) (sym d), ap (spell-table _ _ _ _ _) (sym d))
+
+same-length-2 : tie.Need-same-length-2
+same-length-2 c = search needs
+
+returns-2 : tie.Need-returns-2
+returns-2 c =
+    let d = sym (c .before .before .before .before .before .before .before .look-up .ensures) ∙ c .before .before .before .before .before .rank .given .1 in
+    (c .before .before .enter .ensures .0 ∙ ap (spell-answer _) (sym d), c .before .before .enter .ensures .1 ∙ ap (spell-table _ _ _ _ _) (sym d))
+
+pub spell-spec : {M : Type 1} → statement M
+spell-spec =
+    tie.close
+    (tie.spec
+    look-up-requires
+    enum-known-n
+    enum-known-rank
+    enter-requires
+    same-length
+    returns
+    same-length-2
+    returns-2)
