@@ -7,10 +7,10 @@ use lib.ListN.{length}
 use borrow.Author.Tests.{lt-leb}
 use Rattle.model.specs.Lines.{Field}
 use Rattle.model.specs.Names.{Name, same}
-use Rattle.model.specs.Reading.{ok, refused, next}
+use Rattle.model.specs.Reading.{ok, next}
 use Rattle.text.specs.declared.Cursor.{Cursor}
-use Rattle.text.specs.Parts.{part, mark-at, Placed, fields-left, field-result}
-use Rattle.text.proofs.Laws.{mark-from, mark-to, field-some, field-law}
+use Rattle.text.specs.Parts.{part, mark-at, fields-left, field-result}
+use Rattle.text.proofs.Laws.{field-some, field-law}
 use Rattle.names.specs.Known.{code-from}
 
 -- fields of which the next is one are that one and the rest
@@ -40,10 +40,6 @@ module _ (s : List ℕ) (i e m : ℕ) (h : i ≤ e) (k : e ≤ length s) (short 
       → code-from code (fields-left s (record { at = i; end = e })) name ≡ code-from (code + 1) (fields-left s (record { at = m + 1; end = e })) name
   unfolding code-from
   code-on code name t = rw (fields-cons, t)
-
--- where a search for a mark ends
-pub mark-within : (mark : ℕ) (s : List ℕ) (at e m : ℕ) → m ≡ mark-at mark s at e → at ≤ e → e ≤ length s → (at ≤ m) × (m ≤ e)
-mark-within mark s at e m d h k = rw d (mark-from mark s at e, mark-to mark s at e h k)
 
 -- no field is left
 pub code-end : (s : List ℕ) (i e code : ℕ) (name : Name) → e < i → code-from code (fields-left s (record { at = i; end = e })) name ≡ 0

@@ -1,29 +1,21 @@
--- Laws of entering a name into a table: the index with one number more, the table with one name more, and what spelling a name comes to.
+-- Laws of entering a name into a table: the index with one number more, and the table with one name more.
 use Prim.Native.Nat.{ℕ, zero, suc, _+_, _-_, _≤_, _<_}
 use native.Mathlib.Numerals.{add-one}
 use native.Mathlib.Nat.{eq-or-lt-of-le}
 use native.Mathlib.Omega.{arith}
 use mathlib.Core.Path.{_≡_, refl, sym, ap, ap₂, _∙_}
 use mathlib.Core.Logic.{_⊎_, inl, inr, ⊎-elim}
-use mathlib.Core.Bool.{Bool, true, false, cond}
 use mathlib.Core.List.{List, [], _∷_, _++_, append-assoc}
-use lib.ListN.{length, take, drop, getD, set, length-append, length-take, length-drop, length-set, List·getD-append}
+use lib.ListN.{length, take, drop, getD, set, length-append, length-drop, length-set, List·getD-append}
 use lib.Seq.{length-take-le, getD-append-add, getD-at, getD-set-same, getD-set-other, getD-take, getD-drop, ext-getD}
-use lib.Dec.{T, ltb}
-use borrow.Author.Tests.{lt-ltb, le-ltb, ltb-true, ltb-false}
-use Rattle.model.specs.Names.{Name, order, mem}
-use Rattle.model.specs.Reading.{spell}
-use Rattle.model.specs.declared.Order.{Order}
-use Rattle.model.specs.declared.Order.the-variants.{Before, Same, After}
+use Rattle.model.specs.Names.{order}
+use Rattle.model.specs.declared.Order.the-variants.{Before}
 use Rattle.model.proofs.SetLaws.{order-flip}
 use Rattle.text.specs.Parts.{part}
-use Rattle.names.specs.declared.Found.{Found}
 use Rattle.names.specs.declared.Found.the-variants as found
-use Rattle.names.specs.declared.Spelled.{Spelled}
-use Rattle.names.specs.declared.Spelled.the-variants as spelled
 use Rattle.names.specs.Known.{head-code}
-use Rattle.names.specs.Table.{name-of, ranked, names-of, Table, look-up, index-with, entered, spell-answer, spell-table}
-use Rattle.names.proofs.Laws.{Stands, under, level, over, stands, last-or, below-or, name-at, Lacks, found-at, found-missing, names-intro}
+use Rattle.names.specs.Table.{name-of, ranked, names-of, Table, look-up, index-with, entered}
+use Rattle.names.proofs.Laws.{Stands, under, level, over, stands, last-or, below-or, name-at, Lacks, found-missing}
 
 -- ---- the index with one number more
 
@@ -123,8 +115,8 @@ shift-on old new many i p h room s =
       same = λ j l. getD-set-other new (4096 + i) j v 0 (λ e. omega arith) ∙ s .same j (omega arith);
       moved = λ j l m. ⊎-elim
           (λ (e : 4096 + i ≡ j + 1).
-            let d : 4096 + i - 1 ≡ j = omega arith in
-            rw (← e) (getD-set-same new (4096 + i) v 0 (omega (arith, s .size)) ∙ s .same (4096 + i - 1) (omega arith) ∙ ap (λ (k : ℕ). getD old k 0) d))
+          let d : 4096 + i - 1 ≡ j = omega arith in
+          rw (← e) (getD-set-same new (4096 + i) v 0 (omega (arith, s .size)) ∙ s .same (4096 + i - 1) (omega arith) ∙ ap (λ (k : ℕ). getD old k 0) d))
           (λ (k : 4096 + i < j + 1). getD-set-other new (4096 + i) (j + 1) v 0 (λ e. omega arith) ∙ s .moved j (omega arith) m)
           (eq-or-lt-of-le (omega arith));
       after = λ j l. getD-set-other new (4096 + i) j v 0 (λ e. omega arith) ∙ s .after j l;
@@ -147,10 +139,10 @@ shift-end old new many i rank q h room s =
         getD-set-other new (4096 + rank) j many 0 (λ e. omega arith)
         ∙ ⊎-elim
         (λ (m : j ≤ 4096 + many).
-          ap (λ (i : ℕ). getD new i 0) d
-          ∙ s .moved (j - 1) (omega arith) (omega arith)
-          ∙ sym (index-up old many rank h room (j - 1) (omega arith) (omega arith))
-          ∙ ap (λ (i : ℕ). getD (index-with old many rank) i 0) (sym d))
+        ap (λ (i : ℕ). getD new i 0) d
+        ∙ s .moved (j - 1) (omega arith) (omega arith)
+        ∙ sym (index-up old many rank h room (j - 1) (omega arith) (omega arith))
+        ∙ ap (λ (i : ℕ). getD (index-with old many rank) i 0) (sym d))
         (λ (m : 4096 + many < j). s .after j m ∙ sym (index-high old many rank h room j m))
         (below-or j (4096 + many))
 
@@ -205,11 +197,12 @@ module _ (file w : List ℕ) (many a e rank : ℕ) (h : rank ≤ many) (few : ma
   unfolding entered
   entered-code =
       getD-set-same (set (set (index-with w many rank) many a) (2048 + many) (e - a)) (6144 + many) (head-code (part file a e)) 0
-      (omega
-      (arith,
-      index-length w many rank h within,
-      length-set (index-with w many rank) many a,
-      length-set (set (index-with w many rank) many a) (2048 + many) (e - a)))
+      (omega (
+        arith,
+        index-length w many rank h within,
+        length-set (index-with w many rank) many a,
+        length-set (set (index-with w many rank) many a) (2048 + many) (e - a),
+      ))
 
   -- every word but the new row's and those of the index up to the new rank's last is kept
   pub entered-keeps : (i : ℕ) → (i ≡ many → ⊥) → (i ≡ 2048 + many → ⊥) → (i ≡ 6144 + many → ⊥) → (i < 4096) ⊎ (4096 + many < i)
@@ -224,16 +217,18 @@ module _ (file w : List ℕ) (many a e rank : ℕ) (h : rank ≤ many) (few : ma
       ext-getD 0 (drop 16384 (entered file w many a e rank)) (drop 16384 w)
       (length-drop 16384 (entered file w many a e rank) ∙ ap (_- 16384) entered-length ∙ sym (length-drop 16384 w))
       (λ i l.
-        getD-drop 16384 (entered file w many a e rank) i 0
-        ∙ entered-keeps (16384 + i) (λ x. omega arith) (λ x. omega arith) (λ x. omega arith) (inr (omega arith))
-        ∙ sym (getD-drop 16384 w i 0))
+      getD-drop 16384 (entered file w many a e rank) i 0
+      ∙ entered-keeps (16384 + i) (λ x. omega arith) (λ x. omega arith) (λ x. omega arith) (inr (omega arith))
+      ∙ sym (getD-drop 16384 w i 0))
 
   -- the names that were there keep their numbers
   pub entered-old : (n : ℕ) → n < many → name-of file (entered file w many a e rank) n ≡ name-of file w n
   unfolding name-of
   entered-old n l =
-      rw (entered-keeps n (λ x. omega arith) (λ x. omega arith) (λ x. omega arith) (inl (omega arith)),
-      entered-keeps (2048 + n) (λ x. omega arith) (λ x. omega arith) (λ x. omega arith) (inl (omega arith)))
+      rw (
+        entered-keeps n (λ x. omega arith) (λ x. omega arith) (λ x. omega arith) (inl (omega arith)),
+        entered-keeps (2048 + n) (λ x. omega arith) (λ x. omega arith) (λ x. omega arith) (inl (omega arith)),
+      )
 
   -- the new name has the number after them
   pub entered-new : a ≤ e → name-of file (entered file w many a e rank) many ≡ part file a e

@@ -1,24 +1,23 @@
 -- Laws of a table of names, said of plain lists: its names by number and by rank, and what a look-up answers.
-use Prim.Native.Nat.{ℕ, zero, suc, _+_, _-_, _≤_, _<_, zero-le}
+use Prim.Native.Nat.{ℕ, zero, suc, _+_, _≤_, _<_, zero-le}
 use native.Mathlib.Numerals.{one-add}
 use native.Mathlib.Nat.{zero-add, add-zero, add-assoc, eq-or-lt-of-le}
 use native.Mathlib.Omega.{arith}
 use mathlib.Core.Path.{_≡_, refl, sym, ap, _∙_}
 use mathlib.Core.Logic.{_⊎_, inl, inr, ⊎-elim, _↔_}
-use mathlib.Core.Bool.{Bool, true, false, cond, not, _||_, or-false, or-comm}
+use mathlib.Core.Bool.{Bool, true, false, cond, or-false, or-comm}
 use mathlib.Core.List.{List, [], _∷_, _++_}
-use mathlib.Core.Option.{Option, none, some}
+use mathlib.Core.Option.{none, some}
 use lib.ListN.{length, getD, length-append}
 use lib.Dec.{T, not-T, ltb}
 use borrow.Author.Tests.{ltb-true, ltb-false}
 use Rattle.model.specs.Lists.{any, count}
 use Rattle.model.specs.Names.{Name, order, same, mem, add-by, add}
 use Rattle.model.specs.declared.Order.{Order}
-use Rattle.model.specs.declared.Order.the-variants.{Before, Same, After}
-use Rattle.model.proofs.ListLaws.{T-dec, T-true, T-false, false-T, any-append, cond-true, cond-false, count-append}
-use Rattle.model.proofs.SetLaws.{order-refl, order-same, order-flip, order-trans, order-irrefl, Compared, first, equal, second, compared, same-refl, same-eq, mem-cons, mem-first, mem-later, mem-append, add-mem, Ascending, empty, one, more, ascending-tail, ascending-head, ascending-cons, ascending-add, ascending-ext}
+use Rattle.model.specs.declared.Order.the-variants.{Before, After}
+use Rattle.model.proofs.ListLaws.{T-true, T-false, any-append, count-append}
+use Rattle.model.proofs.SetLaws.{order-flip, order-trans, order-irrefl, Compared, first, equal, second, compared, same-refl, same-eq, mem-cons, mem-first, mem-later, mem-append, add-mem, Ascending, empty, one, more, ascending-tail, ascending-head, ascending-cons, ascending-add, ascending-ext}
 use Rattle.text.specs.Parts.{part}
-use Rattle.names.specs.declared.Found.{Found}
 use Rattle.names.specs.declared.Found.the-variants.{At, Missing}
 use Rattle.names.specs.Table.{name-of, ranked, names-of, Table, place-from, is-before, rank-among, found-or, look-up}
 
@@ -208,7 +207,7 @@ listed-place f zero n apart h = absurd (omega arith)
 listed-place f (suc k) n apart h =
     ⊎-elim
     (λ (e : n ≡ k). place-later 0 (listed f k) (f k ∷ []) (f n) (λ t. let (m, l, d) = listed-elim f k (f n) t in apart m n (omega arith) h (sym d))
-      ∙ rw (e, listed-length f k, zero-add k, T-true (same (f k) (f k)) (same-refl (f k))))
+    ∙ rw (e, listed-length f k, zero-add k, T-true (same (f k) (f k)) (same-refl (f k))))
     (λ l. place-before 0 n (listed f k) (f k ∷ []) (f n) (listed-place f k n (λ m q h l. apart m q h (omega arith)) l))
     (last-or k h)
 
@@ -352,9 +351,9 @@ module _ {file w : List ℕ} {many : ℕ} (table : Table file w many) where
   look-up-missing low name h b a =
       let test : Name → Bool = λ m. is-before (order m name) in
       let n : count test (names-of file w many) ≡ low =
-        ap (count test) (names-listed file w many)
-        ∙ listed-recount test (name-of file w) (name-at file w) many apart index-ascending (λ m. rw (names-listed file w many) at (index-members m))
-        ∙ listed-count test (name-at file w) low many h (λ q l. rw (b q l)) (λ q l k. rw (a q l k)) in
+      ap (count test) (names-listed file w many)
+      ∙ listed-recount test (name-of file w) (name-at file w) many apart index-ascending (λ m. rw (names-listed file w many) at (index-members m))
+      ∙ listed-count test (name-at file w) low many h (λ q l. rw (b q l)) (λ q l k. rw (a q l k)) in
       rw (place-none 0 (names-of file w many) name (not-among low name b a), n)
 
   -- a name that is found has that number

@@ -1,13 +1,13 @@
 -- Laws of spelling a name: what each answer says of the table before and after, and of the names as `model` has them.
 use Prim.Native.Nat.{ℕ, _+_, _≤_, _<_}
 use native.Mathlib.Omega.{arith}
-use mathlib.Core.Path.{_≡_, refl, sym, ap, _∙_}
+use mathlib.Core.Path.{_≡_, refl, sym, _∙_}
 use mathlib.Core.Bool.{Bool, true, false, cond}
 use mathlib.Core.List.{List, [], _∷_, _++_}
 use lib.ListN.{length}
 use lib.Dec.{T, not-T, ltb}
 use borrow.Author.Tests.{lt-ltb, le-ltb, ltb-true, ltb-false}
-use Rattle.model.specs.Names.{Name, mem}
+use Rattle.model.specs.Names.{mem}
 use Rattle.model.specs.Reading.{spell}
 use Rattle.model.proofs.ListLaws.{cond-true, cond-false}
 use Rattle.text.specs.Parts.{part}
@@ -30,6 +30,11 @@ pub missing-full : (file w : List ℕ) (many a e rank : ℕ) → 2048 ≤ many
     → (spell-answer many (Missing rank) ≡ Full) × (spell-table file w many a e (Missing rank) ≡ w)
 unfolding spell-answer spell-table
 missing-full file w many a e rank h = (rw (le-ltb many 2048 h), rw (le-ltb many 2048 h))
+
+-- what was answered by what a look-up found is answered by the look-up
+pub spell-by : (file w w′ : List ℕ) (many a e : ℕ) (r : Spelled) (l f x : Found) → x ≡ l → x ≡ f → r ≡ spell-answer many f → w′ ≡ spell-table file w many a e f
+    → (r ≡ spell-answer many l) × (w′ ≡ spell-table file w many a e l)
+spell-by file w w′ many a e r l f x p q answer table = rw (← p, q) (answer, table)
 
 -- a name that was known: its number, and nothing has changed
 pub record Was-known (file w w′ : List ℕ) (many a e n : ℕ) : Type 0 where
@@ -82,6 +87,7 @@ module _ {file w : List ℕ} {many : ℕ} (table : Table file w many) (a e : ℕ
         where
           lacks : Lacks file w many (part file a e) rank
           lacks = found-missing table (part file a e) rank d
+
           choose : (t : Bool) → ltb many 2048 ≡ t → w′ ≡ cond t (entered file w many a e rank) w → Spelling file w w′ many a e (cond t (New many) Full)
           choose true t q =
               let few = ltb-true many 2048 t in

@@ -1,3 +1,4 @@
+-- `names::at` meets its contract.
 use native.Mathlib.Omega.{arith}
 use borrow.Author.Needs.{needs}
 use Rattle.names.proofs.at.Statement.{statement}

@@ -1,3 +1,4 @@
+-- `names::compare` meets its contract.
 use mathlib.Core.Path.{_∙_}
 use native.Mathlib.Omega.{arith}
 use Rattle.names.proofs.Laws.{order-row}

@@ -1,12 +1,13 @@
+-- `names::head_code` meets its contract. The loop's invariant: the head code is the code from `code` on among the known names from `i` on.
 use Prim.Native.Nat.{_+_, _-_, _≤_}
 use mathlib.Core.Path.{_≡_, refl, sym, _∙_}
 use lib.ListN.{length}
 use Rattle.model.specs.Names.{bytes}
 use Rattle.model.specs.Lines.{fields, field-cons}
 use Rattle.text.specs.Parts.{part, fields-left}
+use Rattle.text.proofs.Laws.{mark-from, mark-to}
 use Rattle.names.specs.Known.{head-code, code-from, known-names}
-use Rattle.names.proofs.Codes.{mark-within, code-here, code-on, code-end}
-use borrow.Author.Needs.{needs}
+use Rattle.names.proofs.Codes.{code-here, code-on, code-end}
 use native.Mathlib.Omega.{arith}
 use Rattle.names.proofs.head_code.Statement.{statement}
 use Rattle.names.proofs.head_code.Tie as tie
@@ -32,13 +33,13 @@ find-requires : tie.Need-find-requires Inv-loop μ-loop
 find-requires c κs = (omega arith, omega arith)
 
 sub-same-text : tie.Need-sub-same-text Inv-loop μ-loop
-sub-same-text c = mark-within _ _ _ _ _ (c .find .ensures) (c .before .before .loop-test .taken) (omega arith) .0
+sub-same-text c = mark-from _ _ _ _ _ (c .find .ensures)
 
 part-same-text-start : tie.Need-part-same-text-start Inv-loop μ-loop
-part-same-text-start c = mark-within _ _ _ _ _ (c .before .find .ensures) (c .before .before .before .loop-test .taken) (omega arith) .0
+part-same-text-start c = mark-from _ _ _ _ _ (c .before .find .ensures)
 
 part-same-text-end : tie.Need-part-same-text-end Inv-loop μ-loop
-part-same-text-end c = mark-within _ _ _ _ _ (c .before .find .ensures) (c .before .before .before .loop-test .taken) (omega arith) .1
+part-same-text-end c = mark-to _ _ _ _ _ (c .before .find .ensures) (c .before .before .before .loop-test .taken) (omega arith)
 
 same-text-requires : tie.Need-same-text-requires Inv-loop μ-loop
 same-text-requires c κs = c .before .before .before .before .before .before .before .pre
@@ -50,19 +51,15 @@ add-code : tie.Need-add-code Inv-loop μ-loop
 add-code c = omega arith
 
 add-i : tie.Need-add-i Inv-loop μ-loop
-add-i c =
-    let b = mark-within _ _ _ _ _ (c .before .before .before .before .find .ensures) (c .before .before .before .before .before .before .loop-test .taken) (omega arith) in
-    omega arith
+add-i c = omega (arith, mark-to _ _ _ _ _ (c .before .before .before .before .find .ensures) (c .before .before .before .before .before .before .loop-test .taken) (omega arith))
 
 loop-less : tie.Need-loop-less Inv-loop μ-loop
-loop-less c =
-    let b = mark-within _ _ _ _ _ (c .before .before .before .before .find .ensures) (c .before .before .before .before .before .before .loop-test .taken) (omega arith) in
-    omega arith
+loop-less c = omega (arith, mark-from _ _ _ _ _ (c .before .before .before .before .find .ensures))
 
 loop-again : tie.Need-loop-again Inv-loop μ-loop
 loop-again c =
-    let b = mark-within _ _ _ _ _ (c .before .before .before .before .find .ensures) (c .before .before .before .before .before .before .loop-test .taken) (omega arith) in
-    (
+    let from = mark-from _ _ _ _ _ (c .before .before .before .before .find .ensures) in
+    let to = mark-to _ _ _ _ _ (c .before .before .before .before .find .ensures) (c .before .before .before .before .before .before .loop-test .taken) (omega arith) in (
       omega arith,
       omega arith,
       refl,

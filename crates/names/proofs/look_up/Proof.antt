@@ -1,3 +1,4 @@
+-- `names::look_up` meets its contract. The loop's invariant: the ranks below `low` stand before the name, and those from `high` on after it.
 use Prim.Native.Nat.{ℕ, _+_, _-_, _/_, _≤_, _<_}
 use mathlib.Core.Path.{_≡_, sym, ap, _∙_}
 use Rattle.model.specs.Names.{order}
@@ -6,7 +7,6 @@ use Rattle.model.proofs.SetLaws.{order-same}
 use Rattle.text.specs.Parts.{part}
 use Rattle.names.specs.declared.Found.the-variants.{At}
 use Rattle.names.proofs.Laws.{name-at, met, all-before, all-after, look-up-at, look-up-missing}
-use borrow.Author.Needs.{needs}
 use native.Mathlib.Omega.{arith}
 use Rattle.names.proofs.look_up.Statement.{statement}
 use Rattle.names.proofs.look_up.Tie as tie

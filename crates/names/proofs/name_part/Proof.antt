@@ -1,3 +1,4 @@
+-- `names::name_part` meets its contract.
 use Rattle.names.proofs.Laws.{name-row}
 use native.Mathlib.Omega.{arith}
 use borrow.Author.Needs.{needs}

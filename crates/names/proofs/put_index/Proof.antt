@@ -1,7 +1,7 @@
+-- `names::put_index` meets its contract. The loop's invariant: the ranks from `i` on have moved up.
 use lib.ListN.{length-set}
 use Prim.Native.Nat.{_≤_}
 use Rattle.names.proofs.Entering.{Shifted, shift-start, shift-on, shift-end}
-use borrow.Author.Needs.{needs}
 use native.Mathlib.Omega.{arith}
 use Rattle.names.proofs.put_index.Statement.{statement}
 use Rattle.names.proofs.put_index.Tie as tie

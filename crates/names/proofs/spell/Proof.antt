@@ -1,6 +1,8 @@
-use mathlib.Core.Path.{sym, ap, _∙_}
+-- `names::spell` meets its contract.
+use mathlib.Core.Path.{refl, sym, _∙_}
 use Rattle.names.specs.Table.{spell-answer, spell-table}
 use Rattle.names.proofs.Laws.{found-missing}
+use Rattle.names.proofs.Spelling.{spell-by}
 use borrow.Author.Needs.{needs}
 use Rattle.names.proofs.spell.Statement.{statement}
 use Rattle.names.proofs.spell.Tie as tie
@@ -24,17 +26,13 @@ same-length c = search needs
 
 returns : tie.Need-returns
 unfolding spell-answer spell-table
-returns c =
-    let d = sym (c .before .before .before .look-up .ensures) ∙ c .before .n .given .1 in
-    (ap (spell-answer _) (sym d), ap (spell-table _ _ _ _ _) (sym d))
+returns c = spell-by _ _ _ _ _ _ _ _ _ _ (c .before .before .before .look-up .ensures) (c .before .n .given .1) refl refl
 
 same-length-2 : tie.Need-same-length-2
 same-length-2 c = search needs
 
 returns-2 : tie.Need-returns-2
-returns-2 c =
-    let d = sym (c .before .before .before .before .before .before .before .look-up .ensures) ∙ c .before .before .before .before .before .rank .given .1 in
-    (c .before .before .enter .ensures .0 ∙ ap (spell-answer _) (sym d), c .before .before .enter .ensures .1 ∙ ap (spell-table _ _ _ _ _) (sym d))
+returns-2 c = spell-by _ _ _ _ _ _ _ _ _ _ (c .before .before .before .before .before .before .before .look-up .ensures) (c .before .before .before .before .before .rank .given .1) (c .before .before .enter .ensures .0) (c .before .before .enter .ensures .1)
 
 pub spell-spec : {M : Type 1} → statement M
 spell-spec =
