@@ -56,9 +56,9 @@ fn compare(file: &[u8], w: &[u32], n: usize, a: usize, e: usize) -> Order
     requires { ⌜ (2048 + n < length (now w)) × (getD (now w) n 0 + getD (now w) (2048 + n) 0 ≤ length (now file)) × (a ≤ e) × (e ≤ length (now file)) ⌝ }
     ensures { λ r. ⌜ r ≡ order (name-of (now (file .entry)) (now (w .entry)) n) (part (now (file .entry)) a e) ⌝ }
 {
-    let start = at(w, n);
-    let len = at(w, 2048 + n);
-    text::order(file, start, start + len, a, e)
+    let from = at(w, n);
+    let size = at(w, 2048 + n);
+    text::order(file, from, from + size, a, e)
 }
 
 // The number of the name from `a` up to `e`, or the rank where it belongs: a binary search in the byte-order index.
