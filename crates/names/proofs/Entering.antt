@@ -24,6 +24,7 @@ module _ (w : List ℕ) (many rank : ℕ) (h : rank ≤ many) (room : 4096 + man
   front : List ℕ
   front = take (4096 + rank) w
 
+  -- their count
   front-length : length front ≡ 4096 + rank
   unfolding front
   front-length = length-take-le (4096 + rank) w (omega arith)
@@ -32,6 +33,7 @@ module _ (w : List ℕ) (many rank : ℕ) (h : rank ≤ many) (room : 4096 + man
   behind : List ℕ
   behind = take (many - rank) (drop (4096 + rank) w)
 
+  -- their count
   behind-length : length behind ≡ many - rank
   unfolding behind
   behind-length = length-take-le (many - rank) (drop (4096 + rank) w) (rw (length-drop (4096 + rank) w) (omega arith))
@@ -40,6 +42,7 @@ module _ (w : List ℕ) (many rank : ℕ) (h : rank ≤ many) (room : 4096 + man
   past : List ℕ
   past = drop (4096 + many + 1) w
 
+  -- the slice with one number more is these, one after the other
   index-split : index-with w many rank ≡ front ++ ((many ∷ behind) ++ past)
   unfolding index-with front behind past
   index-split = append-assoc front (many ∷ behind) past
@@ -154,7 +157,27 @@ pub entered-row : (file w l : List ℕ) (many a e rank code : ℕ) → l ≡ ind
 unfolding entered
 entered-row file w l many a e rank code p q = rw (p, q)
 
+-- what a rank is, beside one at which a number was put in
+data Side (rank many r : ℕ) : Type 0 where
+  lower : r < rank → Side rank many r
+  here : r ≡ rank → Side rank many r
+  higher : (q : ℕ) → r ≡ q + 1 → rank ≤ q → q < many → Side rank many r
+
+-- each rank is one of the three
+side : (rank many r : ℕ) → r < many + 1 → Side rank many r
+side rank many r l = go (stands r rank)
+  where
+    go : Stands r rank → Side rank many r
+    go (under k) = lower k
+    go (level k) = here k
+    go (over k) = higher (r - 1) (omega arith) (omega arith) (omega arith)
+
 module _ (file w : List ℕ) (many a e rank : ℕ) (h : rank ≤ many) (few : many < 2048) (room : 16384 ≤ length w) where
+  -- the slice with one name more
+  abbrev slice : List ℕ
+  slice = entered file w many a e rank
+
+  -- the index has room for one number more
   within : 4096 + many < length w
   within = omega arith
 
@@ -266,116 +289,80 @@ module _ (file w : List ℕ) (many a e rank : ℕ) (h : rank ≤ many) (few : ma
       ∙ ap (λ (i : ℕ). getD (index-with w many rank) i 0) d
       ∙ index-up w many rank h within (4096 + r) (omega arith) (omega arith)
 
--- what a rank is, beside one at which a number was put in
-data Side (rank many r : ℕ) : Type 0 where
-  lower : r < rank → Side rank many r
-  here : r ≡ rank → Side rank many r
-  higher : (q : ℕ) → r ≡ q + 1 → rank ≤ q → q < many → Side rank many r
+  module _ (table : Table file w many) (o : a ≤ e) (inside : e ≤ length file) (lacks : Lacks file w many (part file a e) rank) where
+    -- the names at the ranks below the new name's stay
+    at-stays : (r : ℕ) → r < rank → name-at file slice r ≡ name-at file w r
+    at-stays r l = ap (name-of file slice) (rank-stays r l) ∙ entered-old (ranked w r) (table .numbers r (omega arith))
 
-side : (rank many r : ℕ) → r < many + 1 → Side rank many r
-side rank many r l = go (stands r rank)
-  where
-    go : Stands r rank → Side rank many r
-    go (under k) = lower k
-    go (level k) = here k
-    go (over k) = higher (r - 1) (omega arith) (omega arith) (omega arith)
+    -- the new name stands at its rank
+    at-new : name-at file slice rank ≡ part file a e
+    at-new = ap (name-of file slice) rank-new ∙ entered-new o
 
-module _ {file w : List ℕ} {many : ℕ} (table : Table file w many) (few : many < 2048) (a e rank : ℕ) (o : a ≤ e) (inside : e ≤ length file)
-    (missing : look-up (names-of file w many) (part file a e) ≡ found.Missing rank) where
-  lacks : Lacks file w many (part file a e) rank
-  lacks = found-missing table (part file a e) rank missing
+    -- the names from that rank on stand one further
+    at-moves : (r : ℕ) → rank ≤ r → r < many → name-at file slice (r + 1) ≡ name-at file w r
+    at-moves r l m = ap (name-of file slice) (rank-moves r l m) ∙ entered-old (ranked w r) (table .numbers r m)
 
-  slice : List ℕ
-  slice = entered file w many a e rank
+    -- each row is a part of the file
+    inside-still : (n : ℕ) → (n ≡ many) ⊎ (n < many) → getD slice n 0 + getD slice (2048 + n) 0 ≤ length file
+    inside-still n (inl d) = rw (d, entered-start, entered-size) (omega arith)
+    inside-still n (inr l) =
+        rw (
+          entered-keeps n (λ x. omega arith) (λ x. omega arith) (λ x. omega arith) (inl (omega arith)),
+          entered-keeps (2048 + n) (λ x. omega arith) (λ x. omega arith) (λ x. omega arith) (inl (omega arith)),
+        )
+        (table .inside n l)
 
-  slice-stays : (r : ℕ) → r < rank → ranked slice r ≡ ranked w r
-  unfolding slice
-  slice-stays = rank-stays file w many a e rank (lacks .within) few (table .room)
+    -- each head code is that of the name
+    codes-still : (n : ℕ) → (n ≡ many) ⊎ (n < many) → getD slice (6144 + n) 0 ≡ head-code (name-of file slice n)
+    codes-still n (inl d) = rw (d, entered-new o) entered-code
+    codes-still n (inr l) =
+        entered-keeps (6144 + n) (λ x. omega arith) (λ x. omega arith) (λ x. omega arith) (inr (omega arith))
+        ∙ table .codes n l
+        ∙ ap head-code (sym (entered-old n l))
 
-  slice-new : ranked slice rank ≡ many
-  unfolding slice
-  slice-new = rank-new file w many a e rank (lacks .within) few (table .room)
+    -- each rank has a number
+    numbers-still : (r : ℕ) → Side rank many r → ranked slice r < many + 1
+    numbers-still r (lower k) = rw (rank-stays r k) (omega (arith, table .numbers r (omega arith)))
+    numbers-still r (here k) = rw (k, rank-new) (omega arith)
+    numbers-still r (higher q k l m) = rw (k, rank-moves q l m) (omega (arith, table .numbers q m))
 
-  slice-moves : (r : ℕ) → rank ≤ r → r < many → ranked slice (r + 1) ≡ ranked w r
-  unfolding slice
-  slice-moves = rank-moves file w many a e rank (lacks .within) few (table .room)
+    -- each number has a rank
+    each-still : (n : ℕ) → (n ≡ many) ⊎ (n < many) → (r : ℕ) × (r < many + 1) × (ranked slice r ≡ n)
+    each-still n (inl d) = (rank, omega arith, rank-new ∙ sym d)
+    each-still n (inr l) =
+        let (r, k, d) = table .each n l in
+        ⊎-elim (λ m. (r + 1, omega arith, rank-moves r m k ∙ d)) (λ m. (r, omega arith, rank-stays r m ∙ d)) (below-or rank r)
 
-  slice-keeps : (i : ℕ) → (i ≡ many → ⊥) → (i ≡ 2048 + many → ⊥) → (i ≡ 6144 + many → ⊥) → (i < 4096) ⊎ (4096 + many < i) → getD slice i 0 ≡ getD w i 0
-  unfolding slice
-  slice-keeps = entered-keeps file w many a e rank (lacks .within) few (table .room)
+    -- the names ascend by rank
+    ascending-still : (r q : ℕ) → r < q → Side rank many r → Side rank many q → order (name-at file slice r) (name-at file slice q) ≡ Before
+    ascending-still r q i (lower k) (lower l) = rw (at-stays r k, at-stays q l) (table .ascending r q i (omega arith))
+    ascending-still r q i (lower k) (here l) = rw (at-stays r k, l, at-new) (lacks .below r k)
+    ascending-still r q i (lower k) (higher p l m n) = rw (at-stays r k, l, at-moves p m n) (table .ascending r p (omega arith) n)
+    ascending-still r q i (here k) (lower l) = absurd (omega arith)
+    ascending-still r q i (here k) (here l) = absurd (omega arith)
+    ascending-still r q i (here k) (higher p l m n) =
+        rw (k, at-new, l, at-moves p m n) (order-flip (part file a e) (name-at file w p) .1 (lacks .above p m n))
+    ascending-still r q i (higher s k x y) (lower l) = absurd (omega arith)
+    ascending-still r q i (higher s k x y) (here l) = absurd (omega arith)
+    ascending-still r q i (higher s k x y) (higher p l m n) =
+        rw (k, at-moves s x y, l, at-moves p m n) (table .ascending s p (omega arith) n)
 
-  old-name : (n : ℕ) → n < many → name-of file slice n ≡ name-of file w n
-  unfolding slice
-  old-name = entered-old file w many a e rank (lacks .within) few (table .room)
+    -- all of that is a table with one name more
+    table-still : Table file slice (many + 1)
+    table-still = record {
+      room = omega (arith, entered-length);
+      short = table .short;
+      few = omega arith;
+      inside = λ n l. inside-still n (last-or many (omega arith));
+      numbers = λ r l. numbers-still r (side rank many r l);
+      each = λ n l. each-still n (last-or many (omega arith));
+      ascending = λ r q l m. ascending-still r q l (side rank many r (omega arith)) (side rank many q m);
+      codes = λ n l. codes-still n (last-or many (omega arith));
+    }
 
-  new-name : name-of file slice many ≡ part file a e
-  unfolding slice
-  new-name = entered-new file w many a e rank (lacks .within) few (table .room) o
-
-  -- the names at the ranks
-  at-stays : (r : ℕ) → r < rank → name-at file slice r ≡ name-at file w r
-  at-stays r l = ap (name-of file slice) (slice-stays r l) ∙ old-name (ranked w r) (table .numbers r (omega (arith, lacks .within)))
-
-  at-new : name-at file slice rank ≡ part file a e
-  at-new = ap (name-of file slice) slice-new ∙ new-name
-
-  at-moves : (r : ℕ) → rank ≤ r → r < many → name-at file slice (r + 1) ≡ name-at file w r
-  at-moves r l m = ap (name-of file slice) (slice-moves r l m) ∙ old-name (ranked w r) (table .numbers r m)
-
-  slice-inside : (n : ℕ) → (n ≡ many) ⊎ (n < many) → getD slice n 0 + getD slice (2048 + n) 0 ≤ length file
-  unfolding slice
-  slice-inside n (inl d) =
-      rw (d, entered-start file w many a e rank (lacks .within) few (table .room), entered-size file w many a e rank (lacks .within) few (table .room)) (omega arith)
-  slice-inside n (inr l) =
-      rw (
-        slice-keeps n (λ x. omega arith) (λ x. omega arith) (λ x. omega arith) (inl (omega arith)),
-        slice-keeps (2048 + n) (λ x. omega arith) (λ x. omega arith) (λ x. omega arith) (inl (omega arith)),
-      )
-      (table .inside n l)
-
-  slice-codes : (n : ℕ) → (n ≡ many) ⊎ (n < many) → getD slice (6144 + n) 0 ≡ head-code (name-of file slice n)
-  unfolding slice
-  slice-codes n (inl d) = rw (d, new-name) (entered-code file w many a e rank (lacks .within) few (table .room))
-  slice-codes n (inr l) =
-      slice-keeps (6144 + n) (λ x. omega arith) (λ x. omega arith) (λ x. omega arith) (inr (omega arith))
-      ∙ table .codes n l
-      ∙ ap head-code (sym (old-name n l))
-
-  slice-numbers : (r : ℕ) → Side rank many r → ranked slice r < many + 1
-  slice-numbers r (lower k) = rw (slice-stays r k) (omega (arith, table .numbers r (omega (arith, lacks .within))))
-  slice-numbers r (here k) = rw (k, slice-new) (omega arith)
-  slice-numbers r (higher q k l m) = rw (k, slice-moves q l m) (omega (arith, table .numbers q m))
-
-  slice-each : (n : ℕ) → (n ≡ many) ⊎ (n < many) → (r : ℕ) × (r < many + 1) × (ranked slice r ≡ n)
-  slice-each n (inl d) = (rank, omega (arith, lacks .within), slice-new ∙ sym d)
-  slice-each n (inr l) =
-      let (r, k, d) = table .each n l in
-      ⊎-elim (λ m. (r + 1, omega arith, slice-moves r m k ∙ d)) (λ m. (r, omega arith, slice-stays r m ∙ d)) (below-or rank r)
-
-  slice-ascending : (r q : ℕ) → r < q → Side rank many r → Side rank many q → order (name-at file slice r) (name-at file slice q) ≡ Before
-  slice-ascending r q h (lower k) (lower l) = rw (at-stays r k, at-stays q l) (table .ascending r q h (omega (arith, lacks .within)))
-  slice-ascending r q h (lower k) (here l) = rw (at-stays r k, l, at-new) (lacks .below r k)
-  slice-ascending r q h (lower k) (higher p l m n) = rw (at-stays r k, l, at-moves p m n) (table .ascending r p (omega arith) n)
-  slice-ascending r q h (here k) (lower l) = absurd (omega arith)
-  slice-ascending r q h (here k) (here l) = absurd (omega arith)
-  slice-ascending r q h (here k) (higher p l m n) = rw (k, at-new, l, at-moves p m n) (order-flip (part file a e) (name-at file w p) .1 (lacks .above p m n))
-  slice-ascending r q h (higher s k i j) (lower l) = absurd (omega arith)
-  slice-ascending r q h (higher s k i j) (here l) = absurd (omega arith)
-  slice-ascending r q h (higher s k i j) (higher p l m n) = rw (k, at-moves s i j, l, at-moves p m n) (table .ascending s p (omega arith) n)
-
-  last : {n : ℕ} → n < many + 1 → (n ≡ many) ⊎ (n < many)
-  last l = last-or many (omega arith)
-
-  -- a table with one name more is a table
-  pub entered-table : Table file (entered file w many a e rank) (many + 1)
-  unfolding slice
-  entered-table = record {
-    room = omega (arith, entered-length file w many a e rank (lacks .within) few (table .room), table .room);
-    short = table .short;
-    few = omega arith;
-    inside = λ n l. slice-inside n (last l);
-    numbers = λ r l. slice-numbers r (side rank many r l);
-    each = λ n l. slice-each n (last l);
-    ascending = λ r q l m. slice-ascending r q l (side rank many r (omega arith)) (side rank many q m);
-    codes = λ n l. slice-codes n (last l);
-  }
+-- a table with one name more is a table
+pub entered-table : {file w : List ℕ} {many : ℕ} → Table file w many → many < 2048 → (a e rank : ℕ) → a ≤ e → e ≤ length file
+    → look-up (names-of file w many) (part file a e) ≡ found.Missing rank → Table file (entered file w many a e rank) (many + 1)
+entered-table {file} {w} {many} table few a e rank o inside missing =
+    let lacks = found-missing table (part file a e) rank missing in
+    table-still file w many a e rank (lacks .within) few (table .room) table o inside lacks

@@ -18,6 +18,7 @@ use Rattle.model.specs.declared.Order.the-variants.{Before, After}
 use Rattle.model.proofs.ListLaws.{T-true, T-false, any-append, count-append}
 use Rattle.model.proofs.SetLaws.{order-flip, order-trans, order-irrefl, Compared, first, equal, second, compared, same-refl, same-eq, mem-cons, mem-first, mem-later, mem-append, add-mem, Ascending, empty, one, more, ascending-tail, ascending-head, ascending-cons, ascending-add, ascending-ext}
 use Rattle.text.specs.Parts.{part}
+use Rattle.names.specs.declared.Found.{Found}
 use Rattle.names.specs.declared.Found.the-variants.{At, Missing}
 use Rattle.names.specs.Table.{name-of, ranked, names-of, Table, place-from, is-before, rank-among, found-or, look-up}
 
@@ -93,7 +94,11 @@ unfolding mem any
 ascending-snoc {l = []} n a h = one
 ascending-snoc {l = m ∷ ms} n a h =
     ascending-cons
-    (λ k t. ⊎-elim (ascending-head a k) (λ u. ⊎-elim (λ e. rw e (h m (mem-first m ms))) (λ v. absurd v) (mem-cons k n [] .0 u)) (mem-append k ms (n ∷ []) .0 t))
+    (λ k t.
+    ⊎-elim
+    (ascending-head a k)
+    (λ u. ⊎-elim (λ e. rw e (h m (mem-first m ms))) (λ v. absurd v) (mem-cons k n [] .0 u))
+    (mem-append k ms (n ∷ []) .0 t))
     (ascending-snoc n (ascending-tail a) (λ k t. h k (mem-later k m ms t)))
 
 -- values that ascend are a set
@@ -114,7 +119,9 @@ count-cons test n l = go (test n) (count test l)
     go false r = omega arith
 
 -- values of which the test holds up to one, and from there on fails, count as many as that one
-pub listed-count : (test : Name → Bool) (f : ℕ → Name) (low k : ℕ) → low ≤ k → ((n : ℕ) → n < low → test (f n) ≡ true) → ((n : ℕ) → low ≤ n → n < k → test (f n) ≡ false)
+pub listed-count : (test : Name → Bool) (f : ℕ → Name) (low k : ℕ) → low ≤ k
+    → ((n : ℕ) → n < low → test (f n) ≡ true)
+    → ((n : ℕ) → low ≤ n → n < k → test (f n) ≡ false)
     → count test (listed f k) ≡ low
 unfolding listed count
 listed-count test f low zero h t u = omega arith
@@ -142,26 +149,32 @@ gathered : (ℕ → Name) → ℕ → List Name
 gathered f zero = []
 gathered f (suc k) = add (f k) (gathered f k)
 
+-- it is a set
 gathered-ascending : (f : ℕ → Name) (k : ℕ) → Ascending (gathered f k)
 unfolding gathered
 gathered-ascending f zero = empty
 gathered-ascending f (suc k) = ascending-add (f k) (gathered-ascending f k)
 
+-- with the members of the list
 gathered-mem : (name : Name) (f : ℕ → Name) (k : ℕ) → mem name (gathered f k) ≡ mem name (listed f k)
 unfolding gathered listed mem any
 gathered-mem name f zero = refl
 gathered-mem name f (suc k) =
     add-mem name (f k) (gathered f k)
-    ∙ rw (gathered-mem name f k, any-append (same name) (listed f k) (f k ∷ []), or-false (same name (f k))) (or-comm (same name (f k)) (mem name (listed f k)))
+    ∙ rw (gathered-mem name f k, any-append (same name) (listed f k) (f k ∷ []), or-false (same name (f k)))
+    (or-comm (same name (f k)) (mem name (listed f k)))
 
 -- where no value comes twice, the set counts as the list does
-gathered-count : (test : Name → Bool) (f : ℕ → Name) (k : ℕ) → ((n m : ℕ) → n < m → m < k → f n ≡ f m → ⊥) → count test (gathered f k) ≡ count test (listed f k)
+gathered-count : (test : Name → Bool) (f : ℕ → Name) (k : ℕ) → ((n m : ℕ) → n < m → m < k → f n ≡ f m → ⊥)
+    → count test (gathered f k) ≡ count test (listed f k)
 unfolding gathered listed count
 gathered-count test f zero apart = refl
 gathered-count test f (suc k) apart =
-    let new : T (mem (f k) (gathered f k)) → ⊥ = λ t. let (n, l, e) = listed-elim f k (f k) (rw (gathered-mem (f k) f k) at t) in apart n k l (omega arith) (sym e) in
+    let new : T (mem (f k) (gathered f k)) → ⊥ =
+    λ t. let (n, l, e) = listed-elim f k (f k) (rw (gathered-mem (f k) f k) at t) in apart n k l (omega arith) (sym e) in
     add-count test (f k) (gathered f k) new
-    ∙ rw (gathered-count test f k (λ n m h l. apart n m h (omega arith)), count-append test (listed f k) (f k ∷ []), count-cons test (f k) []) (omega arith)
+    ∙ rw (gathered-count test f k (λ n m h l. apart n m h (omega arith)), count-append test (listed f k) (f k ∷ []), count-cons test (f k) [])
+    (omega arith)
 
 -- where no value comes twice, a set of the values counts as their list does
 pub listed-recount : (test : Name → Bool) (f g : ℕ → Name) (k : ℕ) → ((n m : ℕ) → n < m → m < k → f n ≡ f m → ⊥) → Ascending (listed g k)
@@ -169,7 +182,9 @@ pub listed-recount : (test : Name → Bool) (f g : ℕ → Name) (k : ℕ) → (
 listed-recount test f g k apart up same =
     sym (gathered-count test f k apart)
     ∙ ap (count test)
-    (ascending-ext (gathered-ascending f k) up (λ name t. same name .0 (rw (gathered-mem name f k) at t)) (λ name t. rw (gathered-mem name f k) (same name .1 t)))
+    (ascending-ext (gathered-ascending f k) up
+    (λ name t. same name .0 (rw (gathered-mem name f k) at t))
+    (λ name t. rw (gathered-mem name f k) (same name .1 t)))
 
 -- ---- places
 
@@ -187,7 +202,8 @@ unfolding place-from
 place-before n p [] m name h = cc
 place-before n p (x ∷ xs) m name h = go (same x name) h (place-before (n + 1) p xs m name)
   where
-    go : (b : Bool) → cond b (some n) (place-from (n + 1) xs name) ≡ some p → (place-from (n + 1) xs name ≡ some p → place-from (n + 1) (xs ++ m) name ≡ some p)
+    go : (b : Bool) → cond b (some n) (place-from (n + 1) xs name) ≡ some p
+        → (place-from (n + 1) xs name ≡ some p → place-from (n + 1) (xs ++ m) name ≡ some p)
         → cond b (some n) (place-from (n + 1) (xs ++ m) name) ≡ some p
     go true h later = h
     go false h later = later h
@@ -216,7 +232,10 @@ listed-place f (suc k) n apart h =
 -- a name is one of the first k values, or belongs between two
 pub data Sought (f : ℕ → Name) (k : ℕ) (name : Name) : Type 0 where
   here : (r : ℕ) → r < k → f r ≡ name → Sought f k name
-  between : (low : ℕ) → low ≤ k → ((q : ℕ) → q < low → order (f q) name ≡ Before) → ((q : ℕ) → low ≤ q → q < k → order (f q) name ≡ After) → Sought f k name
+  between : (low : ℕ) → low ≤ k
+      → ((q : ℕ) → q < low → order (f q) name ≡ Before)
+      → ((q : ℕ) → low ≤ q → q < k → order (f q) name ≡ After)
+      → Sought f k name
 
 -- one of the two holds
 pub sought : (f : ℕ → Name) (k : ℕ) (name : Name) → ((r q : ℕ) → r < q → q < k → order (f r) (f q) ≡ Before) → Sought f k name
@@ -262,7 +281,8 @@ pub names-elim : (file w : List ℕ) (many : ℕ) (name : Name) → T (mem name 
 names-elim file w many name t = listed-elim (name-of file w) many name (rw (names-listed file w many) at t)
 
 -- the part of the file that a row says is the name of its number
-pub name-row : (file w : List ℕ) (n start size : ℕ) → start ≡ getD w n 0 → size ≡ getD w (2048 + n) 0 → part file start (start + size) ≡ name-of file w n
+pub name-row : (file w : List ℕ) (n start size : ℕ) → start ≡ getD w n 0 → size ≡ getD w (2048 + n) 0
+    → part file start (start + size) ≡ name-of file w n
 unfolding name-of
 name-row file w n start size p q = rw (p, q)
 
@@ -272,7 +292,8 @@ pub order-row : (file w : List ℕ) (n start size : ℕ) (name : Name) → start
 order-row file w n start size name p q = rw (name-row file w n start size p q)
 
 -- the order of a rank's name, from the number that was read there and the order that was answered
-pub met : (file w : List ℕ) (m n : ℕ) (name : Name) (r o : Order) → n ≡ ranked w m → r ≡ order (name-of file w n) name → r ≡ o → order (name-at file w m) name ≡ o
+pub met : (file w : List ℕ) (m n : ℕ) (name : Name) (r o : Order) → n ≡ ranked w m → r ≡ order (name-of file w n) name → r ≡ o
+    → order (name-at file w m) name ≡ o
 met file w m n name r o p q t = rw (← p) (sym q ∙ t)
 
 -- a name that a table lacks: the names at the ranks below one stand before it, and the others after it
@@ -299,14 +320,16 @@ module _ {file w : List ℕ} {many : ℕ} (table : Table file w many) where
       let (q, i, c) = table .each m l in
       sym d ∙ ap (ranked w) (same-rank r q k i (rw (d, c) e)) ∙ c
 
+  -- no name comes twice
   apart : (n m : ℕ) → n < m → m < many → name-of file w n ≡ name-of file w m → ⊥
   apart n m h l e = omega (arith, distinct n m (omega arith) l e)
 
-  -- the names in the order of the index are a set with the members of the names
+  -- the names in the order of the index are a set
   pub index-ascending : Ascending (index-names file w many)
   unfolding index-names
   index-ascending = listed-ascending (name-at file w) many (table .ascending)
 
+  -- with the members of the names
   pub index-members : (name : Name) → T (mem name (names-of file w many)) ↔ T (mem name (index-names file w many))
   unfolding index-names
   index-members name = (
@@ -315,7 +338,8 @@ module _ {file w : List ℕ} {many : ℕ} (table : Table file w many) where
   )
 
   -- where a rank's name stands before a name, those of the lower ranks do
-  pub all-before : (m : ℕ) (name : Name) → m < many → order (name-at file w m) name ≡ Before → (q : ℕ) → q < m + 1 → order (name-at file w q) name ≡ Before
+  pub all-before : (m : ℕ) (name : Name) → m < many → order (name-at file w m) name ≡ Before
+      → (q : ℕ) → q < m + 1 → order (name-at file w q) name ≡ Before
   all-before m name h p q l =
       ⊎-elim (λ e. rw e p) (λ k. order-trans (name-at file w q) (name-at file w m) name (table .ascending q m k h) p) (last-or m (omega arith))
 
@@ -324,7 +348,9 @@ module _ {file w : List ℕ} {many : ℕ} (table : Table file w many) where
   all-after m name p q l k =
       ⊎-elim
       (λ e. rw (← e) p)
-      (λ h. order-flip name (name-at file w q) .0 (order-trans name (name-at file w m) (name-at file w q) (order-flip name (name-at file w m) .1 p) (table .ascending m q h k)))
+      (λ h.
+      let first = order-flip name (name-at file w m) .1 p in
+      order-flip name (name-at file w q) .0 (order-trans name (name-at file w m) (name-at file w q) first (table .ascending m q h k)))
       (eq-or-lt-of-le l)
 
   -- a name that stands at a rank is found there
@@ -333,7 +359,9 @@ module _ {file w : List ℕ} {many : ℕ} (table : Table file w many) where
   look-up-at r name h e = rw (← e, names-listed file w many, listed-place (name-of file w) many (ranked w r) apart (table .numbers r h))
 
   -- a name that no rank has is not among the names
-  not-among : (low : ℕ) (name : Name) → ((q : ℕ) → q < low → order (name-at file w q) name ≡ Before) → ((q : ℕ) → low ≤ q → q < many → order (name-at file w q) name ≡ After)
+  not-among : (low : ℕ) (name : Name)
+      → ((q : ℕ) → q < low → order (name-at file w q) name ≡ Before)
+      → ((q : ℕ) → low ≤ q → q < many → order (name-at file w q) name ≡ After)
       → T (mem name (names-of file w many)) → ⊥
   not-among low name b a t =
       let (n, h, e) = names-elim file w many name t in
@@ -384,6 +412,10 @@ module _ {file w : List ℕ} {many : ℕ} (table : Table file w many) where
           let d : low ≡ rank = cc in
           let lacks : Lacks file w many name low = record { within = l; below = b; above = a; absent = not-among low name b a } in
           rw d at lacks
+
+  -- the rank that is answered is at most the count
+  pub missing-within : (name : Name) (rank : ℕ) (x : Found) → x ≡ look-up (names-of file w many) name → x ≡ Missing rank → rank ≤ many
+  missing-within name rank x p q = found-missing name rank (sym p ∙ q) .within
 
 -- a slice with room, and no names
 pub empty-table : (file w : List ℕ) → 16384 ≤ length w → length file ≤ 65535 → Table file w 0

@@ -7,7 +7,7 @@ use mathlib.Core.List.{List, [], _∷_, _++_}
 use lib.ListN.{length}
 use lib.Dec.{T, not-T, ltb}
 use borrow.Author.Tests.{lt-ltb, le-ltb, ltb-true, ltb-false}
-use Rattle.model.specs.Names.{mem}
+use Rattle.model.specs.Names.{Name, mem}
 use Rattle.model.specs.Reading.{spell}
 use Rattle.model.proofs.ListLaws.{cond-true, cond-false}
 use Rattle.text.specs.Parts.{part}
@@ -18,6 +18,16 @@ use Rattle.names.specs.declared.Spelled.the-variants.{Known, New, Full}
 use Rattle.names.specs.Table.{name-of, names-of, Table, look-up, entered, spell-answer, spell-table}
 use Rattle.names.proofs.Laws.{Lacks, found-at, found-missing, names-intro}
 use Rattle.names.proofs.Entering.{entered-names, entered-table}
+
+-- to spell a name that is among the names changes nothing
+spell-old : (name : Name) (names : List Name) → T (mem name names) → names ≡ spell names name
+unfolding spell
+spell-old name names t = sym (cond-true (mem name names) names (names ++ (name ∷ [])) t)
+
+-- to spell another appends it
+spell-fresh : (name : Name) (names : List Name) → (T (mem name names) → ⊥) → names ++ (name ∷ []) ≡ spell names name
+unfolding spell
+spell-fresh name names h = sym (cond-false (mem name names) names (names ++ (name ∷ [])) (not-T (mem name names) h))
 
 -- where the table has room, a missing name is new
 pub missing-new : (file w : List ℕ) (many a e rank : ℕ) → many < 2048
@@ -32,7 +42,8 @@ unfolding spell-answer spell-table
 missing-full file w many a e rank h = (rw (le-ltb many 2048 h), rw (le-ltb many 2048 h))
 
 -- what was answered by what a look-up found is answered by the look-up
-pub spell-by : (file w w′ : List ℕ) (many a e : ℕ) (r : Spelled) (l f x : Found) → x ≡ l → x ≡ f → r ≡ spell-answer many f → w′ ≡ spell-table file w many a e f
+pub spell-by : (file w w′ : List ℕ) (many a e : ℕ) (r : Spelled) (l f x : Found) → x ≡ l → x ≡ f
+    → r ≡ spell-answer many f → w′ ≡ spell-table file w many a e f
     → (r ≡ spell-answer many l) × (w′ ≡ spell-table file w many a e l)
 spell-by file w w′ many a e r l f x p q answer table = rw (← p, q) (answer, table)
 
@@ -70,10 +81,11 @@ module _ {file w : List ℕ} {many : ℕ} (table : Table file w many) (a e : ℕ
   -- the answer and the slice of spelling a name, and the names then
   pub spell-law : (w′ : List ℕ) (r : Spelled) → r ≡ spell-answer many (look-up (names-of file w many) (part file a e))
       → w′ ≡ spell-table file w many a e (look-up (names-of file w many) (part file a e)) → Spelling file w w′ many a e r
-  unfolding spell-answer spell-table spell
+  unfolding spell-answer spell-table
   spell-law w′ r p q = rw p (go (look-up (names-of file w many) (part file a e)) refl q)
     where
-      go : (f : Found) → look-up (names-of file w many) (part file a e) ≡ f → w′ ≡ spell-table file w many a e f → Spelling file w w′ many a e (spell-answer many f)
+      go : (f : Found) → look-up (names-of file w many) (part file a e) ≡ f → w′ ≡ spell-table file w many a e f
+          → Spelling file w w′ many a e (spell-answer many f)
       go (At n) d q =
           let (h, named) = found-at table (part file a e) n d in
           known
@@ -81,14 +93,15 @@ module _ {file w : List ℕ} {many : ℕ} (table : Table file w many) (a e : ℕ
             number = h;
             named = named;
             kept = q;
-            names = sym (cond-true (mem (part file a e) (names-of file w many)) (names-of file w many) (names-of file w many ++ (part file a e ∷ [])) (rw named at (names-intro file w many n h)));
+            names = spell-old (part file a e) (names-of file w many) (rw named at (names-intro file w many n h));
           })
       go (Missing rank) d q = choose (ltb many 2048) refl q
         where
           lacks : Lacks file w many (part file a e) rank
           lacks = found-missing table (part file a e) rank d
 
-          choose : (t : Bool) → ltb many 2048 ≡ t → w′ ≡ cond t (entered file w many a e rank) w → Spelling file w w′ many a e (cond t (New many) Full)
+          choose : (t : Bool) → ltb many 2048 ≡ t → w′ ≡ cond t (entered file w many a e rank) w
+              → Spelling file w w′ many a e (cond t (New many) Full)
           choose true t q =
               let few = ltb-true many 2048 t in
               let names = entered-names file w many a e rank (lacks .within) few (table .room) o in
@@ -101,12 +114,13 @@ module _ {file w : List ℕ} {many : ℕ} (table : Table file w many) (a e : ℕ
                 slice = q;
                 table = rw q (entered-table table few a e rank o inside d);
                 appended = rw q names;
-                names = rw q (names ∙ sym (cond-false (mem (part file a e) (names-of file w many)) (names-of file w many) (names-of file w many ++ (part file a e ∷ [])) (not-T (mem (part file a e) (names-of file w many)) (lacks .absent))));
+                names = rw q (names ∙ spell-fresh (part file a e) (names-of file w many) (lacks .absent));
               })
           choose false t q = full (record { full = omega (arith, table .few, ltb-false many 2048 t); absent = lacks .absent; kept = q })
 
 -- what the answer that a name is known says
-pub spelled-known : {file w w′ : List ℕ} {many a e n : ℕ} {r : Spelled} → Spelling file w w′ many a e r → r ≡ Known n → Was-known file w w′ many a e n
+pub spelled-known : {file w w′ : List ℕ} {many a e n : ℕ} {r : Spelled} → Spelling file w w′ many a e r → r ≡ Known n
+    → Was-known file w w′ many a e n
 spelled-known {file} {w} {w′} {many} {a} {e} {n} s p = go (rw p at s)
   where
     go : Spelling file w w′ many a e (Known n) → Was-known file w w′ many a e n

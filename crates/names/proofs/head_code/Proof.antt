@@ -45,25 +45,31 @@ same-text-requires : tie.Need-same-text-requires Inv-loop μ-loop
 same-text-requires c κs = c .before .before .before .before .before .before .before .pre
 
 returns : tie.Need-returns Inv-loop μ-loop
-returns c = sym (c .before .before .before .before .before .before .before .loop .inv .3 ∙ code-here _ _ _ _ (c .before .before .before .before .before .before .loop-test .taken) (omega arith) (omega arith) (c .before .before .before .before .find .ensures) _ _ (sym (c .before .same-text .ensures) ∙ c .if1 .taken))
+returns c =
+    let same = sym (c .before .same-text .ensures) ∙ c .if1 .taken in
+    sym (c .before .before .before .before .before .before .before .loop .inv .3 ∙ code-here _ _ _ _ (c .before .before .before .before .before .before .loop-test .taken) (omega arith) (omega arith) (c .before .before .before .before .find .ensures) _ _ same)
 
 add-code : tie.Need-add-code Inv-loop μ-loop
 add-code c = omega arith
 
 add-i : tie.Need-add-i Inv-loop μ-loop
-add-i c = omega (arith, mark-to _ _ _ _ _ (c .before .before .before .before .find .ensures) (c .before .before .before .before .before .before .loop-test .taken) (omega arith))
+add-i c =
+    let stop = c .before .before .before .before .find .ensures in
+    omega (arith, mark-to _ _ _ _ _ stop (c .before .before .before .before .before .before .loop-test .taken) (omega arith))
 
 loop-less : tie.Need-loop-less Inv-loop μ-loop
 loop-less c = omega (arith, mark-from _ _ _ _ _ (c .before .before .before .before .find .ensures))
 
 loop-again : tie.Need-loop-again Inv-loop μ-loop
 loop-again c =
-    let from = mark-from _ _ _ _ _ (c .before .before .before .before .find .ensures) in
-    let to = mark-to _ _ _ _ _ (c .before .before .before .before .find .ensures) (c .before .before .before .before .before .before .loop-test .taken) (omega arith) in (
+    let stop = c .before .before .before .before .find .ensures in
+    let from = mark-from _ _ _ _ _ stop in
+    let to = mark-to _ _ _ _ _ stop (c .before .before .before .before .before .before .loop-test .taken) (omega arith) in
+    let other = sym (c .before .same-text .ensures) ∙ c .if1 .left in (
       omega arith,
       omega arith,
       refl,
-      c .before .before .before .before .before .before .before .loop .inv .3 ∙ code-on _ _ _ _ (c .before .before .before .before .before .before .loop-test .taken) (omega arith) (omega arith) (c .before .before .before .before .find .ensures) _ _ (sym (c .before .same-text .ensures) ∙ c .if1 .left),
+      c .before .before .before .before .before .before .before .loop .inv .3 ∙ code-on _ _ _ _ (c .before .before .before .before .before .before .loop-test .taken) (omega arith) (omega arith) stop _ _ other,
     )
 
 returns-2 : tie.Need-returns-2 Inv-loop μ-loop

@@ -38,12 +38,12 @@ at-requires c κs = omega (arith, c .before .before .before .before .pre .0 .roo
 
 compare-requires : tie.Need-compare-requires Inv-loop μ-loop
 compare-requires c κs =
-    let low = c .before .before .loop .low in
-    let middle = low + (c .before .before .loop .high - low) / 2 in
+    let now = c .before .before .loop in
+    let middle = now .low + (now .high - now .low) / 2 in
     let table = c .before .before .before .before .before .pre .0 in
     let n = c .at .result in
-    let h : n < c .before .before .before .before .before .args .many = rw (c .at .ensures) (table .numbers middle (omega arith)) in
-    (omega (arith, table .room, table .few), table .inside n h, c .before .before .before .before .before .pre .1, c .before .before .before .before .before .pre .2)
+    let known : n < c .before .before .before .before .before .args .many = rw (c .at .ensures) (table .numbers middle (omega arith)) in
+    (omega (arith, table .room, table .few), table .inside n known, c .before .before .before .before .before .pre .1, c .before .before .before .before .before .pre .2)
 
 enum-told : tie.Need-enum-told Inv-loop μ-loop
 enum-told c = c .match .keys1
@@ -56,18 +56,22 @@ loop-less c = omega arith
 
 loop-again : tie.Need-loop-again Inv-loop μ-loop
 loop-again c =
-    let low = c .before .before .before .before .before .loop .low in
-    let middle = low + (c .before .before .before .before .before .loop .high - low) / 2 in
-    (omega arith, omega arith, all-before (c .before .before .before .before .before .before .before .before .pre .0) middle _ (omega arith) (met _ _ middle _ _ _ _ (c .before .before .before .at .ensures) (c .before .before .compare .ensures) (c .enum-told .given .1)), c .before .before .before .before .before .loop .inv .3)
+    let now = c .before .before .before .before .before .loop in
+    let middle = now .low + (now .high - now .low) / 2 in
+    let table = c .before .before .before .before .before .before .before .before .pre .0 in
+    let order = met _ _ middle _ _ _ _ (c .before .before .before .at .ensures) (c .before .before .compare .ensures) (c .enum-told .given .1) in
+    (omega arith, omega arith, all-before table middle _ (omega arith) order, now .inv .3)
 
 enum-told-2 : tie.Need-enum-told-2 Inv-loop μ-loop
 enum-told-2 c = c .match .keys2
 
 returns : tie.Need-returns Inv-loop μ-loop
 returns c =
-    let low = c .before .before .before .before .before .loop .low in
-    let middle = low + (c .before .before .before .before .before .loop .high - low) / 2 in
-    ap At (c .before .before .before .at .ensures) ∙ sym (look-up-at (c .before .before .before .before .before .before .before .before .pre .0) middle _ (omega arith) (order-same (met _ _ middle _ _ _ _ (c .before .before .before .at .ensures) (c .before .before .compare .ensures) (c .enum-told2 .given .1))))
+    let now = c .before .before .before .before .before .loop in
+    let middle = now .low + (now .high - now .low) / 2 in
+    let table = c .before .before .before .before .before .before .before .before .pre .0 in
+    let order = met _ _ middle _ _ _ _ (c .before .before .before .at .ensures) (c .before .before .compare .ensures) (c .enum-told2 .given .1) in
+    ap At (c .before .before .before .at .ensures) ∙ sym (look-up-at table middle _ (omega arith) (order-same order))
 
 enum-told-3 : tie.Need-enum-told-3 Inv-loop μ-loop
 enum-told-3 c = c .match .keys3
@@ -77,12 +81,16 @@ loop-less-2 c = omega arith
 
 loop-again-2 : tie.Need-loop-again-2 Inv-loop μ-loop
 loop-again-2 c =
-    let low = c .before .before .before .before .before .loop .low in
-    let middle = low + (c .before .before .before .before .before .loop .high - low) / 2 in
-    (omega arith, omega arith, c .before .before .before .before .before .loop .inv .2, all-after (c .before .before .before .before .before .before .before .before .pre .0) middle _ (met _ _ middle _ _ _ _ (c .before .before .before .at .ensures) (c .before .before .compare .ensures) (c .enum-told3 .given .1)))
+    let now = c .before .before .before .before .before .loop in
+    let middle = now .low + (now .high - now .low) / 2 in
+    let table = c .before .before .before .before .before .before .before .before .pre .0 in
+    let order = met _ _ middle _ _ _ _ (c .before .before .before .at .ensures) (c .before .before .compare .ensures) (c .enum-told3 .given .1) in
+    (omega arith, omega arith, now .inv .2, all-after table middle _ order)
 
 returns-2 : tie.Need-returns-2 Inv-loop μ-loop
-returns-2 c = sym (look-up-missing (c .before .before .before .before .pre .0) (c .before .loop .low) _ (omega arith) (c .before .loop .inv .2) (λ q h l. c .before .loop .inv .3 q (omega arith) l))
+returns-2 c =
+    let now = c .before .loop in
+    sym (look-up-missing (c .before .before .before .before .pre .0) (now .low) _ (omega arith) (now .inv .2) (λ q h l. now .inv .3 q (omega arith) l))
 
 pub look-up-spec : {M : Type 1} → statement M
 look-up-spec =

@@ -1,7 +1,7 @@
 -- `names::spell` meets its contract.
-use mathlib.Core.Path.{refl, sym, _∙_}
+use mathlib.Core.Path.{refl}
 use Rattle.names.specs.Table.{spell-answer, spell-table}
-use Rattle.names.proofs.Laws.{found-missing}
+use Rattle.names.proofs.Laws.{missing-within}
 use Rattle.names.proofs.Spelling.{spell-by}
 use borrow.Author.Needs.{needs}
 use Rattle.names.proofs.spell.Statement.{statement}
@@ -18,8 +18,8 @@ enum-known-rank c = c .match .keys2
 
 enter-requires : tie.Need-enter-requires
 enter-requires c κs =
-    let lacks = found-missing (c .before .before .before .before .before .before .before .before .pre .0) _ _ (sym (c .before .before .before .before .look-up .ensures) ∙ c .before .before .rank .given .1) in
-    (c .before .before .before .before .before .before .before .before .pre .0, c .before .before .before .before .before .before .before .before .pre .1, c .before .before .before .before .before .before .before .before .pre .2, lacks .within)
+    let pre = c .before .before .before .before .before .before .before .before .pre in
+    (pre .0, pre .1, pre .2, missing-within (pre .0) _ _ _ (c .before .before .before .before .look-up .ensures) (c .before .before .rank .given .1))
 
 same-length : tie.Need-same-length
 same-length c = search needs
@@ -32,7 +32,8 @@ same-length-2 : tie.Need-same-length-2
 same-length-2 c = search needs
 
 returns-2 : tie.Need-returns-2
-returns-2 c = spell-by _ _ _ _ _ _ _ _ _ _ (c .before .before .before .before .before .before .before .look-up .ensures) (c .before .before .before .before .before .rank .given .1) (c .before .before .enter .ensures .0) (c .before .before .enter .ensures .1)
+returns-2 c =
+    spell-by _ _ _ _ _ _ _ _ _ _ (c .before .before .before .before .before .before .before .look-up .ensures) (c .before .before .before .before .before .rank .given .1) (c .before .before .enter .ensures .0) (c .before .before .enter .ensures .1)
 
 pub spell-spec : {M : Type 1} → statement M
 spell-spec =
