@@ -15,7 +15,7 @@ at-requires-2 : tie.Need-at-requires-2
 at-requires-2 c κs = omega arith
 
 add-result : tie.Need-add-result
-add-result c = omega (arith, c .before .before .before .before .pre .0 .inside (c .before .before .before .before .args .n) (c .before .before .before .before .pre .1))
+add-result c = omega (arith, c .before .before .before .before .pre .0 .inside (c .before .before .before .before .args .n) (omega arith))
 
 sub-result : tie.Need-sub-result
 sub-result c = omega arith
@@ -24,7 +24,7 @@ part-result-start : tie.Need-part-result-start
 part-result-start c = search needs
 
 part-result-end : tie.Need-part-result-end
-part-result-end c = omega (arith, c .before .before .before .before .pre .0 .inside (c .before .before .before .before .args .n) (c .before .before .before .before .pre .1))
+part-result-end c = omega (arith, c .before .before .before .before .pre .0 .inside (c .before .before .before .before .args .n) (omega arith))
 
 returns : tie.Need-returns
 returns c = name-row _ _ _ _ _ (c .before .before .at .ensures) (c .before .at2 .ensures)
