@@ -22,7 +22,7 @@ pub record Parts (law : List Name → List Name → Type 0) (exclude : List Name
 
 -- the law holds of every disjunct, and the kind tells how many disjuncts there are
 pub record Lawful (law : List Name → List Name → Type 0) (k : Kinded) : Type 0 where
-  pub no-triggers : Counts-disjuncts (k .kind) (k .triggers)
+  pub disjunct-count : Counts-disjuncts (k .kind) (k .triggers)
   pub disjuncts : (d : List Name) → List·Memᴰ d (k .triggers) → law (k .trimmed) d
 
 -- the law holds of what a rule gives, if it gives something
@@ -69,24 +69,24 @@ module _ (law : List Name → List Name → Type 0) where
   -- triggers of which the law holds are lawful
   lawful-triggers : (ts : List (List Name)) → Each [] ts → Lawful law (Sum-triggers ts)
   unfolding Sum-triggers
-  lawful-triggers ts h = record { no-triggers = refl; disjuncts = h }
+  lawful-triggers ts h = record { disjunct-count = refl; disjuncts = h }
 
   -- an ambient, which has no triggers, is lawful
   lawful-ambient : (is-root : Bool) → Lawful law (Sum-ambient is-root)
   unfolding Sum-ambient
-  lawful-ambient is-root = record { no-triggers = refl; disjuncts = λ d i. absurd (List·Memᴰ·not-nil i) }
+  lawful-ambient is-root = record { disjunct-count = refl; disjuncts = λ d i. absurd (List·Memᴰ·not-nil i) }
 
   -- a dropped fact, which has no triggers, is lawful
   lawful-drop : Lawful law Sum-drop
   unfolding Sum-drop
-  lawful-drop = record { no-triggers = refl; disjuncts = λ d i. absurd (List·Memᴰ·not-nil i) }
+  lawful-drop = record { disjunct-count = refl; disjuncts = λ d i. absurd (List·Memᴰ·not-nil i) }
 
   -- what a token gives is lawful where the token and what it trims to are
   lawful-token : (token : Name) → ((trimmed : List Name) → law trimmed (token ∷ [])) → ((n : Name) → law (n ∷ []) (n ∷ [])) → Lawful law (token-triggers token)
   unfolding token-triggers
   lawful-token token whole short =
       cond-case (Lawful law) (ends-with token (bytes "@tok"))
-      (record { no-triggers = refl; disjuncts = each-more (whole _) (each-one (short _)) })
+      (record { disjunct-count = refl; disjuncts = each-more (whole _) (each-one (short _)) })
       (lawful-triggers ((token ∷ []) ∷ []) (each-one (whole [])))
 
   module _ (exclude : List Name) (terms : List Term) (parts : Parts law exclude terms) where

@@ -233,7 +233,7 @@ module _ {roots : List Root} (decls : List Summary) (w : Well-formed decls roots
       let g = w .good-facts f m in
       rw (filed-triggers, lookup decls (w .distinct) triggers-of [] u (f .name), append-nil)
       (try-find-intro (collect triggers-of decls) u
-      (collect-intro triggers-of (fact-summary decls m) (triggers-intro (f .kind) (f .triggers) (g .no-triggers) i (List·Memᴰ·head (λ j. (f .name, sym (sets-again (f .triggers) (g .trigger-sets)) j))))))
+      (collect-intro triggers-of (fact-summary decls m) (triggers-intro (f .kind) (f .triggers) (g .disjunct-count) i (List·Memᴰ·head (λ j. (f .name, sym (sets-again (f .triggers) (g .trigger-sets)) j))))))
 
   -- the facts that wait on a name list it
   pub waits-elim : (b : Bool) (n : Name) {a : Passumption} → List·Memᴰ a (waiting (add-summaries b decls init) n) → (f : Fact) × List·Memᴰ f (facts decls) × List·Memᴰ n (listed f) × (a ≡ passumption f)
@@ -249,7 +249,7 @@ module _ {roots : List Root} (decls : List Summary) (w : Well-formed decls roots
   waits-intro b n {f} m i =
       rw (filed-waiting, append-nil)
       (collect-reverse-intro (waiting-of n) decls
-      (collect-intro (waiting-of n) (fact-summary decls m) (triggers-intro (f .kind) (f .triggers) (w .good-facts f m .no-triggers) i (entries-intro (λ t. cond (same t n) (passumption f ∷ []) []) (f .triggers) i (itself-cond (same n n) (passumption f) (same-refl n))))))
+      (collect-intro (waiting-of n) (fact-summary decls m) (triggers-intro (f .kind) (f .triggers) (w .good-facts f m .disjunct-count) i (entries-intro (λ t. cond (same t n) (passumption f ∷ []) []) (f .triggers) i (itself-cond (same n n) (passumption f) (same-refl n))))))
 
   -- the state's macros are those of the file
   pub finds-macro : (b : Bool) (n : Name) → try-find (add-summaries b decls init .macro-freenames) n ≡ try-find (macros decls) n
@@ -286,7 +286,7 @@ module _ {roots : List Root} (decls : List Summary) (w : Well-formed decls roots
       within : (n : Name) → T (mem n (filed (facts decls))) → T (mem n all-keys)
       within n t =
           let (f, i, j) = collect-elim listed (facts decls) (mem-elim t) in
-          mem-intro (rw (filed-keys, append-nil) (collect-reverse-intro new decls (collect-intro new (fact-summary decls i) (triggers-intro (f .kind) (f .triggers) (w .good-facts f i .no-triggers) j (entries-intro itself (f .triggers) j (List·Memᴰ·head refl))))))
+          mem-intro (rw (filed-keys, append-nil) (collect-reverse-intro new decls (collect-intro new (fact-summary decls i) (triggers-intro (f .kind) (f .triggers) (w .good-facts f i .disjunct-count) j (entries-intro itself (f .triggers) j (List·Memᴰ·head refl))))))
 
       inside : length (from-list (filed (facts decls))) ≤ length (from-list all-keys)
       inside = subset-length (ascending-from-list (filed (facts decls))) (ascending-from-list all-keys) (λ n t. mem-from-list n all-keys .1 (within n (mem-from-list n (filed (facts decls)) .0 t)))

@@ -76,7 +76,7 @@ module _ (a : Ask) (decls : List Summary) (roots : List Root) (wf : Well-formed 
   reached-no-ambient f m t =
       let (g, i, e, r, u) = run-end a decls roots wf .reached-fires (f .name) t in
       let h = fires-elim (run a decls roots .met) g u in
-      rw (← fact-by-name wf i m e) (with-disjunct (g .kind) (wf .good-facts g i .no-triggers) (h .is-disjunct))
+      rw (← fact-by-name wf i m e) (with-disjunct (g .kind) (wf .good-facts g i .disjunct-count) (h .is-disjunct))
 
   -- the kept facts that are not ambient are the reached facts
   pub kept-not-ambient : keep (λ f. not (is-ambient (f .kind))) (kept-facts a (facts decls) (run a decls roots .reached)) ≡ reached-facts (facts decls) (run a decls roots .reached)

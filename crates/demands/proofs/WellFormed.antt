@@ -75,7 +75,7 @@ module _ {terms : List Term} (sets : Term-sets terms) where
     unfolding summarize-assumption
     good-summary line name pretyping t =
         let k = lawful-kind (λ trimmed d. Ascending d) exclude terms part-sets name t in
-        record { no-triggers = k .no-triggers; free-set = free-set t; trigger-sets = k .disjuncts }
+        record { disjunct-count = k .disjunct-count; free-set = free-set t; trigger-sets = k .disjuncts }
 
     -- what a line adds is well formed
     well-line : (n : ℕ) (c : Content) → Well-formed (summarize-decl exclude terms n c) (root-of exclude terms n c)

@@ -29,7 +29,7 @@ Counts-disjuncts (Triggers n) triggers = n ≡ length triggers
 
 -- what holds of a fact that was read: its name lists are sets, and its kind tells how many disjuncts it has
 pub record Good-fact (f : Fact) : Type 0 where
-  pub no-triggers : Counts-disjuncts (f .kind) (f .triggers)
+  pub disjunct-count : Counts-disjuncts (f .kind) (f .triggers)
   pub free-set : Ascending (f .free-names)
   pub trigger-sets : (d : List Name) → List·Memᴰ d (f .triggers) → Ascending d
 

@@ -1,0 +1,45 @@
+-- The names that the twelve rules, `exclude_names` and the five starting macros know, and a code for each.
+use Prim.Native.Nat.{ℕ, _+_}
+use Prim.Native.String.{String}
+use mathlib.Core.Bool.{cond}
+use mathlib.Core.List.{List, [], _∷_, map}
+use Rattle.model.specs.Names.{Name, bytes, same}
+
+-- the known names, in the order of their codes from 1: the nine of `exclude_names`, the macros, what these open to, the rules'
+unfoldable pub known-names : List String
+known-names =
+    "SFuel"
+    ∷ "ZFuel"
+    ∷ "HasType"
+    ∷ "HasTypeZ"
+    ∷ "HasTypeFuel"
+    ∷ "Valid"
+    ∷ "ApplyTT"
+    ∷ "ApplyTF"
+    ∷ "Prims.lex_t"
+    ∷ "is-BoxBool"
+    ∷ "is-BoxInt"
+    ∷ "is-BoxString"
+    ∷ "is-BoxReal"
+    ∷ "is-BoxProp"
+    ∷ "BoxBool"
+    ∷ "BoxInt"
+    ∷ "BoxString"
+    ∷ "BoxReal"
+    ∷ "BoxProp"
+    ∷ "Prims.squash"
+    ∷ "Prims.hasEq"
+    ∷ "IsTotFun"
+    ∷ "is-Tm_arrow"
+    ∷ "Term_constr_id"
+    ∷ "__uu__PartialApp"
+    ∷ []
+
+-- the code of a name among names whose first has the code n: 0 where it is none of them
+unfoldable pub code-from : ℕ → List Name → Name → ℕ
+code-from n [] name = 0
+code-from n (k ∷ ks) name = let other = code-from (n + 1) ks name in cond (same name k) n other
+
+-- the head code of a name: its place among the known names from 1, or 0
+unfoldable pub head-code : Name → ℕ
+head-code name = code-from 1 (map bytes known-names) name

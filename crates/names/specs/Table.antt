@@ -1,0 +1,93 @@
+-- The name table in a lent slice: 8 columns of 2,048 words. By name number: where the name starts in the file (column 0),
+-- its length (1), its head code (3); by rank in byte order: the number (2). The other columns are others' concern.
+use Prim.Native.Nat.{ℕ, zero, suc, _+_, _-_, _≤_, _<_}
+use mathlib.Core.Path.{_≡_}
+use mathlib.Core.Bool.{Bool, true, false, cond}
+use mathlib.Core.List.{List, [], _∷_, _++_}
+use mathlib.Core.Option.{Option, none, some}
+use lib.ListN.{length, take, drop, getD, set}
+use Rattle.model.specs.Lists.{count}
+use Rattle.model.specs.Names.{Name, order, same}
+use Rattle.model.specs.declared.Order.{Order}
+use Rattle.model.specs.declared.Order.the-variants.{Before, Same, After}
+use Rattle.text.specs.Parts.{part}
+use Rattle.names.specs.Known.{head-code}
+use lib.Dec.{ltb}
+use Rattle.names.specs.declared.Found.{Found}
+use Rattle.names.specs.declared.Found.the-variants as found
+use Rattle.names.specs.declared.Spelled.{Spelled}
+use Rattle.names.specs.declared.Spelled.the-variants as spelled
+
+-- the name of a number: the part of the file that its row says
+unfoldable pub name-of : List ℕ → List ℕ → ℕ → Name
+name-of file w n = part file (getD w n 0) (getD w n 0 + getD w (2048 + n) 0)
+
+-- the number that stands at a rank of the byte-order index
+abbrev pub ranked : List ℕ → ℕ → ℕ
+ranked w r = getD w (4096 + r) 0
+
+-- the names of a table with `many` names, by number
+unfoldable pub names-of : List ℕ → List ℕ → ℕ → List Name
+names-of file w zero = []
+names-of file w (suc many) = names-of file w many ++ (name-of file w many ∷ [])
+
+-- a table of `many` names of the file
+pub record Table (file w : List ℕ) (many : ℕ) : Type 0 where
+  pub room : 16384 ≤ length w
+  pub short : length file ≤ 65535
+  pub few : many ≤ 2048
+  -- each row is a part of the file
+  pub inside : (n : ℕ) → n < many → getD w n 0 + getD w (2048 + n) 0 ≤ length file
+  -- the index lists numbers, each of them, and their names in ascending order
+  pub numbers : (r : ℕ) → r < many → ranked w r < many
+  pub each : (n : ℕ) → n < many → (r : ℕ) × (r < many) × (ranked w r ≡ n)
+  pub ascending : (r q : ℕ) → r < q → q < many
+      → order (name-of file w (ranked w r)) (name-of file w (ranked w q)) ≡ Before
+  -- the head codes
+  pub codes : (n : ℕ) → n < many → getD w (6144 + n) 0 ≡ head-code (name-of file w n)
+
+-- the place of the first equal name in a list that starts at place n
+unfoldable pub place-from : ℕ → List Name → Name → Option ℕ
+place-from n [] name = none
+place-from n (m ∷ ms) name = let other = place-from (n + 1) ms name in cond (same m name) (some n) other
+
+-- whether the order is that of a name before another
+unfoldable pub is-before : Order → Bool
+is-before Before = true
+is-before Same = false
+is-before After = false
+
+-- where a name belongs in byte order: how many names stand before it
+unfoldable pub rank-among : List Name → Name → ℕ
+rank-among names name = count (λ m. is-before (order m name)) names
+
+-- a look-up's answer: the name's number, or the rank where it belongs
+unfoldable pub found-or : Option ℕ → ℕ → Found
+found-or none rank = found.Missing rank
+found-or (some n) rank = found.At n
+
+-- the number of a name in a list of names, or the rank where it belongs
+unfoldable pub look-up : List Name → Name → Found
+look-up names name = found-or (place-from 0 names name) (rank-among names name)
+
+-- the slice with the number `many` put into the index at a rank, the later ranks moved up by one
+unfoldable pub index-with : List ℕ → ℕ → ℕ → List ℕ
+index-with w many rank =
+    take (4096 + rank) w
+    ++ (many ∷ take (many - rank) (drop (4096 + rank) w))
+    ++ drop (4096 + many + 1) w
+
+-- the slice with one name more: its row, its head code, its place in the index; nothing else changes
+unfoldable pub entered : List ℕ → List ℕ → ℕ → ℕ → ℕ → ℕ → List ℕ
+entered file w many a e rank =
+    set (set (set (index-with w many rank) many a) (2048 + many) (e - a)) (6144 + many) (head-code (part file a e))
+
+-- what spelling a name comes to, by what the look-up found: at 2,048 names the table is full
+unfoldable pub spell-answer : ℕ → Found → Spelled
+spell-answer many (found.At n) = spelled.Known n
+spell-answer many (found.Missing rank) = cond (ltb many 2048) (spelled.New many) spelled.Full
+
+-- the slice then: only a new name changes it, and a full table changes nothing
+unfoldable pub spell-table : List ℕ → List ℕ → ℕ → ℕ → ℕ → Found → List ℕ
+spell-table file w many a e (found.At n) = w
+spell-table file w many a e (found.Missing rank) = cond (ltb many 2048) (entered file w many a e rank) w

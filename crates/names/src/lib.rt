@@ -1,0 +1,138 @@
+use model::Order;
+ghost use Prim.Native.Nat.{_+_, _≤_, _<_};
+ghost use mathlib.Core.Path.{_≡_};
+ghost use lib.ListN.{length, getD};
+ghost use Rattle.model.specs.Names.{order};
+ghost use Rattle.text.specs.Parts.{part};
+ghost use Rattle.names.specs.Known.{head-code};
+ghost use Rattle.names.specs.Table.{Table, name-of, names-of, look-up, index-with, spell-answer, spell-table};
+
+// What a look-up finds: the name's number, or the rank where the name belongs in byte order.
+pub enum Found {
+    At(usize),
+    Missing(usize),
+}
+
+// What spelling a name comes to: the number that it has, the number that it is given, or that the table is full.
+pub enum Spelled {
+    Known(usize),
+    New(usize),
+    Full,
+}
+
+// The known names in the order of their codes.
+const KNOWN: [u8; 249] =
+    *b"SFuel,ZFuel,HasType,HasTypeZ,HasTypeFuel,Valid,ApplyTT,ApplyTF,Prims.lex_t,is-BoxBool,is-BoxInt,is-BoxString,is-BoxReal,is-BoxProp,BoxBool,BoxInt,BoxString,BoxReal,BoxProp,Prims.squash,Prims.hasEq,IsTotFun,is-Tm_arrow,Term_constr_id,__uu__PartialApp";
+
+// The word at a place of a slice.
+fn at(w: &[u32], i: usize) -> usize
+    requires { ⌜ i < length (now w) ⌝ }
+    ensures { λ r. ⌜ r ≡ getD (now (w .entry)) i 0 ⌝ }
+{
+    w[i] as usize
+}
+
+// The head code of the part from `a` up to `e`: its place among the known names from 1, or 0.
+pub fn head_code(file: &[u8], a: usize, e: usize) -> u32
+    requires { ⌜ (a ≤ e) × (e ≤ length (now file)) ⌝ }
+    ensures { λ r. ⌜ r ≡ head-code (part (now (file .entry)) a e) ⌝ }
+{
+    let known = KNOWN;
+    let mut code: u32 = 1;
+    let mut i: usize = 0;
+    while i <= 249 {
+        let stop = text::find(&known, b',', i, 249);
+        if text::same_text(file, a, e, &known[i..stop]) {
+            return code;
+        }
+        code += 1;
+        i = stop + 1;
+    }
+    0
+}
+
+// The order of the name of a number and of the part from `a` up to `e`.
+fn compare(file: &[u8], w: &[u32], n: usize, a: usize, e: usize) -> Order
+    requires { ⌜ (2048 + n < length (now w)) × (getD (now w) n 0 + getD (now w) (2048 + n) 0 ≤ length (now file)) × (a ≤ e) × (e ≤ length (now file)) ⌝ }
+    ensures { λ r. ⌜ r ≡ order (name-of (now (file .entry)) (now (w .entry)) n) (part (now (file .entry)) a e) ⌝ }
+{
+    let from = at(w, n);
+    let size = at(w, 2048 + n);
+    text::order(file, from, from + size, a, e)
+}
+
+// The number of the name from `a` up to `e`, or the rank where it belongs: a binary search in the byte-order index.
+pub fn look_up(file: &[u8], w: &[u32], many: usize, a: usize, e: usize) -> Found
+    requires { ⌜ Table (now file) (now w) many × (a ≤ e) × (e ≤ length (now file)) ⌝ }
+    ensures { λ r. ⌜ r ≡ look-up (names-of (now (file .entry)) (now (w .entry)) many) (part (now (file .entry)) a e) ⌝ }
+{
+    let mut low: usize = 0;
+    let mut high = many;
+    while low < high {
+        let middle = low + (high - low) / 2;
+        let n = at(w, 4096 + middle);
+        match compare(file, w, n, a, e) {
+            Order::Before => {
+                low = middle + 1;
+            }
+            Order::Same => {
+                return Found::At(n);
+            }
+            Order::After => {
+                high = middle;
+            }
+        }
+    }
+    Found::Missing(low)
+}
+
+// Spells the name from `a` up to `e`: a new one takes the number `many`, unless the table is full.
+pub fn spell(file: &[u8], w: &mut [u32], many: usize, a: usize, e: usize) -> Spelled
+    requires { ⌜ Table (now file) (now w) many × (a ≤ e) × (e ≤ length (now file)) ⌝ }
+    ensures answer { λ r. ⌜ r ≡ spell-answer many (look-up (names-of (now (file .entry)) (now (w .entry)) many) (part (now (file .entry)) a e)) ⌝ }
+    ensures table { λ r. ⌜ now (w .exit) ≡ spell-table (now (file .entry)) (now (w .entry)) many a e (look-up (names-of (now (file .entry)) (now (w .entry)) many) (part (now (file .entry)) a e)) ⌝ }
+{
+    match look_up(file, w, many, a, e) {
+        Found::At(n) => Spelled::Known(n),
+        Found::Missing(rank) => enter(file, w, many, a, e, rank),
+    }
+}
+
+// Enters the name from `a` up to `e`, which belongs at a rank: it takes the number `many`, unless the table is full.
+fn enter(file: &[u8], w: &mut [u32], many: usize, a: usize, e: usize, rank: usize) -> Spelled
+    requires { ⌜ Table (now file) (now w) many × (a ≤ e) × (e ≤ length (now file)) × (rank ≤ many) ⌝ }
+    ensures answer { λ r. ⌜ r ≡ spell-answer many (Found.Missing rank) ⌝ }
+    ensures table { λ r. ⌜ now (w .exit) ≡ spell-table (now (file .entry)) (now (w .entry)) many a e (Found.Missing rank) ⌝ }
+{
+    if 2048 <= many {
+        return Spelled::Full;
+    }
+    put_index(w, many, rank);
+    w[many] = a as u32;
+    w[2048 + many] = (e - a) as u32;
+    w[6144 + many] = head_code(file, a, e);
+    Spelled::New(many)
+}
+
+// Puts the number `many` into the byte-order index at a rank, the later ranks moved up by one.
+fn put_index(w: &mut [u32], many: usize, rank: usize)
+    requires { ⌜ (rank ≤ many) × (many < 2048) × (16384 ≤ length (now w)) ⌝ }
+    ensures { λ r. ⌜ now (w .exit) ≡ index-with (now (w .entry)) many rank ⌝ }
+{
+    let mut i = many;
+    while rank < i {
+        w[4096 + i] = w[4096 + i - 1];
+        i -= 1;
+    }
+    w[4096 + rank] = many as u32;
+}
+
+// The part of the file that holds a name's bytes.
+pub fn name_part<'a>(file: &'a [u8], w: &[u32], many: usize, n: usize) -> &'a [u8]
+    requires { ⌜ Table (now file) (now w) many × (n < many) ⌝ }
+    ensures { λ r. ⌜ now r ≡ name-of (now (file .entry)) (now (w .entry)) n ⌝ }
+{
+    let start = at(w, n);
+    let len = at(w, 2048 + n);
+    &file[start..start + len]
+}

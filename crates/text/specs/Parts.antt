@@ -1,0 +1,95 @@
+-- Positions in a file: lines, fields and what stands in them, over the definitions of `model`.
+use Prim.Native.Nat.{ℕ, _+_, _-_, _≤_}
+use mathlib.Core.Bool.{cond}
+use mathlib.Core.List.{List, [], _∷_}
+use mathlib.Core.Option.{Option, none, some}
+use lib.ListN.{length, take, drop}
+use lib.Dec.{leb, ltb, eqb}
+use Rattle.model.specs.Lines.{Field, fields, is-name, number}
+use Rattle.model.specs.Reading.{Result, ok, refused}
+use Rattle.model.specs.declared.Refusal.{Refusal}
+use Rattle.model.specs.declared.Refusal.the-variants as refusal
+use Rattle.text.specs.declared.Cursor.{Cursor}
+use Rattle.text.specs.declared.Decimal.{Decimal}
+use Rattle.text.specs.declared.Decimal.the-variants as decimal
+use Rattle.text.specs.declared.FieldStep.{FieldStep}
+use Rattle.text.specs.declared.FieldStep.the-variants as field
+use Rattle.text.specs.declared.NumberStep.{NumberStep}
+use Rattle.text.specs.declared.NumberStep.the-variants as numbered
+
+-- the bytes of a file from position a up to e
+abbrev pub part : List ℕ → ℕ → ℕ → List ℕ
+part s a e = take (e - a) (drop a s)
+
+-- how many bytes stand before the first mark, or in all
+unfoldable pub before : ℕ → List ℕ → ℕ
+before mark [] = 0
+before mark (b ∷ bs) = let more = before mark bs in cond (eqb b mark) 0 (1 + more)
+
+-- the first position from `at` up to `end` where the mark stands, or `end`
+unfoldable pub mark-at : ℕ → List ℕ → ℕ → ℕ → ℕ
+mark-at mark s at end = at + before mark (part s at end)
+
+-- what `number` gives, as the answer of a call
+unfoldable pub as-decimal : Option ℕ → Decimal
+as-decimal none = decimal.Nothing
+as-decimal (some n) = decimal.Value n
+
+-- a cursor within a file that is not too long
+pub record Placed (s : List ℕ) (c : Cursor) : Type 0 where
+  pub inside : c .end ≤ length s
+  pub short : length s ≤ 65535
+
+-- the fields that a cursor has before it: none where it stands past the end
+unfoldable pub fields-left : List ℕ → Cursor → List Field
+fields-left s c = cond (leb (c .at) (c .end)) (fields (part s (c .at) (c .end))) []
+
+-- the next field, as positions, and the cursor after it; 1 where it lacks
+unfoldable pub field-at : List ℕ → Cursor → FieldStep
+field-at s c =
+    let end = mark-at 0x2c s (c .at) (c .end) in
+    cond (leb (c .at) (c .end))
+    (field.Part (c .at) end (record { at = end + 1; end = c .end }))
+    (field.Refused refusal.Form)
+
+-- a field that is a name: 2
+unfoldable pub as-name : List ℕ → FieldStep → FieldStep
+as-name s (field.Part a e next) = cond (is-name (part s a e)) (field.Part a e next) (field.Refused refusal.Name)
+as-name s (field.Refused r) = field.Refused r
+
+-- the next field, a name
+unfoldable pub name-at : List ℕ → Cursor → FieldStep
+name-at s c = as-name s (field-at s c)
+
+-- what was read of a field that is a number of at most `limit`: 3
+unfoldable pub at-most : ℕ → Cursor → Option ℕ → NumberStep
+at-most limit next none = numbered.Refused refusal.Number
+at-most limit next (some n) = cond (leb n limit) (numbered.Number n next) (numbered.Refused refusal.Number)
+
+-- a field that is a number of at most `limit`
+unfoldable pub as-number : ℕ → List ℕ → FieldStep → NumberStep
+as-number limit s (field.Part a e next) = at-most limit next (number (part s a e))
+as-number limit s (field.Refused r) = numbered.Refused r
+
+-- the next field, a number of at most `limit`
+unfoldable pub number-at : ℕ → List ℕ → Cursor → NumberStep
+number-at limit s c = as-number limit s (field-at s c)
+
+-- a number that names one of `count` terms: 4
+unfoldable pub as-term : ℕ → NumberStep → NumberStep
+as-term count (numbered.Number n next) = cond (ltb n count) (numbered.Number n next) (numbered.Refused refusal.Term)
+as-term count (numbered.Refused r) = numbered.Refused r
+
+-- the next field, a term number
+unfoldable pub term-at : ℕ → List ℕ → Cursor → NumberStep
+term-at count s c = as-term count (number-at 65535 s c)
+
+-- a step as `model` has it: the field's bytes and the fields after it, or the refusal
+unfoldable pub field-result : List ℕ → FieldStep → Result (Field × List Field)
+field-result s (field.Part a e next) = ok (part s a e, fields-left s next)
+field-result s (field.Refused r) = refused r
+
+-- the same of a number
+unfoldable pub number-result : List ℕ → NumberStep → Result (ℕ × List Field)
+number-result s (numbered.Number n next) = ok (n, fields-left s next)
+number-result s (numbered.Refused r) = refused r
