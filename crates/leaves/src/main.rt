@@ -7,13 +7,29 @@ use names::Spelled;
 use text::Cursor;
 use text::Decimal;
 use text::FieldStep;
+ghost use Prim.Native.Nat.{_+_, _≤_, _<_};
+ghost use mathlib.Core.Path.{_≡_};
+ghost use lib.ListN.{length, getD};
+ghost use Rattle.text.specs.Parts.{Placed};
+ghost use Rattle.names.specs.Table.{Table};
+ghost use Rattle.leaves.specs.Counts.{grown-to};
 
+// Writes bytes.
 fn put(bytes: &[u8]) {
     io::write_all(STDOUT_FILENO, bytes);
 }
 
+// Writes a number in decimal digits.
 fn put_number(n: usize) {
     io::print_decimal(STDOUT_FILENO, n as u64);
+}
+
+// The word at a place of a table.
+fn at(table: &[u32], i: usize) -> usize
+    requires { ⌜ i < length (now table) ⌝ }
+    ensures { λ r. ⌜ r ≡ getD (now (table .entry)) i 0 ⌝ }
+{
+    table[i] as usize
 }
 
 // Prints the number that a field is.
@@ -47,7 +63,9 @@ fn put_spelled(s: Spelled) {
 }
 
 // Prints how a field is judged.
-fn put_field(file: &[u8], start: usize, end: usize) {
+fn put_field(file: &[u8], start: usize, end: usize)
+    requires { ⌜ (start ≤ end) × (end ≤ length (now file)) ⌝ }
+{
     put(b"field ");
     put(&file[start..end]);
     put_decimal(text::number_of(file, start, end));
@@ -63,7 +81,10 @@ fn put_field(file: &[u8], start: usize, end: usize) {
 }
 
 // How many names the table has after a spelling.
-fn grown(s: Spelled, many: usize) -> usize {
+fn grown(s: Spelled, many: usize) -> usize
+    requires { ⌜ many ≤ 2048 ⌝ }
+    ensures { λ r. ⌜ r ≡ grown-to many s ⌝ }
+{
     match s {
         Spelled::Known(_) => many,
         Spelled::New(_) => many + 1,
@@ -72,7 +93,10 @@ fn grown(s: Spelled, many: usize) -> usize {
 }
 
 // Judges and spells one field; answers how many names the table then has.
-fn one_field(file: &[u8], table: &mut [u32], many: usize, start: usize, end: usize) -> usize {
+fn one_field(file: &[u8], table: &mut [u32], many: usize, start: usize, end: usize) -> usize
+    requires { ⌜ Table (now file) (now table) many × (start ≤ end) × (end ≤ length (now file)) ⌝ }
+    ensures { λ r. ⌜ Table (now (file .entry)) (now (table .exit)) r ⌝ }
+{
     let loud = many < 40 || 2046 <= many;
     if loud {
         put_field(file, start, end);
@@ -91,52 +115,60 @@ fn one_field(file: &[u8], table: &mut [u32], many: usize, start: usize, end: usi
     grown(s, many)
 }
 
-// The fields of a line from a cursor on.
-fn all_fields(file: &[u8], table: &mut [u32], many: usize, from: Cursor) -> usize {
-    let mut now = many;
+// Judges and spells the fields of a line from a cursor on; answers how many names the table then has.
+fn all_fields(file: &[u8], table: &mut [u32], many: usize, from: Cursor) -> usize
+    requires { ⌜ Table (now file) (now table) many × Placed (now file) from ⌝ }
+    ensures { λ r. ⌜ Table (now (file .entry)) (now (table .exit)) r ⌝ }
+{
+    let mut known = many;
     let mut c = from;
-    let mut left = c.end + 2 - c.at;
-    while 0 < left {
+    while c.at <= c.end {
         match c.field(file) {
             FieldStep::Part { start, end, next } => {
-                now = one_field(file, table, now, start, end);
+                known = one_field(file, table, known, start, end);
                 c = next;
             }
             FieldStep::Refused(_) => {
-                return now;
+                return known;
             }
         }
-        left -= 1;
     }
-    now
+    known
 }
 
 // Prints the name of a number, with its head code.
-fn put_name(file: &[u8], table: &[u32], many: usize, n: usize) {
+fn put_name(file: &[u8], table: &[u32], many: usize, n: usize)
+    requires { ⌜ Table (now file) (now table) many × (n < many) ⌝ }
+{
     put_number(n);
     put(b" ");
     put(names::name_part(file, table, many, n));
     put(b" ");
-    put_number(table[6144 + n] as usize);
+    put_number(at(table, 6144 + n));
     put(b"\n");
 }
 
 // Prints the names in byte order.
-fn put_index(file: &[u8], table: &[u32], many: usize) {
+fn put_index(file: &[u8], table: &[u32], many: usize)
+    requires { ⌜ Table (now file) (now table) many ⌝ }
+{
     put(b"names ");
     put_number(many);
     put(b"\n");
     let mut r: usize = 0;
     while r < many {
         if many < 120 || r % 256 == 255 {
-            put_name(file, table, many, table[4096 + r] as usize);
+            put_name(file, table, many, at(table, 4096 + r));
         }
         r += 1;
     }
 }
 
-// One line: its fields, or a new table.
-fn one_line(file: &[u8], table: &mut [u32], many: usize, start: usize, end: usize) -> usize {
+// One line: its fields, or a new table; answers how many names the table then has.
+fn one_line(file: &[u8], table: &mut [u32], many: usize, start: usize, end: usize) -> usize
+    requires { ⌜ Table (now file) (now table) many × (start ≤ end) × (end ≤ length (now file)) ⌝ }
+    ensures { λ r. ⌜ Table (now (file .entry)) (now (table .exit)) r ⌝ }
+{
     if text::same_text(file, start, end, b"=") {
         put_index(file, table, many);
         return 0;
@@ -149,16 +181,20 @@ fn one_line(file: &[u8], table: &mut [u32], many: usize, start: usize, end: usiz
     all_fields(file, table, many, Cursor { at: start, end })
 }
 
-fn all_lines(file: &[u8], table: &mut [u32]) {
+// All lines, from a table without names.
+fn all_lines(file: &[u8], table: &mut [u32])
+    requires { ⌜ Table (now file) (now table) 0 ⌝ }
+{
     let mut many: usize = 0;
-    let mut at: usize = 0;
-    while at < file.len() {
-        let end = text::find(file, b'\n', at, file.len());
-        many = one_line(file, table, many, at, end);
-        at = end + 1;
+    let mut from: usize = 0;
+    while from < file.len() {
+        let end = text::find(file, b'\n', from, file.len());
+        many = one_line(file, table, many, from, end);
+        from = end + 1;
     }
 }
 
+// Reads standard input; more than 65,535 bytes are not looked at.
 fn main() {
     let mut file = io::large_buffer();
     let n = io::read_full(STDIN_FILENO, &mut file);
