@@ -7,7 +7,7 @@ use names::Spelled;
 use text::Cursor;
 use text::Decimal;
 use text::FieldStep;
-ghost use Prim.Native.Nat.{_+_, _≤_, _<_};
+ghost use Prim.Native.Nat.{_≤_, _<_};
 ghost use mathlib.Core.Path.{_≡_};
 ghost use lib.ListN.{length, getD};
 ghost use Rattle.text.specs.Parts.{Placed};

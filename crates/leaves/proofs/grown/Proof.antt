@@ -3,36 +3,27 @@ use Rattle.leaves.specs.Counts.{grown-to}
 use borrow.Author.Needs.{needs}
 use Rattle.leaves.proofs.grown.Statement.{statement}
 use Rattle.leaves.proofs.grown.Tie as tie
-use Rattle.leaves.proofs.grown.Reads as reads
-use Rattle.leaves.proofs.grown.Lts as lts
 
--- src/main.rt:89:30
 enum-told : tie.Need-enum-told
 enum-told c = search needs
 
--- src/main.rt:90:28
 enum-told-2 : tie.Need-enum-told-2
 enum-told-2 c = search needs
 
--- src/main.rt:90:28
 add-result : tie.Need-add-result
 add-result c = search needs
 
--- src/main.rt:91:26
 enum-told-3 : tie.Need-enum-told-3
 enum-told-3 c = search needs
 
--- src/main.rt:84:1
 returns : tie.Need-returns
 unfolding grown-to
 returns c = rw (c .enum-told .given .1)
 
--- src/main.rt:84:1
 returns-2 : tie.Need-returns-2
 unfolding grown-to
 returns-2 c = rw (c .enum-told2 .given .1)
 
--- src/main.rt:84:1
 returns-3 : tie.Need-returns-3
 unfolding grown-to
 returns-3 c = rw (c .enum-told3 .given .1)

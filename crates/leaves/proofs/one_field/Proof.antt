@@ -3,66 +3,45 @@ use Rattle.leaves.proofs.Laws.{grown-table}
 use borrow.Author.Needs.{needs}
 use Rattle.leaves.proofs.one_field.Statement.{statement}
 use Rattle.leaves.proofs.one_field.Tie as tie
-use Rattle.leaves.proofs.one_field.Reads as reads
-use Rattle.leaves.proofs.one_field.Lts as lts
-use Rattle.leaves.proofs.grown.Reads as grown-reads
-use Rattle.leaves.proofs.put.Reads as put-reads
-use Rattle.leaves.proofs.put_field.Reads as put-field-reads
-use Rattle.leaves.proofs.put_spelled.Reads as put-spelled-reads
-use Rattle.names.proofs.spell.Reads as spell-reads
-use Rattle.text.proofs.is_name.Reads as is-name-reads
 
--- src/main.rt:102:9
 put-field-requires : tie.Need-put-field-requires
 put-field-requires c κs = search needs
 
--- src/main.rt:104:9
 is-name-requires : tie.Need-is-name-requires
 is-name-requires c κs = search needs
 
--- src/main.rt:106:17
 slice-aggregate-put : tie.Need-slice-aggregate-put
 slice-aggregate-put c = search needs
 
--- src/main.rt:106:13
 put-requires : tie.Need-put-requires
 put-requires c κs = search needs
 
--- src/main.rt:108:9
 returns : tie.Need-returns
 returns c = search needs
 
--- src/main.rt:108:9
 returns-2 : tie.Need-returns-2
 returns-2 c = search needs
 
--- src/main.rt:110:9
 spell-requires : tie.Need-spell-requires
 spell-requires c κs = search needs
 
--- src/main.rt:112:9
 put-spelled-requires : tie.Need-put-spelled-requires
 put-spelled-requires c κs = search needs
 
--- src/main.rt:113:13
 slice-aggregate-put-2 : tie.Need-slice-aggregate-put-2
 slice-aggregate-put-2 c = search needs
 
--- src/main.rt:113:9
 put-requires-2 : tie.Need-put-requires-2
 put-requires-2 c κs = search needs
 
--- src/main.rt:115:5
 grown-requires : tie.Need-grown-requires
 grown-requires c κs = search needs
 
--- src/main.rt:96:1
 same-length : tie.Need-same-length
 same-length c = search needs
 
--- src/main.rt:96:1
 returns-3 : tie.Need-returns-3
-returns-3 c = 
+returns-3 c =
     let pre = c .before .before .before .before .before .before .before .before .before .before .before .before .pre in
     grown-table (pre .0) _ _ (pre .1) (pre .2) _ _ _ (c .before .before .before .before .spell .ensures .0) (c .before .before .before .before .spell .ensures .1) (c .grown .ensures)
 
