@@ -3,10 +3,14 @@
 // the last ones and some ranks are printed.
 use libc::STDIN_FILENO;
 use libc::STDOUT_FILENO;
+use model::Order;
+use model::Refusal;
+use names::Found;
 use names::Spelled;
 use text::Cursor;
 use text::Decimal;
 use text::FieldStep;
+use text::NumberStep;
 ghost use Prim.Native.Nat.{_≤_, _<_};
 ghost use mathlib.Core.Path.{_≡_};
 ghost use lib.ListN.{length, getD};
@@ -80,6 +84,110 @@ fn put_field(file: &[u8], start: usize, end: usize)
     }
 }
 
+// Prints what a look-up found.
+fn put_found(f: Found) {
+    match f {
+        Found::At(n) => {
+            put(b",at ");
+            put_number(n);
+        }
+        Found::Missing(rank) => {
+            put(b",belongs at ");
+            put_number(rank);
+        }
+    }
+}
+
+// Prints the byte order of two parts.
+fn put_order(o: Order) {
+    match o {
+        Order::Before => {
+            put(b" before");
+        }
+        Order::Same => {
+            put(b" same");
+        }
+        Order::After => {
+            put(b" after");
+        }
+    }
+}
+
+// Prints the number of a refusal that a field can get.
+fn put_refusal(r: Refusal) {
+    match r {
+        Refusal::Form => {
+            put(b",refused 1");
+        }
+        Refusal::Name => {
+            put(b",refused 2");
+        }
+        Refusal::Number => {
+            put(b",refused 3");
+        }
+        Refusal::Term => {
+            put(b",refused 4");
+        }
+        _ => {
+            put(b",refused");
+        }
+    }
+}
+
+// Reads a term number below 4 at a cursor.
+fn put_term(file: &[u8], c: Cursor)
+    requires { ⌜ Placed (now file) c ⌝ }
+{
+    match c.term(file, 4) {
+        NumberStep::Number(n, _) => {
+            put(b",term ");
+            put_number(n as usize);
+        }
+        NumberStep::Refused(r) => {
+            put_refusal(r);
+        }
+    }
+}
+
+// Reads a number of at most 255 and then a term number.
+fn put_number_and_term(file: &[u8], c: Cursor)
+    requires { ⌜ Placed (now file) c ⌝ }
+{
+    match c.number(file, 255) {
+        NumberStep::Number(n, next) => {
+            put(b",number ");
+            put_number(n as usize);
+            put_term(file, next);
+        }
+        NumberStep::Refused(r) => {
+            put_refusal(r);
+        }
+    }
+}
+
+// Reads a name, a number and a term number from a line.
+fn put_steps(file: &[u8], start: usize, end: usize)
+    requires { ⌜ (start ≤ end) × (end ≤ length (now file)) × (length (now file) ≤ 65535) ⌝ }
+{
+    put(b"steps");
+    let c = Cursor { at: start, end };
+    match c.name(file) {
+        FieldStep::Part {
+            start: a,
+            end: e,
+            next,
+        } => {
+            put(b",name ");
+            put(&file[a..e]);
+            put_number_and_term(file, next);
+        }
+        FieldStep::Refused(r) => {
+            put_refusal(r);
+        }
+    }
+    put(b"\n");
+}
+
 // How many names the table has after a spelling.
 fn grown(s: Spelled, many: usize) -> usize
     requires { ⌜ many ≤ 2048 ⌝ }
@@ -107,12 +215,34 @@ fn one_field(file: &[u8], table: &mut [u32], many: usize, start: usize, end: usi
         }
         return many;
     }
+    if loud {
+        put_found(names::look_up(file, table, many, start, end));
+    }
     let s = names::spell(file, table, many, start, end);
     if loud {
         put_spelled(s);
         put(b"\n");
     }
     grown(s, many)
+}
+
+// Judges and spells one field and, where it ends in @tok, the part before that; answers how many names the table then has.
+fn field_and_token(file: &[u8], table: &mut [u32], many: usize, start: usize, end: usize) -> usize
+    requires { ⌜ Table (now file) (now table) many × (start ≤ end) × (end ≤ length (now file)) ⌝ }
+    ensures { λ r. ⌜ Table (now (file .entry)) (now (table .exit)) r ⌝ }
+{
+    let known = one_field(file, table, many, start, end);
+    if end - start < 4 {
+        return known;
+    }
+    if !text::ends_with(file, start, end, b"@tok") {
+        return known;
+    }
+    let s = names::spell(file, table, known, start, end - 4);
+    put(b"trimmed");
+    put_spelled(s);
+    put(b"\n");
+    grown(s, known)
 }
 
 // Judges and spells the fields of a line from a cursor on; answers how many names the table then has.
@@ -125,7 +255,7 @@ fn all_fields(file: &[u8], table: &mut [u32], many: usize, from: Cursor) -> usiz
     while c.at <= c.end {
         match c.field(file) {
             FieldStep::Part { start, end, next } => {
-                known = one_field(file, table, known, start, end);
+                known = field_and_token(file, table, known, start, end);
                 c = next;
             }
             FieldStep::Refused(_) => {
@@ -176,7 +306,10 @@ fn one_line(file: &[u8], table: &mut [u32], many: usize, start: usize, end: usiz
     if many < 40 {
         put(b"line of ");
         put_number(text::count_fields(file, start, end));
+        let first = text::find(file, b',', start, end);
+        put_order(text::order(file, start, first, first, end));
         put(b"\n");
+        put_steps(file, start, end);
     }
     all_fields(file, table, many, Cursor { at: start, end })
 }
