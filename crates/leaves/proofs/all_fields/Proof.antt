@@ -24,8 +24,8 @@ field-requires c κs = c .before .before .loop .inv .2
 enum-known-start : tie.Need-enum-known-start Inv-loop μ-loop
 enum-known-start c = c .match .keys1
 
-one-field-requires : tie.Need-one-field-requires Inv-loop μ-loop
-one-field-requires c κs =
+field-and-token-requires : tie.Need-field-and-token-requires Inv-loop μ-loop
+field-and-token-requires c κs =
     let read = field-next _ _ (c .before .before .before .before .before .before .before .loop .inv .2) _ _ _ (sym (c .before .before .before .before .field .ensures) ∙ c .before .before .start .given .1) in
     (c .before .before .before .before .before .before .before .loop .inv .1, read .ordered, read .inside)
 
@@ -37,7 +37,7 @@ loop-less c =
 loop-again : tie.Need-loop-again Inv-loop μ-loop
 loop-again c =
     let read = field-next _ _ (c .before .before .before .before .before .before .before .before .before .before .loop .inv .2) _ _ _ (sym (c .before .before .before .before .before .before .before .field .ensures) ∙ c .before .before .before .before .before .start .given .1) in
-    (omega arith, c .before .before .one-field .ensures, read .onward .placed)
+    (omega arith, c .before .before .field-and-token .ensures, read .onward .placed)
 
 enum-told : tie.Need-enum-told Inv-loop μ-loop
 enum-told c = c .match .keys2
@@ -63,7 +63,7 @@ all-fields-spec =
     loop-holds
     field-requires
     enum-known-start
-    one-field-requires
+    field-and-token-requires
     loop-less
     loop-again
     enum-told

@@ -22,6 +22,12 @@ returns c = search needs
 returns-2 : tie.Need-returns-2
 returns-2 c = search needs
 
+look-up-requires : tie.Need-look-up-requires
+look-up-requires c κs = search needs
+
+put-found-requires : tie.Need-put-found-requires
+put-found-requires c κs = search needs
+
 spell-requires : tie.Need-spell-requires
 spell-requires c κs = search needs
 
@@ -42,7 +48,7 @@ same-length c = search needs
 
 returns-3 : tie.Need-returns-3
 returns-3 c =
-    let pre = c .before .before .before .before .before .before .before .before .before .before .before .before .pre in
+    let pre = c .before .before .before .before .before .before .before .before .before .before .before .before .before .pre in
     grown-table (pre .0) _ _ (pre .1) (pre .2) _ _ _ (c .before .before .before .before .spell .ensures .0) (c .before .before .before .before .spell .ensures .1) (c .grown .ensures)
 
 pub one-field-spec : {M : Type 1} → statement M
@@ -55,6 +61,8 @@ one-field-spec =
     put-requires
     returns
     returns-2
+    look-up-requires
+    put-found-requires
     spell-requires
     put-spelled-requires
     slice-aggregate-put-2
