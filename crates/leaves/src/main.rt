@@ -28,14 +28,6 @@ fn put_number(n: usize) {
     io::print_decimal(STDOUT_FILENO, n as u64);
 }
 
-// The word at a place of a table.
-fn at(table: &[u32], i: usize) -> usize
-    requires { ⌜ i < length (now table) ⌝ }
-    ensures { λ r. ⌜ r ≡ getD (now (table .entry)) i 0 ⌝ }
-{
-    table[i] as usize
-}
-
 // Prints the number that a field is.
 fn put_decimal(d: Decimal) {
     match d {
@@ -274,7 +266,7 @@ fn put_name(file: &[u8], table: &[u32], many: usize, n: usize)
     put(b" ");
     put(names::name_part(file, table, many, n));
     put(b" ");
-    put_number(at(table, 6144 + n));
+    put_number(words::at(table, 6144 + n));
     put(b"\n");
 }
 
@@ -288,7 +280,7 @@ fn put_index(file: &[u8], table: &[u32], many: usize)
     let mut r: usize = 0;
     while r < many {
         if many < 120 || r % 256 == 255 {
-            put_name(file, table, many, at(table, 4096 + r));
+            put_name(file, table, many, words::at(table, 4096 + r));
         }
         r += 1;
     }

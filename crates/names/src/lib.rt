@@ -24,14 +24,6 @@ pub enum Spelled {
 const KNOWN: [u8; 249] =
     *b"SFuel,ZFuel,HasType,HasTypeZ,HasTypeFuel,Valid,ApplyTT,ApplyTF,Prims.lex_t,is-BoxBool,is-BoxInt,is-BoxString,is-BoxReal,is-BoxProp,BoxBool,BoxInt,BoxString,BoxReal,BoxProp,Prims.squash,Prims.hasEq,IsTotFun,is-Tm_arrow,Term_constr_id,__uu__PartialApp";
 
-// The word at a place of a slice.
-fn at(w: &[u32], i: usize) -> usize
-    requires { ⌜ i < length (now w) ⌝ }
-    ensures { λ r. ⌜ r ≡ getD (now (w .entry)) i 0 ⌝ }
-{
-    w[i] as usize
-}
-
 // The head code of the part from `a` up to `e`: its place among the known names from 1, or 0.
 pub fn head_code(file: &[u8], a: usize, e: usize) -> u32
     requires { ⌜ (a ≤ e) × (e ≤ length (now file)) ⌝ }
@@ -56,8 +48,8 @@ fn compare(file: &[u8], w: &[u32], n: usize, a: usize, e: usize) -> Order
     requires { ⌜ (2048 + n < length (now w)) × (getD (now w) n 0 + getD (now w) (2048 + n) 0 ≤ length (now file)) × (a ≤ e) × (e ≤ length (now file)) ⌝ }
     ensures { λ r. ⌜ r ≡ order (name-of (now (file .entry)) (now (w .entry)) n) (part (now (file .entry)) a e) ⌝ }
 {
-    let from = at(w, n);
-    let size = at(w, 2048 + n);
+    let from = words::at(w, n);
+    let size = words::at(w, 2048 + n);
     text::order(file, from, from + size, a, e)
 }
 
@@ -70,7 +62,7 @@ pub fn look_up(file: &[u8], w: &[u32], many: usize, a: usize, e: usize) -> Found
     let mut high = many;
     while low < high {
         let middle = low + (high - low) / 2;
-        let n = at(w, 4096 + middle);
+        let n = words::at(w, 4096 + middle);
         match compare(file, w, n, a, e) {
             Order::Before => {
                 low = middle + 1;
@@ -132,7 +124,7 @@ pub fn name_part<'a>(file: &'a [u8], w: &[u32], many: usize, n: usize) -> &'a [u
     requires { ⌜ Table (now file) (now w) many × (n < many) ⌝ }
     ensures { λ r. ⌜ now r ≡ name-of (now (file .entry)) (now (w .entry)) n ⌝ }
 {
-    let start = at(w, n);
-    let len = at(w, 2048 + n);
+    let start = words::at(w, n);
+    let len = words::at(w, 2048 + n);
     &file[start..start + len]
 }

@@ -1,8 +1,8 @@
--- `names::at` meets its contract.
+-- `words::at` meets its contract.
 use native.Mathlib.Omega.{arith}
 use borrow.Author.Needs.{needs}
-use Rattle.names.proofs.at.Statement.{statement}
-use Rattle.names.proofs.at.Tie as tie
+use Rattle.words.proofs.at.Statement.{statement}
+use Rattle.words.proofs.at.Tie as tie
 
 mul-result : tie.Need-mul-result
 mul-result c = search needs
