@@ -146,7 +146,7 @@ unfolding digits show between comma set show-kind show-fact name-at show-outcome
     Names.from-list Names.union Names.diff Names.remove Names.starts-with Names.ends-with Lines.line-cons
     Lines.lines Lines.field-cons Lines.fields Lines.is-name-byte Lines.is-name Lines.is-digit Lines.decimal
     Lines.number Terms.term Terms.names-of Terms.free-top-level-names Terms.unlabeled Terms.add-term
-    Terms.references Summaries.exclude-names Summaries.Sum-drop Summaries.Sum-ambient Summaries.Sum-triggers
+    Terms.references Summaries.common-names Summaries.exclude-names Summaries.Sum-drop Summaries.Sum-ambient Summaries.Sum-triggers
     Summaries.free-of Summaries.call-of Summaries.op-of Summaries.groups-of Summaries.op-number Summaries.one
     Summaries.two Summaries.op-args Summaries.call-args Summaries.call-one Summaries.call-two Summaries.head
     Summaries.is-empty Summaries.token-triggers Summaries.free-top-level-names Summaries.group-names

@@ -14,12 +14,10 @@ use Rattle.model.specs.declared.Op.the-variants.{TrueOp, Iff, Eq, And, O
 use Rattle.model.specs.declared.AsumKind.{AsumKind}
 use Rattle.model.specs.declared.AsumKind.the-variants.{Drop, Ambient, Triggers}
 
--- `exclude_names`: too common to count as free names
-unfoldable pub exclude-names : List Name
-exclude-names =
-    from-list
-    (map bytes
-    ("SFuel"
+-- the names too common to count as free names
+unfoldable pub common-names : List String
+common-names =
+    "SFuel"
     ∷ "ZFuel"
     ∷ "HasType"
     ∷ "HasTypeZ"
@@ -28,7 +26,11 @@ exclude-names =
     ∷ "ApplyTT"
     ∷ "ApplyTF"
     ∷ "Prims.lex_t"
-    ∷ []))
+    ∷ []
+
+-- `exclude_names`
+unfoldable pub exclude-names : List Name
+exclude-names = from-list (map bytes common-names)
 
 -- how a fact is triggered: `asum_kind`, with the trigger names beside it, one set a disjunct, and the names that rule 4 trims off
 pub record Kinded : Type 0 where

@@ -10,7 +10,7 @@ use lib.Dec.{T, T-not, not-T, ltb}
 use borrow.Author.Tests.{lt-ltb, le-ltb}
 use Rattle.model.specs.Lists.{any}
 use Rattle.model.specs.Names.{Name, bytes, order, is-same, by-byte, same, mem}
-use Rattle.model.specs.Summaries.{exclude-names}
+use Rattle.model.specs.Summaries.{common-names, exclude-names}
 use Rattle.model.proofs.ListLaws.{T-true, T-false, true-T}
 use Rattle.model.proofs.SetLaws.{same-refl, same-eq, mem-first, mem-later, from-list-mem}
 use Rattle.names.specs.Known.{known-names, code-from, head-code}
@@ -96,12 +96,12 @@ known = map bytes known-names
 
 -- there are 25
 known-length : length known ≡ 25
-unfolding known known-names
+unfolding known known-names common-names
 known-length = refl
 
 -- no two of them are the same
 known-distinct : T (all-distinct known)
-unfolding known known-names bytes all-distinct mem any same is-same order by-byte
+unfolding known known-names common-names bytes all-distinct mem any same is-same order by-byte
 known-distinct = tt
 
 -- the head code of a name is c, from 1 to 25, where the name is the c-th known one
@@ -115,7 +115,7 @@ code-exact n c p h =
 
 -- a name is one of `exclude_names` where its head code is one of 1 to 9
 pub code-excluded : (n : Name) → mem n exclude-names ≡ (ltb 0 (head-code n) && ltb (head-code n) 10)
-unfolding exclude-names head-code known-names
+unfolding exclude-names head-code known-names common-names
 code-excluded n =
     let names = map bytes known-names in
     from-list-mem n (take 9 names) ∙ code-first 1 (take 9 names) (drop 9 names) n (omega arith)

@@ -2,22 +2,15 @@
 use Prim.Native.Nat.{ℕ, _+_}
 use Prim.Native.String.{String}
 use mathlib.Core.Bool.{cond}
-use mathlib.Core.List.{List, [], _∷_, map}
+use mathlib.Core.List.{List, [], _∷_, _++_, map}
 use Rattle.model.specs.Names.{Name, bytes, same}
+use Rattle.model.specs.Summaries.{common-names}
 
 -- the known names, in the order of their codes from 1: the nine of `exclude_names`, the macros, what these open to, the rules'
 unfoldable pub known-names : List String
 known-names =
-    "SFuel"
-    ∷ "ZFuel"
-    ∷ "HasType"
-    ∷ "HasTypeZ"
-    ∷ "HasTypeFuel"
-    ∷ "Valid"
-    ∷ "ApplyTT"
-    ∷ "ApplyTF"
-    ∷ "Prims.lex_t"
-    ∷ "is-BoxBool"
+    common-names
+    ++ ("is-BoxBool"
     ∷ "is-BoxInt"
     ∷ "is-BoxString"
     ∷ "is-BoxReal"
@@ -33,7 +26,7 @@ known-names =
     ∷ "is-Tm_arrow"
     ∷ "Term_constr_id"
     ∷ "__uu__PartialApp"
-    ∷ []
+    ∷ [])
 
 -- the code of a name among names whose first has the code n: 0 where it is none of them
 unfoldable pub code-from : ℕ → List Name → Name → ℕ

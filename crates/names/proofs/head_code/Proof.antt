@@ -6,6 +6,7 @@ use Rattle.model.specs.Names.{bytes}
 use Rattle.model.specs.Lines.{fields, field-cons}
 use Rattle.text.specs.Parts.{part, fields-left}
 use Rattle.text.proofs.Laws.{mark-from, mark-to}
+use Rattle.model.specs.Summaries.{common-names}
 use Rattle.names.specs.Known.{head-code, code-from, known-names}
 use Rattle.names.proofs.Codes.{code-here, code-on, code-end}
 use native.Mathlib.Omega.{arith}
@@ -23,7 +24,7 @@ abbrev μ-loop : tie.MeasureT-loop
 μ-loop file a e known code₀ i₀ code i = 250 - i
 
 loop-holds : tie.Need-loop-holds Inv-loop μ-loop
-unfolding head-code known-names bytes fields-left fields field-cons
+unfolding head-code known-names common-names bytes fields-left fields field-cons
 loop-holds c = (omega arith, omega arith, refl, refl)
 
 slice-aggregate-find : tie.Need-slice-aggregate-find Inv-loop μ-loop
