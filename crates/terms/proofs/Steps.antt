@@ -102,16 +102,19 @@ module _ (names out : List ℕ) (mark count k : ℕ) (small : k < 2048) (long : 
       place : (m : ℕ) → m < 2048 → name-mark (set names (8192 + k) mark) m ≡ mark → (m ≡ k) ⊎ (m ≡ k → ⊥) → (i : ℕ) × ((from ≤ i) × (i < count + 1) × (getD (set out count k) i 0 ≡ m))
       place m l e (inl f) = (count, (h, omega arith, out-same ∙ sym f))
       place m l e (inr f) = let (i, (a, b, g)) = r .place m l (sym (mark-other m f) ∙ e) in (i, (a, omega arith, out-other i b ∙ g))
+
       small′ : (i : ℕ) → from ≤ i → (i ≡ count) ⊎ (i ≡ count → ⊥) → i < count + 1 → getD (set out count k) i 0 < 2048
       small′ i a (inl e) b = rw (e, out-same) small
       small′ i a (inr e) b =
           let l : i < count = omega arith in
           rw (out-other i l) (r .small i a l)
+
       marked′ : (i : ℕ) → from ≤ i → (i ≡ count) ⊎ (i ≡ count → ⊥) → i < count + 1 → name-mark (set names (8192 + k) mark) (getD (set out count k) i 0) ≡ mark
       marked′ i a (inl e) b = rw (e, out-same) mark-same
       marked′ i a (inr e) b =
           let l : i < count = omega arith in
           rw (out-other i l) (mark-other (getD out i 0) (λ f. new (rw f at (r .marked i a l))) ∙ r .marked i a l)
+
       once′ : (i j : ℕ) → from ≤ i → i < j → j < count + 1 → (j ≡ count) ⊎ (j ≡ count → ⊥) → getD (set out count k) i 0 ≡ getD (set out count k) j 0 → ⊥
       once′ i j a b c (inl e) f =
           let l : i < count = omega arith in
