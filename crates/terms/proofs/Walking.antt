@@ -1,5 +1,5 @@
 -- What the walks rest on: a change of marks leaves the table, and sets of names come one after the other.
-use Prim.Native.Nat.{ℕ, _+_, _-_, _*_, _%_, _≤_, _<_}
+use Prim.Native.Nat.{ℕ, zero, suc, _+_, _-_, _*_, _%_, max, _≤_, _<_}
 use native.Mathlib.Omega.{arith}
 use mathlib.Core.Path.{_≡_, refl, sym, ap, _∙_}
 use mathlib.Core.Bool.{Bool, true, false, cond}
@@ -71,10 +71,10 @@ module _ {refs rows rows′ : List ℕ} {used many named : ℕ} where
         headed = λ t l h. rw (head-same s t (omega arith)) (r .headed t l (rw (kind-same s t (omega arith)) at h));
         bodied = λ t l h. rw (start-same s t (omega arith), end-same s used many t few l) (r .bodied t l (rw (kind-same s t (omega arith)) at h));
         labelled = λ t l h.
-          let k : row-kind rows t ≡ 7 = sym (kind-same s t (omega arith)) ∙ h in
-          let f : row-start rows t < row-end rows used many t = r .bodied t l (label-bodied (row-kind rows t) k) in
-          let u : getD refs (row-start rows t) 0 % 4096 < t = r .lower t (row-start rows t) l (omega arith) f in
-          extra-same s t (omega arith) ∙ r .labelled t l k ∙ sym (ap (λ i. bare-of rows′ (getD refs i 0 % 4096)) (start-same s t (omega arith)) ∙ bare-same s (getD refs (row-start rows t) 0 % 4096) (omega arith));
+            let k : row-kind rows t ≡ 7 = sym (kind-same s t (omega arith)) ∙ h in
+            let f : row-start rows t < row-end rows used many t = r .bodied t l (label-bodied (row-kind rows t) k) in
+            let u : getD refs (row-start rows t) 0 % 4096 < t = r .lower t (row-start rows t) l (omega arith) f in
+            extra-same s t (omega arith) ∙ r .labelled t l k ∙ sym (ap (λ i. bare-of rows′ (getD refs i 0 % 4096)) (start-same s t (omega arith)) ∙ bare-same s (getD refs (row-start rows t) 0 % 4096) (omega arith));
       }
 
   -- a name that occurs does so with other marks too
@@ -105,8 +105,8 @@ module _ {names names′ refs rows rows′ : List ℕ} {used many named : ℕ} (
 -- ---- walks
 
 -- the references of a row
-pub references-of : {refs rows : List ℕ} {used many named t : ℕ} → Rows refs rows used many named → t < many → References refs used many (row-start rows t) (row-end rows used many t)
-references-of {t} r l = record { in-order = r .in-order t l; in-use = r .in-use t l; in-table = λ i a b. let d = r .lower t i l a b in omega arith }
+pub references-of : {refs rows : List ℕ} {used many named t a e : ℕ} → Rows refs rows used many named → t < many → a ≡ row-start rows t → e ≡ row-end rows used many t → References refs used many a e
+references-of {t} r l p q = rw (p, q) (record { in-order = r .in-order t l; in-use = r .in-use t l; in-table = λ i a b. let d = r .lower t i l a b in omega arith })
 
 -- a longer count of marks leaves the marked terms closed
 closed-more : {names names′ refs rows : List ℕ} {used many mark : ℕ} → Rows refs rows used many 2048 → Same-but 8192 2048 names names′ → ((k : ℕ) → k < 2048 → name-mark names k ≡ mark → name-mark names′ k ≡ mark)
@@ -183,37 +183,44 @@ walks-next {names} {refs} {rows} {names′} {rows′} {used} {many} {a} {e} {i} 
   where
     here : t < many
     here = rw is (g .in-table i low high)
+
     n : Same-but 8192 2048 names names′
     n = v .steps .names-same
+
     s : Same-but 12288 4096 rows rows′
     s = v .rows-same
+
     f : (k : ℕ) → Among names refs rows used many a i k ⊎ Free names′ refs rows′ used many t k → Among names refs rows used many a (i + 1) k
     f k (inl m) = let l = m .high in record { place = m .place; low = m .low; high = omega arith; free = m .free }
     f k (inr m) = record { place = i; low = low; high = omega arith; free = rw is at (free-same (same-back n) (same-back s) (rows-marked s (h .table)) here m) }
+
     b : (k : ℕ) → Among names refs rows used many a (i + 1) k → Among names refs rows used many a i k ⊎ Free names′ refs rows′ used many t k
     b k m = ⊎-elim
-      (λ p. inr (rw is (free-same n s (h .table) (g .in-table i low high) (rw p at (m .free)))))
-      (λ p. let l = m .high in inl (record { place = m .place; low = m .low; high = omega arith; free = m .free }))
-      (equal (m .place) i)
+        (λ p. inr (rw is (free-same n s (h .table) (g .in-table i low high) (rw p at (m .free)))))
+        (λ p. let l = m .high in inl (record { place = m .place; low = m .low; high = omega arith; free = m .free }))
+        (equal (m .place) i)
 
 -- the head of a term and the terms that it names are the term
-pub walks-term : {names refs rows out names′ out′ names″ rows″ out″ : List ℕ} {used many mark count room n t : ℕ} {r : Walked}
-    → Ready names refs rows out used many mark count room → t < many
+pub walks-term : {names refs rows out names′ out′ names″ rows″ out″ : List ℕ} {used many mark count room n t a e : ℕ} {r : Walked}
+    → Ready names refs rows out used many mark count room → a ≡ row-start rows t → e ≡ row-end rows used many t
     → Steps (Own names rows t) names out names′ out′ mark count room (walks.Names n)
-    → Walks (Among names′ refs rows used many (row-start rows t) (row-end rows used many t)) names′ refs rows out′ names″ rows″ out″ used many mark n room r
+    → Walks (Among names′ refs rows used many a e) names′ refs rows out′ names″ rows″ out″ used many mark n room r
     → Walks (Free names refs rows used many t) names refs rows out names″ rows″ out″ used many mark count room r
-walks-term {names} {refs} {rows} {names′} {used} {many} {t} h l v w =
+walks-term {names} {refs} {rows} {names′} {used} {many} {t} {a} {e} h p q v w =
     walks-as f b (walks-then (λ k m. m .counts .small) (walks-names h v) w)
   where
     n : Same-but 8192 2048 names names′
     n = v .names-same
-    f : (k : ℕ) → Own names rows t k ⊎ Among names′ refs rows used many (row-start rows t) (row-end rows used many t) k → Free names refs rows used many t k
+
+    f : (k : ℕ) → Own names rows t k ⊎ Among names′ refs rows used many a e k → Free names refs rows used many t k
     f k (inl m) = record { occurs = own {t = t} (m .headed) (m .is); counts = m .counts }
-    f k (inr m) = record { occurs = under {t = t} (m .place) (m .low) (m .high) (m .free .occurs); counts = counted-same (same-back n) (m .free .counts) }
-    split : {k : ℕ} → Occurs refs rows used many t k → Counted names k → Own names rows t k ⊎ Among names′ refs rows used many (row-start rows t) (row-end rows used many t) k
-    split (own p e) c = inl (record { headed = p; is = e; counts = c })
-    split (under i p q o) c = inr (record { place = i; low = p; high = q; free = record { occurs = o; counts = counted-same n c } })
-    b : (k : ℕ) → Free names refs rows used many t k → Own names rows t k ⊎ Among names′ refs rows used many (row-start rows t) (row-end rows used many t) k
+    f k (inr m) = record { occurs = under {t = t} (m .place) (rw (← p) (m .low)) (rw (← q) (m .high)) (m .free .occurs); counts = counted-same (same-back n) (m .free .counts) }
+
+    split : {k : ℕ} → Occurs refs rows used many t k → Counted names k → Own names rows t k ⊎ Among names′ refs rows used many a e k
+    split (own x y) c = inl (record { headed = x; is = y; counts = c })
+    split (under i x y o) c = inr (record { place = i; low = rw p x; high = rw q y; free = record { occurs = o; counts = counted-same n c } })
+
+    b : (k : ℕ) → Free names refs rows used many t k → Own names rows t k ⊎ Among names′ refs rows used many a e k
     b k m = split (m .occurs) (m .counts)
 
 -- where there is no room for a head there is none for its term's names
@@ -236,16 +243,22 @@ walks-marked {names} {refs} {rows} {names′} {rows′} {used} {many} {mark} {t}
   where
     few : many ≤ 4096
     few = h .table .few-rows
+
     room : 16384 ≤ length rows
     room = h .table .row-room
+
     s : Same-but 12288 4096 rows′ (set rows′ (12288 + t) mark)
     s = same-set 12288 4096 rows′ (12288 + t) mark (omega arith) (omega arith)
+
     table″ : Rows refs (set rows′ (12288 + t) mark) used many 2048
     table″ = rows-marked (same-then (w .rows-same) s) (h .table)
+
     here : row-mark (set rows′ (12288 + t) mark) t ≡ mark
     here = getD-set-same rows′ (12288 + t) mark 0 (omega (arith, w .rows-same .same-length))
+
     other : (u : ℕ) → (u ≡ t → ⊥) → row-mark (set rows′ (12288 + t) mark) u ≡ row-mark rows′ u
     other u d = getD-set-other rows′ (12288 + t) (12288 + u) mark 0 (λ e. d (omega arith))
+
     back : {k : ℕ} → Free names′ refs (set rows′ (12288 + t) mark) used many t k → Free names refs rows used many t k
     back f = free-same (same-back (w .steps .names-same)) (same-back (same-then (w .rows-same) s)) table″ l f
 
@@ -254,3 +267,61 @@ pub heads-of : {names refs rows out : List ℕ} {used many mark count room t : �
 heads-of {t} h l =
     let few = h .table .few-rows in
     record { name-room = h .name-room; row-room = h .table .row-room; is-row = omega arith; head-small = λ k. h .table .headed t l k; low = h .low; high = h .high }
+
+-- ---- the measure
+
+-- one more than the greatest of the terms that n references from a place on name
+unfoldable pub top : List ℕ → ℕ → ℕ → ℕ
+top refs a zero = 0
+top refs a (suc n) = max (top refs a n) (getD refs (a + n) 0 % 4096 + 1)
+
+-- each of these terms is below it
+top-above : (refs : List ℕ) (a n i : ℕ) → a ≤ i → i < a + n → getD refs i 0 % 4096 < top refs a n
+unfolding top
+top-above refs a zero i h l = omega arith
+top-above refs a (suc n) i h l = ⊎-elim (λ e. rw e (omega arith)) (λ e. omega (arith, top-above refs a n i h (omega arith))) (equal i (a + n))
+
+-- and it is no more than a number above them all
+top-below : (refs : List ℕ) (a n t : ℕ) → ((i : ℕ) → a ≤ i → i < a + n → getD refs i 0 % 4096 < t) → top refs a n ≤ t
+unfolding top
+top-below refs a zero t h = omega arith
+top-below refs a (suc n) t h = omega (arith, h (a + n) (omega arith) (omega arith), top-below refs a n t (λ i b l. h i b (omega arith)))
+
+-- a term of a list is below the list
+pub list-falls : (refs : List ℕ) {a e i t m : ℕ} → a ≤ i → i < e → t ≡ getD refs i 0 % 4096 → 2 * top refs a (e - a) ≡ m → 2 * t + 1 < m
+list-falls refs {a} {e} {i} h l is q = omega (arith, top-above refs a (e - a) i h (omega arith))
+
+-- the list of a term is below the term
+pub term-falls : {refs rows : List ℕ} {used many named t m a e : ℕ} → Rows refs rows used many named → t < many → a ≡ row-start rows t → e ≡ row-end rows used many t → 2 * t + 1 ≡ m → 2 * top refs a (e - a) < m
+term-falls {refs} {rows} {used} {many} {t} {a} {e} r l p q w =
+    let o = r .in-order t l in
+    omega (arith, top-below refs a (e - a) t (λ i b d. r .lower t i l (omega arith) (omega arith)))
+
+-- ---- what the proofs of the walks cite
+
+-- a term of a list is in the table
+pub in-table-at : {refs : List ℕ} {used many a e i t : ℕ} → References refs used many a e → a ≤ i → i < e → t ≡ getD refs i 0 % 4096 → t < many
+in-table-at {i} g l h is = rw is (g .in-table i l h)
+
+-- an answer that was taken apart
+pub walks-is : {P : ℕ → Type 0} {names refs rows out names′ rows′ out′ : List ℕ} {used many mark count room : ℕ} {r r′ : Walked}
+    → r ≡ r′ → Walks P names refs rows out names′ rows′ out′ used many mark count room r → Walks P names refs rows out names′ rows′ out′ used many mark count room r′
+walks-is e w = rw e at w
+
+-- the same of a step
+pub steps-is : {P : ℕ → Type 0} {names out names′ out′ : List ℕ} {mark count room : ℕ} {r r′ : Walked} → r ≡ r′ → Steps P names out names′ out′ mark count room r → Steps P names out names′ out′ mark count room r′
+steps-is e w = rw e at w
+
+-- where there is no room for the terms up to a place there is none for the list's
+pub walks-stop : {names refs rows out names′ rows′ out′ : List ℕ} {used many mark count room a i e : ℕ} → i < e
+    → Walks (Among names refs rows used many a (i + 1)) names refs rows out names′ rows′ out′ used many mark count room walks.Full
+    → Walks (Among names refs rows used many a e) names refs rows out names′ rows′ out′ used many mark count room walks.Full
+walks-stop l w = walks-full (λ k m. let h = m .high in record { place = m .place; low = m .low; high = omega arith; free = m .free }) w
+
+-- the terms up to the end are the list's
+pub walks-end : {names refs rows out names′ rows′ out′ : List ℕ} {used many mark count room a i e : ℕ} {r : Walked} → i ≤ e → e ≤ i
+    → Walks (Among names refs rows used many a i) names refs rows out names′ rows′ out′ used many mark count room r
+    → Walks (Among names refs rows used many a e) names refs rows out names′ rows′ out′ used many mark count room r
+walks-end {i} {e} l h w =
+    let q : i ≡ e = omega arith in
+    rw q at w

@@ -1,0 +1,625 @@
+-- `terms::walk_term` and `terms::walk_list` meet their contracts. A term's measure is twice its number and one, a list's twice
+-- the greatest of its terms and one more. The loop's invariant: the names of the terms up to `i` are added.
+use native.Mathlib.Omega.{arith}
+use Prim.Native.Nat.{ℕ, _+_, _-_, _*_, _≤_, _<_}
+use mathlib.Core.Path.{sym, _∙_}
+use Rattle.terms.specs.declared.Walked.the-variants as walks
+use Rattle.terms.specs.Walks.{Among, Walks}
+use Rattle.terms.proofs.Walking.{top, list-falls, term-falls, walks-there, walks-none, walks-next, walks-term, walks-head-full, walks-marked, ready-then, heads-of, references-of, in-table-at, walks-is, steps-is, walks-stop, walks-end, walks-names}
+use borrow.Fn.Kinds.{In}
+use borrow.Fn.PlainCycle.{Measures, is, falls, and}
+use Rattle.terms.proofs.walk_list.Reads as walk-list
+use Rattle.terms.proofs.walk_list.Kinds as walk-list-kinds
+use Rattle.terms.proofs.+walk_list+walk_term.Lts-walk_list as walk-list-lts
+use Rattle.terms.proofs.walk_term.Reads as walk-term
+use Rattle.terms.proofs.walk_term.Kinds as walk-term-kinds
+use Rattle.terms.proofs.+walk_list+walk_term.Lts-walk_term as walk-term-lts
+use Rattle.terms.proofs.at.Reads as at-reads
+use Rattle.terms.proofs.end.Reads as end-reads
+use Rattle.terms.proofs.gather_head.Reads as gather-head-reads
+use Rattle.terms.proofs.reference.Reads as reference-reads
+use Rattle.terms.proofs.start.Reads as start-reads
+use Rattle.terms.proofs.+walk_list+walk_term.{statement}
+use Rattle.terms.proofs.+walk_list+walk_term.Tie.{close}
+
+abbrev μ-walk-list : Measures 4 walk-list-kinds.ps ℕ
+μ-walk-list κs a = 2 * top (a .1 .0 .now) (a .1 .1 .1 .1 .1 .1 .0) (a .1 .1 .1 .1 .1 .1 .1 .0 - a .1 .1 .1 .1 .1 .1 .0)
+
+abbrev μ-walk-term : Measures 4 walk-term-kinds.ps ℕ
+μ-walk-term κs a = 2 * (a .1 .1 .1 .1 .1 .1 .0) + 1
+
+abbrev walk-list-at : ℕ → In 4 walk-list-kinds.ps
+walk-list-at t = and 4 walk-list-kinds.ps (is 4 walk-list-kinds.ps μ-walk-list t) walk-list.Pre
+
+abbrev walk-list-below : ℕ → In 4 walk-list-kinds.ps
+walk-list-below t =
+    and 4 walk-list-kinds.ps (falls 4 walk-list-kinds.ps _<_ μ-walk-list t) walk-list.Pre
+
+abbrev walk-term-at : ℕ → In 4 walk-term-kinds.ps
+walk-term-at t = and 4 walk-term-kinds.ps (is 4 walk-term-kinds.ps μ-walk-term t) walk-term.Pre
+
+abbrev walk-term-below : ℕ → In 4 walk-term-kinds.ps
+walk-term-below t =
+    and 4 walk-term-kinds.ps (falls 4 walk-term-kinds.ps _<_ μ-walk-term t) walk-term.Pre
+
+abbrev walk-list-Inv-loop : walk-list-lts.InvT-loop
+walk-list-Inv-loop names₀ refs rows₀ out₀ used many a e mark count room i₀ n₀ names rows out i n =
+    (a ≤ i) × (i ≤ e) × Walks (Among names₀ refs rows₀ used many a i) names₀ refs rows₀ out₀ names rows out used many mark count room (walks.Names n)
+
+abbrev walk-list-μ-loop : walk-list-lts.MeasureT-loop
+walk-list-μ-loop names₀ refs rows₀ out₀ used many a e mark count room i₀ n₀ names rows out i n = e - i
+
+walk-list-loop-holds : (t : ℕ) → walk-list-lts.Need-loop-holds (
+  reference-reads.Asked,
+  reference-reads.Learnt,
+  walk-term-below t,
+  walk-term.Post,
+) (walk-list-at t) walk-list.Post walk-list-Inv-loop walk-list-μ-loop
+walk-list-loop-holds t c = (omega arith, omega (arith, c .before .before .before .before .pre .1 .1 .in-order), walks-none (c .before .before .before .before .pre .1 .0))
+
+walk-list-reference-requires : (t : ℕ) → walk-list-lts.Need-reference-requires (
+  reference-reads.Asked,
+  reference-reads.Learnt,
+  walk-term-below t,
+  walk-term.Post,
+) (walk-list-at t) walk-list.Post walk-list-Inv-loop walk-list-μ-loop
+walk-list-reference-requires t c κs = omega (arith, c .before .before .before .before .before .before .pre .1 .0 .table .ref-room, c .before .before .before .before .before .before .pre .1 .0 .table .few-references, c .before .before .before .before .before .before .pre .1 .1 .in-use)
+
+walk-list-walk-term-requires : (t : ℕ) → walk-list-lts.Need-walk-term-requires (
+  reference-reads.Asked,
+  reference-reads.Learnt,
+  walk-term-below t,
+  walk-term.Post,
+) (walk-list-at t) walk-list.Post walk-list-Inv-loop walk-list-μ-loop
+walk-list-walk-term-requires t c κs = (list-falls (c .before .before .before .before .before .before .before .before .before .before .args .refs .now) (c .before .before .before .before .before .loop .inv .0) (c .before .before .before .before .loop-test .taken) (c .before .before .before .reference .ensures) (c .before .before .before .before .before .before .before .before .before .before .pre .0), (ready-then (c .before .before .before .before .before .before .before .before .before .before .pre .1 .0) (c .before .before .before .before .before .loop .inv .2), in-table-at (c .before .before .before .before .before .before .before .before .before .before .pre .1 .1) (c .before .before .before .before .before .loop .inv .0) (c .before .before .before .before .loop-test .taken) (c .before .before .before .reference .ensures)))
+
+walk-list-enum-known-more : (t : ℕ) → walk-list-lts.Need-enum-known-more (
+  reference-reads.Asked,
+  reference-reads.Learnt,
+  walk-term-below t,
+  walk-term.Post,
+) (walk-list-at t) walk-list.Post walk-list-Inv-loop walk-list-μ-loop
+walk-list-enum-known-more t c = c .match .keys1
+
+walk-list-enum-told : (t : ℕ) → walk-list-lts.Need-enum-told (
+  reference-reads.Asked,
+  reference-reads.Learnt,
+  walk-term-below t,
+  walk-term.Post,
+) (walk-list-at t) walk-list.Post walk-list-Inv-loop walk-list-μ-loop
+walk-list-enum-told t c = c .match .keys2
+
+walk-list-returns : (t : ℕ) → walk-list-lts.Need-returns (
+  reference-reads.Asked,
+  reference-reads.Learnt,
+  walk-term-below t,
+  walk-term.Post,
+) (walk-list-at t) walk-list.Post walk-list-Inv-loop walk-list-μ-loop
+walk-list-returns t c = walks-stop (c .before .before .before .before .before .before .before .before .before .before .before .before .before .loop-test .taken) (walks-next (c .before .before .before .before .before .before .before .before .before .before .before .before .before .before .before .before .before .before .before .pre .1 .0) (c .before .before .before .before .before .before .before .before .before .before .before .before .before .before .before .before .before .before .before .pre .1 .1) (c .before .before .before .before .before .before .before .before .before .before .before .before .before .before .loop .inv .0) (c .before .before .before .before .before .before .before .before .before .before .before .before .before .loop-test .taken) (c .before .before .before .before .before .before .before .before .before .before .before .before .reference .ensures) (c .before .before .before .before .before .before .before .before .before .before .before .before .before .before .loop .inv .2) (walks-is (c .enum-told .given .1) (c .before .before .before .before .before .before .before .before .walk-term .ensures)))
+
+walk-list-same-length : (t : ℕ) → walk-list-lts.Need-same-length (
+  reference-reads.Asked,
+  reference-reads.Learnt,
+  walk-term-below t,
+  walk-term.Post,
+) (walk-list-at t) walk-list.Post walk-list-Inv-loop walk-list-μ-loop
+walk-list-same-length t c = walk-list-returns t c .steps .names-same .same-length
+
+walk-list-same-length-2 : (t : ℕ) → walk-list-lts.Need-same-length-2 (
+  reference-reads.Asked,
+  reference-reads.Learnt,
+  walk-term-below t,
+  walk-term.Post,
+) (walk-list-at t) walk-list.Post walk-list-Inv-loop walk-list-μ-loop
+walk-list-same-length-2 t c = walk-list-returns t c .rows-same .same-length
+
+walk-list-same-length-3 : (t : ℕ) → walk-list-lts.Need-same-length-3 (
+  reference-reads.Asked,
+  reference-reads.Learnt,
+  walk-term-below t,
+  walk-term.Post,
+) (walk-list-at t) walk-list.Post walk-list-Inv-loop walk-list-μ-loop
+walk-list-same-length-3 t c = walk-list-returns t c .steps .out-same .same-length
+
+walk-list-add-i : (t : ℕ) → walk-list-lts.Need-add-i (
+  reference-reads.Asked,
+  reference-reads.Learnt,
+  walk-term-below t,
+  walk-term.Post,
+) (walk-list-at t) walk-list.Post walk-list-Inv-loop walk-list-μ-loop
+walk-list-add-i t c = omega arith
+
+walk-list-loop-less : (t : ℕ) → walk-list-lts.Need-loop-less (
+  reference-reads.Asked,
+  reference-reads.Learnt,
+  walk-term-below t,
+  walk-term.Post,
+) (walk-list-at t) walk-list.Post walk-list-Inv-loop walk-list-μ-loop
+walk-list-loop-less t c = omega arith
+
+walk-list-loop-again : (t : ℕ) → walk-list-lts.Need-loop-again (
+  reference-reads.Asked,
+  reference-reads.Learnt,
+  walk-term-below t,
+  walk-term.Post,
+) (walk-list-at t) walk-list.Post walk-list-Inv-loop walk-list-μ-loop
+walk-list-loop-again t c = (omega arith, omega arith, walks-next (c .before .before .before .before .before .before .before .before .before .before .before .before .before .before .before .before .before .before .before .before .pre .1 .0) (c .before .before .before .before .before .before .before .before .before .before .before .before .before .before .before .before .before .before .before .before .pre .1 .1) (c .before .before .before .before .before .before .before .before .before .before .before .before .before .before .before .loop .inv .0) (c .before .before .before .before .before .before .before .before .before .before .before .before .before .before .loop-test .taken) (c .before .before .before .before .before .before .before .before .before .before .before .before .before .reference .ensures) (c .before .before .before .before .before .before .before .before .before .before .before .before .before .before .before .loop .inv .2) (walks-is (c .before .more .given .1) (c .before .before .before .before .before .before .before .before .before .walk-term .ensures)))
+
+walk-list-returns-2 : (t : ℕ) → walk-list-lts.Need-returns-2 (
+  reference-reads.Asked,
+  reference-reads.Learnt,
+  walk-term-below t,
+  walk-term.Post,
+) (walk-list-at t) walk-list.Post walk-list-Inv-loop walk-list-μ-loop
+walk-list-returns-2 t c = walks-end (c .before .loop .inv .1) (c .loop-test .left) (c .before .loop .inv .2)
+
+walk-list-same-length-4 : (t : ℕ) → walk-list-lts.Need-same-length-4 (
+  reference-reads.Asked,
+  reference-reads.Learnt,
+  walk-term-below t,
+  walk-term.Post,
+) (walk-list-at t) walk-list.Post walk-list-Inv-loop walk-list-μ-loop
+walk-list-same-length-4 t c = walk-list-returns-2 t c .steps .names-same .same-length
+
+walk-list-same-length-5 : (t : ℕ) → walk-list-lts.Need-same-length-5 (
+  reference-reads.Asked,
+  reference-reads.Learnt,
+  walk-term-below t,
+  walk-term.Post,
+) (walk-list-at t) walk-list.Post walk-list-Inv-loop walk-list-μ-loop
+walk-list-same-length-5 t c = walk-list-returns-2 t c .rows-same .same-length
+
+walk-list-same-length-6 : (t : ℕ) → walk-list-lts.Need-same-length-6 (
+  reference-reads.Asked,
+  reference-reads.Learnt,
+  walk-term-below t,
+  walk-term.Post,
+) (walk-list-at t) walk-list.Post walk-list-Inv-loop walk-list-μ-loop
+walk-list-same-length-6 t c = walk-list-returns-2 t c .steps .out-same .same-length
+
+walk-term-add-at : (t : ℕ) → walk-term-lts.Need-add-at (
+  at-reads.Asked,
+  at-reads.Learnt,
+  gather-head-reads.Asked,
+  gather-head-reads.Learnt,
+  start-reads.Asked,
+  start-reads.Learnt,
+  end-reads.Asked,
+  end-reads.Learnt,
+  walk-list-below t,
+  walk-list.Post,
+) (walk-term-at t) walk-term.Post
+walk-term-add-at t c = omega (arith, c .before .before .before .before .before .pre .1 .1, c .before .before .before .before .before .pre .1 .0 .table .few-rows)
+
+walk-term-at-requires : (t : ℕ) → walk-term-lts.Need-at-requires (
+  at-reads.Asked,
+  at-reads.Learnt,
+  gather-head-reads.Asked,
+  gather-head-reads.Learnt,
+  start-reads.Asked,
+  start-reads.Learnt,
+  end-reads.Asked,
+  end-reads.Learnt,
+  walk-list-below t,
+  walk-list.Post,
+) (walk-term-at t) walk-term.Post
+walk-term-at-requires t c κs = omega (arith, c .before .before .before .before .before .pre .1 .1, c .before .before .before .before .before .pre .1 .0 .table .few-rows, c .before .before .before .before .before .pre .1 .0 .table .row-room)
+
+walk-term-returns : (t : ℕ) → walk-term-lts.Need-returns (
+  at-reads.Asked,
+  at-reads.Learnt,
+  gather-head-reads.Asked,
+  gather-head-reads.Learnt,
+  start-reads.Asked,
+  start-reads.Learnt,
+  end-reads.Asked,
+  end-reads.Learnt,
+  walk-list-below t,
+  walk-list.Post,
+) (walk-term-at t) walk-term.Post
+walk-term-returns t c = walks-there (c .before .before .before .before .before .before .before .pre .1 .0) (c .before .before .before .before .before .before .before .pre .1 .1) (sym (c .before .at .ensures) ∙ c .if1 .taken)
+
+walk-term-same-length : (t : ℕ) → walk-term-lts.Need-same-length (
+  at-reads.Asked,
+  at-reads.Learnt,
+  gather-head-reads.Asked,
+  gather-head-reads.Learnt,
+  start-reads.Asked,
+  start-reads.Learnt,
+  end-reads.Asked,
+  end-reads.Learnt,
+  walk-list-below t,
+  walk-list.Post,
+) (walk-term-at t) walk-term.Post
+walk-term-same-length t c = walk-term-returns t c .rows-same .same-length
+
+walk-term-gather-head-requires : (t : ℕ) → walk-term-lts.Need-gather-head-requires (
+  at-reads.Asked,
+  at-reads.Learnt,
+  gather-head-reads.Asked,
+  gather-head-reads.Learnt,
+  start-reads.Asked,
+  start-reads.Learnt,
+  end-reads.Asked,
+  end-reads.Learnt,
+  walk-list-below t,
+  walk-list.Post,
+) (walk-term-at t) walk-term.Post
+walk-term-gather-head-requires t c κs = heads-of (c .before .before .before .before .before .before .before .before .before .before .pre .1 .0) (c .before .before .before .before .before .before .before .before .before .before .pre .1 .1)
+
+walk-term-enum-known-own : (t : ℕ) → walk-term-lts.Need-enum-known-own (
+  at-reads.Asked,
+  at-reads.Learnt,
+  gather-head-reads.Asked,
+  gather-head-reads.Learnt,
+  start-reads.Asked,
+  start-reads.Learnt,
+  end-reads.Asked,
+  end-reads.Learnt,
+  walk-list-below t,
+  walk-list.Post,
+) (walk-term-at t) walk-term.Post
+walk-term-enum-known-own t c = c .match .keys1
+
+walk-term-enum-told : (t : ℕ) → walk-term-lts.Need-enum-told (
+  at-reads.Asked,
+  at-reads.Learnt,
+  gather-head-reads.Asked,
+  gather-head-reads.Learnt,
+  start-reads.Asked,
+  start-reads.Learnt,
+  end-reads.Asked,
+  end-reads.Learnt,
+  walk-list-below t,
+  walk-list.Post,
+) (walk-term-at t) walk-term.Post
+walk-term-enum-told t c = c .match .keys2
+
+walk-term-returns-2 : (t : ℕ) → walk-term-lts.Need-returns-2 (
+  at-reads.Asked,
+  at-reads.Learnt,
+  gather-head-reads.Asked,
+  gather-head-reads.Learnt,
+  start-reads.Asked,
+  start-reads.Learnt,
+  end-reads.Asked,
+  end-reads.Learnt,
+  walk-list-below t,
+  walk-list.Post,
+) (walk-term-at t) walk-term.Post
+walk-term-returns-2 t c = walks-head-full (c .before .before .before .before .before .before .before .before .before .before .before .before .before .before .before .before .before .pre .1 .0) (steps-is (c .enum-told .given .1) (c .before .before .before .before .before .before .gather-head .ensures))
+
+walk-term-same-length-2 : (t : ℕ) → walk-term-lts.Need-same-length-2 (
+  at-reads.Asked,
+  at-reads.Learnt,
+  gather-head-reads.Asked,
+  gather-head-reads.Learnt,
+  start-reads.Asked,
+  start-reads.Learnt,
+  end-reads.Asked,
+  end-reads.Learnt,
+  walk-list-below t,
+  walk-list.Post,
+) (walk-term-at t) walk-term.Post
+walk-term-same-length-2 t c = walk-term-returns-2 t c .steps .names-same .same-length
+
+walk-term-same-length-3 : (t : ℕ) → walk-term-lts.Need-same-length-3 (
+  at-reads.Asked,
+  at-reads.Learnt,
+  gather-head-reads.Asked,
+  gather-head-reads.Learnt,
+  start-reads.Asked,
+  start-reads.Learnt,
+  end-reads.Asked,
+  end-reads.Learnt,
+  walk-list-below t,
+  walk-list.Post,
+) (walk-term-at t) walk-term.Post
+walk-term-same-length-3 t c = walk-term-returns-2 t c .rows-same .same-length
+
+walk-term-same-length-4 : (t : ℕ) → walk-term-lts.Need-same-length-4 (
+  at-reads.Asked,
+  at-reads.Learnt,
+  gather-head-reads.Asked,
+  gather-head-reads.Learnt,
+  start-reads.Asked,
+  start-reads.Learnt,
+  end-reads.Asked,
+  end-reads.Learnt,
+  walk-list-below t,
+  walk-list.Post,
+) (walk-term-at t) walk-term.Post
+walk-term-same-length-4 t c = walk-term-returns-2 t c .steps .out-same .same-length
+
+walk-term-start-requires : (t : ℕ) → walk-term-lts.Need-start-requires (
+  at-reads.Asked,
+  at-reads.Learnt,
+  gather-head-reads.Asked,
+  gather-head-reads.Learnt,
+  start-reads.Asked,
+  start-reads.Learnt,
+  end-reads.Asked,
+  end-reads.Learnt,
+  walk-list-below t,
+  walk-list.Post,
+) (walk-term-at t) walk-term.Post
+walk-term-start-requires t c κs = omega (arith, c .before .before .before .before .before .before .before .before .before .before .before .before .before .before .before .before .before .before .before .pre .1 .1, c .before .before .before .before .before .before .before .before .before .before .before .before .before .before .before .before .before .before .before .pre .1 .0 .table .few-rows, c .before .before .before .before .before .before .before .before .before .before .before .before .before .before .before .before .before .before .before .pre .1 .0 .table .row-room)
+
+walk-term-end-requires : (t : ℕ) → walk-term-lts.Need-end-requires (
+  at-reads.Asked,
+  at-reads.Learnt,
+  gather-head-reads.Asked,
+  gather-head-reads.Learnt,
+  start-reads.Asked,
+  start-reads.Learnt,
+  end-reads.Asked,
+  end-reads.Learnt,
+  walk-list-below t,
+  walk-list.Post,
+) (walk-term-at t) walk-term.Post
+walk-term-end-requires t c κs = omega (arith, c .before .before .before .before .before .before .before .before .before .before .before .before .before .before .before .before .before .before .before .before .before .pre .1 .1, c .before .before .before .before .before .before .before .before .before .before .before .before .before .before .before .before .before .before .before .before .before .pre .1 .0 .table .few-rows, c .before .before .before .before .before .before .before .before .before .before .before .before .before .before .before .before .before .before .before .before .before .pre .1 .0 .table .row-room)
+
+walk-term-walk-list-requires : (t : ℕ) → walk-term-lts.Need-walk-list-requires (
+  at-reads.Asked,
+  at-reads.Learnt,
+  gather-head-reads.Asked,
+  gather-head-reads.Learnt,
+  start-reads.Asked,
+  start-reads.Learnt,
+  end-reads.Asked,
+  end-reads.Learnt,
+  walk-list-below t,
+  walk-list.Post,
+) (walk-term-at t) walk-term.Post
+walk-term-walk-list-requires t c κs = (term-falls (c .before .before .before .before .before .before .before .before .before .before .before .before .before .before .before .before .before .before .before .before .before .before .before .before .before .pre .1 .0 .table) (c .before .before .before .before .before .before .before .before .before .before .before .before .before .before .before .before .before .before .before .before .before .before .before .before .before .pre .1 .1) (c .before .before .before .before .before .start .ensures) (c .before .before .before .end .ensures) (c .before .before .before .before .before .before .before .before .before .before .before .before .before .before .before .before .before .before .before .before .before .before .before .before .before .pre .0), (ready-then (c .before .before .before .before .before .before .before .before .before .before .before .before .before .before .before .before .before .before .before .before .before .before .before .before .before .pre .1 .0) (walks-names (c .before .before .before .before .before .before .before .before .before .before .before .before .before .before .before .before .before .before .before .before .before .before .before .before .before .pre .1 .0) (steps-is (c .before .before .before .before .before .before .before .before .own .given .1) (c .before .before .before .before .before .before .before .before .before .before .before .before .before .before .gather-head .ensures))), references-of (c .before .before .before .before .before .before .before .before .before .before .before .before .before .before .before .before .before .before .before .before .before .before .before .before .before .pre .1 .0 .table) (c .before .before .before .before .before .before .before .before .before .before .before .before .before .before .before .before .before .before .before .before .before .before .before .before .before .pre .1 .1) (c .before .before .before .before .before .start .ensures) (c .before .before .before .end .ensures)))
+
+walk-term-enum-known-n : (t : ℕ) → walk-term-lts.Need-enum-known-n (
+  at-reads.Asked,
+  at-reads.Learnt,
+  gather-head-reads.Asked,
+  gather-head-reads.Learnt,
+  start-reads.Asked,
+  start-reads.Learnt,
+  end-reads.Asked,
+  end-reads.Learnt,
+  walk-list-below t,
+  walk-list.Post,
+) (walk-term-at t) walk-term.Post
+walk-term-enum-known-n t c = c .match2 .keys1
+
+walk-term-enum-told-2 : (t : ℕ) → walk-term-lts.Need-enum-told-2 (
+  at-reads.Asked,
+  at-reads.Learnt,
+  gather-head-reads.Asked,
+  gather-head-reads.Learnt,
+  start-reads.Asked,
+  start-reads.Learnt,
+  end-reads.Asked,
+  end-reads.Learnt,
+  walk-list-below t,
+  walk-list.Post,
+) (walk-term-at t) walk-term.Post
+walk-term-enum-told-2 t c = c .match2 .keys2
+
+walk-term-returns-3 : (t : ℕ) → walk-term-lts.Need-returns-3 (
+  at-reads.Asked,
+  at-reads.Learnt,
+  gather-head-reads.Asked,
+  gather-head-reads.Learnt,
+  start-reads.Asked,
+  start-reads.Learnt,
+  end-reads.Asked,
+  end-reads.Learnt,
+  walk-list-below t,
+  walk-list.Post,
+) (walk-term-at t) walk-term.Post
+walk-term-returns-3 t c = walks-term (c .before .before .before .before .before .before .before .before .before .before .before .before .before .before .before .before .before .before .before .before .before .before .before .before .before .before .before .before .before .before .before .before .before .before .pre .1 .0) (c .before .before .before .before .before .before .before .before .before .before .before .before .before .before .start .ensures) (c .before .before .before .before .before .before .before .before .before .before .before .before .end .ensures) (steps-is (c .before .before .before .before .before .before .before .before .before .before .before .before .before .before .before .before .before .own .given .1) (c .before .before .before .before .before .before .before .before .before .before .before .before .before .before .before .before .before .before .before .before .before .before .before .gather-head .ensures)) (walks-is (c .enum-told2 .given .1) (c .before .before .before .before .before .before .before .before .walk-list .ensures))
+
+walk-term-same-length-5 : (t : ℕ) → walk-term-lts.Need-same-length-5 (
+  at-reads.Asked,
+  at-reads.Learnt,
+  gather-head-reads.Asked,
+  gather-head-reads.Learnt,
+  start-reads.Asked,
+  start-reads.Learnt,
+  end-reads.Asked,
+  end-reads.Learnt,
+  walk-list-below t,
+  walk-list.Post,
+) (walk-term-at t) walk-term.Post
+walk-term-same-length-5 t c = walk-term-returns-3 t c .steps .names-same .same-length
+
+walk-term-same-length-6 : (t : ℕ) → walk-term-lts.Need-same-length-6 (
+  at-reads.Asked,
+  at-reads.Learnt,
+  gather-head-reads.Asked,
+  gather-head-reads.Learnt,
+  start-reads.Asked,
+  start-reads.Learnt,
+  end-reads.Asked,
+  end-reads.Learnt,
+  walk-list-below t,
+  walk-list.Post,
+) (walk-term-at t) walk-term.Post
+walk-term-same-length-6 t c = walk-term-returns-3 t c .rows-same .same-length
+
+walk-term-same-length-7 : (t : ℕ) → walk-term-lts.Need-same-length-7 (
+  at-reads.Asked,
+  at-reads.Learnt,
+  gather-head-reads.Asked,
+  gather-head-reads.Learnt,
+  start-reads.Asked,
+  start-reads.Learnt,
+  end-reads.Asked,
+  end-reads.Learnt,
+  walk-list-below t,
+  walk-list.Post,
+) (walk-term-at t) walk-term.Post
+walk-term-same-length-7 t c = walk-term-returns-3 t c .steps .out-same .same-length
+
+walk-term-add-rows : (t : ℕ) → walk-term-lts.Need-add-rows (
+  at-reads.Asked,
+  at-reads.Learnt,
+  gather-head-reads.Asked,
+  gather-head-reads.Learnt,
+  start-reads.Asked,
+  start-reads.Learnt,
+  end-reads.Asked,
+  end-reads.Learnt,
+  walk-list-below t,
+  walk-list.Post,
+) (walk-term-at t) walk-term.Post
+walk-term-add-rows t c = omega (arith, c .before .before .before .before .before .before .before .before .before .before .before .before .before .before .before .before .before .before .before .before .before .before .before .before .before .before .before .before .before .before .before .before .before .before .before .pre .1 .1, c .before .before .before .before .before .before .before .before .before .before .before .before .before .before .before .before .before .before .before .before .before .before .before .before .before .before .before .before .before .before .before .before .before .before .before .pre .1 .0 .table .few-rows)
+
+walk-term-mul-rows : (t : ℕ) → walk-term-lts.Need-mul-rows (
+  at-reads.Asked,
+  at-reads.Learnt,
+  gather-head-reads.Asked,
+  gather-head-reads.Learnt,
+  start-reads.Asked,
+  start-reads.Learnt,
+  end-reads.Asked,
+  end-reads.Learnt,
+  walk-list-below t,
+  walk-list.Post,
+) (walk-term-at t) walk-term.Post
+walk-term-mul-rows t c = omega (arith, c .before .before .before .before .before .before .before .before .before .before .before .before .before .before .before .before .before .before .before .before .before .before .before .before .before .before .before .before .before .before .before .before .before .before .before .pre .1 .1, c .before .before .before .before .before .before .before .before .before .before .before .before .before .before .before .before .before .before .before .before .before .before .before .before .before .before .before .before .before .before .before .before .before .before .before .pre .1 .0 .table .few-rows)
+
+walk-term-slice-write-rows : (t : ℕ) → walk-term-lts.Need-slice-write-rows (
+  at-reads.Asked,
+  at-reads.Learnt,
+  gather-head-reads.Asked,
+  gather-head-reads.Learnt,
+  start-reads.Asked,
+  start-reads.Learnt,
+  end-reads.Asked,
+  end-reads.Learnt,
+  walk-list-below t,
+  walk-list.Post,
+) (walk-term-at t) walk-term.Post
+walk-term-slice-write-rows t c = omega (arith, c .before .before .before .before .before .before .before .before .before .before .before .before .before .before .before .before .before .before .before .before .before .before .before .before .before .before .before .before .before .before .before .before .before .before .before .pre .1 .1, c .before .before .before .before .before .before .before .before .before .before .before .before .before .before .before .before .before .before .before .before .before .before .before .before .before .before .before .before .before .before .before .before .before .before .before .pre .1 .0 .table .few-rows, c .before .before .before .before .before .before .before .before .before .before .before .before .before .before .before .before .before .before .before .before .before .before .before .before .before .before .before .before .before .before .before .before .before .before .before .pre .1 .0 .table .row-room, c .before .before .before .before .before .before .before .before .before .walk-list .kept .1 .1 .0)
+
+walk-term-returns-4 : (t : ℕ) → walk-term-lts.Need-returns-4 (
+  at-reads.Asked,
+  at-reads.Learnt,
+  gather-head-reads.Asked,
+  gather-head-reads.Learnt,
+  start-reads.Asked,
+  start-reads.Learnt,
+  end-reads.Asked,
+  end-reads.Learnt,
+  walk-list-below t,
+  walk-list.Post,
+) (walk-term-at t) walk-term.Post
+walk-term-returns-4 t c = walks-marked (c .before .before .before .before .before .before .before .before .before .before .before .before .before .before .before .before .before .before .before .before .before .before .before .before .before .before .before .before .before .before .before .before .before .before .before .pre .1 .0) (c .before .before .before .before .before .before .before .before .before .before .before .before .before .before .before .before .before .before .before .before .before .before .before .before .before .before .before .before .before .before .before .before .before .before .before .pre .1 .1) (walks-term (c .before .before .before .before .before .before .before .before .before .before .before .before .before .before .before .before .before .before .before .before .before .before .before .before .before .before .before .before .before .before .before .before .before .before .before .pre .1 .0) (c .before .before .before .before .before .before .before .before .before .before .before .before .before .before .before .start .ensures) (c .before .before .before .before .before .before .before .before .before .before .before .before .before .end .ensures) (steps-is (c .before .before .before .before .before .before .before .before .before .before .before .before .before .before .before .before .before .before .own .given .1) (c .before .before .before .before .before .before .before .before .before .before .before .before .before .before .before .before .before .before .before .before .before .before .before .before .gather-head .ensures)) (walks-is (c .before .n .given .1) (c .before .before .before .before .before .before .before .before .before .walk-list .ensures)))
+
+walk-term-same-length-8 : (t : ℕ) → walk-term-lts.Need-same-length-8 (
+  at-reads.Asked,
+  at-reads.Learnt,
+  gather-head-reads.Asked,
+  gather-head-reads.Learnt,
+  start-reads.Asked,
+  start-reads.Learnt,
+  end-reads.Asked,
+  end-reads.Learnt,
+  walk-list-below t,
+  walk-list.Post,
+) (walk-term-at t) walk-term.Post
+walk-term-same-length-8 t c = walk-term-returns-4 t c .steps .names-same .same-length
+
+walk-term-same-length-9 : (t : ℕ) → walk-term-lts.Need-same-length-9 (
+  at-reads.Asked,
+  at-reads.Learnt,
+  gather-head-reads.Asked,
+  gather-head-reads.Learnt,
+  start-reads.Asked,
+  start-reads.Learnt,
+  end-reads.Asked,
+  end-reads.Learnt,
+  walk-list-below t,
+  walk-list.Post,
+) (walk-term-at t) walk-term.Post
+walk-term-same-length-9 t c = walk-term-returns-4 t c .rows-same .same-length
+
+walk-term-same-length-10 : (t : ℕ) → walk-term-lts.Need-same-length-10 (
+  at-reads.Asked,
+  at-reads.Learnt,
+  gather-head-reads.Asked,
+  gather-head-reads.Learnt,
+  start-reads.Asked,
+  start-reads.Learnt,
+  end-reads.Asked,
+  end-reads.Learnt,
+  walk-list-below t,
+  walk-list.Post,
+) (walk-term-at t) walk-term.Post
+walk-term-same-length-10 t c = walk-term-returns-4 t c .steps .out-same .same-length
+
+pub +walk-list+walk-term-spec : {M : Type 1} → statement M
++walk-list+walk-term-spec = close μ-walk-list μ-walk-term (λ t. walk-list-lts.spec (
+  reference-reads.Asked,
+  reference-reads.Learnt,
+  walk-term-below t,
+  walk-term.Post,
+)
+    (walk-list-at t)
+    walk-list.Post
+    walk-list-Inv-loop
+    walk-list-μ-loop
+    (walk-list-loop-holds t)
+    (walk-list-reference-requires t)
+    (walk-list-walk-term-requires t)
+    (walk-list-enum-known-more t)
+    (walk-list-enum-told t)
+    (walk-list-same-length t)
+    (walk-list-same-length-2 t)
+    (walk-list-same-length-3 t)
+    (walk-list-returns t)
+    (walk-list-add-i t)
+    (walk-list-loop-less t)
+    (walk-list-loop-again t)
+    (walk-list-same-length-4 t)
+    (walk-list-same-length-5 t)
+    (walk-list-same-length-6 t)
+    (walk-list-returns-2 t))
+    λ t. walk-term-lts.spec (
+      at-reads.Asked,
+      at-reads.Learnt,
+      gather-head-reads.Asked,
+      gather-head-reads.Learnt,
+      start-reads.Asked,
+      start-reads.Learnt,
+      end-reads.Asked,
+      end-reads.Learnt,
+      walk-list-below t,
+      walk-list.Post,
+    )
+    (walk-term-at t)
+    walk-term.Post
+    (walk-term-add-at t)
+    (walk-term-at-requires t)
+    (walk-term-same-length t)
+    (walk-term-returns t)
+    (walk-term-gather-head-requires t)
+    (walk-term-enum-known-own t)
+    (walk-term-enum-told t)
+    (walk-term-same-length-2 t)
+    (walk-term-same-length-3 t)
+    (walk-term-same-length-4 t)
+    (walk-term-returns-2 t)
+    (walk-term-start-requires t)
+    (walk-term-end-requires t)
+    (walk-term-walk-list-requires t)
+    (walk-term-enum-known-n t)
+    (walk-term-enum-told-2 t)
+    (walk-term-same-length-5 t)
+    (walk-term-same-length-6 t)
+    (walk-term-same-length-7 t)
+    (walk-term-returns-3 t)
+    (walk-term-add-rows t)
+    (walk-term-mul-rows t)
+    (walk-term-slice-write-rows t)
+    (walk-term-same-length-8 t)
+    (walk-term-same-length-9 t)
+    (walk-term-same-length-10 t)
+    (walk-term-returns-4 t)
