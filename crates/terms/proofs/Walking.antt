@@ -75,6 +75,9 @@ module _ {refs rows rows′ : List ℕ} {used many named : ℕ} where
             let f : row-start rows t < row-end rows used many t = r .bodied t l (label-bodied (row-kind rows t) k) in
             let u : getD refs (row-start rows t) 0 % 4096 < t = r .lower t (row-start rows t) l (omega arith) f in
             extra-same s t (omega arith) ∙ r .labelled t l k ∙ sym (ap (λ i. bare-of rows′ (getD refs i 0 % 4096)) (start-same s t (omega arith)) ∙ bare-same s (getD refs (row-start rows t) 0 % 4096) (omega arith));
+        childless = λ t l h. rw (start-same s t (omega arith), end-same s used many t few l) (r .childless t l (rw (kind-same s t (omega arith)) at h));
+        single = λ t l h. rw (start-same s t (omega arith), end-same s used many t few l) (r .single t l (rw (kind-same s t (omega arith)) at h));
+        grouped = λ t i l h a b. rw (extra-same s t (omega arith)) (r .grouped t i l (rw (kind-same s t (omega arith)) at h) (rw (start-same s t (omega arith)) at a) (rw (end-same s used many t few l) at b));
       }
 
   -- a name that occurs does so with other marks too

@@ -103,6 +103,10 @@ has-head k = eqb k 0 || eqb k 2
 unfoldable pub has-body : ℕ → Bool
 has-body k = ltb 3 k
 
+-- a row with pattern groups: all, some
+unfoldable pub has-groups : ℕ → Bool
+has-groups k = eqb k 4 || eqb k 5
+
 -- the term under a run of labels
 unfoldable pub bare-of : List ℕ → ℕ → ℕ
 bare-of rows t = cond (eqb (row-kind rows t) 7) (row-extra rows t) t
@@ -125,6 +129,11 @@ pub record Rows (refs rows : List ℕ) (used many named : ℕ) : Type 0 where
   -- a label's row has the term under its run of labels
   pub labelled : (t : ℕ) → t < many → row-kind rows t ≡ 7
       → row-extra rows t ≡ bare-of rows (getD refs (row-start rows t) 0 % 4096)
+  -- a free name and a leaf have no reference, a label one, and a quantifier's patterns are in its groups
+  pub childless : (t : ℕ) → t < many → row-kind rows t < 2 → row-end rows used many t ≡ row-start rows t
+  pub single : (t : ℕ) → t < many → row-kind rows t ≡ 7 → row-end rows used many t ≡ row-start rows t + 1
+  pub grouped : (t i : ℕ) → t < many → T (has-groups (row-kind rows t)) → row-start rows t < i → i < row-end rows used many t
+      → getD refs i 0 / 4096 < row-extra rows t
 
 -- the word of a row
 unfoldable pub row-word : ℕ → ℕ → ℕ → ℕ
