@@ -300,7 +300,7 @@ refs-intro (suc (suc (suc (suc (suc (suc (suc k))))))) op name ws g r m = ⊎-el
   (first-or ws m)
 
 -- a kind is below 8
-kind-small : (rows : List ℕ) (t : ℕ) → row-kind rows t < 8
+pub kind-small : (rows : List ℕ) (t : ℕ) → row-kind rows t < 8
 unfolding row-kind
 kind-small rows t = omega arith
 
@@ -356,7 +356,8 @@ module _ (name : ℕ → Name) (refs rows : List ℕ) (used many : ℕ) where
     names = free-top-level-names (table t) (node-of name refs rows used many t);
   }
 
-  table-all : terms-of name refs rows used many ≡ table many
+  -- the terms of the table are those before the last
+  pub table-all : terms-of name refs rows used many ≡ table many
   unfolding terms-of table
   table-all = refl
 
