@@ -6,7 +6,7 @@ use mathlib.Core.Path.{_≡_, refl, sym, ap, _∙_}
 use mathlib.Core.Bool.{Bool, true, false, not}
 use mathlib.Core.Logic.{_↔_, _⊎_, inl, inr, ⊎-elim}
 use mathlib.Core.List.{List, [], _∷_, map, List·Memᴰ, List·Memᴰ·head, List·Memᴰ·tail, List·Memᴰ·cases-cons, List·Memᴰ·not-nil}
-use lib.ListN.{length, getD}
+use lib.ListN.{length, getD, length-map}
 use lib.Dec.{T}
 use Rattle.model.specs.Lists.{any, fold-left}
 use Rattle.model.specs.Names.{Name, order, mem, add, add-by, from-list, union, diff}
@@ -159,3 +159,104 @@ module _ {names refs rows : List ℕ} {used many named : ℕ} (name : ℕ → Na
           let u : t ≡ getD refs (p .place) 0 % 4096 = sym q ∙ ap (_% 4096) (sym (p .is)) in
           let (i, (f, v)) = term-set name r d (getD refs (p .place) 0 % 4096) (g .in-table (p .place) (p .low) (p .high)) .from x (rw u at k) in
           (i, (record { place = p .place; low = p .low; high = p .high; free = f }, v))
+
+-- ---- what gathering comes to
+
+-- a list of names no two of which are alike
+data Apart : List Name → Type 0 where
+  none : Apart []
+  more : {n : Name} {ns : List Name} → (T (mem n ns) → ⊥) → Apart ns → Apart (n ∷ ns)
+
+-- a set with a new name has one more
+add-length : (n : Name) (l : List Name) → (T (mem n l) → ⊥) → length (add n l) ≡ suc (length l)
+unfolding add add-by
+add-length n [] h = refl
+add-length n (m ∷ ms) h = go (add n ms) (add-length n ms (λ t. h (mem-later n m ms t))) (compared n m)
+  where
+    go : (w : List Name) → length w ≡ suc (length ms) → {o : Order} → Compared n m o → length (add-by o n m ms w) ≡ suc (suc (length ms))
+    go w e (first p) = refl
+    go w e (equal-names q) = absurd (h (mem-cons n m ms .1 (inl q)))
+    go w e (second p) = ap suc e
+
+-- the set of names no two of which are alike has as many
+apart-length : {l : List Name} → Apart l → length (from-list l) ≡ length l
+unfolding from-list
+apart-length none = refl
+apart-length (more {n} {ns} h a) = add-length n (from-list ns) (λ t. h (mem-from-list n ns .0 t)) ∙ ap suc (apart-length a)
+
+module _ (name : ℕ → Name) where
+  -- a name of some words' is that of one of them
+  map-place : (out : List ℕ) (a e : ℕ) {x : Name} → e ≤ length out → T (mem x (map name (words out a e))) → (i : ℕ) × ((a ≤ i) × (i < e) × (x ≡ name (getD out i 0)))
+  map-place out a e h m =
+      let (k, n, q) = map-elim name (words out a e) (mem-elim m) in
+      let p = words-elim {l = out} {a = a} {e = e} h n in
+      (p .place, (p .low, p .high, sym q ∙ ap name (sym (p .is))))
+
+  place-map : (out : List ℕ) (a e i : ℕ) → e ≤ length out → a ≤ i → i < e → T (mem (name (getD out i 0)) (map name (words out a e)))
+  place-map out a e i h l k = mem-intro (map-intro name (words-intro out a e i h l k))
+
+  -- words whose names are all different
+  words-apart : (out : List ℕ) (d a e : ℕ) → e - a ≡ d → e ≤ length out → ((i j : ℕ) → a ≤ i → i < j → j < e → name (getD out i 0) ≡ name (getD out j 0) → ⊥) → Apart (map name (words out a e))
+  words-apart out zero a e q h u = rw (words-nil out a e (omega arith)) none
+  words-apart out (suc d) a e q h u =
+      rw (words-cons out a e (omega arith) h)
+      (more (λ t. let (i, (l, k, v)) = map-place out (a + 1) e h t in u a i (omega arith) (omega arith) k v)
+      (words-apart out d (a + 1) e (omega arith) h (λ i j l k b v. u i j (omega arith) k b v)))
+
+module _ {P : ℕ → Type 0} (names out names′ out′ : List ℕ) (mark from room named : ℕ) {name : ℕ → Name} {set : List Name}
+    (low : from ≤ room) (high : room ≤ length out) (fresh : (k : ℕ) → k < 2048 → name-mark names k ≡ mark → ⊥)
+    (small : (k : ℕ) → P k → (k < named) × (k < 2048)) (distinct : (m n : ℕ) → m < named → n < named → name m ≡ name n → m ≡ n) (s : Set-of name P set) where
+  start-listed : Listed names out mark from from
+  start-listed = record {
+    place = λ k l e. absurd (fresh k l e);
+    small = λ i a b. let z : ⊥ = omega arith in absurd z;
+    marked = λ i a b. let z : ⊥ = omega arith in absurd z;
+    once = λ i j a b c e. omega arith;
+  }
+
+  module _ (n : ℕ) (fits : n ≤ length out′) (w : Listed names′ out′ mark from n) (sound : (k : ℕ) → k < 2048 → name-mark names′ k ≡ mark → (name-mark names k ≡ mark) ⊎ P k) where
+    -- a name in the slice is one of the set
+    listed-in : (i : ℕ) → from ≤ i → i < n → P (getD out′ i 0)
+    listed-in i a b = ⊎-elim (λ e. absurd (fresh (getD out′ i 0) (w .small i a b) e)) (λ p. p) (sound (getD out′ i 0) (w .small i a b) (w .marked i a b))
+
+    listed-apart : Apart (map name (words out′ from n))
+    listed-apart = words-apart name out′ (n - from) from n refl fits
+        (λ i j a b c e. w .once i j a b c (distinct (getD out′ i 0) (getD out′ j 0) (small _ (listed-in i a (omega arith)) .0) (small _ (listed-in j (omega arith) c) .0) e))
+
+    listed-length : from ≤ n → length (map name (words out′ from n)) ≡ n - from
+    listed-length l = length-map (words out′ from n) name ∙ words-length out′ from n fits
+
+    -- all names are in the slice
+    gathers-all : from ≤ n → n ≤ room → ((k : ℕ) → P k → name-mark names′ k ≡ mark) → Gathers name set from room out′ (walks.Names n)
+    gathers-all l b all = all-names same (rw (← same) (omega (arith, apart-length listed-apart, listed-length l))) b
+      where
+        same : from-list (map name (words out′ from n)) ≡ set
+        same = ascending-ext (ascending-from-list (map name (words out′ from n))) (s .is-set)
+          (λ x t. let (i, (a, c, e)) = map-place name out′ from n fits (mem-from-list x (map name (words out′ from n)) .0 t) in rw e (s .into (getD out′ i 0) (listed-in i a c)))
+          (λ x t. let (k, (p, e)) = s .from x t in let (i, (a, c, q)) = w .place k (small k p .1) (all k p) in
+            mem-from-list x (map name (words out′ from n)) .1 (rw (e, ← q) (place-map name out′ from n i fits a c)))
+
+    -- a name of the set is not in the slice, which is full
+    gathers-over : from ≤ n → room ≡ n → {k : ℕ} → P k → (name-mark names′ k ≡ mark → ⊥) → Gathers name set from room out′ walks.Full
+    gathers-over l q {k} p new = no-room (omega (arith, apart-length longer, listed-length l, subset-length (ascending-from-list (name k ∷ map name (words out′ from n))) (s .is-set) within))
+      where
+        longer : Apart (name k ∷ map name (words out′ from n))
+        longer = more (λ t. let (i, (a, c, e)) = map-place name out′ from n fits t in
+          new (rw (distinct k (getD out′ i 0) (small k p .0) (small _ (listed-in i a c) .0) e) (w .marked i a c))) listed-apart
+        within : (x : Name) → T (mem x (from-list (name k ∷ map name (words out′ from n)))) → T (mem x set)
+        within x t = ⊎-elim (λ e. rw e (s .into k p))
+          (λ m. let (i, (a, c, e)) = map-place name out′ from n fits m in rw e (s .into (getD out′ i 0) (listed-in i a c)))
+          (mem-cons x (name k) (map name (words out′ from n)) .0 (mem-from-list x (name k ∷ map name (words out′ from n)) .0 t))
+
+  -- what a walk of the set's names comes to
+  pub steps-gathers : {r : Walked} → Steps P names out names′ out′ mark from room r → Gathers name set from room out′ r
+  unfolding ended
+  steps-gathers {r = walks.Names n} w =
+      gathers-all n (rw (w .out-same .same-length) (omega (arith, w .fits))) (w .listed from (omega arith) start-listed) (w .sound) (w .grows) (w .fits) (all (w .comes))
+    where
+      all : Comes P names′ mark (walks.Names n) → (k : ℕ) → P k → name-mark names′ k ≡ mark
+      all (whole a) = a
+  steps-gathers {r = walks.Full} w = go (w .comes)
+    where
+      go : Comes P names′ mark walks.Full → Gathers name set from room out′ walks.Full
+      go (over {k} p l new) = gathers-over room (rw (w .out-same .same-length) high) (w .listed from (omega arith) start-listed) (w .sound) low refl p new
