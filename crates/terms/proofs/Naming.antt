@@ -34,7 +34,7 @@ module _ {refs rows : List ℕ} {used many named : ℕ} (r : Rows refs rows used
     free-intro : (n : ℕ) {t k : ℕ} → t < n → n ≤ many → Occurs refs rows used many t k → T (mem (name k) (term (table name refs rows used many n) t .names))
     unfolding entry node-of
     free-intro n h l (own {t} p e) = rw (table-term name refs rows used many n t h) (node-intro (table name refs rows used many t) (node-of name refs rows used many t)
-      (inl (rw (← e) (own-intro (row-kind rows t) (op-of-code (row-op rows t)) (name (row-head rows t)) (words refs (row-start rows t) (row-end rows used many t)) (row-extra rows t) p))))
+        (inl (rw (← e) (own-intro (row-kind rows t) (op-of-code (row-op rows t)) (name (row-head rows t)) (words refs (row-start rows t) (row-end rows used many t)) (row-extra rows t) p))))
     free-intro n h l (under {t} i a b o) =
         let room = r .ref-room in
         let few = r .few-references in
@@ -65,6 +65,7 @@ module _ {refs rows : List ℕ} {used many named : ℕ} (r : Rows refs rows used
         here : List·Memᴰ x (own-names (node-of name refs rows used many t)) → Numbered t x
         here q = let (p, e) = own-elim (row-kind rows t) (op-of-code (row-op rows t)) (name (row-head rows t)) (words refs (row-start rows t) (row-end rows used many t)) (row-extra rows t) (kind-small rows t) q in
             record { number = row-head rows t; occurs = own {t = t} p refl; is = e }
+
         there : ((u : ℕ) → u < t → T (mem x (term (table name refs rows used many t) u .names)) → Numbered u x) → Inside (table name refs rows used many t) (references (node-of name refs rows used many t)) x → Numbered t x
         there go p =
             let room = r .ref-room in
@@ -95,11 +96,11 @@ module _ {names refs rows : List ℕ} {used many named : ℕ} (name : ℕ → Na
     into = λ k f. mem-diff (name k) (term (table name refs rows used many many) t .names) exclude-names .1
         (free-intro r name many l (omega arith) (f .occurs), false-T (sym (d .excluded k (occurs-named r l (f .occurs))) ∙ f .counts .counted));
     from = λ x m.
-      let (a, b) = mem-diff x (term (table name refs rows used many many) t .names) exclude-names .0 m in
-      let z = free-elim r name (suc t) many t (omega arith) l (omega arith) a in
-      let s = occurs-named r l (z .occurs) in
-      let few = r .few-names in
-      (z .number, (record { occurs = z .occurs; counts = record { small = omega arith; counted = d .excluded (z .number) s ∙ T-false (mem (name (z .number)) exclude-names) (rw (z .is) at b) } }, z .is));
+        let (a, b) = mem-diff x (term (table name refs rows used many many) t .names) exclude-names .0 m in
+        let z = free-elim r name (suc t) many t (omega arith) l (omega arith) a in
+        let s = occurs-named r l (z .occurs) in
+        let few = r .few-names in
+        (z .number, (record { occurs = z .occurs; counts = record { small = omega arith; counted = d .excluded (z .number) s ∙ T-false (mem (name (z .number)) exclude-names) (rw (z .is) at b) } }, z .is));
   })
 
 -- the names that a term counts are a set
@@ -113,17 +114,17 @@ module _ (f : ℕ → List Name) where
   unfolding fold-left
   unions-elim acc [] x h = inl h
   unions-elim acc (t ∷ ts) x h = ⊎-elim
-    (λ m. ⊎-elim inl (λ k. inr (t, (List·Memᴰ·head refl, k))) (mem-union x acc (f t) .0 m))
-    (λ (u, (m, k)). inr (u, (List·Memᴰ·tail m, k)))
-    (unions-elim (union acc (f t)) ts x h)
+      (λ m. ⊎-elim inl (λ k. inr (t, (List·Memᴰ·head refl, k))) (mem-union x acc (f t) .0 m))
+      (λ (u, (m, k)). inr (u, (List·Memᴰ·tail m, k)))
+      (unions-elim (union acc (f t)) ts x h)
 
   unions-intro : (acc : List Name) (ts : List ℕ) (x : Name) → T (mem x acc) ⊎ ((t : ℕ) × (List·Memᴰ t ts × T (mem x (f t)))) → T (mem x (fold-left (λ out t. union out (f t)) acc ts))
   unfolding fold-left
   unions-intro acc [] x h = ⊎-elim (λ k. k) (λ (t, (m, k)). absurd (List·Memᴰ·not-nil m)) h
   unions-intro acc (t ∷ ts) x h = unions-intro (union acc (f t)) ts x (⊎-elim
-    (λ k. inl (mem-union x acc (f t) .1 (inl k)))
-    (λ (u, (m, k)). ⊎-elim (λ e. inl (mem-union x acc (f t) .1 (inr (rw e at k)))) (λ n. inr (u, (n, k))) (List·Memᴰ·cases-cons m))
-    h)
+      (λ k. inl (mem-union x acc (f t) .1 (inl k)))
+      (λ (u, (m, k)). ⊎-elim (λ e. inl (mem-union x acc (f t) .1 (inr (rw e at k)))) (λ n. inr (u, (n, k))) (List·Memᴰ·cases-cons m))
+      h)
 
   unions-ascending : (acc : List Name) (ts : List ℕ) → Ascending acc → ((t : ℕ) → Ascending (f t)) → Ascending (fold-left (λ out t. union out (f t)) acc ts)
   unfolding fold-left
@@ -148,10 +149,13 @@ module _ {names refs rows : List ℕ} {used many named : ℕ} (name : ℕ → Na
     where
       free : ℕ → List Name
       free = free-top-level-names exclude-names (terms-of name refs rows used many)
+
       ascending : (t : ℕ) → Ascending (free t)
       ascending t = free-ascending name refs rows used many t
+
       none : (x : Name) → T (mem x []) → ⊥
       none x k = List·Memᴰ·not-nil (mem-elim k)
+
       found : e ≤ length refs → (x : Name) (t : ℕ) → List·Memᴰ t (map (λ w. w % 4096) (words refs a e)) → T (mem x (free t)) → (k : ℕ) × (Among names refs rows used many a e k × (x ≡ name k))
       found fits x t m k =
           let (w, n, q) = map-elim (λ w. w % 4096) (words refs a e) m in
@@ -203,17 +207,18 @@ module _ (name : ℕ → Name) where
       (more (λ t. let (i, (l, k, v)) = map-place out (a + 1) e h t in u a i (omega arith) (omega arith) k v)
       (words-apart out d (a + 1) e (omega arith) h (λ i j l k b v. u i j (omega arith) k b v)))
 
+-- where no name has the mark none is in the slice
+pub start-listed : {names out : List ℕ} {mark from : ℕ} → ((k : ℕ) → k < 2048 → name-mark names k ≡ mark → ⊥) → Listed names out mark from from
+start-listed fresh = record {
+  place = λ k l e. absurd (fresh k l e);
+  small = λ i a b. omega arith;
+  marked = λ i a b. let z : ⊥ = omega arith in absurd z;
+  once = λ i j a b c e. omega arith;
+}
+
 module _ {P : ℕ → Type 0} (names out names′ out′ : List ℕ) (mark from room named : ℕ) {name : ℕ → Name} {set : List Name}
     (low : from ≤ room) (high : room ≤ length out) (fresh : (k : ℕ) → k < 2048 → name-mark names k ≡ mark → ⊥)
     (small : (k : ℕ) → P k → (k < named) × (k < 2048)) (distinct : (m n : ℕ) → m < named → n < named → name m ≡ name n → m ≡ n) (s : Set-of name P set) where
-  start-listed : Listed names out mark from from
-  start-listed = record {
-    place = λ k l e. absurd (fresh k l e);
-    small = λ i a b. let z : ⊥ = omega arith in absurd z;
-    marked = λ i a b. let z : ⊥ = omega arith in absurd z;
-    once = λ i j a b c e. omega arith;
-  }
-
   module _ (n : ℕ) (fits : n ≤ length out′) (w : Listed names′ out′ mark from n) (sound : (k : ℕ) → k < 2048 → name-mark names′ k ≡ mark → (name-mark names k ≡ mark) ⊎ P k) where
     -- a name in the slice is one of the set
     listed-in : (i : ℕ) → from ≤ i → i < n → P (getD out′ i 0)
@@ -232,8 +237,8 @@ module _ {P : ℕ → Type 0} (names out names′ out′ : List ℕ) (mark from 
       where
         same : from-list (map name (words out′ from n)) ≡ set
         same = ascending-ext (ascending-from-list (map name (words out′ from n))) (s .is-set)
-          (λ x t. let (i, (a, c, e)) = map-place name out′ from n fits (mem-from-list x (map name (words out′ from n)) .0 t) in rw e (s .into (getD out′ i 0) (listed-in i a c)))
-          (λ x t. let (k, (p, e)) = s .from x t in let (i, (a, c, q)) = w .place k (small k p .1) (all k p) in
+            (λ x t. let (i, (a, c, e)) = map-place name out′ from n fits (mem-from-list x (map name (words out′ from n)) .0 t) in rw e (s .into (getD out′ i 0) (listed-in i a c)))
+            (λ x t. let (k, (p, e)) = s .from x t in let (i, (a, c, q)) = w .place k (small k p .1) (all k p) in
             mem-from-list x (map name (words out′ from n)) .1 (rw (e, ← q) (place-map name out′ from n i fits a c)))
 
     -- a name of the set is not in the slice, which is full
@@ -242,21 +247,22 @@ module _ {P : ℕ → Type 0} (names out names′ out′ : List ℕ) (mark from 
       where
         longer : Apart (name k ∷ map name (words out′ from n))
         longer = more (λ t. let (i, (a, c, e)) = map-place name out′ from n fits t in
-          new (rw (distinct k (getD out′ i 0) (small k p .0) (small _ (listed-in i a c) .0) e) (w .marked i a c))) listed-apart
+            new (rw (distinct k (getD out′ i 0) (small k p .0) (small _ (listed-in i a c) .0) e) (w .marked i a c))) listed-apart
+
         within : (x : Name) → T (mem x (from-list (name k ∷ map name (words out′ from n)))) → T (mem x set)
         within x t = ⊎-elim (λ e. rw e (s .into k p))
-          (λ m. let (i, (a, c, e)) = map-place name out′ from n fits m in rw e (s .into (getD out′ i 0) (listed-in i a c)))
-          (mem-cons x (name k) (map name (words out′ from n)) .0 (mem-from-list x (name k ∷ map name (words out′ from n)) .0 t))
+            (λ m. let (i, (a, c, e)) = map-place name out′ from n fits m in rw e (s .into (getD out′ i 0) (listed-in i a c)))
+            (mem-cons x (name k) (map name (words out′ from n)) .0 (mem-from-list x (name k ∷ map name (words out′ from n)) .0 t))
 
   -- what a walk of the set's names comes to
   pub steps-gathers : {r : Walked} → Steps P names out names′ out′ mark from room r → Gathers name set from room out′ r
   unfolding ended
   steps-gathers {r = walks.Names n} w =
-      gathers-all n (rw (w .out-same .same-length) (omega (arith, w .fits))) (w .listed from (omega arith) start-listed) (w .sound) (w .grows) (w .fits) (all (w .comes))
+      gathers-all n (rw (w .out-same .same-length) (omega (arith, w .fits))) (w .listed from (omega arith) (start-listed fresh)) (w .sound) (w .grows) (w .fits) (all (w .comes))
     where
       all : Comes P names′ mark (walks.Names n) → (k : ℕ) → P k → name-mark names′ k ≡ mark
       all (whole a) = a
   steps-gathers {r = walks.Full} w = go (w .comes)
     where
       go : Comes P names′ mark walks.Full → Gathers name set from room out′ walks.Full
-      go (over {k} p l new) = gathers-over room (rw (w .out-same .same-length) high) (w .listed from (omega arith) start-listed) (w .sound) low refl p new
+      go (over {k} p l new) = gathers-over room (rw (w .out-same .same-length) high) (w .listed from (omega arith) (start-listed fresh)) (w .sound) low refl p new

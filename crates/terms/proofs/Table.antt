@@ -52,9 +52,9 @@ words-elim {l} {a} {e} h m = go (e - a) a e refl h m
     go : (d a e : ℕ) {k : ℕ} → e - a ≡ d → e ≤ length l → List·Memᴰ k (words l a e) → Place l a e k
     go zero a e q h m = absurd (List·Memᴰ·not-nil (rw (words-nil l a e (omega arith)) at m))
     go (suc d) a e q h m = ⊎-elim
-      (λ f. record { place = a; low = omega arith; high = omega arith; is = sym f })
-      (λ n. let p = go d (a + 1) e (omega arith) h n in let x = p .low in record { place = p .place; low = omega arith; high = p .high; is = p .is })
-      (List·Memᴰ·cases-cons (rw (words-cons l a e (omega arith) h) at m))
+        (λ f. record { place = a; low = omega arith; high = omega arith; is = sym f })
+        (λ n. let p = go d (a + 1) e (omega arith) h n in let x = p .low in record { place = p .place; low = omega arith; high = p .high; is = p .is })
+        (List·Memᴰ·cases-cons (rw (words-cons l a e (omega arith) h) at m))
 
 -- the word at a place is one of them
 pub words-intro : (l : List ℕ) (a e i : ℕ) → e ≤ length l → a ≤ i → i < e → List·Memᴰ (getD l i 0) (words l a e)
@@ -79,18 +79,18 @@ pub groups-elim : (ws : List ℕ) (g : ℕ) {t : ℕ} → List·Memᴰ t (concat
 unfolding groups-of-words concat group-of-words terms-of-words
 groups-elim ws zero m = absurd (List·Memᴰ·not-nil m)
 groups-elim ws (suc g) m = ⊎-elim
-  (λ n. let p = groups-elim ws g n in let x = p .group in record { word = p .word; among = p .among; group = omega arith; is = p .is })
-  (λ n. let (w, k, e) = map-elim (λ w. w % 4096) (keep (λ w. eqb (w / 4096) g) ws) (rw append-nil at n) in let (o, q) = keep-elim (λ w. eqb (w / 4096) g) ws k in record { word = w; among = o; group = omega (arith, eqb→eq (w / 4096) g q); is = sym e })
-  (List·Memᴰ·append-cases (concat (groups-of-words ws g)) (rw concat-append at m))
+    (λ n. let p = groups-elim ws g n in let x = p .group in record { word = p .word; among = p .among; group = omega arith; is = p .is })
+    (λ n. let (w, k, e) = map-elim (λ w. w % 4096) (keep (λ w. eqb (w / 4096) g) ws) (rw append-nil at n) in let (o, q) = keep-elim (λ w. eqb (w / 4096) g) ws k in record { word = w; among = o; group = omega (arith, eqb→eq (w / 4096) g q); is = sym e })
+    (List·Memᴰ·append-cases (concat (groups-of-words ws g)) (rw concat-append at m))
 
 -- the term of a word of a group is one of the groups'
 pub groups-intro : (ws : List ℕ) (g : ℕ) {w : ℕ} → List·Memᴰ w ws → w / 4096 < g → List·Memᴰ (w % 4096) (concat (groups-of-words ws g))
 unfolding groups-of-words concat group-of-words terms-of-words
 groups-intro ws zero {w} m h = absurd (not-suc-le-zero h)
 groups-intro ws (suc g) {w} m h = rw concat-append (⊎-elim
-  (λ e. Memᴰ·append-right (concat (groups-of-words ws g)) (rw append-nil (map-intro (λ w. w % 4096) (keep-intro (λ w. eqb (w / 4096) g) m (rw e (eqb-refl g))))))
-  (λ e. Memᴰ·append-left _ (groups-intro ws g m (omega arith)))
-  (equal (w / 4096) g))
+    (λ e. Memᴰ·append-right (concat (groups-of-words ws g)) (rw append-nil (map-intro (λ w. w % 4096) (keep-intro (λ w. eqb (w / 4096) g) m (rw e (eqb-refl g))))))
+    (λ e. Memᴰ·append-left _ (groups-intro ws g m (omega arith)))
+    (equal (w / 4096) g))
 
 -- ---- nodes
 
@@ -262,9 +262,9 @@ named-rest ws p = record { word = p .word; among = rest-in ws (p .among); is = p
 
 quantifier-elim : (ws : List ℕ) (g : ℕ) → ((w : ℕ) × (rest : List ℕ) × (ws ≡ w ∷ rest)) → {t : ℕ} → List·Memᴰ t (getD ws 0 0 % 4096 ∷ concat (groups-of-words (drop 1 ws) g)) → Named-by ws t
 quantifier-elim ws g b m = ⊎-elim
-  (λ e. record { word = getD ws 0 0; among = first-in b; is = e })
-  (λ n. let p = groups-elim (drop 1 ws) g n in record { word = p .word; among = rest-in ws (p .among); is = p .is })
-  (List·Memᴰ·cases-cons m)
+    (λ e. record { word = getD ws 0 0; among = first-in b; is = e })
+    (λ n. let p = groups-elim (drop 1 ws) g n in record { word = p .word; among = rest-in ws (p .among); is = p .is })
+    (List·Memᴰ·cases-cons m)
 
 quantifier-intro : (ws : List ℕ) (g : ℕ) → ((w : ℕ) → List·Memᴰ w (drop 1 ws) → w / 4096 < g) → {w : ℕ} → List·Memᴰ w ws → List·Memᴰ (w % 4096) (getD ws 0 0 % 4096 ∷ concat (groups-of-words (drop 1 ws) g))
 quantifier-intro ws g h {w} m = ⊎-elim (λ e. List·Memᴰ·head (ap (_% 4096) e)) (λ n. List·Memᴰ·tail (groups-intro (drop 1 ws) g n (h w n))) (first-or ws m)
@@ -279,9 +279,9 @@ refs-elim (suc (suc (suc zero))) op name ws g r m = words-named ws m
 refs-elim (suc (suc (suc (suc zero)))) op name ws g r m = quantifier-elim ws g (r .bodied tt) m
 refs-elim (suc (suc (suc (suc (suc zero))))) op name ws g r m = quantifier-elim ws g (r .bodied tt) m
 refs-elim (suc (suc (suc (suc (suc (suc zero)))))) op name ws g r m = ⊎-elim
-  (λ e. record { word = getD ws 0 0; among = first-in (r .bodied tt); is = e })
-  (λ n. named-rest ws (words-named (drop 1 ws) n))
-  (List·Memᴰ·cases-cons m)
+    (λ e. record { word = getD ws 0 0; among = first-in (r .bodied tt); is = e })
+    (λ n. named-rest ws (words-named (drop 1 ws) n))
+    (List·Memᴰ·cases-cons m)
 refs-elim (suc (suc (suc (suc (suc (suc (suc k))))))) op name ws g r m = record { word = getD ws 0 0; among = first-in (r .bodied (seven k (r .small))); is = List·Memᴰ·eq-of-singleton m }
 
 -- and back
@@ -295,9 +295,9 @@ refs-intro (suc (suc (suc (suc zero)))) op name ws g r m = quantifier-intro ws g
 refs-intro (suc (suc (suc (suc (suc zero))))) op name ws g r m = quantifier-intro ws g (r .grouped tt) m
 refs-intro (suc (suc (suc (suc (suc (suc zero)))))) op name ws g r m = ⊎-elim (λ e. List·Memᴰ·head (ap (_% 4096) e)) (λ n. List·Memᴰ·tail (words-name (drop 1 ws) n)) (first-or ws m)
 refs-intro (suc (suc (suc (suc (suc (suc (suc k))))))) op name ws g r m = ⊎-elim
-  (λ e. List·Memᴰ·head (ap (_% 4096) e))
-  (λ n. absurd (List·Memᴰ·not-nil (rw (single-drop ws (r .single (omega (arith, r .small)))) at n)))
-  (first-or ws m)
+    (λ e. List·Memᴰ·head (ap (_% 4096) e))
+    (λ n. absurd (List·Memᴰ·not-nil (rw (single-drop ws (r .single (omega (arith, r .small)))) at n)))
+    (first-or ws m)
 
 -- a kind is below 8
 pub kind-small : (rows : List ℕ) (t : ℕ) → row-kind rows t < 8
@@ -318,11 +318,11 @@ words-drop l a e = go (e - a) refl
     go : (d : ℕ) → e - a ≡ d → drop 1 (words l a e) ≡ words l (a + 1) e
     go zero q = rw (words-nil l a e (omega arith), words-nil l (a + 1) e (omega arith))
     go (suc d) q = ⊎-elim
-      (λ (h : a < length l).
+        (λ (h : a < length l).
         let n : e - (a + 1) ≡ d = omega arith in
         rw (q, n, drop-cons l a 0 h, add-one a))
-      (λ h. rw (drop-of-length-le l {i = a} h, drop-of-length-le l {i = a + 1} (le-add-one h), take-nil, take-nil))
-      (below a (length l))
+        (λ h. rw (drop-of-length-le l {i = a} h, drop-of-length-le l {i = a + 1} (le-add-one h), take-nil, take-nil))
+        (below a (length l))
 
 -- the node under a label
 unlabeled-label : (terms : List Term) (kind : ℕ) (op : Op) (name : Name) (ws : List ℕ) (g : ℕ) → kind ≡ 7 → unlabeled terms (make-node kind op name ws g) ≡ term terms (getD ws 0 0 % 4096) .bare
@@ -379,11 +379,11 @@ module _ (name : ℕ → Name) (refs rows : List ℕ) (used many : ℕ) where
   unfolding term
   table-term zero t h = absurd (not-suc-le-zero h)
   table-term (suc n) t h = ⊎-elim
-    (λ e. ap (term (table (suc n))) e ∙ table-last n ∙ ap entry (sym e))
-    (λ (e : t ≡ n → ⊥).
+      (λ e. ap (term (table (suc n))) e ∙ table-last n ∙ ap entry (sym e))
+      (λ (e : t ≡ n → ⊥).
       let l : t < n = omega arith in
       rw (table-suc n) (List·getD-append (table n) (entry n ∷ []) (record { node = Leaf; bare = Leaf; names = [] }) t (rw (table-length n) l) ∙ table-term n t l))
-    (equal t n)
+      (equal t n)
 
   -- no term is past the table's end
   table-past : (n t : ℕ) → n ≤ t → term (table n) t .names ≡ []
@@ -401,9 +401,9 @@ module _ (name : ℕ → Name) (refs rows : List ℕ) (used many : ℕ) where
       go : (m n t : ℕ) → n ≤ m → Ascending (term (table n) t .names)
       go zero n t h = rw (table-past n t (omega arith)) empty
       go (suc m) n t h = ⊎-elim
-        (λ l. rw (table-term n t l) (entry-ascending t (λ u. go m t u (omega arith))))
-        (λ l. rw (table-past n t l) empty)
-        (below t n)
+          (λ l. rw (table-term n t l) (entry-ascending t (λ u. go m t u (omega arith))))
+          (λ l. rw (table-past n t l) empty)
+          (below t n)
 
   -- a row has a node of its kind's form
   pub row-right : {named : ℕ} → Rows refs rows used many named → (t : ℕ) → t < many → Right (row-kind rows t) (words refs (row-start rows t) (row-end rows used many t)) (row-extra rows t)
@@ -418,9 +418,9 @@ module _ (name : ℕ → Name) (refs rows : List ℕ) (used many : ℕ) where
         bodied = λ h. (getD refs (row-start rows t) 0, words refs (row-start rows t + 1) (row-end rows used many t), words-cons refs (row-start rows t) (row-end rows used many t) (r .bodied t l h) fits);
         single = λ h. words-length refs (row-start rows t) (row-end rows used many t) fits ∙ single-length (row-start rows t) (row-end rows used many t) (r .single t l h);
         grouped = λ h w m.
-          let p = words-elim fits (rw (words-drop refs (row-start rows t) (row-end rows used many t)) at m) in
-          let low = p .low in
-          rw (← (p .is)) (r .grouped t (p .place) l h (omega arith) (p .high));
+            let p = words-elim fits (rw (words-drop refs (row-start rows t) (row-end rows used many t)) at m) in
+            let low = p .low in
+            rw (← (p .is)) (r .grouped t (p .place) l h (omega arith) (p .high));
       }
 
   -- the first reference word of a row with a body
@@ -450,6 +450,7 @@ module _ (name : ℕ → Name) (refs rows : List ℕ) (used many : ℕ) where
           ∙ ap (λ w. term (table t) (w % 4096) .bare) (first-word r t (omega arith) b)
           ∙ go (getD refs (row-start rows t) 0 % 4096) d
           ∙ ap (node-of name refs rows used many) (sym (bare-label rows t e ∙ r .labelled t (omega arith) e))
+
       other : (row-kind rows t ≡ 7 → ⊥) → entry t .bare ≡ node-of name refs rows used many (bare-of rows t)
       other e = unlabeled-own (table t) (row-kind rows t) _ _ _ _ (kind-small rows t) e ∙ ap (node-of name refs rows used many) (sym (bare-own rows t e))
 
