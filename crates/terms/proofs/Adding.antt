@@ -1,0 +1,2 @@
+-- A table grows.
+use Prim.Native.Nat.{ℕ}
