@@ -1,2 +1,203 @@
--- A table grows.
-use Prim.Native.Nat.{ℕ}
+-- A table grows: the empty table, one row more, more names.
+use Prim.Native.Nat.{ℕ, zero, suc, _+_, _-_, _*_, _/_, _%_, _≤_, _<_}
+use native.Mathlib.Nat.{not-suc-le-zero}
+use native.Mathlib.Numerals.{add-one}
+use native.Mathlib.Omega.{arith}
+use mathlib.Core.Path.{_≡_, refl, sym, ap, ap₂, _∙_}
+use mathlib.Core.Logic.{_⊎_, inl, inr, ⊎-elim}
+use mathlib.Core.List.{List, [], _∷_, _++_, List·Memᴰ}
+use lib.ListN.{length, drop, getD, set, length-set}
+use lib.Seq.{getD-set-same, getD-set-other}
+use lib.Dec.{T}
+use Rattle.model.specs.Lists.{fold-left}
+use Rattle.model.specs.Names.{Name}
+use Rattle.model.specs.Terms.{Node, Term, add-term}
+use Rattle.model.specs.declared.Op.{Op}
+use Rattle.model.proofs.ListLaws.{fold-left-append}
+use Rattle.terms.specs.Rows.{row-kind, row-op, row-head, row-start, row-extra, row-end, words, op-of-code, make-node, node-of, nodes-below, terms-of, has-head, has-body, has-groups, bare-of, Rows, row-word, with-row}
+use Rattle.terms.proofs.Laws.{end-next, end-last}
+use Rattle.terms.proofs.Steps.{equal}
+use Rattle.terms.proofs.Table.{words-nil, words-cons, words-length, words-intro, words-drop}
+
+-- lent slices are a table of no rows
+pub empty-rows : (refs rows : List ℕ) (named : ℕ) → 16384 ≤ length refs → 16384 ≤ length rows → named ≤ 2048 → Rows refs rows 0 0 named
+empty-rows refs rows named a b c = record {
+  ref-room = a;
+  row-room = b;
+  few-references = omega arith;
+  few-rows = omega arith;
+  few-names = c;
+  in-order = λ t l. absurd (not-suc-le-zero l);
+  in-use = λ t l. absurd (not-suc-le-zero l);
+  lower = λ t i l. absurd (not-suc-le-zero l);
+  headed = λ t l. absurd (not-suc-le-zero l);
+  bodied = λ t l. absurd (not-suc-le-zero l);
+  labelled = λ t l. absurd (not-suc-le-zero l);
+  childless = λ t l. absurd (not-suc-le-zero l);
+  single = λ t l. absurd (not-suc-le-zero l);
+  grouped = λ t i l. absurd (not-suc-le-zero l);
+}
+
+-- ---- more names
+
+-- a node without a head has no name
+node-name : (kind : ℕ) (op : Op) (n m : Name) (ws : List ℕ) (g : ℕ) → (T (has-head kind) → n ≡ m) → make-node kind op n ws g ≡ make-node kind op m ws g
+unfolding make-node has-head
+node-name zero op n m ws g h = rw (h tt)
+node-name (suc zero) op n m ws g h = refl
+node-name (suc (suc zero)) op n m ws g h = rw (h tt)
+node-name (suc (suc (suc zero))) op n m ws g h = refl
+node-name (suc (suc (suc (suc zero)))) op n m ws g h = refl
+node-name (suc (suc (suc (suc (suc zero))))) op n m ws g h = refl
+node-name (suc (suc (suc (suc (suc (suc zero)))))) op n m ws g h = refl
+node-name (suc (suc (suc (suc (suc (suc (suc k))))))) op n m ws g h = refl
+
+-- the terms of a table do not change with names that it has not
+pub terms-named : {refs rows : List ℕ} {used many named : ℕ} (name name′ : ℕ → Name) → ((k : ℕ) → k < named → name k ≡ name′ k) → Rows refs rows used many named
+    → terms-of name refs rows used many ≡ terms-of name′ refs rows used many
+unfolding terms-of nodes-below node-of
+terms-named {refs} {rows} {used} {many} name name′ same r = ap (fold-left add-term []) (go many (omega arith))
+  where
+    go : (n : ℕ) → n ≤ many → nodes-below name refs rows used many n ≡ nodes-below name′ refs rows used many n
+    go zero l = refl
+    go (suc n) l = ap₂ (λ ns m. ns ++ (m ∷ [])) (go n (omega arith))
+      (node-name (row-kind rows n) (op-of-code (row-op rows n)) (name (row-head rows n)) (name′ (row-head rows n)) (words refs (row-start rows n) (row-end rows used many n)) (row-extra rows n) (λ h. same (row-head rows n) (r .headed n (omega arith) h)))
+
+-- ---- one row more
+
+-- words of lists that agree up to their end are the same
+words-same : (l m : List ℕ) (d a e : ℕ) → e - a ≡ d → e ≤ length l → e ≤ length m → ((i : ℕ) → i < e → getD m i 0 ≡ getD l i 0) → words m a e ≡ words l a e
+words-same l m zero a e q x y h = rw (words-nil m a e (omega arith), words-nil l a e (omega arith))
+words-same l m (suc d) a e q x y h =
+    words-cons m a e (omega arith) y ∙ ap₂ _∷_ (h a (omega arith)) (words-same l m d (a + 1) e (omega arith) x y h) ∙ sym (words-cons l a e (omega arith) x)
+
+-- what a new row asks: the references after it hold its words, and these are right for its kind
+pub record New-row (refs rows : List ℕ) (used many named : ℕ) (refs′ ws : List ℕ) (used′ kind op head extra : ℕ) : Type 0 where
+  pub table : Rows refs rows used many named
+  pub row-left : many < 4096
+  pub kind-small : kind < 8
+  pub op-small : op < 8
+  pub ref-room : 16384 ≤ length refs′
+  pub agrees : (i : ℕ) → i < used → getD refs′ i 0 ≡ getD refs i 0
+  pub holds : words refs′ used used′ ≡ ws
+  pub ends : used′ ≡ used + length ws
+  pub few-references : used′ ≤ 16384
+  pub lower : (w : ℕ) → List·Memᴰ w ws → w % 4096 < many
+  pub headed : T (has-head kind) → head < named
+  pub bodied : T (has-body kind) → 0 < length ws
+  pub labelled : kind ≡ 7 → extra ≡ bare-of rows (getD ws 0 0 % 4096)
+  pub childless : kind < 2 → ws ≡ []
+  pub single : kind ≡ 7 → length ws ≡ 1
+  pub grouped : T (has-groups kind) → (w : ℕ) → List·Memᴰ w (drop 1 ws) → w / 4096 < extra
+
+module _ {refs rows : List ℕ} {used many named : ℕ} {refs′ ws : List ℕ} {used′ kind op head extra : ℕ} (n : New-row refs rows used many named refs′ ws used′ kind op head extra) where
+  -- the rows then
+  rows′ : List ℕ
+  rows′ = with-row rows many (row-word kind op head) used extra
+
+  word-other : (i : ℕ) → (i ≡ many → ⊥) → (i ≡ 4096 + many → ⊥) → (i ≡ 8192 + many → ⊥) → getD rows′ i 0 ≡ getD rows i 0
+  unfolding rows′ with-row
+  word-other i a b c =
+      getD-set-other (set (set rows many (row-word kind op head)) (4096 + many) used) (8192 + many) i extra 0 c
+      ∙ getD-set-other (set rows many (row-word kind op head)) (4096 + many) i used 0 b
+      ∙ getD-set-other rows many i (row-word kind op head) 0 a
+
+  rows′-length : length rows′ ≡ length rows
+  unfolding rows′ with-row
+  rows′-length = simp length-set
+
+  word-new : getD rows′ many 0 ≡ row-word kind op head
+  unfolding rows′ with-row
+  word-new =
+      let h = n .row-left in
+      let r = n .table .row-room in
+      getD-set-other (set (set rows many (row-word kind op head)) (4096 + many) used) (8192 + many) many extra 0 (λ e. omega arith)
+      ∙ getD-set-other (set rows many (row-word kind op head)) (4096 + many) many used 0 (λ e. omega arith)
+      ∙ getD-set-same rows many (row-word kind op head) 0 (omega arith)
+
+  start-new : row-start rows′ many ≡ used
+  unfolding rows′ with-row
+  start-new =
+      let h = n .row-left in
+      let r = n .table .row-room in
+      getD-set-other (set (set rows many (row-word kind op head)) (4096 + many) used) (8192 + many) (4096 + many) extra 0 (λ e. omega arith)
+      ∙ getD-set-same (set rows many (row-word kind op head)) (4096 + many) used 0 (rw (length-set rows many (row-word kind op head)) (omega arith))
+
+  extra-new : row-extra rows′ many ≡ extra
+  unfolding rows′ with-row
+  extra-new =
+      let h = n .row-left in
+      let r = n .table .row-room in
+      getD-set-same (set (set rows many (row-word kind op head)) (4096 + many) used) (8192 + many) extra 0
+      (rw (length-set (set rows many (row-word kind op head)) (4096 + many) used, length-set rows many (row-word kind op head)) (omega arith))
+
+  kind-new : row-kind rows′ many ≡ kind
+  unfolding row-kind row-word
+  kind-new = ap (_% 8) word-new ∙ (let h = n .kind-small in omega arith)
+
+  op-new : row-op rows′ many ≡ op
+  unfolding row-op row-word
+  op-new = ap (λ w. w / 8 % 8) word-new ∙ (let h = n .kind-small in let k = n .op-small in omega arith)
+
+  head-new : row-head rows′ many ≡ head
+  unfolding row-head row-word
+  head-new = ap (_/ 64) word-new ∙ (let h = n .kind-small in let k = n .op-small in omega arith)
+
+  end-new : row-end rows′ used′ (many + 1) many ≡ used′
+  end-new = end-last rows′ used′ (many + 1) many (omega arith)
+
+  module _ (t : ℕ) (l : t < many) where
+    word-old : getD rows′ t 0 ≡ getD rows t 0
+    word-old = let h = n .row-left in word-other t (λ e. omega arith) (λ e. omega arith) (λ e. omega arith)
+
+    start-old : row-start rows′ t ≡ row-start rows t
+    start-old = let h = n .row-left in word-other (4096 + t) (λ e. omega arith) (λ e. omega arith) (λ e. omega arith)
+
+    extra-old : row-extra rows′ t ≡ row-extra rows t
+    extra-old = let h = n .row-left in word-other (8192 + t) (λ e. omega arith) (λ e. omega arith) (λ e. omega arith)
+
+    kind-old : row-kind rows′ t ≡ row-kind rows t
+    unfolding row-kind
+    kind-old = ap (_% 8) word-old
+
+    op-old : row-op rows′ t ≡ row-op rows t
+    unfolding row-op
+    op-old = ap (λ w. w / 8 % 8) word-old
+
+    head-old : row-head rows′ t ≡ row-head rows t
+    unfolding row-head
+    head-old = ap (_/ 64) word-old
+
+    bare-old : bare-of rows′ t ≡ bare-of rows t
+    unfolding bare-of
+    bare-old = rw (kind-old, extra-old)
+
+  start-next : (t : ℕ) → t + 1 < many → row-start rows′ (t + 1) ≡ row-start rows (t + 1)
+  start-next t l = start-old (t + 1) l
+
+  end-old : (t : ℕ) → t < many → row-end rows′ used′ (many + 1) t ≡ row-end rows used many t
+  end-old t l = end-next rows′ used′ (many + 1) t (omega arith) ∙ ⊎-elim
+    (λ (e : t + 1 ≡ many). ap (row-start rows′) e ∙ start-new ∙ sym (end-last rows used many t (omega arith)))
+    (λ (e : t + 1 ≡ many → ⊥).
+      let k : t + 1 < many = omega arith in
+      start-next t k ∙ sym (end-next rows used many t k))
+    (equal (t + 1) many)
+
+  -- a word of the new references
+  word-in : (i : ℕ) → used ≤ i → i < used′ → List·Memᴰ (getD refs′ i 0) ws
+  word-in i a b =
+      let r = n .ref-room in
+      let f = n .few-references in
+      rw (n .holds) at (words-intro refs′ used used′ i (omega arith) a b)
+
+  word-first : used < used′ → getD refs′ used 0 ≡ getD ws 0 0
+  word-first h =
+      let r = n .ref-room in
+      let f = n .few-references in
+      sym (ap (λ l. getD l 0 0) (sym (n .holds) ∙ words-cons refs′ used used′ h (omega arith)))
+
+  word-rest : (i : ℕ) → used < i → i < used′ → List·Memᴰ (getD refs′ i 0) (drop 1 ws)
+  word-rest i a b =
+      let r = n .ref-room in
+      let f = n .few-references in
+      rw (← (n .holds), words-drop) (words-intro refs′ (used + 1) used′ i (omega arith) (omega arith) b)

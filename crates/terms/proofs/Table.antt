@@ -312,7 +312,7 @@ le-add-one : {m n : ℕ} → m ≤ n → m ≤ n + 1
 le-add-one h = omega arith
 
 -- the words after the first
-words-drop : (l : List ℕ) (a e : ℕ) → drop 1 (words l a e) ≡ words l (a + 1) e
+pub words-drop : (l : List ℕ) (a e : ℕ) → drop 1 (words l a e) ≡ words l (a + 1) e
 words-drop l a e = go (e - a) refl
   where
     go : (d : ℕ) → e - a ≡ d → drop 1 (words l a e) ≡ words l (a + 1) e
