@@ -61,7 +61,7 @@ terms-named {refs} {rows} {used} {many} name name′ same r = ap (fold-left add-
     go : (n : ℕ) → n ≤ many → nodes-below name refs rows used many n ≡ nodes-below name′ refs rows used many n
     go zero l = refl
     go (suc n) l = ap₂ (λ ns m. ns ++ (m ∷ [])) (go n (omega arith))
-      (node-name (row-kind rows n) (op-of-code (row-op rows n)) (name (row-head rows n)) (name′ (row-head rows n)) (words refs (row-start rows n) (row-end rows used many n)) (row-extra rows n) (λ h. same (row-head rows n) (r .headed n (omega arith) h)))
+        (node-name (row-kind rows n) (op-of-code (row-op rows n)) (name (row-head rows n)) (name′ (row-head rows n)) (words refs (row-start rows n) (row-end rows used many n)) (row-extra rows n) (λ h. same (row-head rows n) (r .headed n (omega arith) h)))
 
 -- ---- one row more
 
@@ -177,11 +177,11 @@ module _ {refs rows : List ℕ} {used many named : ℕ} {refs′ ws : List ℕ} 
 
   end-old : (t : ℕ) → t < many → row-end rows′ used′ (many + 1) t ≡ row-end rows used many t
   end-old t l = end-next rows′ used′ (many + 1) t (omega arith) ∙ ⊎-elim
-    (λ (e : t + 1 ≡ many). ap (row-start rows′) e ∙ start-new ∙ sym (end-last rows used many t (omega arith)))
-    (λ (e : t + 1 ≡ many → ⊥).
+      (λ (e : t + 1 ≡ many). ap (row-start rows′) e ∙ start-new ∙ sym (end-last rows used many t (omega arith)))
+      (λ (e : t + 1 ≡ many → ⊥).
       let k : t + 1 < many = omega arith in
       start-next t k ∙ sym (end-next rows used many t k))
-    (equal (t + 1) many)
+      (equal (t + 1) many)
 
   -- a word of the new references
   word-in : (i : ℕ) → used ≤ i → i < used′ → List·Memᴰ (getD refs′ i 0) ws
@@ -201,3 +201,130 @@ module _ {refs rows : List ℕ} {used many named : ℕ} {refs′ ws : List ℕ} 
       let r = n .ref-room in
       let f = n .few-references in
       rw (← (n .holds), words-drop) (words-intro refs′ (used + 1) used′ i (omega arith) (omega arith) b)
+
+  -- a row of the table is an old one or the new one
+  old-or-new : (t : ℕ) → t < many + 1 → (t < many) ⊎ (t ≡ many)
+  old-or-new t l = ⊎-elim inr (λ (e : t ≡ many → ⊥). inl (omega arith)) (equal t many)
+
+  used-more : used ≤ used′
+  used-more = let e = n .ends in omega arith
+
+  -- the table with one row more
+  row-added-here : Rows refs′ rows′ used′ (many + 1) named
+  row-added-here =
+      let r = n .table in
+      let few = n .row-left in
+      let more = used-more in
+      record {
+        ref-room = n .ref-room;
+        row-room = rw rows′-length (r .row-room);
+        few-references = n .few-references;
+        few-rows = omega arith;
+        few-names = r .few-names;
+        in-order = λ t l. ⊎-elim
+            (λ k. rw (start-old t k, end-old t k) (r .in-order t k))
+            (λ (e : t ≡ many). rw (e, start-new, end-new) more)
+            (old-or-new t l);
+        in-use = λ t l. ⊎-elim
+            (λ (k : t < many). rw (end-old t k) (omega (arith, r .in-use t k)))
+            (λ (e : t ≡ many). rw (e, end-new) (omega arith))
+            (old-or-new t l);
+        lower = λ t i l a b. lower′ t i a b (old-or-new t l);
+        headed = λ t l h. ⊎-elim
+            (λ k. rw (head-old t k) (r .headed t k (rw (kind-old t k) at h)))
+            (λ (e : t ≡ many). rw (e, head-new) (n .headed (rw (e, kind-new) at h)))
+            (old-or-new t l);
+        bodied = λ t l h. ⊎-elim
+            (λ k. rw (start-old t k, end-old t k) (r .bodied t k (rw (kind-old t k) at h)))
+            (λ (e : t ≡ many). rw (e, start-new, end-new) (omega (arith, n .bodied (rw (e, kind-new) at h), n .ends)))
+            (old-or-new t l);
+        labelled = λ t l h. ⊎-elim (λ k. labelled-old t k (sym (kind-old t k) ∙ h)) (λ e. rw e (labelled-new (sym kind-new ∙ sym (ap (row-kind rows′) e) ∙ h))) (old-or-new t l);
+        childless = λ t l h. ⊎-elim
+            (λ k. rw (start-old t k, end-old t k) (r .childless t k (rw (kind-old t k) at h)))
+            (λ (e : t ≡ many). rw (e, start-new, end-new) (omega (arith, ap length (n .childless (rw (e, kind-new) at h)), n .ends)))
+            (old-or-new t l);
+        single = λ t l h. ⊎-elim
+            (λ k. rw (start-old t k, end-old t k) (r .single t k (rw (kind-old t k) at h)))
+            (λ (e : t ≡ many). rw (e, start-new, end-new) (omega (arith, n .single (rw (e, kind-new) at h), n .ends)))
+            (old-or-new t l);
+        grouped = λ t i l h a b. grouped′ t i h a b (old-or-new t l);
+      }
+    where
+      agree : (t i : ℕ) → t < many → i < row-end rows used many t → getD refs′ i 0 ≡ getD refs i 0
+      agree t i k b = let u = n .table .in-use t k in n .agrees i (omega arith)
+
+      lower′ : (t i : ℕ) → row-start rows′ t ≤ i → i < row-end rows′ used′ (many + 1) t → (t < many) ⊎ (t ≡ many) → getD refs′ i 0 % 4096 < t
+      lower′ t i a b (inl k) =
+          let y : i < row-end rows used many t = rw (end-old t k) at b in
+          rw (agree t i k y) (n .table .lower t i k (rw (start-old t k) at a) y)
+      lower′ t i a b (inr e) = rw e (n .lower (getD refs′ i 0) (word-in i (rw (e, start-new) at a) (rw (e, end-new) at b)))
+
+      labelled-old : (t : ℕ) → t < many → row-kind rows t ≡ 7 → row-extra rows′ t ≡ bare-of rows′ (getD refs′ (row-start rows′ t) 0 % 4096)
+      labelled-old t k h =
+          let b : row-start rows t < row-end rows used many t = omega (arith, n .table .single t k h) in
+          let d = n .table .lower t (row-start rows t) k (omega arith) b in
+          let q : getD refs′ (row-start rows′ t) 0 ≡ getD refs (row-start rows t) 0 = ap (λ i. getD refs′ i 0) (start-old t k) ∙ agree t (row-start rows t) k b in
+          extra-old t k ∙ n .table .labelled t k h ∙ sym (ap (λ w. bare-of rows′ (w % 4096)) q ∙ bare-old (getD refs (row-start rows t) 0 % 4096) (omega arith))
+
+      labelled-new : kind ≡ 7 → row-extra rows′ many ≡ bare-of rows′ (getD refs′ (row-start rows′ many) 0 % 4096)
+      labelled-new h =
+          let b : used < used′ = omega (arith, n .single h, n .ends) in
+          let q : getD refs′ (row-start rows′ many) 0 ≡ getD ws 0 0 = ap (λ i. getD refs′ i 0) start-new ∙ word-first b in
+          let d : getD ws 0 0 % 4096 < many = rw (word-first b) at (n .lower (getD refs′ used 0) (word-in used (omega arith) b)) in
+          extra-new ∙ n .labelled h ∙ sym (ap (λ w. bare-of rows′ (w % 4096)) q ∙ bare-old (getD ws 0 0 % 4096) d)
+
+      grouped′ : (t i : ℕ) → T (has-groups (row-kind rows′ t)) → row-start rows′ t < i → i < row-end rows′ used′ (many + 1) t → (t < many) ⊎ (t ≡ many) → getD refs′ i 0 / 4096 < row-extra rows′ t
+      grouped′ t i h a b (inl k) =
+          let y : i < row-end rows used many t = rw (end-old t k) at b in
+          rw (extra-old t k, agree t i k y) (n .table .grouped t i k (rw (kind-old t k) at h) (rw (start-old t k) at a) y)
+      grouped′ t i h a b (inr e) = rw (e, extra-new) (n .grouped (rw (e, kind-new) at h) (getD refs′ i 0) (word-rest i (rw (e, start-new) at a) (rw (e, end-new) at b)))
+
+  module _ (name : ℕ → Name) where
+    node-old : (t : ℕ) → t < many → node-of name refs′ rows′ used′ (many + 1) t ≡ node-of name refs rows used many t
+    unfolding node-of
+    node-old t l =
+        let r = n .table .ref-room in
+        let f = n .table .few-references in
+        let r′ = n .ref-room in
+        let u = n .table .in-use t l in
+        rw (
+          kind-old t l,
+          op-old t l,
+          head-old t l,
+          start-old t l,
+          end-old t l,
+          extra-old t l,
+          words-same refs refs′ (row-end rows used many t - row-start rows t) (row-start rows t) (row-end rows used many t) refl (omega arith) (omega arith) (λ i b. n .agrees i (omega arith)),
+        )
+
+    node-new : node-of name refs′ rows′ used′ (many + 1) many ≡ make-node kind (op-of-code op) (name head) ws extra
+    unfolding node-of
+    node-new = rw (kind-new, op-new, head-new, start-new, end-new, extra-new, n .holds)
+
+    nodes-old : (t : ℕ) → t ≤ many → nodes-below name refs′ rows′ used′ (many + 1) t ≡ nodes-below name refs rows used many t
+    unfolding nodes-below
+    nodes-old zero l = refl
+    nodes-old (suc t) l = ap₂ (λ ns m. ns ++ (m ∷ [])) (nodes-old t (omega arith)) (node-old t (omega arith))
+
+    nodes-last : (m : ℕ) → nodes-below name refs′ rows′ used′ m (suc many) ≡ nodes-below name refs′ rows′ used′ m many ++ (node-of name refs′ rows′ used′ m many ∷ [])
+    unfolding nodes-below
+    nodes-last m = refl
+
+    -- its nodes are the old ones and the new one
+    nodes-added-here : nodes-below name refs′ rows′ used′ (many + 1) (many + 1) ≡ nodes-below name refs rows used many many ++ (make-node kind (op-of-code op) (name head) ws extra ∷ [])
+    nodes-added-here = ap (nodes-below name refs′ rows′ used′ (many + 1)) (add-one many) ∙ nodes-last (many + 1) ∙ ap₂ (λ ns m. ns ++ (m ∷ [])) (nodes-old many (omega arith)) node-new
+
+  -- the table with one row more is a table
+  pub row-added : Rows refs′ (with-row rows many (row-word kind op head) used extra) used′ (many + 1) named
+  unfolding rows′
+  row-added = row-added-here
+
+  -- its nodes are the old ones and the new one
+  pub nodes-added : (name : ℕ → Name) → nodes-below name refs′ (with-row rows many (row-word kind op head) used extra) used′ (many + 1) (many + 1) ≡ nodes-below name refs rows used many many ++ (make-node kind (op-of-code op) (name head) ws extra ∷ [])
+  unfolding rows′
+  nodes-added = nodes-added-here
+
+  -- its terms are the old ones with the new node's
+  pub terms-added : (name : ℕ → Name) → terms-of name refs′ (with-row rows many (row-word kind op head) used extra) used′ (many + 1) ≡ add-term (terms-of name refs rows used many) (make-node kind (op-of-code op) (name head) ws extra)
+  unfolding terms-of fold-left
+  terms-added name = ap (fold-left add-term []) (nodes-added name) ∙ fold-left-append add-term [] (nodes-below name refs rows used many many) (make-node kind (op-of-code op) (name head) ws extra ∷ [])

@@ -79,16 +79,16 @@ groups-at : (ws : List ℕ) (n h : ℕ) → h < n → getD (groups-of-words ws n
 unfolding groups-of-words
 groups-at ws zero h l = absurd (not-suc-le-zero l)
 groups-at ws (suc n) h l = ⊎-elim
-  (λ e. rw e (getD-at (groups-of-words ws n) (group-of-words ws n) [] [] n (groups-length ws n)))
-  (λ (e : h ≡ n → ⊥).
+    (λ e. rw e (getD-at (groups-of-words ws n) (group-of-words ws n) [] [] n (groups-length ws n)))
+    (λ (e : h ≡ n → ⊥).
     let k : h < n = omega arith in
     List·getD-append (groups-of-words ws n) (group-of-words ws n ∷ []) [] h (rw (groups-length ws n) k) ∙ groups-at ws n h k)
-  (equal h n)
+    (equal h n)
 
 -- groups are read back from their words
 pub groups-law : (gs : List (List ℕ)) → ((t : ℕ) → List·Memᴰ t (concat gs) → t < 4096) → groups-of-words (group-words 0 gs) (length gs) ≡ gs
 unfolding Small
 groups-law gs s = ext-getD [] (groups-of-words (group-words 0 gs) (length gs)) gs (groups-length (group-words 0 gs) (length gs)) (λ i l.
-  let k : i < length gs = rw (groups-length (group-words 0 gs) (length gs)) at l in
-  let e : 0 + i ≡ i = omega arith in
-  groups-at (group-words 0 gs) (length gs) i k ∙ sym (ap (group-of-words (group-words 0 gs)) e) ∙ group-at gs 0 i k s)
+    let k : i < length gs = rw (groups-length (group-words 0 gs) (length gs)) at l in
+    let e : 0 + i ≡ i = omega arith in
+    groups-at (group-words 0 gs) (length gs) i k ∙ sym (ap (group-of-words (group-words 0 gs)) e) ∙ group-at gs 0 i k s)
