@@ -55,7 +55,9 @@ walk-list-loop-holds : (t : ℕ) → walk-list-lts.Need-loop-holds (
   walk-term-below t,
   walk-term.Post,
 ) (walk-list-at t) walk-list.Post walk-list-Inv-loop walk-list-μ-loop
-walk-list-loop-holds t c = (omega arith, omega (arith, c .before .before .before .before .pre .1 .1 .in-order), walks-none (c .before .before .before .before .pre .1 .0))
+walk-list-loop-holds t c =
+    let start = c .before .before .before .before in
+    (omega arith, omega (arith, start .pre .1 .1 .in-order), walks-none (start .pre .1 .0))
 
 walk-list-reference-requires : (t : ℕ) → walk-list-lts.Need-reference-requires (
   reference-reads.Asked,
@@ -63,7 +65,9 @@ walk-list-reference-requires : (t : ℕ) → walk-list-lts.Need-reference-requir
   walk-term-below t,
   walk-term.Post,
 ) (walk-list-at t) walk-list.Post walk-list-Inv-loop walk-list-μ-loop
-walk-list-reference-requires t c κs = omega (arith, c .before .before .before .before .before .before .pre .1 .0 .table .ref-room, c .before .before .before .before .before .before .pre .1 .0 .table .few-references, c .before .before .before .before .before .before .pre .1 .1 .in-use)
+walk-list-reference-requires t c κs =
+    let start = c .before .before .before .before .before .before in
+    omega (arith, start .pre .1 .0 .table .ref-room, start .pre .1 .0 .table .few-references, start .pre .1 .1 .in-use)
 
 walk-list-walk-term-requires : (t : ℕ) → walk-list-lts.Need-walk-term-requires (
   reference-reads.Asked,
@@ -71,7 +75,9 @@ walk-list-walk-term-requires : (t : ℕ) → walk-list-lts.Need-walk-term-requir
   walk-term-below t,
   walk-term.Post,
 ) (walk-list-at t) walk-list.Post walk-list-Inv-loop walk-list-μ-loop
-walk-list-walk-term-requires t c κs = (list-falls (c .before .before .before .before .before .before .before .before .before .before .args .refs .now) (c .before .before .before .before .before .loop .inv .0) (c .before .before .before .before .loop-test .taken) (c .before .before .before .reference .ensures) (c .before .before .before .before .before .before .before .before .before .before .pre .0), (ready-then (c .before .before .before .before .before .before .before .before .before .before .pre .1 .0) (c .before .before .before .before .before .loop .inv .2), in-table-at (c .before .before .before .before .before .before .before .before .before .before .pre .1 .1) (c .before .before .before .before .before .loop .inv .0) (c .before .before .before .before .loop-test .taken) (c .before .before .before .reference .ensures)))
+walk-list-walk-term-requires t c κs =
+    let start = c .before .before .before .before .before .before .before .before .before .before in
+    (list-falls (start .args .refs .now) (c .before .before .before .before .before .loop .inv .0) (c .before .before .before .before .loop-test .taken) (c .before .before .before .reference .ensures) (start .pre .0), (ready-then (start .pre .1 .0) (c .before .before .before .before .before .loop .inv .2), in-table-at (start .pre .1 .1) (c .before .before .before .before .before .loop .inv .0) (c .before .before .before .before .loop-test .taken) (c .before .before .before .reference .ensures)))
 
 walk-list-enum-known-more : (t : ℕ) → walk-list-lts.Need-enum-known-more (
   reference-reads.Asked,
@@ -95,7 +101,9 @@ walk-list-returns : (t : ℕ) → walk-list-lts.Need-returns (
   walk-term-below t,
   walk-term.Post,
 ) (walk-list-at t) walk-list.Post walk-list-Inv-loop walk-list-μ-loop
-walk-list-returns t c = walks-stop (c .before .before .before .before .before .before .before .before .before .before .before .before .before .loop-test .taken) (walks-next (c .before .before .before .before .before .before .before .before .before .before .before .before .before .before .before .before .before .before .before .pre .1 .0) (c .before .before .before .before .before .before .before .before .before .before .before .before .before .before .before .before .before .before .before .pre .1 .1) (c .before .before .before .before .before .before .before .before .before .before .before .before .before .before .loop .inv .0) (c .before .before .before .before .before .before .before .before .before .before .before .before .before .loop-test .taken) (c .before .before .before .before .before .before .before .before .before .before .before .before .reference .ensures) (c .before .before .before .before .before .before .before .before .before .before .before .before .before .before .loop .inv .2) (walks-is (c .enum-told .given .1) (c .before .before .before .before .before .before .before .before .walk-term .ensures)))
+walk-list-returns t c =
+    let start = c .before .before .before .before .before .before .before .before .before .before .before .before .before .before .before .before .before .before .before in
+    walks-stop (c .before .before .before .before .before .before .before .before .before .before .before .before .before .loop-test .taken) (walks-next (start .pre .1 .0) (start .pre .1 .1) (c .before .before .before .before .before .before .before .before .before .before .before .before .before .before .loop .inv .0) (c .before .before .before .before .before .before .before .before .before .before .before .before .before .loop-test .taken) (c .before .before .before .before .before .before .before .before .before .before .before .before .reference .ensures) (c .before .before .before .before .before .before .before .before .before .before .before .before .before .before .loop .inv .2) (walks-is (c .enum-told .given .1) (c .before .before .before .before .before .before .before .before .walk-term .ensures)))
 
 walk-list-same-length : (t : ℕ) → walk-list-lts.Need-same-length (
   reference-reads.Asked,
@@ -143,7 +151,9 @@ walk-list-loop-again : (t : ℕ) → walk-list-lts.Need-loop-again (
   walk-term-below t,
   walk-term.Post,
 ) (walk-list-at t) walk-list.Post walk-list-Inv-loop walk-list-μ-loop
-walk-list-loop-again t c = (omega arith, omega arith, walks-next (c .before .before .before .before .before .before .before .before .before .before .before .before .before .before .before .before .before .before .before .before .pre .1 .0) (c .before .before .before .before .before .before .before .before .before .before .before .before .before .before .before .before .before .before .before .before .pre .1 .1) (c .before .before .before .before .before .before .before .before .before .before .before .before .before .before .before .loop .inv .0) (c .before .before .before .before .before .before .before .before .before .before .before .before .before .before .loop-test .taken) (c .before .before .before .before .before .before .before .before .before .before .before .before .before .reference .ensures) (c .before .before .before .before .before .before .before .before .before .before .before .before .before .before .before .loop .inv .2) (walks-is (c .before .more .given .1) (c .before .before .before .before .before .before .before .before .before .walk-term .ensures)))
+walk-list-loop-again t c =
+    let start = c .before .before .before .before .before .before .before .before .before .before .before .before .before .before .before .before .before .before .before .before in
+    (omega arith, omega arith, walks-next (start .pre .1 .0) (start .pre .1 .1) (c .before .before .before .before .before .before .before .before .before .before .before .before .before .before .before .loop .inv .0) (c .before .before .before .before .before .before .before .before .before .before .before .before .before .before .loop-test .taken) (c .before .before .before .before .before .before .before .before .before .before .before .before .before .reference .ensures) (c .before .before .before .before .before .before .before .before .before .before .before .before .before .before .before .loop .inv .2) (walks-is (c .before .more .given .1) (c .before .before .before .before .before .before .before .before .before .walk-term .ensures)))
 
 walk-list-returns-2 : (t : ℕ) → walk-list-lts.Need-returns-2 (
   reference-reads.Asked,
@@ -189,7 +199,9 @@ walk-term-add-at : (t : ℕ) → walk-term-lts.Need-add-at (
   walk-list-below t,
   walk-list.Post,
 ) (walk-term-at t) walk-term.Post
-walk-term-add-at t c = omega (arith, c .before .before .before .before .before .pre .1 .1, c .before .before .before .before .before .pre .1 .0 .table .few-rows)
+walk-term-add-at t c =
+    let start = c .before .before .before .before .before in
+    omega (arith, start .pre .1 .1, start .pre .1 .0 .table .few-rows)
 
 walk-term-at-requires : (t : ℕ) → walk-term-lts.Need-at-requires (
   at-reads.Asked,
@@ -203,7 +215,9 @@ walk-term-at-requires : (t : ℕ) → walk-term-lts.Need-at-requires (
   walk-list-below t,
   walk-list.Post,
 ) (walk-term-at t) walk-term.Post
-walk-term-at-requires t c κs = omega (arith, c .before .before .before .before .before .pre .1 .1, c .before .before .before .before .before .pre .1 .0 .table .few-rows, c .before .before .before .before .before .pre .1 .0 .table .row-room)
+walk-term-at-requires t c κs =
+    let start = c .before .before .before .before .before in
+    omega (arith, start .pre .1 .1, start .pre .1 .0 .table .few-rows, start .pre .1 .0 .table .row-room)
 
 walk-term-returns : (t : ℕ) → walk-term-lts.Need-returns (
   at-reads.Asked,
@@ -217,7 +231,9 @@ walk-term-returns : (t : ℕ) → walk-term-lts.Need-returns (
   walk-list-below t,
   walk-list.Post,
 ) (walk-term-at t) walk-term.Post
-walk-term-returns t c = walks-there (c .before .before .before .before .before .before .before .pre .1 .0) (c .before .before .before .before .before .before .before .pre .1 .1) (sym (c .before .at .ensures) ∙ c .if1 .taken)
+walk-term-returns t c =
+    let start = c .before .before .before .before .before .before .before in
+    walks-there (start .pre .1 .0) (start .pre .1 .1) (sym (c .before .at .ensures) ∙ c .if1 .taken)
 
 walk-term-same-length : (t : ℕ) → walk-term-lts.Need-same-length (
   at-reads.Asked,
@@ -245,7 +261,9 @@ walk-term-gather-head-requires : (t : ℕ) → walk-term-lts.Need-gather-head-re
   walk-list-below t,
   walk-list.Post,
 ) (walk-term-at t) walk-term.Post
-walk-term-gather-head-requires t c κs = heads-of (c .before .before .before .before .before .before .before .before .before .before .pre .1 .0) (c .before .before .before .before .before .before .before .before .before .before .pre .1 .1)
+walk-term-gather-head-requires t c κs =
+    let start = c .before .before .before .before .before .before .before .before .before .before in
+    heads-of (start .pre .1 .0) (start .pre .1 .1)
 
 walk-term-enum-known-own : (t : ℕ) → walk-term-lts.Need-enum-known-own (
   at-reads.Asked,
@@ -343,7 +361,9 @@ walk-term-start-requires : (t : ℕ) → walk-term-lts.Need-start-requires (
   walk-list-below t,
   walk-list.Post,
 ) (walk-term-at t) walk-term.Post
-walk-term-start-requires t c κs = omega (arith, c .before .before .before .before .before .before .before .before .before .before .before .before .before .before .before .before .before .before .before .pre .1 .1, c .before .before .before .before .before .before .before .before .before .before .before .before .before .before .before .before .before .before .before .pre .1 .0 .table .few-rows, c .before .before .before .before .before .before .before .before .before .before .before .before .before .before .before .before .before .before .before .pre .1 .0 .table .row-room)
+walk-term-start-requires t c κs =
+    let start = c .before .before .before .before .before .before .before .before .before .before .before .before .before .before .before .before .before .before .before in
+    omega (arith, start .pre .1 .1, start .pre .1 .0 .table .few-rows, start .pre .1 .0 .table .row-room)
 
 walk-term-end-requires : (t : ℕ) → walk-term-lts.Need-end-requires (
   at-reads.Asked,
@@ -357,7 +377,9 @@ walk-term-end-requires : (t : ℕ) → walk-term-lts.Need-end-requires (
   walk-list-below t,
   walk-list.Post,
 ) (walk-term-at t) walk-term.Post
-walk-term-end-requires t c κs = omega (arith, c .before .before .before .before .before .before .before .before .before .before .before .before .before .before .before .before .before .before .before .before .before .pre .1 .1, c .before .before .before .before .before .before .before .before .before .before .before .before .before .before .before .before .before .before .before .before .before .pre .1 .0 .table .few-rows, c .before .before .before .before .before .before .before .before .before .before .before .before .before .before .before .before .before .before .before .before .before .pre .1 .0 .table .row-room)
+walk-term-end-requires t c κs =
+    let start = c .before .before .before .before .before .before .before .before .before .before .before .before .before .before .before .before .before .before .before .before .before in
+    omega (arith, start .pre .1 .1, start .pre .1 .0 .table .few-rows, start .pre .1 .0 .table .row-room)
 
 walk-term-walk-list-requires : (t : ℕ) → walk-term-lts.Need-walk-list-requires (
   at-reads.Asked,
@@ -371,7 +393,9 @@ walk-term-walk-list-requires : (t : ℕ) → walk-term-lts.Need-walk-list-requir
   walk-list-below t,
   walk-list.Post,
 ) (walk-term-at t) walk-term.Post
-walk-term-walk-list-requires t c κs = (term-falls (c .before .before .before .before .before .before .before .before .before .before .before .before .before .before .before .before .before .before .before .before .before .before .before .before .before .pre .1 .0 .table) (c .before .before .before .before .before .before .before .before .before .before .before .before .before .before .before .before .before .before .before .before .before .before .before .before .before .pre .1 .1) (c .before .before .before .before .before .start .ensures) (c .before .before .before .end .ensures) (c .before .before .before .before .before .before .before .before .before .before .before .before .before .before .before .before .before .before .before .before .before .before .before .before .before .pre .0), (ready-then (c .before .before .before .before .before .before .before .before .before .before .before .before .before .before .before .before .before .before .before .before .before .before .before .before .before .pre .1 .0) (walks-names (c .before .before .before .before .before .before .before .before .before .before .before .before .before .before .before .before .before .before .before .before .before .before .before .before .before .pre .1 .0) (steps-is (c .before .before .before .before .before .before .before .before .own .given .1) (c .before .before .before .before .before .before .before .before .before .before .before .before .before .before .gather-head .ensures))), references-of (c .before .before .before .before .before .before .before .before .before .before .before .before .before .before .before .before .before .before .before .before .before .before .before .before .before .pre .1 .0 .table) (c .before .before .before .before .before .before .before .before .before .before .before .before .before .before .before .before .before .before .before .before .before .before .before .before .before .pre .1 .1) (c .before .before .before .before .before .start .ensures) (c .before .before .before .end .ensures)))
+walk-term-walk-list-requires t c κs =
+    let start = c .before .before .before .before .before .before .before .before .before .before .before .before .before .before .before .before .before .before .before .before .before .before .before .before .before in
+    (term-falls (start .pre .1 .0 .table) (start .pre .1 .1) (c .before .before .before .before .before .start .ensures) (c .before .before .before .end .ensures) (start .pre .0), (ready-then (start .pre .1 .0) (walks-names (start .pre .1 .0) (steps-is (c .before .before .before .before .before .before .before .before .own .given .1) (c .before .before .before .before .before .before .before .before .before .before .before .before .before .before .gather-head .ensures))), references-of (start .pre .1 .0 .table) (start .pre .1 .1) (c .before .before .before .before .before .start .ensures) (c .before .before .before .end .ensures)))
 
 walk-term-enum-known-n : (t : ℕ) → walk-term-lts.Need-enum-known-n (
   at-reads.Asked,
@@ -469,7 +493,9 @@ walk-term-add-rows : (t : ℕ) → walk-term-lts.Need-add-rows (
   walk-list-below t,
   walk-list.Post,
 ) (walk-term-at t) walk-term.Post
-walk-term-add-rows t c = omega (arith, c .before .before .before .before .before .before .before .before .before .before .before .before .before .before .before .before .before .before .before .before .before .before .before .before .before .before .before .before .before .before .before .before .before .before .before .pre .1 .1, c .before .before .before .before .before .before .before .before .before .before .before .before .before .before .before .before .before .before .before .before .before .before .before .before .before .before .before .before .before .before .before .before .before .before .before .pre .1 .0 .table .few-rows)
+walk-term-add-rows t c =
+    let start = c .before .before .before .before .before .before .before .before .before .before .before .before .before .before .before .before .before .before .before .before .before .before .before .before .before .before .before .before .before .before .before .before .before .before .before in
+    omega (arith, start .pre .1 .1, start .pre .1 .0 .table .few-rows)
 
 walk-term-mul-rows : (t : ℕ) → walk-term-lts.Need-mul-rows (
   at-reads.Asked,
@@ -483,7 +509,9 @@ walk-term-mul-rows : (t : ℕ) → walk-term-lts.Need-mul-rows (
   walk-list-below t,
   walk-list.Post,
 ) (walk-term-at t) walk-term.Post
-walk-term-mul-rows t c = omega (arith, c .before .before .before .before .before .before .before .before .before .before .before .before .before .before .before .before .before .before .before .before .before .before .before .before .before .before .before .before .before .before .before .before .before .before .before .pre .1 .1, c .before .before .before .before .before .before .before .before .before .before .before .before .before .before .before .before .before .before .before .before .before .before .before .before .before .before .before .before .before .before .before .before .before .before .before .pre .1 .0 .table .few-rows)
+walk-term-mul-rows t c =
+    let start = c .before .before .before .before .before .before .before .before .before .before .before .before .before .before .before .before .before .before .before .before .before .before .before .before .before .before .before .before .before .before .before .before .before .before .before in
+    omega (arith, start .pre .1 .1, start .pre .1 .0 .table .few-rows)
 
 walk-term-slice-write-rows : (t : ℕ) → walk-term-lts.Need-slice-write-rows (
   at-reads.Asked,
@@ -497,7 +525,9 @@ walk-term-slice-write-rows : (t : ℕ) → walk-term-lts.Need-slice-write-rows (
   walk-list-below t,
   walk-list.Post,
 ) (walk-term-at t) walk-term.Post
-walk-term-slice-write-rows t c = omega (arith, c .before .before .before .before .before .before .before .before .before .before .before .before .before .before .before .before .before .before .before .before .before .before .before .before .before .before .before .before .before .before .before .before .before .before .before .pre .1 .1, c .before .before .before .before .before .before .before .before .before .before .before .before .before .before .before .before .before .before .before .before .before .before .before .before .before .before .before .before .before .before .before .before .before .before .before .pre .1 .0 .table .few-rows, c .before .before .before .before .before .before .before .before .before .before .before .before .before .before .before .before .before .before .before .before .before .before .before .before .before .before .before .before .before .before .before .before .before .before .before .pre .1 .0 .table .row-room, c .before .before .before .before .before .before .before .before .before .walk-list .kept .1 .1 .0)
+walk-term-slice-write-rows t c =
+    let start = c .before .before .before .before .before .before .before .before .before .before .before .before .before .before .before .before .before .before .before .before .before .before .before .before .before .before .before .before .before .before .before .before .before .before .before in
+    omega (arith, start .pre .1 .1, start .pre .1 .0 .table .few-rows, start .pre .1 .0 .table .row-room, c .before .before .before .before .before .before .before .before .before .walk-list .kept .1 .1 .0)
 
 walk-term-returns-4 : (t : ℕ) → walk-term-lts.Need-returns-4 (
   at-reads.Asked,
@@ -511,7 +541,9 @@ walk-term-returns-4 : (t : ℕ) → walk-term-lts.Need-returns-4 (
   walk-list-below t,
   walk-list.Post,
 ) (walk-term-at t) walk-term.Post
-walk-term-returns-4 t c = walks-marked (c .before .before .before .before .before .before .before .before .before .before .before .before .before .before .before .before .before .before .before .before .before .before .before .before .before .before .before .before .before .before .before .before .before .before .before .pre .1 .0) (c .before .before .before .before .before .before .before .before .before .before .before .before .before .before .before .before .before .before .before .before .before .before .before .before .before .before .before .before .before .before .before .before .before .before .before .pre .1 .1) (walks-term (c .before .before .before .before .before .before .before .before .before .before .before .before .before .before .before .before .before .before .before .before .before .before .before .before .before .before .before .before .before .before .before .before .before .before .before .pre .1 .0) (c .before .before .before .before .before .before .before .before .before .before .before .before .before .before .before .start .ensures) (c .before .before .before .before .before .before .before .before .before .before .before .before .before .end .ensures) (steps-is (c .before .before .before .before .before .before .before .before .before .before .before .before .before .before .before .before .before .before .own .given .1) (c .before .before .before .before .before .before .before .before .before .before .before .before .before .before .before .before .before .before .before .before .before .before .before .before .gather-head .ensures)) (walks-is (c .before .n .given .1) (c .before .before .before .before .before .before .before .before .before .walk-list .ensures)))
+walk-term-returns-4 t c =
+    let start = c .before .before .before .before .before .before .before .before .before .before .before .before .before .before .before .before .before .before .before .before .before .before .before .before .before .before .before .before .before .before .before .before .before .before .before in
+    walks-marked (start .pre .1 .0) (start .pre .1 .1) (walks-term (start .pre .1 .0) (c .before .before .before .before .before .before .before .before .before .before .before .before .before .before .before .start .ensures) (c .before .before .before .before .before .before .before .before .before .before .before .before .before .end .ensures) (steps-is (c .before .before .before .before .before .before .before .before .before .before .before .before .before .before .before .before .before .before .own .given .1) (c .before .before .before .before .before .before .before .before .before .before .before .before .before .before .before .before .before .before .before .before .before .before .before .before .gather-head .ensures)) (walks-is (c .before .n .given .1) (c .before .before .before .before .before .before .before .before .before .walk-list .ensures)))
 
 walk-term-same-length-8 : (t : ℕ) → walk-term-lts.Need-same-length-8 (
   at-reads.Asked,

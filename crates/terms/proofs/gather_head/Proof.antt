@@ -25,7 +25,9 @@ has-head-requires : tie.Need-has-head-requires
 has-head-requires c κs = search needs
 
 returns : tie.Need-returns
-returns c = head-none (c .before .before .before .before .before .before .pre) (c .before .before .before .before .before .before .args .mark) (ap has-head (sym (c .before .before .kind .ensures)) ∙ sym (c .before .has-head .ensures) ∙ not-true _ (c .if1 .taken))
+returns c =
+    let start = c .before .before .before .before .before .before in
+    head-none (start .pre) (start .args .mark) (ap has-head (sym (c .before .before .kind .ensures)) ∙ sym (c .before .has-head .ensures) ∙ not-true _ (c .if1 .taken))
 
 head-requires : tie.Need-head-requires
 head-requires c κs = search needs
@@ -43,7 +45,9 @@ same-length : tie.Need-same-length
 same-length c = search needs
 
 returns-2 : tie.Need-returns-2
-returns-2 c = head-excluded (c .before .before .before .before .before .before .before .before .before .before .before .pre) (c .before .before .before .before .before .before .before .before .before .before .before .args .mark) _ (c .before .before .before .before .head .ensures) (ap is-excluded (sym (c .before .before .at .ensures)) ∙ sym (c .before .excluded .ensures) ∙ c .if2 .taken)
+returns-2 c =
+    let start = c .before .before .before .before .before .before .before .before .before .before .before in
+    head-excluded (start .pre) (start .args .mark) _ (c .before .before .before .before .head .ensures) (ap is-excluded (sym (c .before .before .at .ensures)) ∙ sym (c .before .excluded .ensures) ∙ c .if2 .taken)
 
 add-at-2 : tie.Need-add-at-2
 add-at-2 c = omega (arith, (head-is-small (c .before .before .before .before .before .before .before .before .before .before .before .before .pre) (c .before .before .before .before .before .before .before .before .kind .ensures) (c .before .before .before .before .before .before .before .has-head .ensures) (c .before .before .before .before .before .before .if1 .left) (c .before .before .before .before .before .head .ensures)))
@@ -55,13 +59,17 @@ same-length-2 : tie.Need-same-length-2
 same-length-2 c = search needs
 
 returns-3 : tie.Need-returns-3
-returns-3 c = head-there (c .before .before .before .before .before .before .before .before .before .before .before .before .before .before .pre) (c .before .before .before .before .before .before .before .before .before .before .before .before .before .before .args .mark) _ (c .before .before .before .before .before .before .before .head .ensures) (sym (c .before .at2 .ensures) ∙ c .if3 .taken)
+returns-3 c =
+    let start = c .before .before .before .before .before .before .before .before .before .before .before .before .before .before in
+    head-there (start .pre) (start .args .mark) _ (c .before .before .before .before .before .before .before .head .ensures) (sym (c .before .at2 .ensures) ∙ c .if3 .taken)
 
 same-length-3 : tie.Need-same-length-3
 same-length-3 c = search needs
 
 returns-4 : tie.Need-returns-4
-returns-4 c = head-over (c .before .before .before .before .before .before .before .before .before .before .before .before .before .before .before .pre) (c .before .before .before .before .before .before .before .before .before .before .before .before .before .before .before .args .mark) _ (c .before .before .before .before .before .before .before .before .head .ensures) (ap has-head (sym (c .before .before .before .before .before .before .before .before .before .before .before .kind .ensures)) ∙ sym (c .before .before .before .before .before .before .before .before .before .before .has-head .ensures) ∙ not-false _ (c .before .before .before .before .before .before .before .before .before .if1 .left)) (ap is-excluded (sym (c .before .before .before .before .before .before .at .ensures)) ∙ sym (c .before .before .before .before .before .excluded .ensures) ∙ c .before .before .before .before .if2 .left) (λ e. c .before .if3 .left (c .before .before .at2 .ensures ∙ e)) (c .if4 .taken)
+returns-4 c =
+    let start = c .before .before .before .before .before .before .before .before .before .before .before .before .before .before .before in
+    head-over (start .pre) (start .args .mark) _ (c .before .before .before .before .before .before .before .before .head .ensures) (ap has-head (sym (c .before .before .before .before .before .before .before .before .before .before .before .kind .ensures)) ∙ sym (c .before .before .before .before .before .before .before .before .before .before .has-head .ensures) ∙ not-false _ (c .before .before .before .before .before .before .before .before .before .if1 .left)) (ap is-excluded (sym (c .before .before .before .before .before .before .at .ensures)) ∙ sym (c .before .before .before .before .before .excluded .ensures) ∙ c .before .before .before .before .if2 .left) (λ e. c .before .if3 .left (c .before .before .at2 .ensures ∙ e)) (c .if4 .taken)
 
 cast-out : tie.Need-cast-out
 cast-out c = omega (arith, (head-is-small (c .before .before .before .before .before .before .before .before .before .before .before .before .before .before .before .pre) (c .before .before .before .before .before .before .before .before .before .before .before .kind .ensures) (c .before .before .before .before .before .before .before .before .before .before .has-head .ensures) (c .before .before .before .before .before .before .before .before .before .if1 .left) (c .before .before .before .before .before .before .before .before .head .ensures)))
@@ -79,7 +87,9 @@ mul-names : tie.Need-mul-names
 mul-names c = omega (arith, (head-is-small (c .before .before .before .before .before .before .before .before .before .before .before .before .before .before .before .pre) (c .before .before .before .before .before .before .before .before .before .before .before .kind .ensures) (c .before .before .before .before .before .before .before .before .before .before .has-head .ensures) (c .before .before .before .before .before .before .before .before .before .if1 .left) (c .before .before .before .before .before .before .before .before .head .ensures)))
 
 slice-write-names : tie.Need-slice-write-names
-slice-write-names c = omega (arith, (head-is-small (c .before .before .before .before .before .before .before .before .before .before .before .before .before .before .before .pre) (c .before .before .before .before .before .before .before .before .before .before .before .kind .ensures) (c .before .before .before .before .before .before .before .before .before .before .has-head .ensures) (c .before .before .before .before .before .before .before .before .before .if1 .left) (c .before .before .before .before .before .before .before .before .head .ensures)), c .before .before .before .before .before .before .before .before .before .before .before .before .before .before .before .pre .name-room)
+slice-write-names c =
+    let start = c .before .before .before .before .before .before .before .before .before .before .before .before .before .before .before in
+    omega (arith, (head-is-small (start .pre) (c .before .before .before .before .before .before .before .before .before .before .before .kind .ensures) (c .before .before .before .before .before .before .before .before .before .before .has-head .ensures) (c .before .before .before .before .before .before .before .before .before .if1 .left) (c .before .before .before .before .before .before .before .before .head .ensures)), start .pre .name-room)
 
 add-t18 : tie.Need-add-t18
 add-t18 c = search needs
@@ -91,7 +101,9 @@ same-length-5 : tie.Need-same-length-5
 same-length-5 c = search needs
 
 returns-5 : tie.Need-returns-5
-returns-5 c = head-added (c .before .before .before .before .before .before .before .before .before .before .before .before .before .before .before .pre) (c .before .before .before .before .before .before .before .before .before .before .before .before .before .before .before .args .mark) _ (c .before .before .before .before .before .before .before .before .head .ensures) (ap has-head (sym (c .before .before .before .before .before .before .before .before .before .before .before .kind .ensures)) ∙ sym (c .before .before .before .before .before .before .before .before .before .before .has-head .ensures) ∙ not-false _ (c .before .before .before .before .before .before .before .before .before .if1 .left)) (ap is-excluded (sym (c .before .before .before .before .before .before .at .ensures)) ∙ sym (c .before .before .before .before .before .excluded .ensures) ∙ c .before .before .before .before .if2 .left) (λ e. c .before .if3 .left (c .before .before .at2 .ensures ∙ e)) (c .if4 .left)
+returns-5 c =
+    let start = c .before .before .before .before .before .before .before .before .before .before .before .before .before .before .before in
+    head-added (start .pre) (start .args .mark) _ (c .before .before .before .before .before .before .before .before .head .ensures) (ap has-head (sym (c .before .before .before .before .before .before .before .before .before .before .before .kind .ensures)) ∙ sym (c .before .before .before .before .before .before .before .before .before .before .has-head .ensures) ∙ not-false _ (c .before .before .before .before .before .before .before .before .before .if1 .left)) (ap is-excluded (sym (c .before .before .before .before .before .before .at .ensures)) ∙ sym (c .before .before .before .before .before .excluded .ensures) ∙ c .before .before .before .before .if2 .left) (λ e. c .before .if3 .left (c .before .before .at2 .ensures ∙ e)) (c .if4 .left)
 
 pub gather-head-spec : {M : Type 1} → statement M
 gather-head-spec =

@@ -5,7 +5,9 @@ use Rattle.terms.proofs.gather_term.Statement.{statement}
 use Rattle.terms.proofs.gather_term.Tie as tie
 
 walk-term-requires : tie.Need-walk-term-requires
-walk-term-requires c κs = (ready-start (c .before .before .before .before .before .before .before .pre .0) (c .before .before .before .before .before .before .before .pre .3) (c .before .before .before .before .before .before .before .pre .1) (c .before .before .before .before .before .before .before .pre .5) (c .before .before .before .before .before .before .before .pre .6), c .before .before .before .before .before .before .before .pre .2)
+walk-term-requires c κs =
+    let start = c .before .before .before .before .before .before .before in
+    (ready-start (start .pre .0) (start .pre .3) (start .pre .1) (start .pre .5) (start .pre .6), start .pre .2)
 
 same-length : tie.Need-same-length
 same-length c = search needs
@@ -17,7 +19,9 @@ same-length-3 : tie.Need-same-length-3
 same-length-3 c = search needs
 
 returns : tie.Need-returns
-returns c = (gathers-term (c .before .before .before .before .before .before .before .before .before .before .before .before .before .before .pre .0) (c .before .before .before .before .before .before .before .before .before .before .before .before .before .before .pre .3) (c .before .before .before .before .before .before .before .before .before .before .before .before .before .before .pre .5) (c .before .before .before .before .before .before .before .before .before .before .before .before .before .before .pre .6) (c .before .before .before .before .before .before .before .before .before .before .before .before .before .before .pre .2) (c .before .before .before .before .before .before .walk-term .ensures), gathered-of (c .before .before .before .before .before .before .before .before .before .before .before .before .before .before .pre .0) (c .before .before .before .before .before .before .before .before .before .before .before .before .before .before .pre .3) (c .before .before .before .before .before .before .before .before .before .before .before .before .before .before .pre .5) (c .before .before .before .before .before .before .before .before .before .before .before .before .before .before .pre .6) (c .before .before .before .before .before .before .walk-term .ensures))
+returns c =
+    let start = c .before .before .before .before .before .before .before .before .before .before .before .before .before .before in
+    (gathers-term (start .pre .0) (start .pre .3) (start .pre .5) (start .pre .6) (start .pre .2) (c .before .before .before .before .before .before .walk-term .ensures), gathered-of (start .pre .0) (start .pre .3) (start .pre .5) (start .pre .6) (c .before .before .before .before .before .before .walk-term .ensures))
 
 pub gather-term-spec : {M : Type 1} → statement M
 gather-term-spec =
