@@ -95,6 +95,7 @@ module _ {refs rows : List ℕ} {used many named : ℕ} {refs′ ws : List ℕ} 
   rows′ : List ℕ
   rows′ = with-row rows many (row-word kind op head) used extra
 
+  -- the words beside the new row's stay
   word-other : (i : ℕ) → (i ≡ many → ⊥) → (i ≡ 4096 + many → ⊥) → (i ≡ 8192 + many → ⊥) → getD rows′ i 0 ≡ getD rows i 0
   unfolding rows′ with-row
   word-other i a b c =
@@ -102,10 +103,12 @@ module _ {refs rows : List ℕ} {used many named : ℕ} {refs′ ws : List ℕ} 
       ∙ getD-set-other (set rows many (row-word kind op head)) (4096 + many) i used 0 b
       ∙ getD-set-other rows many i (row-word kind op head) 0 a
 
+  -- the slice is as long as it was
   rows′-length : length rows′ ≡ length rows
   unfolding rows′ with-row
   rows′-length = simp length-set
 
+  -- the new row's word
   word-new : getD rows′ many 0 ≡ row-word kind op head
   unfolding rows′ with-row
   word-new =
@@ -115,6 +118,7 @@ module _ {refs rows : List ℕ} {used many named : ℕ} {refs′ ws : List ℕ} 
       ∙ getD-set-other (set rows many (row-word kind op head)) (4096 + many) many used 0 (λ e. omega arith)
       ∙ getD-set-same rows many (row-word kind op head) 0 (omega arith)
 
+  -- where the new row's references start
   start-new : row-start rows′ many ≡ used
   unfolding rows′ with-row
   start-new =
@@ -123,6 +127,7 @@ module _ {refs rows : List ℕ} {used many named : ℕ} {refs′ ws : List ℕ} 
       getD-set-other (set (set rows many (row-word kind op head)) (4096 + many) used) (8192 + many) (4096 + many) extra 0 (λ e. omega arith)
       ∙ getD-set-same (set rows many (row-word kind op head)) (4096 + many) used 0 (rw (length-set rows many (row-word kind op head)) (omega arith))
 
+  -- the new row's groups or the term under its labels
   extra-new : row-extra rows′ many ≡ extra
   unfolding rows′ with-row
   extra-new =
@@ -131,56 +136,65 @@ module _ {refs rows : List ℕ} {used many named : ℕ} {refs′ ws : List ℕ} 
       getD-set-same (set (set rows many (row-word kind op head)) (4096 + many) used) (8192 + many) extra 0
       (rw (length-set (set rows many (row-word kind op head)) (4096 + many) used, length-set rows many (row-word kind op head)) (omega arith))
 
+  -- the new row's kind
   kind-new : row-kind rows′ many ≡ kind
   unfolding row-kind row-word
   kind-new = ap (_% 8) word-new ∙ (let h = n .kind-small in omega arith)
 
+  -- the new row's op word
   op-new : row-op rows′ many ≡ op
   unfolding row-op row-word
   op-new = ap (λ w. w / 8 % 8) word-new ∙ (let h = n .kind-small in let k = n .op-small in omega arith)
 
+  -- the new row's head
   head-new : row-head rows′ many ≡ head
   unfolding row-head row-word
   head-new = ap (_/ 64) word-new ∙ (let h = n .kind-small in let k = n .op-small in omega arith)
 
+  -- where the new row's references end
   end-new : row-end rows′ used′ (many + 1) many ≡ used′
   end-new = end-last rows′ used′ (many + 1) many (omega arith)
 
   module _ (t : ℕ) (l : t < many) where
+    -- an old row's word
     word-old : getD rows′ t 0 ≡ getD rows t 0
     word-old = let h = n .row-left in word-other t (λ e. omega arith) (λ e. omega arith) (λ e. omega arith)
 
+    -- where an old row's references start
     start-old : row-start rows′ t ≡ row-start rows t
     start-old = let h = n .row-left in word-other (4096 + t) (λ e. omega arith) (λ e. omega arith) (λ e. omega arith)
 
+    -- an old row's groups or the term under its labels
     extra-old : row-extra rows′ t ≡ row-extra rows t
     extra-old = let h = n .row-left in word-other (8192 + t) (λ e. omega arith) (λ e. omega arith) (λ e. omega arith)
 
+    -- an old row's kind
     kind-old : row-kind rows′ t ≡ row-kind rows t
     unfolding row-kind
     kind-old = ap (_% 8) word-old
 
+    -- an old row's op word
     op-old : row-op rows′ t ≡ row-op rows t
     unfolding row-op
     op-old = ap (λ w. w / 8 % 8) word-old
 
+    -- an old row's head
     head-old : row-head rows′ t ≡ row-head rows t
     unfolding row-head
     head-old = ap (_/ 64) word-old
 
+    -- the term under an old row's labels
     bare-old : bare-of rows′ t ≡ bare-of rows t
     unfolding bare-of
     bare-old = rw (kind-old, extra-old)
 
-  start-next : (t : ℕ) → t + 1 < many → row-start rows′ (t + 1) ≡ row-start rows (t + 1)
-  start-next t l = start-old (t + 1) l
-
+  -- where an old row's references end
   end-old : (t : ℕ) → t < many → row-end rows′ used′ (many + 1) t ≡ row-end rows used many t
   end-old t l = end-next rows′ used′ (many + 1) t (omega arith) ∙ ⊎-elim
       (λ (e : t + 1 ≡ many). ap (row-start rows′) e ∙ start-new ∙ sym (end-last rows used many t (omega arith)))
       (λ (e : t + 1 ≡ many → ⊥).
       let k : t + 1 < many = omega arith in
-      start-next t k ∙ sym (end-next rows used many t k))
+      start-old (t + 1) k ∙ sym (end-next rows used many t k))
       (equal (t + 1) many)
 
   -- a word of the new references
@@ -190,12 +204,14 @@ module _ {refs rows : List ℕ} {used many named : ℕ} {refs′ ws : List ℕ} 
       let f = n .few-references in
       rw (n .holds) at (words-intro refs′ used used′ i (omega arith) a b)
 
+  -- the first of the new references
   word-first : used < used′ → getD refs′ used 0 ≡ getD ws 0 0
   word-first h =
       let r = n .ref-room in
       let f = n .few-references in
       sym (ap (λ l. getD l 0 0) (sym (n .holds) ∙ words-cons refs′ used used′ h (omega arith)))
 
+  -- a word after the first of the new references
   word-rest : (i : ℕ) → used < i → i < used′ → List·Memᴰ (getD refs′ i 0) (drop 1 ws)
   word-rest i a b =
       let r = n .ref-room in
@@ -206,6 +222,7 @@ module _ {refs rows : List ℕ} {used many named : ℕ} {refs′ ws : List ℕ} 
   old-or-new : (t : ℕ) → t < many + 1 → (t < many) ⊎ (t ≡ many)
   old-or-new t l = ⊎-elim inr (λ (e : t ≡ many → ⊥). inl (omega arith)) (equal t many)
 
+  -- references are not taken away
   used-more : used ≤ used′
   used-more = let e = n .ends in omega arith
 
@@ -280,6 +297,7 @@ module _ {refs rows : List ℕ} {used many named : ℕ} {refs′ ws : List ℕ} 
       grouped′ t i h a b (inr e) = rw (e, extra-new) (n .grouped (rw (e, kind-new) at h) (getD refs′ i 0) (word-rest i (rw (e, start-new) at a) (rw (e, end-new) at b)))
 
   module _ (name : ℕ → Name) where
+    -- an old row's node
     node-old : (t : ℕ) → t < many → node-of name refs′ rows′ used′ (many + 1) t ≡ node-of name refs rows used many t
     unfolding node-of
     node-old t l =
@@ -297,15 +315,18 @@ module _ {refs rows : List ℕ} {used many named : ℕ} {refs′ ws : List ℕ} 
           words-same refs refs′ (row-end rows used many t - row-start rows t) (row-start rows t) (row-end rows used many t) refl (omega arith) (omega arith) (λ i b. n .agrees i (omega arith)),
         )
 
+    -- the new row's node
     node-new : node-of name refs′ rows′ used′ (many + 1) many ≡ make-node kind (op-of-code op) (name head) ws extra
     unfolding node-of
     node-new = rw (kind-new, op-new, head-new, start-new, end-new, extra-new, n .holds)
 
+    -- the old rows' nodes
     nodes-old : (t : ℕ) → t ≤ many → nodes-below name refs′ rows′ used′ (many + 1) t ≡ nodes-below name refs rows used many t
     unfolding nodes-below
     nodes-old zero l = refl
     nodes-old (suc t) l = ap₂ (λ ns m. ns ++ (m ∷ [])) (nodes-old t (omega arith)) (node-old t (omega arith))
 
+    -- the last node stands at the end
     nodes-last : (m : ℕ) → nodes-below name refs′ rows′ used′ m (suc many) ≡ nodes-below name refs′ rows′ used′ m many ++ (node-of name refs′ rows′ used′ m many ∷ [])
     unfolding nodes-below
     nodes-last m = refl

@@ -24,6 +24,7 @@ group-words g (ts ∷ gs) = map (λ t. t + 4096 * g) ts ++ group-words (suc g) g
 Small : List ℕ → Type 0
 Small ts = (t : ℕ) → List·Memᴰ t ts → t < 4096
 
+-- a group's terms in two lists of words
 group-append : (v w : List ℕ) (h : ℕ) → group-of-words (v ++ w) h ≡ group-of-words v h ++ group-of-words w h
 unfolding group-of-words terms-of-words
 group-append v w h = rw (keep-append, map-append)
@@ -70,11 +71,13 @@ group-at (ts ∷ gs) g (suc h) l s =
     group-append (map (λ t. t + 4096 * g) ts) (group-words (suc g) gs) (g + suc h)
     ∙ ap₂ _++_ (group-other ts g (g + suc h) (λ e. omega arith) (λ u k. s u (Memᴰ·append-left (concat gs) k))) (ap (group-of-words (group-words (suc g) gs)) e ∙ group-at gs (suc g) h (omega arith) (λ u k. s u (Memᴰ·append-right ts k)))
 
+-- there are as many groups as are asked for
 groups-length : (ws : List ℕ) (n : ℕ) → length (groups-of-words ws n) ≡ n
 unfolding groups-of-words
 groups-length ws zero = refl
 groups-length ws (suc n) = rw (length-append, groups-length ws n) (omega arith)
 
+-- each group by its number
 groups-at : (ws : List ℕ) (n h : ℕ) → h < n → getD (groups-of-words ws n) h [] ≡ group-of-words ws h
 unfolding groups-of-words
 groups-at ws zero h l = absurd (not-suc-le-zero l)

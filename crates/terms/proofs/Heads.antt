@@ -31,9 +31,11 @@ module _ {names rows out : List ℕ} {t count room : ℕ} (h : Heads names rows 
         rw (← f) e)
 
     module _ (has : has-head (row-kind rows t) ≡ true) (counted : is-excluded (getD names (6144 + n) 0) ≡ false) (new : name-mark names n ≡ mark → ⊥) where
+      -- the head is the number of a name
       head-small : n < 2048
       head-small = rw is (h .head-small (true-T has))
 
+      -- the head is the term's own
       head-own : Own names rows t n
       head-own = record { headed = true-T has; is = sym is; counts = record { small = head-small; counted = counted } }
 

@@ -108,8 +108,8 @@ free-ascending : (name : ℕ → Name) (refs rows : List ℕ) (used many t : ℕ
 unfolding free-top-level-names
 free-ascending name refs rows used many t = rw (table-all name refs rows used many) (ascending-diff exclude-names (table-ascending name refs rows used many many t))
 
--- a name of a union of sets is one of the first or of one of the others
 module _ (f : ℕ → List Name) where
+  -- a name of the union is one of the first set or of one of the others
   unions-elim : (acc : List Name) (ts : List ℕ) (x : Name) → T (mem x (fold-left (λ out t. union out (f t)) acc ts)) → T (mem x acc) ⊎ ((t : ℕ) × (List·Memᴰ t ts × T (mem x (f t))))
   unfolding fold-left
   unions-elim acc [] x h = inl h
@@ -118,6 +118,7 @@ module _ (f : ℕ → List Name) where
       (λ (u, (m, k)). inr (u, (List·Memᴰ·tail m, k)))
       (unions-elim (union acc (f t)) ts x h)
 
+  -- and back
   unions-intro : (acc : List Name) (ts : List ℕ) (x : Name) → T (mem x acc) ⊎ ((t : ℕ) × (List·Memᴰ t ts × T (mem x (f t)))) → T (mem x (fold-left (λ out t. union out (f t)) acc ts))
   unfolding fold-left
   unions-intro acc [] x h = ⊎-elim (λ k. k) (λ (t, (m, k)). absurd (List·Memᴰ·not-nil m)) h
@@ -126,6 +127,7 @@ module _ (f : ℕ → List Name) where
       (λ (u, (m, k)). ⊎-elim (λ e. inl (mem-union x acc (f t) .1 (inr (rw e at k)))) (λ n. inr (u, (n, k))) (List·Memᴰ·cases-cons m))
       h)
 
+  -- the union is a set
   unions-ascending : (acc : List Name) (ts : List ℕ) → Ascending acc → ((t : ℕ) → Ascending (f t)) → Ascending (fold-left (λ out t. union out (f t)) acc ts)
   unfolding fold-left
   unions-ascending acc [] a h = a
@@ -196,6 +198,7 @@ module _ (name : ℕ → Name) where
       let p = words-elim {l = out} {a = a} {e = e} h n in
       (p .place, (p .low, p .high, sym q ∙ ap name (sym (p .is))))
 
+  -- the name of a word at a place is one of the words' names
   place-map : (out : List ℕ) (a e i : ℕ) → e ≤ length out → a ≤ i → i < e → T (mem (name (getD out i 0)) (map name (words out a e)))
   place-map out a e i h l k = mem-intro (map-intro name (words-intro out a e i h l k))
 
@@ -224,10 +227,12 @@ module _ {P : ℕ → Type 0} (names out names′ out′ : List ℕ) (mark from 
     listed-in : (i : ℕ) → from ≤ i → i < n → P (getD out′ i 0)
     listed-in i a b = ⊎-elim (λ e. absurd (fresh (getD out′ i 0) (w .small i a b) e)) (λ p. p) (sound (getD out′ i 0) (w .small i a b) (w .marked i a b))
 
+    -- the names in the slice are all different
     listed-apart : Apart (map name (words out′ from n))
     listed-apart = words-apart name out′ (n - from) from n refl fits
         (λ i j a b c e. w .once i j a b c (distinct (getD out′ i 0) (getD out′ j 0) (small _ (listed-in i a (omega arith)) .0) (small _ (listed-in j (omega arith) c) .0) e))
 
+    -- how many names are in the slice
     listed-length : from ≤ n → length (map name (words out′ from n)) ≡ n - from
     listed-length l = length-map (words out′ from n) name ∙ words-length out′ from n fits
 

@@ -87,18 +87,23 @@ module _ {P : ℕ → Type 0} {names out : List ℕ} {mark count room : ℕ} whe
 
 -- a slice of names with one name more
 module _ (names out : List ℕ) (mark count k : ℕ) (small : k < 2048) (long : 16384 ≤ length names) (room : count < length out) (new : name-mark names k ≡ mark → ⊥) where
+  -- the name has the mark
   mark-same : name-mark (set names (8192 + k) mark) k ≡ mark
   mark-same = getD-set-same names (8192 + k) mark 0 (omega arith)
 
+  -- the mark of any other name stays
   mark-other : (m : ℕ) → (m ≡ k → ⊥) → name-mark (set names (8192 + k) mark) m ≡ name-mark names m
   mark-other m n = getD-set-other names (8192 + k) (8192 + m) mark 0 (λ e. n (omega arith))
 
+  -- the name stands at the count
   out-same : getD (set out count k) count 0 ≡ k
   out-same = getD-set-same out count k 0 room
 
+  -- the words before it stay
   out-other : (i : ℕ) → i < count → getD (set out count k) i 0 ≡ getD out i 0
   out-other i h = getD-set-other out count i k 0 (λ e. omega arith)
 
+  -- the slice lists the name too
   listed-more : (from : ℕ) → from ≤ count → Listed names out mark from count → Listed (set names (8192 + k) mark) (set out count k) mark from (count + 1)
   listed-more from h r = record {
     place = λ m l e. place m l e (equal m k);
@@ -156,6 +161,7 @@ pub steps-kept : {P : ℕ → Type 0} {names out names′ out′ : List ℕ} {ma
 steps-kept s k l e = ⊎-elim (λ f. f) (λ f. f ∙ e) (s .name-marks k l)
 
 module _ {P Q : ℕ → Type 0} where
+  -- what comes of a set comes of one with the same names
   comes-as : {names : List ℕ} {mark : ℕ} {r : Walked} → ((k : ℕ) → P k → Q k) → ((k : ℕ) → Q k → P k) → Comes P names mark r → Comes Q names mark r
   comes-as f g (whole a) = whole (λ k q. a k (g k q))
   comes-as f g (over p l n) = over (f _ p) l n
@@ -173,6 +179,7 @@ module _ {P Q : ℕ → Type 0} where
     comes = comes-as f g (s .comes);
   }
 
+  -- a name without room is one of a larger set
   comes-full : {names : List ℕ} {mark : ℕ} → ((k : ℕ) → P k → Q k) → Comes P names mark walks.Full → Comes Q names mark walks.Full
   comes-full f (over p l n) = over (f _ p) l n
 
@@ -189,6 +196,7 @@ module _ {P Q : ℕ → Type 0} where
     comes = comes-full f (s .comes);
   }
 
+  -- what comes of two sets, one after the other
   comes-more : {names names′ : List ℕ} {mark n : ℕ} {r : Walked} → ((k : ℕ) → P k → k < 2048) → ((k : ℕ) → k < 2048 → name-mark names k ≡ mark → name-mark names′ k ≡ mark)
       → Comes P names mark (walks.Names n) → Comes Q names′ mark r → Comes (λ k. P k ⊎ Q k) names′ mark r
   comes-more b kept (whole a) (whole c) = whole (λ k s. ⊎-elim (λ p. kept k (b k p) (a k p)) (c k) s)

@@ -68,13 +68,14 @@ words-intro l a e i h = go (i - a) a refl
 
 -- ---- groups
 
--- a term of the groups is that of a word of one of them
+-- a word of the groups that names a term
 pub record Grouped (ws : List ℕ) (g t : ℕ) : Type 0 where
   pub word : ℕ
   pub among : List·Memᴰ word ws
   pub group : word / 4096 < g
   pub is : t ≡ word % 4096
 
+-- a term of the groups has such a word
 pub groups-elim : (ws : List ℕ) (g : ℕ) {t : ℕ} → List·Memᴰ t (concat (groups-of-words ws g)) → Grouped ws g t
 unfolding groups-of-words concat group-of-words terms-of-words
 groups-elim ws zero m = absurd (List·Memᴰ·not-nil m)
@@ -100,12 +101,15 @@ pub record Inside (terms : List Term) (ts : List ℕ) (n : Name) : Type 0 where
   pub among : List·Memᴰ which ts
   pub free : T (mem n (term terms which .names))
 
+-- a name of some terms is one of these and another
 inside-more : {terms : List Term} {t : ℕ} {ts : List ℕ} {n : Name} → Inside terms ts n → Inside terms (t ∷ ts) n
 inside-more p = record { which = p .which; among = List·Memᴰ·tail (p .among); free = p .free }
 
+-- a name of the first term
 inside-first : {terms : List Term} {t : ℕ} (ts : List ℕ) {n : Name} → T (mem n (term terms t .names)) → Inside terms (t ∷ ts) n
 inside-first {t} ts h = record { which = t; among = List·Memᴰ·head refl; free = h }
 
+-- a name of the first term or of the others
 inside-split : {terms : List Term} {t : ℕ} {ts : List ℕ} {n : Name} → Inside terms (t ∷ ts) n → T (mem n (term terms t .names)) ⊎ Inside terms ts n
 inside-split p = ⊎-elim (λ e. inl (rw e at (p .free))) (λ m. inr (record { which = p .which; among = m; free = p .free })) (List·Memᴰ·cases-cons (p .among))
 
@@ -132,9 +136,11 @@ own-names (Exists body groups) = []
 own-names (Let body ts) = []
 own-names (Labeled t) = []
 
+-- a name of a body and other terms
 body-elim : (terms : List Term) (b : ℕ) (ts : List ℕ) {n : Name} → T (mem n (union (names-of terms ts) (term terms b .names))) → Inside terms (b ∷ ts) n
 body-elim terms b ts {n} h = ⊎-elim (λ k. inside-more (names-elim terms ts k)) (inside-first ts) (mem-union n (names-of terms ts) (term terms b .names) .0 h)
 
+-- and back
 body-intro : (terms : List Term) (b : ℕ) (ts : List ℕ) {n : Name} → Inside terms (b ∷ ts) n → T (mem n (union (names-of terms ts) (term terms b .names)))
 body-intro terms b ts {n} p = mem-union n (names-of terms ts) (term terms b .names) .1 (⊎-elim inr (λ q. inl (names-intro terms ts q)) (inside-split p))
 
@@ -150,6 +156,7 @@ node-elim terms (Exists body groups) h = inr (body-elim terms body (concat group
 node-elim terms (Let body ts) h = inr (body-elim terms body ts h)
 node-elim terms (Labeled t) h = inr (inside-first [] h)
 
+-- no name is free in none of the terms
 none-inside : {A : Type 0} {terms : List Term} {n : Name} → Inside terms [] n → A
 none-inside p = absurd (List·Memᴰ·not-nil (p .among))
 
@@ -249,23 +256,28 @@ pub record Named-by (ws : List ℕ) (t : ℕ) : Type 0 where
   pub among : List·Memᴰ word ws
   pub is : t ≡ word % 4096
 
+-- a term of words is that of one of them
 words-named : (ws : List ℕ) {t : ℕ} → List·Memᴰ t (terms-of-words ws) → Named-by ws t
 unfolding terms-of-words
 words-named ws m = let (w, k, e) = map-elim (λ w. w % 4096) ws m in record { word = w; among = k; is = sym e }
 
+-- and back
 words-name : (ws : List ℕ) {w : ℕ} → List·Memᴰ w ws → List·Memᴰ (w % 4096) (terms-of-words ws)
 unfolding terms-of-words
 words-name ws m = map-intro (λ w. w % 4096) m
 
+-- a term of the words after the first
 named-rest : (ws : List ℕ) {t : ℕ} → Named-by (drop 1 ws) t → Named-by ws t
 named-rest ws p = record { word = p .word; among = rest-in ws (p .among); is = p .is }
 
+-- a body and the terms of groups are named by words
 quantifier-elim : (ws : List ℕ) (g : ℕ) → ((w : ℕ) × (rest : List ℕ) × (ws ≡ w ∷ rest)) → {t : ℕ} → List·Memᴰ t (getD ws 0 0 % 4096 ∷ concat (groups-of-words (drop 1 ws) g)) → Named-by ws t
 quantifier-elim ws g b m = ⊎-elim
     (λ e. record { word = getD ws 0 0; among = first-in b; is = e })
     (λ n. let p = groups-elim (drop 1 ws) g n in record { word = p .word; among = rest-in ws (p .among); is = p .is })
     (List·Memᴰ·cases-cons m)
 
+-- and back
 quantifier-intro : (ws : List ℕ) (g : ℕ) → ((w : ℕ) → List·Memᴰ w (drop 1 ws) → w / 4096 < g) → {w : ℕ} → List·Memᴰ w ws → List·Memᴰ (w % 4096) (getD ws 0 0 % 4096 ∷ concat (groups-of-words (drop 1 ws) g))
 quantifier-intro ws g h {w} m = ⊎-elim (λ e. List·Memᴰ·head (ap (_% 4096) e)) (λ n. List·Memᴰ·tail (groups-intro (drop 1 ws) g n (h w n))) (first-or ws m)
 
@@ -308,6 +320,7 @@ kind-small rows t = omega arith
 single-length : (a e : ℕ) → e ≡ a + 1 → e - a ≡ 1
 single-length a e h = omega arith
 
+-- a number below another is below the next
 le-add-one : {m n : ℕ} → m ≤ n → m ≤ n + 1
 le-add-one h = omega arith
 
@@ -361,15 +374,18 @@ module _ (name : ℕ → Name) (refs rows : List ℕ) (used many : ℕ) where
   unfolding terms-of table
   table-all = refl
 
+  -- one term more
   table-suc : (n : ℕ) → table (suc n) ≡ table n ++ (entry n ∷ [])
   unfolding table entry nodes-below fold-left add-term
   table-suc n = fold-left-append add-term [] (nodes-below name refs rows used many n) (node-of name refs rows used many n ∷ [])
 
+  -- how many terms there are
   table-length : (n : ℕ) → length (table n) ≡ n
   unfolding table nodes-below fold-left
   table-length zero = refl
   table-length (suc n) = rw (table-suc n, length-append, table-length n) (omega arith)
 
+  -- the last term
   table-last : (n : ℕ) → term (table (suc n)) n ≡ entry n
   unfolding term
   table-last n = rw (table-suc n) (getD-at (table n) (entry n) [] (record { node = Leaf; bare = Leaf; names = [] }) n (table-length n))
@@ -390,6 +406,7 @@ module _ (name : ℕ → Name) (refs rows : List ℕ) (used many : ℕ) where
   unfolding term
   table-past n t h = ap (λ x. x .names) (List·getD-eq-default (table n) (record { node = Leaf; bare = Leaf; names = [] }) (rw (table-length n) h))
 
+  -- the names of a row are a set where those before it are
   entry-ascending : (t : ℕ) → ((u : ℕ) → Ascending (term (table t) u .names)) → Ascending (entry t .names)
   unfolding entry
   entry-ascending t h = node-ascending (table t) (node-of name refs rows used many t) h

@@ -23,20 +23,25 @@ module _ {rows rows′ : List ℕ} (s : Same-but 12288 4096 rows rows′) where
   pub word-same : (i : ℕ) → i < 12288 → getD rows′ i 0 ≡ getD rows i 0
   word-same i h = s .same-words i (λ a b. omega arith)
 
+  -- a row's kind stays
   pub kind-same : (t : ℕ) → t < 4096 → row-kind rows′ t ≡ row-kind rows t
   unfolding row-kind
   kind-same t h = ap (_% 8) (word-same t (omega arith))
 
+  -- a row's head stays
   pub head-same : (t : ℕ) → t < 4096 → row-head rows′ t ≡ row-head rows t
   unfolding row-head
   head-same t h = rw (word-same t (omega arith))
 
+  -- where a row's references start stays
   pub start-same : (t : ℕ) → t < 4096 → row-start rows′ t ≡ row-start rows t
   start-same t h = word-same (4096 + t) (omega arith)
 
+  -- a row's groups or the term under its labels stay
   pub extra-same : (t : ℕ) → t < 4096 → row-extra rows′ t ≡ row-extra rows t
   extra-same t h = word-same (8192 + t) (omega arith)
 
+  -- where a row's references end stays
   pub end-same : (used many t : ℕ) → many ≤ 4096 → t < many → row-end rows′ used many t ≡ row-end rows used many t
   unfolding row-end
   end-same used many t h l = go (ltb (t + 1) many) refl
@@ -45,6 +50,7 @@ module _ {rows rows′ : List ℕ} (s : Same-but 12288 4096 rows rows′) where
       go true e = let m = ltb-true (t + 1) many e in start-same (t + 1) (omega arith)
       go false e = refl
 
+  -- the term under a run of labels stays
   pub bare-same : (t : ℕ) → t < 4096 → bare-of rows′ t ≡ bare-of rows t
   unfolding bare-of
   bare-same t h = rw (kind-same t h, extra-same t h)
