@@ -6,17 +6,17 @@ use native.Mathlib.Omega.{arith}
 use mathlib.Core.Path.{_≡_, refl, sym, ap, ap₂, _∙_}
 use mathlib.Core.Logic.{_⊎_, inl, inr, ⊎-elim}
 use mathlib.Core.List.{List, [], _∷_, _++_, List·Memᴰ}
-use lib.ListN.{length, drop, getD, set, length-set}
-use lib.Seq.{getD-set-same, getD-set-other}
+use lib.ListN.{length, drop, getD, set, length-set, length-drop}
+use lib.Seq.{take-suc, getD-drop, getD-set-same, getD-set-other}
 use lib.Dec.{T}
 use Rattle.model.specs.Lists.{fold-left}
 use Rattle.model.specs.Names.{Name}
 use Rattle.model.specs.Terms.{Node, Term, add-term}
 use Rattle.model.specs.declared.Op.{Op}
 use Rattle.model.proofs.ListLaws.{fold-left-append}
-use Rattle.terms.specs.Rows.{row-kind, row-op, row-head, row-start, row-extra, row-end, words, op-of-code, make-node, node-of, nodes-below, terms-of, has-head, has-body, has-groups, bare-of, Rows, row-word, with-row}
-use Rattle.terms.proofs.Laws.{end-next, end-last}
-use Rattle.terms.proofs.Steps.{equal}
+use Rattle.terms.specs.Rows.{row-kind, row-op, row-head, row-start, row-extra, row-end, words, op-of-code, make-node, node-of, nodes-below, terms-of, has-head, has-body, has-groups, bare-of, Rows, row-word, with-row, pushed}
+use Rattle.terms.proofs.Laws.{end-next, end-last, pushed-in, pushed-full}
+use Rattle.terms.proofs.Steps.{equal, below}
 use Rattle.terms.proofs.Table.{words-nil, words-cons, words-length, words-intro, words-drop}
 
 -- lent slices are a table of no rows
@@ -70,6 +70,35 @@ words-same : (l m : List ℕ) (d a e : ℕ) → e - a ≡ d → e ≤ length l �
 words-same l m zero a e q x y h = rw (words-nil m a e (omega arith), words-nil l a e (omega arith))
 words-same l m (suc d) a e q x y h =
     words-cons m a e (omega arith) y ∙ ap₂ _∷_ (h a (omega arith)) (words-same l m d (a + 1) e (omega arith) x y h) ∙ sym (words-cons l a e (omega arith) x)
+
+-- words with one more at their end
+words-snoc : (l : List ℕ) (a e : ℕ) → a ≤ e → e < length l → words l a (e + 1) ≡ words l a e ++ (getD l e 0 ∷ [])
+words-snoc l a e h k =
+    let n : e + 1 - a ≡ suc (e - a) = omega arith in
+    let i : a + (e - a) ≡ e = omega arith in
+    let j : e - a < length (drop a l) = rw (length-drop a l) (omega arith) in
+    rw (n, take-suc (drop a l) (e - a) 0 j, getD-drop a l (e - a) 0, i)
+
+-- pushing a reference leaves those before it
+pub push-agrees : (refs : List ℕ) (used word i : ℕ) → i < used → getD (pushed refs used word) i 0 ≡ getD refs i 0
+push-agrees refs used word i h = ⊎-elim
+    (λ l. rw (pushed-in refs used word l) (getD-set-other refs used i word 0 (λ e. omega arith)))
+    (λ l. rw (pushed-full refs used word l))
+    (below used 16384)
+
+-- and puts its word behind them
+pub push-holds : (refs : List ℕ) (from used word : ℕ) → 16384 ≤ length refs → from ≤ used → used < 16384 → words (pushed refs used word) from (used + 1) ≡ words refs from used ++ (word ∷ [])
+push-holds refs from used word r h l =
+    let k : used < length refs = omega arith in
+    rw (pushed-in refs used word l)
+    (words-snoc (set refs used word) from used h (rw (length-set refs used word) k)
+    ∙ ap₂ (λ ws w. ws ++ (w ∷ []))
+    (words-same refs (set refs used word) (used - from) from used refl (omega arith) (rw (length-set refs used word) (omega arith)) (λ i b. getD-set-other refs used i word 0 (λ e. omega arith)))
+    (getD-set-same refs used word 0 k))
+
+-- and leaves the slice as long as it was
+pub push-length : (refs : List ℕ) (used word : ℕ) → length (pushed refs used word) ≡ length refs
+push-length refs used word = ⊎-elim (λ l. rw (pushed-in refs used word l) (length-set refs used word)) (λ l. rw (pushed-full refs used word l)) (below used 16384)
 
 -- what a new row asks: the references after it hold its words, and these are right for its kind
 pub record New-row (refs rows : List ℕ) (used many named : ℕ) (refs′ ws : List ℕ) (used′ kind op head extra : ℕ) : Type 0 where
