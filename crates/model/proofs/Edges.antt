@@ -134,6 +134,22 @@ term-before-repeated = record { file = ("ask,0,0" ∷ "leaf" ∷ "fun,a" ∷ "as
 root-repeats : Case
 root-repeats = record { file = ("ask,0,0" ∷ "leaf" ∷ "retain,a,a" ∷ "root,0,a,0" ∷ "root,0,a,0" ∷ "fun,a" ∷ []); printed = ("sum,0,0,1" ∷ []) }
 
+-- in byte order a prefix comes first
+prefix-first : Case
+prefix-first =
+    record {
+      file = ("ask,0,0" ∷ "free,p" ∷ "all,0,1,1,0" ∷ "assume,ab,0,1" ∷ "assume,a,0,1" ∷ "assume,aB,0,1" ∷ "root,0,r,0" ∷ []);
+      printed =
+          ("fact,4,triggers,{p} free={p}"
+          ∷ "fact,5,triggers,{p} free={p}"
+          ∷ "fact,6,triggers,{p} free={p}"
+          ∷ "kept,5,a"
+          ∷ "kept,6,aB"
+          ∷ "kept,4,ab"
+          ∷ "sum,3,3,2"
+          ∷ []);
+    }
+
 -- the edges
 abbrev edges : List Case
 edges =
@@ -168,6 +184,7 @@ edges =
     ∷ repeated
     ∷ term-before-repeated
     ∷ root-repeats
+    ∷ prefix-first
     ∷ []
 
 -- each entry passes; a wrong one is named in the error
@@ -175,8 +192,8 @@ all-pass : All-pass edges
 unfolding passes rule-1 rule-3-payload rule-3-root rule-6 rule-8 rule-9 empty-name-unmet ambients-last-first
     ambient-root-scanned ambient-root-option-1 ambient-not-scanned not-retainable other-query equal-disjuncts
     form-kind form-ask form-count form-lacking form-left-over name-empty number-zero number-65536 options-8
-    query-256 highest term-65535 term-own term-lower repeated term-before-repeated root-repeats
-all-pass = (refl, (refl, (refl, (refl, (refl, (refl, (refl, (refl, (refl, (refl, (refl, (refl, (refl, (refl, (refl, (refl, (refl, (refl, (refl, (refl, (refl, (refl, (refl, (refl, (refl, (refl, (refl, (refl, (refl, (refl, (refl, tt)))))))))))))))))))))))))))))))
+    query-256 highest term-65535 term-own term-lower repeated term-before-repeated root-repeats prefix-first
+all-pass = (refl, (refl, (refl, (refl, (refl, (refl, (refl, (refl, (refl, (refl, (refl, (refl, (refl, (refl, (refl, (refl, (refl, (refl, (refl, (refl, (refl, (refl, (refl, (refl, (refl, (refl, (refl, (refl, (refl, (refl, (refl, (refl, tt))))))))))))))))))))))))))))))))
 
 -- what is printed of a call over these working slices and this room, without names
 answered : List ℕ → List ℕ → ℕ → List ℕ → Bool

@@ -1,5 +1,6 @@
 pub mod ListLaws
 pub mod SetLaws
+pub mod ResultLaws
 mod Printing
 mod Cases
 mod Edges

@@ -1,21 +1,26 @@
 -- Laws of tests and of the list functions of specs/Lists.antt.
-use Prim.Native.Nat.{ℕ, _+_, _≤_, _<_}
+use Prim.Native.Nat.{ℕ, zero, suc, _+_, _≤_, _<_}
 use native.Mathlib.Numerals.{one-add}
 use native.Mathlib.Omega.{arith}
-use mathlib.Core.Path.{_≡_, refl, sym}
+use mathlib.Core.Path.{_≡_, refl, sym, _∙_, ap, ap₂}
 use mathlib.Core.Logic.{_↔_, _⊎_, inl, inr, ⊎-elim}
-use mathlib.Core.Bool.{Bool, true, false, cond, not, _&&_, _||_, or-assoc, and-assoc}
-use mathlib.Core.List.{List, [], _∷_, _++_, map, append-assoc, map-append, List·Memᴰ, List·Memᴰ·head, List·Memᴰ·tail, List·Memᴰ·cases-cons, List·Memᴰ·not-nil, List·Memᴰ·append-cases, Memᴰ·append-left, Memᴰ·append-right}
+use mathlib.Core.Bool.{Bool, true, false, cond, not, _&&_, _||_, Bool·beq, or-assoc, and-assoc}
+use mathlib.Core.List.{List, [], _∷_, _++_, map, reverse, reverse-cons, reverse-append, append-nil, append-assoc, map-append, List·Memᴰ, List·Memᴰ·head, List·Memᴰ·tail, List·Memᴰ·cases-cons, List·Memᴰ·not-nil, List·Memᴰ·append-cases, List·Memᴰ·eq-of-singleton, Memᴰ·append-left, Memᴰ·append-right}
 -- a member's value is a member of the mapped list, and back
 pub use mathlib.Core.List.{Memᴰ·map as map-intro, Memᴰ·of-map as map-elim}
 use lib.Dec.{T}
-use lib.ListN.{length, length-append}
+use lib.ListN.{length, length-append, getD}
 use Rattle.model.specs.Lists.{any, all, keep, count, concat, collect, fold-left, sum, is-nil}
 
 -- both hold where the conjunction does, and back
 pub T-and : (a b : Bool) → T (a && b) ↔ (T a × T b)
 T-and true b = (λ t. (tt, t), λ p. p .1)
 T-and false b = (λ t. absurd t, λ p. absurd (p .0))
+
+-- where a conjunction fails one of its parts does
+pub not-and : (a b : Bool) → T (not (a && b)) → T (not a) ⊎ T (not b)
+not-and true b t = inr t
+not-and false b t = inl tt
 
 -- one holds where the disjunction does, and back
 pub T-or : (a b : Bool) → T (a || b) ↔ (T a ⊎ T b)
@@ -51,6 +56,20 @@ T-ext {a = true} {b} f g = sym (T-true b (f tt))
 T-ext {a = false} {b = true} f g = absurd (g tt)
 T-ext {a = false} {b = false} f g = refl
 
+-- the equality test holds exactly of two tests that imply each other
+pub beq-exact : (a b : Bool) → T (Bool·beq a b) ↔ ((T a → T b) × (T b → T a))
+beq-exact true true = (λ t. (λ u. tt, λ u. tt), λ p. tt)
+beq-exact true false = (λ t. absurd t, λ p. p .0 tt)
+beq-exact false true = (λ t. absurd t, λ p. p .1 tt)
+beq-exact false false = (λ t. (λ u. u, λ u. u), λ p. tt)
+
+-- of two tests that the equality test finds different one holds and the other fails
+pub beq-differ : (a b : Bool) → T (not (Bool·beq a b)) → (T a × T (not b)) ⊎ (T (not a) × T b)
+beq-differ true true t = absurd t
+beq-differ true false t = inl (tt, tt)
+beq-differ false true t = inr (tt, tt)
+beq-differ false false t = absurd t
+
 module _ {A : Type 0} where
   -- the branch that is taken where the test holds
   pub cond-true : (b : Bool) (x y : A) → T b → cond b x y ≡ x
@@ -61,6 +80,16 @@ module _ {A : Type 0} where
   pub cond-false : (b : Bool) (x y : A) → T (not b) → cond b x y ≡ y
   cond-false true x y t = absurd t
   cond-false false x y t = refl
+
+  -- what holds of both branches holds of the branch taken
+  pub cond-case : (P : A → Type 0) (b : Bool) {x y : A} → P x → P y → P (cond b x y)
+  cond-case P true p q = p
+  cond-case P false p q = q
+
+  -- the same where each branch is looked at only under its test
+  pub branch : (P : A → Type 0) (b : Bool) (x y : A) → (T b → P x) → (T (not b) → P y) → P (cond b x y)
+  branch P true x y h k = h tt
+  branch P false x y h k = k tt
 
   -- a function of a branch is the branch of the function
   pub cond-ap : {B : Type 0} (f : A → B) (b : Bool) (x y : A) → f (cond b x y) ≡ cond b (f x) (f y)
@@ -114,6 +143,40 @@ module _ {A : Type 0} where
   unfolding keep
   keep-cong p q [] h = refl
   keep-cong p q (x ∷ xs) h = rw (h x (List·Memᴰ·head refl), keep-cong p q xs (λ y m. h y (List·Memᴰ·tail m)))
+
+  -- a test that holds of every member keeps the list
+  pub keep-all : (test : A → Bool) (l : List A) → ((x : A) → List·Memᴰ x l → T (test x)) → keep test l ≡ l
+  unfolding keep
+  keep-all test [] h = refl
+  keep-all test (x ∷ xs) h = rw (cond-true (test x) (x ∷ keep test xs) (keep test xs) (h x (List·Memᴰ·head refl)), keep-all test xs (λ y m. h y (List·Memᴰ·tail m)))
+
+  -- a test that holds of no member keeps nothing
+  pub keep-none : (test : A → Bool) (l : List A) → ((x : A) → List·Memᴰ x l → T (not (test x))) → keep test l ≡ []
+  unfolding keep
+  keep-none test [] h = refl
+  keep-none test (x ∷ xs) h = rw (cond-false (test x) (x ∷ keep test xs) (keep test xs) (h x (List·Memᴰ·head refl)), keep-none test xs (λ y m. h y (List·Memᴰ·tail m)))
+
+  -- to keep what fails two tests, one after the other
+  pub keep-not : (p q : A → Bool) (l : List A) → keep (λ x. not (p x)) (keep (λ x. not (q x)) l) ≡ keep (λ x. not (p x || q x)) l
+  unfolding keep
+  keep-not p q [] = refl
+  keep-not p q (x ∷ l) = go (p x) (q x) refl (keep-not p q l)
+    where
+      go : (a b : Bool) → p x ≡ a → keep (λ x. not (p x)) (keep (λ x. not (q x)) l) ≡ keep (λ x. not (p x || q x)) l → keep (λ x. not (p x)) (cond (not b) (x ∷ keep (λ x. not (q x)) l) (keep (λ x. not (q x)) l)) ≡ cond (not (a || b)) (x ∷ keep (λ x. not (p x || q x)) l) (keep (λ x. not (p x || q x)) l)
+      go true true e h = h
+      go true false e h = rw e h
+      go false true e h = h
+      go false false e h = rw e (ap (x ∷_) h)
+
+  -- nothing is kept of what fails a test exactly where all pass it
+  pub nil-keep-not : (p : A → Bool) (l : List A) → is-nil (keep (λ x. not (p x)) l) ≡ all p l
+  unfolding keep all is-nil
+  nil-keep-not p [] = refl
+  nil-keep-not p (x ∷ l) = go (p x) (nil-keep-not p l)
+    where
+      go : (a : Bool) → is-nil (keep (λ x. not (p x)) l) ≡ all p l → is-nil (cond (not a) (x ∷ keep (λ x. not (p x)) l) (keep (λ x. not (p x)) l)) ≡ (a && all p l)
+      go true h = h
+      go false h = refl
 
   -- tests that agree on the members hold of one alike
   pub any-cong : (p q : A → Bool) (l : List A) → ((x : A) → List·Memᴰ x l → p x ≡ q x) → any p l ≡ any q l
@@ -195,6 +258,31 @@ module _ {A : Type 0} where
   not-nil-mem [] t = absurd t
   not-nil-mem (x ∷ xs) t = (x, List·Memᴰ·head refl)
 
+  -- the members of a list the other way round are members of the list
+  pub reverse-elim : {x : A} (l : List A) → List·Memᴰ x (reverse l) → List·Memᴰ x l
+  reverse-elim [] m = m
+  reverse-elim (y ∷ ys) m =
+      ⊎-elim (λ i. List·Memᴰ·tail (reverse-elim ys i)) (λ i. List·Memᴰ·head (List·Memᴰ·eq-of-singleton i))
+      (List·Memᴰ·append-cases (reverse ys) (rw reverse-cons at m))
+
+  -- a member of a list is a member of it the other way round
+  pub reverse-intro : {x : A} {l : List A} → List·Memᴰ x l → List·Memᴰ x (reverse l)
+  reverse-intro (List·Memᴰ·head {xs} e) = rw reverse-cons (Memᴰ·append-right (reverse xs) (List·Memᴰ·head e))
+  reverse-intro (List·Memᴰ·tail m) = rw reverse-cons (Memᴰ·append-left _ (reverse-intro m))
+
+  -- what holds of every element and of the default holds of the element at a place
+  pub getD-case : (P : A → Type 0) (l : List A) (i : ℕ) (d : A) → ((x : A) → List·Memᴰ x l → P x) → P d → P (getD l i d)
+  getD-case P [] i d h p = p
+  getD-case P (x ∷ xs) zero d h p = h x (List·Memᴰ·head refl)
+  getD-case P (x ∷ xs) (suc i) d h p = getD-case P xs i d (λ y m. h y (List·Memᴰ·tail m)) p
+
+  -- what holds of the element at each place, of the default too, holds with one element more at the end
+  pub getD-one-more : (P : ℕ → A → Type 0) (l : List A) (x d : A) → ((i : ℕ) → P i (getD l i d)) → P (length l) x → ((i : ℕ) → P i d) → (i : ℕ) → P i (getD (l ++ (x ∷ [])) i d)
+  getD-one-more P [] x d h p q zero = p
+  getD-one-more P [] x d h p q (suc i) = q (suc i)
+  getD-one-more P (y ∷ ys) x d h p q zero = h zero
+  getD-one-more P (y ∷ ys) x d h p q (suc i) = getD-one-more (λ j. P (suc j)) ys x d (λ j. h (suc j)) p (λ j. q (suc j)) i
+
 module _ {A B : Type 0} where
   -- the members of a member's list are collected
   pub collect-intro : (f : A → List B) {x : A} {l : List A} {y : B} → List·Memᴰ x l → List·Memᴰ y (f x) → List·Memᴰ y (collect f l)
@@ -214,11 +302,78 @@ module _ {A B : Type 0} where
   collect-append f [] m = refl
   collect-append f (x ∷ xs) m = rw (collect-append f xs m) (sym (append-assoc (f x) (collect f xs) (collect f m)))
 
+  -- functions that agree on the members collect the same
+  pub collect-cong : (f g : A → List B) (l : List A) → ((x : A) → List·Memᴰ x l → f x ≡ g x) → collect f l ≡ collect g l
+  unfolding collect
+  collect-cong f g [] h = refl
+  collect-cong f g (x ∷ l) h = ap₂ _++_ (h x (List·Memᴰ·head refl)) (collect-cong f g l (λ y m. h y (List·Memᴰ·tail m)))
+
+  -- to collect lists of one is to map
+  pub collect-one : (f : A → B) (l : List A) → collect (λ x. f x ∷ []) l ≡ map f l
+  unfolding collect
+  collect-one f [] = refl
+  collect-one f (x ∷ l) = ap (f x ∷_) (collect-one f l)
+
+  -- to collect from what a function gives
+  pub collect-map : {C : Type 0} (f : B → List C) (g : A → B) (l : List A) → collect f (map g l) ≡ collect (λ x. f (g x)) l
+  unfolding collect
+  collect-map f g [] = refl
+  collect-map f g (x ∷ l) = ap (f (g x) ++_) (collect-map f g l)
+
+  -- a function of what is collected is collected
+  pub map-collect : {C : Type 0} (g : B → C) (f : A → List B) (l : List A) → map g (collect f l) ≡ collect (λ x. map g (f x)) l
+  unfolding collect
+  map-collect g f [] = refl
+  map-collect g f (x ∷ l) = rw (map-append, map-collect g f l)
+
+  -- a function of a list the other way round
+  pub map-reverse : (f : A → B) (l : List A) → map f (reverse l) ≡ reverse (map f l)
+  map-reverse f [] = refl
+  map-reverse f (x ∷ l) = rw (reverse-cons x l, map-append, map-reverse f l) (sym (reverse-cons (f x) (map f l)))
+
+  -- what is collected of a list the other way round is collected of the list
+  pub collect-reverse-elim : (f : A → List B) (l : List A) {y : B} → List·Memᴰ y (collect f (reverse l)) → List·Memᴰ y (collect f l)
+  collect-reverse-elim f l m = let (x, n, o) = collect-elim f (reverse l) m in collect-intro f (reverse-elim l n) o
+
+  -- and back
+  pub collect-reverse-intro : (f : A → List B) (l : List A) {y : B} → List·Memᴰ y (collect f l) → List·Memᴰ y (collect f (reverse l))
+  collect-reverse-intro f l m = let (x, n, o) = collect-elim f l m in collect-intro f (reverse-intro n) o
+
+  -- where each list is the same both ways round, to collect from a list the other way round is to turn round what is collected
+  pub collect-reverse : (f : A → List B) → ((x : A) → reverse (f x) ≡ f x) → (l : List A) → collect f (reverse l) ≡ reverse (collect f l)
+  unfolding collect
+  collect-reverse f h [] = refl
+  collect-reverse f h (x ∷ l) = rw (reverse-cons, collect-append, append-nil, collect-reverse f h l, reverse-append, h x)
+
   -- to fold over two lists is to fold over the first, then over the second
   pub fold-left-append : (f : A → B → A) (a : A) (l m : List B) → fold-left f a (l ++ m) ≡ fold-left f (fold-left f a l) m
   unfolding fold-left
   fold-left-append f a [] m = refl
   fold-left-append f a (x ∷ xs) m = fold-left-append f (f a x) xs m
+
+  -- what every step keeps the fold keeps
+  pub fold-left-case : (P : A → Type 0) (f : A → B → A) (l : List B) → ((a : A) (x : B) → List·Memᴰ x l → P a → P (f a x)) → {a : A} → P a → P (fold-left f a l)
+  unfolding fold-left
+  fold-left-case P f [] h p = p
+  fold-left-case P f (x ∷ xs) h {a} p = fold-left-case P f xs (λ b y m. h b y (List·Memᴰ·tail m)) (h a x (List·Memᴰ·head refl) p)
+
+  -- what each step leaves as it is the fold leaves as it is
+  pub fold-keeps : {X : Type 0} (step : A → B → A) (part : A → X) → ((a : A) (b : B) → part (step a b) ≡ part a) → (a : A) (l : List B) → part (fold-left step a l) ≡ part a
+  fold-keeps step part h a l = fold-left-case (λ b. part b ≡ part a) step l (λ b x m e. h b x ∙ e) refl
+
+-- where each step puts elements in front the fold puts all of them in front, the last step's first
+pub fold-collects : {A B X : Type 0} (step : A → B → A) (part : A → List X) (new : B → List X) → ((a : A) (b : B) → part (step a b) ≡ new b ++ part a) → (a : A) (l : List B) → part (fold-left step a l) ≡ collect new (reverse l) ++ part a
+unfolding fold-left collect
+fold-collects step part new h a [] = refl
+fold-collects step part new h a (b ∷ l) =
+    fold-collects step part new h (step a b) l
+    ∙ rw (h a b, reverse-cons, collect-append, append-nil, append-assoc)
+
+-- to fold over lists, one after the other
+pub fold-left-collect : {A B C : Type 0} (g : C → B → C) (h : A → List B) (z : C) (l : List A) → fold-left (λ y x. fold-left g y (h x)) z l ≡ fold-left g z (collect h l)
+unfolding fold-left collect
+fold-left-collect g h z [] = refl
+fold-left-collect g h z (x ∷ l) = fold-left-collect g h (fold-left g z (h x)) l ∙ sym (fold-left-append g z (h x) (collect h l))
 
 module _ {A : Type 0} where
   -- to put lists one after the other is to collect them

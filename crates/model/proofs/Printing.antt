@@ -154,11 +154,11 @@ unfolding digits show between comma set show-kind show-fact name-at show-outcome
     Summaries.rule-1 Summaries.rule-2 Summaries.rule-3 Summaries.token Summaries.rule-4 Summaries.rule-5
     Summaries.rule-6 Summaries.rule-7 Summaries.rule-8 Summaries.has-eq Summaries.rule-9 Summaries.rule-10
     Summaries.rule-11 Summaries.rule-12 Summaries.first-rule Summaries.maybe-add-ambient
-    Summaries.summarize-assumption Reading.need Reading.name-field Reading.number-field Reading.term-field
+    Summaries.summarize-kind Summaries.summarize-assumption Reading.need Reading.name-field Reading.number-field Reading.term-field
     Reading.op-words Reading.kinds Reading.word Reading.fixed-count Reading.next Reading.many Reading.rest
     Reading.end Reading.groups Reading.quantifier Reading.content Reading.kind-field Reading.parse
     Reading.no-ambients Reading.pretyping-axioms Reading.prune-decls Reading.start Reading.asked Reading.nodes
-    Reading.spelled-by Reading.spelled Reading.taken-by Reading.trimmed-by Reading.entries-of Reading.uses-of
+    Reading.spelled-by Reading.spelled Reading.taken-by Reading.trimmed Reading.entries-of Reading.uses-of
     Reading.spell Reading.limits Reading.under-limits Reading.go-on Reading.summarize-decl Reading.root-of
     Reading.add-line Reading.repeats Reading.read-line Reading.read-lines Reading.read-file Pruning.try-find
     Pruning.map-add Pruning.map-remove Pruning.should-retain-assumption Pruning.init-macro-freenames

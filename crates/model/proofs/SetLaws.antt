@@ -5,14 +5,14 @@ use native.Mathlib.Omega.{arith}
 use mathlib.Core.Path.{_≡_, refl, sym, _∙_, ap, ap₂}
 use mathlib.Core.Logic.{_↔_, _≢_, _⊎_, inl, inr, ⊎-elim, Iff·rfl}
 use mathlib.Core.Bool.{Bool, true, false, cond, not, _||_, or-assoc, or-false, or-self-left}
-use mathlib.Core.List.{List, [], _∷_, _++_, List·Memᴰ, List·Memᴰ·head, List·Memᴰ·tail, List·Memᴰ·cases-cons, Memᴰ·cast}
-use lib.Dec.{T, T-not}
+use mathlib.Core.List.{List, [], _∷_, _++_, map, List·Memᴰ, List·Memᴰ·head, List·Memᴰ·tail, List·Memᴰ·cases-cons, Memᴰ·cast}
+use lib.Dec.{T, T-not, not-T}
 use lib.ListN.{length}
 use Rattle.model.specs.declared.Order.{Order}
 use Rattle.model.specs.declared.Order.the-variants.{Before, Same, After}
 use Rattle.model.specs.Lists.{any, keep}
 use Rattle.model.specs.Names.{Name, by-byte, order, is-same, same, mem, add-by, add, from-list, union, diff, remove}
-use Rattle.model.proofs.ListLaws.{T-or, T-dec, T-ext, any-intro, any-elim, any-append, keep-intro, keep-elim}
+use Rattle.model.proofs.ListLaws.{T-or, T-dec, T-ext, keep-none, map-intro, any-intro, any-elim, any-append, keep-intro, keep-elim}
 
 -- how two numbers compare, with what the answer says
 data Compare (a b : ℕ) : Ordering → Type 0 where
@@ -159,6 +159,10 @@ same-sym n m = T-ext (λ t. eq-same (sym (same-eq t))) (λ t. eq-same (sym (same
 -- two names are equal or not
 pub same-dec : (n m : Name) → (n ≡ m) ⊎ (n ≢ m)
 same-dec n m = ⊎-elim (λ t. inl (same-eq t)) (λ t. inr (λ e. T-not (same n m) t (eq-same e))) (T-dec (same n m))
+
+-- nothing is kept by a name that nothing has
+pub keep-no-name : {A : Type 0} (name : A → Name) (n : Name) (l : List A) → (List·Memᴰ n (map name l) → ⊥) → keep (λ x. same (name x) n) l ≡ []
+keep-no-name name n l h = keep-none (λ x. same (name x) n) l (λ x m. not-T (same (name x) n) (λ t. h (Memᴰ·cast (sym (same-eq t)) (map-intro name m))))
 
 -- a member passes the test
 pub mem-intro : {n : Name} {l : List Name} → List·Memᴰ n l → T (mem n l)
@@ -314,6 +318,27 @@ ascending-remove n a = ascending-keep (λ m. not (same n m)) a
 abbrev pub Within : List Name → List Name → Type 0
 Within l m = (k : Name) → T (mem k l) → T (mem k m)
 
+-- no names are within any list
+pub within-nil : (m : List Name) → Within [] m
+unfolding mem any
+within-nil m k t = absurd t
+
+-- where two lists together are within a list the first is
+pub within-left : (k l m : List Name) → Within (k ++ l) m → Within k m
+within-left k l m w n t = w n (mem-append n k l .1 (inl t))
+
+-- and so is the second
+pub within-right : (k l m : List Name) → Within (k ++ l) m → Within l m
+within-right k l m w n t = w n (mem-append n k l .1 (inr t))
+
+-- a list within a list is so with a name of that list added
+pub within-add : (n : Name) (l m : List Name) → T (mem n m) → Within l m → Within (add n l) m
+within-add n l m t w k u = ⊎-elim (λ e. rw e t) (w k) (mem-add k n l .0 u)
+
+-- the union of two lists within a list is within it
+pub within-union : (k l m : List Name) → Within k m → Within l m → Within (union k l) m
+within-union k l m v w n t = ⊎-elim (v n) (w n) (mem-union n k l .0 t)
+
 -- a set within a list whose first name is before it is within the others
 within-tail : {n : Name} {l : List Name} (ns : List Name) → Ascending (n ∷ l) → Within l (n ∷ ns) → Within l ns
 within-tail {n} ns a w k t = ⊎-elim (λ e. absurd (order-irrefl (ascending-head a k t) (sym e))) (λ u. u) (mem-cons k n ns .0 (w k t))
@@ -373,3 +398,25 @@ union-members l l′ a h = union-ext l a (ascending-union l′ a) (λ k. rw (uni
 -- the union of a list with a set that has its members is the set
 pub union-within : (l : List Name) {m : List Name} → Ascending m → Within l m → union l m ≡ m
 union-within l {m} a w = ascending-ext (ascending-union l a) a (λ k t. ⊎-elim (w k) (λ u. u) (mem-union k l m .0 t)) (λ k t. mem-union k l m .1 (inr t))
+
+-- sets of names, made sets again, are the same
+pub sets-again : (ts : List (List Name)) → ((d : List Name) → List·Memᴰ d ts → Ascending d) → map from-list ts ≡ ts
+sets-again [] h = refl
+sets-again (d ∷ ts) h = ap₂ _∷_ (from-list-ascending (h d (List·Memᴰ·head refl))) (sets-again ts (λ e m. h e (List·Memᴰ·tail m)))
+
+-- a set with one name more has at most one more
+pub add-length : (n : Name) (l : List Name) → length (add n l) ≤ suc (length l)
+unfolding add add-by
+add-length n [] = omega arith
+add-length n (m ∷ ms) = go (add-length n ms) (order n m)
+  where
+    go : length (add n ms) ≤ suc (length ms) → (o : Order) → length (add-by o n m ms (add n ms)) ≤ suc (suc (length ms))
+    go h Before = omega arith
+    go h Same = omega arith
+    go h After = omega arith
+
+-- the set of the names of a list is no longer than the list
+pub from-list-length : (l : List Name) → length (from-list l) ≤ length l
+unfolding from-list
+from-list-length [] = omega arith
+from-list-length (n ∷ l) = omega (arith, add-length n (from-list l), from-list-length l)

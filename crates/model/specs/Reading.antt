@@ -10,7 +10,7 @@ use Rattle.model.specs.Lists.{any, sum, collect, fold-left, holds}
 use Rattle.model.specs.Names.{Name, bytes, same, mem}
 use Rattle.model.specs.Lines.{Line, lines, Field, fields, is-name, number}
 use Rattle.model.specs.Terms.{Node, FreeV, Leaf, Call, App, Forall, Exists, Let, Labeled, Term, add-term, references}
-use Rattle.model.specs.Summaries.{Fact, free-top-level-names, summarize-assumption}
+use Rattle.model.specs.Summaries.{Fact, free-top-level-names, summarize-kind, summarize-assumption}
 use Rattle.model.specs.declared.LineKind.{LineKind}
 use Rattle.model.specs.declared.LineKind.the-variants as kind
 use Rattle.model.specs.declared.Op.{Op}
@@ -217,7 +217,7 @@ pub data Summary : Type 0 where
   Sum-assume : Fact → Summary
   Sum-definefun : Decl → Summary
   Sum-declfun : Decl → Summary
-  Sum-retain : List Name → Summary
+  Sum-retain : Summary
 
 -- a root line
 pub record Root : Type 0 where
@@ -314,28 +314,21 @@ unfoldable pub taken-by : Summary → List Name
 taken-by (Sum-assume f) = f .name ∷ []
 taken-by (Sum-definefun d) = d .name ∷ []
 taken-by (Sum-declfun d) = d .name ∷ []
-taken-by (Sum-retain names) = []
-
--- the names that rule 4 trims off the tokens of a fact
-unfoldable pub trimmed-by : Summary → List Name
-trimmed-by (Sum-assume f) = f .trimmed
-trimmed-by (Sum-definefun d) = []
-trimmed-by (Sum-declfun d) = []
-trimmed-by (Sum-retain names) = []
+taken-by Sum-retain = []
 
 -- the trigger entries of a record towards their limit: an empty disjunct counts as one
 unfoldable pub entries-of : Summary → ℕ
 entries-of (Sum-assume f) = sum (map (λ names. max 1 (length names)) (f .triggers))
 entries-of (Sum-definefun d) = 0
 entries-of (Sum-declfun d) = 0
-entries-of (Sum-retain names) = 0
+entries-of Sum-retain = 0
 
 -- the name uses of a record: its free names
 unfoldable pub uses-of : Summary → ℕ
 uses-of (Sum-assume f) = length (f .free-names)
 uses-of (Sum-definefun d) = length (d .free-names)
 uses-of (Sum-declfun d) = 0
-uses-of (Sum-retain names) = 0
+uses-of Sum-retain = 0
 
 -- the names with one more, if it is new
 unfoldable pub spell : List Name → Name → List Name
@@ -376,8 +369,18 @@ module _ (exclude : List Name) where
   summarize-decl terms n (fun name) = Sum-declfun (record { line = n; name = name; free-names = [] }) ∷ []
   summarize-decl terms n (def name t) =
       Sum-definefun (record { line = n; name = name; free-names = free-top-level-names exclude terms t }) ∷ []
-  summarize-decl terms n (retain names) = Sum-retain names ∷ []
+  summarize-decl terms n (retain names) = Sum-retain ∷ []
   summarize-decl terms n (root q name t) = []
+
+  -- the name that rule 4 trims off the token of a fact
+  unfoldable pub trimmed : List Term → Content → List Name
+  trimmed terms (ask q options) = []
+  trimmed terms (term node) = []
+  trimmed terms (assume name flag t) = summarize-kind exclude terms name t .trimmed
+  trimmed terms (fun name) = []
+  trimmed terms (def name t) = []
+  trimmed terms (retain names) = []
+  trimmed terms (root q name t) = []
 
   -- the root that the n-th line is
   unfoldable pub root-of : List Term → ℕ → Content → List Root
@@ -398,7 +401,7 @@ module _ (exclude : List Name) where
       record {
         goal = asked c (s .goal);
         terms = fold-left add-term (s .terms) (nodes c);
-        names = fold-left spell (s .names) (spelled c ++ collect trimmed-by decls);
+        names = fold-left spell (s .names) (spelled c ++ trimmed (s .terms) c);
         decls = s .decls ++ decls;
         roots = s .roots ++ roots;
         references = s .references + length (collect references (nodes c));

@@ -19,7 +19,7 @@ facts [] = []
 facts (Sum-assume f ∷ decls) = f ∷ facts decls
 facts (Sum-definefun d ∷ decls) = facts decls
 facts (Sum-declfun d ∷ decls) = facts decls
-facts (Sum-retain names ∷ decls) = facts decls
+facts (Sum-retain ∷ decls) = facts decls
 
 -- the definitions of a file, in file order
 unfoldable pub definitions : List Summary → List Decl
@@ -27,7 +27,7 @@ definitions [] = []
 definitions (Sum-assume f ∷ decls) = definitions decls
 definitions (Sum-definefun d ∷ decls) = d ∷ definitions decls
 definitions (Sum-declfun d ∷ decls) = definitions decls
-definitions (Sum-retain names ∷ decls) = definitions decls
+definitions (Sum-retain ∷ decls) = definitions decls
 
 -- the declarations of a file, in file order
 unfoldable pub declarations : List Summary → List Decl
@@ -35,7 +35,7 @@ declarations [] = []
 declarations (Sum-assume f ∷ decls) = declarations decls
 declarations (Sum-definefun d ∷ decls) = declarations decls
 declarations (Sum-declfun d ∷ decls) = d ∷ declarations decls
-declarations (Sum-retain names ∷ decls) = declarations decls
+declarations (Sum-retain ∷ decls) = declarations decls
 
 -- the macros of a file: a def's name opens to its term's free names; the five of the start, unless a def replaces them
 unfoldable pub macros : List Summary → Map (List Name)

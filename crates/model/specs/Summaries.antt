@@ -56,7 +56,6 @@ pub record Fact : Type 0 where
   pub pretyping : Bool
   pub kind : AsumKind
   pub triggers : List (List Name)
-  pub trimmed : List Name
 
 -- the name of a `free`
 unfoldable pub free-of : Node → Option Name
@@ -296,18 +295,21 @@ module _ (exclude : List Name) (terms : List Term) where
       ∷ rule-12
       ∷ [])
 
+  -- the kind of a fact, of its name and term: by its triggers if it has any, else by the twelve rules
+  unfoldable pub summarize-kind : Name → ℕ → Kinded
+  summarize-kind name t =
+      let triggers = triggers-of-term t in
+      let ambient = maybe-add-ambient name t in
+      cond (is-nil triggers) ambient (Sum-triggers triggers)
+
   -- `summarize_assumption`, of the line, the name, the pretyping mark and the term of a fact
   unfoldable pub summarize-assumption : ℕ → Name → Bool → ℕ → Fact
   summarize-assumption line name pretyping t =
-      let triggers = triggers-of-term t in
-      let ambient = maybe-add-ambient name t in
-      let kinded = cond (is-nil triggers) ambient (Sum-triggers triggers) in
       record {
         line = line;
         name = name;
         free-names = free-top-level-names t;
         pretyping = pretyping;
-        kind = kinded .kind;
-        triggers = kinded .triggers;
-        trimmed = kinded .trimmed;
+        kind = summarize-kind name t .kind;
+        triggers = summarize-kind name t .triggers;
       }

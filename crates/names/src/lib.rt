@@ -1,10 +1,11 @@
 use model::Order;
-ghost use Prim.Native.Nat.{_≤_, _<_};
+ghost use Prim.Native.Nat.{_+_, _≤_, _<_};
 ghost use mathlib.Core.Path.{_≡_};
 ghost use lib.ListN.{length, getD};
+ghost use Rattle.model.specs.Names.{order};
 ghost use Rattle.text.specs.Parts.{part};
 ghost use Rattle.names.specs.Known.{head-code};
-ghost use Rattle.names.specs.Table.{Table, name-of, names-of, look-up, spell-answer, spell-table};
+ghost use Rattle.names.specs.Table.{Table, name-of, names-of, look-up, index-with, spell-answer, spell-table};
 
 // What a look-up finds: the name's number, or the rank where the name belongs in byte order.
 pub enum Found {
@@ -51,10 +52,13 @@ pub fn head_code(file: &[u8], a: usize, e: usize) -> u32
 }
 
 // The order of the name of a number and of the part from `a` up to `e`.
-fn compare(file: &[u8], w: &[u32], n: usize, a: usize, e: usize) -> Order {
-    let start = at(w, n);
-    let len = at(w, 2048 + n);
-    text::order(file, start, start + len, a, e)
+fn compare(file: &[u8], w: &[u32], n: usize, a: usize, e: usize) -> Order
+    requires { ⌜ (2048 + n < length (now w)) × (getD (now w) n 0 + getD (now w) (2048 + n) 0 ≤ length (now file)) × (a ≤ e) × (e ≤ length (now file)) ⌝ }
+    ensures { λ r. ⌜ r ≡ order (name-of (now (file .entry)) (now (w .entry)) n) (part (now (file .entry)) a e) ⌝ }
+{
+    let from = at(w, n);
+    let size = at(w, 2048 + n);
+    text::order(file, from, from + size, a, e)
 }
 
 // The number of the name from `a` up to `e`, or the rank where it belongs: a binary search in the byte-order index.
@@ -95,7 +99,11 @@ pub fn spell(file: &[u8], w: &mut [u32], many: usize, a: usize, e: usize) -> Spe
 }
 
 // Enters the name from `a` up to `e`, which belongs at a rank: it takes the number `many`, unless the table is full.
-fn enter(file: &[u8], w: &mut [u32], many: usize, a: usize, e: usize, rank: usize) -> Spelled {
+fn enter(file: &[u8], w: &mut [u32], many: usize, a: usize, e: usize, rank: usize) -> Spelled
+    requires { ⌜ Table (now file) (now w) many × (a ≤ e) × (e ≤ length (now file)) × (rank ≤ many) ⌝ }
+    ensures answer { λ r. ⌜ r ≡ spell-answer many (Found.Missing rank) ⌝ }
+    ensures table { λ r. ⌜ now (w .exit) ≡ spell-table (now (file .entry)) (now (w .entry)) many a e (Found.Missing rank) ⌝ }
+{
     if 2048 <= many {
         return Spelled::Full;
     }
@@ -107,7 +115,10 @@ fn enter(file: &[u8], w: &mut [u32], many: usize, a: usize, e: usize, rank: usiz
 }
 
 // Puts the number `many` into the byte-order index at a rank, the later ranks moved up by one.
-fn put_index(w: &mut [u32], many: usize, rank: usize) {
+fn put_index(w: &mut [u32], many: usize, rank: usize)
+    requires { ⌜ (rank ≤ many) × (many < 2048) × (16384 ≤ length (now w)) ⌝ }
+    ensures { λ r. ⌜ now (w .exit) ≡ index-with (now (w .entry)) many rank ⌝ }
+{
     let mut i = many;
     while rank < i {
         w[4096 + i] = w[4096 + i - 1];

@@ -4,7 +4,7 @@ use native.Mathlib.Numerals.{add-one, one-add}
 use native.Mathlib.Nat.{add-zero, sub-zero, not-suc-le-zero, zero-sub, suc-sub-suc}
 use native.Mathlib.Omega.{arith}
 use mathlib.Core.Path.{_≡_, refl, sym, ap, _∙_}
-use mathlib.Core.Bool.{Bool, true, false, cond, not, _&&_, and-false, true≢false, false≢true}
+use mathlib.Core.Bool.{Bool, true, false, cond, and-false, true≢false, false≢true}
 use mathlib.Core.List.{List, [], _∷_}
 use mathlib.Core.Option.{Option, none, some}
 use lib.ListN.{length, take, drop, getD, length-take, length-drop, drop-of-length-le}
@@ -20,7 +20,6 @@ use Rattle.model.specs.declared.Order.the-variants.{Before, Same, After}
 use Rattle.model.specs.declared.Refusal.{Refusal}
 use Rattle.model.specs.declared.Refusal.the-variants as refusal
 use Rattle.text.specs.declared.Cursor.{Cursor}
-use Rattle.text.specs.declared.Decimal.{Decimal}
 use Rattle.text.specs.declared.Decimal.the-variants as answer
 use Rattle.text.specs.declared.FieldStep.{FieldStep}
 use Rattle.text.specs.declared.FieldStep.the-variants as field
@@ -30,25 +29,17 @@ use Rattle.text.specs.Parts.{part, before, mark-at, as-decimal, Placed, 
 
 -- ---- parts
 
--- a part that is not over begins with the byte at its start
-pub part-cons : (s : List ℕ) (i e : ℕ) → i < e → e ≤ length s → part s i e ≡ getD s i 0 ∷ part s (i + 1) e
-part-cons s i e h k =
-    let n : e - i ≡ suc (e - (i + 1)) = omega arith in
-    rw (n, drop-cons s i 0 (omega arith), add-one i)
-
--- a part that is over is empty
-pub part-nil : (s : List ℕ) (a e : ℕ) → e ≤ a → part s a e ≡ []
-part-nil s a e h =
-    let n : e - a ≡ 0 = omega arith in
-    rw n
-
 -- the part from 0 more on is the part
-pub part-start : (s : List ℕ) (a e : ℕ) → part s (a + 0) e ≡ part s a e
+part-start : (s : List ℕ) (a e : ℕ) → part s (a + 0) e ≡ part s a e
 part-start s a e = rw (add-zero a)
 
 -- the part from the start to the end is the list
 pub part-all : (s : List ℕ) → part s 0 (length s) ≡ s
 part-all s = rw (sub-zero (length s), take-length s)
+
+-- the part from a position to the end is the rest of the list
+pub part-rest : (s : List ℕ) (at : ℕ) → part s at (length s) ≡ drop at s
+part-rest s at = take-all (length s - at) (drop at s) (rw length-drop (omega arith))
 
 -- the length of a part
 pub part-length : (s : List ℕ) (a e : ℕ) → e ≤ length s → length (part s a e) ≡ e - a
@@ -73,47 +64,10 @@ part-drop s a e k =
     let n : e - a - k ≡ e - (a + k) = omega arith in
     rw (drop-take, n, drop-drop)
 
--- ---- the first mark
+-- ---- the fields of a list
 
--- a list that begins with the mark has no byte before it
-before-here : (mark b : ℕ) (bs : List ℕ) → b ≡ mark → before mark (b ∷ bs) ≡ 0
-unfolding before
-before-here mark b bs h = rw (eq-eqb b mark h)
-
--- a list that begins with another byte has one more before the mark
-before-on : (mark b : ℕ) (bs : List ℕ) → (b ≡ mark → ⊥) → before mark (b ∷ bs) ≡ 1 + before mark bs
-unfolding before
-before-on mark b bs h = rw (ne-eqb b mark h)
-
--- no more bytes stand before the mark than there are
-before-le : (mark : ℕ) (l : List ℕ) → before mark l ≤ length l
-unfolding before
-before-le mark [] = omega arith
-before-le mark (b ∷ bs) = go (eqb b mark) (before-le mark bs)
-  where
-    go : (t : Bool) → before mark bs ≤ length bs → cond t 0 (1 + before mark bs) ≤ suc (length bs)
-    go true h = omega arith
-    go false h = omega arith
-
--- the mark stands where the search is
-pub mark-here : (mark : ℕ) (s : List ℕ) (i e : ℕ) → i < e → e ≤ length s → getD s i 0 ≡ mark → mark-at mark s i e ≡ i
-unfolding mark-at
-mark-here mark s i e h k b = rw (part-cons s i e h k, before-here mark (getD s i 0) (part s (i + 1) e) b) (omega arith)
-
--- the mark does not stand where the search is: the search goes on
-pub mark-on : (mark : ℕ) (s : List ℕ) (i e : ℕ) → i < e → e ≤ length s → (getD s i 0 ≡ mark → ⊥) → mark-at mark s i e ≡ mark-at mark s (i + 1) e
-unfolding mark-at
-mark-on mark s i e h k b = rw (part-cons s i e h k, before-on mark (getD s i 0) (part s (i + 1) e) b) (omega arith)
-
--- the search is at its end
-pub mark-end : (mark : ℕ) (s : List ℕ) (i e : ℕ) → i ≤ e → e ≤ i → mark-at mark s i e ≡ e
-unfolding mark-at before
-mark-end mark s i e h k = rw (part-nil s i e k) (omega arith)
-
--- ---- fields
-
--- what stands after the byte that ends a field: the other fields, if there is such a byte
-fields-after : List ℕ → List (List ℕ)
+-- the fields after the byte that ends the first, if there is such a byte
+fields-after : List ℕ → List Field
 fields-after [] = []
 fields-after (b ∷ bs) = fields bs
 
@@ -123,8 +77,9 @@ unfolding fields field-cons before fields-after
 fields-split [] = refl
 fields-split (b ∷ bs) = go (eqb b 0x2c) (before 0x2c bs) (fields bs) (fields-split bs)
   where
-    go : (t : Bool) (n : ℕ) (fs : List (List ℕ)) → fs ≡ take n bs ∷ fields-after (drop n bs)
-        → cond t ([] ∷ fields bs) (field-cons b fs) ≡ take (cond t 0 (1 + n)) (b ∷ bs) ∷ fields-after (drop (cond t 0 (1 + n)) (b ∷ bs))
+    go : (t : Bool) (n : ℕ) (fs : List Field) → fs ≡ take n bs ∷ fields-after (drop n bs)
+        → cond t ([] ∷ fields bs) (field-cons b fs)
+        ≡ take (cond t 0 (1 + n)) (b ∷ bs) ∷ fields-after (drop (cond t 0 (1 + n)) (b ∷ bs))
     go true n fs e = refl
     go false n fs e = rw (e, one-add n)
 
@@ -137,52 +92,7 @@ fields-cons b bs = go (eqb b 0x2c)
     go true = rw (one-add (length (fields bs)))
     go false = rw (fields-split bs) (omega arith)
 
--- a comma where the count is: one field more than from there on
-pub count-comma : (s : List ℕ) (i e : ℕ) → i < e → e ≤ length s → getD s i 0 ≡ 0x2c → length (fields (part s i e)) ≡ 1 + length (fields (part s (i + 1) e))
-count-comma s i e h k b = rw (part-cons s i e h k, fields-cons (getD s i 0) (part s (i + 1) e), eq-eqb (getD s i 0) 0x2c b)
-
--- another byte where the count is: as many fields as from there on
-pub count-on : (s : List ℕ) (i e : ℕ) → i < e → e ≤ length s → (getD s i 0 ≡ 0x2c → ⊥) → length (fields (part s i e)) ≡ length (fields (part s (i + 1) e))
-count-on s i e h k b = rw (part-cons s i e h k, fields-cons (getD s i 0) (part s (i + 1) e), ne-eqb (getD s i 0) 0x2c b) (omega arith)
-
--- nothing is left: one field
-pub count-end : (s : List ℕ) (i e : ℕ) → e ≤ i → length (fields (part s i e)) ≡ 1
-unfolding fields
-count-end s i e h = rw (part-nil s i e h)
-
--- ---- names
-
--- an empty part is no name
-pub name-empty : (s : List ℕ) (a e : ℕ) → e ≤ a → is-name (part s a e) ≡ false
-unfolding is-name
-name-empty s a e h = rw (part-nil s a e h)
-
--- a part of more than 255 bytes is no name
-pub name-long : (s : List ℕ) (a e : ℕ) → e ≤ length s → 255 < e - a → is-name (part s a e) ≡ false
-unfolding is-name
-name-long s a e k h = rw (part-length s a e k, lt-leb (e - a) 255 h, and-false)
-
--- a part of 1 to 255 bytes is a name if each byte may stand in one
-pub name-bytes : (s : List ℕ) (a e : ℕ) → e ≤ length s → a < e → e - a ≤ 255 → is-name (part s a e) ≡ all is-name-byte (part s a e)
-unfolding is-name
-name-bytes s a e k h m =
-    let n : 1 ≤ e - a = omega arith in
-    rw (part-length s a e k, le-leb 1 (e - a) n, le-leb (e - a) 255 m)
-
--- the test fails at the byte where it is: it fails of the part
-pub all-bad : (test : ℕ → Bool) (s : List ℕ) (i e : ℕ) → i < e → e ≤ length s → test (getD s i 0) ≡ false → all test (part s i e) ≡ false
-unfolding all
-all-bad test s i e h k b = rw (part-cons s i e h k, b)
-
--- the test holds at the byte where it is: the bytes after it decide
-pub all-on : (test : ℕ → Bool) (s : List ℕ) (i e : ℕ) → i < e → e ≤ length s → test (getD s i 0) ≡ true → all test (part s i e) ≡ all test (part s (i + 1) e)
-unfolding all
-all-on test s i e h k b = rw (part-cons s i e h k, b)
-
--- the test of an empty part's bytes holds
-pub all-end : (test : ℕ → Bool) (s : List ℕ) (i e : ℕ) → e ≤ i → all test (part s i e) ≡ true
-unfolding all
-all-end test s i e h = rw (part-nil s i e h)
+-- ---- tests of a byte
 
 -- a byte below the range is not of a name
 pub byte-low : (b : ℕ) → b < 0x21 → is-name-byte b ≡ false
@@ -199,70 +109,10 @@ pub byte-comma : (b : ℕ) → b ≡ 0x2c → is-name-byte b ≡ false
 unfolding is-name-byte
 byte-comma b h = rw h
 
--- any other byte is of a name
+-- a byte in the range that is no comma is of a name
 pub byte-good : (b : ℕ) → 0x21 ≤ b → b ≤ 0x7e → (b ≡ 0x2c → ⊥) → is-name-byte b ≡ true
 unfolding is-name-byte
 byte-good b low high comma = rw (le-leb 0x21 b low, le-leb b 0x7e high, ne-eqb b 0x2c comma)
-
--- ---- numbers
-
--- the number that digits make after the value n, if it is not too large
-unfoldable pub valued : ℕ → List ℕ → Option ℕ
-valued n l = decimal n l >>= λ m. when (leb m 65535) m
-
--- an empty part is no number
-pub number-empty : (s : List ℕ) (a e : ℕ) → e ≤ a → number (part s a e) ≡ none
-unfolding number
-number-empty s a e h = rw (part-nil s a e h)
-
--- a part that begins with 0 is a number if nothing follows
-number-zero : (s : List ℕ) (a e : ℕ) → a < e → e ≤ length s → getD s a 0 ≡ 0x30 → number (part s a e) ≡ when (leb (e - (a + 1)) 0) 0
-unfolding number
-number-zero s a e h k b = rw (part-cons s a e h k, eq-eqb (getD s a 0) 0x30 b, part-length s (a + 1) e k)
-
--- 0 alone is the number 0
-pub number-alone : (s : List ℕ) (a e : ℕ) → a < e → e ≤ length s → getD s a 0 ≡ 0x30 → e - a ≡ 1 → number (part s a e) ≡ some 0
-unfolding when
-number-alone s a e h k b n =
-    let m : e - (a + 1) ≤ 0 = omega arith in
-    rw (number-zero s a e h k b, le-leb (e - (a + 1)) 0 m)
-
--- 0 before another byte: no number
-pub number-leading : (s : List ℕ) (a e : ℕ) → a < e → e ≤ length s → getD s a 0 ≡ 0x30 → (e - a ≡ 1 → ⊥) → number (part s a e) ≡ none
-unfolding when
-number-leading s a e h k b n =
-    let m : 0 < e - (a + 1) = omega arith in
-    rw (number-zero s a e h k b, lt-leb (e - (a + 1)) 0 m)
-
--- any other part is the number that its digits make
-pub number-digits : (s : List ℕ) (a e : ℕ) → a < e → e ≤ length s → (getD s a 0 ≡ 0x30 → ⊥) → number (part s a e) ≡ valued 0 (part s a e)
-unfolding number valued
-number-digits s a e h k b = rw (part-cons s a e h k, ne-eqb (getD s a 0) 0x30 b)
-
--- a byte that is a digit goes into the value
-pub valued-on : (n : ℕ) (s : List ℕ) (i e : ℕ) → i < e → e ≤ length s → is-digit (getD s i 0) ≡ true → valued n (part s i e) ≡ valued (n * 10 + (getD s i 0 - 0x30)) (part s (i + 1) e)
-unfolding valued decimal
-valued-on n s i e h k d = rw (part-cons s i e h k, d)
-
--- a byte that is no digit: no number
-pub valued-bad : (n : ℕ) (s : List ℕ) (i e : ℕ) → i < e → e ≤ length s → is-digit (getD s i 0) ≡ false → valued n (part s i e) ≡ none
-unfolding valued decimal
-valued-bad n s i e h k d = rw (part-cons s i e h k, d)
-
--- a value that is too large stays so
-pub valued-large : (n : ℕ) (l : List ℕ) → 65535 < n → valued n l ≡ none
-unfolding valued decimal when
-valued-large n [] h = rw (lt-leb n 65535 h)
-valued-large n (b ∷ bs) h = go (is-digit b) (valued-large (n * 10 + (b - 0x30)) bs (omega arith))
-  where
-    go : (t : Bool) → valued (n * 10 + (b - 0x30)) bs ≡ none → (cond t (decimal (n * 10 + (b - 0x30)) bs) none >>= λ m. when (leb m 65535) m) ≡ none
-    go true e = e
-    go false e = refl
-
--- no digit is left: the number is the value
-pub valued-end : (n : ℕ) (s : List ℕ) (i e : ℕ) → e ≤ i → n ≤ 65535 → valued n (part s i e) ≡ some n
-unfolding valued decimal when
-valued-end n s i e h k = rw (part-nil s i e h, le-leb n 65535 k)
 
 -- a byte below `0` is no digit
 pub digit-low : (b : ℕ) → b < 0x30 → is-digit b ≡ false
@@ -279,6 +129,22 @@ pub digit-good : (b : ℕ) → 0x30 ≤ b → b ≤ 0x39 → is-digit b ≡ true
 unfolding is-digit
 digit-good b low high = rw (le-leb 0x30 b low, le-leb b 0x39 high)
 
+-- ---- numbers
+
+-- the number that digits make after the value n, if it is not too large
+unfoldable pub valued : ℕ → List ℕ → Option ℕ
+valued n l = decimal n l >>= λ m. when (leb m 65535) m
+
+-- a value that is too large stays so
+pub valued-large : (n : ℕ) (l : List ℕ) → 65535 < n → valued n l ≡ none
+unfolding valued decimal when
+valued-large n [] h = rw (lt-leb n 65535 h)
+valued-large n (b ∷ bs) h = go (is-digit b) (decimal (n * 10 + (b - 0x30)) bs) (valued-large (n * 10 + (b - 0x30)) bs (omega arith))
+  where
+    go : (t : Bool) (o : Option ℕ) → (o >>= λ m. when (leb m 65535) m) ≡ none → (cond t o none >>= λ m. when (leb m 65535) m) ≡ none
+    go true o e = e
+    go false o e = refl
+
 -- an answer that is a value is of a number
 decimal-some : (o : Option ℕ) (v : ℕ) → as-decimal o ≡ answer.Value v → o ≡ some v
 unfolding as-decimal
@@ -290,6 +156,126 @@ decimal-none : (o : Option ℕ) → as-decimal o ≡ answer.Nothing → o ≡ no
 unfolding as-decimal
 decimal-none none h = refl
 decimal-none (some n) h = cc
+
+-- ---- a part from i up to e with bytes left: what the byte at i says
+
+module _ (s : List ℕ) (i e : ℕ) (h : i < e) (k : e ≤ length s) where
+  -- the part begins with the byte
+  pub part-cons : part s i e ≡ getD s i 0 ∷ part s (i + 1) e
+  part-cons =
+      let n : e - i ≡ suc (e - (i + 1)) = omega arith in
+      rw (n, drop-cons s i 0 (omega arith), add-one i)
+
+  -- the byte is the mark: it is found
+  pub mark-here : (mark : ℕ) → getD s i 0 ≡ mark → mark-at mark s i e ≡ i
+  unfolding mark-at before
+  mark-here mark b = rw (part-cons, eq-eqb (getD s i 0) mark b) (omega arith)
+
+  -- the byte is not the mark: the search goes on
+  pub mark-on : (mark : ℕ) → (getD s i 0 ≡ mark → ⊥) → mark-at mark s i e ≡ mark-at mark s (i + 1) e
+  unfolding mark-at before
+  mark-on mark b = rw (part-cons, ne-eqb (getD s i 0) mark b) (omega arith)
+
+  -- the byte is a comma: one field more than after it
+  pub count-comma : getD s i 0 ≡ 0x2c → length (fields (part s i e)) ≡ 1 + length (fields (part s (i + 1) e))
+  count-comma b = rw (part-cons, fields-cons (getD s i 0) (part s (i + 1) e), eq-eqb (getD s i 0) 0x2c b)
+
+  -- the byte is no comma: as many fields as after it
+  pub count-on : (getD s i 0 ≡ 0x2c → ⊥) → length (fields (part s i e)) ≡ length (fields (part s (i + 1) e))
+  count-on b = rw (part-cons, fields-cons (getD s i 0) (part s (i + 1) e), ne-eqb (getD s i 0) 0x2c b) (omega arith)
+
+  -- the byte fails the test: the part does
+  pub all-bad : (test : ℕ → Bool) → test (getD s i 0) ≡ false → all test (part s i e) ≡ false
+  unfolding all
+  all-bad test b = rw (part-cons, b)
+
+  -- the byte passes the test: the others decide
+  pub all-on : (test : ℕ → Bool) → test (getD s i 0) ≡ true → all test (part s i e) ≡ all test (part s (i + 1) e)
+  unfolding all
+  all-on test b = rw (part-cons, b)
+
+  -- the byte is `0`: the part is a number if nothing follows
+  number-zero : getD s i 0 ≡ 0x30 → number (part s i e) ≡ when (leb (e - (i + 1)) 0) 0
+  unfolding number
+  number-zero b = rw (part-cons, eq-eqb (getD s i 0) 0x30 b, part-length s (i + 1) e k)
+
+  -- `0` alone is the number 0
+  pub number-alone : getD s i 0 ≡ 0x30 → e - i ≡ 1 → number (part s i e) ≡ some 0
+  unfolding when
+  number-alone b n = rw (number-zero b, le-leb (e - (i + 1)) 0 (omega arith))
+
+  -- `0` before another byte: no number
+  pub number-leading : getD s i 0 ≡ 0x30 → (e - i ≡ 1 → ⊥) → number (part s i e) ≡ none
+  unfolding when
+  number-leading b n = rw (number-zero b, lt-leb (e - (i + 1)) 0 (omega arith))
+
+  -- the byte is not `0`: the part is the number that its digits make
+  pub number-digits : (getD s i 0 ≡ 0x30 → ⊥) → number (part s i e) ≡ valued 0 (part s i e)
+  unfolding number valued
+  number-digits b = rw (part-cons, ne-eqb (getD s i 0) 0x30 b)
+
+  -- the byte is a digit: it goes into the value
+  pub valued-on : (n : ℕ) → is-digit (getD s i 0) ≡ true
+      → valued n (part s i e) ≡ valued (n * 10 + (getD s i 0 - 0x30)) (part s (i + 1) e)
+  unfolding valued decimal
+  valued-on n d = rw (part-cons, d)
+
+  -- the byte is no digit: no number
+  pub valued-bad : (n : ℕ) → is-digit (getD s i 0) ≡ false → valued n (part s i e) ≡ none
+  unfolding valued decimal
+  valued-bad n d = rw (part-cons, d)
+
+-- ---- a part from i up to e with no byte left
+
+module _ (s : List ℕ) (i e : ℕ) (h : e ≤ i) where
+  -- the part is empty
+  pub part-nil : part s i e ≡ []
+  part-nil =
+      let n : e - i ≡ 0 = omega arith in
+      rw n
+
+  -- the search for a mark is at its end
+  pub mark-end : (mark : ℕ) → i ≤ e → mark-at mark s i e ≡ e
+  unfolding mark-at before
+  mark-end mark k = rw part-nil (omega arith)
+
+  -- one field is left, the empty one
+  pub count-end : length (fields (part s i e)) ≡ 1
+  unfolding fields
+  count-end = rw part-nil
+
+  -- the part is no name
+  pub name-empty : is-name (part s i e) ≡ false
+  unfolding is-name
+  name-empty = rw part-nil
+
+  -- every byte passes a test
+  pub all-end : (test : ℕ → Bool) → all test (part s i e) ≡ true
+  unfolding all
+  all-end test = rw part-nil
+
+  -- the part is no number
+  pub number-empty : number (part s i e) ≡ none
+  unfolding number
+  number-empty = rw part-nil
+
+  -- the number is the value so far
+  pub valued-end : (n : ℕ) → n ≤ 65535 → valued n (part s i e) ≡ some n
+  unfolding valued decimal when
+  valued-end n k = rw (part-nil, le-leb n 65535 k)
+
+-- ---- a name's length
+
+-- a part of more than 255 bytes is no name
+pub name-long : (s : List ℕ) (a e : ℕ) → e ≤ length s → 255 < e - a → is-name (part s a e) ≡ false
+unfolding is-name
+name-long s a e k h = rw (part-length s a e k, lt-leb (e - a) 255 h, and-false)
+
+-- a part of 1 to 255 bytes is a name if each byte may stand in one
+pub name-bytes : (s : List ℕ) (a e : ℕ) → e ≤ length s → a < e → e - a ≤ 255
+    → is-name (part s a e) ≡ all is-name-byte (part s a e)
+unfolding is-name
+name-bytes s a e k h m = rw (part-length s a e k, le-leb 1 (e - a) (omega arith), le-leb (e - a) 255 m)
 
 -- ---- byte order
 
@@ -392,15 +378,17 @@ module _ (s t : List ℕ) (p e q f : ℕ) where
         (lt-leb (getD s p 0) (getD t q 0) d)
 
     -- the bytes are equal: on with the next two positions
-    pub order-on : (p′ q′ : ℕ) → p′ ≡ p + 1 → q′ ≡ q + 1 → getD s p 0 ≡ getD t q 0 → order (part s p e) (part t q f) ≡ order (part s p′ e) (part t q′ f)
+    pub order-on : (p′ q′ : ℕ) → p′ ≡ p + 1 → q′ ≡ q + 1 → getD s p 0 ≡ getD t q 0
+        → order (part s p e) (part t q f) ≡ order (part s p′ e) (part t q′ f)
     order-on p′ q′ x y d =
         rw (x, y)
         (order-cons
         ∙ by-equal (compare (getD s p 0) (getD t q 0)) (order (part s (p + 1) e) (part t (q + 1) f))
         (eq-eqb (getD s p 0) (getD t q 0) d))
 
-    -- the same of whether the parts are the same
-    pub same-on : (p′ q′ : ℕ) → p′ ≡ p + 1 → q′ ≡ q + 1 → getD s p 0 ≡ getD t q 0 → same (part s p e) (part t q f) ≡ same (part s p′ e) (part t q′ f)
+    -- the bytes are equal: whether the parts are the same is said by the next two positions
+    pub same-on : (p′ q′ : ℕ) → p′ ≡ p + 1 → q′ ≡ q + 1 → getD s p 0 ≡ getD t q 0
+        → same (part s p e) (part t q f) ≡ same (part s p′ e) (part t q′ f)
     unfolding same
     same-on p′ q′ x y d = ap is-same (order-on p′ q′ x y d)
 
@@ -415,61 +403,81 @@ module _ (s t : List ℕ) (p e q f : ℕ) where
 -- a part with too few bytes does not begin with the word
 pub starts-short : (s : List ℕ) (a e : ℕ) (word : Name) → e ≤ length s → e - a < length word → starts-with (part s a e) word ≡ false
 unfolding starts-with
-starts-short s a e word k h = same-lengths (take (length word) (part s a e)) word (rw (length-take, part-length s a e k) (λ d. omega arith))
+starts-short s a e word k h =
+    same-lengths (take (length word) (part s a e)) word (rw (length-take, part-length s a e k) (λ d. omega arith))
 
 -- a part with bytes enough begins with the word if its first bytes are the word
-pub starts-part : (s : List ℕ) (a e : ℕ) (word : Name) → a + length word ≤ e → starts-with (part s a e) word ≡ same (part s a (a + length word)) word
+pub starts-part : (s : List ℕ) (a e : ℕ) (word : Name) → a + length word ≤ e
+    → starts-with (part s a e) word ≡ same (part s a (a + length word)) word
 unfolding starts-with
 starts-part s a e word h = rw (part-take s a e (length word) h)
 
 -- a part with too few bytes does not end with the word
 pub ends-short : (s : List ℕ) (a e : ℕ) (word : Name) → e ≤ length s → e - a < length word → ends-with (part s a e) word ≡ false
 unfolding ends-with
-ends-short s a e word k h = same-lengths (drop (length (part s a e) - length word) (part s a e)) word (rw (length-drop, part-length s a e k) (λ d. omega arith))
+ends-short s a e word k h =
+    same-lengths (drop (length (part s a e) - length word) (part s a e)) word
+    (rw (length-drop, part-length s a e k) (λ d. omega arith))
 
 -- a part with bytes enough ends with the word if its last bytes are the word
-pub ends-part : (s : List ℕ) (a e : ℕ) (word : Name) → e ≤ length s → a ≤ e → length word ≤ e - a → ends-with (part s a e) word ≡ same (part s (e - length word) e) word
+pub ends-part : (s : List ℕ) (a e : ℕ) (word : Name) → e ≤ length s → a ≤ e → length word ≤ e - a
+    → ends-with (part s a e) word ≡ same (part s (e - length word) e) word
 unfolding ends-with
 ends-part s a e word k h l =
     let n : a + (e - a - length word) ≡ e - length word = omega arith in
     rw (part-length s a e k, part-drop s a e (e - a - length word), n)
 
--- ---- what stands from a position on
+-- ---- the first mark in a part
 
--- the search for a mark in a part does not go back
-pub mark-from : (mark : ℕ) (s : List ℕ) (at e : ℕ) → at ≤ mark-at mark s at e
+-- no more bytes stand before the mark than there are
+before-le : (mark : ℕ) (l : List ℕ) → before mark l ≤ length l
+unfolding before
+before-le mark [] = omega arith
+before-le mark (b ∷ bs) = go (eqb b mark) (before-le mark bs)
+  where
+    go : (t : Bool) → before mark bs ≤ length bs → cond t 0 (1 + before mark bs) ≤ suc (length bs)
+    go true h = omega arith
+    go false h = omega arith
+
+-- the first mark, at m, is not before the part
+pub mark-from : (m mark : ℕ) (s : List ℕ) (at e : ℕ) → m ≡ mark-at mark s at e → at ≤ m
 unfolding mark-at
-mark-from mark s at e = omega arith
+mark-from m mark s at e d = omega arith
 
--- and does not leave the part
-pub mark-to : (mark : ℕ) (s : List ℕ) (at e : ℕ) → at ≤ e → e ≤ length s → mark-at mark s at e ≤ e
+-- the first mark, at m, is not after the part's end
+pub mark-to : (m mark : ℕ) (s : List ℕ) (at e : ℕ) → m ≡ mark-at mark s at e → at ≤ e → e ≤ length s → m ≤ e
 unfolding mark-at
-mark-to mark s at e h k = omega (arith, before-le mark (part s at e), part-length s at e k)
+mark-to m mark s at e d h k = omega (arith, before-le mark (part s at e), part-length s at e k)
 
--- the bytes of a part before the first mark
-mark-front : (mark : ℕ) (s : List ℕ) (at e : ℕ) → at ≤ e → e ≤ length s → take (before mark (part s at e)) (part s at e) ≡ part s at (mark-at mark s at e)
-unfolding mark-at
-mark-front mark s at e h k = part-take s at e (before mark (part s at e)) (omega (arith, before-le mark (part s at e), part-length s at e k))
-
--- the bytes of a part from the first mark on
+-- the bytes from the mark on
 mark-back : (mark : ℕ) (s : List ℕ) (at e : ℕ) → drop (before mark (part s at e)) (part s at e) ≡ part s (mark-at mark s at e) e
 unfolding mark-at
 mark-back mark s at e = part-drop s at e (before mark (part s at e))
 
+-- the bytes before the mark
+mark-front : (mark : ℕ) (s : List ℕ) (at e : ℕ) → at ≤ e → e ≤ length s
+    → take (before mark (part s at e)) (part s at e) ≡ part s at (mark-at mark s at e)
+unfolding mark-at
+mark-front mark s at e h k =
+    part-take s at e (before mark (part s at e)) (omega (arith, before-le mark (part s at e), part-length s at e k))
+
 -- the fields after the comma at m, if m is not the end
-after-part : (s : List ℕ) (m e : ℕ) → m ≤ e → e ≤ length s → fields-after (part s m e) ≡ cond (leb (m + 1) e) (fields (part s (m + 1) e)) []
+after-part : (s : List ℕ) (m e : ℕ) → e ≤ length s
+    → fields-after (part s m e) ≡ cond (leb (m + 1) e) (fields (part s (m + 1) e)) []
 unfolding fields-after
-after-part s m e h k = go (leb (m + 1) e) refl
+after-part s m e k = go (leb (m + 1) e) refl
   where
     go : (t : Bool) → leb (m + 1) e ≡ t → fields-after (part s m e) ≡ cond t (fields (part s (m + 1) e)) []
     go true d = rw (part-cons s m e (omega (arith, leb-true (m + 1) e d)) k)
     go false d = rw (part-nil s m e (omega (arith, leb-false (m + 1) e d)))
 
--- the fields of a part: the bytes up to the first comma, then the fields after it
-fields-part : (s : List ℕ) (at e : ℕ) → at ≤ e → e ≤ length s
-    → fields (part s at e) ≡ part s at (mark-at 0x2c s at e) ∷ cond (leb (mark-at 0x2c s at e + 1) e) (fields (part s (mark-at 0x2c s at e + 1) e)) []
-fields-part s at e h k =
-    rw (fields-split (part s at e), mark-front 0x2c s at e h k, mark-back 0x2c s at e, after-part s (mark-at 0x2c s at e) e (mark-to 0x2c s at e h k) k)
+-- the fields of a part: the bytes up to the comma at m, then the fields after it
+fields-part : (s : List ℕ) (at e m : ℕ) → at ≤ e → e ≤ length s → m ≡ mark-at 0x2c s at e
+    → fields (part s at e) ≡ part s at m ∷ cond (leb (m + 1) e) (fields (part s (m + 1) e)) []
+fields-part s at e m h k d =
+    rw (d, fields-split (part s at e), mark-front 0x2c s at e h k, mark-back 0x2c s at e, after-part s (mark-at 0x2c s at e) e k)
+
+-- ---- lines
 
 -- whether a list has an element
 some-left : List ℕ → Bool
@@ -492,36 +500,34 @@ lines-split (b ∷ bs) h = go bs (eqb b 0x0a) (lines-split bs)
     go [] false more = refl
     go (c ∷ cs) false more = rw (more (suc-le-suc zero-le), one-add (before 0x0a (c ∷ cs)))
 
--- the part from a position to the end of the list
-part-rest : (s : List ℕ) (at : ℕ) → part s at (length s) ≡ drop at s
-part-rest s at = take-all (length s - at) (drop at s) (rw (length-drop) (omega arith))
-
--- the lines from a position on: the bytes up to the first 0A, and the lines after it
+-- the lines from a position on: the bytes up to the 0A at e, and the lines after it
 lines-part : (s : List ℕ) (at e : ℕ) → at < length s → e ≡ mark-at 0x0a s at (length s)
     → lines (drop at s) ≡ record { bytes = part s at e; ended = some-left (part s e (length s)) } ∷ lines (drop (e + 1) s)
 unfolding lines-at
-lines-part s at e h m =
+lines-part s at e h d =
+    let m = mark-at 0x0a s at (length s) in
     ap lines (sym (part-rest s at))
     ∙ lines-split (part s at (length s)) (rw (part-length s at (length s) (omega arith)) (omega arith))
-    ∙ rw (
-      m,
-      mark-front 0x0a s at (length s) (omega arith) (omega arith),
-      mark-back 0x0a s at (length s),
-      part-rest s (mark-at 0x0a s at (length s)),
-      drop-drop 1 (mark-at 0x0a s at (length s)) s,
-    )
+    ∙ rw (d, mark-front 0x0a s at (length s) (omega arith) (omega arith), mark-back 0x0a s at (length s), part-rest s m, drop-drop 1 m s)
 
 -- a line that a 0A ends, at e
 pub line-ended : (s : List ℕ) (at e : ℕ) → at < length s → e ≡ mark-at 0x0a s at (length s) → e < length s
     → lines (drop at s) ≡ record { bytes = part s at e; ended = true } ∷ lines (drop (e + 1) s)
 unfolding some-left
-line-ended s at e h m k = lines-part s at e h m ∙ rw (part-cons s e (length s) k (omega arith))
+line-ended s at e h d k = lines-part s at e h d ∙ rw (part-cons s e (length s) k (omega arith))
 
 -- the last line, that no 0A ends
 pub line-last : (s : List ℕ) (at e : ℕ) → at < length s → e ≡ mark-at 0x0a s at (length s) → e ≡ length s
     → lines (drop at s) ≡ record { bytes = part s at e; ended = false } ∷ []
 unfolding some-left lines
-line-last s at e h m k = lines-part s at e h m ∙ rw (part-nil s e (length s) (omega arith), drop-of-length-le s {i = e + 1} (omega arith))
+line-last s at e h d k =
+    lines-part s at e h d
+    ∙ rw (part-nil s e (length s) (omega arith), drop-of-length-le s {i = e + 1} (omega arith))
+
+-- no line is left
+pub line-none : (s : List ℕ) (at : ℕ) → length s ≤ at → lines (drop at s) ≡ []
+unfolding lines
+line-none s at h = rw (drop-of-length-le s {i = at} h)
 
 -- ---- cursors
 
@@ -530,34 +536,35 @@ pub field-none : (s : List ℕ) (c : Cursor) → c .end < c .at → field-at s c
 unfolding field-at
 field-none s c h = rw (lt-leb (c .at) (c .end) h)
 
--- any other cursor has a field, up to m
+-- a cursor that is not past its end has a field, up to m
 pub field-some : (s : List ℕ) (c : Cursor) (m : ℕ) → c .at ≤ c .end → m ≡ mark-at 0x2c s (c .at) (c .end)
     → field-at s c ≡ field.Part (c .at) m (record { at = m + 1; end = c .end })
 unfolding field-at
 field-some s c m h k = rw (k, le-leb (c .at) (c .end) h)
 
--- the next field, and the fields after it
-pub field-law : (s : List ℕ) (c : Cursor) → Placed s c → field-result s (field-at s c) ≡ next ok (fields-left s c)
-unfolding field-result next fields-left
-field-law s c p = go (leb (c .at) (c .end)) refl
-  where
-    go : (t : Bool) → leb (c .at) (c .end) ≡ t → field-result s (field-at s c) ≡ next ok (cond t (fields (part s (c .at) (c .end))) [])
-    go true d =
-        let h = leb-true (c .at) (c .end) d in
-        rw (field-some s c (mark-at 0x2c s (c .at) (c .end)) h refl, fields-part s (c .at) (c .end) h (p .inside))
-    go false d = rw (field-none s c (leb-false (c .at) (c .end) d))
+-- a cursor past its end has no fields left
+pub left-none : (s : List ℕ) (c : Cursor) → c .end < c .at → fields-left s c ≡ []
+unfolding fields-left
+left-none s c h = rw (lt-leb (c .at) (c .end) h)
 
--- where no field is answered, no name and no number is
+-- a cursor that is not past its end has the fields of the part before it left
+pub left-some : (s : List ℕ) (c : Cursor) → c .at ≤ c .end → fields-left s c ≡ fields (part s (c .at) (c .end))
+unfolding fields-left
+left-some s c h = rw (le-leb (c .at) (c .end) h)
+
+-- no field is answered
 module _ (s : List ℕ) (c : Cursor) (r : Refusal) (h : field-at s c ≡ field.Refused r) where
+  -- no name is answered
   pub name-refused : name-at s c ≡ field.Refused r
   unfolding name-at as-name
   name-refused = rw h
 
+  -- no number is answered
   pub number-refused : (limit : ℕ) → number-at limit s c ≡ numbered.Refused r
   unfolding number-at as-number
   number-refused limit = rw h
 
--- where a field is answered, the test of its bytes decides
+-- a field is answered: its bytes decide
 module _ (s : List ℕ) (c : Cursor) (a e : ℕ) (n : Cursor) (h : field-at s c ≡ field.Part a e n) where
   -- a field that is a name
   pub name-good : true ≡ is-name (part s a e) → name-at s c ≡ field.Part a e n
@@ -575,29 +582,32 @@ module _ (s : List ℕ) (c : Cursor) (a e : ℕ) (n : Cursor) (h : field-at s c 
   number-none limit d = rw (h, decimal-none (number (part s a e)) d)
 
   -- a field that is a number of at most `limit`
-  pub number-good : (limit v : ℕ) → as-decimal (number (part s a e)) ≡ answer.Value v → v ≤ limit → number-at limit s c ≡ numbered.Number v n
+  pub number-good : (limit v : ℕ) → as-decimal (number (part s a e)) ≡ answer.Value v → v ≤ limit
+      → number-at limit s c ≡ numbered.Number v n
   unfolding number-at as-number at-most
   number-good limit v d k = rw (h, decimal-some (number (part s a e)) v d, le-leb v limit k)
 
   -- a field that is a larger number
-  pub number-over : (limit v : ℕ) → as-decimal (number (part s a e)) ≡ answer.Value v → limit < v → number-at limit s c ≡ numbered.Refused refusal.Number
+  pub number-over : (limit v : ℕ) → as-decimal (number (part s a e)) ≡ answer.Value v → limit < v
+      → number-at limit s c ≡ numbered.Refused refusal.Number
   unfolding number-at as-number at-most
   number-over limit v d k = rw (h, decimal-some (number (part s a e)) v d, lt-leb v limit k)
 
--- where no number is answered, no term is
-pub term-refused : (count : ℕ) (s : List ℕ) (c : Cursor) (r : Refusal) → number-at 65535 s c ≡ numbered.Refused r → term-at count s c ≡ numbered.Refused r
-unfolding term-at as-term
-term-refused count s c r h = rw h
+module _ (count : ℕ) (s : List ℕ) (c : Cursor) where
+  -- where no number is answered, no term is
+  pub term-refused : (r : Refusal) → number-at 65535 s c ≡ numbered.Refused r → term-at count s c ≡ numbered.Refused r
+  unfolding term-at as-term
+  term-refused r h = rw h
 
--- a number below `count` is a term
-pub term-good : (count : ℕ) (s : List ℕ) (c : Cursor) (v : ℕ) (n : Cursor) → number-at 65535 s c ≡ numbered.Number v n → v < count → term-at count s c ≡ numbered.Number v n
-unfolding term-at as-term
-term-good count s c v n h k = rw (h, lt-ltb v count k)
+  -- a number below `count` is a term
+  pub term-good : (v : ℕ) (n : Cursor) → number-at 65535 s c ≡ numbered.Number v n → v < count → term-at count s c ≡ numbered.Number v n
+  unfolding term-at as-term
+  term-good v n h k = rw (h, lt-ltb v count k)
 
--- any other number is not
-pub term-over : (count : ℕ) (s : List ℕ) (c : Cursor) (v : ℕ) (n : Cursor) → number-at 65535 s c ≡ numbered.Number v n → count ≤ v → term-at count s c ≡ numbered.Refused refusal.Term
-unfolding term-at as-term
-term-over count s c v n h k = rw (h, le-ltb v count k)
+  -- a number from `count` on is no term
+  pub term-over : (v : ℕ) (n : Cursor) → number-at 65535 s c ≡ numbered.Number v n → count ≤ v → term-at count s c ≡ numbered.Refused refusal.Term
+  unfolding term-at as-term
+  term-over v n h k = rw (h, le-ltb v count k)
 
 -- a function of a choice is the choice of what it gives
 choice : {A B : Type 0} (f : A → B) (t : Bool) (x y : A) → f (cond t x y) ≡ cond t (f x) (f y)
@@ -630,12 +640,15 @@ as-name-law s (field.Part a e n) =
     ∙ sym (choice (with-rest (fields-left s n)) t (ok (part s a e)) (refused refusal.Name))
 
 -- a field taken for a number
-as-number-law : (limit : ℕ) (s : List ℕ) (step : FieldStep) → number-result s (as-number limit s step) ≡ judged (number-field limit) (field-result s step)
+as-number-law : (limit : ℕ) (s : List ℕ) (step : FieldStep)
+    → number-result s (as-number limit s step) ≡ judged (number-field limit) (field-result s step)
 unfolding field-result number-result as-number at-most judged with-rest number-field need
 as-number-law limit s (field.Refused r) = refl
 as-number-law limit s (field.Part a e n) = go (number (part s a e))
   where
-    go : (o : Option ℕ) → number-result s (at-most limit n o) ≡ with-rest (fields-left s n) (need refusal.Number o >>=ᴿ λ m. cond (leb m limit) (ok m) (refused refusal.Number))
+    go : (o : Option ℕ)
+        → number-result s (at-most limit n o)
+        ≡ with-rest (fields-left s n) (need refusal.Number o >>=ᴿ λ m. cond (leb m limit) (ok m) (refused refusal.Number))
     go none = refl
     go (some m) =
         choice (number-result s) (leb m limit) (numbered.Number m n) (numbered.Refused refusal.Number)
@@ -658,31 +671,46 @@ unfolding narrowed judged with-rest term-field
 term-judged count (refused r) = refl
 term-judged count (ok f) = go (number-field 65535 (f .0))
   where
-    go : (v : Result ℕ) → narrowed count (with-rest (f .1) v) ≡ with-rest (f .1) (v >>=ᴿ λ n. cond (ltb n count) (ok n) (refused refusal.Term))
+    go : (v : Result ℕ)
+        → narrowed count (with-rest (f .1) v)
+        ≡ with-rest (f .1) (v >>=ᴿ λ n. cond (ltb n count) (ok n) (refused refusal.Term))
     go (refused r) = refl
     go (ok n) = sym (choice (with-rest (f .1)) (ltb n count) (ok n) (refused refusal.Term))
 
--- the next field, a name, and the fields after it
-pub name-law : (s : List ℕ) (c : Cursor) → Placed s c → field-result s (name-at s c) ≡ next name-field (fields-left s c)
-unfolding name-at
-name-law s c p = as-name-law s (field-at s c) ∙ ap (judged name-field) (field-law s c p) ∙ sym (next-judged name-field (fields-left s c))
+module _ (s : List ℕ) (c : Cursor) (p : Placed s c) where
+  -- the next field, and the fields after it
+  pub field-law : field-result s (field-at s c) ≡ next ok (fields-left s c)
+  unfolding field-result next fields-left
+  field-law = go (leb (c .at) (c .end)) refl
+    where
+      go : (t : Bool) → leb (c .at) (c .end) ≡ t → field-result s (field-at s c) ≡ next ok (cond t (fields (part s (c .at) (c .end))) [])
+      go true d =
+          let h = leb-true (c .at) (c .end) d in
+          let m = mark-at 0x2c s (c .at) (c .end) in
+          rw (field-some s c m h refl, fields-part s (c .at) (c .end) m h (p .inside) refl)
+      go false d = rw (field-none s c (leb-false (c .at) (c .end) d))
 
--- the next field, a number, and the fields after it
-pub number-law : (limit : ℕ) (s : List ℕ) (c : Cursor) → Placed s c → number-result s (number-at limit s c) ≡ next (number-field limit) (fields-left s c)
-unfolding number-at
-number-law limit s c p =
-    as-number-law limit s (field-at s c)
-    ∙ ap (judged (number-field limit)) (field-law s c p)
-    ∙ sym (next-judged (number-field limit) (fields-left s c))
+  -- the next field, a name, and the fields after it
+  pub name-law : field-result s (name-at s c) ≡ next name-field (fields-left s c)
+  unfolding name-at
+  name-law = as-name-law s (field-at s c) ∙ ap (judged name-field) (field-law) ∙ sym (next-judged name-field (fields-left s c))
 
--- the next field, a term, and the fields after it
-pub term-law : (count : ℕ) (s : List ℕ) (c : Cursor) → Placed s c → number-result s (term-at count s c) ≡ next (term-field count) (fields-left s c)
-unfolding term-at
-term-law count s c p =
-    as-term-law count s (number-at 65535 s c)
-    ∙ ap (narrowed count) (number-law 65535 s c p ∙ next-judged (number-field 65535) (fields-left s c))
-    ∙ term-judged count (next ok (fields-left s c))
-    ∙ sym (next-judged (term-field count) (fields-left s c))
+  -- the next field, a number, and the fields after it
+  pub number-law : (limit : ℕ) → number-result s (number-at limit s c) ≡ next (number-field limit) (fields-left s c)
+  unfolding number-at
+  number-law limit =
+      as-number-law limit s (field-at s c)
+      ∙ ap (judged (number-field limit)) (field-law)
+      ∙ sym (next-judged (number-field limit) (fields-left s c))
+
+  -- the next field, a term, and the fields after it
+  pub term-law : (count : ℕ) → number-result s (term-at count s c) ≡ next (term-field count) (fields-left s c)
+  unfolding term-at
+  term-law count =
+      as-term-law count s (number-at 65535 s c)
+      ∙ ap (narrowed count) (number-law 65535 ∙ next-judged (number-field 65535) (fields-left s c))
+      ∙ term-judged count (next ok (fields-left s c))
+      ∙ sym (next-judged (term-field count) (fields-left s c))
 
 -- ---- what a step of a cursor answers
 
@@ -714,25 +742,9 @@ chosen : {A : Type 0} (t : Bool) (x y z : A) → (y ≡ z → ⊥) → cond t x 
 chosen true x y z other h = (refl, h)
 chosen false x y z other h = absurd (other h)
 
--- a field that is answered was read
-pub field-next : (s : List ℕ) (c : Cursor) (a e : ℕ) (n : Cursor) → Placed s c → field-at s c ≡ field.Part a e n → Stepped s c a e n
-field-next s c a e n p h = go (leb (c .at) (c .end)) refl
-  where
-    go : (t : Bool) → leb (c .at) (c .end) ≡ t → Stepped s c a e n
-    go true d =
-        let k = leb-true (c .at) (c .end) d in
-        let m = mark-at 0x2c s (c .at) (c .end) in
-        let w = field-some s c m k refl in
-        let x : c .at ≡ a = cc in
-        let y : m ≡ e = cc in
-        let z : record { at = m + 1; end = c .end } ≡ n = cc in
-        let u = ap (λ (q : Cursor). q .at) z in
-        let v = ap (λ (q : Cursor). q .end) z in
-        omega (arith, mark-from 0x2c s (c .at) (c .end), mark-to 0x2c s (c .at) (c .end) k (p .inside))
-    go false d = absurd (field-apart refusal.Form a e n (sym (field-none s c (leb-false (c .at) (c .end) d)) ∙ h))
-
 -- a name that is answered is a field that was answered, and is a name
-as-name-part : (s : List ℕ) (step : FieldStep) (a e : ℕ) (n : Cursor) → as-name s step ≡ field.Part a e n → (step ≡ field.Part a e n) × (is-name (part s a e) ≡ true)
+as-name-part : (s : List ℕ) (step : FieldStep) (a e : ℕ) (n : Cursor) → as-name s step ≡ field.Part a e n
+    → (step ≡ field.Part a e n) × (is-name (part s a e) ≡ true)
 unfolding as-name
 as-name-part s (field.Refused r) a e n h = absurd (field-apart r a e n h)
 as-name-part s (field.Part a′ e′ n′) a e n h =
@@ -740,13 +752,6 @@ as-name-part s (field.Part a′ e′ n′) a e n h =
     let x : a′ ≡ a = cc in
     let y : e′ ≡ e = cc in
     (k, rw (← x, ← y) d)
-
--- a name that is answered was read, and is a name
-pub name-next : (s : List ℕ) (c : Cursor) (a e : ℕ) (n : Cursor) → Placed s c → name-at s c ≡ field.Part a e n → Stepped s c a e n × (is-name (part s a e) ≡ true)
-unfolding name-at
-name-next s c a e n p h =
-    let (k, d) = as-name-part s (field-at s c) a e n h in
-    (field-next s c a e n p k, d)
 
 -- a number that is answered is that of a field that was answered, and at most `limit`
 as-number-part : (limit : ℕ) (s : List ℕ) (step : FieldStep) (v : ℕ) (n : Cursor) → as-number limit s step ≡ numbered.Number v n
@@ -764,15 +769,9 @@ as-number-part limit s (field.Part a e n′) v n h =
         let x : m ≡ v = cc in
         (cc, omega (arith, leb-true m limit d))
 
--- a number that is answered is at most `limit`, and the next cursor stands further on
-pub number-next : (limit : ℕ) (s : List ℕ) (c : Cursor) (v : ℕ) (n : Cursor) → Placed s c → number-at limit s c ≡ numbered.Number v n → Onward s c n × (v ≤ limit)
-unfolding number-at
-number-next limit s c v n p h =
-    let (a, e, k, l) = as-number-part limit s (field-at s c) v n h in
-    (field-next s c a e n p k .onward, l)
-
 -- a term that is answered is a number that was answered, and below `count`
-as-term-part : (count : ℕ) (step : NumberStep) (v : ℕ) (n : Cursor) → as-term count step ≡ numbered.Number v n → (step ≡ numbered.Number v n) × (v < count)
+as-term-part : (count : ℕ) (step : NumberStep) (v : ℕ) (n : Cursor) → as-term count step ≡ numbered.Number v n
+    → (step ≡ numbered.Number v n) × (v < count)
 unfolding as-term
 as-term-part count (numbered.Refused r) v n h = absurd (number-apart r v n h)
 as-term-part count (numbered.Number m n′) v n h =
@@ -780,9 +779,41 @@ as-term-part count (numbered.Number m n′) v n h =
     let x : m ≡ v = cc in
     (k, omega (arith, ltb-true m count d))
 
--- a term that is answered is below `count`, and the next cursor stands further on
-pub term-next : (count : ℕ) (s : List ℕ) (c : Cursor) (v : ℕ) (n : Cursor) → Placed s c → term-at count s c ≡ numbered.Number v n → Onward s c n × (v < count)
-unfolding term-at
-term-next count s c v n p h =
-    let (k, l) = as-term-part count (number-at 65535 s c) v n h in
-    (number-next 65535 s c v n p k .0, l)
+module _ (s : List ℕ) (c : Cursor) (p : Placed s c) where
+  -- a field that is answered was read
+  pub field-next : (a e : ℕ) (n : Cursor) → field-at s c ≡ field.Part a e n → Stepped s c a e n
+  field-next a e n h = go (leb (c .at) (c .end)) refl
+    where
+      go : (t : Bool) → leb (c .at) (c .end) ≡ t → Stepped s c a e n
+      go true d =
+          let k = leb-true (c .at) (c .end) d in
+          let m = mark-at 0x2c s (c .at) (c .end) in
+          let w = field-some s c m k refl in
+          let x : c .at ≡ a = cc in
+          let y : m ≡ e = cc in
+          let z : record { at = m + 1; end = c .end } ≡ n = cc in
+          let u = ap (λ (q : Cursor). q .at) z in
+          let v = ap (λ (q : Cursor). q .end) z in
+          omega (arith, mark-from m 0x2c s (c .at) (c .end) refl, mark-to m 0x2c s (c .at) (c .end) refl k (p .inside))
+      go false d = absurd (field-apart refusal.Form a e n (sym (field-none s c (leb-false (c .at) (c .end) d)) ∙ h))
+
+  -- a name that is answered was read, and is a name
+  pub name-next : (a e : ℕ) (n : Cursor) → name-at s c ≡ field.Part a e n → Stepped s c a e n × (is-name (part s a e) ≡ true)
+  unfolding name-at
+  name-next a e n h =
+      let (k, d) = as-name-part s (field-at s c) a e n h in
+      (field-next a e n k, d)
+
+  -- a number that is answered is at most `limit`, and the next cursor stands further on
+  pub number-next : (limit v : ℕ) (n : Cursor) → number-at limit s c ≡ numbered.Number v n → Onward s c n × (v ≤ limit)
+  unfolding number-at
+  number-next limit v n h =
+      let (a, e, k, l) = as-number-part limit s (field-at s c) v n h in
+      (field-next a e n k .onward, l)
+
+  -- a term that is answered is below `count`, and the next cursor stands further on
+  pub term-next : (count v : ℕ) (n : Cursor) → term-at count s c ≡ numbered.Number v n → Onward s c n × (v < count)
+  unfolding term-at
+  term-next count v n h =
+      let (k, l) = as-term-part count (number-at 65535 s c) v n h in
+      (number-next 65535 v n k .0, l)

@@ -1,6 +1,6 @@
--- `text::count_fields` meets its contract. The loop's invariant: the fields counted, but the one that is begun, and the fields from `i` on are the fields of the part.
+-- `text::count_fields` meets its contract. The loop's invariant: the count, and the fields from `i` on, are one more than the fields of the part.
 use Prim.Native.Nat.{_≤_, _+_, _-_}
-use mathlib.Core.Path.{_≡_, refl, sym, _∙_}
+use mathlib.Core.Path.{_≡_, refl}
 use mathlib.Core.Logic.{⊎-elim}
 use native.Mathlib.Omega.{arith}
 use lib.ListN.{length}
@@ -11,8 +11,7 @@ use Rattle.text.proofs.count_fields.Statement.{statement}
 use Rattle.text.proofs.count_fields.Tie as tie
 
 abbrev Inv-loop : tie.InvT-loop
-Inv-loop s at end n₀ i₀ n i =
-    (i ≤ end) × (n ≤ i + 1) × (n + length (fields (part s i end)) ≡ 1 + length (fields (part s at end)))
+Inv-loop s at end n₀ i₀ n i = (i ≤ end) × (n ≤ i + 1) × (n + length (fields (part s i end)) ≡ 1 + length (fields (part s at end)))
 
 abbrev μ-loop : tie.MeasureT-loop
 μ-loop s at end n₀ i₀ n i = end - i

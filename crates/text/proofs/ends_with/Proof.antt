@@ -18,7 +18,9 @@ same-text-requires : tie.Need-same-text-requires
 same-text-requires c κs = omega arith
 
 returns-2 : tie.Need-returns-2
-returns-2 c = c .same-text .ensures ∙ sym (ends-part _ _ _ _ (c .before .before .before .before .pre .1) (c .before .before .before .before .pre .0) (c .before .if1 .left))
+returns-2 c =
+    let pre = c .before .before .before .before .pre in
+    c .same-text .ensures ∙ sym (ends-part _ _ _ _ (pre .1) (pre .0) (c .before .if1 .left))
 
 pub ends-with-spec : {M : Type 1} → statement M
 ends-with-spec = tie.close (tie.spec sub-if1 returns sub-same-text same-text-requires returns-2)

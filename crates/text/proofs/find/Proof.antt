@@ -1,4 +1,4 @@
--- `text::find` meets its contract. The loop's invariant: what is looked for from the start is what is looked for from `i` on.
+-- `text::find` meets its contract. The loop's invariant: the first mark from the start is the first mark from `i` on.
 use Prim.Native.Nat.{_≤_, _-_}
 use mathlib.Core.Path.{_≡_, refl, sym, _∙_}
 use native.Mathlib.Omega.{arith}
@@ -20,7 +20,9 @@ shared-slice-read-if1 : tie.Need-shared-slice-read-if1 Inv-loop μ-loop
 shared-slice-read-if1 c = omega arith
 
 returns : tie.Need-returns Inv-loop μ-loop
-returns c = sym (c .before .before .before .loop .inv .1 ∙ mark-here _ _ _ _ (c .before .before .loop-test .taken) (c .before .before .before .before .pre .1) (c .if1 .taken))
+returns c =
+    let left = c .before .before .loop-test .taken in
+    sym (c .before .before .before .loop .inv .1 ∙ mark-here _ _ _ left (c .before .before .before .before .pre .1) _ (c .if1 .taken))
 
 add-i : tie.Need-add-i Inv-loop μ-loop
 add-i c = omega arith
@@ -29,10 +31,12 @@ loop-less : tie.Need-loop-less Inv-loop μ-loop
 loop-less c = omega arith
 
 loop-again : tie.Need-loop-again Inv-loop μ-loop
-loop-again c = (omega arith, c .before .before .before .loop .inv .1 ∙ mark-on _ _ _ _ (c .before .before .loop-test .taken) (c .before .before .before .before .pre .1) (c .if1 .left))
+loop-again c =
+    let left = c .before .before .loop-test .taken in
+    (omega arith, c .before .before .before .loop .inv .1 ∙ mark-on _ _ _ left (c .before .before .before .before .pre .1) _ (c .if1 .left))
 
 returns-2 : tie.Need-returns-2 Inv-loop μ-loop
-returns-2 c = sym (c .before .loop .inv .1 ∙ mark-end _ _ _ _ (c .before .loop .inv .0) (c .loop-test .left))
+returns-2 c = sym (c .before .loop .inv .1 ∙ mark-end _ _ _ (c .loop-test .left) _ (c .before .loop .inv .0))
 
 pub find-spec : {M : Type 1} → statement M
 find-spec =

@@ -31,13 +31,22 @@ shared-slice-read-b : tie.Need-shared-slice-read-b Inv-loop μ-loop
 shared-slice-read-b c = omega arith
 
 returns-3 : tie.Need-returns-3 Inv-loop μ-loop
-returns-3 c = sym (c .before .before .before .loop .inv .1 ∙ all-bad is-name-byte _ _ _ (c .before .before .loop-test .taken) (c .before .before .before .before .before .before .pre .1) (byte-low _ (c .if3 .taken)))
+returns-3 c =
+    let left = c .before .before .loop-test .taken in
+    let inside = c .before .before .before .before .before .before .pre .1 in
+    sym (c .before .before .before .loop .inv .1 ∙ all-bad _ _ _ left inside is-name-byte (byte-low _ (c .if3 .taken)))
 
 returns-4 : tie.Need-returns-4 Inv-loop μ-loop
-returns-4 c = sym (c .before .before .before .before .loop .inv .1 ∙ all-bad is-name-byte _ _ _ (c .before .before .before .loop-test .taken) (c .before .before .before .before .before .before .before .pre .1) (byte-high _ (c .if4 .taken)))
+returns-4 c =
+    let left = c .before .before .before .loop-test .taken in
+    let inside = c .before .before .before .before .before .before .before .pre .1 in
+    sym (c .before .before .before .before .loop .inv .1 ∙ all-bad _ _ _ left inside is-name-byte (byte-high _ (c .if4 .taken)))
 
 returns-5 : tie.Need-returns-5 Inv-loop μ-loop
-returns-5 c = sym (c .before .before .before .before .before .loop .inv .1 ∙ all-bad is-name-byte _ _ _ (c .before .before .before .before .loop-test .taken) (c .before .before .before .before .before .before .before .before .pre .1) (byte-comma _ (c .if5 .taken)))
+returns-5 c =
+    let left = c .before .before .before .before .loop-test .taken in
+    let inside = c .before .before .before .before .before .before .before .before .pre .1 in
+    sym (c .before .before .before .before .before .loop .inv .1 ∙ all-bad _ _ _ left inside is-name-byte (byte-comma _ (c .if5 .taken)))
 
 add-i : tie.Need-add-i Inv-loop μ-loop
 add-i c = omega arith
@@ -46,14 +55,14 @@ loop-less : tie.Need-loop-less Inv-loop μ-loop
 loop-less c = omega arith
 
 loop-again : tie.Need-loop-again Inv-loop μ-loop
-loop-again c = (
-  omega arith,
-  c .before .before .before .before .before .loop .inv .1
-      ∙ all-on is-name-byte _ _ _ (c .before .before .before .before .loop-test .taken) (c .before .before .before .before .before .before .before .before .pre .1) (byte-good _ (c .before .before .if3 .left) (c .before .if4 .left) (c .if5 .left)),
-)
+loop-again c =
+    let left = c .before .before .before .before .loop-test .taken in
+    let inside = c .before .before .before .before .before .before .before .before .pre .1 in
+    let good = byte-good _ (c .before .before .if3 .left) (c .before .if4 .left) (c .if5 .left) in
+    (omega arith, c .before .before .before .before .before .loop .inv .1 ∙ all-on _ _ _ left inside is-name-byte good)
 
 returns-6 : tie.Need-returns-6 Inv-loop μ-loop
-returns-6 c = sym (c .before .loop .inv .1 ∙ all-end is-name-byte _ _ _ (c .loop-test .left))
+returns-6 c = sym (c .before .loop .inv .1 ∙ all-end _ _ _ (c .loop-test .left) is-name-byte)
 
 pub is-name-spec : {M : Type 1} → statement M
 is-name-spec =

@@ -40,11 +40,17 @@ shared-slice-read-b c = omega arith
 
 returns-4 : tie.Need-returns-4 Inv-loop μ-loop
 unfolding as-decimal
-returns-4 c = ap as-decimal (sym (c .before .before .before .loop .inv .2 ∙ valued-bad _ _ _ _ (c .before .before .loop-test .taken) (c .before .before .before .before .before .before .before .pre .1) (digit-low _ (c .if4 .taken))))
+returns-4 c =
+    let left = c .before .before .loop-test .taken in
+    let inside = c .before .before .before .before .before .before .before .pre .1 in
+    ap as-decimal (sym (c .before .before .before .loop .inv .2 ∙ valued-bad _ _ _ left inside _ (digit-low _ (c .if4 .taken))))
 
 returns-5 : tie.Need-returns-5 Inv-loop μ-loop
 unfolding as-decimal
-returns-5 c = ap as-decimal (sym (c .before .before .before .before .loop .inv .2 ∙ valued-bad _ _ _ _ (c .before .before .before .loop-test .taken) (c .before .before .before .before .before .before .before .before .pre .1) (digit-high _ (c .if5 .taken))))
+returns-5 c =
+    let left = c .before .before .before .loop-test .taken in
+    let inside = c .before .before .before .before .before .before .before .before .pre .1 in
+    ap as-decimal (sym (c .before .before .before .before .loop .inv .2 ∙ valued-bad _ _ _ left inside _ (digit-high _ (c .if5 .taken))))
 
 mul-n : tie.Need-mul-n Inv-loop μ-loop
 mul-n c = omega arith
@@ -58,11 +64,11 @@ add-n c = omega arith
 returns-6 : tie.Need-returns-6 Inv-loop μ-loop
 unfolding as-decimal
 returns-6 c =
-    ap as-decimal
-    (sym
-    (c .before .before .before .before .before .loop .inv .2
-    ∙ valued-on _ _ _ _ (c .before .before .before .before .loop-test .taken) (c .before .before .before .before .before .before .before .before .before .pre .1) (digit-good _ (c .before .before .if4 .left) (c .before .if5 .left))
-    ∙ valued-large _ _ (c .if6 .taken)))
+    let left = c .before .before .before .before .loop-test .taken in
+    let inside = c .before .before .before .before .before .before .before .before .before .pre .1 in
+    let good = digit-good _ (c .before .before .if4 .left) (c .before .if5 .left) in
+    let large = valued-large _ _ (c .if6 .taken) in
+    ap as-decimal (sym (c .before .before .before .before .before .loop .inv .2 ∙ valued-on _ _ _ left inside _ good ∙ large))
 
 add-i : tie.Need-add-i Inv-loop μ-loop
 add-i c = omega arith
@@ -71,15 +77,15 @@ loop-less : tie.Need-loop-less Inv-loop μ-loop
 loop-less c = omega arith
 
 loop-again : tie.Need-loop-again Inv-loop μ-loop
-loop-again c = (
-  omega arith,
-  c .if6 .left,
-  c .before .before .before .before .before .loop .inv .2 ∙ valued-on _ _ _ _ (c .before .before .before .before .loop-test .taken) (c .before .before .before .before .before .before .before .before .before .pre .1) (digit-good _ (c .before .before .if4 .left) (c .before .if5 .left)),
-)
+loop-again c =
+    let left = c .before .before .before .before .loop-test .taken in
+    let inside = c .before .before .before .before .before .before .before .before .before .pre .1 in
+    let good = digit-good _ (c .before .before .if4 .left) (c .before .if5 .left) in
+    (omega arith, c .if6 .left, c .before .before .before .before .before .loop .inv .2 ∙ valued-on _ _ _ left inside _ good)
 
 returns-7 : tie.Need-returns-7 Inv-loop μ-loop
 unfolding as-decimal
-returns-7 c = ap as-decimal (sym (c .before .loop .inv .2 ∙ valued-end _ _ _ _ (c .loop-test .left) (c .before .loop .inv .1)))
+returns-7 c = ap as-decimal (sym (c .before .loop .inv .2 ∙ valued-end _ _ _ (c .loop-test .left) _ (c .before .loop .inv .1)))
 
 pub number-of-spec : {M : Type 1} → statement M
 number-of-spec =

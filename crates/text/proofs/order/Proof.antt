@@ -9,13 +9,19 @@ use Rattle.text.proofs.order.Statement.{statement}
 use Rattle.text.proofs.order.Tie as tie
 
 abbrev Inv-loop : tie.InvT-loop
-Inv-loop s a e b f i₀ i = (i ≤ e - a) × (i ≤ f - b) × (Names.order (part s a e) (part s b f) ≡ Names.order (part s (a + i) e) (part s (b + i) f))
+Inv-loop s a e b f i₀ i =
+    (i ≤ e - a)
+    × (i ≤ f - b)
+    × (Names.order (part s a e) (part s b f) ≡ Names.order (part s (a + i) e) (part s (b + i) f))
 
 abbrev μ-loop : tie.MeasureT-loop
 μ-loop s a e b f i₀ i = e - a - i
 
 loop-holds : tie.Need-loop-holds Inv-loop μ-loop
-loop-holds c = (omega arith, omega arith, order-start (c .args .s .now) (c .args .s .now) (c .args .a) (c .args .e) (c .args .b) (c .args .f))
+loop-holds c =
+    let a = c .args in
+    let s = a .s .now in
+    (omega arith, omega arith, order-start s s (a .a) (a .e) (a .b) (a .f))
 
 sub-loop : tie.Need-sub-loop Inv-loop μ-loop
 sub-loop c = omega arith
@@ -44,15 +50,13 @@ shared-slice-read-y c = omega arith
 
 returns-2 : tie.Need-returns-2 Inv-loop μ-loop
 returns-2 c =
-    sym
-    (c .before .before .before .before .before .loop .inv .2
-    ∙ order-less _ _ _ _ _ _ (omega arith) (c .before .before .before .before .before .before .pre .1) (omega arith) (c .before .before .before .before .before .before .pre .3) (c .if2 .taken))
+    let pre = c .before .before .before .before .before .before .pre in
+    sym (c .before .before .before .before .before .loop .inv .2 ∙ order-less _ _ _ _ _ _ (omega arith) (pre .1) (omega arith) (pre .3) (c .if2 .taken))
 
 returns-3 : tie.Need-returns-3 Inv-loop μ-loop
 returns-3 c =
-    sym
-    (c .before .before .before .before .before .before .loop .inv .2
-    ∙ order-more _ _ _ _ _ _ (omega arith) (c .before .before .before .before .before .before .before .pre .1) (omega arith) (c .before .before .before .before .before .before .before .pre .3) (c .if3 .taken))
+    let pre = c .before .before .before .before .before .before .before .pre in
+    sym (c .before .before .before .before .before .before .loop .inv .2 ∙ order-more _ _ _ _ _ _ (omega arith) (pre .1) (omega arith) (pre .3) (c .if3 .taken))
 
 add-i : tie.Need-add-i Inv-loop μ-loop
 add-i c = omega arith
@@ -61,12 +65,13 @@ loop-less : tie.Need-loop-less Inv-loop μ-loop
 loop-less c = omega arith
 
 loop-again : tie.Need-loop-again Inv-loop μ-loop
-loop-again c = (
-  omega arith,
-  omega arith,
-  c .before .before .before .before .before .before .loop .inv .2
-      ∙ order-on _ _ _ _ _ _ (omega arith) (c .before .before .before .before .before .before .before .pre .1) (omega arith) (c .before .before .before .before .before .before .before .pre .3) _ _ (omega arith) (omega arith) (omega arith),
-)
+loop-again c =
+    let pre = c .before .before .before .before .before .before .before .pre in (
+      omega arith,
+      omega arith,
+      c .before .before .before .before .before .before .loop .inv .2
+          ∙ order-on _ _ _ _ _ _ (omega arith) (pre .1) (omega arith) (pre .3) _ _ (omega arith) (omega arith) (omega arith),
+    )
 
 sub-if4 : tie.Need-sub-if4 Inv-loop μ-loop
 sub-if4 c = omega arith

@@ -1,6 +1,6 @@
 -- `text::same_text` meets its contract. The loop's invariant: the part is the word if what is left of it from `i` on is what is left of the word.
 use Prim.Native.Nat.{_≤_, _+_, _-_}
-use mathlib.Core.Path.{_≡_, refl, sym, ap, _∙_}
+use mathlib.Core.Path.{_≡_, refl, sym, _∙_}
 use native.Mathlib.Omega.{arith}
 use lib.ListN.{length}
 use Rattle.model.specs.Names.{same}
@@ -35,9 +35,9 @@ shared-slice-read-if2-2 c = omega arith
 
 returns-2 : tie.Need-returns-2 Inv-loop μ-loop
 returns-2 c =
-    sym
-    (c .before .before .before .before .loop .inv .1
-    ∙ same-differ _ _ _ _ _ _ (omega arith) (c .before .before .before .before .before .before .pre .1) (c .before .before .before .loop-test .taken) (omega arith) (c .if2 .taken))
+    let left = c .before .before .before .loop-test .taken in
+    let inside = c .before .before .before .before .before .before .pre .1 in
+    sym (c .before .before .before .before .loop .inv .1 ∙ same-differ _ _ _ _ _ _ (omega arith) inside left (omega arith) (c .if2 .taken))
 
 add-i : tie.Need-add-i Inv-loop μ-loop
 add-i c = omega arith
@@ -46,17 +46,20 @@ loop-less : tie.Need-loop-less Inv-loop μ-loop
 loop-less c = omega arith
 
 loop-again : tie.Need-loop-again Inv-loop μ-loop
-loop-again c = (
-  omega arith,
-  c .before .before .before .before .loop .inv .1
-      ∙ same-on _ _ _ _ _ _ (omega arith) (c .before .before .before .before .before .before .pre .1) (c .before .before .before .loop-test .taken) (omega arith) _ _ (omega arith) refl (c .if2 .left),
-)
+loop-again c =
+    let left = c .before .before .before .loop-test .taken in
+    let inside = c .before .before .before .before .before .before .pre .1 in (
+      omega arith,
+      c .before .before .before .before .loop .inv .1
+          ∙ same-on _ _ _ _ _ _ (omega arith) inside left (omega arith) _ _ (omega arith) refl (c .if2 .left),
+    )
 
 returns-3 : tie.Need-returns-3 Inv-loop μ-loop
 returns-3 c =
     let a = c .before .before .before .args in
     let i = c .before .loop .i in
-    sym (c .before .loop .inv .1 ∙ same-end (a .s .now) (a .word .now) (a .a + i) (a .e) i (length (a .word .now)) (omega arith) (c .loop-test .left))
+    let word = a .word .now in
+    sym (c .before .loop .inv .1 ∙ same-end (a .s .now) word (a .a + i) (a .e) i (length word) (omega arith) (c .loop-test .left))
 
 pub same-text-spec : {M : Type 1} → statement M
 same-text-spec =

@@ -18,7 +18,9 @@ same-text-requires : tie.Need-same-text-requires
 same-text-requires c κs = omega arith
 
 returns-2 : tie.Need-returns-2
-returns-2 c = c .same-text .ensures ∙ sym (starts-part (c .before .before .before .before .args .s .now) (c .before .before .before .before .args .a) (c .before .before .before .before .args .e) (c .before .before .before .before .args .prefix .now) (omega arith))
+returns-2 c =
+    let a = c .before .before .before .before .args in
+    c .same-text .ensures ∙ sym (starts-part (a .s .now) (a .a) (a .e) (a .prefix .now) (omega arith))
 
 pub starts-with-spec : {M : Type 1} → statement M
 starts-with-spec = tie.close (tie.spec sub-if1 returns add-same-text same-text-requires returns-2)

@@ -12,7 +12,7 @@ find-requires : tie.Need-find-requires
 find-requires c κs = (c .if1 .left, c .before .before .pre .inside)
 
 add-t8 : tie.Need-add-t8
-add-t8 c = omega (arith, c .find .ensures, mark-to 0x2c (c .before .before .before .args .s .now) (c .before .before .before .args .self .at) (c .before .before .before .args .self .end) (c .before .if1 .left) (c .before .before .before .pre .inside))
+add-t8 c = omega (arith, mark-to _ _ _ _ _ (c .find .ensures) (c .before .if1 .left) (c .before .before .before .pre .inside))
 
 returns-2 : tie.Need-returns-2
 returns-2 c = sym (field-some _ _ _ (c .before .if1 .left) (c .find .ensures))

@@ -1,5 +1,6 @@
 -- `text::Cursor::number` meets its contract.
 use mathlib.Core.Path.{sym, _∙_}
+use native.Mathlib.Omega.{arith}
 use Rattle.text.proofs.Laws.{field-next, number-refused, number-none, number-good, number-over}
 use Rattle.text.proofs.Cursor.number.Statement.{statement}
 use Rattle.text.proofs.Cursor.number.Tie as tie
@@ -12,8 +13,8 @@ enum-known-start c = c .match .keys1
 
 number-of-requires : tie.Need-number-of-requires
 number-of-requires c κs =
-    let read = field-next _ _ _ _ _ (c .before .before .before .before .before .pre) (sym (c .before .before .before .field .ensures) ∙ c .before .start .given .1) in
-    (read .ordered, read .inside)
+    let read = field-next _ _ (c .before .before .before .before .before .pre) _ _ _ (sym (c .before .before .before .field .ensures) ∙ c .before .start .given .1) in
+    omega (arith, read)
 
 enum-known-n : tie.Need-enum-known-n
 enum-known-n c = c .match2 .keys1
@@ -26,20 +27,18 @@ enum-known-r c = c .match .keys2
 
 returns : tie.Need-returns
 returns c =
-    sym
-    (number-good _ _ _ _ _ (sym (c .before .before .before .before .before .before .before .before .field .ensures) ∙ c .before .before .before .before .before .before .start .given .1) _ _ (sym (c .before .before .before .before .number-of .ensures) ∙ c .before .before .n .given .1)
-    (c .if1 .taken))
+    let part = sym (c .before .before .before .before .before .before .before .before .field .ensures) ∙ c .before .before .before .before .before .before .start .given .1 in
+    sym (number-good _ _ _ _ _ part _ _ (sym (c .before .before .before .before .number-of .ensures) ∙ c .before .before .n .given .1) (c .if1 .taken))
 
 returns-2 : tie.Need-returns-2
 returns-2 c =
-    sym
-    (number-over _ _ _ _ _ (sym (c .before .before .before .before .before .before .before .before .field .ensures) ∙ c .before .before .before .before .before .before .start .given .1) _ _ (sym (c .before .before .before .before .number-of .ensures) ∙ c .before .before .n .given .1)
-    (c .if1 .left))
+    let part = sym (c .before .before .before .before .before .before .before .before .field .ensures) ∙ c .before .before .before .before .before .before .start .given .1 in
+    sym (number-over _ _ _ _ _ part _ _ (sym (c .before .before .before .before .number-of .ensures) ∙ c .before .before .n .given .1) (c .if1 .left))
 
 returns-3 : tie.Need-returns-3
 returns-3 c =
-    sym
-    (number-none _ _ _ _ _ (sym (c .before .before .before .before .before .before .field .ensures) ∙ c .before .before .before .before .start .given .1) _ (sym (c .before .before .number-of .ensures) ∙ c .enum-told .given .1))
+    let part = sym (c .before .before .before .before .before .before .field .ensures) ∙ c .before .before .before .before .start .given .1 in
+    sym (number-none _ _ _ _ _ part _ (sym (c .before .before .number-of .ensures) ∙ c .enum-told .given .1))
 
 returns-4 : tie.Need-returns-4
 returns-4 c = sym (number-refused _ _ _ (sym (c .before .before .before .field .ensures) ∙ c .before .r .given .1) _)

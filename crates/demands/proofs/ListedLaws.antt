@@ -1,0 +1,108 @@
+-- The reached facts are the facts of the kept list that are not ambient.
+use mathlib.Core.Path.{_≡_, refl, sym}
+use mathlib.Core.Logic.{⊎-elim}
+use mathlib.Core.Bool.{Bool, true, false, not, cond}
+use mathlib.Core.List.{List, [], _∷_, reverse, map-append, append-nil, List·Memᴰ, List·Memᴰ·head, List·Memᴰ·tail, List·Memᴰ·not-nil, List·Memᴰ·append-cases, Memᴰ·cast}
+use lib.Dec.{T, T-not, not-T}
+use Rattle.model.specs.Lists.{keep, collect}
+use Rattle.model.specs.Names.{Name, same, mem}
+use Rattle.model.specs.Summaries.{Fact}
+use Rattle.model.specs.Reading.{Ask, Summary, Root, no-ambients}
+use Rattle.model.specs.Rounds.{facts, is-ambient, run}
+use Rattle.model.specs.Kept.{reached-facts, ambients, kept-facts}
+use Rattle.model.specs.declared.AsumKind.{AsumKind}
+use Rattle.model.specs.declared.AsumKind.the-variants.{Drop, Ambient, Triggers}
+use Rattle.model.proofs.ListLaws.{cond-case, keep-intro, keep-elim, keep-all, keep-none, keep-append, reverse-elim, collect-intro, collect-elim, map-intro}
+use Rattle.model.proofs.SetLaws.{Ascending, mem-intro, mem-elim, same-eq, same-refl}
+use Rattle.demands.specs.Accepted.{Distinct, none, Counts-disjuncts, Well-formed}
+use Rattle.demands.proofs.Distinct.{distinct-append, distinct-reverse, distinct-of-map, distinct-map-keep, ascending-distinct}
+use Rattle.demands.proofs.Facts.{fact-names, fact-by-name, names-distinct, one-of-name}
+use Rattle.demands.proofs.FiringLaws.{fires-elim}
+use Rattle.demands.proofs.RoundsLaws.{reached-by, run-end}
+
+-- a fact with a disjunct is not ambient
+pub with-disjunct : (kind : AsumKind) {ts : List (List Name)} {d : List Name} → Counts-disjuncts kind ts → List·Memᴰ d ts → T (not (is-ambient kind))
+unfolding is-ambient
+with-disjunct Drop e m = tt
+with-disjunct (Ambient is-root) e m = absurd (List·Memᴰ·not-nil (rw e at m))
+with-disjunct (Triggers n) e m = tt
+
+-- the ambients of the kept list are ambient facts of the file
+pub ambients-elim : (a : Ask) (fs : List Fact) {f : Fact} → List·Memᴰ f (ambients a fs) → List·Memᴰ f fs × T (is-ambient (f .kind))
+unfolding ambients
+ambients-elim a fs m = go (no-ambients a) m
+  where
+    go : {f : Fact} (b : Bool) → List·Memᴰ f (cond b [] (reverse (keep (λ f. is-ambient (f .kind)) fs))) → List·Memᴰ f fs × T (is-ambient (f .kind))
+    go true m = absurd (List·Memᴰ·not-nil m)
+    go false m = keep-elim (λ f. is-ambient (f .kind)) fs (reverse-elim (keep (λ f. is-ambient (f .kind)) fs) m)
+
+-- a fact of the file whose name is reached is among the reached facts
+pub reached-facts-intro : (fs : List Fact) (reached : List Name) {f : Fact} → List·Memᴰ f fs → T (mem (f .name) reached) → List·Memᴰ f (reached-facts fs reached)
+unfolding reached-facts
+reached-facts-intro fs reached {f} m t =
+    collect-intro (λ name. keep (λ f. same (f .name) name) fs) (mem-elim t) (keep-intro (λ g. same (g .name) (f .name)) m (same-refl (f .name)))
+
+-- a reached fact is a fact of the file whose name is reached
+pub reached-facts-elim : (fs : List Fact) (reached : List Name) {f : Fact} → List·Memᴰ f (reached-facts fs reached) → List·Memᴰ f fs × T (mem (f .name) reached)
+unfolding reached-facts
+reached-facts-elim fs reached m =
+    let (n, i, j) = collect-elim (λ name. keep (λ f. same (f .name) name) fs) reached m in
+    let (k, t) = keep-elim (λ f. same (f .name) n) fs j in
+    (k, mem-intro (Memᴰ·cast (same-eq t) i))
+
+-- a kept fact is a fact of the file
+pub kept-facts-elim : (a : Ask) (fs : List Fact) (reached : List Name) {f : Fact} → List·Memᴰ f (kept-facts a fs reached) → List·Memᴰ f fs
+unfolding kept-facts
+kept-facts-elim a fs reached m = ⊎-elim (λ i. reached-facts-elim fs reached i .0) (λ i. ambients-elim a fs i .0) (List·Memᴰ·append-cases (reached-facts fs reached) m)
+
+-- where no two facts have one name no ambient stands twice
+ambients-once : (a : Ask) (fs : List Fact) → Distinct (fact-names fs) → Distinct (ambients a fs)
+unfolding ambients
+ambients-once a fs d =
+    cond-case Distinct (no-ambients a) none
+    (distinct-reverse (distinct-of-map (λ (f : Fact). f .name) (keep (λ f. is-ambient (f .kind)) fs) (distinct-map-keep (λ (f : Fact). f .name) (λ f. is-ambient (f .kind)) fs d)))
+
+-- where each name is that of a fact, the names of the reached facts are the names, in their order
+pub reached-names : (fs : List Fact) → Distinct (fact-names fs) → (reached : List Name)
+    → ((n : Name) → List·Memᴰ n reached → List·Memᴰ n (fact-names fs)) → fact-names (reached-facts fs reached) ≡ reached
+unfolding reached-facts collect
+reached-names fs once [] h = refl
+reached-names fs once (n ∷ ns) h =
+    rw (map-append (λ (f : Fact). f .name) (keep (λ f. same (f .name) n) fs) (reached-facts fs ns), one-of-name {n = n} fs once (h n (List·Memᴰ·head refl)), reached-names fs once ns (λ k m. h k (List·Memᴰ·tail m)))
+
+module _ (a : Ask) (decls : List Summary) (roots : List Root) (wf : Well-formed decls roots) where
+  -- no reached fact is ambient
+  pub reached-no-ambient : (f : Fact) → List·Memᴰ f (facts decls) → T (reached-by (run a decls roots) f) → T (not (is-ambient (f .kind)))
+  reached-no-ambient f m t =
+      let (g, i, e, r, u) = run-end a decls roots wf .reached-fires (f .name) t in
+      let h = fires-elim (run a decls roots .met) g u in
+      rw (← fact-by-name wf i m e) (with-disjunct (g .kind) (wf .good-facts g i .disjunct-count) (h .is-disjunct))
+
+  -- the kept facts that are not ambient are the reached facts
+  pub kept-not-ambient : keep (λ f. not (is-ambient (f .kind))) (kept-facts a (facts decls) (run a decls roots .reached)) ≡ reached-facts (facts decls) (run a decls roots .reached)
+  unfolding kept-facts
+  kept-not-ambient =
+      let reached = reached-facts (facts decls) (run a decls roots .reached) in
+      let not-ambient : Fact → Bool = λ f. not (is-ambient (f .kind)) in
+      rw (
+        keep-append not-ambient reached (ambients a (facts decls)),
+        keep-all not-ambient reached (λ f m. let (i, t) = reached-facts-elim (facts decls) (run a decls roots .reached) m in reached-no-ambient f i t),
+        keep-none not-ambient (ambients a (facts decls)) (λ f m. not-T (not (is-ambient (f .kind))) (λ t. T-not (is-ambient (f .kind)) t (ambients-elim a (facts decls) m .1))),
+      )
+      (append-nil reached)
+
+  -- the names of the reached facts are a set
+  pub reached-ascending : Ascending (fact-names (reached-facts (facts decls) (run a decls roots .reached)))
+  reached-ascending =
+      rw (reached-names (facts decls) (names-distinct decls (wf .distinct)) (run a decls roots .reached)
+      (λ n m. let (f, i, e, r, u) = run-end a decls roots wf .reached-fires n (mem-intro m) in Memᴰ·cast (sym e) (map-intro (λ (f : Fact). f .name) i)))
+      (run-end a decls roots wf .reached-set)
+
+  -- no kept fact stands twice
+  pub kept-facts-once : Distinct (kept-facts a (facts decls) (run a decls roots .reached))
+  unfolding kept-facts
+  kept-facts-once =
+      distinct-append
+      (distinct-of-map (λ (f : Fact). f .name) _ (ascending-distinct _ reached-ascending))
+      (ambients-once a (facts decls) (names-distinct decls (wf .distinct)))
+      (λ f i j. let (k, t) = reached-facts-elim (facts decls) (run a decls roots .reached) i in T-not (is-ambient (f .kind)) (reached-no-ambient f k t) (ambients-elim a (facts decls) j .1))

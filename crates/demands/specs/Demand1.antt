@@ -1,0 +1,213 @@
+-- Demand 1, of the answer of a call: "with a list or with one of the nine refusals of document 01 and its place, each under
+-- its condition there and never otherwise".
+use Prim.Native.Nat.{ℕ, _+_, _≤_, _<_, max}
+use mathlib.Core.Path.{_≡_}
+use mathlib.Core.Logic.{_↔_, _⊎_}
+use mathlib.Core.Bool.{Bool, not, _||_}
+use mathlib.Core.List.{List, [], _∷_, _++_, map, List·Memᴰ}
+use lib.Dec.{T}
+use lib.ListN.{length, take, drop, replicate}
+use Rattle.model.specs.Lists.{sum}
+use Rattle.model.specs.Names.{Name, mem}
+use Rattle.model.specs.Lines.{Line, lines, fields}
+use Rattle.model.specs.Terms.{Term, references}
+use Rattle.model.specs.Summaries.{exclude-names, Fact}
+use Rattle.model.specs.Reading.{Content, assume, fun, def, ok, refused, Decl, Root, spelled, trimmed, State, start, read, parse, add-line, read-line, read-lines}
+use Rattle.model.specs.Rounds.{facts, definitions, visits}
+use Rattle.model.specs.Outcome.{Outcome, refusal-at, list, outcome, result-after, work-after}
+use Rattle.model.specs.declared.Refusal.{Refusal}
+use Rattle.model.specs.declared.Refusal.the-variants as refusal
+use Rattle.demands.specs.Accepted.{Accepted, Distinct}
+use Rattle.demands.specs.Demand2.{kept-list}
+use Rattle.demands.specs.Demand3.{run-of}
+use Rattle.demands.specs.LineForm.{Faulty-line}
+
+-- "a working slice is too short": "The caller lends six working slices of 16,384 or more 32-bit words"
+abbrev pub Short-slice : List ℕ → Type 0
+Short-slice works = (n : ℕ) × List·Memᴰ n works × (n < 16384)
+
+-- "7: a working slice is too short; place 0"
+abbrev pub Refusal-7 : Type 0
+Refusal-7 =
+    (file works : List ℕ) (room place : ℕ)
+    → (outcome file works room ≡ refusal-at refusal.Working place) ↔ ((place ≡ 0) × Short-slice works)
+
+-- "9: the file passes 65,535 bytes", "for 9, 0", and "Order: 7, 9, .."
+abbrev pub Refusal-9 : Type 0
+Refusal-9 =
+    (file works : List ℕ) (room place : ℕ)
+    → (outcome file works room ≡ refusal-at refusal.Size place)
+    ↔ ((place ≡ 0) × (Short-slice works → ⊥) × (65535 < length file))
+
+-- "Order: 7, 9, then lines from the first": neither 7 nor 9 applies
+pub record Lines-judged (file works : List ℕ) : Type 0 where
+  pub long-slices : Short-slice works → ⊥
+  pub fits : length file ≤ 65535
+
+-- "8: the result slice is shorter than the kept count; place is that count", after the lines
+abbrev pub Refusal-8 : Type 0
+Refusal-8 =
+    (file works : List ℕ) (room place : ℕ)
+    → (outcome file works room ≡ refusal-at refusal.Room place)
+    ↔ (Lines-judged file works
+    × ((s : State) × Accepted file s × (place ≡ length (kept-list s)) × (room < length (kept-list s))))
+
+-- "with a list": "a result slice of exactly the kept count passes"
+abbrev pub List-given : Type 0
+List-given =
+    (file works : List ℕ) (room : ℕ) (given : List ℕ) (seen turns : ℕ)
+    → (outcome file works room ≡ list given seen turns)
+    ↔ (Lines-judged file works
+    × ((s : State) × Accepted file s × (given ≡ kept-list s)
+    × (seen ≡ visits (run-of s .met) (facts (s .decls))) × (turns ≡ run-of s .rounds)
+    × (length (kept-list s) ≤ room)))
+
+-- the refusals of "The exporter of the file" that name a line: 1 to 6
+pub data Of-line : Refusal → Type 0 where
+  form : Of-line refusal.Form
+  name : Of-line refusal.Name
+  number : Of-line refusal.Number
+  term : Of-line refusal.Term
+  repeated : Of-line refusal.Repeated
+  limit : Of-line refusal.Limit
+
+-- "lines from the first", "place: the line, from 1": the n-th of these lines, those before it being read
+pub record Reached-line (ls : List Line) (n : ℕ) : Type 0 where
+  pub before : List Line
+  pub line : Line
+  pub after : List Line
+  pub is-line : ls ≡ before ++ (line ∷ after)
+  pub place : n ≡ length before + 1
+  pub state : State
+  pub reading : read-lines exclude-names 1 start before ≡ read state
+
+-- "The exporter of the file (place: the line, from 1 ..)": 1 for an "empty file (line 1)"; else the first line that is refused
+abbrev pub Line-refused : Type 0
+Line-refused =
+    (file works : List ℕ) (room : ℕ) (r : Refusal) (n : ℕ) → Of-line r
+    → (outcome file works room ≡ refusal-at r n)
+    ↔ (Lines-judged file works
+    × (((file ≡ []) × (r ≡ refusal.Form) × (n ≡ 1))
+    ⊎ ((l : Reached-line (lines file) n) × (read-line exclude-names n (l .state) (l .line) ≡ refused r))))
+
+-- the refusals 1 to 4
+pub data Of-fields : Refusal → Type 0 where
+  form : Of-fields refusal.Form
+  name : Of-fields refusal.Name
+  number : Of-fields refusal.Number
+  term : Of-fields refusal.Term
+
+-- "no final 0A", which is 1, or a fault of the line's kind or fields
+pub data Fields-refused {ls : List Line} {n : ℕ} (l : Reached-line ls n) : Refusal → Type 0 where
+  no-final-0a : T (not (l .line .ended)) → Fields-refused l refusal.Form
+  faulty : {r : Refusal} → T (l .line .ended) → Faulty-line n (length (l .state .terms)) (fields (l .line .bytes)) r
+      → Fields-refused l r
+
+-- "1: not a line of this form ..; 2: a field is no name; 3: a field is no number, or q, options or flag is outside its range;
+-- 4: a term number not below the term line's own, or, in a record, not below the count of term lines so far"
+abbrev pub Refusals-1-to-4 : Type 0
+Refusals-1-to-4 =
+    (file works : List ℕ) (room : ℕ) (r : Refusal) (n : ℕ) → Of-fields r
+    → (outcome file works room ≡ refusal-at r n)
+    ↔ (Lines-judged file works
+    × (((file ≡ []) × (r ≡ refusal.Form) × (n ≡ 1)) ⊎ ((l : Reached-line (lines file) n) × Fields-refused l r)))
+
+-- "In a line: final 0A, kind, field count where it is fixed, fields left to right": all these pass, and the line says c
+pub record Says {ls : List Line} {n : ℕ} (l : Reached-line ls n) (c : Content) : Type 0 where
+  pub ended : T (l .line .ended)
+  pub parsed : parse n (length (l .state .terms)) (fields (l .line .bytes)) ≡ ok c
+
+-- the name of "an assume, fun or def"
+pub data Takes : Content → Name → Type 0 where
+  by-assume : {n : Name} {flag : Bool} {t : ℕ} → Takes (assume n flag t) n
+  by-fun : {n : Name} → Takes (fun n) n
+  by-def : {n : Name} {t : ℕ} → Takes (def n t) n
+
+-- "an assume, fun or def repeats the name of an earlier one of the three"
+pub record Repeats {ls : List Line} {n : ℕ} (l : Reached-line ls n) (c : Content) : Type 0 where
+  pub taken : Name
+  pub takes : Takes c taken
+  pub earlier-place : ℕ
+  pub earlier : Reached-line (l .before) earlier-place
+  pub earlier-content : Content
+  pub earlier-says : Says earlier earlier-content
+  pub earlier-takes : Takes earlier-content taken
+
+-- "5: an assume, fun or def repeats the name of an earlier one of the three", after the fields of the line
+abbrev pub Refusal-5 : Type 0
+Refusal-5 =
+    (file works : List ℕ) (room n : ℕ)
+    → (outcome file works room ≡ refusal-at refusal.Repeated n)
+    ↔ (Lines-judged file works × ((l : Reached-line (lines file) n) × (c : Content) × Says l c × Repeats l c))
+
+-- "Limits: .. names .. 2,048 distinct; term lines 4,096; term references in term lines 16,384; record lines 1,024; trigger
+-- entries .. 2,048 ..; name uses .. 6,144": the counts of the file up to a line
+pub data Past-limit (s : State) : Type 0 where
+  names : 2048 < length (s .names) → Past-limit s
+  term-lines : 4096 < length (s .terms) → Past-limit s
+  term-references : 16384 < s .references → Past-limit s
+  record-lines : 1024 < length (s .decls) + length (s .roots) → Past-limit s
+  trigger-entries : 2048 < s .entries → Past-limit s
+  name-uses : 6144 < s .uses → Past-limit s
+
+-- "6: the line passes a limit other than the file's bytes", after 5
+abbrev pub Refusal-6 : Type 0
+Refusal-6 =
+    (file works : List ℕ) (room n : ℕ)
+    → (outcome file works room ≡ refusal-at refusal.Limit n)
+    ↔ (Lines-judged file works
+    × ((l : Reached-line (lines file) n) × (c : Content) × Says l c × (Repeats l c → ⊥)
+    × Past-limit (add-line exclude-names n (l .state) c)))
+
+-- the state after a line that parses, whether it passes a limit or not
+abbrev pub state-with : {ls : List Line} {n : ℕ} → Reached-line ls n → Content → State
+state-with {n = n} l c = add-line exclude-names n (l .state) c
+
+-- the counts are those of document 01: "term references in term lines", "trigger entries (fact, disjunct, name) .., where an
+-- empty disjunct counts as one", "name uses (free names summed over assume, def and root lines)"
+pub record Counted (s : State) : Type 0 where
+  pub term-references : s .references ≡ sum (map (λ (t : Term). length (references (t .node))) (s .terms))
+  pub trigger-entries : s .entries
+      ≡ sum (map (λ (f : Fact). sum (map (λ (d : List Name). max 1 (length d)) (f .triggers))) (facts (s .decls)))
+  pub name-uses : s .uses
+      ≡ sum (map (λ (f : Fact). length (f .free-names)) (facts (s .decls)))
+      + (sum (map (λ (d : Decl). length (d .free-names)) (definitions (s .decls)))
+      + sum (map (λ (r : Root). length (r .free-names)) (s .roots)))
+  -- "names the file spells, plus trimmed tokens .. distinct"
+  pub names-once : Distinct (s .names)
+
+-- what a line adds to the names: those that it spells, and the token that rule 4 trims
+abbrev pub Names-added : {ls : List Line} {n : ℕ} → Reached-line ls n → Content → Type 0
+Names-added l c =
+    (k : Name) → mem k (state-with l c .names)
+    ≡ (mem k (l .state .names) || mem k (spelled c ++ trimmed exclude-names (l .state .terms) c))
+
+abbrev pub Counts-exact : Type 0
+Counts-exact =
+    (file : List ℕ) (n : ℕ) (l : Reached-line (lines file) n) (c : Content) → Says l c
+    → Counted (state-with l c) × Names-added l c
+
+-- "A refusal writes nothing to the result slice", and an "accepted call writes kept line numbers from the start of the result
+-- slice and nothing beyond"
+abbrev pub Result-slice : Outcome → List ℕ → Type 0
+Result-slice (refusal-at r place) out = result-after (refusal-at r place) out ≡ out
+Result-slice (list given seen turns) out =
+    length given ≤ length out
+    → (length (result-after (list given seen turns) out) ≡ length out)
+    × (take (length given) (result-after (list given seen turns) out) ≡ given)
+    × (drop (length given) (result-after (list given seen turns) out) ≡ drop (length given) out)
+
+-- "the first 16,384 words of each working slice are zero, the rest untouched"
+pub record Cleared (work after : List ℕ) : Type 0 where
+  pub same-length : length after ≡ length work
+  pub zero : take 16384 after ≡ replicate 16384 0
+  pub rest : drop 16384 after ≡ drop 16384 work
+
+-- "After 7 nothing is touched; after every other call" the working slices are cleared
+pub record Slices (o : Outcome) (out work : List ℕ) : Type 0 where
+  pub result : Result-slice o out
+  pub untouched : (place : ℕ) → o ≡ refusal-at refusal.Working place → work-after o work ≡ work
+  pub cleared : 16384 ≤ length work → ((place : ℕ) → o ≡ refusal-at refusal.Working place → ⊥) → Cleared work (work-after o work)
+
+abbrev pub Slices-exact : Type 0
+Slices-exact = (o : Outcome) (out work : List ℕ) → Slices o out work

@@ -1,0 +1,28 @@
+-- Fuel never runs out: `scan` and the rounds end for their own reason.
+use mathlib.Core.Bool.{Bool, not}
+use mathlib.Core.List.{List}
+use lib.Dec.{T}
+use Rattle.model.specs.Lists.{is-nil}
+use Rattle.model.specs.Names.{Name}
+use Rattle.model.specs.Summaries.{Fact}
+use Rattle.model.specs.Reading.{Ask}
+use Rattle.model.specs.Pruning.{Map, Passumption, Ctxt, pending, to-scan}
+use Rattle.model.specs.Rounds.{Run, triggered, after-round, next-scanned}
+
+-- `scan` of Pruning.fst, without fuel: it ends where nothing is triggered, else it goes on with what was reached
+pub data Scans (pretyping-axioms : Bool) : List Passumption → Ctxt → Ctxt → Type 0 where
+  done : {ds : List Passumption} {c : Ctxt}
+      → T (is-nil (pending ds c .0)) → Scans pretyping-axioms ds c (pending ds c .1)
+  more : {ds : List Passumption} {c end : Ctxt}
+      → T (not (is-nil (pending ds c .0)))
+      → Scans pretyping-axioms (to-scan pretyping-axioms ds c .0) (to-scan pretyping-axioms ds c .1) end
+      → Scans pretyping-axioms ds c end
+
+-- document 01's rounds, without fuel: "The run ends with the round that triggers none, which is counted"
+pub data Ends (a : Ask) (ms : Map (List Name)) (fs : List Fact) : Run → List Name → Run → Type 0 where
+  last : {r : Run} {scanned : List Name}
+      → T (is-nil (triggered ms fs r scanned)) → Ends a ms fs r scanned (after-round a ms fs r scanned)
+  more : {r end : Run} {scanned : List Name}
+      → T (not (is-nil (triggered ms fs r scanned)))
+      → Ends a ms fs (after-round a ms fs r scanned) (next-scanned a ms fs r scanned) end
+      → Ends a ms fs r scanned end

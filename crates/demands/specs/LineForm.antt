@@ -1,0 +1,157 @@
+-- Demand 1, the refusals 1 to 4: what document 01 says that each field of a line must be, and which refusal a line gets.
+use Prim.Native.Nat.{ℕ, zero, suc, _+_, _≤_}
+use mathlib.Core.Path.{_≡_}
+use mathlib.Core.Bool.{cond}
+use mathlib.Core.List.{List, [], _∷_, _++_}
+use mathlib.Core.Logic.{_↔_, _≢_}
+use mathlib.Core.Option.{Option, none, some, Option·getD}
+use lib.Dec.{leb, ltb}
+use lib.ListN.{length}
+use Rattle.model.specs.Names.{bytes}
+use Rattle.model.specs.Lines.{Field, is-name, number}
+use Rattle.model.specs.Reading.{refused, word, op-words, kinds, fixed-count, content, parse}
+use Rattle.model.specs.declared.LineKind.{LineKind}
+use Rattle.model.specs.declared.LineKind.the-variants as kind
+use Rattle.model.specs.declared.Refusal.{Refusal}
+use Rattle.model.specs.declared.Refusal.the-variants as refusal
+
+-- what a field can have to be: a name, a number of at most so much, the number of a term, the word of an `op`
+pub data Sort : Type 0 where
+  a-name : Sort
+  a-number : ℕ → Sort
+  a-term : Sort
+  an-op-word : Sort
+
+-- what stands next in a line: a field that must be there, one that may be, or nothing more
+pub data Due : Type 0 where
+  must : Sort → Due
+  may : Sort → Due
+  nothing : Due
+
+-- the value of a field that is a number
+unfoldable pub value : Field → ℕ
+value f = Option·getD (number f) 0
+
+-- "g pattern groups, each a count and that many t": what stands next after these fields, where a group still lacks
+-- `left` terms and g groups follow it
+unfoldable pub group-due : List Field → ℕ → ℕ → Due
+group-due [] zero zero = nothing
+group-due [] zero (suc g) = must (a-number 65535)
+group-due [] (suc left) g = must a-term
+group-due (f ∷ fs) zero zero = nothing
+group-due (f ∷ fs) zero (suc g) = group-due fs (value f) g
+group-due (f ∷ fs) (suc left) g = group-due fs left g
+
+-- `all,body,g,..` and `some,body,g,..`
+unfoldable pub quantifier-due : List Field → Due
+quantifier-due [] = must a-term
+quantifier-due (body ∷ []) = must (a-number 65535)
+quantifier-due (body ∷ g ∷ fs) = group-due fs 0 (value g)
+
+-- the fields of a line that are all there, in order
+unfoldable pub in-order : List Sort → List Field → Due
+in-order [] fs = nothing
+in-order (s ∷ ss) [] = must s
+in-order (s ∷ ss) (f ∷ fs) = in-order ss fs
+
+-- a field that must be there, then terms
+unfoldable pub then-terms : Sort → List Field → Due
+then-terms s [] = must s
+then-terms s (f ∷ fs) = may a-term
+
+-- what stands next in a line of this kind, after these fields
+unfoldable pub due : LineKind → List Field → Due
+due kind.Ask fs = in-order (a-number 255 ∷ a-number 7 ∷ []) fs
+due kind.Free fs = in-order (a-name ∷ []) fs
+due kind.Leaf fs = in-order [] fs
+due kind.Call fs = then-terms a-name fs
+due kind.Op fs = then-terms an-op-word fs
+due kind.All fs = quantifier-due fs
+due kind.Some fs = quantifier-due fs
+due kind.Let fs = then-terms a-term fs
+due kind.Label fs = in-order (a-term ∷ []) fs
+due kind.Assume fs = in-order (a-name ∷ a-number 1 ∷ a-term ∷ []) fs
+due kind.Fun fs = in-order (a-name ∷ []) fs
+due kind.Def fs = in-order (a-name ∷ a-term ∷ []) fs
+due kind.Retain fs = may a-name
+due kind.Root fs = in-order (a-number 255 ∷ a-name ∷ a-term ∷ []) fs
+
+-- the refusal of a number above its limit; `count`, below, is the number of term lines so far
+unfoldable pub number-fault : ℕ → Option ℕ → Option Refusal
+number-fault limit none = some refusal.Number
+number-fault limit (some n) = cond (leb n limit) none (some refusal.Number)
+
+-- the same of the number of a term
+unfoldable pub term-fault : ℕ → Option ℕ → Option Refusal
+term-fault count none = some refusal.Number
+term-fault count (some n) = cond (ltb n count) none (some refusal.Term)
+
+-- the refusal of a field that is not of its sort, or none
+unfoldable pub fault : ℕ → Sort → Field → Option Refusal
+fault count a-name f = cond (is-name f) none (some refusal.Name)
+fault count (a-number limit) f = number-fault limit (number f)
+fault count a-term f = term-fault count (number f)
+fault count an-op-word f = elim (word op-words f) [ none ↦ some refusal.Form | some w ↦ none ]
+
+-- the sort of a field that may stand next
+unfoldable pub sort-due : Due → Option Sort
+sort-due (must s) = some s
+sort-due (may s) = some s
+sort-due nothing = none
+
+-- why the rest of a line's fields is refused, the fields before it being what they have to be: the first fault counts
+pub data Faulty (k : LineKind) (count : ℕ) : List Field → List Field → Refusal → Type 0 where
+  -- a lacking field is 1 at its turn
+  lacking : {before : List Field} {s : Sort} → due k before ≡ must s → Faulty k count before [] refusal.Form
+  -- one left over is 1 after the last field read, and is not looked at
+  left-over : {before : List Field} {f : Field} {more : List Field} → due k before ≡ nothing → Faulty k count before (f ∷ more) refusal.Form
+  -- a field that is not what it has to be
+  not-so : {before : List Field} {f : Field} {more : List Field} {r : Refusal} {s : Sort}
+      → sort-due (due k before) ≡ some s → fault count s f ≡ some r → Faulty k count before (f ∷ more) r
+  -- a field that is, and a fault after it
+  later : {before : List Field} {f : Field} {more : List Field} {r : Refusal} {s : Sort}
+      → sort-due (due k before) ≡ some s → fault count s f ≡ none
+      → Faulty k count (before ++ (f ∷ [])) more r → Faulty k count before (f ∷ more) r
+
+-- the fields after a line's kind are refused exactly for such a reason
+abbrev pub Refused-fields : Type 0
+Refused-fields =
+    (k : LineKind) (count : ℕ) (fs : List Field) (r : Refusal)
+    → (content k count fs ≡ refused r) ↔ Faulty k count [] fs r
+
+-- `ask` stands on line 1 and nowhere else
+pub record Placed-kind (n : ℕ) (f : Field) : Type 0 where
+  pub ask-first : f ≡ bytes "ask" → n ≡ 1
+  pub first-ask : n ≡ 1 → f ≡ bytes "ask"
+
+-- the field count is the fixed one, where there is one
+abbrev pub Counted : LineKind → List Field → Type 0
+Counted k fs = (fixed : ℕ) → fixed-count k ≡ some fixed → length fs ≡ fixed
+
+-- why a line's fields are refused: kind, field count where it is fixed, fields left to right
+pub data Faulty-line (n count : ℕ) : List Field → Refusal → Type 0 where
+  -- an unknown kind
+  unknown : {f : Field} {fs : List Field} → word kinds f ≡ none → Faulty-line n count (f ∷ fs) refusal.Form
+  -- `ask` not on line 1
+  late-ask : {fs : List Field} → n ≢ 1 → Faulty-line n count (bytes "ask" ∷ fs) refusal.Form
+  -- line 1 that is no `ask`
+  no-ask : {f : Field} {fs : List Field} → n ≡ 1 → f ≢ bytes "ask" → Faulty-line n count (f ∷ fs) refusal.Form
+  -- a field count other than the fixed one
+  miscounted : {f : Field} {fs : List Field} {k : LineKind} {fixed : ℕ}
+      → word kinds f ≡ some k → fixed-count k ≡ some fixed → length (f ∷ fs) ≢ fixed
+      → Faulty-line n count (f ∷ fs) refusal.Form
+  -- a fault of a field after the kind
+  field : {f : Field} {fs : List Field} {k : LineKind} {r : Refusal}
+      → word kinds f ≡ some k → Placed-kind n f → Counted k (f ∷ fs) → Faulty k count [] fs r
+      → Faulty-line n count (f ∷ fs) r
+
+-- a line is refused with 1 to 4 exactly for such a reason
+abbrev pub Refused-line : Type 0
+Refused-line =
+    (n count : ℕ) (f : Field) (fs : List Field) (r : Refusal)
+    → (parse n count (f ∷ fs) ≡ refused r) ↔ Faulty-line n count (f ∷ fs) r
+
+-- where the field count is fixed, the kind counted, it is the number of fields after which nothing more is due
+abbrev pub Fixed-counts : Type 0
+Fixed-counts =
+    (k : LineKind) (n : ℕ) → fixed-count k ≡ some n → (fs : List Field) → (due k fs ≡ nothing) ↔ (n ≤ length fs + 1)

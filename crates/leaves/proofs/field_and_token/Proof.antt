@@ -1,0 +1,85 @@
+-- `leaves::field_and_token` meets its contract.
+use native.Mathlib.Omega.{arith}
+use Rattle.leaves.proofs.Laws.{grown-table}
+use borrow.Author.Needs.{needs}
+use Rattle.leaves.proofs.field_and_token.Statement.{statement}
+use Rattle.leaves.proofs.field_and_token.Tie as tie
+
+one-field-requires : tie.Need-one-field-requires
+one-field-requires c κs = search needs
+
+sub-if1 : tie.Need-sub-if1
+sub-if1 c = search needs
+
+same-length : tie.Need-same-length
+same-length c = search needs
+
+returns : tie.Need-returns
+returns c = search needs
+
+slice-aggregate-ends-with : tie.Need-slice-aggregate-ends-with
+slice-aggregate-ends-with c = search needs
+
+ends-with-requires : tie.Need-ends-with-requires
+ends-with-requires c κs = search needs
+
+same-length-2 : tie.Need-same-length-2
+same-length-2 c = search needs
+
+returns-2 : tie.Need-returns-2
+returns-2 c = search needs
+
+sub-spell : tie.Need-sub-spell
+sub-spell c = search needs
+
+spell-requires : tie.Need-spell-requires
+spell-requires c κs = search needs
+
+slice-aggregate-put : tie.Need-slice-aggregate-put
+slice-aggregate-put c = search needs
+
+put-requires : tie.Need-put-requires
+put-requires c κs = search needs
+
+put-spelled-requires : tie.Need-put-spelled-requires
+put-spelled-requires c κs = search needs
+
+slice-aggregate-put-2 : tie.Need-slice-aggregate-put-2
+slice-aggregate-put-2 c = search needs
+
+put-requires-2 : tie.Need-put-requires-2
+put-requires-2 c κs = search needs
+
+grown-requires : tie.Need-grown-requires
+grown-requires c κs = search needs
+
+same-length-3 : tie.Need-same-length-3
+same-length-3 c = search needs
+
+returns-3 : tie.Need-returns-3
+returns-3 c =
+    let pre = c .before .before .before .before .before .before .before .before .before .before .before .before .before .before .before .before .before .before .before .before .pre in
+    grown-table (c .before .before .before .before .before .before .before .before .before .before .before .before .before .before .before .before .one-field .ensures) _ _ (omega (arith, c .before .before .before .before .before .before .before .before .before .before .before .before .before .if1 .left)) (omega (arith, pre .2)) _ _ _ (c .before .before .before .before .before .before .before .before .spell .ensures .0) (c .before .before .before .before .before .before .before .before .spell .ensures .1) (c .grown .ensures)
+
+pub field-and-token-spec : {M : Type 1} → statement M
+field-and-token-spec =
+    tie.close
+    (tie.spec
+    one-field-requires
+    sub-if1
+    same-length
+    returns
+    slice-aggregate-ends-with
+    ends-with-requires
+    same-length-2
+    returns-2
+    sub-spell
+    spell-requires
+    slice-aggregate-put
+    put-requires
+    put-spelled-requires
+    slice-aggregate-put-2
+    put-requires-2
+    grown-requires
+    same-length-3
+    returns-3)
