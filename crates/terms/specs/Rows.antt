@@ -60,6 +60,11 @@ unfoldable pub groups-of-words : List ℕ → ℕ → List (List ℕ)
 groups-of-words ws zero = []
 groups-of-words ws (suc g) = groups-of-words ws g ++ (group-of-words ws g ∷ [])
 
+-- how many words from the first on are of a group
+unfoldable pub group-run : ℕ → List ℕ → ℕ
+group-run g [] = 0
+group-run g (w ∷ ws) = let more = group-run g ws in cond (eqb (w / 4096) g) (1 + more) 0
+
 -- the op word of a code
 unfoldable pub op-of-code : ℕ → Op
 op-of-code zero = TrueOp
@@ -134,6 +139,9 @@ pub record Rows (refs rows : List ℕ) (used many named : ℕ) : Type 0 where
   pub single : (t : ℕ) → t < many → row-kind rows t ≡ 7 → row-end rows used many t ≡ row-start rows t + 1
   pub grouped : (t i : ℕ) → t < many → T (has-groups (row-kind rows t)) → row-start rows t < i → i < row-end rows used many t
       → getD refs i 0 / 4096 < row-extra rows t
+  -- and stand in the order of the groups
+  pub rising : (t i : ℕ) → t < many → T (has-groups (row-kind rows t)) → row-start rows t < i → i + 1 < row-end rows used many t
+      → getD refs i 0 / 4096 ≤ getD refs (i + 1) 0 / 4096
 
 -- the word of a row
 unfoldable pub row-word : ℕ → ℕ → ℕ → ℕ
@@ -145,13 +153,17 @@ with-row rows many word start extra = set (set (set rows many word) (4096 + many
 
 -- what adding a row comes to: at 4,096 rows the table is full and nothing changes
 unfoldable pub added : ℕ → Added
-added many = cond (ltb many 4096) adds.Row adds.Full
+added many = cond (ltb many 4096) adds.Done adds.Full
 
 -- the rows then
 unfoldable pub rows-after : List ℕ → ℕ → ℕ → ℕ → ℕ → List ℕ
 rows-after rows many word start extra = cond (ltb many 4096) (with-row rows many word start extra) rows
 
--- the references with one more, unless they are full
+-- what pushing a reference comes to: at 16,384 they are full and nothing changes
+unfoldable pub push-answer : ℕ → Added
+push-answer used = cond (ltb used 16384) adds.Done adds.Full
+
+-- the references then
 unfoldable pub pushed : List ℕ → ℕ → ℕ → List ℕ
 pushed refs used word = cond (ltb used 16384) (set refs used word) refs
 
@@ -182,26 +194,28 @@ pub record Named (name : ℕ → Name) (names : List ℕ) (named : ℕ) : Type 0
   pub distinct : (m n : ℕ) → m < named → n < named → name m ≡ name n → m ≡ n
   pub excluded : (n : ℕ) → n < named → is-excluded (getD names (6144 + n) 0) ≡ mem (name n) exclude-names
 
+-- where the names end after gathering: at the room's end where there is no room for all
+unfoldable pub ended : ℕ → Walked → ℕ
+ended room (walks.Names n) = n
+ended room walks.Full = room
+
 -- what gathering a set of names into a slice from `at` on comes to, where there is room up to `room`: the numbers of its
--- names, each once, or that there are more than fit
-pub data Gathers (name : ℕ → Name) (set : List Name) (at room : ℕ) (out : List ℕ) : Walked → Type 0 where
+-- names, each once and each below `named`, or numbers of some of its names and that there are more than fit
+pub data Gathers (name : ℕ → Name) (named : ℕ) (set : List Name) (at room : ℕ) (out : List ℕ) : Walked → Type 0 where
   all-names : {n : ℕ}
       → from-list (map name (words out at n)) ≡ set → length set + at ≡ n → n ≤ room
-      → Gathers name set at room out (walks.Names n)
-  no-room : room < length set + at → Gathers name set at room out walks.Full
+      → ((i : ℕ) → at ≤ i → i < n → getD out i 0 < named)
+      → Gathers name named set at room out (walks.Names n)
+  no-room : room < length set + at
+      → ((i : ℕ) → at ≤ i → i < room → (getD out i 0 < named) × T (mem (name (getD out i 0)) set))
+      → Gathers name named set at room out walks.Full
 
--- after gathering, the names with the set's mark are those in the slice
-pub data Marks (names out : List ℕ) (mark at : ℕ) : Walked → Type 0 where
-  listed : {n : ℕ} → ((k : ℕ) → k < 2048 → (name-mark names k ≡ mark) ↔ List·Memᴰ k (words out at n))
-      → Marks names out mark at (walks.Names n)
-  cut : Marks names out mark at walks.Full
-
--- the slices after gathering: in the tables only marks change, each to the set's or not at all; in `out` only the places
--- from `at` up to `room`
+-- the slices after gathering: in the tables only marks change, each to the set's or not at all; in `out` only the places of
+-- the numbers; the names with the set's mark are those in `out`
 pub record Gathered (names rows out names′ rows′ out′ : List ℕ) (mark at room : ℕ) (r : Walked) : Type 0 where
   pub names-same : Same-but 8192 2048 names names′
   pub rows-same : Same-but 12288 4096 rows rows′
-  pub out-same : Same-but at (room - at) out out′
+  pub out-same : Same-but at (ended room r - at) out out′
   pub name-marks : (k : ℕ) → k < 2048 → (name-mark names′ k ≡ mark) ⊎ (name-mark names′ k ≡ name-mark names k)
   pub row-marks : (t : ℕ) → t < 4096 → (row-mark rows′ t ≡ mark) ⊎ (row-mark rows′ t ≡ row-mark rows t)
-  pub marks : Marks names′ out′ mark at r
+  pub marks : (k : ℕ) → k < 2048 → (name-mark names′ k ≡ mark) ↔ List·Memᴰ k (words out′ at (ended room r))

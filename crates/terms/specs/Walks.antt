@@ -8,7 +8,7 @@ use lib.ListN.{length, getD}
 use lib.Dec.{T}
 use Rattle.terms.specs.declared.Walked.{Walked}
 use Rattle.terms.specs.declared.Walked.the-variants as walks
-use Rattle.terms.specs.Rows.{row-kind, row-head, row-start, row-end, has-head, is-excluded, Rows, Same-but, row-mark, name-mark}
+use Rattle.terms.specs.Rows.{row-kind, row-head, row-start, row-end, has-head, is-excluded, Rows, Same-but, row-mark, name-mark, ended}
 
 -- name number k is free in term t: its head, or free in a term that it names
 pub data Occurs (refs rows : List ℕ) (used many : ℕ) : ℕ → ℕ → Type 0 where
@@ -65,11 +65,6 @@ pub record References (refs : List ℕ) (used many a e : ℕ) : Type 0 where
   pub in-order : a ≤ e
   pub in-use : e ≤ used
   pub in-table : (i : ℕ) → a ≤ i → i < e → getD refs i 0 % 4096 < many
-
--- where the names end after a walk
-unfoldable pub ended : ℕ → Walked → ℕ
-ended room (walks.Names n) = n
-ended room walks.Full = room
 
 -- the names with the mark are those in `out` from a place up to n, each once
 pub record Listed (names out : List ℕ) (mark from n : ℕ) : Type 0 where

@@ -5,12 +5,12 @@ ghost use lib.Dec.{T};
 ghost use lib.ListN.{length, getD};
 ghost use Rattle.model.specs.Names.{Name};
 ghost use Rattle.model.specs.Summaries.{exclude-names, free-top-level-names, group-names};
-ghost use Rattle.terms.specs.Rows.{row-kind, row-op, row-head, row-start, row-extra, row-end, terms-of-words, words, bare-of, terms-of, Rows, row-word, added, rows-after, pushed, Fresh, Named, Gathers, Gathered, has-head, is-excluded};
+ghost use Rattle.terms.specs.Rows.{row-kind, row-op, row-head, row-start, row-extra, row-end, terms-of-words, words, bare-of, terms-of, Rows, row-word, added, rows-after, pushed, push-answer, group-run, Fresh, Named, Gathers, Gathered, has-head, is-excluded};
 ghost use Rattle.terms.specs.Walks.{Own, Free, Among, Heads, Ready, References, Steps, Walks};
 
-// What adding a row comes to.
+// What adding a row or a reference comes to.
 pub enum Added {
-    Row,
+    Done,
     Full,
 }
 
@@ -29,13 +29,16 @@ fn at(w: &[u32], i: usize) -> usize
 }
 
 // Pushes a reference to a term, in a group of its quantifier; the references so far are `used`. Full references stay.
-pub fn push(refs: &mut [u32], used: usize, term: usize, group: usize)
+pub fn push(refs: &mut [u32], used: usize, term: usize, group: usize) -> Added
     requires { ⌜ (16384 ≤ length (now refs)) × (term < 4096) × (group < 65536) ⌝ }
-    ensures { λ _. ⌜ now (refs .exit) ≡ pushed (now (refs .entry)) used (term + 4096 * group) ⌝ }
+    ensures answer { λ r. ⌜ r ≡ push-answer used ⌝ }
+    ensures refs { λ r. ⌜ now (refs .exit) ≡ pushed (now (refs .entry)) used (term + 4096 * group) ⌝ }
 {
-    if used < 16384 {
-        refs[used] = (term + 4096 * group) as u32;
+    if 16384 <= used {
+        return Added::Full;
     }
+    refs[used] = (term + 4096 * group) as u32;
+    Added::Done
 }
 
 // Adds a row: kind, op word and head name, where its references start, and its groups or the term under a run of labels.
@@ -58,7 +61,7 @@ pub fn add_row(
     rows[many] = (kind + 8 * (op + 8 * head)) as u32;
     rows[4096 + many] = start as u32;
     rows[8192 + many] = extra as u32;
-    Added::Row
+    Added::Done
 }
 
 // The kind of a row: free 0, leaf 1, call 2, op 3, all 4, some 5, let 6, label 7.
@@ -137,6 +140,21 @@ pub fn group(refs: &[u32], i: usize) -> usize
     ensures { λ r. ⌜ r ≡ getD (now (refs .entry)) i 0 / 4096 ⌝ }
 {
     at(refs, i) / 4096
+}
+
+// The first place from `a` up to `e` whose reference is not of the group, or `e`.
+pub fn group_end(refs: &[u32], a: usize, e: usize, g: usize) -> usize
+    requires { ⌜ (a ≤ e) × (e ≤ length (now refs)) ⌝ }
+    ensures { λ r. ⌜ r ≡ a + group-run g (words (now (refs .entry)) a e) ⌝ }
+{
+    let mut i = a;
+    while i < e {
+        if group(refs, i) != g {
+            return i;
+        }
+        i += 1;
+    }
+    e
 }
 
 // Whether rows of this kind have a head name.
@@ -268,8 +286,8 @@ pub fn gather_term(
     from: usize,
     room: usize,
 ) -> Walked
-    requires { ⌜ Rows (now refs) (now rows) used many named × (16384 ≤ length (now names)) × (t < many) × Fresh (now names) (now rows) mark × (mark + 1 < 4294967296) × (from ≤ room) × (room ≤ length (now out)) ⌝ }
-    ensures set { λ r. ⌜ ((name : ℕ → Name) → Named name (now (names .entry)) named → Gathers name (free-top-level-names exclude-names (terms-of name (now (refs .entry)) (now (rows .entry)) used many) t) from room (now (out .exit)) r) ⌝ }
+    requires { ⌜ Rows (now refs) (now rows) used many named × (16384 ≤ length (now names)) × (t < many) × Fresh (now names) (now rows) mark × (from ≤ room) × (room ≤ length (now out)) ⌝ }
+    ensures set { λ r. ⌜ ((name : ℕ → Name) → Named name (now (names .entry)) named → Gathers name named (free-top-level-names exclude-names (terms-of name (now (refs .entry)) (now (rows .entry)) used many) t) from room (now (out .exit)) r) ⌝ }
     ensures slices { λ r. ⌜ Gathered (now (names .entry)) (now (rows .entry)) (now (out .entry)) (now (names .exit)) (now (rows .exit)) (now (out .exit)) mark from room r ⌝ }
 {
     walk_term(names, refs, rows, out, used, many, t, mark, from, room)
@@ -290,8 +308,8 @@ pub fn gather_list(
     from: usize,
     room: usize,
 ) -> Walked
-    requires { ⌜ Rows (now refs) (now rows) used many named × (16384 ≤ length (now names)) × (a ≤ e) × (e ≤ used) × ((i : ℕ) → a ≤ i → i < e → getD (now refs) i 0 % 4096 < many) × Fresh (now names) (now rows) mark × (mark + 1 < 4294967296) × (from ≤ room) × (room ≤ length (now out)) ⌝ }
-    ensures set { λ r. ⌜ ((name : ℕ → Name) → Named name (now (names .entry)) named → Gathers name (group-names exclude-names (terms-of name (now (refs .entry)) (now (rows .entry)) used many) (terms-of-words (words (now (refs .entry)) a e))) from room (now (out .exit)) r) ⌝ }
+    requires { ⌜ Rows (now refs) (now rows) used many named × (16384 ≤ length (now names)) × (a ≤ e) × (e ≤ used) × ((i : ℕ) → a ≤ i → i < e → getD (now refs) i 0 % 4096 < many) × Fresh (now names) (now rows) mark × (from ≤ room) × (room ≤ length (now out)) ⌝ }
+    ensures set { λ r. ⌜ ((name : ℕ → Name) → Named name (now (names .entry)) named → Gathers name named (group-names exclude-names (terms-of name (now (refs .entry)) (now (rows .entry)) used many) (terms-of-words (words (now (refs .entry)) a e))) from room (now (out .exit)) r) ⌝ }
     ensures slices { λ r. ⌜ Gathered (now (names .entry)) (now (rows .entry)) (now (out .entry)) (now (names .exit)) (now (rows .exit)) (now (out .exit)) mark from room r ⌝ }
 {
     walk_list(names, refs, rows, out, used, many, a, e, mark, from, room)
