@@ -7,7 +7,7 @@ use mathlib.Core.Path.{_≡_, refl, sym, ap, ap₂, _∙_}
 use mathlib.Core.Logic.{_⊎_, inl, inr, ⊎-elim}
 use mathlib.Core.List.{List, [], _∷_, _++_, List·Memᴰ}
 use lib.ListN.{length, drop, getD, set, length-set, length-drop}
-use lib.Seq.{take-suc, getD-drop, getD-set-same, getD-set-other}
+use lib.Seq.{take-suc, getD-drop, getD-take, getD-set-same, getD-set-other}
 use lib.Dec.{T}
 use Rattle.model.specs.Lists.{fold-left}
 use Rattle.model.specs.Names.{Name}
@@ -36,6 +36,7 @@ empty-rows refs rows named a b c = record {
   childless = λ t l. absurd (not-suc-le-zero l);
   single = λ t l. absurd (not-suc-le-zero l);
   grouped = λ t i l. absurd (not-suc-le-zero l);
+  rising = λ t i l. absurd (not-suc-le-zero l);
 }
 
 -- ---- more names
@@ -70,6 +71,13 @@ words-same : (l m : List ℕ) (d a e : ℕ) → e - a ≡ d → e ≤ length l �
 words-same l m zero a e q x y h = rw (words-nil m a e (omega arith), words-nil l a e (omega arith))
 words-same l m (suc d) a e q x y h =
     words-cons m a e (omega arith) y ∙ ap₂ _∷_ (h a (omega arith)) (words-same l m d (a + 1) e (omega arith) x y h) ∙ sym (words-cons l a e (omega arith) x)
+
+-- a word by its place
+words-at : (l : List ℕ) (a e i : ℕ) → a ≤ i → i < e → getD (words l a e) (i - a) 0 ≡ getD l i 0
+words-at l a e i h k =
+    let n : i - a < e - a = omega arith in
+    let q : a + (i - a) ≡ i = omega arith in
+    rw (getD-take (e - a) (drop a l) (i - a) 0 n, getD-drop a l (i - a) 0, q)
 
 -- words with one more at their end
 words-snoc : (l : List ℕ) (a e : ℕ) → a ≤ e → e < length l → words l a (e + 1) ≡ words l a e ++ (getD l e 0 ∷ [])
@@ -118,6 +126,7 @@ pub record New-row (refs rows : List ℕ) (used many named : ℕ) (refs′ ws : 
   pub childless : kind < 2 → ws ≡ []
   pub single : kind ≡ 7 → length ws ≡ 1
   pub grouped : T (has-groups kind) → (w : ℕ) → List·Memᴰ w (drop 1 ws) → w / 4096 < extra
+  pub rising : T (has-groups kind) → (i : ℕ) → 0 < i → i + 1 < length ws → getD ws i 0 / 4096 ≤ getD ws (i + 1) 0 / 4096
 
 module _ {refs rows : List ℕ} {used many named : ℕ} {refs′ ws : List ℕ} {used′ kind op head extra : ℕ} (n : New-row refs rows used many named refs′ ws used′ kind op head extra) where
   -- the rows then
@@ -247,6 +256,13 @@ module _ {refs rows : List ℕ} {used many named : ℕ} {refs′ ws : List ℕ} 
       let f = n .few-references in
       rw (← (n .holds), words-drop) (words-intro refs′ (used + 1) used′ i (omega arith) (omega arith) b)
 
+  -- a word of the new references by its place
+  word-at : (i : ℕ) → used ≤ i → i < used′ → getD refs′ i 0 ≡ getD ws (i - used) 0
+  word-at i a b =
+      let r = n .ref-room in
+      let f = n .few-references in
+      rw (← (n .holds)) (sym (words-at refs′ used used′ i a b))
+
   -- a row of the table is an old one or the new one
   old-or-new : (t : ℕ) → t < many + 1 → (t < many) ⊎ (t ≡ many)
   old-or-new t l = ⊎-elim inr (λ (e : t ≡ many → ⊥). inl (omega arith)) (equal t many)
@@ -294,6 +310,7 @@ module _ {refs rows : List ℕ} {used many named : ℕ} {refs′ ws : List ℕ} 
             (λ (e : t ≡ many). rw (e, start-new, end-new) (omega (arith, n .single (rw (e, kind-new) at h), n .ends)))
             (old-or-new t l);
         grouped = λ t i l h a b. grouped′ t i h a b (old-or-new t l);
+        rising = λ t i l h a b. rising′ t i h a b (old-or-new t l);
       }
     where
       agree : (t i : ℕ) → t < many → i < row-end rows used many t → getD refs′ i 0 ≡ getD refs i 0
@@ -324,6 +341,17 @@ module _ {refs rows : List ℕ} {used many named : ℕ} {refs′ ws : List ℕ} 
           let y : i < row-end rows used many t = rw (end-old t k) at b in
           rw (extra-old t k, agree t i k y) (n .table .grouped t i k (rw (kind-old t k) at h) (rw (start-old t k) at a) y)
       grouped′ t i h a b (inr e) = rw (e, extra-new) (n .grouped (rw (e, kind-new) at h) (getD refs′ i 0) (word-rest i (rw (e, start-new) at a) (rw (e, end-new) at b)))
+
+      rising′ : (t i : ℕ) → T (has-groups (row-kind rows′ t)) → row-start rows′ t < i → i + 1 < row-end rows′ used′ (many + 1) t → (t < many) ⊎ (t ≡ many) → getD refs′ i 0 / 4096 ≤ getD refs′ (i + 1) 0 / 4096
+      rising′ t i h a b (inl k) =
+          let y : i + 1 < row-end rows used many t = rw (end-old t k) at b in
+          rw (agree t i k (omega arith), agree t (i + 1) k y) (n .table .rising t i k (rw (kind-old t k) at h) (rw (start-old t k) at a) y)
+      rising′ t i h a b (inr e) =
+          let x : used < i = rw (e, start-new) at a in
+          let y : i + 1 < used′ = rw (e, end-new) at b in
+          let z : i + 1 - used ≡ i - used + 1 = omega arith in
+          let d = n .ends in
+          rw (word-at i (omega arith) (omega arith), word-at (i + 1) (omega arith) y, z) (n .rising (rw (e, kind-new) at h) (i - used) (omega arith) (omega arith))
 
   module _ (name : ℕ → Name) where
     -- an old row's node

@@ -9,8 +9,8 @@ use Rattle.model.specs.Names.{Name}
 use Rattle.model.specs.Summaries.{exclude-names, free-top-level-names, group-names}
 use Rattle.terms.specs.declared.Walked.{Walked}
 use Rattle.terms.specs.declared.Walked.the-variants as walks
-use Rattle.terms.specs.Rows.{words, terms-of-words, terms-of, Rows, row-mark, name-mark, Fresh, Named, Gathers, Marks, listed, cut, Gathered}
-use Rattle.terms.specs.Walks.{Free, Among, Closed, Ready, References, Steps, Walks, Listed, ended}
+use Rattle.terms.specs.Rows.{words, terms-of-words, terms-of, Rows, row-mark, name-mark, Fresh, Named, ended, Gathers, Gathered}
+use Rattle.terms.specs.Walks.{Free, Among, Closed, Ready, References, Steps, Walks, Listed}
 use Rattle.terms.proofs.Table.{words-elim, words-intro}
 use Rattle.terms.proofs.Naming.{occurs-named, term-set, list-set, start-listed, steps-gathers}
 
@@ -31,6 +31,7 @@ rows-named h l r = record {
   childless = r .childless;
   single = r .single;
   grouped = r .grouped;
+  rising = r .rising;
 }
 
 -- no name has a new mark yet
@@ -38,17 +39,15 @@ fresh-name : {names rows : List ℕ} {mark : ℕ} → Fresh names rows mark → 
 fresh-name new k l e = let h = new .name-marks k l in omega arith
 
 -- the names with the mark are those in the slice
-marks-of : {P : ℕ → Type 0} {names out names′ out′ : List ℕ} {mark from room : ℕ} (answer : Walked) → ((k : ℕ) → k < 2048 → name-mark names k ≡ mark → ⊥) → room ≤ length out
-    → Steps P names out names′ out′ mark from room answer → Marks names′ out′ mark from answer
-unfolding ended
-marks-of {names′} {out′} {mark} {from} (walks.Names n) fresh high s =
-    let w : Listed names′ out′ mark from n = s .listed from (omega arith) (start-listed fresh) in
-    let fits : n ≤ length out′ = omega (arith, s .out-same .same-length, s .fits) in
-    listed (λ k l. (
-      λ e. let (i, (a, b, q)) = w .place k l e in Memᴰ·cast (sym q) (words-intro out′ from n i fits a b),
-      λ m. let p = words-elim {l = out′} {a = from} {e = n} fits m in rw (p .is) at (w .marked (p .place) (p .low) (p .high)),
-    ))
-marks-of walks.Full fresh high s = cut
+marks-of : {P : ℕ → Type 0} {names out names′ out′ : List ℕ} {mark from room : ℕ} {answer : Walked} → ((k : ℕ) → k < 2048 → name-mark names k ≡ mark → ⊥) → room ≤ length out
+    → Steps P names out names′ out′ mark from room answer → (k : ℕ) → k < 2048 → (name-mark names′ k ≡ mark) ↔ List·Memᴰ k (words out′ from (ended room answer))
+marks-of {names′} {out′} {mark} {from} {room} {answer} fresh high s k l =
+    let w : Listed names′ out′ mark from (ended room answer) = s .listed from (omega arith) (start-listed fresh) in
+    let fits : ended room answer ≤ length out′ = omega (arith, s .out-same .same-length, s .fits) in
+    (
+      λ e. let (i, (a, b, q)) = w .place k l e in Memᴰ·cast (sym q) (words-intro out′ from (ended room answer) i fits a b),
+      λ m. let p = words-elim {l = out′} {a = from} {e = ended room answer} fits m in rw (p .is) at (w .marked (p .place) (p .low) (p .high)),
+    )
 
 module _ {names refs rows out : List ℕ} {used many named mark from room : ℕ} (r : Rows refs rows used many named) (new : Fresh names rows mark) where
   -- the slices are ready for a walk
@@ -67,13 +66,13 @@ module _ {names refs rows out : List ℕ} {used many named mark from room : ℕ}
   module _ {names′ rows′ out′ : List ℕ} {answer : Walked} (low : from ≤ room) (high : room ≤ length out) where
     -- a walk of a term gathers its names
     pub gathers-term : {t : ℕ} → t < many → Walks (Free names refs rows used many t) names refs rows out names′ rows′ out′ used many mark from room answer
-        → (name : ℕ → Name) → Named name names named → Gathers name (free-top-level-names exclude-names (terms-of name refs rows used many) t) from room out′ answer
+        → (name : ℕ → Name) → Named name names named → Gathers name named (free-top-level-names exclude-names (terms-of name refs rows used many) t) from room out′ answer
     gathers-term {t} l w name d =
         steps-gathers names out names′ out′ mark from room named low high (fresh-name new) (λ k f. (occurs-named r l (f .occurs), f .counts .small)) (d .distinct) (term-set name r d t l) (w .steps)
 
     -- a walk of a list gathers its names
     pub gathers-list : {a e : ℕ} → References refs used many a e → Walks (Among names refs rows used many a e) names refs rows out names′ rows′ out′ used many mark from room answer
-        → (name : ℕ → Name) → Named name names named → Gathers name (group-names exclude-names (terms-of name refs rows used many) (terms-of-words (words refs a e))) from room out′ answer
+        → (name : ℕ → Name) → Named name names named → Gathers name named (group-names exclude-names (terms-of name refs rows used many) (terms-of-words (words refs a e))) from room out′ answer
     gathers-list g w name d =
         steps-gathers names out names′ out′ mark from room named low high (fresh-name new) (λ k f. (occurs-named r (g .in-table (f .place) (f .low) (f .high)) (f .free .occurs), f .free .counts .small)) (d .distinct) (list-set name r d g) (w .steps)
 
@@ -85,5 +84,5 @@ module _ {names refs rows out : List ℕ} {used many named mark from room : ℕ}
       out-same = w .steps .out-same;
       name-marks = w .steps .name-marks;
       row-marks = w .row-marks;
-      marks = marks-of answer (fresh-name new) high (w .steps);
+      marks = marks-of (fresh-name new) high (w .steps);
     }

@@ -9,7 +9,7 @@ use lib.Dec.{T, eqb, ltb}
 use borrow.Author.Tests.{eq-eqb, ne-eqb, lt-ltb, le-ltb}
 use Rattle.terms.specs.declared.Added.{Added}
 use Rattle.terms.specs.declared.Added.the-variants as adds
-use Rattle.terms.specs.Rows.{row-kind, row-start, row-extra, row-end, bare-of, has-head, is-excluded, added, rows-after, with-row, pushed}
+use Rattle.terms.specs.Rows.{row-kind, row-start, row-extra, row-end, bare-of, has-head, is-excluded, added, rows-after, with-row, pushed, push-answer}
 
 -- ---- rows
 
@@ -43,8 +43,18 @@ pub pushed-full : (refs : List ℕ) (used word : ℕ) → 16384 ≤ used → pus
 unfolding pushed
 pushed-full refs used word h = rw (le-ltb used 16384 h)
 
+-- the answer where there is room
+pub answer-in : (used : ℕ) → used < 16384 → push-answer used ≡ adds.Done
+unfolding push-answer
+answer-in used h = rw (lt-ltb used 16384 h)
+
+-- the answer of full references
+pub answer-full : (used : ℕ) → 16384 ≤ used → push-answer used ≡ adds.Full
+unfolding push-answer
+answer-full used h = rw (le-ltb used 16384 h)
+
 -- a row goes in where there is room
-pub added-in : (rows : List ℕ) (many word start extra : ℕ) → many < 4096 → (added many ≡ adds.Row) × (rows-after rows many word start extra ≡ with-row rows many word start extra)
+pub added-in : (rows : List ℕ) (many word start extra : ℕ) → many < 4096 → (added many ≡ adds.Done) × (rows-after rows many word start extra ≡ with-row rows many word start extra)
 unfolding added rows-after
 added-in rows many word start extra h = (rw (lt-ltb many 4096 h), rw (lt-ltb many 4096 h))
 

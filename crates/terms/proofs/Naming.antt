@@ -17,8 +17,8 @@ use Rattle.model.proofs.ListLaws.{T-false, false-T, map-intro, map-elim}
 use Rattle.model.proofs.SetLaws.{mem-intro, mem-elim, mem-cons, mem-first, mem-later, mem-union, mem-from-list, mem-diff, mem-add, Compared, first, equal as equal-names, second, compared, Ascending, empty, ascending-union, ascending-from-list, ascending-diff, ascending-ext, subset-length}
 use Rattle.terms.specs.declared.Walked.{Walked}
 use Rattle.terms.specs.declared.Walked.the-variants as walks
-use Rattle.terms.specs.Rows.{row-kind, row-op, row-head, row-start, row-extra, row-end, words, terms-of-words, op-of-code, node-of, terms-of, Rows, has-head, is-excluded, row-mark, name-mark, Fresh, Named, Gathers, all-names, no-room, Marks, listed, cut, Gathered}
-use Rattle.terms.specs.Walks.{Occurs, own, under, Counted, Free, Among, Closed, Ready, References, Comes, whole, over, Steps, Walks, Listed, ended}
+use Rattle.terms.specs.Rows.{row-kind, row-op, row-head, row-start, row-extra, row-end, words, terms-of-words, op-of-code, node-of, terms-of, Rows, has-head, is-excluded, row-mark, name-mark, Fresh, Named, Gathers, all-names, no-room, ended, Gathered}
+use Rattle.terms.specs.Walks.{Occurs, own, under, Counted, Free, Among, Closed, Ready, References, Comes, whole, over, Steps, Walks, Listed}
 use Rattle.terms.proofs.Table.{own-names, words-nil, words-cons, words-length, words-elim, words-intro, Place, Inside, Named-by, node-elim, node-intro, own-elim, own-intro, refs-elim, refs-intro, table, entry, table-all, table-term, table-ascending, row-right, kind-small}
 
 -- ---- the free names of a term
@@ -237,8 +237,8 @@ module _ {P : ℕ → Type 0} (names out names′ out′ : List ℕ) (mark from 
     listed-length l = length-map (words out′ from n) name ∙ words-length out′ from n fits
 
     -- all names are in the slice
-    gathers-all : from ≤ n → n ≤ room → ((k : ℕ) → P k → name-mark names′ k ≡ mark) → Gathers name set from room out′ (walks.Names n)
-    gathers-all l b all = all-names same (rw (← same) (omega (arith, apart-length listed-apart, listed-length l))) b
+    gathers-all : from ≤ n → n ≤ room → ((k : ℕ) → P k → name-mark names′ k ≡ mark) → Gathers name named set from room out′ (walks.Names n)
+    gathers-all l b all = all-names same (rw (← same) (omega (arith, apart-length listed-apart, listed-length l))) b (λ i a c. small _ (listed-in i a c) .0)
       where
         same : from-list (map name (words out′ from n)) ≡ set
         same = ascending-ext (ascending-from-list (map name (words out′ from n))) (s .is-set)
@@ -247,8 +247,10 @@ module _ {P : ℕ → Type 0} (names out names′ out′ : List ℕ) (mark from 
             mem-from-list x (map name (words out′ from n)) .1 (rw (e, ← q) (place-map name out′ from n i fits a c)))
 
     -- a name of the set is not in the slice, which is full
-    gathers-over : from ≤ n → room ≡ n → {k : ℕ} → P k → (name-mark names′ k ≡ mark → ⊥) → Gathers name set from room out′ walks.Full
-    gathers-over l q {k} p new = no-room (omega (arith, apart-length longer, listed-length l, subset-length (ascending-from-list (name k ∷ map name (words out′ from n))) (s .is-set) within))
+    gathers-over : from ≤ n → room ≡ n → {k : ℕ} → P k → (name-mark names′ k ≡ mark → ⊥) → Gathers name named set from room out′ walks.Full
+    gathers-over l q {k} p new = no-room
+        (omega (arith, apart-length longer, listed-length l, subset-length (ascending-from-list (name k ∷ map name (words out′ from n))) (s .is-set) within))
+        (λ i a c. let m = listed-in i a (omega arith) in (small _ m .0, s .into (getD out′ i 0) m))
       where
         longer : Apart (name k ∷ map name (words out′ from n))
         longer = more (λ t. let (i, (a, c, e)) = map-place name out′ from n fits t in
@@ -260,7 +262,7 @@ module _ {P : ℕ → Type 0} (names out names′ out′ : List ℕ) (mark from 
             (mem-cons x (name k) (map name (words out′ from n)) .0 (mem-from-list x (name k ∷ map name (words out′ from n)) .0 t))
 
   -- what a walk of the set's names comes to
-  pub steps-gathers : {r : Walked} → Steps P names out names′ out′ mark from room r → Gathers name set from room out′ r
+  pub steps-gathers : {r : Walked} → Steps P names out names′ out′ mark from room r → Gathers name named set from room out′ r
   unfolding ended
   steps-gathers {r = walks.Names n} w =
       gathers-all n (rw (w .out-same .same-length) (omega (arith, w .fits))) (w .listed from (omega arith) (start-listed fresh)) (w .sound) (w .grows) (w .fits) (all (w .comes))
@@ -269,5 +271,5 @@ module _ {P : ℕ → Type 0} (names out names′ out′ : List ℕ) (mark from 
       all (whole a) = a
   steps-gathers {r = walks.Full} w = go (w .comes)
     where
-      go : Comes P names′ mark walks.Full → Gathers name set from room out′ walks.Full
+      go : Comes P names′ mark walks.Full → Gathers name named set from room out′ walks.Full
       go (over {k} p l new) = gathers-over room (rw (w .out-same .same-length) high) (w .listed from (omega arith) (start-listed fresh)) (w .sound) low refl p new

@@ -11,8 +11,8 @@ use lib.Dec.{eqb, ltb}
 use borrow.Author.Tests.{eqb-true, eqb-false, ltb-true, ltb-false}
 use Rattle.terms.specs.declared.Walked.{Walked}
 use Rattle.terms.specs.declared.Walked.the-variants as walks
-use Rattle.terms.specs.Rows.{Same-but, name-mark}
-use Rattle.terms.specs.Walks.{Listed, Comes, whole, over, Steps, ended}
+use Rattle.terms.specs.Rows.{Same-but, name-mark, ended}
+use Rattle.terms.specs.Walks.{Listed, Comes, whole, over, Steps}
 
 -- two numbers are equal or not
 pub equal : (m n : ℕ) → (m ≡ n) ⊎ (m ≡ n → ⊥)
@@ -62,7 +62,7 @@ module _ {P : ℕ → Type 0} {names out : List ℕ} {mark count room : ℕ} whe
   unfolding ended
   steps-stay h all = record {
     names-same = same-self 8192 2048 names;
-    out-same = same-self count (room - count) out;
+    out-same = same-self count (count - count) out;
     name-marks = λ k l. inr refl;
     grows = omega arith;
     fits = h;
@@ -147,7 +147,7 @@ steps-one {P} {names} {out} {mark} {count} {room} k small long low high new p on
     let other = mark-other names out mark count k small long (omega arith) new in
     record {
       names-same = same-set 8192 2048 names (8192 + k) mark (omega arith) (omega arith);
-      out-same = same-set count (room - count) out count k (omega arith) (omega arith);
+      out-same = same-set count (count + 1 - count) out count k (omega arith) (omega arith);
       name-marks = λ m l. ⊎-elim (λ e. inl (rw e same)) (λ n. inr (other m n)) (equal m k);
       grows = omega arith;
       fits = omega arith;
@@ -207,11 +207,12 @@ module _ {P Q : ℕ → Type 0} where
       → Steps P names out names′ out′ mark count room (walks.Names n) → Steps Q names′ out′ names″ out″ mark n room r
       → Steps (λ k. P k ⊎ Q k) names out names″ out″ mark count room r
   unfolding ended
-  steps-then {count} {n} {room} b s t =
+  steps-then {count} {n} {room} {r} b s t =
       let g : count ≤ n = s .grows in
+      let m : n ≤ ended room r = t .grows in
       record {
         names-same = same-then (s .names-same) (t .names-same);
-        out-same = same-then (s .out-same) (same-wider count (room - count) g (omega (arith, s .fits)) (t .out-same));
+        out-same = same-then (same-wider count (ended room r - count) (omega arith) (omega arith) (s .out-same)) (same-wider count (ended room r - count) g (omega arith) (t .out-same));
         name-marks = λ k l. ⊎-elim inl (λ e. ⊎-elim (λ f. inl (e ∙ f)) (λ f. inr (e ∙ f)) (s .name-marks k l)) (t .name-marks k l);
         grows = omega (arith, t .grows);
         fits = t .fits;

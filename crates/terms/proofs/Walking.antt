@@ -11,8 +11,8 @@ use lib.Dec.{T, ltb}
 use borrow.Author.Tests.{ltb-true}
 use Rattle.terms.specs.declared.Walked.{Walked}
 use Rattle.terms.specs.declared.Walked.the-variants as walks
-use Rattle.terms.specs.Rows.{row-kind, row-head, row-start, row-extra, row-end, has-head, has-body, bare-of, Rows, Same-but, row-mark, name-mark, is-excluded}
-use Rattle.terms.specs.Walks.{Occurs, own, under, Counted, Own, Free, Among, Heads, Closed, Ready, References, Comes, whole, Steps, Walks, ended}
+use Rattle.terms.specs.Rows.{row-kind, row-head, row-start, row-extra, row-end, has-head, has-body, bare-of, Rows, Same-but, row-mark, name-mark, is-excluded, ended}
+use Rattle.terms.specs.Walks.{Occurs, own, under, Counted, Own, Free, Among, Heads, Closed, Ready, References, Comes, whole, Steps, Walks}
 use Rattle.terms.proofs.Laws.{bare-label, bare-own}
 use Rattle.terms.proofs.Steps.{equal, same-self, same-back, same-then, same-set, steps-stay, steps-kept, steps-as, steps-full, steps-then}
 
@@ -84,6 +84,7 @@ module _ {refs rows rows′ : List ℕ} {used many named : ℕ} where
         childless = λ t l h. rw (start-same s t (omega arith), end-same s used many t few l) (r .childless t l (rw (kind-same s t (omega arith)) at h));
         single = λ t l h. rw (start-same s t (omega arith), end-same s used many t few l) (r .single t l (rw (kind-same s t (omega arith)) at h));
         grouped = λ t i l h a b. rw (extra-same s t (omega arith)) (r .grouped t i l (rw (kind-same s t (omega arith)) at h) (rw (start-same s t (omega arith)) at a) (rw (end-same s used many t few l) at b));
+        rising = λ t i l h a b. r .rising t i l (rw (kind-same s t (omega arith)) at h) (rw (start-same s t (omega arith)) at a) (rw (end-same s used many t few l) at b);
       }
 
   -- a name that occurs does so with other marks too

@@ -81,7 +81,7 @@ pub data Comes (P : ℕ → Type 0) (names : List ℕ) (mark : ℕ) : Walked →
 -- what adding the names of a set comes to
 pub record Steps (P : ℕ → Type 0) (names out names′ out′ : List ℕ) (mark count room : ℕ) (r : Walked) : Type 0 where
   pub names-same : Same-but 8192 2048 names names′
-  pub out-same : Same-but count (room - count) out out′
+  pub out-same : Same-but count (ended room r - count) out out′
   pub name-marks : (k : ℕ) → k < 2048 → (name-mark names′ k ≡ mark) ⊎ (name-mark names′ k ≡ name-mark names k)
   pub grows : count ≤ ended room r
   pub fits : ended room r ≤ room

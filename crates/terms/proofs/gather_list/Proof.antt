@@ -7,7 +7,7 @@ use Rattle.terms.proofs.gather_list.Tie as tie
 walk-list-requires : tie.Need-walk-list-requires
 walk-list-requires c κs =
     let start = c .before .before .before .before .before .before .before in
-    (ready-start (start .pre .0) (start .pre .5) (start .pre .1) (start .pre .7) (start .pre .8), record { in-order = start .pre .2; in-use = start .pre .3; in-table = start .pre .4 })
+    (ready-start (start .pre .0) (start .pre .5) (start .pre .1) (start .pre .6) (start .pre .7), record { in-order = start .pre .2; in-use = start .pre .3; in-table = start .pre .4 })
 
 same-length : tie.Need-same-length
 same-length c = search needs
@@ -21,7 +21,7 @@ same-length-3 c = search needs
 returns : tie.Need-returns
 returns c =
     let start = c .before .before .before .before .before .before .before .before .before .before .before .before .before .before in
-    (gathers-list (start .pre .0) (start .pre .5) (start .pre .7) (start .pre .8) (record { in-order = start .pre .2; in-use = start .pre .3; in-table = start .pre .4 }) (c .before .before .before .before .before .before .walk-list .ensures), gathered-of (start .pre .0) (start .pre .5) (start .pre .7) (start .pre .8) (c .before .before .before .before .before .before .walk-list .ensures))
+    (gathers-list (start .pre .0) (start .pre .5) (start .pre .6) (start .pre .7) (record { in-order = start .pre .2; in-use = start .pre .3; in-table = start .pre .4 }) (c .before .before .before .before .before .before .walk-list .ensures), gathered-of (start .pre .0) (start .pre .5) (start .pre .6) (start .pre .7) (c .before .before .before .before .before .before .walk-list .ensures))
 
 pub gather-list-spec : {M : Type 1} → statement M
 gather-list-spec =

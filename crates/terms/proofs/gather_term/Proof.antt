@@ -7,7 +7,7 @@ use Rattle.terms.proofs.gather_term.Tie as tie
 walk-term-requires : tie.Need-walk-term-requires
 walk-term-requires c κs =
     let start = c .before .before .before .before .before .before .before in
-    (ready-start (start .pre .0) (start .pre .3) (start .pre .1) (start .pre .5) (start .pre .6), start .pre .2)
+    (ready-start (start .pre .0) (start .pre .3) (start .pre .1) (start .pre .4) (start .pre .5), start .pre .2)
 
 same-length : tie.Need-same-length
 same-length c = search needs
@@ -21,7 +21,7 @@ same-length-3 c = search needs
 returns : tie.Need-returns
 returns c =
     let start = c .before .before .before .before .before .before .before .before .before .before .before .before .before .before in
-    (gathers-term (start .pre .0) (start .pre .3) (start .pre .5) (start .pre .6) (start .pre .2) (c .before .before .before .before .before .before .walk-term .ensures), gathered-of (start .pre .0) (start .pre .3) (start .pre .5) (start .pre .6) (c .before .before .before .before .before .before .walk-term .ensures))
+    (gathers-term (start .pre .0) (start .pre .3) (start .pre .4) (start .pre .5) (start .pre .2) (c .before .before .before .before .before .before .walk-term .ensures), gathered-of (start .pre .0) (start .pre .3) (start .pre .4) (start .pre .5) (c .before .before .before .before .before .before .walk-term .ensures))
 
 pub gather-term-spec : {M : Type 1} → statement M
 gather-term-spec =
