@@ -1,9 +1,12 @@
 -- `terms::push` meets its contract: the test tells full references.
-use Rattle.terms.proofs.Laws.{pushed-in, pushed-full}
+use Rattle.terms.proofs.Laws.{pushed-in, pushed-full, answer-in, answer-full}
 use mathlib.Core.Path.{sym}
 use borrow.Author.Needs.{needs}
 use Rattle.terms.proofs.push.Statement.{statement}
 use Rattle.terms.proofs.push.Tie as tie
+
+returns : tie.Need-returns
+returns c = (sym (answer-full _ (c .if1 .taken)), sym (pushed-full _ _ _ (c .if1 .taken)))
 
 mul-refs : tie.Need-mul-refs
 mul-refs c = search needs
@@ -23,21 +26,18 @@ slice-write-refs c = search needs
 same-length : tie.Need-same-length
 same-length c = search needs
 
-returns : tie.Need-returns
-returns c = sym (pushed-in _ _ _ (c .if1 .taken))
-
 returns-2 : tie.Need-returns-2
-returns-2 c = sym (pushed-full _ _ _ (c .if1 .left))
+returns-2 c = (sym (answer-in _ (c .if1 .left)), sym (pushed-in _ _ _ (c .if1 .left)))
 
 pub push-spec : {M : Type 1} → statement M
 push-spec =
     tie.close
     (tie.spec
+    returns
     mul-refs
     add-refs
     cast-refs
     mul-refs-2
     slice-write-refs
     same-length
-    returns
     returns-2)
