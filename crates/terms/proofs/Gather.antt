@@ -43,8 +43,7 @@ marks-of : {P : ℕ → Type 0} {names out names′ out′ : List ℕ} {mark fro
     → Steps P names out names′ out′ mark from room answer → (k : ℕ) → k < 2048 → (name-mark names′ k ≡ mark) ↔ List·Memᴰ k (words out′ from (ended room answer))
 marks-of {names′} {out′} {mark} {from} {room} {answer} fresh high s k l =
     let w : Listed names′ out′ mark from (ended room answer) = s .listed from (omega arith) (start-listed fresh) in
-    let fits : ended room answer ≤ length out′ = omega (arith, s .out-same .same-length, s .fits) in
-    (
+    let fits : ended room answer ≤ length out′ = omega (arith, s .out-same .same-length, s .fits) in (
       λ e. let (i, (a, b, q)) = w .place k l e in Memᴰ·cast (sym q) (words-intro out′ from (ended room answer) i fits a b),
       λ m. let p = words-elim {l = out′} {a = from} {e = ended room answer} fits m in rw (p .is) at (w .marked (p .place) (p .low) (p .high)),
     )
