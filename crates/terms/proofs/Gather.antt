@@ -1,0 +1,87 @@
+-- What `gather_term` and `gather_list` rest on: a walk under a new mark.
+use Prim.Native.Nat.{ℕ, _+_, _-_, _%_, _≤_, _<_}
+use native.Mathlib.Omega.{arith}
+use mathlib.Core.Path.{_≡_, refl, sym, ap, _∙_}
+use mathlib.Core.Logic.{_↔_}
+use mathlib.Core.List.{List, List·Memᴰ, Memᴰ·cast}
+use lib.ListN.{length, getD}
+use Rattle.model.specs.Names.{Name}
+use Rattle.model.specs.Summaries.{exclude-names, free-top-level-names, group-names}
+use Rattle.terms.specs.declared.Walked.{Walked}
+use Rattle.terms.specs.declared.Walked.the-variants as walks
+use Rattle.terms.specs.Rows.{words, terms-of-words, terms-of, Rows, row-mark, name-mark, Fresh, Named, ended, Gathers, Gathered}
+use Rattle.terms.specs.Walks.{Free, Among, Closed, Ready, References, Steps, Walks, Listed}
+use Rattle.terms.proofs.Table.{words-elim, words-intro}
+use Rattle.terms.proofs.Naming.{occurs-named, term-set, list-set, start-listed, steps-gathers}
+
+-- a table stays one where there are more names
+pub rows-named : {refs rows : List ℕ} {used many named named′ : ℕ} → named ≤ named′ → named′ ≤ 2048 → Rows refs rows used many named → Rows refs rows used many named′
+rows-named h l r = record {
+  ref-room = r .ref-room;
+  row-room = r .row-room;
+  few-references = r .few-references;
+  few-rows = r .few-rows;
+  few-names = l;
+  in-order = r .in-order;
+  in-use = r .in-use;
+  lower = r .lower;
+  headed = λ t k p. let d = r .headed t k p in omega arith;
+  bodied = r .bodied;
+  labelled = r .labelled;
+  childless = r .childless;
+  single = r .single;
+  grouped = r .grouped;
+  rising = r .rising;
+}
+
+-- no name has a new mark yet
+fresh-name : {names rows : List ℕ} {mark : ℕ} → Fresh names rows mark → (k : ℕ) → k < 2048 → name-mark names k ≡ mark → ⊥
+fresh-name new k l e = let h = new .name-marks k l in omega arith
+
+-- the names with the mark are those in the slice
+marks-of : {P : ℕ → Type 0} {names out names′ out′ : List ℕ} {mark from room : ℕ} {answer : Walked} → ((k : ℕ) → k < 2048 → name-mark names k ≡ mark → ⊥) → room ≤ length out
+    → Steps P names out names′ out′ mark from room answer → (k : ℕ) → k < 2048 → (name-mark names′ k ≡ mark) ↔ List·Memᴰ k (words out′ from (ended room answer))
+marks-of {names′} {out′} {mark} {from} {room} {answer} fresh high s k l =
+    let w : Listed names′ out′ mark from (ended room answer) = s .listed from (omega arith) (start-listed fresh) in
+    let fits : ended room answer ≤ length out′ = omega (arith, s .out-same .same-length, s .fits) in (
+      λ e. let (i, (a, b, q)) = w .place k l e in Memᴰ·cast (sym q) (words-intro out′ from (ended room answer) i fits a b),
+      λ m. let p = words-elim {l = out′} {a = from} {e = ended room answer} fits m in rw (p .is) at (w .marked (p .place) (p .low) (p .high)),
+    )
+
+module _ {names refs rows out : List ℕ} {used many named mark from room : ℕ} (r : Rows refs rows used many named) (new : Fresh names rows mark) where
+  -- the slices are ready for a walk
+  pub ready-start : 16384 ≤ length names → from ≤ room → room ≤ length out → Ready names refs rows out used many mark from room
+  ready-start long low high =
+      let few = r .few-rows in
+      let less = r .few-names in
+      record {
+        table = rows-named (omega arith) (omega arith) r;
+        name-room = long;
+        closed = record { marked = λ t k l e f. let h = new .row-marks t (omega arith) in let z : ⊥ = omega arith in absurd z };
+        low = low;
+        high = high;
+      }
+
+  module _ {names′ rows′ out′ : List ℕ} {answer : Walked} (low : from ≤ room) (high : room ≤ length out) where
+    -- a walk of a term gathers its names
+    pub gathers-term : {t : ℕ} → t < many → Walks (Free names refs rows used many t) names refs rows out names′ rows′ out′ used many mark from room answer
+        → (name : ℕ → Name) → Named name names named → Gathers name named (free-top-level-names exclude-names (terms-of name refs rows used many) t) from room out′ answer
+    gathers-term {t} l w name d =
+        steps-gathers names out names′ out′ mark from room named low high (fresh-name new) (λ k f. (occurs-named r l (f .occurs), f .counts .small)) (d .distinct) (term-set name r d t l) (w .steps)
+
+    -- a walk of a list gathers its names
+    pub gathers-list : {a e : ℕ} → References refs used many a e → Walks (Among names refs rows used many a e) names refs rows out names′ rows′ out′ used many mark from room answer
+        → (name : ℕ → Name) → Named name names named → Gathers name named (group-names exclude-names (terms-of name refs rows used many) (terms-of-words (words refs a e))) from room out′ answer
+    gathers-list g w name d =
+        steps-gathers names out names′ out′ mark from room named low high (fresh-name new) (λ k f. (occurs-named r (g .in-table (f .place) (f .low) (f .high)) (f .free .occurs), f .free .counts .small)) (d .distinct) (list-set name r d g) (w .steps)
+
+    -- what a walk leaves in the slices
+    pub gathered-of : {P : ℕ → Type 0} → Walks P names refs rows out names′ rows′ out′ used many mark from room answer → Gathered names rows out names′ rows′ out′ mark from room answer
+    gathered-of w = record {
+      names-same = w .steps .names-same;
+      rows-same = w .rows-same;
+      out-same = w .steps .out-same;
+      name-marks = w .steps .name-marks;
+      row-marks = w .row-marks;
+      marks = marks-of (fresh-name new) high (w .steps);
+    }

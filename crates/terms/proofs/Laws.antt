@@ -1,0 +1,86 @@
+-- What the functions of this crate rest on, said of plain lists: the table's rows, what a walk finds, and the names of terms.
+use Prim.Native.Nat.{ℕ, zero, suc, _+_, _-_, _*_, _/_, _%_, _≤_, _<_}
+use native.Mathlib.Omega.{arith}
+use mathlib.Core.Path.{_≡_, refl, sym, ap, _∙_}
+use mathlib.Core.Bool.{Bool, true, false, cond, not, _&&_, _||_}
+use mathlib.Core.List.{List, [], _∷_, _++_}
+use lib.ListN.{length, take, drop, getD, set}
+use lib.Dec.{T, eqb, ltb}
+use borrow.Author.Tests.{eq-eqb, ne-eqb, lt-ltb, le-ltb}
+use Rattle.terms.specs.declared.Added.{Added}
+use Rattle.terms.specs.declared.Added.the-variants as adds
+use Rattle.terms.specs.Rows.{row-kind, row-start, row-extra, row-end, bare-of, has-head, is-excluded, added, rows-after, with-row, pushed, push-answer}
+
+-- ---- rows
+
+-- the references of a row end where those of the next start
+pub end-next : (rows : List ℕ) (used many t : ℕ) → t + 1 < many → row-end rows used many t ≡ row-start rows (t + 1)
+unfolding row-end
+end-next rows used many t h = rw (lt-ltb (t + 1) many h)
+
+-- those of the last row end with the last reference
+pub end-last : (rows : List ℕ) (used many t : ℕ) → many ≤ t + 1 → row-end rows used many t ≡ used
+unfolding row-end
+end-last rows used many t h = rw (le-ltb (t + 1) many h)
+
+-- a label's term is in its row
+pub bare-label : (rows : List ℕ) (t : ℕ) → row-kind rows t ≡ 7 → bare-of rows t ≡ row-extra rows t
+unfolding bare-of
+bare-label rows t h = rw (eq-eqb (row-kind rows t) 7 h)
+
+-- any other term is its own
+pub bare-own : (rows : List ℕ) (t : ℕ) → (row-kind rows t ≡ 7 → ⊥) → bare-of rows t ≡ t
+unfolding bare-of
+bare-own rows t h = rw (ne-eqb (row-kind rows t) 7 h)
+
+-- a reference goes in where there is room
+pub pushed-in : (refs : List ℕ) (used word : ℕ) → used < 16384 → pushed refs used word ≡ set refs used word
+unfolding pushed
+pushed-in refs used word h = rw (lt-ltb used 16384 h)
+
+-- full references stay
+pub pushed-full : (refs : List ℕ) (used word : ℕ) → 16384 ≤ used → pushed refs used word ≡ refs
+unfolding pushed
+pushed-full refs used word h = rw (le-ltb used 16384 h)
+
+-- the answer where there is room
+pub answer-in : (used : ℕ) → used < 16384 → push-answer used ≡ adds.Done
+unfolding push-answer
+answer-in used h = rw (lt-ltb used 16384 h)
+
+-- the answer of full references
+pub answer-full : (used : ℕ) → 16384 ≤ used → push-answer used ≡ adds.Full
+unfolding push-answer
+answer-full used h = rw (le-ltb used 16384 h)
+
+-- a row goes in where there is room
+pub added-in : (rows : List ℕ) (many word start extra : ℕ) → many < 4096 → (added many ≡ adds.Done) × (rows-after rows many word start extra ≡ with-row rows many word start extra)
+unfolding added rows-after
+added-in rows many word start extra h = (rw (lt-ltb many 4096 h), rw (lt-ltb many 4096 h))
+
+-- a full table stays
+pub added-full : (rows : List ℕ) (many word start extra : ℕ) → 4096 ≤ many → (added many ≡ adds.Full) × (rows-after rows many word start extra ≡ rows)
+unfolding added rows-after
+added-full rows many word start extra h = (rw (le-ltb many 4096 h), rw (le-ltb many 4096 h))
+
+-- a free has a head
+pub head-free : (kind : ℕ) → kind ≡ 0 → has-head kind ≡ true
+unfolding has-head
+head-free kind h = rw h
+
+-- else a call alone has
+pub head-call : (kind : ℕ) → (kind ≡ 0 → ⊥) → has-head kind ≡ eqb kind 2
+unfolding has-head
+head-call kind h = rw (ne-eqb kind 0 h)
+
+-- no code: not excluded
+pub excluded-none : (code : ℕ) → code ≡ 0 → is-excluded code ≡ false
+unfolding is-excluded
+excluded-none code h = rw h
+
+-- a code below 10 is that of an excluded name
+pub excluded-low : (code : ℕ) → (code ≡ 0 → ⊥) → is-excluded code ≡ ltb code 10
+unfolding is-excluded
+excluded-low code h =
+    let p : 0 < code = omega arith in
+    rw (lt-ltb 0 code p)

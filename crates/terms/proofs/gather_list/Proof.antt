@@ -1,0 +1,28 @@
+-- `terms::gather_list` meets its contract: a walk under a new mark.
+use Rattle.terms.proofs.Gather.{ready-start, gathers-list, gathered-of}
+use borrow.Author.Needs.{needs}
+use Rattle.terms.proofs.gather_list.Statement.{statement}
+use Rattle.terms.proofs.gather_list.Tie as tie
+
+walk-list-requires : tie.Need-walk-list-requires
+walk-list-requires c κs =
+    let start = c .before .before .before .before .before .before .before in
+    (ready-start (start .pre .0) (start .pre .5) (start .pre .1) (start .pre .6) (start .pre .7), record { in-order = start .pre .2; in-use = start .pre .3; in-table = start .pre .4 })
+
+same-length : tie.Need-same-length
+same-length c = search needs
+
+same-length-2 : tie.Need-same-length-2
+same-length-2 c = search needs
+
+same-length-3 : tie.Need-same-length-3
+same-length-3 c = search needs
+
+returns : tie.Need-returns
+returns c =
+    let start = c .before .before .before .before .before .before .before .before .before .before .before .before .before .before in
+    (gathers-list (start .pre .0) (start .pre .5) (start .pre .6) (start .pre .7) (record { in-order = start .pre .2; in-use = start .pre .3; in-table = start .pre .4 }) (c .before .before .before .before .before .before .walk-list .ensures), gathered-of (start .pre .0) (start .pre .5) (start .pre .6) (start .pre .7) (c .before .before .before .before .before .before .walk-list .ensures))
+
+pub gather-list-spec : {M : Type 1} → statement M
+gather-list-spec =
+    tie.close (tie.spec walk-list-requires same-length same-length-2 same-length-3 returns)

@@ -1,0 +1,28 @@
+-- `terms::gather_term` meets its contract: a walk under a new mark.
+use Rattle.terms.proofs.Gather.{ready-start, gathers-term, gathered-of}
+use borrow.Author.Needs.{needs}
+use Rattle.terms.proofs.gather_term.Statement.{statement}
+use Rattle.terms.proofs.gather_term.Tie as tie
+
+walk-term-requires : tie.Need-walk-term-requires
+walk-term-requires c κs =
+    let start = c .before .before .before .before .before .before .before in
+    (ready-start (start .pre .0) (start .pre .3) (start .pre .1) (start .pre .4) (start .pre .5), start .pre .2)
+
+same-length : tie.Need-same-length
+same-length c = search needs
+
+same-length-2 : tie.Need-same-length-2
+same-length-2 c = search needs
+
+same-length-3 : tie.Need-same-length-3
+same-length-3 c = search needs
+
+returns : tie.Need-returns
+returns c =
+    let start = c .before .before .before .before .before .before .before .before .before .before .before .before .before .before in
+    (gathers-term (start .pre .0) (start .pre .3) (start .pre .4) (start .pre .5) (start .pre .2) (c .before .before .before .before .before .before .walk-term .ensures), gathered-of (start .pre .0) (start .pre .3) (start .pre .4) (start .pre .5) (c .before .before .before .before .before .before .walk-term .ensures))
+
+pub gather-term-spec : {M : Type 1} → statement M
+gather-term-spec =
+    tie.close (tie.spec walk-term-requires same-length same-length-2 same-length-3 returns)

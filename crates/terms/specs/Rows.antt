@@ -1,0 +1,221 @@
+-- The term table in two lent slices. References, slice 0: `term + 4096 * group`, the group counted from 0 within its `all`
+-- or `some`, 0 elsewhere; a quantifier's body is its first reference. Rows, slice 1, 4 columns of 4,096: kind with op word
+-- and head name (column 0), where the references start (1), groups or the term under a run of labels (2), mark (3).
+use Prim.Native.Nat.{ℕ, zero, suc, _+_, _-_, _*_, _/_, _%_, _≤_, _<_}
+use mathlib.Core.Path.{_≡_}
+use mathlib.Core.Bool.{Bool, cond, _&&_, _||_}
+use mathlib.Core.Logic.{_↔_, _⊎_}
+use mathlib.Core.List.{List, [], _∷_, _++_, map, List·Memᴰ}
+use lib.ListN.{length, take, drop, getD, set}
+use lib.Dec.{T, eqb, ltb}
+use Rattle.model.specs.Lists.{keep, fold-left}
+use Rattle.model.specs.Names.{Name, from-list, mem}
+use Rattle.model.specs.Summaries.{exclude-names}
+use Rattle.model.specs.Terms.{Node, FreeV, Leaf, Call, App, Forall, Exists, Let, Labeled, Term, add-term}
+use Rattle.model.specs.declared.Op.{Op}
+use Rattle.model.specs.declared.Op.the-variants.{TrueOp, Iff, Eq, And, Other}
+use Rattle.terms.specs.declared.Added.{Added}
+use Rattle.terms.specs.declared.Added.the-variants as adds
+use Rattle.terms.specs.declared.Walked.{Walked}
+use Rattle.terms.specs.declared.Walked.the-variants as walks
+
+-- the kinds of rows: free 0, leaf 1, call 2, op 3, all 4, some 5, let 6, label 7
+unfoldable pub row-kind : List ℕ → ℕ → ℕ
+row-kind rows t = getD rows t 0 % 8
+
+-- the op word of a row
+unfoldable pub row-op : List ℕ → ℕ → ℕ
+row-op rows t = getD rows t 0 / 8 % 8
+
+-- the head name of a row
+unfoldable pub row-head : List ℕ → ℕ → ℕ
+row-head rows t = getD rows t 0 / 64
+
+-- where the references of a row start
+abbrev pub row-start : List ℕ → ℕ → ℕ
+row-start rows t = getD rows (4096 + t) 0
+
+-- how many groups a quantifier has; the term under a run of labels
+abbrev pub row-extra : List ℕ → ℕ → ℕ
+row-extra rows t = getD rows (8192 + t) 0
+
+-- where the references of a row end, in a table of `many` rows and `used` references
+unfoldable pub row-end : List ℕ → ℕ → ℕ → ℕ → ℕ
+row-end rows used many t = cond (ltb (t + 1) many) (row-start rows (t + 1)) used
+
+-- the words of the references from one place up to another
+abbrev pub words : List ℕ → ℕ → ℕ → List ℕ
+words refs a e = take (e - a) (drop a refs)
+
+-- the terms that reference words name
+unfoldable pub terms-of-words : List ℕ → List ℕ
+terms-of-words ws = map (λ w. w % 4096) ws
+
+-- the terms of a group
+unfoldable pub group-of-words : List ℕ → ℕ → List ℕ
+group-of-words ws g = terms-of-words (keep (λ w. eqb (w / 4096) g) ws)
+
+-- the groups before the g-th
+unfoldable pub groups-of-words : List ℕ → ℕ → List (List ℕ)
+groups-of-words ws zero = []
+groups-of-words ws (suc g) = groups-of-words ws g ++ (group-of-words ws g ∷ [])
+
+-- how many words from the first on are of a group
+unfoldable pub group-run : ℕ → List ℕ → ℕ
+group-run g [] = 0
+group-run g (w ∷ ws) = let more = group-run g ws in cond (eqb (w / 4096) g) (1 + more) 0
+
+-- the op word of a code
+unfoldable pub op-of-code : ℕ → Op
+op-of-code zero = TrueOp
+op-of-code (suc zero) = Iff
+op-of-code (suc (suc zero)) = Eq
+op-of-code (suc (suc (suc zero))) = And
+op-of-code (suc (suc (suc (suc n)))) = Other
+
+-- the node of a kind, an op word, a head name, reference words and a number of groups
+unfoldable pub make-node : ℕ → Op → Name → List ℕ → ℕ → Node
+make-node zero op name ws g = FreeV name
+make-node (suc zero) op name ws g = Leaf
+make-node (suc (suc zero)) op name ws g = Call name (terms-of-words ws)
+make-node (suc (suc (suc zero))) op name ws g = App op (terms-of-words ws)
+make-node (suc (suc (suc (suc zero)))) op name ws g = Forall (getD ws 0 0 % 4096) (groups-of-words (drop 1 ws) g)
+make-node (suc (suc (suc (suc (suc zero))))) op name ws g = Exists (getD ws 0 0 % 4096) (groups-of-words (drop 1 ws) g)
+make-node (suc (suc (suc (suc (suc (suc zero)))))) op name ws g = Let (getD ws 0 0 % 4096) (terms-of-words (drop 1 ws))
+make-node (suc (suc (suc (suc (suc (suc (suc k))))))) op name ws g = Labeled (getD ws 0 0 % 4096)
+
+-- the node of a row; `name` gives each name number its name
+unfoldable pub node-of : (ℕ → Name) → List ℕ → List ℕ → ℕ → ℕ → ℕ → Node
+node-of name refs rows used many t =
+    make-node (row-kind rows t) (op-of-code (row-op rows t)) (name (row-head rows t))
+    (words refs (row-start rows t) (row-end rows used many t)) (row-extra rows t)
+
+-- the nodes before the t-th, of a table of `many` rows
+unfoldable pub nodes-below : (ℕ → Name) → List ℕ → List ℕ → ℕ → ℕ → ℕ → List Node
+nodes-below name refs rows used many zero = []
+nodes-below name refs rows used many (suc t) =
+    nodes-below name refs rows used many t ++ (node-of name refs rows used many t ∷ [])
+
+-- the terms of a table, as `model` has them
+unfoldable pub terms-of : (ℕ → Name) → List ℕ → List ℕ → ℕ → ℕ → List Term
+terms-of name refs rows used many = fold-left add-term [] (nodes-below name refs rows used many many)
+
+-- a row with a head name: a free or a call
+unfoldable pub has-head : ℕ → Bool
+has-head k = eqb k 0 || eqb k 2
+
+-- a row whose first reference is its body, or what it labels: all, some, let, label
+unfoldable pub has-body : ℕ → Bool
+has-body k = ltb 3 k
+
+-- a row with pattern groups: all, some
+unfoldable pub has-groups : ℕ → Bool
+has-groups k = eqb k 4 || eqb k 5
+
+-- the term under a run of labels
+unfoldable pub bare-of : List ℕ → ℕ → ℕ
+bare-of rows t = cond (eqb (row-kind rows t) 7) (row-extra rows t) t
+
+-- a table of `many` rows with `used` references, whose heads are among `named` names
+pub record Rows (refs rows : List ℕ) (used many named : ℕ) : Type 0 where
+  pub ref-room : 16384 ≤ length refs
+  pub row-room : 16384 ≤ length rows
+  pub few-references : used ≤ 16384
+  pub few-rows : many ≤ 4096
+  pub few-names : named ≤ 2048
+  -- the references of a row lie in order, and name lower terms
+  pub in-order : (t : ℕ) → t < many → row-start rows t ≤ row-end rows used many t
+  pub in-use : (t : ℕ) → t < many → row-end rows used many t ≤ used
+  pub lower : (t i : ℕ) → t < many → row-start rows t ≤ i → i < row-end rows used many t → getD refs i 0 % 4096 < t
+  -- a head is the number of a name
+  pub headed : (t : ℕ) → t < many → T (has-head (row-kind rows t)) → row-head rows t < named
+  -- a body is there
+  pub bodied : (t : ℕ) → t < many → T (has-body (row-kind rows t)) → row-start rows t < row-end rows used many t
+  -- a label's row has the term under its run of labels
+  pub labelled : (t : ℕ) → t < many → row-kind rows t ≡ 7
+      → row-extra rows t ≡ bare-of rows (getD refs (row-start rows t) 0 % 4096)
+  -- a free name and a leaf have no reference, a label one, and a quantifier's patterns are in its groups
+  pub childless : (t : ℕ) → t < many → row-kind rows t < 2 → row-end rows used many t ≡ row-start rows t
+  pub single : (t : ℕ) → t < many → row-kind rows t ≡ 7 → row-end rows used many t ≡ row-start rows t + 1
+  pub grouped : (t i : ℕ) → t < many → T (has-groups (row-kind rows t)) → row-start rows t < i → i < row-end rows used many t
+      → getD refs i 0 / 4096 < row-extra rows t
+  -- and stand in the order of the groups
+  pub rising : (t i : ℕ) → t < many → T (has-groups (row-kind rows t)) → row-start rows t < i → i + 1 < row-end rows used many t
+      → getD refs i 0 / 4096 ≤ getD refs (i + 1) 0 / 4096
+
+-- the word of a row
+unfoldable pub row-word : ℕ → ℕ → ℕ → ℕ
+row-word kind op head = kind + 8 * (op + 8 * head)
+
+-- the slice with one row more; its mark is untouched
+unfoldable pub with-row : List ℕ → ℕ → ℕ → ℕ → ℕ → List ℕ
+with-row rows many word start extra = set (set (set rows many word) (4096 + many) start) (8192 + many) extra
+
+-- what adding a row comes to: at 4,096 rows the table is full and nothing changes
+unfoldable pub added : ℕ → Added
+added many = cond (ltb many 4096) adds.Done adds.Full
+
+-- the rows then
+unfoldable pub rows-after : List ℕ → ℕ → ℕ → ℕ → ℕ → List ℕ
+rows-after rows many word start extra = cond (ltb many 4096) (with-row rows many word start extra) rows
+
+-- what pushing a reference comes to: at 16,384 they are full and nothing changes
+unfoldable pub push-answer : ℕ → Added
+push-answer used = cond (ltb used 16384) adds.Done adds.Full
+
+-- the references then
+unfoldable pub pushed : List ℕ → ℕ → ℕ → List ℕ
+pushed refs used word = cond (ltb used 16384) (set refs used word) refs
+
+-- the mark of a row; marks are column 3 of the rows and column 4 of the names
+abbrev pub row-mark : List ℕ → ℕ → ℕ
+row-mark rows t = getD rows (12288 + t) 0
+
+-- the mark of a name
+abbrev pub name-mark : List ℕ → ℕ → ℕ
+name-mark names n = getD names (8192 + n) 0
+
+-- every mark of the two tables is below this one
+pub record Fresh (names rows : List ℕ) (mark : ℕ) : Type 0 where
+  pub row-marks : (t : ℕ) → t < 4096 → row-mark rows t < mark
+  pub name-marks : (n : ℕ) → n < 2048 → name-mark names n < mark
+
+-- two slices that differ at most in a column of so many words from a place on
+pub record Same-but (column size : ℕ) (before after : List ℕ) : Type 0 where
+  pub same-length : length after ≡ length before
+  pub same-words : (i : ℕ) → (column ≤ i → i < column + size → ⊥) → getD after i 0 ≡ getD before i 0
+
+-- whether a head code is that of one of `exclude_names`
+unfoldable pub is-excluded : ℕ → Bool
+is-excluded code = ltb 0 code && ltb code 10
+
+-- names for the numbers of a name table: no two alike, and the head codes (column 3) tell those of `exclude_names`
+pub record Named (name : ℕ → Name) (names : List ℕ) (named : ℕ) : Type 0 where
+  pub distinct : (m n : ℕ) → m < named → n < named → name m ≡ name n → m ≡ n
+  pub excluded : (n : ℕ) → n < named → is-excluded (getD names (6144 + n) 0) ≡ mem (name n) exclude-names
+
+-- where the names end after gathering: at the room's end where there is no room for all
+unfoldable pub ended : ℕ → Walked → ℕ
+ended room (walks.Names n) = n
+ended room walks.Full = room
+
+-- what gathering a set of names into a slice from `at` on comes to, where there is room up to `room`: the numbers of its
+-- names, each once and each below `named`, or numbers of some of its names and that there are more than fit
+pub data Gathers (name : ℕ → Name) (named : ℕ) (set : List Name) (at room : ℕ) (out : List ℕ) : Walked → Type 0 where
+  all-names : {n : ℕ}
+      → from-list (map name (words out at n)) ≡ set → length set + at ≡ n → n ≤ room
+      → ((i : ℕ) → at ≤ i → i < n → getD out i 0 < named)
+      → Gathers name named set at room out (walks.Names n)
+  no-room : room < length set + at
+      → ((i : ℕ) → at ≤ i → i < room → (getD out i 0 < named) × T (mem (name (getD out i 0)) set))
+      → Gathers name named set at room out walks.Full
+
+-- the slices after gathering: in the tables only marks change, each to the set's or not at all; in `out` only the places of
+-- the numbers; the names with the set's mark are those in `out`
+pub record Gathered (names rows out names′ rows′ out′ : List ℕ) (mark at room : ℕ) (r : Walked) : Type 0 where
+  pub names-same : Same-but 8192 2048 names names′
+  pub rows-same : Same-but 12288 4096 rows rows′
+  pub out-same : Same-but at (ended room r - at) out out′
+  pub name-marks : (k : ℕ) → k < 2048 → (name-mark names′ k ≡ mark) ⊎ (name-mark names′ k ≡ name-mark names k)
+  pub row-marks : (t : ℕ) → t < 4096 → (row-mark rows′ t ≡ mark) ⊎ (row-mark rows′ t ≡ row-mark rows t)
+  pub marks : (k : ℕ) → k < 2048 → (name-mark names′ k ≡ mark) ↔ List·Memᴰ k (words out′ at (ended room r))

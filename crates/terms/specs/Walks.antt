@@ -1,0 +1,97 @@
+-- What a walk over the terms comes to, in numbers of names.
+use Prim.Native.Nat.{ℕ, _+_, _-_, _%_, _≤_, _<_}
+use mathlib.Core.Path.{_≡_}
+use mathlib.Core.Bool.{false}
+use mathlib.Core.Logic.{_⊎_}
+use mathlib.Core.List.{List}
+use lib.ListN.{length, getD}
+use lib.Dec.{T}
+use Rattle.terms.specs.declared.Walked.{Walked}
+use Rattle.terms.specs.declared.Walked.the-variants as walks
+use Rattle.terms.specs.Rows.{row-kind, row-head, row-start, row-end, has-head, is-excluded, Rows, Same-but, row-mark, name-mark, ended}
+
+-- name number k is free in term t: its head, or free in a term that it names
+pub data Occurs (refs rows : List ℕ) (used many : ℕ) : ℕ → ℕ → Type 0 where
+  own : {t k : ℕ} → T (has-head (row-kind rows t)) → row-head rows t ≡ k → Occurs refs rows used many t k
+  under : {t k : ℕ} (i : ℕ) → row-start rows t ≤ i → i < row-end rows used many t
+      → Occurs refs rows used many (getD refs i 0 % 4096) k → Occurs refs rows used many t k
+
+-- whether a name counts: it is not excluded
+pub record Counted (names : List ℕ) (k : ℕ) : Type 0 where
+  pub small : k < 2048
+  pub counted : is-excluded (getD names (6144 + k) 0) ≡ false
+
+-- k is the head of term t, and counts
+pub record Own (names rows : List ℕ) (t k : ℕ) : Type 0 where
+  pub headed : T (has-head (row-kind rows t))
+  pub is : row-head rows t ≡ k
+  pub counts : Counted names k
+
+-- k is free in term t, and counts
+pub record Free (names refs rows : List ℕ) (used many t k : ℕ) : Type 0 where
+  pub occurs : Occurs refs rows used many t k
+  pub counts : Counted names k
+
+-- k is free in a term that a reference from a up to e names, and counts
+pub record Among (names refs rows : List ℕ) (used many a e k : ℕ) : Type 0 where
+  pub place : ℕ
+  pub low : a ≤ place
+  pub high : place < e
+  pub free : Free names refs rows used many (getD refs place 0 % 4096) k
+
+-- what adding a head asks
+pub record Heads (names rows out : List ℕ) (t count room : ℕ) : Type 0 where
+  pub name-room : 16384 ≤ length names
+  pub row-room : 16384 ≤ length rows
+  pub is-row : t < 4096
+  pub head-small : T (has-head (row-kind rows t)) → row-head rows t < 2048
+  pub low : count ≤ room
+  pub high : room ≤ length out
+
+-- the names that count of a marked term are marked
+pub record Closed (names refs rows : List ℕ) (used many mark : ℕ) : Type 0 where
+  pub marked : (t k : ℕ) → t < many → row-mark rows t ≡ mark → Free names refs rows used many t k → name-mark names k ≡ mark
+
+-- what a walk asks of the slices
+pub record Ready (names refs rows out : List ℕ) (used many mark count room : ℕ) : Type 0 where
+  pub table : Rows refs rows used many 2048
+  pub name-room : 16384 ≤ length names
+  pub closed : Closed names refs rows used many mark
+  pub low : count ≤ room
+  pub high : room ≤ length out
+
+-- references from a up to e, each to a term of the table
+pub record References (refs : List ℕ) (used many a e : ℕ) : Type 0 where
+  pub in-order : a ≤ e
+  pub in-use : e ≤ used
+  pub in-table : (i : ℕ) → a ≤ i → i < e → getD refs i 0 % 4096 < many
+
+-- the names with the mark are those in `out` from a place up to n, each once
+pub record Listed (names out : List ℕ) (mark from n : ℕ) : Type 0 where
+  pub place : (k : ℕ) → k < 2048 → name-mark names k ≡ mark → (i : ℕ) × ((from ≤ i) × (i < n) × (getD out i 0 ≡ k))
+  pub small : (i : ℕ) → from ≤ i → i < n → getD out i 0 < 2048
+  pub marked : (i : ℕ) → from ≤ i → i < n → name-mark names (getD out i 0) ≡ mark
+  pub once : (i j : ℕ) → from ≤ i → i < j → j < n → getD out i 0 ≡ getD out j 0 → ⊥
+
+-- all names of the set are marked, or there is no room for one of them
+pub data Comes (P : ℕ → Type 0) (names : List ℕ) (mark : ℕ) : Walked → Type 0 where
+  whole : {n : ℕ} → ((k : ℕ) → P k → name-mark names k ≡ mark) → Comes P names mark (walks.Names n)
+  over : {k : ℕ} → P k → k < 2048 → (name-mark names k ≡ mark → ⊥) → Comes P names mark walks.Full
+
+-- what adding the names of a set comes to
+pub record Steps (P : ℕ → Type 0) (names out names′ out′ : List ℕ) (mark count room : ℕ) (r : Walked) : Type 0 where
+  pub names-same : Same-but 8192 2048 names names′
+  pub out-same : Same-but count (ended room r - count) out out′
+  pub name-marks : (k : ℕ) → k < 2048 → (name-mark names′ k ≡ mark) ⊎ (name-mark names′ k ≡ name-mark names k)
+  pub grows : count ≤ ended room r
+  pub fits : ended room r ≤ room
+  pub listed : (from : ℕ) → from ≤ count → Listed names out mark from count → Listed names′ out′ mark from (ended room r)
+  pub sound : (k : ℕ) → k < 2048 → name-mark names′ k ≡ mark → (name-mark names k ≡ mark) ⊎ P k
+  pub comes : Comes P names′ mark r
+
+-- what a walk comes to
+pub record Walks (P : ℕ → Type 0) (names refs rows out names′ rows′ out′ : List ℕ) (used many mark count room : ℕ) (r : Walked) : Type 0 where
+  pub steps : Steps P names out names′ out′ mark count room r
+  pub rows-same : Same-but 12288 4096 rows rows′
+  pub row-marks : (t : ℕ) → t < 4096 → (row-mark rows′ t ≡ mark) ⊎ (row-mark rows′ t ≡ row-mark rows t)
+  pub closed : Closed names′ refs rows′ used many mark
