@@ -20,14 +20,6 @@ pub enum Walked {
     Full,
 }
 
-// The word at a place of a slice.
-fn at(w: &[u32], i: usize) -> usize
-    requires { ⌜ i < length (now w) ⌝ }
-    ensures { λ r. ⌜ r ≡ getD (now (w .entry)) i 0 ⌝ }
-{
-    w[i] as usize
-}
-
 // Pushes a reference to a term, in a group of its quantifier; the references so far are `used`. Full references stay.
 pub fn push(refs: &mut [u32], used: usize, term: usize, group: usize) -> Added
     requires { ⌜ (16384 ≤ length (now refs)) × (term < 4096) × (group < 65536) ⌝ }
@@ -69,7 +61,7 @@ pub fn kind(rows: &[u32], t: usize) -> usize
     requires { ⌜ (16384 ≤ length (now rows)) × (t < 4096) ⌝ }
     ensures { λ r. ⌜ r ≡ row-kind (now (rows .entry)) t ⌝ }
 {
-    at(rows, t) % 8
+    words::at(rows, t) % 8
 }
 
 // The op word of a row: true 0, iff 1, eq 2, and 3, other 4.
@@ -77,7 +69,7 @@ pub fn op(rows: &[u32], t: usize) -> usize
     requires { ⌜ (16384 ≤ length (now rows)) × (t < 4096) ⌝ }
     ensures { λ r. ⌜ r ≡ row-op (now (rows .entry)) t ⌝ }
 {
-    at(rows, t) / 8 % 8
+    words::at(rows, t) / 8 % 8
 }
 
 // The head name of a row.
@@ -85,7 +77,7 @@ pub fn head(rows: &[u32], t: usize) -> usize
     requires { ⌜ (16384 ≤ length (now rows)) × (t < 4096) ⌝ }
     ensures { λ r. ⌜ r ≡ row-head (now (rows .entry)) t ⌝ }
 {
-    at(rows, t) / 64
+    words::at(rows, t) / 64
 }
 
 // Where the references of a row start.
@@ -93,7 +85,7 @@ pub fn start(rows: &[u32], t: usize) -> usize
     requires { ⌜ (16384 ≤ length (now rows)) × (t < 4096) ⌝ }
     ensures { λ r. ⌜ r ≡ row-start (now (rows .entry)) t ⌝ }
 {
-    at(rows, 4096 + t)
+    words::at(rows, 4096 + t)
 }
 
 // Where they end, in a table of `many` rows and `used` references.
@@ -102,7 +94,7 @@ pub fn end(rows: &[u32], used: usize, many: usize, t: usize) -> usize
     ensures { λ r. ⌜ r ≡ row-end (now (rows .entry)) used many t ⌝ }
 {
     if t + 1 < many {
-        return at(rows, 4096 + (t + 1));
+        return words::at(rows, 4096 + (t + 1));
     }
     used
 }
@@ -112,7 +104,7 @@ pub fn extra(rows: &[u32], t: usize) -> usize
     requires { ⌜ (16384 ≤ length (now rows)) × (t < 4096) ⌝ }
     ensures { λ r. ⌜ r ≡ row-extra (now (rows .entry)) t ⌝ }
 {
-    at(rows, 8192 + t)
+    words::at(rows, 8192 + t)
 }
 
 // The term under a run of labels, or the term itself.
@@ -120,8 +112,8 @@ pub fn bare(rows: &[u32], t: usize) -> usize
     requires { ⌜ (16384 ≤ length (now rows)) × (t < 4096) ⌝ }
     ensures { λ r. ⌜ r ≡ bare-of (now (rows .entry)) t ⌝ }
 {
-    if at(rows, t) % 8 == 7 {
-        return at(rows, 8192 + t);
+    if words::at(rows, t) % 8 == 7 {
+        return words::at(rows, 8192 + t);
     }
     t
 }
@@ -131,7 +123,7 @@ pub fn reference(refs: &[u32], i: usize) -> usize
     requires { ⌜ i < length (now refs) ⌝ }
     ensures { λ r. ⌜ r ≡ getD (now (refs .entry)) i 0 % 4096 ⌝ }
 {
-    at(refs, i) % 4096
+    words::at(refs, i) % 4096
 }
 
 // The group of a reference.
@@ -139,7 +131,7 @@ pub fn group(refs: &[u32], i: usize) -> usize
     requires { ⌜ i < length (now refs) ⌝ }
     ensures { λ r. ⌜ r ≡ getD (now (refs .entry)) i 0 / 4096 ⌝ }
 {
-    at(refs, i) / 4096
+    words::at(refs, i) / 4096
 }
 
 // The first place from `a` up to `e` whose reference is not of the group, or `e`.
@@ -194,10 +186,10 @@ fn gather_head(
         return Walked::Names(count);
     }
     let n = head(rows, t);
-    if excluded(at(names, 6144 + n)) {
+    if excluded(words::at(names, 6144 + n)) {
         return Walked::Names(count);
     }
-    if at(names, 8192 + n) == mark as usize {
+    if words::at(names, 8192 + n) == mark as usize {
         return Walked::Names(count);
     }
     if room <= count {
@@ -225,7 +217,7 @@ fn walk_term(
     requires { ⌜ Ready (now names) (now refs) (now rows) (now out) used many mark count room × (t < many) ⌝ }
     ensures { λ r. ⌜ Walks (Free (now (names .entry)) (now (refs .entry)) (now (rows .entry)) used many t) (now (names .entry)) (now (refs .entry)) (now (rows .entry)) (now (out .entry)) (now (names .exit)) (now (rows .exit)) (now (out .exit)) used many mark count room r ⌝ }
 {
-    if at(rows, 12288 + t) == mark as usize {
+    if words::at(rows, 12288 + t) == mark as usize {
         return Walked::Names(count);
     }
     let Walked::Names(own) = gather_head(names, rows, out, t, mark, count, room) else {

@@ -14,7 +14,7 @@ use Rattle.terms.proofs.+walk_list+walk_term.Lts-walk_list as walk-list
 use Rattle.terms.proofs.walk_term.Reads as walk-term
 use Rattle.terms.proofs.walk_term.Kinds as walk-term-kinds
 use Rattle.terms.proofs.+walk_list+walk_term.Lts-walk_term as walk-term-lts
-use Rattle.terms.proofs.at.Reads as at-reads
+use Rattle.words.proofs.at.Reads as at-reads
 use Rattle.terms.proofs.end.Reads as end-reads
 use Rattle.terms.proofs.gather_head.Reads as gather-head-reads
 use Rattle.terms.proofs.reference.Reads as reference-reads
