@@ -1,12 +1,12 @@
 -- Laws of the program: zeros, references pushed, and a row added to a table without marks.
-use Prim.Native.Nat.{ℕ, zero, suc, _+_, _*_, _≤_, _<_}
+use Prim.Native.Nat.{ℕ, zero, suc, _+_, _-_, _*_, _≤_, _<_}
 use native.Mathlib.Nat.{not-suc-le-zero}
 use native.Mathlib.Omega.{arith}
 use mathlib.Core.Path.{_≡_, refl, _∙_}
 use mathlib.Core.Logic.{⊎-elim}
 use mathlib.Core.List.{List}
-use lib.ListN.{length, getD, set, replicate, length-replicate, length-set}
-use lib.Seq.{getD-set-same, getD-set-other}
+use lib.ListN.{length, getD, drop, set, replicate, length-replicate, length-set}
+use lib.Seq.{getD-set-same, getD-set-other, getD-take, getD-drop}
 use lib.Dec.{T}
 use Rattle.terms.specs.Rows.{words, has-body, has-groups, row-word, with-row, rows-after, pushed, Fresh}
 use Rattle.terms.proofs.Laws.{pushed-in, added-in}
@@ -109,6 +109,11 @@ unfolding with-row
 row-blank many word start extra h b =
     set-blank (8192 + many) extra (omega arith) (set-blank (4096 + many) start (omega arith) (set-blank many word (omega arith) b))
 
+-- the word of a new reference is the number of one of the terms
+new-small : {refs refs′ : List ℕ} {used used′ many : ℕ} → Pushed refs refs′ used used′ many → (i : ℕ) → i < used′ - used → getD (words refs′ used used′) i 0 < many
+new-small {refs′} {used} {used′} p i h =
+    rw (getD-take (used′ - used) (drop used refs′) i 0 h, getD-drop used refs′ i 0) (p .new (used + i) (omega arith) (omega arith))
+
 -- a table with one row more
 pub table-added : {refs rows refs′ rows′ : List ℕ} {used used′ many : ℕ} (kind head extra : ℕ) → Table refs rows used many → many < 4096 → used ≤ used′ → used′ ≤ 16384
     → Pushed refs refs′ used used′ many → Shape used used′ kind head extra
@@ -138,6 +143,7 @@ table-added {refs} {rows} {refs′} {rows′} {used} {used′} {many} kind head 
       grouped = λ h w m.
           let x = words-elim fits (rw (words-drop refs′ used used′) at m) in
           omega (arith, x .is, p .new (x .place) (omega (arith, x .low)) (x .high), s .grouped (groups-above kind h));
+      rising = λ h i l k. omega (arith, new-small p i (omega arith));
     } in
     rw (is, added-in rows many (row-word kind 4 head) used extra few .1)
     (record {

@@ -9,7 +9,7 @@ slice-aggregate-gather-list : tie.Need-slice-aggregate-gather-list
 slice-aggregate-gather-list c = search needs
 
 gather-list-requires : tie.Need-gather-list-requires
-gather-list-requires c κs = let pre = c .before .before .before .before .before .before .before .pre in (pre .1 .table, pre .0 .long, omega arith, omega arith, (λ i a b. pre .1 .in-table i b), fresh-one (pre .0) (pre .1), omega arith, omega arith, search needs)
+gather-list-requires c κs = let pre = c .before .before .before .before .before .before .before .pre in (pre .1 .table, pre .0 .long, omega arith, omega arith, (λ i a b. pre .1 .in-table i b), fresh-one (pre .0) (pre .1), omega arith, search needs)
 
 show-requires : tie.Need-show-requires
 show-requires c κs = search needs

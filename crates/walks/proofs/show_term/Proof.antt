@@ -9,7 +9,7 @@ slice-aggregate-gather-term : tie.Need-slice-aggregate-gather-term
 slice-aggregate-gather-term c = search needs
 
 gather-term-requires : tie.Need-gather-term-requires
-gather-term-requires c κs = let pre = c .before .before .before .before .before .before .before .pre in (pre .1 .table, pre .0 .long, pre .2, fresh-one (pre .0) (pre .1), omega arith, omega arith, search needs)
+gather-term-requires c κs = let pre = c .before .before .before .before .before .before .before .pre in (pre .1 .table, pre .0 .long, pre .2, fresh-one (pre .0) (pre .1), omega arith, search needs)
 
 show-requires : tie.Need-show-requires
 show-requires c κs = search needs
