@@ -15,8 +15,7 @@ use Rattle.model.specs.Terms.{Node, Term, add-term}
 use Rattle.model.specs.declared.Op.{Op}
 use Rattle.model.proofs.ListLaws.{fold-left-append}
 use Rattle.terms.specs.Rows.{row-kind, row-op, row-head, row-start, row-extra, row-end, words, op-of-code, make-node, node-of, nodes-below, terms-of, has-head, has-body, has-groups, bare-of, Rows, row-word, with-row, pushed}
-use Rattle.terms.proofs.Laws.{end-next, end-last, pushed-in, pushed-full}
-use Rattle.terms.proofs.Steps.{equal, below}
+use Rattle.terms.proofs.Laws.{end-next, end-last, pushed-in, pushed-full, equal, below}
 use Rattle.terms.proofs.Table.{words-nil, words-cons, words-length, words-intro, words-drop}
 
 -- lent slices are a table of no rows

@@ -13,7 +13,7 @@ use borrow.Author.Tests.{eq-eqb, ne-eqb}
 use Rattle.model.specs.Lists.{keep, concat}
 use Rattle.model.proofs.ListLaws.{T-or, keep-append, keep-all, keep-none}
 use Rattle.terms.specs.Rows.{row-kind, row-start, row-extra, row-end, words, terms-of-words, group-of-words, groups-of-words, group-run, has-body, has-groups, Rows}
-use Rattle.terms.proofs.Steps.{equal, below}
+use Rattle.terms.proofs.Laws.{equal, below}
 use Rattle.terms.proofs.Table.{words-nil, words-cons, words-elim, words-drop}
 
 -- the words of groups, the first of which has the number g

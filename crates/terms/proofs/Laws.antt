@@ -1,15 +1,32 @@
--- What the functions of this crate rest on, said of plain lists: the table's rows, what a walk finds, and the names of terms.
+-- What the functions of this crate rest on, said of plain lists: the table's rows and references.
 use Prim.Native.Nat.{ℕ, zero, suc, _+_, _-_, _*_, _/_, _%_, _≤_, _<_}
 use native.Mathlib.Omega.{arith}
 use mathlib.Core.Path.{_≡_, refl, sym, ap, _∙_}
 use mathlib.Core.Bool.{Bool, true, false, cond, not, _&&_, _||_}
+use mathlib.Core.Logic.{_⊎_, inl, inr}
 use mathlib.Core.List.{List, [], _∷_, _++_}
 use lib.ListN.{length, take, drop, getD, set}
 use lib.Dec.{T, eqb, ltb}
-use borrow.Author.Tests.{eq-eqb, ne-eqb, lt-ltb, le-ltb}
+use borrow.Author.Tests.{eq-eqb, ne-eqb, lt-ltb, le-ltb, eqb-true, eqb-false, ltb-true, ltb-false}
 use Rattle.terms.specs.declared.Added.{Added}
 use Rattle.terms.specs.declared.Added.the-variants as adds
-use Rattle.terms.specs.Rows.{row-kind, row-start, row-extra, row-end, bare-of, has-head, is-excluded, added, rows-after, with-row, pushed, push-answer}
+use Rattle.terms.specs.Rows.{row-kind, row-start, row-extra, row-end, bare-of, added, rows-after, with-row, pushed, push-answer}
+
+-- two numbers are equal or not
+pub equal : (m n : ℕ) → (m ≡ n) ⊎ (m ≡ n → ⊥)
+equal m n = go (eqb m n) refl
+  where
+    go : (b : Bool) → eqb m n ≡ b → (m ≡ n) ⊎ (m ≡ n → ⊥)
+    go true e = inl (eqb-true m n e)
+    go false e = inr (eqb-false m n e)
+
+-- a number is below another or not
+pub below : (m n : ℕ) → (m < n) ⊎ (n ≤ m)
+below m n = go (ltb m n) refl
+  where
+    go : (b : Bool) → ltb m n ≡ b → (m < n) ⊎ (n ≤ m)
+    go true e = inl (ltb-true m n e)
+    go false e = inr (ltb-false m n e)
 
 -- ---- rows
 
@@ -62,25 +79,3 @@ added-in rows many word start extra h = (rw (lt-ltb many 4096 h), rw (lt-ltb man
 pub added-full : (rows : List ℕ) (many word start extra : ℕ) → 4096 ≤ many → (added many ≡ adds.Full) × (rows-after rows many word start extra ≡ rows)
 unfolding added rows-after
 added-full rows many word start extra h = (rw (le-ltb many 4096 h), rw (le-ltb many 4096 h))
-
--- a free has a head
-pub head-free : (kind : ℕ) → kind ≡ 0 → has-head kind ≡ true
-unfolding has-head
-head-free kind h = rw h
-
--- else a call alone has
-pub head-call : (kind : ℕ) → (kind ≡ 0 → ⊥) → has-head kind ≡ eqb kind 2
-unfolding has-head
-head-call kind h = rw (ne-eqb kind 0 h)
-
--- no code: not excluded
-pub excluded-none : (code : ℕ) → code ≡ 0 → is-excluded code ≡ false
-unfolding is-excluded
-excluded-none code h = rw h
-
--- a code below 10 is that of an excluded name
-pub excluded-low : (code : ℕ) → (code ≡ 0 → ⊥) → is-excluded code ≡ ltb code 10
-unfolding is-excluded
-excluded-low code h =
-    let p : 0 < code = omega arith in
-    rw (lt-ltb 0 code p)

@@ -17,8 +17,7 @@ use Rattle.model.specs.declared.Op.{Op}
 use Rattle.model.proofs.ListLaws.{T-or, keep-intro, keep-elim, map-intro, map-elim, concat-append, fold-left-append}
 use Rattle.model.proofs.SetLaws.{mem-add, mem-union, Ascending, empty, one, ascending-add, ascending-union}
 use Rattle.terms.specs.Rows.{row-kind, row-op, row-head, row-start, row-extra, row-end, words, terms-of-words, group-of-words, groups-of-words, op-of-code, make-node, node-of, nodes-below, terms-of, has-head, has-body, has-groups, bare-of, Rows}
-use Rattle.terms.proofs.Laws.{bare-label, bare-own}
-use Rattle.terms.proofs.Steps.{equal, below}
+use Rattle.terms.proofs.Laws.{bare-label, bare-own, equal, below}
 
 -- ---- words
 

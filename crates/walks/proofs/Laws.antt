@@ -8,9 +8,9 @@ use mathlib.Core.List.{List}
 use lib.ListN.{length, getD, drop, set, replicate, length-replicate, length-set}
 use lib.Seq.{getD-set-same, getD-set-other, getD-take, getD-drop}
 use lib.Dec.{T}
-use Rattle.terms.specs.Rows.{words, has-body, has-groups, row-word, with-row, rows-after, pushed, Fresh}
-use Rattle.terms.proofs.Laws.{pushed-in, added-in}
-use Rattle.terms.proofs.Steps.{equal, below}
+use Rattle.terms.specs.Rows.{words, has-body, has-groups, row-word, with-row, rows-after, pushed}
+use Rattle.gather.specs.Sets.{Fresh}
+use Rattle.terms.proofs.Laws.{pushed-in, added-in, equal, below}
 use Rattle.terms.proofs.Table.{words-nil, words-length, words-elim, words-drop}
 use Rattle.terms.proofs.Adding.{empty-rows, push-agrees, push-length, New-row, row-added}
 use Rattle.walks.specs.Tables.{Blank, Table, Pushed}

@@ -1,7 +1,7 @@
-// Runs `gather_term` and `gather_list` of `terms` on deep, wide and shared tables, each built anew, and prints what each
+// Runs `gather_term` and `gather_list` of `gather` on deep, wide and shared tables, each built anew, and prints what each
 // comes to.
+use gather::Walked;
 use libc::STDOUT_FILENO;
-use terms::Walked;
 ghost use Prim.Native.Nat.{_+_, _-_, _*_, _≤_, _<_};
 ghost use mathlib.Core.Path.{_≡_};
 ghost use lib.ListN.{length};
@@ -116,7 +116,7 @@ fn show_term(
     let mut out = [0u32; 2048];
     show(
         label,
-        terms::gather_term(names, refs, rows, &mut out, 2048, used, many, t, 1, 0, room),
+        gather::gather_term(names, refs, rows, &mut out, 2048, used, many, t, 1, 0, room),
     );
 }
 
@@ -134,7 +134,7 @@ fn show_list(
     let mut out = [0u32; 2048];
     show(
         label,
-        terms::gather_list(
+        gather::gather_list(
             names,
             refs,
             rows,

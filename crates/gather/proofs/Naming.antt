@@ -15,11 +15,12 @@ use Rattle.model.specs.Summaries.{exclude-names, free-top-level-names, group-na
 use Rattle.model.specs.declared.Order.{Order}
 use Rattle.model.proofs.ListLaws.{T-false, false-T, map-intro, map-elim}
 use Rattle.model.proofs.SetLaws.{mem-intro, mem-elim, mem-cons, mem-first, mem-later, mem-union, mem-from-list, mem-diff, mem-add, Compared, first, equal as equal-names, second, compared, Ascending, empty, ascending-union, ascending-from-list, ascending-diff, ascending-ext, subset-length}
-use Rattle.terms.specs.declared.Walked.{Walked}
-use Rattle.terms.specs.declared.Walked.the-variants as walks
-use Rattle.terms.specs.Rows.{row-kind, row-op, row-head, row-start, row-extra, row-end, words, terms-of-words, op-of-code, node-of, terms-of, Rows, has-head, is-excluded, row-mark, name-mark, Fresh, Named, Gathers, all-names, no-room, ended, Gathered}
-use Rattle.terms.specs.Walks.{Occurs, own, under, Counted, Free, Among, Closed, Ready, References, Comes, whole, over, Steps, Walks, Listed}
+use Rattle.gather.specs.declared.Walked.{Walked}
+use Rattle.gather.specs.declared.Walked.the-variants as walks
+use Rattle.terms.specs.Rows.{row-kind, row-op, row-head, row-start, row-extra, row-end, words, terms-of-words, op-of-code, node-of, terms-of, Rows, has-head}
+use Rattle.gather.specs.Sets.{is-excluded, row-mark, name-mark, Fresh, Named, Gathers, all-names, no-room, ended, Gathered}
+use Rattle.gather.specs.Walks.{Occurs, own, under, Counted, Free, Among, Closed, Ready, References, Comes, whole, over, Steps, Walks, Listed}
 use Rattle.terms.proofs.Table.{own-names, words-nil, words-cons, words-length, words-elim, words-intro, Place, Inside, Named-by, node-elim, node-intro, own-elim, own-intro, refs-elim, refs-intro, table, entry, table-all, table-term, table-ascending, row-right, kind-small}
 
 -- ---- the free names of a term
 

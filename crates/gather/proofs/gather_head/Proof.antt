@@ -1,9 +1,10 @@
--- `terms::gather_head` meets its contract: each way out is a law of Heads.antt.
-use Rattle.terms.specs.Walks.{Heads}
+-- `gather::gather_head` meets its contract: each way out is a law of Heads.antt.
+use Rattle.gather.specs.Walks.{Heads}
 use Rattle.model.proofs.ListLaws.{true-T}
 use mathlib.Core.Bool.{Bool, not, false}
-use Rattle.terms.proofs.Heads.{head-none, head-excluded, head-there, head-over, head-added}
-use Rattle.terms.specs.Rows.{has-head, is-excluded, row-kind, row-head}
+use Rattle.gather.proofs.Heads.{head-none, head-excluded, head-there, head-over, head-added}
+use Rattle.terms.specs.Rows.{has-head, row-kind, row-head}
+use Rattle.gather.specs.Sets.{is-excluded}
 use borrow.Author.Tests.{not-true, not-false}
 use lib.ListN.{length, length-set}
 use Prim.Native.Nat.{ℕ, _≤_, _<_}
@@ -11,8 +12,8 @@ use mathlib.Core.List.{List}
 use mathlib.Core.Path.{_≡_, sym, ap, _∙_}
 use native.Mathlib.Omega.{arith}
 use borrow.Author.Needs.{needs}
-use Rattle.terms.proofs.gather_head.Statement.{statement}
-use Rattle.terms.proofs.gather_head.Tie as tie
+use Rattle.gather.proofs.gather_head.Statement.{statement}
+use Rattle.gather.proofs.gather_head.Tie as tie
 
 -- the head that was read is the number of a name
 head-is-small : {names rows out : List ℕ} {t count room k : ℕ} {b : Bool} {n : ℕ} → Heads names rows out t count room → k ≡ row-kind rows t → b ≡ has-head k → not b ≡ false → n ≡ row-head rows t → n < 2048

@@ -1,8 +1,8 @@
--- `terms::gather_list` meets its contract: a walk under a new mark.
-use Rattle.terms.proofs.Gather.{ready-start, gathers-list, gathered-of}
+-- `gather::gather_list` meets its contract: a walk under a new mark.
+use Rattle.gather.proofs.Gather.{ready-start, gathers-list, gathered-of}
 use borrow.Author.Needs.{needs}
-use Rattle.terms.proofs.gather_list.Statement.{statement}
-use Rattle.terms.proofs.gather_list.Tie as tie
+use Rattle.gather.proofs.gather_list.Statement.{statement}
+use Rattle.gather.proofs.gather_list.Tie as tie
 
 walk-list-requires : tie.Need-walk-list-requires
 walk-list-requires c κs =

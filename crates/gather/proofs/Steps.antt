@@ -2,33 +2,15 @@
 use Prim.Native.Nat.{ℕ, _+_, _-_, _≤_, _<_}
 use native.Mathlib.Omega.{arith}
 use mathlib.Core.Path.{_≡_, refl, sym, ap, _∙_}
-use mathlib.Core.Bool.{Bool, true, false}
 use mathlib.Core.Logic.{_⊎_, inl, inr, ⊎-elim}
 use mathlib.Core.List.{List}
 use lib.ListN.{length, getD, set, length-set}
 use lib.Seq.{getD-set-same, getD-set-other}
-use lib.Dec.{eqb, ltb}
-use borrow.Author.Tests.{eqb-true, eqb-false, ltb-true, ltb-false}
-use Rattle.terms.specs.declared.Walked.{Walked}
-use Rattle.terms.specs.declared.Walked.the-variants as walks
-use Rattle.terms.specs.Rows.{Same-but, name-mark, ended}
-use Rattle.terms.specs.Walks.{Listed, Comes, whole, over, Steps}
-
--- two numbers are equal or not
-pub equal : (m n : ℕ) → (m ≡ n) ⊎ (m ≡ n → ⊥)
-equal m n = go (eqb m n) refl
-  where
-    go : (b : Bool) → eqb m n ≡ b → (m ≡ n) ⊎ (m ≡ n → ⊥)
-    go true e = inl (eqb-true m n e)
-    go false e = inr (eqb-false m n e)
-
--- a number is below another or not
-pub below : (m n : ℕ) → (m < n) ⊎ (n ≤ m)
-below m n = go (ltb m n) refl
-  where
-    go : (b : Bool) → ltb m n ≡ b → (m < n) ⊎ (n ≤ m)
-    go true e = inl (ltb-true m n e)
-    go false e = inr (ltb-false m n e)
+use Rattle.gather.specs.declared.Walked.{Walked}
+use Rattle.gather.specs.declared.Walked.the-variants as walks
+use Rattle.gather.specs.Sets.{Same-but, name-mark, ended}
+use Rattle.terms.proofs.Laws.{equal, below}
+use Rattle.gather.specs.Walks.{Listed, Comes, whole, over, Steps}
 
 -- a slice is the same as itself
 pub same-self : (column size : ℕ) (l : List ℕ) → Same-but column size l l

@@ -6,9 +6,10 @@ use mathlib.Core.Logic.{_⊎_}
 use mathlib.Core.List.{List}
 use lib.ListN.{length, getD}
 use lib.Dec.{T}
-use Rattle.terms.specs.declared.Walked.{Walked}
-use Rattle.terms.specs.declared.Walked.the-variants as walks
-use Rattle.terms.specs.Rows.{row-kind, row-head, row-start, row-end, has-head, is-excluded, Rows, Same-but, row-mark, name-mark, ended}
+use Rattle.gather.specs.declared.Walked.{Walked}
+use Rattle.gather.specs.declared.Walked.the-variants as walks
+use Rattle.terms.specs.Rows.{row-kind, row-head, row-start, row-end, has-head, Rows}
+use Rattle.gather.specs.Sets.{is-excluded, Same-but, row-mark, name-mark, ended}
 
 -- name number k is free in term t: its head, or free in a term that it names
 pub data Occurs (refs rows : List ℕ) (used many : ℕ) : ℕ → ℕ → Type 0 where

@@ -9,12 +9,14 @@ use lib.ListN.{length, getD, set}
 use lib.Seq.{getD-set-same, getD-set-other}
 use lib.Dec.{T, ltb}
 use borrow.Author.Tests.{ltb-true}
-use Rattle.terms.specs.declared.Walked.{Walked}
-use Rattle.terms.specs.declared.Walked.the-variants as walks
-use Rattle.terms.specs.Rows.{row-kind, row-head, row-start, row-extra, row-end, has-head, has-body, bare-of, Rows, Same-but, row-mark, name-mark, is-excluded, ended}
-use Rattle.terms.specs.Walks.{Occurs, own, under, Counted, Own, Free, Among, Heads, Closed, Ready, References, Comes, whole, Steps, Walks}
+use Rattle.gather.specs.declared.Walked.{Walked}
+use Rattle.gather.specs.declared.Walked.the-variants as walks
+use Rattle.terms.specs.Rows.{row-kind, row-head, row-start, row-extra, row-end, has-head, has-body, bare-of, Rows}
+use Rattle.gather.specs.Sets.{Same-but, row-mark, name-mark, is-excluded, ended}
+use Rattle.gather.specs.Walks.{Occurs, own, under, Counted, Own, Free, Among, Heads, Closed, Ready, References, Comes, whole, Steps, Walks}
 use Rattle.terms.proofs.Laws.{bare-label, bare-own}
-use Rattle.terms.proofs.Steps.{equal, same-self, same-back, same-then, same-set, steps-stay, steps-kept, steps-as, steps-full, steps-then}
+use Rattle.terms.proofs.Laws.{equal}
+use Rattle.gather.proofs.Steps.{same-self, same-back, same-then, same-set, steps-stay, steps-kept, steps-as, steps-full, steps-then}
 
 -- ---- a change of marks
 

@@ -1,26 +1,26 @@
--- `terms::walk_term` and `terms::walk_list` meet their contracts. A term's measure is twice its number and one, a list's twice
+-- `gather::walk_term` and `gather::walk_list` meet their contracts. A term's measure is twice its number and one, a list's twice
 -- the greatest of its terms and one more. The loop's invariant: the names of the terms up to `i` are added.
 use native.Mathlib.Omega.{arith}
 use Prim.Native.Nat.{ℕ, _+_, _-_, _*_, _≤_, _<_}
 use mathlib.Core.Path.{sym, _∙_}
-use Rattle.terms.specs.declared.Walked.the-variants as walks
-use Rattle.terms.specs.Walks.{Among, Walks}
-use Rattle.terms.proofs.Walking.{top, list-falls, term-falls, walks-there, walks-none, walks-next, walks-term, walks-head-full, walks-marked, ready-then, heads-of, references-of, in-table-at, walks-is, steps-is, walks-stop, walks-end, walks-names}
+use Rattle.gather.specs.declared.Walked.the-variants as walks
+use Rattle.gather.specs.Walks.{Among, Walks}
+use Rattle.gather.proofs.Walking.{top, list-falls, term-falls, walks-there, walks-none, walks-next, walks-term, walks-head-full, walks-marked, ready-then, heads-of, references-of, in-table-at, walks-is, steps-is, walks-stop, walks-end, walks-names}
 use borrow.Fn.Kinds.{In}
 use borrow.Fn.PlainCycle.{Measures, is, falls, and}
-use Rattle.terms.proofs.walk_list.Reads as walk-list
-use Rattle.terms.proofs.walk_list.Kinds as walk-list-kinds
-use Rattle.terms.proofs.+walk_list+walk_term.Lts-walk_list as walk-list-lts
-use Rattle.terms.proofs.walk_term.Reads as walk-term
-use Rattle.terms.proofs.walk_term.Kinds as walk-term-kinds
-use Rattle.terms.proofs.+walk_list+walk_term.Lts-walk_term as walk-term-lts
+use Rattle.gather.proofs.walk_list.Reads as walk-list
+use Rattle.gather.proofs.walk_list.Kinds as walk-list-kinds
+use Rattle.gather.proofs.+walk_list+walk_term.Lts-walk_list as walk-list-lts
+use Rattle.gather.proofs.walk_term.Reads as walk-term
+use Rattle.gather.proofs.walk_term.Kinds as walk-term-kinds
+use Rattle.gather.proofs.+walk_list+walk_term.Lts-walk_term as walk-term-lts
 use Rattle.words.proofs.at.Reads as at-reads
 use Rattle.terms.proofs.end.Reads as end-reads
-use Rattle.terms.proofs.gather_head.Reads as gather-head-reads
+use Rattle.gather.proofs.gather_head.Reads as gather-head-reads
 use Rattle.terms.proofs.reference.Reads as reference-reads
 use Rattle.terms.proofs.start.Reads as start-reads
-use Rattle.terms.proofs.+walk_list+walk_term.{statement}
-use Rattle.terms.proofs.+walk_list+walk_term.Tie.{close}
+use Rattle.gather.proofs.+walk_list+walk_term.{statement}
+use Rattle.gather.proofs.+walk_list+walk_term.Tie.{close}
 
 abbrev μ-walk-list : Measures 4 walk-list-kinds.ps ℕ
 μ-walk-list κs a = 2 * top (a .1 .0 .now) (a .1 .1 .1 .1 .1 .1 .0) (a .1 .1 .1 .1 .1 .1 .1 .0 - a .1 .1 .1 .1 .1 .1 .0)

@@ -7,12 +7,13 @@ use mathlib.Core.List.{List, List·Memᴰ, Memᴰ·cast}
 use lib.ListN.{length, getD}
 use Rattle.model.specs.Names.{Name}
 use Rattle.model.specs.Summaries.{exclude-names, free-top-level-names, group-names}
-use Rattle.terms.specs.declared.Walked.{Walked}
-use Rattle.terms.specs.declared.Walked.the-variants as walks
-use Rattle.terms.specs.Rows.{words, terms-of-words, terms-of, Rows, row-mark, name-mark, Fresh, Named, ended, Gathers, Gathered}
-use Rattle.terms.specs.Walks.{Free, Among, Closed, Ready, References, Steps, Walks, Listed}
+use Rattle.gather.specs.declared.Walked.{Walked}
+use Rattle.gather.specs.declared.Walked.the-variants as walks
+use Rattle.terms.specs.Rows.{words, terms-of-words, terms-of, Rows}
+use Rattle.gather.specs.Sets.{row-mark, name-mark, Fresh, Named, ended, Gathers, Gathered}
+use Rattle.gather.specs.Walks.{Free, Among, Closed, Ready, References, Steps, Walks, Listed}
 use Rattle.terms.proofs.Table.{words-elim, words-intro}
-use Rattle.terms.proofs.Naming.{occurs-named, term-set, list-set, start-listed, steps-gathers}
+use Rattle.gather.proofs.Naming.{occurs-named, term-set, list-set, start-listed, steps-gathers}
 
 -- a table stays one where there are more names
 pub rows-named : {refs rows : List ℕ} {used many named named′ : ℕ} → named ≤ named′ → named′ ≤ 2048 → Rows refs rows used many named → Rows refs rows used many named′

@@ -1,8 +1,8 @@
--- `terms::excluded` meets its contract.
-use Rattle.terms.proofs.Laws.{excluded-none, excluded-low}
+-- `gather::excluded` meets its contract.
+use Rattle.gather.proofs.Heads.{excluded-none, excluded-low}
 use mathlib.Core.Path.{sym}
-use Rattle.terms.proofs.excluded.Statement.{statement}
-use Rattle.terms.proofs.excluded.Tie as tie
+use Rattle.gather.proofs.excluded.Statement.{statement}
+use Rattle.gather.proofs.excluded.Tie as tie
 
 returns : tie.Need-returns
 returns c = sym (excluded-none _ (c .if1 .taken))

@@ -5,12 +5,36 @@ use mathlib.Core.Path.{_≡_, refl, sym, ap, _∙_}
 use mathlib.Core.Bool.{Bool, true, false, true≢false}
 use mathlib.Core.List.{List}
 use lib.ListN.{length, getD, set}
-use lib.Dec.{T}
+use lib.Dec.{T, eqb, ltb}
+use borrow.Author.Tests.{ne-eqb, lt-ltb}
 use Rattle.model.proofs.ListLaws.{T-true, true-T}
-use Rattle.terms.specs.declared.Walked.the-variants as walks
-use Rattle.terms.specs.Rows.{row-kind, row-head, has-head, is-excluded, name-mark}
-use Rattle.terms.specs.Walks.{Counted, Own, Heads, Steps}
-use Rattle.terms.proofs.Steps.{steps-stay, steps-over, steps-one}
+use Rattle.gather.specs.declared.Walked.the-variants as walks
+use Rattle.terms.specs.Rows.{row-kind, row-head, has-head}
+use Rattle.gather.specs.Sets.{is-excluded, name-mark}
+use Rattle.gather.specs.Walks.{Counted, Own, Heads, Steps}
+use Rattle.gather.proofs.Steps.{steps-stay, steps-over, steps-one}
+
+-- a free has a head
+pub head-free : (kind : ℕ) → kind ≡ 0 → has-head kind ≡ true
+unfolding has-head
+head-free kind h = rw h
+
+-- else a call alone has
+pub head-call : (kind : ℕ) → (kind ≡ 0 → ⊥) → has-head kind ≡ eqb kind 2
+unfolding has-head
+head-call kind h = rw (ne-eqb kind 0 h)
+
+-- no code: not excluded
+pub excluded-none : (code : ℕ) → code ≡ 0 → is-excluded code ≡ false
+unfolding is-excluded
+excluded-none code h = rw h
+
+-- a code below 10 is that of an excluded name
+pub excluded-low : (code : ℕ) → (code ≡ 0 → ⊥) → is-excluded code ≡ ltb code 10
+unfolding is-excluded
+excluded-low code h =
+    let p : 0 < code = omega arith in
+    rw (lt-ltb 0 code p)
 
 module _ {names rows out : List ℕ} {t count room : ℕ} (h : Heads names rows out t count room) (mark : ℕ) where
   -- the row has no head

@@ -1,8 +1,8 @@
--- `terms::gather_term` meets its contract: a walk under a new mark.
-use Rattle.terms.proofs.Gather.{ready-start, gathers-term, gathered-of}
+-- `gather::gather_term` meets its contract: a walk under a new mark.
+use Rattle.gather.proofs.Gather.{ready-start, gathers-term, gathered-of}
 use borrow.Author.Needs.{needs}
-use Rattle.terms.proofs.gather_term.Statement.{statement}
-use Rattle.terms.proofs.gather_term.Tie as tie
+use Rattle.gather.proofs.gather_term.Statement.{statement}
+use Rattle.gather.proofs.gather_term.Tie as tie
 
 walk-term-requires : tie.Need-walk-term-requires
 walk-term-requires c κs =

@@ -1,8 +1,8 @@
--- `terms::has_head` meets its contract.
-use Rattle.terms.proofs.Laws.{head-free, head-call}
+-- `gather::has_head` meets its contract.
+use Rattle.gather.proofs.Heads.{head-free, head-call}
 use mathlib.Core.Path.{sym}
-use Rattle.terms.proofs.has_head.Statement.{statement}
-use Rattle.terms.proofs.has_head.Tie as tie
+use Rattle.gather.proofs.has_head.Statement.{statement}
+use Rattle.gather.proofs.has_head.Tie as tie
 
 returns : tie.Need-returns
 returns c = sym (head-free _ (c .if1 .taken))

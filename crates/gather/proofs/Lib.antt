@@ -1,0 +1,5 @@
+pub mod Steps
+pub mod Heads
+pub mod Walking
+pub mod Naming
+pub mod Gather

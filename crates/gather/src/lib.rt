@@ -1,0 +1,172 @@
+ghost use Prim.Native.Nat.{ℕ, _%_, _≤_, _<_};
+ghost use mathlib.Core.Path.{_≡_};
+ghost use lib.ListN.{length, getD};
+ghost use Rattle.model.specs.Names.{Name};
+ghost use Rattle.model.specs.Summaries.{exclude-names, free-top-level-names, group-names};
+ghost use Rattle.terms.specs.Rows.{has-head, words, terms-of-words, terms-of, Rows};
+ghost use Rattle.gather.specs.Sets.{is-excluded, Fresh, Named, Gathers, Gathered};
+ghost use Rattle.gather.specs.Walks.{Own, Free, Among, Heads, Ready, References, Steps, Walks};
+
+// What gathering names comes to: where the names end in the slice, or that there is no room for them.
+pub enum Walked {
+    Names(usize),
+    Full,
+}
+
+// Whether rows of this kind have a head name.
+fn has_head(kind: usize) -> bool
+    ensures { λ r. ⌜ r ≡ has-head kind ⌝ }
+{
+    if kind == 0 {
+        return true;
+    }
+    kind == 2
+}
+
+// Whether the head code is that of one of `exclude_names`.
+fn excluded(code: usize) -> bool
+    ensures { λ r. ⌜ r ≡ is-excluded code ⌝ }
+{
+    if code == 0 {
+        return false;
+    }
+    code < 10
+}
+
+// Adds the head name of a term, unless it has none, the name is excluded, or it is there already.
+fn gather_head(
+    names: &mut [u32],
+    rows: &[u32],
+    out: &mut [u32],
+    t: usize,
+    mark: u32,
+    count: usize,
+    room: usize,
+) -> Walked
+    requires { ⌜ Heads (now names) (now rows) (now out) t count room ⌝ }
+    ensures { λ r. ⌜ Steps (Own (now (names .entry)) (now (rows .entry)) t) (now (names .entry)) (now (out .entry)) (now (names .exit)) (now (out .exit)) mark count room r ⌝ }
+{
+    if !has_head(terms::kind(rows, t)) {
+        return Walked::Names(count);
+    }
+    let n = terms::head(rows, t);
+    if excluded(words::at(names, 6144 + n)) {
+        return Walked::Names(count);
+    }
+    if words::at(names, 8192 + n) == mark as usize {
+        return Walked::Names(count);
+    }
+    if room <= count {
+        return Walked::Full;
+    }
+    out[count] = n as u32;
+    names[8192 + n] = mark;
+    Walked::Names(count + 1)
+}
+
+// Adds the free names of a term: its head's, then those of the terms that it names. A term is marked after these, and a
+// term with the mark is not walked again.
+fn walk_term(
+    names: &mut [u32],
+    refs: &[u32],
+    rows: &mut [u32],
+    out: &mut [u32],
+    used: usize,
+    many: usize,
+    t: usize,
+    mark: u32,
+    count: usize,
+    room: usize,
+) -> Walked
+    requires { ⌜ Ready (now names) (now refs) (now rows) (now out) used many mark count room × (t < many) ⌝ }
+    ensures { λ r. ⌜ Walks (Free (now (names .entry)) (now (refs .entry)) (now (rows .entry)) used many t) (now (names .entry)) (now (refs .entry)) (now (rows .entry)) (now (out .entry)) (now (names .exit)) (now (rows .exit)) (now (out .exit)) used many mark count room r ⌝ }
+{
+    if words::at(rows, 12288 + t) == mark as usize {
+        return Walked::Names(count);
+    }
+    let Walked::Names(own) = gather_head(names, rows, out, t, mark, count, room) else {
+        return Walked::Full;
+    };
+    let a = terms::start(rows, t);
+    let e = terms::end(rows, used, many, t);
+    let Walked::Names(n) = walk_list(names, refs, rows, out, used, many, a, e, mark, own, room)
+    else {
+        return Walked::Full;
+    };
+    rows[12288 + t] = mark;
+    Walked::Names(n)
+}
+
+// Adds the free names of the terms that the references from `a` up to `e` name.
+fn walk_list(
+    names: &mut [u32],
+    refs: &[u32],
+    rows: &mut [u32],
+    out: &mut [u32],
+    used: usize,
+    many: usize,
+    a: usize,
+    e: usize,
+    mark: u32,
+    count: usize,
+    room: usize,
+) -> Walked
+    requires { ⌜ Ready (now names) (now refs) (now rows) (now out) used many mark count room × References (now refs) used many a e ⌝ }
+    ensures { λ r. ⌜ Walks (Among (now (names .entry)) (now (refs .entry)) (now (rows .entry)) used many a e) (now (names .entry)) (now (refs .entry)) (now (rows .entry)) (now (out .entry)) (now (names .exit)) (now (rows .exit)) (now (out .exit)) used many mark count room r ⌝ }
+{
+    let mut i = a;
+    let mut n = count;
+    while i < e {
+        let t = terms::reference(refs, i);
+        let Walked::Names(more) = walk_term(names, refs, rows, out, used, many, t, mark, n, room)
+        else {
+            return Walked::Full;
+        };
+        n = more;
+        i += 1;
+    }
+    Walked::Names(n)
+}
+
+// Gathers the free names of a term into `out` from `from` on, up to `room`, under a mark that no row and no name has yet.
+pub fn gather_term(
+    names: &mut [u32],
+    refs: &[u32],
+    rows: &mut [u32],
+    out: &mut [u32],
+    named: usize,
+    used: usize,
+    many: usize,
+    t: usize,
+    mark: u32,
+    from: usize,
+    room: usize,
+) -> Walked
+    requires { ⌜ Rows (now refs) (now rows) used many named × (16384 ≤ length (now names)) × (t < many) × Fresh (now names) (now rows) mark × (from ≤ room) × (room ≤ length (now out)) ⌝ }
+    ensures set { λ r. ⌜ ((name : ℕ → Name) → Named name (now (names .entry)) named → Gathers name named (free-top-level-names exclude-names (terms-of name (now (refs .entry)) (now (rows .entry)) used many) t) from room (now (out .exit)) r) ⌝ }
+    ensures slices { λ r. ⌜ Gathered (now (names .entry)) (now (rows .entry)) (now (out .entry)) (now (names .exit)) (now (rows .exit)) (now (out .exit)) mark from room r ⌝ }
+{
+    walk_term(names, refs, rows, out, used, many, t, mark, from, room)
+}
+
+// Gathers the free names of the terms that the references from `a` up to `e` name.
+pub fn gather_list(
+    names: &mut [u32],
+    refs: &[u32],
+    rows: &mut [u32],
+    out: &mut [u32],
+    named: usize,
+    used: usize,
+    many: usize,
+    a: usize,
+    e: usize,
+    mark: u32,
+    from: usize,
+    room: usize,
+) -> Walked
+    requires { ⌜ Rows (now refs) (now rows) used many named × (16384 ≤ length (now names)) × (a ≤ e) × (e ≤ used) × ((i : ℕ) → a ≤ i → i < e → getD (now refs) i 0 % 4096 < many) × Fresh (now names) (now rows) mark × (from ≤ room) × (room ≤ length (now out)) ⌝ }
+    ensures set { λ r. ⌜ ((name : ℕ → Name) → Named name (now (names .entry)) named → Gathers name named (group-names exclude-names (terms-of name (now (refs .entry)) (now (rows .entry)) used many) (terms-of-words (words (now (refs .entry)) a e))) from room (now (out .exit)) r) ⌝ }
+    ensures slices { λ r. ⌜ Gathered (now (names .entry)) (now (rows .entry)) (now (out .entry)) (now (names .exit)) (now (rows .exit)) (now (out .exit)) mark from room r ⌝ }
+{
+    walk_list(names, refs, rows, out, used, many, a, e, mark, from, room)
+}
