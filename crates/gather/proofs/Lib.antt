@@ -1,5 +1,7 @@
 pub mod Steps
 pub mod Heads
 pub mod Walking
+pub mod Visiting
+pub mod Rendering
 pub mod Naming
 pub mod Gather
