@@ -229,17 +229,6 @@ module _ {names refs rows out : List ℕ} {used many mark count room t : ℕ} (h
       follows = λ {from} w. let y = x .follows w in rw (term-open w new p q ∙ finish-full t _ (answer-full from _ (y .walk .answer))) y;
     }
 
-    -- there is no room for the head
-    pub follow-head-full : {names′ out′ : List ℕ} → Follows (head-part t) names rows out names′ rows out′ mark count room walks.Full
-        → Follows (term-part refs used many t) names rows out names′ rows out′ mark count room walks.Full
-    unfolding list-part
-    follow-head-full x = term-stop (record {
-      follows = λ {names₀} {rows₀} {out₀} {from} {v} w.
-          let y = x .follows w in
-          let u : Visit = head-part t names₀ rows₀ (room - from) v in
-          rw (fold-full names₀ refs rows₀ used many (room - from) many u (terms-of-words (words refs a e)) (answer-full from u (y .walk .answer))) y;
-    })
-
     module _ {names′ out′ names″ rows″ out″ : List ℕ} {n : ℕ} (x : Follows (head-part t) names rows out names′ rows out′ mark count room (walks.Names n)) where
       -- there is no room for a name of the terms that it names
       pub follow-list-full : Follows (list-part refs used many a e) names′ rows out′ names″ rows″ out″ mark n room walks.Full
@@ -268,6 +257,17 @@ module _ {names refs rows out : List ℕ} {used many mark count room t : ℕ} (h
               walked-small = λ s i. ⊎-elim (z .walked-small s) (λ j. let q : s ≡ t = List·Memᴰ·eq-of-singleton j in rw q (is-row w)) (List·Memᴰ·append-cases (u .walked) i);
             });
       }
+
+  -- there is no room for the head
+  pub follow-head-full : {names′ out′ : List ℕ} → (row-mark rows t ≡ mark → ⊥) → Follows (head-part t) names rows out names′ rows out′ mark count room walks.Full
+      → Follows (term-part refs used many t) names rows out names′ rows out′ mark count room walks.Full
+  unfolding list-part
+  follow-head-full new x = term-stop new refl refl (record {
+    follows = λ {names₀} {rows₀} {out₀} {from} {v} w.
+        let y = x .follows w in
+        let u : Visit = head-part t names₀ rows₀ (room - from) v in
+        rw (fold-full names₀ refs rows₀ used many (room - from) many u (terms-of-words (words refs (row-start rows t) (row-end rows used many t))) (answer-full from u (y .walk .answer))) y;
+  })
 
 -- ---- a list
 

@@ -6,7 +6,7 @@ ghost use Rattle.model.specs.Summaries.{exclude-names, free-top-level-names, gr
 ghost use Rattle.terms.specs.Rows.{has-head, words, terms-of-words, terms-of, Rows};
 ghost use Rattle.gather.specs.Sets.{is-excluded, Fresh, Named, Gathers, Gathered};
 ghost use Rattle.gather.specs.Visits.{visit-term, visit-list, Walks-as};
-ghost use Rattle.gather.specs.Walks.{Own, Free, Among, Heads, Ready, References, Steps, Walks};
+ghost use Rattle.gather.specs.Walks.{Own, Free, Among, Heads, Ready, References, Steps, Walks, head-part, term-part, list-part, Follows};
 
 // What gathering names comes to: where the names end in the slice, or that there is no room for them.
 pub enum Walked {
@@ -45,7 +45,8 @@ fn gather_head(
     room: usize,
 ) -> Walked
     requires { ⌜ Heads (now names) (now rows) (now out) t count room ⌝ }
-    ensures { λ r. ⌜ Steps (Own (now (names .entry)) (now (rows .entry)) t) (now (names .entry)) (now (out .entry)) (now (names .exit)) (now (out .exit)) mark count room r ⌝ }
+    ensures set { λ r. ⌜ Steps (Own (now (names .entry)) (now (rows .entry)) t) (now (names .entry)) (now (out .entry)) (now (names .exit)) (now (out .exit)) mark count room r ⌝ }
+    ensures walk { λ r. ⌜ Follows (head-part t) (now (names .entry)) (now (rows .entry)) (now (out .entry)) (now (names .exit)) (now (rows .entry)) (now (out .exit)) mark count room r ⌝ }
 {
     if !has_head(terms::kind(rows, t)) {
         return Walked::Names(count);
@@ -80,7 +81,8 @@ fn walk_term(
     room: usize,
 ) -> Walked
     requires { ⌜ Ready (now names) (now refs) (now rows) (now out) used many mark count room × (t < many) ⌝ }
-    ensures { λ r. ⌜ Walks (Free (now (names .entry)) (now (refs .entry)) (now (rows .entry)) used many t) (now (names .entry)) (now (refs .entry)) (now (rows .entry)) (now (out .entry)) (now (names .exit)) (now (rows .exit)) (now (out .exit)) used many mark count room r ⌝ }
+    ensures set { λ r. ⌜ Walks (Free (now (names .entry)) (now (refs .entry)) (now (rows .entry)) used many t) (now (names .entry)) (now (refs .entry)) (now (rows .entry)) (now (out .entry)) (now (names .exit)) (now (rows .exit)) (now (out .exit)) used many mark count room r ⌝ }
+    ensures walk { λ r. ⌜ Follows (term-part (now (refs .entry)) used many t) (now (names .entry)) (now (rows .entry)) (now (out .entry)) (now (names .exit)) (now (rows .exit)) (now (out .exit)) mark count room r ⌝ }
 {
     if words::at(rows, 12288 + t) == mark as usize {
         return Walked::Names(count);
@@ -113,7 +115,8 @@ fn walk_list(
     room: usize,
 ) -> Walked
     requires { ⌜ Ready (now names) (now refs) (now rows) (now out) used many mark count room × References (now refs) used many a e ⌝ }
-    ensures { λ r. ⌜ Walks (Among (now (names .entry)) (now (refs .entry)) (now (rows .entry)) used many a e) (now (names .entry)) (now (refs .entry)) (now (rows .entry)) (now (out .entry)) (now (names .exit)) (now (rows .exit)) (now (out .exit)) used many mark count room r ⌝ }
+    ensures set { λ r. ⌜ Walks (Among (now (names .entry)) (now (refs .entry)) (now (rows .entry)) used many a e) (now (names .entry)) (now (refs .entry)) (now (rows .entry)) (now (out .entry)) (now (names .exit)) (now (rows .exit)) (now (out .exit)) used many mark count room r ⌝ }
+    ensures walk { λ r. ⌜ Follows (list-part (now (refs .entry)) used many a e) (now (names .entry)) (now (rows .entry)) (now (out .entry)) (now (names .exit)) (now (rows .exit)) (now (out .exit)) mark count room r ⌝ }
 {
     let mut i = a;
     let mut n = count;

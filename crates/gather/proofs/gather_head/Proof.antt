@@ -3,6 +3,7 @@ use Rattle.gather.specs.Walks.{Heads}
 use Rattle.model.proofs.ListLaws.{true-T}
 use mathlib.Core.Bool.{Bool, not, false}
 use Rattle.gather.proofs.Heads.{head-none, head-excluded, head-there, head-over, head-added}
+use Rattle.gather.proofs.Rendering.{follow-none, follow-excluded, follow-found, follow-over, follow-added}
 use Rattle.terms.specs.Rows.{has-head, row-kind, row-head}
 use Rattle.gather.specs.Sets.{is-excluded}
 use borrow.Author.Tests.{not-true, not-false}
@@ -28,7 +29,8 @@ has-head-requires c κs = search needs
 returns : tie.Need-returns
 returns c =
     let start = c .before .before .before .before .before .before in
-    head-none (start .pre) (start .args .mark) (ap has-head (sym (c .before .before .kind .ensures)) ∙ sym (c .before .has-head .ensures) ∙ not-true _ (c .if1 .taken))
+    (head-none (start .pre) (start .args .mark) (ap has-head (sym (c .before .before .kind .ensures)) ∙ sym (c .before .has-head .ensures) ∙ not-true _ (c .if1 .taken)),
+    follow-none (start .pre) (start .args .mark) (ap has-head (sym (c .before .before .kind .ensures)) ∙ sym (c .before .has-head .ensures) ∙ not-true _ (c .if1 .taken)))
 
 head-requires : tie.Need-head-requires
 head-requires c κs = search needs
@@ -48,7 +50,8 @@ same-length c = search needs
 returns-2 : tie.Need-returns-2
 returns-2 c =
     let start = c .before .before .before .before .before .before .before .before .before .before .before in
-    head-excluded (start .pre) (start .args .mark) _ (c .before .before .before .before .head .ensures) (ap is-excluded (sym (c .before .before .at .ensures)) ∙ sym (c .before .excluded .ensures) ∙ c .if2 .taken)
+    (head-excluded (start .pre) (start .args .mark) _ (c .before .before .before .before .head .ensures) (ap is-excluded (sym (c .before .before .at .ensures)) ∙ sym (c .before .excluded .ensures) ∙ c .if2 .taken),
+    follow-excluded (start .pre) (start .args .mark) _ (c .before .before .before .before .head .ensures) (ap has-head (sym (c .before .before .before .before .before .before .before .kind .ensures)) ∙ sym (c .before .before .before .before .before .before .has-head .ensures) ∙ not-false _ (c .before .before .before .before .before .if1 .left)) (ap is-excluded (sym (c .before .before .at .ensures)) ∙ sym (c .before .excluded .ensures) ∙ c .if2 .taken))
 
 add-at-2 : tie.Need-add-at-2
 add-at-2 c = omega (arith, (head-is-small (c .before .before .before .before .before .before .before .before .before .before .before .before .pre) (c .before .before .before .before .before .before .before .before .kind .ensures) (c .before .before .before .before .before .before .before .has-head .ensures) (c .before .before .before .before .before .before .if1 .left) (c .before .before .before .before .before .head .ensures)))
@@ -62,7 +65,8 @@ same-length-2 c = search needs
 returns-3 : tie.Need-returns-3
 returns-3 c =
     let start = c .before .before .before .before .before .before .before .before .before .before .before .before .before .before in
-    head-there (start .pre) (start .args .mark) _ (c .before .before .before .before .before .before .before .head .ensures) (sym (c .before .at2 .ensures) ∙ c .if3 .taken)
+    (head-there (start .pre) (start .args .mark) _ (c .before .before .before .before .before .before .before .head .ensures) (sym (c .before .at2 .ensures) ∙ c .if3 .taken),
+    follow-found (start .pre) (start .args .mark) _ (c .before .before .before .before .before .before .before .head .ensures) (ap has-head (sym (c .before .before .before .before .before .before .before .before .before .before .kind .ensures)) ∙ sym (c .before .before .before .before .before .before .before .before .before .has-head .ensures) ∙ not-false _ (c .before .before .before .before .before .before .before .before .if1 .left)) (ap is-excluded (sym (c .before .before .before .before .before .at .ensures)) ∙ sym (c .before .before .before .before .excluded .ensures) ∙ c .before .before .before .if2 .left) (sym (c .before .at2 .ensures) ∙ c .if3 .taken))
 
 same-length-3 : tie.Need-same-length-3
 same-length-3 c = search needs
@@ -70,7 +74,8 @@ same-length-3 c = search needs
 returns-4 : tie.Need-returns-4
 returns-4 c =
     let start = c .before .before .before .before .before .before .before .before .before .before .before .before .before .before .before in
-    head-over (start .pre) (start .args .mark) _ (c .before .before .before .before .before .before .before .before .head .ensures) (ap has-head (sym (c .before .before .before .before .before .before .before .before .before .before .before .kind .ensures)) ∙ sym (c .before .before .before .before .before .before .before .before .before .before .has-head .ensures) ∙ not-false _ (c .before .before .before .before .before .before .before .before .before .if1 .left)) (ap is-excluded (sym (c .before .before .before .before .before .before .at .ensures)) ∙ sym (c .before .before .before .before .before .excluded .ensures) ∙ c .before .before .before .before .if2 .left) (λ e. c .before .if3 .left (c .before .before .at2 .ensures ∙ e)) (c .if4 .taken)
+    (head-over (start .pre) (start .args .mark) _ (c .before .before .before .before .before .before .before .before .head .ensures) (ap has-head (sym (c .before .before .before .before .before .before .before .before .before .before .before .kind .ensures)) ∙ sym (c .before .before .before .before .before .before .before .before .before .before .has-head .ensures) ∙ not-false _ (c .before .before .before .before .before .before .before .before .before .if1 .left)) (ap is-excluded (sym (c .before .before .before .before .before .before .at .ensures)) ∙ sym (c .before .before .before .before .before .excluded .ensures) ∙ c .before .before .before .before .if2 .left) (λ e. c .before .if3 .left (c .before .before .at2 .ensures ∙ e)) (c .if4 .taken),
+    follow-over (start .pre) (start .args .mark) _ (c .before .before .before .before .before .before .before .before .head .ensures) (ap has-head (sym (c .before .before .before .before .before .before .before .before .before .before .before .kind .ensures)) ∙ sym (c .before .before .before .before .before .before .before .before .before .before .has-head .ensures) ∙ not-false _ (c .before .before .before .before .before .before .before .before .before .if1 .left)) (ap is-excluded (sym (c .before .before .before .before .before .before .at .ensures)) ∙ sym (c .before .before .before .before .before .excluded .ensures) ∙ c .before .before .before .before .if2 .left) (λ e. c .before .if3 .left (c .before .before .at2 .ensures ∙ e)) (c .if4 .taken))
 
 cast-out : tie.Need-cast-out
 cast-out c = omega (arith, (head-is-small (c .before .before .before .before .before .before .before .before .before .before .before .before .before .before .before .pre) (c .before .before .before .before .before .before .before .before .before .before .before .kind .ensures) (c .before .before .before .before .before .before .before .before .before .before .has-head .ensures) (c .before .before .before .before .before .before .before .before .before .if1 .left) (c .before .before .before .before .before .before .before .before .head .ensures)))
@@ -104,7 +109,8 @@ same-length-5 c = search needs
 returns-5 : tie.Need-returns-5
 returns-5 c =
     let start = c .before .before .before .before .before .before .before .before .before .before .before .before .before .before .before in
-    head-added (start .pre) (start .args .mark) _ (c .before .before .before .before .before .before .before .before .head .ensures) (ap has-head (sym (c .before .before .before .before .before .before .before .before .before .before .before .kind .ensures)) ∙ sym (c .before .before .before .before .before .before .before .before .before .before .has-head .ensures) ∙ not-false _ (c .before .before .before .before .before .before .before .before .before .if1 .left)) (ap is-excluded (sym (c .before .before .before .before .before .before .at .ensures)) ∙ sym (c .before .before .before .before .before .excluded .ensures) ∙ c .before .before .before .before .if2 .left) (λ e. c .before .if3 .left (c .before .before .at2 .ensures ∙ e)) (c .if4 .left)
+    (head-added (start .pre) (start .args .mark) _ (c .before .before .before .before .before .before .before .before .head .ensures) (ap has-head (sym (c .before .before .before .before .before .before .before .before .before .before .before .kind .ensures)) ∙ sym (c .before .before .before .before .before .before .before .before .before .before .has-head .ensures) ∙ not-false _ (c .before .before .before .before .before .before .before .before .before .if1 .left)) (ap is-excluded (sym (c .before .before .before .before .before .before .at .ensures)) ∙ sym (c .before .before .before .before .before .excluded .ensures) ∙ c .before .before .before .before .if2 .left) (λ e. c .before .if3 .left (c .before .before .at2 .ensures ∙ e)) (c .if4 .left),
+    follow-added (start .pre) (start .args .mark) _ (c .before .before .before .before .before .before .before .before .head .ensures) (ap has-head (sym (c .before .before .before .before .before .before .before .before .before .before .before .kind .ensures)) ∙ sym (c .before .before .before .before .before .before .before .before .before .before .has-head .ensures) ∙ not-false _ (c .before .before .before .before .before .before .before .before .before .if1 .left)) (ap is-excluded (sym (c .before .before .before .before .before .before .at .ensures)) ∙ sym (c .before .before .before .before .before .excluded .ensures) ∙ c .before .before .before .before .if2 .left) (λ e. c .before .if3 .left (c .before .before .at2 .ensures ∙ e)) (c .if4 .left))
 
 pub gather-head-spec : {M : Type 1} → statement M
 gather-head-spec =
