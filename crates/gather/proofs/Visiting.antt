@@ -11,10 +11,10 @@ use lib.Seq.{getD-set-same, getD-set-other}
 use lib.Dec.{T, eqb, ltb}
 use borrow.Author.Tests.{eqb-true, eq-eqb}
 use Rattle.model.specs.Lists.{any, fold-left}
-use Rattle.model.proofs.ListLaws.{T-true, true-T, any-intro, any-elim, map-elim, fold-left-append}
+use Rattle.model.proofs.ListLaws.{T-true, true-T, any-intro, any-elim, map-intro, map-elim, fold-left-append}
 use Rattle.terms.specs.Rows.{row-kind, row-head, row-start, row-end, has-head, words, terms-of-words, Rows}
 use Rattle.terms.proofs.Laws.{equal}
-use Rattle.terms.proofs.Table.{words-nil, words-cons, words-elim}
+use Rattle.terms.proofs.Table.{words-nil, words-cons, words-elim, words-intro}
 use Rattle.terms.proofs.Groups.{words-split}
 use Rattle.gather.specs.Sets.{is-excluded, Same-but}
 use Rattle.gather.specs.Visits.{Visit, has, find, finish, visit-head, visit, marked-at, put}
@@ -101,17 +101,27 @@ unfolding fold-left
 fold-cong f g [] h a = refl
 fold-cong f g (n ∷ l) h a = rw (h a n (List·Memᴰ·head refl)) (fold-cong f g l (λ b m i. h b m (List·Memᴰ·tail i)) (g a n))
 
--- a term of a row is a lower one
-pub lower-in : {refs rows : List ℕ} {used many named t u : ℕ} → Rows refs rows used many named → t < many → List·Memᴰ u (terms-of-words (words refs (row-start rows t) (row-end rows used many t))) → u < t
+-- a term that references name stands at one of them
+pub term-place : (refs : List ℕ) (a e : ℕ) {u : ℕ} → e ≤ length refs → List·Memᴰ u (terms-of-words (words refs a e)) → (i : ℕ) × ((a ≤ i) × (i < e) × (getD refs i 0 % 4096 ≡ u))
 unfolding terms-of-words
-lower-in {refs} {rows} {used} {many} {t} {u} r l m =
-    let room = r .ref-room in
-    let few = r .few-references in
-    let most = r .in-use t l in
-    let (w, i, q) = map-elim (λ w. w % 4096) (words refs (row-start rows t) (row-end rows used many t)) m in
-    let p = words-elim {l = refs} {a = row-start rows t} {e = row-end rows used many t} (omega arith) i in
-    let low = r .lower t (p .place) l (p .low) (p .high) in
-    rw (← q, ← (p .is)) low
+term-place refs a e h m =
+    let (w, n, q) = map-elim (λ w. w % 4096) (words refs a e) m in
+    let p = words-elim {l = refs} {a = a} {e = e} h n in
+    (p .place, (p .low, p .high, ap (_% 4096) (p .is) ∙ q))
+
+-- the term at a reference is one that they name
+pub place-term : (refs : List ℕ) (a e i : ℕ) → e ≤ length refs → a ≤ i → i < e → List·Memᴰ (getD refs i 0 % 4096) (terms-of-words (words refs a e))
+unfolding terms-of-words
+place-term refs a e i h l k = map-intro (λ w. w % 4096) (words-intro refs a e i h l k)
+
+module _ {refs rows : List ℕ} {used many named : ℕ} (r : Rows refs rows used many named) {t : ℕ} (l : t < many) where
+  -- the references of a row are in the slice
+  pub row-fits : row-end rows used many t ≤ length refs
+  row-fits = omega (arith, r .ref-room, r .few-references, r .in-use t l)
+
+  -- a term that a row names is a lower one
+  pub lower-in : {u : ℕ} → List·Memᴰ u (terms-of-words (words refs (row-start rows t) (row-end rows used many t))) → u < t
+  lower-in m = let (i, (a, b, q)) = term-place refs (row-start rows t) (row-end rows used many t) row-fits m in rw (← q) (r .lower t i l a b)
 
 module _ (names refs rows : List ℕ) (used many room : ℕ) where
   -- a walk that has stopped goes on no more

@@ -19,6 +19,12 @@ pub data Occurs (refs rows : List ℕ) (used many : ℕ) : ℕ → ℕ → Type 
   under : {t k : ℕ} (i : ℕ) → row-start rows t ≤ i → i < row-end rows used many t
       → Occurs refs rows used many (getD refs i 0 % 4096) k → Occurs refs rows used many t k
 
+-- term u is reached from term t: it is t, or reached from a term that t names
+pub data Reached (refs rows : List ℕ) (used many : ℕ) : ℕ → ℕ → Type 0 where
+  itself : {t u : ℕ} → t ≡ u → Reached refs rows used many t u
+  below : {t u : ℕ} (i : ℕ) → row-start rows t ≤ i → i < row-end rows used many t
+      → Reached refs rows used many (getD refs i 0 % 4096) u → Reached refs rows used many t u
+
 -- whether a name counts: it is not excluded
 pub record Counted (names : List ℕ) (k : ℕ) : Type 0 where
   pub small : k < 2048
