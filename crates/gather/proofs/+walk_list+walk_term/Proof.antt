@@ -72,7 +72,11 @@ walk-list-reference-requires t c κs =
 walk-list-walk-term-requires : (t : ℕ) → walk-list-lts.Need-walk-term-requires (list-claims t) (walk-list-at t) walk-list.Post walk-list-Inv-loop walk-list-μ-loop
 walk-list-walk-term-requires t c κs =
     let start = c .before .before .before .before .before .before .before .before .before .before in
-    (list-falls (start .args .refs .now) (c .before .before .before .before .before .loop .inv .0) (c .before .before .before .before .loop-test .taken) (c .before .before .before .reference .ensures) (start .pre .0), (ready-then (start .pre .1 .0) (c .before .before .before .before .before .loop .inv .2), in-table-at (start .pre .1 .1) (c .before .before .before .before .before .loop .inv .0) (c .before .before .before .before .loop-test .taken) (c .before .before .before .reference .ensures)))
+    let loop = c .before .before .before .before .before in
+    let low = loop .loop .inv .0 in
+    let high : loop .loop .i < start .args .e = omega arith in
+    let is = c .before .before .before .reference .ensures in
+    (list-falls (start .args .refs .now) low high is (start .pre .0), (ready-then (start .pre .1 .0) (loop .loop .inv .2), in-table-at (start .pre .1 .1) low high is))
 
 walk-list-enum-known-more : (t : ℕ) → walk-list-lts.Need-enum-known-more (list-claims t) (walk-list-at t) walk-list.Post walk-list-Inv-loop walk-list-μ-loop
 walk-list-enum-known-more t c = c .match .keys1
@@ -85,7 +89,7 @@ walk-list-returns t c =
     let start = c .before .before .before .before .before .before .before .before .before .before .before .before .before .before .before .before .before .before .before in
     let at = c .before .before .before .before .before .before .before .before .before .before .before .before .before in
     let low = at .before .loop .inv .0 in
-    let high = at .loop-test .taken in
+    let high : at .before .loop .i < start .args .e = omega arith in
     let term = c .before .before .before .before .before .before .before .before in
     (walks-stop high (walks-next (start .pre .1 .0) (start .pre .1 .1) low high (c .before .before .before .before .before .before .before .before .before .before .before .before .reference .ensures) (at .before .loop .inv .2) (walks-is (c .enum-told .given .1) (term .walk-term .ensures .0))),
     follow-stop (start .pre .1 .0) (start .pre .1 .1) low high (follow-next (start .pre .1 .0) (start .pre .1 .1) low high (c .before .before .before .before .before .before .before .before .before .before .before .before .reference .ensures) (at .before .loop .inv .3) (follows-is (c .enum-told .given .1) (term .walk-term .ensures .1))))
@@ -110,7 +114,7 @@ walk-list-loop-again t c =
     let start = c .before .before .before .before .before .before .before .before .before .before .before .before .before .before .before .before .before .before .before .before in
     let at = c .before .before .before .before .before .before .before .before .before .before .before .before .before .before in
     let low = at .before .loop .inv .0 in
-    let high = at .loop-test .taken in
+    let high : at .before .loop .i < start .args .e = omega arith in
     let term = c .before .before .before .before .before .before .before .before .before in
     (omega arith,
     omega arith,
