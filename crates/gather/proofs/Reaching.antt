@@ -1,8 +1,8 @@
 -- Which terms a walk comes to: those that are reached by references.
-use Prim.Native.Nat.{ℕ, zero, suc, _+_, _%_, _≤_, _<_}
+use Prim.Native.Nat.{ℕ, zero, suc, _+_, _%_, _<_}
 use native.Mathlib.Nat.{not-suc-le-zero}
 use native.Mathlib.Omega.{arith}
-use mathlib.Core.Path.{_≡_, refl, sym, ap, _∙_}
+use mathlib.Core.Path.{_≡_, refl, sym, _∙_}
 use mathlib.Core.Bool.{Bool, true, false, cond, not, _&&_, _||_, true≢false}
 use mathlib.Core.Logic.{_↔_, ⊎-elim}
 use mathlib.Core.List.{List, [], _∷_, _++_, List·Memᴰ, List·Memᴰ·head, List·Memᴰ·tail, List·Memᴰ·cases-cons, List·Memᴰ·not-nil, List·Memᴰ·append-cases, List·Memᴰ·eq-of-singleton, Memᴰ·append-left, Memᴰ·append-right}
@@ -66,6 +66,7 @@ module _ (names : List ℕ) {refs rows : List ℕ} {used many named : ℕ} (room
     all = λ s m. Memᴰ·append-right (w .walked) m;
   }
     where
+      -- what is reached from the term is walked or the term itself
       from : {u : ℕ} → Closed-under w → Reached refs rows used many t u → List·Memᴰ u (w .walked ++ (t ∷ []))
       from z (itself e) = Memᴰ·append-right (w .walked) (List·Memᴰ·head (sym e))
       from {u} z (below i x y o) = Memᴰ·append-left (t ∷ []) (z (getD refs i 0 % 4096) u (d .all (getD refs i 0 % 4096) (place-term refs (row-start rows t) (row-end rows used many t) i (row-fits r l) x y)) o)
@@ -93,24 +94,30 @@ module _ (names : List ℕ) {refs rows : List ℕ} {used many named : ℕ} (room
   visit-done zero v t h l g = absurd (not-suc-le-zero h)
   visit-done (suc depth) v t h l g = go (λ w s m. let k = lower-in r l m in visit-done depth w s (omega arith) (omega arith)) (v .full) (has (v .walked) t) refl refl g
     where
+      -- the terms that it names
       ts : List ℕ
       ts = terms-of-words (words refs (row-start rows t) (row-end rows used many t))
 
+      -- the walk after its head
       first : Visit
       first = visit-head names refs rows used many room v t
 
+      -- and after these terms
       under : Visit
       under = fold-left (visit names refs rows used many room depth) first ts
 
+      -- the walks of the terms that it names
       Steps-done : Type 0
       Steps-done = (w : Visit) (s : ℕ) → List·Memᴰ s ts → visit names refs rows used many room depth w s .full ≡ false → Done (s ∷ []) w (visit names refs rows used many room depth w s)
 
+      -- the term is not walked yet
       finished : Steps-done → v .full ≡ false → (b : Bool) → under .full ≡ b → cond b under (record { found = under .found; walked = under .walked ++ (t ∷ []); full = false }) .full ≡ false
           → Done (t ∷ []) v (cond b under (record { found = under .found; walked = under .walked ++ (t ∷ []); full = false }))
       finished h p true e g = absurd (true≢false (sym e ∙ g))
       finished h p false e g =
           done-finish l p (head-walked names refs rows used many room v t) (fold-done (visit names refs rows used many room depth) ts h first e)
 
+      -- it is walked, or was before
       go : Steps-done → (a b : Bool) → v .full ≡ a → has (v .walked) t ≡ b → cond (a || b) v (finish t under) .full ≡ false → Done (t ∷ []) v (cond (a || b) v (finish t under))
       go h true b p q g = absurd (true≢false (sym p ∙ g))
       go h false true p q g = record { going = p; kept = λ u m. m; closed = λ z. z; all = λ s m. let e : s ≡ t = List·Memᴰ·eq-of-singleton m in rw e (has-in (v .walked) t q) }
@@ -123,7 +130,7 @@ module _ (names : List ℕ) {refs rows : List ℕ} {used many named : ℕ} (room
   list-reached ts l g u =
       let d = fold-done (visit names refs rows used many room many) ts (λ w s m. visit-done many w s (l s m) (l s m)) start-visit g in (
         fold-left-case (Only (λ u. (t : ℕ) × (List·Memᴰ t ts × Reached refs rows used many t u))) (visit names refs rows used many room many) ts
-        (λ w s m o. only-visit (λ u. (t : ℕ) × (List·Memᴰ t ts × Reached refs rows used many t u)) many w s (l s m) (λ u z. (s, (m, z))) o) (λ u m. absurd (List·Memᴰ·not-nil m)) u,
+            (λ w s m o. only-visit (λ u. (t : ℕ) × (List·Memᴰ t ts × Reached refs rows used many t u)) many w s (l s m) (λ u z. (s, (m, z))) o) (λ u m. absurd (List·Memᴰ·not-nil m)) u,
         λ (t, (m, z)). d .closed (λ s u n o. absurd (List·Memᴰ·not-nil n)) t u (d .all t m) z,
       )
 

@@ -2,11 +2,10 @@
 use Prim.Native.Nat.{ℕ, _+_, _-_, _%_, _≤_, _<_}
 use native.Mathlib.Omega.{arith}
 use mathlib.Core.Path.{_≡_, refl, sym, ap, _∙_}
-use mathlib.Core.Bool.{Bool, true, false, cond, not, _&&_, _||_}
+use mathlib.Core.Bool.{Bool, true, false, cond, not, _&&_}
 use mathlib.Core.Logic.{⊎-elim}
-use mathlib.Core.List.{List, [], _∷_, _++_, List·Memᴰ, List·Memᴰ·append-cases, List·Memᴰ·eq-of-singleton, List·Memᴰ·not-nil}
+use mathlib.Core.List.{List, [], _∷_, _++_, List·Memᴰ·append-cases, List·Memᴰ·eq-of-singleton, List·Memᴰ·not-nil}
 use lib.ListN.{length, getD, set, length-append}
-use lib.Dec.{ltb}
 use borrow.Author.Tests.{lt-ltb, le-ltb}
 use Rattle.model.specs.Lists.{fold-left}
 use Rattle.model.proofs.ListLaws.{true-T, fold-left-append}
@@ -176,11 +175,11 @@ unfolding start-visit walk-answer marked-at put fold-left
 follows-start {from} new w =
     let z : from ≡ from + 0 = omega arith in
     w .follows (record {
-  new = new;
-  walk = record { answer = ap walks.Names z; name-words = refl; row-words = refl; out-words = refl };
-  found-small = λ n i. absurd (List·Memᴰ·not-nil i);
-  walked-small = λ n i. absurd (List·Memᴰ·not-nil i);
-}) .walk
+      new = new;
+      walk = record { answer = ap walks.Names z; name-words = refl; row-words = refl; out-words = refl };
+      found-small = λ n i. absurd (List·Memᴰ·not-nil i);
+      walked-small = λ n i. absurd (List·Memᴰ·not-nil i);
+    }) .walk
 
 -- ---- a term
 
@@ -214,8 +213,15 @@ module _ {names refs rows out : List ℕ} {used many mark count room t : ℕ} (h
         → term-part refs used many t names₀ rows₀ (room - from) v ≡ finish t (both (head-part t) (list-part refs used many a e) names₀ rows₀ (room - from) v)
     unfolding term-part list-part head-part visit-head
     term-open d p q =
-        rw (visit-parts names₀ refs rows₀ used many (room - from) table₀ v t l, answer-names from v (w .walk .answer) .0, walked-false w t is-row (h .table .row-room) d,
-        p, q, start-same (rows-as w) t is-row, end-same (rows-as w) used many t (h .table .few-rows) l)
+        rw (
+          visit-parts names₀ refs rows₀ used many (room - from) table₀ v t l,
+          answer-names from v (w .walk .answer) .0,
+          walked-false w t is-row (h .table .row-room) d,
+          p,
+          q,
+          start-same (rows-as w) t is-row,
+          end-same (rows-as w) used many t (h .table .few-rows) l,
+        )
 
   -- a term with the mark
   pub follow-there : row-mark rows t ≡ mark → Follows (term-part refs used many t) names rows out names rows out mark count room (walks.Names count)
@@ -300,8 +306,11 @@ module _ {names refs rows out : List ℕ} {used many mark count room a e i : ℕ
     follows = λ {names₀} {rows₀} {out₀} {from} {v} w.
         let y = x .follows w in
         let u : Visit = fold-left (visit names₀ refs rows₀ used many (room - from) many) v (terms-of-words (words refs a (i + 1))) in
-        rw (terms-split refs a (i + 1) e (omega arith) (omega arith) fits, fold-left-append (visit names₀ refs rows₀ used many (room - from) many) v (terms-of-words (words refs a (i + 1))) (terms-of-words (words refs (i + 1) e)),
-        fold-full names₀ refs rows₀ used many (room - from) many u (terms-of-words (words refs (i + 1) e)) (answer-full from u (y .walk .answer))) y;
+        rw (
+          terms-split refs a (i + 1) e (omega arith) (omega arith) fits,
+          fold-left-append (visit names₀ refs rows₀ used many (room - from) many) v (terms-of-words (words refs a (i + 1))) (terms-of-words (words refs (i + 1) e)),
+          fold-full names₀ refs rows₀ used many (room - from) many u (terms-of-words (words refs (i + 1) e)) (answer-full from u (y .walk .answer)),
+        ) y;
   }
 
 -- the terms up to the end are the list's

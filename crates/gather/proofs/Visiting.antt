@@ -3,21 +3,21 @@ use Prim.Native.Nat.{ℕ, zero, suc, _+_, _-_, _%_, _≤_, _<_}
 use native.Mathlib.Nat.{not-suc-le-zero}
 use native.Mathlib.Omega.{arith}
 use mathlib.Core.Path.{_≡_, refl, sym, ap, _∙_}
-use mathlib.Core.Bool.{Bool, true, false, cond, not, _&&_, _||_, true≢false}
-use mathlib.Core.Logic.{_↔_, _⊎_, inl, inr, ⊎-elim}
-use mathlib.Core.List.{List, [], _∷_, _++_, map, map-append, List·Memᴰ, List·Memᴰ·head, List·Memᴰ·tail, List·Memᴰ·cases-cons, List·Memᴰ·not-nil}
+use mathlib.Core.Bool.{Bool, true, false, cond, _||_, true≢false}
+use mathlib.Core.Logic.{⊎-elim}
+use mathlib.Core.List.{List, [], _∷_, _++_, map, map-append, List·Memᴰ, List·Memᴰ·head, List·Memᴰ·tail}
 use lib.ListN.{length, getD, set, length-set}
 use lib.Seq.{getD-set-same, getD-set-other}
-use lib.Dec.{T, eqb, ltb}
+use lib.Dec.{eqb}
 use borrow.Author.Tests.{eqb-true, eq-eqb}
 use Rattle.model.specs.Lists.{any, fold-left}
 use Rattle.model.proofs.ListLaws.{T-true, true-T, any-intro, any-elim, map-intro, map-elim, fold-left-append}
-use Rattle.terms.specs.Rows.{row-kind, row-head, row-start, row-end, has-head, words, terms-of-words, Rows}
+use Rattle.terms.specs.Rows.{row-start, row-end, words, terms-of-words, Rows}
 use Rattle.terms.proofs.Laws.{equal}
 use Rattle.terms.proofs.Table.{words-nil, words-cons, words-elim, words-intro}
 use Rattle.terms.proofs.Groups.{words-split}
-use Rattle.gather.specs.Sets.{is-excluded, Same-but}
-use Rattle.gather.specs.Visits.{Visit, has, find, finish, visit-head, visit, marked-at, put}
+use Rattle.gather.specs.Sets.{Same-but}
+use Rattle.gather.specs.Visits.{Visit, has, finish, visit-head, visit, marked-at, put}
 use Rattle.gather.proofs.Steps.{same-self, same-then, same-set}
 
 -- ---- numbers of a list

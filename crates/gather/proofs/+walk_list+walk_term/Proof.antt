@@ -1,5 +1,6 @@
 -- `gather::walk_term` and `gather::walk_list` meet their contracts. A term's measure is twice its number and one, a list's twice
--- the greatest of its terms and one more. The loop's invariant: the names of the terms up to `i` are added.
+-- the greatest of its terms and one more. The loop's invariant: the names of the terms up to `i` are added, and the slices are those
+-- of the walk up to there.
 use native.Mathlib.Omega.{arith}
 use Prim.Native.Nat.{ℕ, _+_, _-_, _*_, _≤_, _<_}
 use mathlib.Core.Path.{sym, _∙_}
@@ -90,9 +91,11 @@ walk-list-returns t c =
     let at = c .before .before .before .before .before .before .before .before .before .before .before .before .before in
     let low = at .before .loop .inv .0 in
     let high : at .before .loop .i < start .args .e = omega arith in
-    let term = c .before .before .before .before .before .before .before .before in
-    (walks-stop high (walks-next (start .pre .1 .0) (start .pre .1 .1) low high (c .before .before .before .before .before .before .before .before .before .before .before .before .reference .ensures) (at .before .loop .inv .2) (walks-is (c .enum-told .given .1) (term .walk-term .ensures .0))),
-    follow-stop (start .pre .1 .0) (start .pre .1 .1) low high (follow-next (start .pre .1 .0) (start .pre .1 .1) low high (c .before .before .before .before .before .before .before .before .before .before .before .before .reference .ensures) (at .before .loop .inv .3) (follows-is (c .enum-told .given .1) (term .walk-term .ensures .1))))
+    let is = c .before .before .before .before .before .before .before .before .before .before .before .before .reference .ensures in
+    let term = c .before .before .before .before .before .before .before .before in (
+      walks-stop high (walks-next (start .pre .1 .0) (start .pre .1 .1) low high is (at .before .loop .inv .2) (walks-is (c .enum-told .given .1) (term .walk-term .ensures .0))),
+      follow-stop (start .pre .1 .0) (start .pre .1 .1) low high (follow-next (start .pre .1 .0) (start .pre .1 .1) low high is (at .before .loop .inv .3) (follows-is (c .enum-told .given .1) (term .walk-term .ensures .1))),
+    )
 
 walk-list-same-length : (t : ℕ) → walk-list-lts.Need-same-length (list-claims t) (walk-list-at t) walk-list.Post walk-list-Inv-loop walk-list-μ-loop
 walk-list-same-length t c = walk-list-returns t c .0 .steps .names-same .same-length
@@ -115,16 +118,19 @@ walk-list-loop-again t c =
     let at = c .before .before .before .before .before .before .before .before .before .before .before .before .before .before in
     let low = at .before .loop .inv .0 in
     let high : at .before .loop .i < start .args .e = omega arith in
-    let term = c .before .before .before .before .before .before .before .before .before in
-    (omega arith,
-    omega arith,
-    walks-next (start .pre .1 .0) (start .pre .1 .1) low high (c .before .before .before .before .before .before .before .before .before .before .before .before .before .reference .ensures) (at .before .loop .inv .2) (walks-is (c .before .more .given .1) (term .walk-term .ensures .0)),
-    follow-next (start .pre .1 .0) (start .pre .1 .1) low high (c .before .before .before .before .before .before .before .before .before .before .before .before .before .reference .ensures) (at .before .loop .inv .3) (follows-is (c .before .more .given .1) (term .walk-term .ensures .1)))
+    let is = c .before .before .before .before .before .before .before .before .before .before .before .before .before .reference .ensures in
+    let term = c .before .before .before .before .before .before .before .before .before in (
+      omega arith,
+      omega arith,
+      walks-next (start .pre .1 .0) (start .pre .1 .1) low high is (at .before .loop .inv .2) (walks-is (c .before .more .given .1) (term .walk-term .ensures .0)),
+      follow-next (start .pre .1 .0) (start .pre .1 .1) low high is (at .before .loop .inv .3) (follows-is (c .before .more .given .1) (term .walk-term .ensures .1)),
+    )
 
 walk-list-returns-2 : (t : ℕ) → walk-list-lts.Need-returns-2 (list-claims t) (walk-list-at t) walk-list.Post walk-list-Inv-loop walk-list-μ-loop
-walk-list-returns-2 t c =
-    (walks-end (c .before .loop .inv .1) (c .loop-test .left) (c .before .loop .inv .2),
-    follow-end (c .before .before .before .before .before .before .pre .1 .1) (c .before .loop .inv .1) (c .loop-test .left) (c .before .loop .inv .3))
+walk-list-returns-2 t c = (
+  walks-end (c .before .loop .inv .1) (c .loop-test .left) (c .before .loop .inv .2),
+  follow-end (c .before .before .before .before .before .before .pre .1 .1) (c .before .loop .inv .1) (c .loop-test .left) (c .before .loop .inv .3),
+)
 
 walk-list-same-length-4 : (t : ℕ) → walk-list-lts.Need-same-length-4 (list-claims t) (walk-list-at t) walk-list.Post walk-list-Inv-loop walk-list-μ-loop
 walk-list-same-length-4 t c = walk-list-returns-2 t c .0 .steps .names-same .same-length
@@ -147,9 +153,10 @@ walk-term-at-requires t c κs =
 
 walk-term-returns : (t : ℕ) → walk-term-lts.Need-returns (term-claims t) (walk-term-at t) walk-term.Post
 walk-term-returns t c =
-    let start = c .before .before .before .before .before .before .before in
-    (walks-there (start .pre .1 .0) (start .pre .1 .1) (sym (c .before .at .ensures) ∙ c .if1 .taken),
-    follow-there (start .pre .1 .0) (start .pre .1 .1) (sym (c .before .at .ensures) ∙ c .if1 .taken))
+    let start = c .before .before .before .before .before .before .before in (
+      walks-there (start .pre .1 .0) (start .pre .1 .1) (sym (c .before .at .ensures) ∙ c .if1 .taken),
+      follow-there (start .pre .1 .0) (start .pre .1 .1) (sym (c .before .at .ensures) ∙ c .if1 .taken),
+    )
 
 walk-term-same-length : (t : ℕ) → walk-term-lts.Need-same-length (term-claims t) (walk-term-at t) walk-term.Post
 walk-term-same-length t c = walk-term-returns t c .0 .rows-same .same-length
@@ -169,9 +176,10 @@ walk-term-returns-2 : (t : ℕ) → walk-term-lts.Need-returns-2 (term-claims t)
 walk-term-returns-2 t c =
     let start = c .before .before .before .before .before .before .before .before .before .before .before .before .before .before .before .before .before in
     let test = c .before .before .before .before .before .before .before .before .before .before in
-    let head = c .before .before .before .before .before .before in
-    (walks-head-full (start .pre .1 .0) (steps-is (c .enum-told .given .1) (head .gather-head .ensures .0)),
-    follow-head-full (start .pre .1 .0) (start .pre .1 .1) (λ e. test .if1 .left (test .before .at .ensures ∙ e)) (follows-is (c .enum-told .given .1) (head .gather-head .ensures .1)))
+    let head = c .before .before .before .before .before .before in (
+      walks-head-full (start .pre .1 .0) (steps-is (c .enum-told .given .1) (head .gather-head .ensures .0)),
+      follow-head-full (start .pre .1 .0) (start .pre .1 .1) (λ e. test .if1 .left (test .before .at .ensures ∙ e)) (follows-is (c .enum-told .given .1) (head .gather-head .ensures .1)),
+    )
 
 walk-term-same-length-2 : (t : ℕ) → walk-term-lts.Need-same-length-2 (term-claims t) (walk-term-at t) walk-term.Post
 walk-term-same-length-2 t c = walk-term-returns-2 t c .0 .steps .names-same .same-length
@@ -211,9 +219,10 @@ walk-term-returns-3 t c =
     let own = c .before .before .before .before .before .before .before .before .before .before .before .before .before .before .before .before .before in
     let from = c .before .before .before .before .before .before .before .before .before .before .before .before .before .before in
     let to = c .before .before .before .before .before .before .before .before .before .before .before .before in
-    let list = c .before .before .before .before .before .before .before .before in
-    (walks-term (start .pre .1 .0) (from .start .ensures) (to .end .ensures) (steps-is (own .own .given .1) (head .gather-head .ensures .0)) (walks-is (c .enum-told2 .given .1) (list .walk-list .ensures .0)),
-    follow-list-full (start .pre .1 .0) (start .pre .1 .1) (λ e. test .if1 .left (test .before .at .ensures ∙ e)) (from .start .ensures) (to .end .ensures) (follows-is (own .own .given .1) (head .gather-head .ensures .1)) (follows-is (c .enum-told2 .given .1) (list .walk-list .ensures .1)))
+    let list = c .before .before .before .before .before .before .before .before in (
+      walks-term (start .pre .1 .0) (from .start .ensures) (to .end .ensures) (steps-is (own .own .given .1) (head .gather-head .ensures .0)) (walks-is (c .enum-told2 .given .1) (list .walk-list .ensures .0)),
+      follow-list-full (start .pre .1 .0) (start .pre .1 .1) (λ e. test .if1 .left (test .before .at .ensures ∙ e)) (from .start .ensures) (to .end .ensures) (follows-is (own .own .given .1) (head .gather-head .ensures .1)) (follows-is (c .enum-told2 .given .1) (list .walk-list .ensures .1)),
+    )
 
 walk-term-same-length-5 : (t : ℕ) → walk-term-lts.Need-same-length-5 (term-claims t) (walk-term-at t) walk-term.Post
 walk-term-same-length-5 t c = walk-term-returns-3 t c .0 .steps .names-same .same-length
@@ -247,9 +256,10 @@ walk-term-returns-4 t c =
     let own = c .before .before .before .before .before .before .before .before .before .before .before .before .before .before .before .before .before .before in
     let from = c .before .before .before .before .before .before .before .before .before .before .before .before .before .before .before in
     let to = c .before .before .before .before .before .before .before .before .before .before .before .before .before in
-    let list = c .before .before .before .before .before .before .before .before .before in
-    (walks-marked (start .pre .1 .0) (start .pre .1 .1) (walks-term (start .pre .1 .0) (from .start .ensures) (to .end .ensures) (steps-is (own .own .given .1) (head .gather-head .ensures .0)) (walks-is (c .before .n .given .1) (list .walk-list .ensures .0))),
-    follow-marked (start .pre .1 .0) (start .pre .1 .1) (λ e. test .if1 .left (test .before .at .ensures ∙ e)) (from .start .ensures) (to .end .ensures) (follows-is (own .own .given .1) (head .gather-head .ensures .1)) (follows-is (c .before .n .given .1) (list .walk-list .ensures .1)))
+    let list = c .before .before .before .before .before .before .before .before .before in (
+      walks-marked (start .pre .1 .0) (start .pre .1 .1) (walks-term (start .pre .1 .0) (from .start .ensures) (to .end .ensures) (steps-is (own .own .given .1) (head .gather-head .ensures .0)) (walks-is (c .before .n .given .1) (list .walk-list .ensures .0))),
+      follow-marked (start .pre .1 .0) (start .pre .1 .1) (λ e. test .if1 .left (test .before .at .ensures ∙ e)) (from .start .ensures) (to .end .ensures) (follows-is (own .own .given .1) (head .gather-head .ensures .1)) (follows-is (c .before .n .given .1) (list .walk-list .ensures .1)),
+    )
 
 walk-term-same-length-8 : (t : ℕ) → walk-term-lts.Need-same-length-8 (term-claims t) (walk-term-at t) walk-term.Post
 walk-term-same-length-8 t c = walk-term-returns-4 t c .0 .steps .names-same .same-length
