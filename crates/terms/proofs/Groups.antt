@@ -155,7 +155,7 @@ words-split l (suc d) a b e q h k m =
     rw (words-cons l a e (omega arith) m, words-cons l a b (omega arith) (omega arith)) (ap (getD l a 0 ∷_) (words-split l d (a + 1) b e (omega arith) (omega arith) k m))
 
 -- a quantifier has a body
-groups-bodied : (k : ℕ) → T (has-groups k) → T (has-body k)
+pub groups-bodied : (k : ℕ) → T (has-groups k) → T (has-body k)
 unfolding has-groups has-body
 groups-bodied k h = ⊎-elim (λ e. rw (eqb→eq k 4 e) tt) (λ e. rw (eqb→eq k 5 e) tt) (T-or (eqb k 4) (eqb k 5) .0 h)
 
