@@ -211,9 +211,17 @@ module _ {refs rows rows′ : List ℕ} {start used many named : ℕ} {r : Added
   unfolding make-node has-groups
   adds-let q = adds-row (with-body p (omega arith) (omega arith) q (λ k. absurd (omega arith)) (λ k. absurd k)) (λ name. rw (first p q, words-drop))
 
--- a `label`
-pub adds-label : {refs rows rows′ : List ℕ} {start many named : ℕ} {r : Added} → Pushed refs rows start (start + 1) many named
-    → Row-written rows rows′ many (row-word 7 4 0) start (bare-of rows (getD refs start 0 % 4096)) r
-    → Adds refs rows rows′ start (start + 1) many named (row-word 7 4 0) (bare-of rows (getD refs start 0 % 4096)) (λ name. Labeled (getD refs start 0 % 4096)) r
-unfolding make-node has-groups
-adds-label p = adds-row (with-body p (omega arith) (omega arith) (omega arith) (λ k. (refl, refl)) (λ k. absurd k)) (λ name. rw (first p (omega arith)))
+module _ {refs rows : List ℕ} {start many named t under : ℕ} (p : Pushed refs rows start (start + 1) many named) (a : t ≡ getD refs start 0 % 4096) (b : under ≡ bare-of rows t) where
+  -- what a `label` has under its run of labels is a term of the table
+  pub under-low : under < many
+  under-low =
+      let l : t < many = omega (arith, p .in-table start (omega arith) (omega arith)) in
+      omega (arith, bare-low (p .table) t l)
+
+  -- a `label`
+  pub adds-label : {rows′ : List ℕ} {r : Added} → Row-written rows rows′ many (row-word 7 4 0) start under r
+      → Adds refs rows rows′ start (start + 1) many named (row-word 7 4 0) (bare-of rows (getD refs start 0 % 4096)) (λ name. Labeled (getD refs start 0 % 4096)) r
+  unfolding make-node has-groups
+  adds-label w =
+      adds-row (with-body p (omega arith) (omega arith) (omega arith) (λ k. (refl, refl)) (λ k. absurd k)) (λ name. rw (first p (omega arith)))
+      (rw (b, a) at w)

@@ -1,21 +1,17 @@
+-- `terms::add_call` meets its contract.
+use Rattle.terms.proofs.Lines.{adds-call}
 use borrow.Author.Needs.{needs}
 use Rattle.terms.proofs.add_call.Statement.{statement}
 use Rattle.terms.proofs.add_call.Tie as tie
-use Rattle.terms.proofs.add_call.Reads as reads
-use Rattle.terms.proofs.add_call.Lts as lts
-use Rattle.terms.proofs.add_row.Reads as add-row-reads
 
--- src/lib.rt:180:5
 add-row-requires : tie.Need-add-row-requires
 add-row-requires c κs = search needs
 
--- src/lib.rt:168:1
 same-length : tie.Need-same-length
 same-length c = search needs
 
--- src/lib.rt:168:1
 returns : tie.Need-returns
-returns c = ?
+returns c = let pre = c .before .before .before .before .before .before .pre in adds-call (pre .0) (c .before .before .before .before .before .before .args .head) (pre .1) (c .before .before .add-row .ensures)
 
 pub add-call-spec : {M : Type 1} → statement M
 add-call-spec = tie.close (tie.spec add-row-requires same-length returns)

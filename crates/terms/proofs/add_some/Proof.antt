@@ -1,21 +1,17 @@
+-- `terms::add_some` meets its contract.
+use Rattle.terms.proofs.Lines.{adds-some}
 use borrow.Author.Needs.{needs}
 use Rattle.terms.proofs.add_some.Statement.{statement}
 use Rattle.terms.proofs.add_some.Tie as tie
-use Rattle.terms.proofs.add_some.Reads as reads
-use Rattle.terms.proofs.add_some.Lts as lts
-use Rattle.terms.proofs.add_row.Reads as add-row-reads
 
--- src/lib.rt:228:5
 add-row-requires : tie.Need-add-row-requires
 add-row-requires c κs = search needs
 
--- src/lib.rt:216:1
 same-length : tie.Need-same-length
 same-length c = search needs
 
--- src/lib.rt:216:1
 returns : tie.Need-returns
-returns c = ?
+returns c = let pre = c .before .before .before .before .before .before .pre in adds-some (pre .0) (pre .1) (c .before .before .add-row .ensures)
 
 pub add-some-spec : {M : Type 1} → statement M
 add-some-spec = tie.close (tie.spec add-row-requires same-length returns)
