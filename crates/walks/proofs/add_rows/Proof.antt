@@ -1,49 +1,60 @@
--- `walks::add_rows` meets its contract. The loop's invariant: the rows so far are a table, with at most two references each.
-use Prim.Native.Nat.{_+_, _-_, _*_, _≤_}
-use mathlib.Core.Path.{_≡_, refl}
-use lib.ListN.{length}
-use native.Mathlib.Omega.{arith}
-use Rattle.walks.specs.Tables.{Table}
-use Rattle.walks.proofs.Laws.{table-to}
 use borrow.Author.Needs.{needs}
+use native.Mathlib.Omega.{arith}
 use Rattle.walks.proofs.add_rows.Statement.{statement}
 use Rattle.walks.proofs.add_rows.Tie as tie
+use Rattle.walks.proofs.add_rows.Reads as reads
+use Rattle.walks.proofs.add_rows.Lts as lts
+use Rattle.walks.proofs.add_row_of.Reads as add-row-of-reads
 
 abbrev Inv-loop : tie.InvT-loop
-Inv-loop refs₀ rows₀ used from upto kind times n₀ t₀ refs rows n t = (from ≤ t) × (t ≤ upto) × Table refs rows n t × (n + 2 * (upto - t) ≤ used + 2 * (upto - from)) × (length refs ≡ length refs₀) × (length rows ≡ length rows₀)
+Inv-loop refs₀ rows₀ head times n₀ t₀ refs rows n t = ?
 
 abbrev μ-loop : tie.MeasureT-loop
-μ-loop refs₀ rows₀ used from upto kind times n₀ t₀ refs rows n t = upto - t
+μ-loop refs₀ rows₀ head times n₀ t₀ refs rows n t = ?
 
+-- src/main.rt:97:5
 loop-holds : tie.Need-loop-holds Inv-loop μ-loop
-loop-holds c = (omega arith, omega arith, c .before .before .pre .0, omega arith, refl, refl)
+loop-holds c = search needs
 
+-- src/main.rt:98:38
+add-add-row-of : tie.Need-add-add-row-of Inv-loop μ-loop
+add-add-row-of c = search needs
+
+-- src/main.rt:98:48
 sub-add-row-of : tie.Need-sub-add-row-of Inv-loop μ-loop
 sub-add-row-of c = search needs
 
+-- src/main.rt:98:9
 add-row-of-requires : tie.Need-add-row-of-requires Inv-loop μ-loop
-add-row-of-requires c κs = (c .before .before .before .loop .inv .2, omega arith, omega arith, (λ h. omega arith), omega arith, (λ h. absurd (omega arith)), omega arith)
+add-row-of-requires c κs = search needs
 
+-- src/main.rt:99:9
 add-n : tie.Need-add-n Inv-loop μ-loop
 add-n c = search needs
 
+-- src/main.rt:100:9
 add-t : tie.Need-add-t Inv-loop μ-loop
 add-t c = search needs
 
+-- src/main.rt:97:5
 loop-less : tie.Need-loop-less Inv-loop μ-loop
 loop-less c = search needs
 
+-- src/main.rt:97:5
 loop-again : tie.Need-loop-again Inv-loop μ-loop
-loop-again c = (omega arith, omega arith, c .before .before .before .before .add-row-of .ensures, omega arith, search needs, search needs)
+loop-again c = search needs
 
+-- src/main.rt:91:1
 same-length : tie.Need-same-length Inv-loop μ-loop
 same-length c = search needs
 
+-- src/main.rt:91:1
 same-length-2 : tie.Need-same-length-2 Inv-loop μ-loop
 same-length-2 c = search needs
 
+-- src/main.rt:91:1
 returns : tie.Need-returns Inv-loop μ-loop
-returns c = (table-to (omega arith) (c .before .loop .inv .2), omega arith)
+returns c = search needs
 
 pub add-rows-spec : {M : Type 1} → statement M
 add-rows-spec =
@@ -52,6 +63,7 @@ add-rows-spec =
     Inv-loop
     μ-loop
     loop-holds
+    add-add-row-of
     sub-add-row-of
     add-row-of-requires
     add-n
