@@ -42,9 +42,9 @@ no-rows {refs} {rows} h b = record {
   in-table = λ i l. absurd (not-suc-le-zero l);
 }
 
--- where the references end, said otherwise
-pub table-to : {refs rows : List ℕ} {start used used′ many : ℕ} → used ≡ used′ → Table refs rows start used many → Table refs rows start used′ many
-table-to e t = rw e at t
+-- where the references end, and how many rows there are, said otherwise
+pub table-to : {refs rows : List ℕ} {start used used′ many many′ : ℕ} → used ≡ used′ → many ≡ many′ → Table refs rows start used many → Table refs rows start used′ many′
+table-to e f t = rw (e, f) at t
 
 -- one reference more
 pub table-pushed : {refs refs′ rows : List ℕ} {start used used′ many : ℕ} (term : ℕ) → refs′ ≡ pushed refs used (term + 4096 * 0) → used′ ≡ used + 1 → used < 16384 → term < many

@@ -131,15 +131,24 @@ fn build(shape: Shape, refs: &mut [u32], rows: &mut [u32]) -> Size
     match shape {
         Shape::Deep => {
             let used = add_rows(refs, rows, 2048, 2);
-            return Size { used: used, many: 4096 };
+            return Size {
+                used: used,
+                many: 4096,
+            };
         }
         Shape::Chain => {
             let used = add_rows(refs, rows, 0, 1);
-            return Size { used: used, many: 4096 };
+            return Size {
+                used: used,
+                many: 4096,
+            };
         }
         Shape::Wide => {
             add_row_of(refs, rows, 0, 1, 2048, 0, 16384);
-            return Size { used: 16384, many: 2 };
+            return Size {
+                used: 16384,
+                many: 2,
+            };
         }
         Shape::Call => {
             add_row_of(refs, rows, 0, 1, 5, 0, 1);

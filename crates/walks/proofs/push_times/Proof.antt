@@ -16,7 +16,7 @@ abbrev μ-loop : tie.MeasureT-loop
 μ-loop refs₀ rows start used many to times i₀ refs i = times - i
 
 loop-holds : tie.Need-loop-holds Inv-loop μ-loop
-loop-holds c = (omega arith, table-to (omega arith) (c .before .before .pre .0), refl)
+loop-holds c = (omega arith, table-to (omega arith) refl (c .before .before .pre .0), refl)
 
 add-push : tie.Need-add-push Inv-loop μ-loop
 add-push c = search needs
@@ -39,7 +39,7 @@ same-length : tie.Need-same-length Inv-loop μ-loop
 same-length c = search needs
 
 returns : tie.Need-returns Inv-loop μ-loop
-returns c = table-to (omega arith) (c .before .loop .inv .1)
+returns c = table-to (omega arith) refl (c .before .loop .inv .1)
 
 pub push-times-spec : {M : Type 1} → statement M
 push-times-spec =
