@@ -1,22 +1,22 @@
 -- A table grows: the empty table, one row more, more names.
-use Prim.Native.Nat.{ℕ, zero, suc, _+_, _-_, _*_, _/_, _%_, _≤_, _<_}
+use Prim.Native.Nat.{ℕ, zero, suc, _+_, _-_, _/_, _%_, _≤_, _<_}
 use native.Mathlib.Nat.{not-suc-le-zero}
 use native.Mathlib.Numerals.{add-one}
 use native.Mathlib.Omega.{arith}
 use mathlib.Core.Path.{_≡_, refl, sym, ap, ap₂, _∙_}
 use mathlib.Core.Logic.{_⊎_, inl, inr, ⊎-elim}
-use mathlib.Core.List.{List, [], _∷_, _++_, List·Memᴰ}
+use mathlib.Core.List.{List, [], _∷_, _++_}
 use lib.ListN.{length, drop, getD, set, length-set, length-drop}
-use lib.Seq.{take-suc, getD-drop, getD-take, getD-set-same, getD-set-other}
+use lib.Seq.{take-suc, getD-drop, getD-set-same, getD-set-other}
 use lib.Dec.{T}
 use Rattle.model.specs.Lists.{fold-left}
 use Rattle.model.specs.Names.{Name}
-use Rattle.model.specs.Terms.{Node, Term, add-term}
+use Rattle.model.specs.Terms.{add-term}
 use Rattle.model.specs.declared.Op.{Op}
 use Rattle.model.proofs.ListLaws.{fold-left-append}
 use Rattle.terms.specs.Rows.{row-kind, row-op, row-head, row-start, row-extra, row-end, words, op-of-code, make-node, node-of, nodes-below, terms-of, has-head, has-body, has-groups, bare-of, Rows, row-word, with-row, pushed, Pushed, Patterns}
 use Rattle.terms.proofs.Laws.{end-next, end-last, pushed-in, pushed-full, equal, below}
-use Rattle.terms.proofs.Table.{words-nil, words-cons, words-length, words-intro, words-drop}
+use Rattle.terms.proofs.Table.{words-nil, words-cons}
 
 -- lent slices are a table of no rows
 pub empty-rows : (refs rows : List ℕ) (named : ℕ) → 16384 ≤ length refs → 16384 ≤ length rows → named ≤ 2048 → Rows refs rows 0 0 named

@@ -1,8 +1,8 @@
 -- A term line's references and its row: what each kind asks, and what it adds.
-use Prim.Native.Nat.{ℕ, zero, suc, _+_, _-_, _*_, _/_, _%_, _≤_, _<_}
+use Prim.Native.Nat.{ℕ, zero, suc, _+_, _*_, _/_, _%_, _≤_, _<_}
 use native.Mathlib.Nat.{not-suc-le-zero}
 use native.Mathlib.Omega.{arith}
-use mathlib.Core.Path.{_≡_, refl, sym, ap, ap₂, _∙_}
+use mathlib.Core.Path.{_≡_, refl, ap, _∙_}
 use mathlib.Core.Logic.{⊎-elim}
 use mathlib.Core.List.{List}
 use lib.ListN.{length, getD}
@@ -12,7 +12,7 @@ use Rattle.model.specs.Names.{Name}
 use Rattle.model.specs.Terms.{Node, FreeV, Leaf, Call, App, Forall, Exists, Let, Labeled, add-term}
 use Rattle.model.proofs.ListLaws.{T-or}
 use Rattle.terms.specs.declared.Added.{Added}
-use Rattle.terms.specs.Rows.{row-kind, row-start, row-extra, row-end, words, terms-of-words, groups-of-words, op-of-code, make-node, terms-of, has-head, has-body, has-groups, bare-of, Rows, row-word, with-row, added, rows-after, pushed, Pushed, Patterns, Adds}
+use Rattle.terms.specs.Rows.{row-kind, row-start, row-end, words, terms-of-words, groups-of-words, op-of-code, make-node, terms-of, has-head, has-body, has-groups, bare-of, Rows, row-word, with-row, added, rows-after, pushed, Pushed, Patterns, Adds}
 use Rattle.terms.proofs.Laws.{bare-label, bare-own, pushed-in, added-in, equal}
 use Rattle.terms.proofs.Table.{words-cons, words-drop}
 use Rattle.terms.proofs.Groups.{groups-bodied}
