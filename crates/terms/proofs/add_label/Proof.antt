@@ -18,7 +18,7 @@ add-row-requires c κs =
     (pre .table .row-room, omega arith, omega arith, omega arith, omega arith, omega arith)
 
 same-length : tie.Need-same-length
-same-length c = search needs
+same-length c = c .before .rows .given
 
 returns : tie.Need-returns
 returns c = adds-label (c .before .before .before .before .before .before .before .before .before .pre) (c .before .before .before .before .before .reference .ensures) (c .before .before .before .before .bare .ensures) (c .before .before .add-row .ensures)
