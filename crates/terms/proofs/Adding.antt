@@ -1,22 +1,22 @@
 -- A table grows: the empty table, one row more, more names.
-use Prim.Native.Nat.{ℕ, zero, suc, _+_, _-_, _*_, _/_, _%_, _≤_, _<_}
+use Prim.Native.Nat.{ℕ, zero, suc, _+_, _-_, _/_, _%_, _≤_, _<_}
 use native.Mathlib.Nat.{not-suc-le-zero}
 use native.Mathlib.Numerals.{add-one}
 use native.Mathlib.Omega.{arith}
 use mathlib.Core.Path.{_≡_, refl, sym, ap, ap₂, _∙_}
 use mathlib.Core.Logic.{_⊎_, inl, inr, ⊎-elim}
-use mathlib.Core.List.{List, [], _∷_, _++_, List·Memᴰ}
+use mathlib.Core.List.{List, [], _∷_, _++_}
 use lib.ListN.{length, drop, getD, set, length-set, length-drop}
-use lib.Seq.{take-suc, getD-drop, getD-take, getD-set-same, getD-set-other}
+use lib.Seq.{take-suc, getD-drop, getD-set-same, getD-set-other}
 use lib.Dec.{T}
 use Rattle.model.specs.Lists.{fold-left}
 use Rattle.model.specs.Names.{Name}
-use Rattle.model.specs.Terms.{Node, Term, add-term}
+use Rattle.model.specs.Terms.{add-term}
 use Rattle.model.specs.declared.Op.{Op}
 use Rattle.model.proofs.ListLaws.{fold-left-append}
-use Rattle.terms.specs.Rows.{row-kind, row-op, row-head, row-start, row-extra, row-end, words, op-of-code, make-node, node-of, nodes-below, terms-of, has-head, has-body, has-groups, bare-of, Rows, row-word, with-row, pushed}
+use Rattle.terms.specs.Rows.{row-kind, row-op, row-head, row-start, row-extra, row-end, words, op-of-code, make-node, node-of, nodes-below, terms-of, has-head, has-body, has-groups, bare-of, Rows, row-word, with-row, pushed, Pushed, Patterns}
 use Rattle.terms.proofs.Laws.{end-next, end-last, pushed-in, pushed-full, equal, below}
-use Rattle.terms.proofs.Table.{words-nil, words-cons, words-length, words-intro, words-drop}
+use Rattle.terms.proofs.Table.{words-nil, words-cons}
 
 -- lent slices are a table of no rows
 pub empty-rows : (refs rows : List ℕ) (named : ℕ) → 16384 ≤ length refs → 16384 ≤ length rows → named ≤ 2048 → Rows refs rows 0 0 named
@@ -71,13 +71,6 @@ words-same l m zero a e q x y h = rw (words-nil m a e (omega arith), words-nil l
 words-same l m (suc d) a e q x y h =
     words-cons m a e (omega arith) y ∙ ap₂ _∷_ (h a (omega arith)) (words-same l m d (a + 1) e (omega arith) x y h) ∙ sym (words-cons l a e (omega arith) x)
 
--- a word by its place
-words-at : (l : List ℕ) (a e i : ℕ) → a ≤ i → i < e → getD (words l a e) (i - a) 0 ≡ getD l i 0
-words-at l a e i h k =
-    let n : i - a < e - a = omega arith in
-    let q : a + (i - a) ≡ i = omega arith in
-    rw (getD-take (e - a) (drop a l) (i - a) 0 n, getD-drop a l (i - a) 0, q)
-
 -- words with one more at their end
 words-snoc : (l : List ℕ) (a e : ℕ) → a ≤ e → e < length l → words l a (e + 1) ≡ words l a e ++ (getD l e 0 ∷ [])
 words-snoc l a e h k =
@@ -107,37 +100,30 @@ push-holds refs from used word r h l =
 pub push-length : (refs : List ℕ) (used word : ℕ) → length (pushed refs used word) ≡ length refs
 push-length refs used word = ⊎-elim (λ l. rw (pushed-in refs used word l) (length-set refs used word)) (λ l. rw (pushed-full refs used word l)) (below used 16384)
 
--- what a new row asks: the references after it hold its words, and these are right for its kind
-pub record New-row (refs rows : List ℕ) (used many named : ℕ) (refs′ ws : List ℕ) (used′ kind op head extra : ℕ) : Type 0 where
-  pub table : Rows refs rows used many named
+-- what a new row asks: its references are pushed, there is a row left, and they are right for its kind
+pub record New-row (refs rows : List ℕ) (start used many named kind op head extra : ℕ) : Type 0 where
+  pub behind : Pushed refs rows start used many named
   pub row-left : many < 4096
   pub kind-small : kind < 8
   pub op-small : op < 8
-  pub ref-room : 16384 ≤ length refs′
-  pub agrees : (i : ℕ) → i < used → getD refs′ i 0 ≡ getD refs i 0
-  pub holds : words refs′ used used′ ≡ ws
-  pub ends : used′ ≡ used + length ws
-  pub few-references : used′ ≤ 16384
-  pub lower : (w : ℕ) → List·Memᴰ w ws → w % 4096 < many
   pub headed : T (has-head kind) → head < named
-  pub bodied : T (has-body kind) → 0 < length ws
-  pub labelled : kind ≡ 7 → extra ≡ bare-of rows (getD ws 0 0 % 4096)
-  pub childless : kind < 2 → ws ≡ []
-  pub single : kind ≡ 7 → length ws ≡ 1
-  pub grouped : T (has-groups kind) → (w : ℕ) → List·Memᴰ w (drop 1 ws) → w / 4096 < extra
-  pub rising : T (has-groups kind) → (i : ℕ) → 0 < i → i + 1 < length ws → getD ws i 0 / 4096 ≤ getD ws (i + 1) 0 / 4096
+  pub bodied : T (has-body kind) → start < used
+  pub labelled : kind ≡ 7 → extra ≡ bare-of rows (getD refs start 0 % 4096)
+  pub childless : kind < 2 → used ≡ start
+  pub single : kind ≡ 7 → used ≡ start + 1
+  pub patterns : T (has-groups kind) → Patterns refs start used extra
 
-module _ {refs rows : List ℕ} {used many named : ℕ} {refs′ ws : List ℕ} {used′ kind op head extra : ℕ} (n : New-row refs rows used many named refs′ ws used′ kind op head extra) where
+module _ {refs rows : List ℕ} {start used many named kind op head extra : ℕ} (n : New-row refs rows start used many named kind op head extra) where
   -- the rows then
   rows′ : List ℕ
-  rows′ = with-row rows many (row-word kind op head) used extra
+  rows′ = with-row rows many (row-word kind op head) start extra
 
   -- the words beside the new row's stay
   word-other : (i : ℕ) → (i ≡ many → ⊥) → (i ≡ 4096 + many → ⊥) → (i ≡ 8192 + many → ⊥) → getD rows′ i 0 ≡ getD rows i 0
   unfolding rows′ with-row
   word-other i a b c =
-      getD-set-other (set (set rows many (row-word kind op head)) (4096 + many) used) (8192 + many) i extra 0 c
-      ∙ getD-set-other (set rows many (row-word kind op head)) (4096 + many) i used 0 b
+      getD-set-other (set (set rows many (row-word kind op head)) (4096 + many) start) (8192 + many) i extra 0 c
+      ∙ getD-set-other (set rows many (row-word kind op head)) (4096 + many) i start 0 b
       ∙ getD-set-other rows many i (row-word kind op head) 0 a
 
   -- the slice is as long as it was
@@ -150,28 +136,28 @@ module _ {refs rows : List ℕ} {used many named : ℕ} {refs′ ws : List ℕ} 
   unfolding rows′ with-row
   word-new =
       let h = n .row-left in
-      let r = n .table .row-room in
-      getD-set-other (set (set rows many (row-word kind op head)) (4096 + many) used) (8192 + many) many extra 0 (λ e. omega arith)
-      ∙ getD-set-other (set rows many (row-word kind op head)) (4096 + many) many used 0 (λ e. omega arith)
+      let r = n .behind .table .row-room in
+      getD-set-other (set (set rows many (row-word kind op head)) (4096 + many) start) (8192 + many) many extra 0 (λ e. omega arith)
+      ∙ getD-set-other (set rows many (row-word kind op head)) (4096 + many) many start 0 (λ e. omega arith)
       ∙ getD-set-same rows many (row-word kind op head) 0 (omega arith)
 
   -- where the new row's references start
-  start-new : row-start rows′ many ≡ used
+  start-new : row-start rows′ many ≡ start
   unfolding rows′ with-row
   start-new =
       let h = n .row-left in
-      let r = n .table .row-room in
-      getD-set-other (set (set rows many (row-word kind op head)) (4096 + many) used) (8192 + many) (4096 + many) extra 0 (λ e. omega arith)
-      ∙ getD-set-same (set rows many (row-word kind op head)) (4096 + many) used 0 (rw (length-set rows many (row-word kind op head)) (omega arith))
+      let r = n .behind .table .row-room in
+      getD-set-other (set (set rows many (row-word kind op head)) (4096 + many) start) (8192 + many) (4096 + many) extra 0 (λ e. omega arith)
+      ∙ getD-set-same (set rows many (row-word kind op head)) (4096 + many) start 0 (rw (length-set rows many (row-word kind op head)) (omega arith))
 
   -- the new row's groups or the term under its labels
   extra-new : row-extra rows′ many ≡ extra
   unfolding rows′ with-row
   extra-new =
       let h = n .row-left in
-      let r = n .table .row-room in
-      getD-set-same (set (set rows many (row-word kind op head)) (4096 + many) used) (8192 + many) extra 0
-      (rw (length-set (set rows many (row-word kind op head)) (4096 + many) used, length-set rows many (row-word kind op head)) (omega arith))
+      let r = n .behind .table .row-room in
+      getD-set-same (set (set rows many (row-word kind op head)) (4096 + many) start) (8192 + many) extra 0
+      (rw (length-set (set rows many (row-word kind op head)) (4096 + many) start, length-set rows many (row-word kind op head)) (omega arith))
 
   -- the new row's kind
   kind-new : row-kind rows′ many ≡ kind
@@ -189,8 +175,8 @@ module _ {refs rows : List ℕ} {used many named : ℕ} {refs′ ws : List ℕ} 
   head-new = ap (_/ 64) word-new ∙ (let h = n .kind-small in let k = n .op-small in omega arith)
 
   -- where the new row's references end
-  end-new : row-end rows′ used′ (many + 1) many ≡ used′
-  end-new = end-last rows′ used′ (many + 1) many (omega arith)
+  end-new : row-end rows′ used (many + 1) many ≡ used
+  end-new = end-last rows′ used (many + 1) many (omega arith)
 
   module _ (t : ℕ) (l : t < many) where
     -- an old row's word
@@ -226,60 +212,28 @@ module _ {refs rows : List ℕ} {used many named : ℕ} {refs′ ws : List ℕ} 
     bare-old = rw (kind-old, extra-old)
 
   -- where an old row's references end
-  end-old : (t : ℕ) → t < many → row-end rows′ used′ (many + 1) t ≡ row-end rows used many t
-  end-old t l = end-next rows′ used′ (many + 1) t (omega arith) ∙ ⊎-elim
-      (λ (e : t + 1 ≡ many). ap (row-start rows′) e ∙ start-new ∙ sym (end-last rows used many t (omega arith)))
+  end-old : (t : ℕ) → t < many → row-end rows′ used (many + 1) t ≡ row-end rows start many t
+  end-old t l = end-next rows′ used (many + 1) t (omega arith) ∙ ⊎-elim
+      (λ (e : t + 1 ≡ many). ap (row-start rows′) e ∙ start-new ∙ sym (end-last rows start many t (omega arith)))
       (λ (e : t + 1 ≡ many → ⊥).
       let k : t + 1 < many = omega arith in
-      start-old (t + 1) k ∙ sym (end-next rows used many t k))
+      start-old (t + 1) k ∙ sym (end-next rows start many t k))
       (equal (t + 1) many)
-
-  -- a word of the new references
-  word-in : (i : ℕ) → used ≤ i → i < used′ → List·Memᴰ (getD refs′ i 0) ws
-  word-in i a b =
-      let r = n .ref-room in
-      let f = n .few-references in
-      rw (n .holds) at (words-intro refs′ used used′ i (omega arith) a b)
-
-  -- the first of the new references
-  word-first : used < used′ → getD refs′ used 0 ≡ getD ws 0 0
-  word-first h =
-      let r = n .ref-room in
-      let f = n .few-references in
-      sym (ap (λ l. getD l 0 0) (sym (n .holds) ∙ words-cons refs′ used used′ h (omega arith)))
-
-  -- a word after the first of the new references
-  word-rest : (i : ℕ) → used < i → i < used′ → List·Memᴰ (getD refs′ i 0) (drop 1 ws)
-  word-rest i a b =
-      let r = n .ref-room in
-      let f = n .few-references in
-      rw (← (n .holds), words-drop) (words-intro refs′ (used + 1) used′ i (omega arith) (omega arith) b)
-
-  -- a word of the new references by its place
-  word-at : (i : ℕ) → used ≤ i → i < used′ → getD refs′ i 0 ≡ getD ws (i - used) 0
-  word-at i a b =
-      let r = n .ref-room in
-      let f = n .few-references in
-      rw (← (n .holds)) (sym (words-at refs′ used used′ i a b))
 
   -- a row of the table is an old one or the new one
   old-or-new : (t : ℕ) → t < many + 1 → (t < many) ⊎ (t ≡ many)
   old-or-new t l = ⊎-elim inr (λ (e : t ≡ many → ⊥). inl (omega arith)) (equal t many)
 
-  -- references are not taken away
-  used-more : used ≤ used′
-  used-more = let e = n .ends in omega arith
-
   -- the table with one row more
-  row-added-here : Rows refs′ rows′ used′ (many + 1) named
+  row-added-here : Rows refs rows′ used (many + 1) named
   row-added-here =
-      let r = n .table in
+      let r = n .behind .table in
       let few = n .row-left in
-      let more = used-more in
+      let more = n .behind .in-order in
       record {
-        ref-room = n .ref-room;
+        ref-room = r .ref-room;
         row-room = rw rows′-length (r .row-room);
-        few-references = n .few-references;
+        few-references = n .behind .few-references;
         few-rows = omega arith;
         few-names = r .few-names;
         in-order = λ t l. ⊎-elim
@@ -290,118 +244,85 @@ module _ {refs rows : List ℕ} {used many named : ℕ} {refs′ ws : List ℕ} 
             (λ (k : t < many). rw (end-old t k) (omega (arith, r .in-use t k)))
             (λ (e : t ≡ many). rw (e, end-new) (omega arith))
             (old-or-new t l);
-        lower = λ t i l a b. lower′ t i a b (old-or-new t l);
+        lower = λ t i l a b. ⊎-elim
+            (λ k. r .lower t i k (rw (start-old t k) at a) (rw (end-old t k) at b))
+            (λ (e : t ≡ many). rw e (n .behind .in-table i (rw (e, start-new) at a) (rw (e, end-new) at b)))
+            (old-or-new t l);
         headed = λ t l h. ⊎-elim
             (λ k. rw (head-old t k) (r .headed t k (rw (kind-old t k) at h)))
             (λ (e : t ≡ many). rw (e, head-new) (n .headed (rw (e, kind-new) at h)))
             (old-or-new t l);
         bodied = λ t l h. ⊎-elim
             (λ k. rw (start-old t k, end-old t k) (r .bodied t k (rw (kind-old t k) at h)))
-            (λ (e : t ≡ many). rw (e, start-new, end-new) (omega (arith, n .bodied (rw (e, kind-new) at h), n .ends)))
+            (λ (e : t ≡ many). rw (e, start-new, end-new) (n .bodied (rw (e, kind-new) at h)))
             (old-or-new t l);
         labelled = λ t l h. ⊎-elim (λ k. labelled-old t k (sym (kind-old t k) ∙ h)) (λ e. rw e (labelled-new (sym kind-new ∙ sym (ap (row-kind rows′) e) ∙ h))) (old-or-new t l);
         childless = λ t l h. ⊎-elim
             (λ k. rw (start-old t k, end-old t k) (r .childless t k (rw (kind-old t k) at h)))
-            (λ (e : t ≡ many). rw (e, start-new, end-new) (omega (arith, ap length (n .childless (rw (e, kind-new) at h)), n .ends)))
+            (λ (e : t ≡ many). rw (e, start-new, end-new) (n .childless (rw (e, kind-new) at h)))
             (old-or-new t l);
         single = λ t l h. ⊎-elim
             (λ k. rw (start-old t k, end-old t k) (r .single t k (rw (kind-old t k) at h)))
-            (λ (e : t ≡ many). rw (e, start-new, end-new) (omega (arith, n .single (rw (e, kind-new) at h), n .ends)))
+            (λ (e : t ≡ many). rw (e, start-new, end-new) (n .single (rw (e, kind-new) at h)))
             (old-or-new t l);
-        grouped = λ t i l h a b. grouped′ t i h a b (old-or-new t l);
-        rising = λ t i l h a b. rising′ t i h a b (old-or-new t l);
+        grouped = λ t i l h a b. ⊎-elim
+            (λ k. rw (extra-old t k) (r .grouped t i k (rw (kind-old t k) at h) (rw (start-old t k) at a) (rw (end-old t k) at b)))
+            (λ (e : t ≡ many). rw (e, extra-new) (n .patterns (rw (e, kind-new) at h) .grouped i (rw (e, start-new) at a) (rw (e, end-new) at b)))
+            (old-or-new t l);
+        rising = λ t i l h a b. ⊎-elim
+            (λ k. r .rising t i k (rw (kind-old t k) at h) (rw (start-old t k) at a) (rw (end-old t k) at b))
+            (λ (e : t ≡ many). n .patterns (rw (e, kind-new) at h) .rising i (rw (e, start-new) at a) (rw (e, end-new) at b))
+            (old-or-new t l);
       }
     where
-      agree : (t i : ℕ) → t < many → i < row-end rows used many t → getD refs′ i 0 ≡ getD refs i 0
-      agree t i k b = let u = n .table .in-use t k in n .agrees i (omega arith)
-
-      lower′ : (t i : ℕ) → row-start rows′ t ≤ i → i < row-end rows′ used′ (many + 1) t → (t < many) ⊎ (t ≡ many) → getD refs′ i 0 % 4096 < t
-      lower′ t i a b (inl k) =
-          let y : i < row-end rows used many t = rw (end-old t k) at b in
-          rw (agree t i k y) (n .table .lower t i k (rw (start-old t k) at a) y)
-      lower′ t i a b (inr e) = rw e (n .lower (getD refs′ i 0) (word-in i (rw (e, start-new) at a) (rw (e, end-new) at b)))
-
-      labelled-old : (t : ℕ) → t < many → row-kind rows t ≡ 7 → row-extra rows′ t ≡ bare-of rows′ (getD refs′ (row-start rows′ t) 0 % 4096)
+      labelled-old : (t : ℕ) → t < many → row-kind rows t ≡ 7 → row-extra rows′ t ≡ bare-of rows′ (getD refs (row-start rows′ t) 0 % 4096)
       labelled-old t k h =
-          let b : row-start rows t < row-end rows used many t = omega (arith, n .table .single t k h) in
-          let d = n .table .lower t (row-start rows t) k (omega arith) b in
-          let q : getD refs′ (row-start rows′ t) 0 ≡ getD refs (row-start rows t) 0 = ap (λ i. getD refs′ i 0) (start-old t k) ∙ agree t (row-start rows t) k b in
-          extra-old t k ∙ n .table .labelled t k h ∙ sym (ap (λ w. bare-of rows′ (w % 4096)) q ∙ bare-old (getD refs (row-start rows t) 0 % 4096) (omega arith))
+          let b : row-start rows t < row-end rows start many t = omega (arith, n .behind .table .single t k h) in
+          let d = n .behind .table .lower t (row-start rows t) k (omega arith) b in
+          extra-old t k ∙ n .behind .table .labelled t k h ∙ sym (ap (λ i. bare-of rows′ (getD refs i 0 % 4096)) (start-old t k) ∙ bare-old (getD refs (row-start rows t) 0 % 4096) (omega arith))
 
-      labelled-new : kind ≡ 7 → row-extra rows′ many ≡ bare-of rows′ (getD refs′ (row-start rows′ many) 0 % 4096)
+      labelled-new : kind ≡ 7 → row-extra rows′ many ≡ bare-of rows′ (getD refs (row-start rows′ many) 0 % 4096)
       labelled-new h =
-          let b : used < used′ = omega (arith, n .single h, n .ends) in
-          let q : getD refs′ (row-start rows′ many) 0 ≡ getD ws 0 0 = ap (λ i. getD refs′ i 0) start-new ∙ word-first b in
-          let d : getD ws 0 0 % 4096 < many = rw (word-first b) at (n .lower (getD refs′ used 0) (word-in used (omega arith) b)) in
-          extra-new ∙ n .labelled h ∙ sym (ap (λ w. bare-of rows′ (w % 4096)) q ∙ bare-old (getD ws 0 0 % 4096) d)
-
-      grouped′ : (t i : ℕ) → T (has-groups (row-kind rows′ t)) → row-start rows′ t < i → i < row-end rows′ used′ (many + 1) t → (t < many) ⊎ (t ≡ many) → getD refs′ i 0 / 4096 < row-extra rows′ t
-      grouped′ t i h a b (inl k) =
-          let y : i < row-end rows used many t = rw (end-old t k) at b in
-          rw (extra-old t k, agree t i k y) (n .table .grouped t i k (rw (kind-old t k) at h) (rw (start-old t k) at a) y)
-      grouped′ t i h a b (inr e) = rw (e, extra-new) (n .grouped (rw (e, kind-new) at h) (getD refs′ i 0) (word-rest i (rw (e, start-new) at a) (rw (e, end-new) at b)))
-
-      rising′ : (t i : ℕ) → T (has-groups (row-kind rows′ t)) → row-start rows′ t < i → i + 1 < row-end rows′ used′ (many + 1) t → (t < many) ⊎ (t ≡ many) → getD refs′ i 0 / 4096 ≤ getD refs′ (i + 1) 0 / 4096
-      rising′ t i h a b (inl k) =
-          let y : i + 1 < row-end rows used many t = rw (end-old t k) at b in
-          rw (agree t i k (omega arith), agree t (i + 1) k y) (n .table .rising t i k (rw (kind-old t k) at h) (rw (start-old t k) at a) y)
-      rising′ t i h a b (inr e) =
-          let x : used < i = rw (e, start-new) at a in
-          let y : i + 1 < used′ = rw (e, end-new) at b in
-          let z : i + 1 - used ≡ i - used + 1 = omega arith in
-          let d = n .ends in
-          rw (word-at i (omega arith) (omega arith), word-at (i + 1) (omega arith) y, z) (n .rising (rw (e, kind-new) at h) (i - used) (omega arith) (omega arith))
+          let d = n .behind .in-table start (omega arith) (omega (arith, n .single h)) in
+          extra-new ∙ n .labelled h ∙ sym (ap (λ i. bare-of rows′ (getD refs i 0 % 4096)) start-new ∙ bare-old (getD refs start 0 % 4096) d)
 
   module _ (name : ℕ → Name) where
     -- an old row's node
-    node-old : (t : ℕ) → t < many → node-of name refs′ rows′ used′ (many + 1) t ≡ node-of name refs rows used many t
+    node-old : (t : ℕ) → t < many → node-of name refs rows′ used (many + 1) t ≡ node-of name refs rows start many t
     unfolding node-of
-    node-old t l =
-        let r = n .table .ref-room in
-        let f = n .table .few-references in
-        let r′ = n .ref-room in
-        let u = n .table .in-use t l in
-        rw (
-          kind-old t l,
-          op-old t l,
-          head-old t l,
-          start-old t l,
-          end-old t l,
-          extra-old t l,
-          words-same refs refs′ (row-end rows used many t - row-start rows t) (row-start rows t) (row-end rows used many t) refl (omega arith) (omega arith) (λ i b. n .agrees i (omega arith)),
-        )
+    node-old t l = rw (kind-old t l, op-old t l, head-old t l, start-old t l, end-old t l, extra-old t l)
 
     -- the new row's node
-    node-new : node-of name refs′ rows′ used′ (many + 1) many ≡ make-node kind (op-of-code op) (name head) ws extra
+    node-new : node-of name refs rows′ used (many + 1) many ≡ make-node kind (op-of-code op) (name head) (words refs start used) extra
     unfolding node-of
-    node-new = rw (kind-new, op-new, head-new, start-new, end-new, extra-new, n .holds)
+    node-new = rw (kind-new, op-new, head-new, start-new, end-new, extra-new)
 
     -- the old rows' nodes
-    nodes-old : (t : ℕ) → t ≤ many → nodes-below name refs′ rows′ used′ (many + 1) t ≡ nodes-below name refs rows used many t
+    nodes-old : (t : ℕ) → t ≤ many → nodes-below name refs rows′ used (many + 1) t ≡ nodes-below name refs rows start many t
     unfolding nodes-below
     nodes-old zero l = refl
     nodes-old (suc t) l = ap₂ (λ ns m. ns ++ (m ∷ [])) (nodes-old t (omega arith)) (node-old t (omega arith))
 
     -- the last node stands at the end
-    nodes-last : (m : ℕ) → nodes-below name refs′ rows′ used′ m (suc many) ≡ nodes-below name refs′ rows′ used′ m many ++ (node-of name refs′ rows′ used′ m many ∷ [])
+    nodes-last : (m : ℕ) → nodes-below name refs rows′ used m (suc many) ≡ nodes-below name refs rows′ used m many ++ (node-of name refs rows′ used m many ∷ [])
     unfolding nodes-below
     nodes-last m = refl
 
     -- its nodes are the old ones and the new one
-    nodes-added-here : nodes-below name refs′ rows′ used′ (many + 1) (many + 1) ≡ nodes-below name refs rows used many many ++ (make-node kind (op-of-code op) (name head) ws extra ∷ [])
-    nodes-added-here = ap (nodes-below name refs′ rows′ used′ (many + 1)) (add-one many) ∙ nodes-last (many + 1) ∙ ap₂ (λ ns m. ns ++ (m ∷ [])) (nodes-old many (omega arith)) node-new
+    nodes-added-here : nodes-below name refs rows′ used (many + 1) (many + 1) ≡ nodes-below name refs rows start many many ++ (make-node kind (op-of-code op) (name head) (words refs start used) extra ∷ [])
+    nodes-added-here = ap (nodes-below name refs rows′ used (many + 1)) (add-one many) ∙ nodes-last (many + 1) ∙ ap₂ (λ ns m. ns ++ (m ∷ [])) (nodes-old many (omega arith)) node-new
 
   -- the table with one row more is a table
-  pub row-added : Rows refs′ (with-row rows many (row-word kind op head) used extra) used′ (many + 1) named
+  pub row-added : Rows refs (with-row rows many (row-word kind op head) start extra) used (many + 1) named
   unfolding rows′
   row-added = row-added-here
 
   -- its nodes are the old ones and the new one
-  pub nodes-added : (name : ℕ → Name) → nodes-below name refs′ (with-row rows many (row-word kind op head) used extra) used′ (many + 1) (many + 1) ≡ nodes-below name refs rows used many many ++ (make-node kind (op-of-code op) (name head) ws extra ∷ [])
+  pub nodes-added : (name : ℕ → Name) → nodes-below name refs (with-row rows many (row-word kind op head) start extra) used (many + 1) (many + 1) ≡ nodes-below name refs rows start many many ++ (make-node kind (op-of-code op) (name head) (words refs start used) extra ∷ [])
   unfolding rows′
   nodes-added = nodes-added-here
 
   -- its terms are the old ones with the new node's
-  pub terms-added : (name : ℕ → Name) → terms-of name refs′ (with-row rows many (row-word kind op head) used extra) used′ (many + 1) ≡ add-term (terms-of name refs rows used many) (make-node kind (op-of-code op) (name head) ws extra)
+  pub terms-added : (name : ℕ → Name) → terms-of name refs (with-row rows many (row-word kind op head) start extra) used (many + 1) ≡ add-term (terms-of name refs rows start many) (make-node kind (op-of-code op) (name head) (words refs start used) extra)
   unfolding terms-of fold-left
-  terms-added name = ap (fold-left add-term []) (nodes-added name) ∙ fold-left-append add-term [] (nodes-below name refs rows used many many) (make-node kind (op-of-code op) (name head) ws extra ∷ [])
+  terms-added name = ap (fold-left add-term []) (nodes-added name) ∙ fold-left-append add-term [] (nodes-below name refs rows start many many) (make-node kind (op-of-code op) (name head) (words refs start used) extra ∷ [])

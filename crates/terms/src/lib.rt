@@ -3,7 +3,8 @@ ghost use mathlib.Core.Path.{_≡_};
 ghost use mathlib.Core.Bool.{not};
 ghost use lib.Dec.{T};
 ghost use lib.ListN.{length, getD};
-ghost use Rattle.terms.specs.Rows.{row-kind, row-op, row-head, row-start, row-extra, row-end, words, bare-of, groups-at, row-word, added, rows-after, pushed, push-answer, group-run};
+ghost use Rattle.model.specs.Terms.{FreeV, Leaf, Call, App, Forall, Exists, Let, Labeled};
+ghost use Rattle.terms.specs.Rows.{row-kind, row-op, row-head, row-start, row-extra, row-end, words, bare-of, groups-at, row-word, added, rows-after, pushed, push-answer, group-run, terms-of-words, groups-of-words, op-of-code, Rows, Pushed, Patterns, Adds};
 
 // What adding a row or a reference comes to.
 pub enum Added {
@@ -25,7 +26,7 @@ pub fn push(refs: &mut [u32], used: usize, term: usize, group: usize) -> Added
 }
 
 // Adds a row: kind, op word and head name, where its references start, and its groups or the term under a run of labels.
-pub fn add_row(
+fn add_row(
     rows: &mut [u32],
     many: usize,
     kind: usize,
@@ -150,4 +151,115 @@ pub fn group_end(refs: &[u32], a: usize, e: usize, g: usize) -> usize
         i += 1;
     }
     e
+}
+
+// Adds a `free`: its name has a number.
+pub fn add_free(
+    refs: &[u32],
+    rows: &mut [u32],
+    used: usize,
+    many: usize,
+    named: usize,
+    head: usize,
+) -> Added
+    requires { ⌜ Rows (now refs) (now rows) used many named × (head < named) ⌝ }
+    ensures { λ r. ⌜ Adds (now (refs .entry)) (now (rows .entry)) (now (rows .exit)) used used many named (row-word 0 4 head) 0 (λ name. FreeV (name head)) r ⌝ }
+{
+    add_row(rows, many, 0, 4, head, used, 0)
+}
+
+// Adds a `leaf`.
+pub fn add_leaf(refs: &[u32], rows: &mut [u32], used: usize, many: usize, named: usize) -> Added
+    requires { ⌜ Rows (now refs) (now rows) used many named ⌝ }
+    ensures { λ r. ⌜ Adds (now (refs .entry)) (now (rows .entry)) (now (rows .exit)) used used many named (row-word 1 4 0) 0 (λ name. Leaf) r ⌝ }
+{
+    add_row(rows, many, 1, 4, 0, used, 0)
+}
+
+// Adds a `call` of a name, with the references from `start` up to `used`.
+pub fn add_call(
+    refs: &[u32],
+    rows: &mut [u32],
+    start: usize,
+    used: usize,
+    many: usize,
+    named: usize,
+    head: usize,
+) -> Added
+    requires { ⌜ Pushed (now refs) (now rows) start used many named × (head < named) ⌝ }
+    ensures { λ r. ⌜ Adds (now (refs .entry)) (now (rows .entry)) (now (rows .exit)) start used many named (row-word 2 4 head) 0 (λ name. Call (name head) (terms-of-words (words (now (refs .entry)) start used))) r ⌝ }
+{
+    add_row(rows, many, 2, 4, head, start, 0)
+}
+
+// Adds an `op` of an op word.
+pub fn add_op(
+    refs: &[u32],
+    rows: &mut [u32],
+    start: usize,
+    used: usize,
+    many: usize,
+    named: usize,
+    op: usize,
+) -> Added
+    requires { ⌜ Pushed (now refs) (now rows) start used many named × (op < 5) ⌝ }
+    ensures { λ r. ⌜ Adds (now (refs .entry)) (now (rows .entry)) (now (rows .exit)) start used many named (row-word 3 op 0) 0 (λ name. App (op-of-code op) (terms-of-words (words (now (refs .entry)) start used))) r ⌝ }
+{
+    add_row(rows, many, 3, op, 0, start, 0)
+}
+
+// Adds an `all` with so many groups: its body, then the terms of the groups.
+pub fn add_all(
+    refs: &[u32],
+    rows: &mut [u32],
+    start: usize,
+    used: usize,
+    many: usize,
+    named: usize,
+    groups: usize,
+) -> Added
+    requires { ⌜ Pushed (now refs) (now rows) start used many named × Patterns (now refs) start used groups × (groups < 65536) ⌝ }
+    ensures { λ r. ⌜ Adds (now (refs .entry)) (now (rows .entry)) (now (rows .exit)) start used many named (row-word 4 4 0) groups (λ name. Forall (getD (now (refs .entry)) start 0 % 4096) (groups-of-words (words (now (refs .entry)) (start + 1) used) groups)) r ⌝ }
+{
+    add_row(rows, many, 4, 4, 0, start, groups)
+}
+
+// Adds a `some` with so many groups.
+pub fn add_some(
+    refs: &[u32],
+    rows: &mut [u32],
+    start: usize,
+    used: usize,
+    many: usize,
+    named: usize,
+    groups: usize,
+) -> Added
+    requires { ⌜ Pushed (now refs) (now rows) start used many named × Patterns (now refs) start used groups × (groups < 65536) ⌝ }
+    ensures { λ r. ⌜ Adds (now (refs .entry)) (now (rows .entry)) (now (rows .exit)) start used many named (row-word 5 4 0) groups (λ name. Exists (getD (now (refs .entry)) start 0 % 4096) (groups-of-words (words (now (refs .entry)) (start + 1) used) groups)) r ⌝ }
+{
+    add_row(rows, many, 5, 4, 0, start, groups)
+}
+
+// Adds a `let`: its body, then the terms that it binds.
+pub fn add_let(
+    refs: &[u32],
+    rows: &mut [u32],
+    start: usize,
+    used: usize,
+    many: usize,
+    named: usize,
+) -> Added
+    requires { ⌜ Pushed (now refs) (now rows) start used many named × (start < used) ⌝ }
+    ensures { λ r. ⌜ Adds (now (refs .entry)) (now (rows .entry)) (now (rows .exit)) start used many named (row-word 6 4 0) 0 (λ name. Let (getD (now (refs .entry)) start 0 % 4096) (terms-of-words (words (now (refs .entry)) (start + 1) used))) r ⌝ }
+{
+    add_row(rows, many, 6, 4, 0, start, 0)
+}
+
+// Adds a `label` of a term; the row has the term under the run of labels.
+pub fn add_label(refs: &[u32], rows: &mut [u32], start: usize, many: usize, named: usize) -> Added
+    requires { ⌜ Pushed (now refs) (now rows) start (start + 1) many named ⌝ }
+    ensures { λ r. ⌜ Adds (now (refs .entry)) (now (rows .entry)) (now (rows .exit)) start (start + 1) many named (row-word 7 4 0) (bare-of (now (rows .entry)) (getD (now (refs .entry)) start 0 % 4096)) (λ name. Labeled (getD (now (refs .entry)) start 0 % 4096)) r ⌝ }
+{
+    let under = bare(rows, reference(refs, start));
+    add_row(rows, many, 7, 4, 0, start, under)
 }
