@@ -11,12 +11,14 @@ use lib.Dec.{T, eqb, eqb→eq, ltb→lt}
 use Rattle.model.specs.Names.{Name}
 use Rattle.model.specs.Terms.{Node, FreeV, Leaf, Call, App, Forall, Exists, Let, Labeled, add-term}
 use Rattle.model.proofs.ListLaws.{T-or}
-use Rattle.terms.specs.declared.Added.{Added}
-use Rattle.terms.specs.Rows.{row-kind, row-start, row-end, words, terms-of-words, groups-of-words, op-of-code, make-node, terms-of, has-head, has-body, has-groups, bare-of, Rows, row-word, with-row, added, rows-after, pushed, Pushed, Patterns, Adds}
-use Rattle.terms.proofs.Laws.{bare-label, bare-own, pushed-in, added-in, equal}
+use Rattle.lines.specs.declared.Added.{Added}
+use Rattle.terms.specs.Rows.{row-kind, row-start, row-end, words, terms-of-words, groups-of-words, op-of-code, make-node, terms-of, has-head, has-body, has-groups, bare-of, Rows}
+use Rattle.lines.specs.Additions.{row-word, with-row, added, rows-after, pushed, Pushed, Patterns, Adds}
+use Rattle.terms.proofs.Laws.{bare-label, bare-own, equal}
+use Rattle.lines.proofs.Laws.{pushed-in, added-in}
 use Rattle.terms.proofs.Table.{words-cons, words-drop}
 use Rattle.terms.proofs.Groups.{groups-bodied}
-use Rattle.terms.proofs.Adding.{push-agrees, push-length, New-row, row-added, terms-added}
+use Rattle.lines.proofs.Adding.{push-agrees, push-length, New-row, row-added, terms-added}
 
 -- ---- references pushed one by one
 

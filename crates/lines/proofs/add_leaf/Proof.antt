@@ -1,8 +1,8 @@
--- `terms::add_leaf` meets its contract.
+-- `lines::add_leaf` meets its contract.
 use native.Mathlib.Omega.{arith}
-use Rattle.terms.proofs.Lines.{adds-leaf}
-use Rattle.terms.proofs.add_leaf.Statement.{statement}
-use Rattle.terms.proofs.add_leaf.Tie as tie
+use Rattle.lines.proofs.Lines.{adds-leaf}
+use Rattle.lines.proofs.add_leaf.Statement.{statement}
+use Rattle.lines.proofs.add_leaf.Tie as tie
 
 add-row-requires : tie.Need-add-row-requires
 add-row-requires c κs = let pre = c .before .before .before .pre in (pre .row-room, omega arith, omega arith, omega arith, omega arith, omega arith)

@@ -1,12 +1,12 @@
--- `terms::add_row` meets its contract: the test tells a full table.
-use Rattle.terms.specs.Rows.{row-word, with-row}
-use Rattle.terms.proofs.Laws.{added-in, added-full}
+-- `lines::add_row` meets its contract: the test tells a full table.
+use Rattle.lines.specs.Additions.{row-word, with-row}
+use Rattle.lines.proofs.Laws.{added-in, added-full}
 use mathlib.Core.Path.{sym}
 use native.Mathlib.Omega.{arith}
 use lib.ListN.{length-set}
 use borrow.Author.Needs.{needs}
-use Rattle.terms.proofs.add_row.Statement.{statement}
-use Rattle.terms.proofs.add_row.Tie as tie
+use Rattle.lines.proofs.add_row.Statement.{statement}
+use Rattle.lines.proofs.add_row.Tie as tie
 
 returns : tie.Need-returns
 returns c = let (a, b) = added-full (c .before .args .rows .now) (c .before .args .many) _ (c .before .args .start) (c .before .args .extra) (c .if1 .taken) in (sym a, sym b)

@@ -1,9 +1,9 @@
--- `terms::add_label` meets its contract.
+-- `lines::add_label` meets its contract.
 use native.Mathlib.Omega.{arith}
-use Rattle.terms.proofs.Lines.{under-low, adds-label}
+use Rattle.lines.proofs.Lines.{under-low, adds-label}
 use borrow.Author.Needs.{needs}
-use Rattle.terms.proofs.add_label.Statement.{statement}
-use Rattle.terms.proofs.add_label.Tie as tie
+use Rattle.lines.proofs.add_label.Statement.{statement}
+use Rattle.lines.proofs.add_label.Tie as tie
 
 reference-requires : tie.Need-reference-requires
 reference-requires c κs = search needs

@@ -1,9 +1,9 @@
--- `terms::push` meets its contract: the test tells full references.
-use Rattle.terms.proofs.Laws.{pushed-in, pushed-full, answer-in, answer-full}
+-- `lines::push` meets its contract: the test tells full references.
+use Rattle.lines.proofs.Laws.{pushed-in, pushed-full, answer-in, answer-full}
 use mathlib.Core.Path.{sym}
 use borrow.Author.Needs.{needs}
-use Rattle.terms.proofs.push.Statement.{statement}
-use Rattle.terms.proofs.push.Tie as tie
+use Rattle.lines.proofs.push.Statement.{statement}
+use Rattle.lines.proofs.push.Tie as tie
 
 returns : tie.Need-returns
 returns c = (sym (answer-full _ (c .if1 .taken)), sym (pushed-full _ _ _ (c .if1 .taken)))

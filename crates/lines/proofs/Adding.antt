@@ -1,4 +1,4 @@
--- A table grows: the empty table, one row more, more names.
+-- A table grows by one row.
 use Prim.Native.Nat.{ℕ, zero, suc, _+_, _-_, _/_, _%_, _≤_, _<_}
 use native.Mathlib.Nat.{not-suc-le-zero}
 use native.Mathlib.Numerals.{add-one}
@@ -14,54 +14,11 @@ use Rattle.model.specs.Names.{Name}
 use Rattle.model.specs.Terms.{add-term}
 use Rattle.model.specs.declared.Op.{Op}
 use Rattle.model.proofs.ListLaws.{fold-left-append}
-use Rattle.terms.specs.Rows.{row-kind, row-op, row-head, row-start, row-extra, row-end, words, op-of-code, make-node, node-of, nodes-below, terms-of, has-head, has-body, has-groups, bare-of, Rows, row-word, with-row, pushed, Pushed, Patterns}
-use Rattle.terms.proofs.Laws.{end-next, end-last, pushed-in, pushed-full, equal, below}
+use Rattle.terms.specs.Rows.{row-kind, row-op, row-head, row-start, row-extra, row-end, words, op-of-code, make-node, node-of, nodes-below, terms-of, has-head, has-body, has-groups, bare-of, Rows}
+use Rattle.lines.specs.Additions.{row-word, with-row, pushed, Pushed, Patterns}
+use Rattle.terms.proofs.Laws.{end-next, end-last, equal, below}
+use Rattle.lines.proofs.Laws.{pushed-in, pushed-full}
 use Rattle.terms.proofs.Table.{words-nil, words-cons}
-
--- lent slices are a table of no rows
-pub empty-rows : (refs rows : List ℕ) (named : ℕ) → 16384 ≤ length refs → 16384 ≤ length rows → named ≤ 2048 → Rows refs rows 0 0 named
-empty-rows refs rows named a b c = record {
-  ref-room = a;
-  row-room = b;
-  few-references = omega arith;
-  few-rows = omega arith;
-  few-names = c;
-  in-order = λ t l. absurd (not-suc-le-zero l);
-  in-use = λ t l. absurd (not-suc-le-zero l);
-  lower = λ t i l. absurd (not-suc-le-zero l);
-  headed = λ t l. absurd (not-suc-le-zero l);
-  bodied = λ t l. absurd (not-suc-le-zero l);
-  labelled = λ t l. absurd (not-suc-le-zero l);
-  childless = λ t l. absurd (not-suc-le-zero l);
-  single = λ t l. absurd (not-suc-le-zero l);
-  grouped = λ t i l. absurd (not-suc-le-zero l);
-  rising = λ t i l. absurd (not-suc-le-zero l);
-}
-
--- ---- more names
-
--- a node without a head has no name
-node-name : (kind : ℕ) (op : Op) (n m : Name) (ws : List ℕ) (g : ℕ) → (T (has-head kind) → n ≡ m) → make-node kind op n ws g ≡ make-node kind op m ws g
-unfolding make-node has-head
-node-name zero op n m ws g h = rw (h tt)
-node-name (suc zero) op n m ws g h = refl
-node-name (suc (suc zero)) op n m ws g h = rw (h tt)
-node-name (suc (suc (suc zero))) op n m ws g h = refl
-node-name (suc (suc (suc (suc zero)))) op n m ws g h = refl
-node-name (suc (suc (suc (suc (suc zero))))) op n m ws g h = refl
-node-name (suc (suc (suc (suc (suc (suc zero)))))) op n m ws g h = refl
-node-name (suc (suc (suc (suc (suc (suc (suc k))))))) op n m ws g h = refl
-
--- the terms of a table do not change with names that it has not
-pub terms-named : {refs rows : List ℕ} {used many named : ℕ} (name name′ : ℕ → Name) → ((k : ℕ) → k < named → name k ≡ name′ k) → Rows refs rows used many named
-    → terms-of name refs rows used many ≡ terms-of name′ refs rows used many
-unfolding terms-of nodes-below node-of
-terms-named {refs} {rows} {used} {many} name name′ same r = ap (fold-left add-term []) (go many (omega arith))
-  where
-    go : (n : ℕ) → n ≤ many → nodes-below name refs rows used many n ≡ nodes-below name′ refs rows used many n
-    go zero l = refl
-    go (suc n) l = ap₂ (λ ns m. ns ++ (m ∷ [])) (go n (omega arith))
-        (node-name (row-kind rows n) (op-of-code (row-op rows n)) (name (row-head rows n)) (name′ (row-head rows n)) (words refs (row-start rows n) (row-end rows used many n)) (row-extra rows n) (λ h. same (row-head rows n) (r .headed n (omega arith) h)))
 
 -- ---- one row more
 

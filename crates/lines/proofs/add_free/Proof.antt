@@ -1,8 +1,8 @@
--- `terms::add_free` meets its contract.
+-- `lines::add_free` meets its contract.
 use native.Mathlib.Omega.{arith}
-use Rattle.terms.proofs.Lines.{adds-free}
-use Rattle.terms.proofs.add_free.Statement.{statement}
-use Rattle.terms.proofs.add_free.Tie as tie
+use Rattle.lines.proofs.Lines.{adds-free}
+use Rattle.lines.proofs.add_free.Statement.{statement}
+use Rattle.lines.proofs.add_free.Tie as tie
 
 add-row-requires : tie.Need-add-row-requires
 add-row-requires c κs = let pre = c .before .before .before .pre in (pre .0 .row-room, omega arith, omega arith, omega arith, omega arith, omega arith)
