@@ -13,7 +13,7 @@ pub enum Limit {
 }
 
 // The kind of a fact, where its trigger entries end, and the names of the table; or the limit passed.
-pub enum Sorted {
+enum Sorted {
     Kind(AsumKind, usize, usize),
     Over(Limit),
 }
@@ -178,6 +178,7 @@ fn finish(
     rows: &mut [u32],
     out: &mut [u32],
     named: usize,
+    total: usize,
     used: usize,
     many: usize,
     t: usize,
@@ -203,7 +204,7 @@ fn finish(
             kind,
             entries: end - 6144,
             uses: n,
-            named,
+            named: total,
             mark: mark + 1,
         }),
         Walked::Full => Summarized::Over(Limit::Uses),
@@ -250,6 +251,7 @@ pub fn summarize_assumption(
             refs,
             rows,
             out,
+            named,
             total,
             used,
             many,
