@@ -97,6 +97,35 @@ groups-law gs s = ext-getD [] (groups-of-words (group-words 0 gs) (length gs)) g
     let e : 0 + i ≡ i = omega arith in
     groups-at (group-words 0 gs) (length gs) i k ∙ sym (ap (group-of-words (group-words 0 gs)) e) ∙ group-at gs 0 i k s)
 
+-- the words of a group with words of later groups behind them are of no group before
+low-in : (ts ws : List ℕ) (g : ℕ) → ((i : ℕ) → i < length ws → suc g ≤ getD ws i 0 / 4096) → (i : ℕ) → i < length (map (λ t. t + 4096 * g) ts ++ ws) → g ≤ getD (map (λ t. t + 4096 * g) ts ++ ws) i 0 / 4096
+low-in [] ws g low i l = omega (arith, low i l)
+low-in (t ∷ ts) ws g low zero l = omega arith
+low-in (t ∷ ts) ws g low (suc i) l = low-in ts ws g low i (omega arith)
+
+-- no word is of a group before the first
+words-low : (gs : List (List ℕ)) (g i : ℕ) → i < length (group-words g gs) → g ≤ getD (group-words g gs) i 0 / 4096
+unfolding group-words
+words-low [] g i l = absurd (not-suc-le-zero l)
+words-low (ts ∷ gs) g i l = low-in ts (group-words (suc g) gs) g (words-low gs (suc g)) i l
+
+-- the words of a group with words of later groups behind them stand in the order of the groups, if those do
+rise-in : (ts ws : List ℕ) (g : ℕ) → Small ts → ((i : ℕ) → i < length ws → suc g ≤ getD ws i 0 / 4096) → ((i : ℕ) → suc i < length ws → getD ws i 0 / 4096 ≤ getD ws (suc i) 0 / 4096)
+    → (i : ℕ) → suc i < length (map (λ t. t + 4096 * g) ts ++ ws) → getD (map (λ t. t + 4096 * g) ts ++ ws) i 0 / 4096 ≤ getD (map (λ t. t + 4096 * g) ts ++ ws) (suc i) 0 / 4096
+unfolding Small
+rise-in [] ws g s low rise i l = rise i l
+rise-in (t ∷ ts) ws g s low rise zero l = omega (arith, s t (List·Memᴰ·head refl), low-in ts ws g low 0 (omega arith))
+rise-in (t ∷ ts) ws g s low rise (suc i) l = rise-in ts ws g (λ u k. s u (List·Memᴰ·tail k)) low rise i (omega arith)
+
+-- the words of groups stand in the order of the groups
+pub group-words-rise : (gs : List (List ℕ)) (g : ℕ) → ((t : ℕ) → List·Memᴰ t (concat gs) → t < 4096) → (i : ℕ) → i + 1 < length (group-words g gs) → getD (group-words g gs) i 0 / 4096 ≤ getD (group-words g gs) (i + 1) 0 / 4096
+unfolding group-words concat Small
+group-words-rise gs g s i l = rw (add-one i) (go gs g s i (omega arith))
+  where
+    go : (gs : List (List ℕ)) (g : ℕ) → ((t : ℕ) → List·Memᴰ t (concat gs) → t < 4096) → (i : ℕ) → suc i < length (group-words g gs) → getD (group-words g gs) i 0 / 4096 ≤ getD (group-words g gs) (suc i) 0 / 4096
+    go [] g s i l = absurd (not-suc-le-zero l)
+    go (ts ∷ gs) g s i l = rise-in ts (group-words (suc g) gs) g (λ u k. s u (Memᴰ·append-left (concat gs) k)) (words-low gs (suc g)) (go gs (suc g) (λ u k. s u (Memᴰ·append-right ts k))) i l
+
 -- ---- the places of a group's references
 
 -- no word: no run
@@ -147,7 +176,7 @@ run-is refs g (suc d) p e q h k = go (run-is refs g d (p + 1) e (omega arith) (o
         rw z (record { low = omega arith; high = h; same = λ i a b. omega arith; ends = λ l. w })
 
 -- words up to a place and from it on
-words-split : (l : List ℕ) (d a b e : ℕ) → b - a ≡ d → a ≤ b → b ≤ e → e ≤ length l → words l a e ≡ words l a b ++ words l b e
+pub words-split : (l : List ℕ) (d a b e : ℕ) → b - a ≡ d → a ≤ b → b ≤ e → e ≤ length l → words l a e ≡ words l a b ++ words l b e
 words-split l zero a b e q h k m =
     let z : a ≡ b = omega arith in
     rw (z, words-nil l b b (omega arith))
@@ -155,7 +184,7 @@ words-split l (suc d) a b e q h k m =
     rw (words-cons l a e (omega arith) m, words-cons l a b (omega arith) (omega arith)) (ap (getD l a 0 ∷_) (words-split l d (a + 1) b e (omega arith) (omega arith) k m))
 
 -- a quantifier has a body
-groups-bodied : (k : ℕ) → T (has-groups k) → T (has-body k)
+pub groups-bodied : (k : ℕ) → T (has-groups k) → T (has-body k)
 unfolding has-groups has-body
 groups-bodied k h = ⊎-elim (λ e. rw (eqb→eq k 4 e) tt) (λ e. rw (eqb→eq k 5 e) tt) (T-or (eqb k 4) (eqb k 5) .0 h)
 

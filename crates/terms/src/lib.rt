@@ -3,49 +3,7 @@ ghost use mathlib.Core.Path.{_≡_};
 ghost use mathlib.Core.Bool.{not};
 ghost use lib.Dec.{T};
 ghost use lib.ListN.{length, getD};
-ghost use Rattle.terms.specs.Rows.{row-kind, row-op, row-head, row-start, row-extra, row-end, words, bare-of, groups-at, row-word, added, rows-after, pushed, push-answer, group-run};
-
-// What adding a row or a reference comes to.
-pub enum Added {
-    Done,
-    Full,
-}
-
-// Pushes a reference to a term, in a group of its quantifier; the references so far are `used`. Full references stay.
-pub fn push(refs: &mut [u32], used: usize, term: usize, group: usize) -> Added
-    requires { ⌜ (16384 ≤ length (now refs)) × (term < 4096) × (group < 65536) ⌝ }
-    ensures answer { λ r. ⌜ r ≡ push-answer used ⌝ }
-    ensures refs { λ r. ⌜ now (refs .exit) ≡ pushed (now (refs .entry)) used (term + 4096 * group) ⌝ }
-{
-    if 16384 <= used {
-        return Added::Full;
-    }
-    refs[used] = (term + 4096 * group) as u32;
-    Added::Done
-}
-
-// Adds a row: kind, op word and head name, where its references start, and its groups or the term under a run of labels.
-pub fn add_row(
-    rows: &mut [u32],
-    many: usize,
-    kind: usize,
-    op: usize,
-    head: usize,
-    start: usize,
-    extra: usize,
-) -> Added
-    requires { ⌜ (16384 ≤ length (now rows)) × (kind < 8) × (op < 8) × (head < 2048) × (start ≤ 16384) × (extra < 65536) ⌝ }
-    ensures answer { λ r. ⌜ r ≡ added many ⌝ }
-    ensures rows { λ r. ⌜ now (rows .exit) ≡ rows-after (now (rows .entry)) many (row-word kind op head) start extra ⌝ }
-{
-    if 4096 <= many {
-        return Added::Full;
-    }
-    rows[many] = (kind + 8 * (op + 8 * head)) as u32;
-    rows[4096 + many] = start as u32;
-    rows[8192 + many] = extra as u32;
-    Added::Done
-}
+ghost use Rattle.terms.specs.Rows.{row-kind, row-op, row-head, row-start, row-extra, row-end, words, bare-of, groups-at, group-run};
 
 // The kind of a row: free 0, leaf 1, call 2, op 3, all 4, some 5, let 6, label 7.
 pub fn kind(rows: &[u32], t: usize) -> usize

@@ -1,21 +1,26 @@
 -- `walks::add_all` meets its contract.
+use Prim.Native.Nat.{_+_}
 use native.Mathlib.Omega.{arith}
-use Rattle.walks.proofs.Laws.{pushed-to, pushed-both, table-added}
+use mathlib.Core.Path.{refl}
+use Rattle.walks.proofs.Laws.{table-to, table-patterns, table-added}
 use borrow.Author.Needs.{needs}
 use Rattle.walks.proofs.add_all.Statement.{statement}
 use Rattle.walks.proofs.add_all.Tie as tie
 
 push-times-requires : tie.Need-push-times-requires
-push-times-requires c κs = let pre = c .before .before .before .pre in (pre .0 .table .ref-room, omega arith, omega arith, λ h. pre .3)
+push-times-requires c κs = search needs
 
 add-push-times : tie.Need-add-push-times
 add-push-times c = search needs
 
 push-times-requires-2 : tie.Need-push-times-requires-2
-push-times-requires-2 c κs = let pre = c .before .before .before .before .before .before .before .pre in (omega (arith, c .before .before .before .push-times .ensures .same-length, pre .0 .table .ref-room), omega arith, omega arith, λ h. pre .4)
+push-times-requires-2 c κs = search needs
 
-add-row-requires : tie.Need-add-row-requires
-add-row-requires c κs = search needs
+add-add-all : tie.Need-add-add-all
+add-add-all c = search needs
+
+add-all-requires : tie.Need-add-all-requires
+add-all-requires c κs = let t = table-to {used′ = c .before .before .before .before .before .before .before .before .before .before .before .before .before .before .args .used + 2} (omega arith) refl (c .before .before .before .before .push-times2 .ensures) in (t .behind, table-patterns (omega arith) t, omega arith)
 
 same-length : tie.Need-same-length
 same-length c = search needs
@@ -24,12 +29,7 @@ same-length-2 : tie.Need-same-length-2
 same-length-2 c = search needs
 
 returns : tie.Need-returns
-returns c =
-    let pre = c .before .before .before .before .before .before .before .before .before .before .before .before .before .before .pre in
-    table-added 4 0 1 (pre .0) (pre .1) (omega arith) (pre .2)
-    (pushed-both (omega arith) (c .before .before .before .before .before .before .before .before .before .before .push-times .ensures) (pushed-to (omega arith) (c .before .before .before .before .before .before .push-times2 .ensures)))
-    (record { kind-small = omega arith; head-small = omega arith; childless = λ h. absurd (omega arith); bodied = λ h. omega arith; grouped = λ h. omega arith })
-    (search needs)
+returns c = table-added (c .before .before .before .before .before .before .before .before .before .before .before .before .before .before .before .before .before .pre .1) (table-to (omega arith) refl (c .before .before .before .before .before .before .before .push-times2 .ensures)) (c .before .before .add-all .ensures)
 
 pub add-all-spec : {M : Type 1} → statement M
 add-all-spec =
@@ -38,7 +38,8 @@ add-all-spec =
     push-times-requires
     add-push-times
     push-times-requires-2
-    add-row-requires
+    add-add-all
+    add-all-requires
     same-length
     same-length-2
     returns)

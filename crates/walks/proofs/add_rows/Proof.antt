@@ -1,5 +1,5 @@
 -- `walks::add_rows` meets its contract. The loop's invariant: the rows so far are a table, with at most two references each.
-use Prim.Native.Nat.{_+_, _-_, _*_, _≤_}
+use Prim.Native.Nat.{_-_, _*_, _≤_}
 use mathlib.Core.Path.{_≡_, refl}
 use lib.ListN.{length}
 use native.Mathlib.Omega.{arith}
@@ -10,19 +10,22 @@ use Rattle.walks.proofs.add_rows.Statement.{statement}
 use Rattle.walks.proofs.add_rows.Tie as tie
 
 abbrev Inv-loop : tie.InvT-loop
-Inv-loop refs₀ rows₀ used from upto kind times n₀ t₀ refs rows n t = (from ≤ t) × (t ≤ upto) × Table refs rows n t × (n + 2 * (upto - t) ≤ used + 2 * (upto - from)) × (length refs ≡ length refs₀) × (length rows ≡ length rows₀)
+Inv-loop refs₀ rows₀ head times n₀ t₀ refs rows n t = (1 ≤ t) × (t ≤ 4096) × Table refs rows n n t × (n ≤ 2 * t) × (length refs ≡ length refs₀) × (length rows ≡ length rows₀)
 
 abbrev μ-loop : tie.MeasureT-loop
-μ-loop refs₀ rows₀ used from upto kind times n₀ t₀ refs rows n t = upto - t
+μ-loop refs₀ rows₀ head times n₀ t₀ refs rows n t = 4096 - t
 
 loop-holds : tie.Need-loop-holds Inv-loop μ-loop
 loop-holds c = (omega arith, omega arith, c .before .before .pre .0, omega arith, refl, refl)
+
+add-add-row-of : tie.Need-add-add-row-of Inv-loop μ-loop
+add-add-row-of c = search needs
 
 sub-add-row-of : tie.Need-sub-add-row-of Inv-loop μ-loop
 sub-add-row-of c = search needs
 
 add-row-of-requires : tie.Need-add-row-of-requires Inv-loop μ-loop
-add-row-of-requires c κs = (c .before .before .before .loop .inv .2, omega arith, omega arith, (λ h. omega arith), omega arith, (λ h. absurd (omega arith)), omega arith)
+add-row-of-requires c κs = (c .before .before .before .loop .inv .2, omega arith, omega arith, λ h. omega arith)
 
 add-n : tie.Need-add-n Inv-loop μ-loop
 add-n c = search needs
@@ -43,7 +46,7 @@ same-length-2 : tie.Need-same-length-2 Inv-loop μ-loop
 same-length-2 c = search needs
 
 returns : tie.Need-returns Inv-loop μ-loop
-returns c = (table-to (omega arith) (c .before .loop .inv .2), omega arith)
+returns c = table-to refl (omega arith) (c .before .loop .inv .2)
 
 pub add-rows-spec : {M : Type 1} → statement M
 add-rows-spec =
@@ -52,6 +55,7 @@ add-rows-spec =
     Inv-loop
     μ-loop
     loop-holds
+    add-add-row-of
     sub-add-row-of
     add-row-of-requires
     add-n

@@ -1,6 +1,6 @@
 -- `walks::show_list` is safe and ends.
 use native.Mathlib.Omega.{arith}
-use Rattle.walks.proofs.Laws.{fresh-one}
+use Rattle.walks.proofs.Laws.{table-lower, fresh-one}
 use borrow.Author.Needs.{needs}
 use Rattle.walks.proofs.show_list.Statement.{statement}
 use Rattle.walks.proofs.show_list.Tie as tie
@@ -9,7 +9,7 @@ slice-aggregate-gather-list : tie.Need-slice-aggregate-gather-list
 slice-aggregate-gather-list c = search needs
 
 gather-list-requires : tie.Need-gather-list-requires
-gather-list-requires c κs = let pre = c .before .before .before .before .before .before .before .pre in (pre .1 .table, pre .0 .long, omega arith, omega arith, (λ i a b. pre .1 .in-table i b), fresh-one (pre .0) (pre .1), omega arith, search needs)
+gather-list-requires c κs = let pre = c .before .before .before .before .before .before .before .pre in (pre .1 .behind .table, pre .0 .long, omega arith, omega arith, (λ i a b. table-lower (pre .1) i b), fresh-one (pre .0) (pre .1), omega arith, search needs)
 
 show-requires : tie.Need-show-requires
 show-requires c κs = search needs

@@ -5,11 +5,14 @@ use borrow.Author.Needs.{needs}
 use Rattle.walks.proofs.show_term.Statement.{statement}
 use Rattle.walks.proofs.show_term.Tie as tie
 
+sub-t : tie.Need-sub-t
+sub-t c = search needs
+
 slice-aggregate-gather-term : tie.Need-slice-aggregate-gather-term
 slice-aggregate-gather-term c = search needs
 
 gather-term-requires : tie.Need-gather-term-requires
-gather-term-requires c κs = let pre = c .before .before .before .before .before .before .before .pre in (pre .1 .table, pre .0 .long, pre .2, fresh-one (pre .0) (pre .1), omega arith, search needs)
+gather-term-requires c κs = let pre = c .before .before .before .before .before .before .before .pre in (pre .1 .behind .table, pre .0 .long, omega arith, fresh-one (pre .0) (pre .1), omega arith, search needs)
 
 show-requires : tie.Need-show-requires
 show-requires c κs = search needs
@@ -27,6 +30,7 @@ pub show-term-spec : {M : Type 1} → statement M
 show-term-spec =
     tie.close
     (tie.spec
+    sub-t
     slice-aggregate-gather-term
     gather-term-requires
     show-requires
