@@ -1,3 +1,4 @@
+pub mod Looking
 pub mod Meaning
-pub mod Groups
+pub mod Counting
 pub mod Rules

@@ -297,6 +297,19 @@ other-node (suc (suc (suc (suc (suc zero))))) op name ws g e f = refl
 other-node (suc (suc (suc (suc (suc (suc zero)))))) op name ws g e f = refl
 other-node (suc (suc (suc (suc (suc (suc (suc n))))))) op name ws g e f = refl
 
+-- so has one whose kind is 2
+pub call-headed-is : (kind : ℕ) → kind ≡ 2 → has-head kind ≡ true
+unfolding has-head
+call-headed-is kind e = rw e
+
+-- no argument is none
+pub never-is : {A : Type 0} {u : ℕ} → argument.No ≡ argument.Is u → A
+never-is e = let z : _≡_ {A = ℕ} 0 1 = cc in absurd (omega arith)
+
+-- the number of an argument
+pub is-within : {u v many : ℕ} → argument.Is v ≡ argument.Is u → v < many → u < many
+is-within {u} {v} e h = let z : v ≡ u = cc in omega arith
+
 module _ {file names refs rows : List ℕ} {named used many t : ℕ} (tables : Tables file names refs rows named used many) (l : t < many) where
   -- the line of a term is that of its row
   line : term (terms-in file names refs rows used many) t .node ≡ node-of (name-of file names) refs rows used many t

@@ -21,6 +21,24 @@ use Rattle.rules.specs.Choices.{kinded, token-kinded, is-held, as-option
 pub record Left (terms : List Term) (fact : Name) (t : ℕ) (rules : List (Name → ℕ → Option Kinded)) : Type 0 where
   pub left : maybe-add-ambient exclude-names terms fact t ≡ first-rule exclude-names terms rules fact t
 
+-- at first there are all twelve
+pub all-rules : (terms : List Term) (fact : Name) (t : ℕ) → Left terms fact t
+    (rule-1 exclude-names terms
+    ∷ rule-2 exclude-names terms
+    ∷ rule-3 exclude-names terms
+    ∷ rule-4 exclude-names terms
+    ∷ rule-5 exclude-names terms
+    ∷ rule-6 exclude-names terms
+    ∷ rule-7 exclude-names terms
+    ∷ rule-8 exclude-names terms
+    ∷ rule-9 exclude-names terms
+    ∷ rule-10 exclude-names terms
+    ∷ rule-11 exclude-names terms
+    ∷ rule-12 exclude-names terms
+    ∷ [])
+unfolding maybe-add-ambient
+all-rules terms fact t = record { left = refl }
+
 module _ (terms : List Term) (name : ℕ → Name) where
   -- ---- whether a rule holds
 
@@ -66,24 +84,6 @@ module _ (terms : List Term) (name : ℕ → Name) where
     stop {rules} w c e h =
         let (k, f) = held-some c h in
         f ∙ ap some (sym (w .left ∙ ap (λ o. Option·getD o (first-rule exclude-names terms rules fact t)) (sym e ∙ f)))
-
-    -- at first there are all twelve
-    pub all-rules : Left terms fact t
-        (rule-1 exclude-names terms
-        ∷ rule-2 exclude-names terms
-        ∷ rule-3 exclude-names terms
-        ∷ rule-4 exclude-names terms
-        ∷ rule-5 exclude-names terms
-        ∷ rule-6 exclude-names terms
-        ∷ rule-7 exclude-names terms
-        ∷ rule-8 exclude-names terms
-        ∷ rule-9 exclude-names terms
-        ∷ rule-10 exclude-names terms
-        ∷ rule-11 exclude-names terms
-        ∷ rule-12 exclude-names terms
-        ∷ [])
-    unfolding maybe-add-ambient
-    all-rules = record { left = refl }
 
     -- the last rule holds of every fact
     pub last-rule : Left terms fact t (rule-12 exclude-names terms ∷ []) → kinded terms name choice.Ambient ≡ some (maybe-add-ambient exclude-names terms fact t)

@@ -40,6 +40,10 @@ module _ {refs rows : List ℕ} {used many named : ℕ} (table : Rows refs rows 
   pub bare-within : {t : ℕ} → t < many → bare-of rows t < many
   bare-within {t} l = omega (arith, bare-below (suc t) t (omega arith) l)
 
+  -- the groups of a term can be read
+  pub groups-ready : {t : ℕ} → t < many → (16384 ≤ length rows) × (t < 4096) × (bare-of rows t < 4096)
+  groups-ready {t} l = (table .row-room, omega (arith, table .few-rows), omega (arith, table .few-rows, bare-within l))
+
 -- ---- how many groups
 
 -- an `all` is a node of kind 4
