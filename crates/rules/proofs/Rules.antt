@@ -73,17 +73,18 @@ module _ (terms : List Term) (name : ℕ → Name) where
   module _ (fact : Name) (t : ℕ) where
     -- a rule that does not hold leaves the fact to the rules after it
     pub after : {rule : Name → ℕ → Option Kinded} {rules : List (Name → ℕ → Option Kinded)} → Left terms fact t (rule ∷ rules)
-        → (c : Choice) → kinded terms name c ≡ rule fact t → is-held c ≡ false → Left terms fact t rules
+        → (c : Choice) → kinded terms name c ≡ rule fact t → {held : Bool} → held ≡ is-held c → held ≡ false → Left terms fact t rules
     unfolding first-rule
-    after {rules} w c e h = record { left = w .left ∙ ap (λ o. Option·getD o (first-rule exclude-names terms rules fact t)) (sym e ∙ held-none c h) }
+    after {rules} w c e h f = record { left = w .left ∙ ap (λ o. Option·getD o (first-rule exclude-names terms rules fact t)) (sym e ∙ held-none c (sym h ∙ f)) }
 
     -- the first that holds says what becomes of it
     pub stop : {rule : Name → ℕ → Option Kinded} {rules : List (Name → ℕ → Option Kinded)} → Left terms fact t (rule ∷ rules)
-        → (c : Choice) → kinded terms name c ≡ rule fact t → is-held c ≡ true → kinded terms name c ≡ some (maybe-add-ambient exclude-names terms fact t)
+        → (c : Choice) → kinded terms name c ≡ rule fact t → {held : Bool} → held ≡ is-held c → held ≡ true
+        → kinded terms name c ≡ some (maybe-add-ambient exclude-names terms fact t)
     unfolding first-rule
-    stop {rules} w c e h =
-        let (k, f) = held-some c h in
-        f ∙ ap some (sym (w .left ∙ ap (λ o. Option·getD o (first-rule exclude-names terms rules fact t)) (sym e ∙ f)))
+    stop {rules} w c e h f =
+        let (k, is) = held-some c (sym h ∙ f) in
+        is ∙ ap some (sym (w .left ∙ ap (λ o. Option·getD o (first-rule exclude-names terms rules fact t)) (sym e ∙ is)))
 
     -- the last rule holds of every fact
     pub last-rule : Left terms fact t (rule-12 exclude-names terms ∷ []) → kinded terms name choice.Ambient ≡ some (maybe-add-ambient exclude-names terms fact t)
