@@ -21,9 +21,10 @@ use Rattle.rules.specs.Choices.{kinded, token-kinded, is-held, as-option
 pub record Left (terms : List Term) (fact : Name) (t : ℕ) (rules : List (Name → ℕ → Option Kinded)) : Type 0 where
   pub left : maybe-add-ambient exclude-names terms fact t ≡ first-rule exclude-names terms rules fact t
 
--- at first there are all twelve
-pub all-rules : (terms : List Term) (fact : Name) (t : ℕ) → Left terms fact t
-    (rule-1 exclude-names terms
+-- the twelve rules in their order
+abbrev pub twelve : List Term → List (Name → ℕ → Option Kinded)
+twelve terms =
+    rule-1 exclude-names terms
     ∷ rule-2 exclude-names terms
     ∷ rule-3 exclude-names terms
     ∷ rule-4 exclude-names terms
@@ -35,7 +36,10 @@ pub all-rules : (terms : List Term) (fact : Name) (t : ℕ) → Left terms fact 
     ∷ rule-10 exclude-names terms
     ∷ rule-11 exclude-names terms
     ∷ rule-12 exclude-names terms
-    ∷ [])
+    ∷ []
+
+-- at first all are left
+pub all-rules : (terms : List Term) (fact : Name) (t : ℕ) → Left terms fact t (twelve terms)
 unfolding maybe-add-ambient
 all-rules terms fact t = record { left = refl }
 
