@@ -149,9 +149,9 @@ module _ {refs rows : List ℕ} {used many named t : ℕ} (table : Rows refs row
   count-ready = (table .row-room, l, table .few-rows, table .in-order t l)
 
   -- and read
-  pub nth-ready : (i : ℕ) {n k : ℕ} → n ≡ row-count rows used many t → n ≡ k → i < k → i ≤ 1 → (16384 ≤ length rows) × (t < 4096) × (row-start rows t + i < length refs) × (i ≤ 1)
+  pub nth-ready : (i : ℕ) {n : ℕ} → n ≡ row-count rows used many t → i < n → i ≤ 1 → (16384 ≤ length rows) × (t < 4096) × (row-start rows t + i < length refs) × (i ≤ 1)
   unfolding row-count
-  nth-ready i n k h j = (table .row-room, omega (arith, table .few-rows), omega (arith, table .in-use t l, table .few-references, table .ref-room), j)
+  nth-ready i n h j = (table .row-room, omega (arith, table .few-rows), omega (arith, table .in-use t l, table .few-references, table .ref-room), j)
 
 -- ---- names and groups
 
