@@ -150,9 +150,7 @@ passed-11 c =
     after (terms s) (name s) (fact s) (s .args .t) (passed-10 (c .before .before .before)) (failed .result) (failed .ensures .0) (c .before .held11 .ensures) (c .if11 .left)
 
 rule-1-requires : tie.Need-rule-1-requires
-rule-1-requires c κs =
-    let s = c .before .before .before .before in
-    (s .pre .0, s .pre .1, s .pre .2)
+rule-1-requires c κs = (c .before .before .before .before .pre .0, c .before .before .before .before .pre .1, c .before .before .before .before .pre .2)
 
 held-requires : tie.Need-held-requires
 held-requires c κs = search needs
@@ -176,9 +174,7 @@ returns-2 c =
     (stop (terms s) (name s) (fact s) (s .args .t) (passed-1 (c .before .before .before)) (held .result) (held .ensures .0) (c .before .held2 .ensures) (c .if2 .taken), held .ensures .1)
 
 rule-3-requires : tie.Need-rule-3-requires
-rule-3-requires c κs =
-    let s = start-2 c in
-    (s .pre .0, s .pre .1, s .pre .2)
+rule-3-requires c κs = (start-2 c .pre .0, start-2 c .pre .1, start-2 c .pre .2)
 
 held-requires-3 : tie.Need-held-requires-3
 held-requires-3 c κs = search needs
@@ -190,9 +186,7 @@ returns-3 c =
     (stop (terms s) (name s) (fact s) (s .args .t) (passed-2 (c .before .before .before)) (held .result) (held .ensures .0) (c .before .held3 .ensures) (c .if3 .taken), held .ensures .1)
 
 rule-4-requires : tie.Need-rule-4-requires
-rule-4-requires c κs =
-    let s = start-3 c in
-    (s .pre .0, s .pre .1, s .pre .2)
+rule-4-requires c κs = (start-3 c .pre .0, start-3 c .pre .1, start-3 c .pre .2)
 
 held-requires-4 : tie.Need-held-requires-4
 held-requires-4 c κs = search needs
@@ -204,9 +198,7 @@ returns-4 c =
     (stop (terms s) (name s) (fact s) (s .args .t) (passed-3 (c .before .before .before)) (held .result) (held .ensures .0) (c .before .held4 .ensures) (c .if4 .taken), held .ensures .1)
 
 rule-5-requires : tie.Need-rule-5-requires
-rule-5-requires c κs =
-    let s = start-4 c in
-    (s .pre .0, s .pre .1, s .pre .2)
+rule-5-requires c κs = (start-4 c .pre .0, start-4 c .pre .1, start-4 c .pre .2)
 
 held-requires-5 : tie.Need-held-requires-5
 held-requires-5 c κs = search needs
@@ -218,9 +210,7 @@ returns-5 c =
     (stop (terms s) (name s) (fact s) (s .args .t) (passed-4 (c .before .before .before)) (held .result) (held .ensures .0) (c .before .held5 .ensures) (c .if5 .taken), held .ensures .1)
 
 rule-6-requires : tie.Need-rule-6-requires
-rule-6-requires c κs =
-    let s = start-5 c in
-    (s .pre .0, s .pre .1, s .pre .2)
+rule-6-requires c κs = (start-5 c .pre .0, start-5 c .pre .1, start-5 c .pre .2)
 
 held-requires-6 : tie.Need-held-requires-6
 held-requires-6 c κs = search needs
@@ -232,9 +222,7 @@ returns-6 c =
     (stop (terms s) (name s) (fact s) (s .args .t) (passed-5 (c .before .before .before)) (held .result) (held .ensures .0) (c .before .held6 .ensures) (c .if6 .taken), held .ensures .1)
 
 rule-7-requires : tie.Need-rule-7-requires
-rule-7-requires c κs =
-    let s = start-6 c in
-    (s .pre .0, s .pre .1, s .pre .2)
+rule-7-requires c κs = (start-6 c .pre .0, start-6 c .pre .1, start-6 c .pre .2)
 
 held-requires-7 : tie.Need-held-requires-7
 held-requires-7 c κs = search needs
@@ -246,9 +234,7 @@ returns-7 c =
     (stop (terms s) (name s) (fact s) (s .args .t) (passed-6 (c .before .before .before)) (held .result) (held .ensures .0) (c .before .held7 .ensures) (c .if7 .taken), held .ensures .1)
 
 rule-8-requires : tie.Need-rule-8-requires
-rule-8-requires c κs =
-    let s = start-7 c in
-    (s .pre .0, s .pre .1, s .pre .2)
+rule-8-requires c κs = (start-7 c .pre .0, start-7 c .pre .1, start-7 c .pre .2)
 
 held-requires-8 : tie.Need-held-requires-8
 held-requires-8 c κs = search needs
@@ -260,9 +246,7 @@ returns-8 c =
     (stop (terms s) (name s) (fact s) (s .args .t) (passed-7 (c .before .before .before)) (held .result) (held .ensures .0) (c .before .held8 .ensures) (c .if8 .taken), held .ensures .1)
 
 rule-9-requires : tie.Need-rule-9-requires
-rule-9-requires c κs =
-    let s = start-8 c in
-    (s .pre .0, s .pre .1, s .pre .2)
+rule-9-requires c κs = (start-8 c .pre .0, start-8 c .pre .1, start-8 c .pre .2)
 
 held-requires-9 : tie.Need-held-requires-9
 held-requires-9 c κs = search needs
@@ -274,9 +258,7 @@ returns-9 c =
     (stop (terms s) (name s) (fact s) (s .args .t) (passed-8 (c .before .before .before)) (held .result) (held .ensures .0) (c .before .held9 .ensures) (c .if9 .taken), held .ensures .1)
 
 rule-10-requires : tie.Need-rule-10-requires
-rule-10-requires c κs =
-    let s = start-9 c in
-    (s .pre .0, s .pre .1, s .pre .2)
+rule-10-requires c κs = (start-9 c .pre .0, start-9 c .pre .1, start-9 c .pre .2)
 
 held-requires-10 : tie.Need-held-requires-10
 held-requires-10 c κs = search needs
@@ -288,9 +270,7 @@ returns-10 c =
     (stop (terms s) (name s) (fact s) (s .args .t) (passed-9 (c .before .before .before)) (held .result) (held .ensures .0) (c .before .held10 .ensures) (c .if10 .taken), held .ensures .1)
 
 rule-11-requires : tie.Need-rule-11-requires
-rule-11-requires c κs =
-    let s = start-10 c in
-    (s .pre .0, s .pre .1, s .pre .2)
+rule-11-requires c κs = (start-10 c .pre .0, start-10 c .pre .1, start-10 c .pre .2)
 
 held-requires-11 : tie.Need-held-requires-11
 held-requires-11 c κs = search needs
