@@ -114,28 +114,28 @@ module _ (terms : List Term) (name : ℕ → Name) where
     rule-1-other e = rw e
 
     -- another name
-    pub rule-1-name : {l r : ℕ} → (op-args Iff (term terms t .node) >>= two) ≡ some (l, r) → starts-with fact (bytes "l_quant_interp") ≡ false
+    pub rule-1-name : {l r : ℕ} → (op-args Iff (term terms t .node) >>= two) ≡ some (l, r) → {b : Bool} → b ≡ starts-with fact (bytes "l_quant_interp") → b ≡ false
         → kinded terms name choice.No ≡ rule-1 exclude-names terms fact t
     unfolding kinded rule-1 at when
-    rule-1-name e f = rw (e, f)
+    rule-1-name e b f = rw (e, sym b ∙ f)
 
     -- it holds
-    pub rule-1-holds : {l r : ℕ} → (op-args Iff (term terms t .node) >>= two) ≡ some (l, r) → starts-with fact (bytes "l_quant_interp") ≡ true
+    pub rule-1-holds : {l r : ℕ} → (op-args Iff (term terms t .node) >>= two) ≡ some (l, r) → {b : Bool} → b ≡ starts-with fact (bytes "l_quant_interp") → b ≡ true
         → kinded terms name (choice.One l) ≡ rule-1 exclude-names terms fact t
     unfolding kinded rule-1 at when
-    rule-1-holds e f = rw (e, f)
+    rule-1-holds e b f = rw (e, sym b ∙ f)
 
     -- ---- rule 2
 
     -- another name
-    pub rule-2-name : starts-with fact (bytes "assumption_") ≡ false → kinded terms name choice.No ≡ rule-2 exclude-names terms fact t
+    pub rule-2-name : {b : Bool} → b ≡ starts-with fact (bytes "assumption_") → b ≡ false → kinded terms name choice.No ≡ rule-2 exclude-names terms fact t
     unfolding kinded rule-2 when
-    rule-2-name f = rw f
+    rule-2-name b f = rw (sym b ∙ f)
 
     -- it holds
-    pub rule-2-holds : starts-with fact (bytes "assumption_") ≡ true → triggers-of-term exclude-names terms t ≡ [] → kinded terms name (choice.One t) ≡ rule-2 exclude-names terms fact t
+    pub rule-2-holds : {b : Bool} → b ≡ starts-with fact (bytes "assumption_") → b ≡ true → triggers-of-term exclude-names terms t ≡ [] → kinded terms name (choice.One t) ≡ rule-2 exclude-names terms fact t
     unfolding kinded rule-2 when is-empty
-    rule-2-holds f e = rw (f, e)
+    rule-2-holds b f e = rw (sym b ∙ f, e)
 
     -- ---- rule 3
 
@@ -145,16 +145,16 @@ module _ (terms : List Term) (name : ℕ → Name) where
     rule-3-other e = rw e
 
     -- another type
-    pub rule-3-type : {s ty : ℕ} → call-two "HasType" (term terms t .node) ≡ some (s, ty) → is-ambient-refinement exclude-names terms ty ≡ false
+    pub rule-3-type : {s ty : ℕ} → call-two "HasType" (term terms t .node) ≡ some (s, ty) → {b : Bool} → b ≡ is-ambient-refinement exclude-names terms ty → b ≡ false
         → kinded terms name choice.No ≡ rule-3 exclude-names terms fact t
     unfolding kinded rule-3 at when
-    rule-3-type e f = rw (e, f)
+    rule-3-type e b f = rw (e, sym b ∙ f)
 
     -- it holds
-    pub rule-3-holds : {s ty p : ℕ} → call-two "HasType" (term terms t .node) ≡ some (s, ty) → is-ambient-refinement exclude-names terms ty ≡ true
+    pub rule-3-holds : {s ty p : ℕ} → call-two "HasType" (term terms t .node) ≡ some (s, ty) → {b : Bool} → b ≡ is-ambient-refinement exclude-names terms ty → b ≡ true
         → p ≡ ambient-refinement-payload exclude-names terms ty → kinded terms name (choice.Refinement p) ≡ rule-3 exclude-names terms fact t
     unfolding kinded rule-3 at when
-    rule-3-holds e f p = rw (e, f, p)
+    rule-3-holds e b f p = rw (e, sym b ∙ f, p)
 
     -- ---- rule 4
 
@@ -254,16 +254,16 @@ module _ (terms : List Term) (name : ℕ → Name) where
     rule-8-other e = rw e
 
     -- another name
-    pub rule-8-name : {l r : ℕ} → (op-args Eq (term terms t .node) >>= two) ≡ some (l, r) → starts-with fact (bytes "equation_") ≡ false
+    pub rule-8-name : {l r : ℕ} → (op-args Eq (term terms t .node) >>= two) ≡ some (l, r) → {b : Bool} → b ≡ starts-with fact (bytes "equation_") → b ≡ false
         → kinded terms name choice.No ≡ rule-8 exclude-names terms fact t
     unfolding kinded rule-8 at when
-    rule-8-name e f = rw (e, f)
+    rule-8-name e b f = rw (e, sym b ∙ f)
 
     -- it holds
-    pub rule-8-holds : {l r : ℕ} → (op-args Eq (term terms t .node) >>= two) ≡ some (l, r) → starts-with fact (bytes "equation_") ≡ true
+    pub rule-8-holds : {l r : ℕ} → (op-args Eq (term terms t .node) >>= two) ≡ some (l, r) → {b : Bool} → b ≡ starts-with fact (bytes "equation_") → b ≡ true
         → kinded terms name (choice.One l) ≡ rule-8 exclude-names terms fact t
     unfolding kinded rule-8 at when
-    rule-8-holds e f = rw (e, f)
+    rule-8-holds e b f = rw (e, sym b ∙ f)
 
     -- ---- rule 9
 
@@ -273,22 +273,22 @@ module _ (terms : List Term) (name : ℕ → Name) where
     rule-9-other e = rw e
 
     -- no hasEq on the left
-    pub rule-9-left : {l r : ℕ} → (op-args Iff (term terms t .node) >>= two) ≡ some (l, r) → has-eq exclude-names terms l ≡ none
+    pub rule-9-left : {l r : ℕ} {x : Argument} → (op-args Iff (term terms t .node) >>= two) ≡ some (l, r) → as-option x ≡ has-eq exclude-names terms l → x ≡ argument.No
         → kinded terms name (choice.Two l r) ≡ rule-9 exclude-names terms fact t
-    unfolding kinded rule-9 at or-else
-    rule-9-left e f = rw (e, f)
+    unfolding kinded rule-9 at or-else as-option
+    rule-9-left e x f = rw (e, sym x ∙ ap as-option f)
 
     -- none on the right
-    pub rule-9-right : {l r a : ℕ} → (op-args Iff (term terms t .node) >>= two) ≡ some (l, r) → has-eq exclude-names terms l ≡ some a
-        → has-eq exclude-names terms r ≡ none → kinded terms name (choice.Two l r) ≡ rule-9 exclude-names terms fact t
-    unfolding kinded rule-9 at or-else
-    rule-9-right e f g = rw (e, f, g)
+    pub rule-9-right : {l r a : ℕ} {x y : Argument} → (op-args Iff (term terms t .node) >>= two) ≡ some (l, r) → as-option x ≡ has-eq exclude-names terms l → x ≡ argument.Is a
+        → as-option y ≡ has-eq exclude-names terms r → y ≡ argument.No → kinded terms name (choice.Two l r) ≡ rule-9 exclude-names terms fact t
+    unfolding kinded rule-9 at or-else as-option
+    rule-9-right e x f y g = rw (e, sym x ∙ ap as-option f, sym y ∙ ap as-option g)
 
     -- both
-    pub rule-9-both : {l r a b : ℕ} → (op-args Iff (term terms t .node) >>= two) ≡ some (l, r) → has-eq exclude-names terms l ≡ some a
-        → has-eq exclude-names terms r ≡ some b → kinded terms name (choice.One a) ≡ rule-9 exclude-names terms fact t
-    unfolding kinded rule-9 at or-else
-    rule-9-both e f g = rw (e, f, g)
+    pub rule-9-both : {l r a b : ℕ} {x y : Argument} → (op-args Iff (term terms t .node) >>= two) ≡ some (l, r) → as-option x ≡ has-eq exclude-names terms l → x ≡ argument.Is a
+        → as-option y ≡ has-eq exclude-names terms r → y ≡ argument.Is b → kinded terms name (choice.One a) ≡ rule-9 exclude-names terms fact t
+    unfolding kinded rule-9 at or-else as-option
+    rule-9-both e x f y g = rw (e, sym x ∙ ap as-option f, sym y ∙ ap as-option g)
 
     -- ---- rule 10
 

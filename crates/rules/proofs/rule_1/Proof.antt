@@ -5,7 +5,6 @@ use Rattle.rules.proofs.Rules.{rule-1-holds, rule-1-name, rule-1-other}
 use Rattle.rules.specs.Choices.{Within}
 use borrow.Author.Needs.{needs}
 use borrow.Author.Tests.{not-false, not-true}
-use mathlib.Core.Path.{_∙_, sym}
 use Rattle.rules.proofs.rule_1.Statement.{statement}
 use Rattle.rules.proofs.rule_1.Tie as tie
 
@@ -38,13 +37,13 @@ returns-2 : tie.Need-returns-2
 unfolding Within bytes
 returns-2 c =
     let start = c .before .before .before .before .before .before .before .before .before .before .before in
-    (rule-1-name _ _ _ _ (op-two-found (start .pre .0) (start .pre .2) iff-word (c .before .before .before .before .before .before .op-two .ensures) (c .before .before .before .before .left .given .1)) (sym (c .before .name-starts .ensures) ∙ not-true _ (c .if1 .taken)), tt)
+    (rule-1-name _ _ _ _ (op-two-found (start .pre .0) (start .pre .2) iff-word (c .before .before .before .before .before .before .op-two .ensures) (c .before .before .before .before .left .given .1)) (c .before .name-starts .ensures) (not-true _ (c .if1 .taken)), tt)
 
 returns-3 : tie.Need-returns-3
 unfolding Within bytes
 returns-3 c =
     let start = c .before .before .before .before .before .before .before .before .before .before .before in
-    (rule-1-holds _ _ _ _ (op-two-found (start .pre .0) (start .pre .2) iff-word (c .before .before .before .before .before .before .op-two .ensures) (c .before .before .before .before .left .given .1)) (sym (c .before .name-starts .ensures) ∙ not-false _ (c .if1 .left)), op-within (start .pre .0 .term-table) (start .pre .2) 1 (c .before .before .before .before .before .before .op-two .ensures) (c .before .before .before .before .left .given .1) .0)
+    (rule-1-holds _ _ _ _ (op-two-found (start .pre .0) (start .pre .2) iff-word (c .before .before .before .before .before .before .op-two .ensures) (c .before .before .before .before .left .given .1)) (c .before .name-starts .ensures) (not-false _ (c .if1 .left)), op-within (start .pre .0 .term-table) (start .pre .2) 1 (c .before .before .before .before .before .before .op-two .ensures) (c .before .before .before .before .left .given .1) .0)
 
 pub rule-1-spec : {M : Type 1} → statement M
 rule-1-spec = tie.close (tie.spec op-two-requires enum-known-left enum-told returns slice-aggregate-name-starts name-starts-requires returns-2 returns-3)

@@ -5,7 +5,6 @@ use Rattle.rules.proofs.Rules.{rule-2-holds, rule-2-name}
 use Rattle.rules.specs.Choices.{Within}
 use borrow.Author.Needs.{needs}
 use borrow.Author.Tests.{not-false, not-true}
-use mathlib.Core.Path.{_∙_, sym}
 use Rattle.rules.proofs.rule_2.Statement.{statement}
 use Rattle.rules.proofs.rule_2.Tie as tie
 
@@ -19,13 +18,13 @@ name-starts-requires c κs =
 
 returns : tie.Need-returns
 unfolding Within bytes
-returns c = (rule-2-name _ _ _ _ (sym (c .before .name-starts .ensures) ∙ not-true _ (c .if1 .taken)), tt)
+returns c = (rule-2-name _ _ _ _ (c .before .name-starts .ensures) (not-true _ (c .if1 .taken)), tt)
 
 returns-2 : tie.Need-returns-2
 unfolding Within bytes
 returns-2 c =
     let start = c .before .before .before .before .before .before .before in
-    (rule-2-holds _ _ _ _ (sym (c .before .name-starts .ensures) ∙ not-false _ (c .if1 .left)) (no-groups (start .pre .0) (start .pre .2) (start .pre .3)), start .pre .2)
+    (rule-2-holds _ _ _ _ (c .before .name-starts .ensures) (not-false _ (c .if1 .left)) (no-groups (start .pre .0) (start .pre .2) (start .pre .3)), start .pre .2)
 
 pub rule-2-spec : {M : Type 1} → statement M
 rule-2-spec = tie.close (tie.spec slice-aggregate-name-starts name-starts-requires returns returns-2)

@@ -3,7 +3,6 @@ use Rattle.rules.proofs.Meaning.{has-type, two-found, two-no, two-withi
 use Rattle.rules.proofs.Rules.{rule-3-holds, rule-3-other, rule-3-type}
 use Rattle.rules.specs.Choices.{Within}
 use borrow.Author.Tests.{not-false, not-true}
-use mathlib.Core.Path.{_∙_, sym}
 use Rattle.rules.proofs.rule_3.Statement.{statement}
 use Rattle.rules.proofs.rule_3.Tie as tie
 
@@ -33,7 +32,7 @@ returns-2 : tie.Need-returns-2
 unfolding Within
 returns-2 c =
     let start = c .before .before .before .before .before .before .before .before .before .before in
-    (rule-3-type _ _ _ _ (two-found (start .pre .0) (start .pre .2) has-type (c .before .before .before .before .before .call-two .ensures) (c .before .before .before .ty .given .1)) (sym (c .before .is-ambient-refinement .ensures) ∙ not-true _ (c .if1 .taken)), tt)
+    (rule-3-type _ _ _ _ (two-found (start .pre .0) (start .pre .2) has-type (c .before .before .before .before .before .call-two .ensures) (c .before .before .before .ty .given .1)) (c .before .is-ambient-refinement .ensures) (not-true _ (c .if1 .taken)), tt)
 
 ambient-refinement-payload-requires : tie.Need-ambient-refinement-payload-requires
 ambient-refinement-payload-requires c κs =
@@ -44,7 +43,7 @@ returns-3 : tie.Need-returns-3
 unfolding Within
 returns-3 c =
     let start = c .before .before .before .before .before .before .before .before .before .before .before in
-    (rule-3-holds _ _ _ _ (two-found (start .pre .0) (start .pre .2) has-type (c .before .before .before .before .before .before .call-two .ensures) (c .before .before .before .before .ty .given .1)) (sym (c .before .before .is-ambient-refinement .ensures) ∙ not-false _ (c .before .if1 .left)) (c .ambient-refinement-payload .ensures .0), c .ambient-refinement-payload .ensures .1)
+    (rule-3-holds _ _ _ _ (two-found (start .pre .0) (start .pre .2) has-type (c .before .before .before .before .before .before .call-two .ensures) (c .before .before .before .before .ty .given .1)) (c .before .before .is-ambient-refinement .ensures) (not-false _ (c .before .if1 .left)) (c .ambient-refinement-payload .ensures .0), c .ambient-refinement-payload .ensures .1)
 
 pub rule-3-spec : {M : Type 1} → statement M
 rule-3-spec = tie.close (tie.spec call-two-requires enum-known-ty enum-told returns is-ambient-refinement-requires returns-2 ambient-refinement-payload-requires returns-3)

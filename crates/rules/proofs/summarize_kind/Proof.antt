@@ -20,7 +20,7 @@ maybe-add-ambient-requires c κs =
 returns : tie.Need-returns
 returns c =
     let start = c .before .before .before .before .before .before .before in
-    (kind-rules _ _ _ _ _ (triggers-nil (start .pre .0) (start .pre .2) ∙ eq-eqb _ 0 (sym (c .before .before .groups .ensures) ∙ c .before .if1 .taken)) (c .maybe-add-ambient .ensures .0), c .maybe-add-ambient .ensures .1)
+    (kind-rules _ _ _ _ (c .maybe-add-ambient .result) (triggers-nil (start .pre .0) (start .pre .2) ∙ eq-eqb _ 0 (sym (c .before .before .groups .ensures) ∙ c .before .if1 .taken)) (c .maybe-add-ambient .ensures .0), c .maybe-add-ambient .ensures .1)
 
 returns-2 : tie.Need-returns-2
 unfolding Within
