@@ -1,23 +1,22 @@
 -- The pattern groups of a term: how many its row says, and the triggers that `model` makes of them.
-use Prim.Native.Nat.{ℕ, zero, suc, _+_, _-_, _%_, _≤_, _<_}
+use Prim.Native.Nat.{ℕ, zero, suc, _+_, _%_, _≤_, _<_}
 use native.Mathlib.Nat.{not-suc-le-zero}
 use native.Mathlib.Omega.{arith}
 use mathlib.Core.Path.{_≡_, refl, sym, ap, _∙_}
 use mathlib.Core.Bool.{Bool, true, false, cond}
 use mathlib.Core.Logic.{⊎-elim}
-use mathlib.Core.Option.{Option, none, some, Option·getD}
+use mathlib.Core.Option.{Option·getD}
 use mathlib.Core.List.{List, [], _∷_, _++_, map}
 use lib.ListN.{length, drop, getD}
 use lib.Dec.{eqb}
 use borrow.Author.Tests.{eq-eqb, ne-eqb}
 use Rattle.model.specs.Lists.{when, is-nil}
 use Rattle.model.specs.Names.{Name}
-use Rattle.model.specs.Terms.{Node, Term, term}
 use Rattle.model.specs.Summaries.{exclude-names, groups-of, group-names, triggers-of-term}
 use Rattle.model.specs.declared.Op.{Op}
 use Rattle.model.proofs.ListLaws.{true-T, is-nil-elim}
 use Rattle.names.specs.Table.{name-of}
-use Rattle.terms.specs.Rows.{row-kind, row-op, row-head, row-start, row-extra, row-end, words, groups-of-words, op-of-code, make-node, node-of, terms-of, bare-of, Rows}
+use Rattle.terms.specs.Rows.{row-kind, row-start, row-extra, row-end, words, groups-of-words, make-node, node-of, terms-of, bare-of, Rows}
 use Rattle.terms.proofs.Laws.{bare-label, bare-own, equal}
 use Rattle.terms.proofs.Table.{words-drop, bare-law}
 use Rattle.rules.specs.Views.{Tables, terms-in, groups-at}

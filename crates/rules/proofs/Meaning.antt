@@ -3,25 +3,25 @@ use Prim.Native.Nat.{ℕ, zero, suc, _+_, _-_, _%_, _≤_, _<_}
 use Prim.Native.String.{String}
 use native.Mathlib.Omega.{arith}
 use mathlib.Core.Path.{_≡_, refl, sym, ap, _∙_}
-use mathlib.Core.Bool.{Bool, true, false, cond, _&&_, _||_}
+use mathlib.Core.Bool.{Bool, true, false, cond, _&&_}
 use mathlib.Core.Option.{Option, none, some}
-use mathlib.Core.List.{List, [], _∷_, map}
+use mathlib.Core.List.{List, [], map}
 use lib.ListN.{length, getD}
 use lib.Dec.{T, eqb, eqb→eq}
 use borrow.Author.Tests.{eq-eqb, ne-eqb, eqb-true}
 use Rattle.model.specs.Lists.{holds, or-else, when, is-nil, _>>=_}
 use Rattle.model.specs.Names.{Name, bytes, same}
-use Rattle.model.specs.Terms.{Node, Term, term, references}
+use Rattle.model.specs.Terms.{term, references}
 use Rattle.model.specs.Summaries.{common-names, exclude-names, token, at, free-of, call-of, op-of, op-number, one, two, op-args, call-args, call-one, call-two, head}
 use Rattle.model.specs.declared.Op.{Op}
 use Rattle.model.specs.declared.Op.the-variants.{TrueOp, Iff, Eq, And}
-use Rattle.model.proofs.ListLaws.{T-ext, T-true, true-T}
+use Rattle.model.proofs.ListLaws.{T-ext, true-T}
 use Rattle.model.proofs.SetLaws.{same-refl, same-eq, same-sym}
 use Rattle.names.specs.Known.{known-names, head-code}
-use Rattle.names.specs.Table.{Table, name-of}
+use Rattle.names.specs.Table.{name-of}
 use Rattle.names.proofs.Coded.{code-exact}
-use Rattle.terms.specs.Rows.{row-kind, row-op, row-head, row-start, row-extra, row-end, words, terms-of-words, op-of-code, make-node, node-of, has-head, Rows}
-use Rattle.terms.proofs.Table.{words-cons, words-nil, kind-small, term-node}
+use Rattle.terms.specs.Rows.{row-kind, row-op, row-head, row-start, row-end, words, terms-of-words, op-of-code, make-node, node-of, has-head, Rows}
+use Rattle.terms.proofs.Table.{words-cons, words-nil, term-node}
 use Rattle.rules.specs.declared.Argument.{Argument}
 use Rattle.rules.specs.declared.Argument.the-variants as argument
 use Rattle.rules.specs.declared.Arguments.{Arguments}
@@ -255,9 +255,9 @@ module _ {refs rows : List ℕ} {used many named t : ℕ} (table : Rows refs row
 -- ---- terms
 
 -- a call has a head
-call-headed : (kind : ℕ) → eqb kind 2 ≡ true → T (has-head kind)
+pub call-headed : (kind : ℕ) → kind ≡ 2 → has-head kind ≡ true
 unfolding has-head
-call-headed kind e = rw (eqb-true kind 2 e) tt
+call-headed kind e = rw e
 
 -- a word of the rules and its number
 pub record Word (word : Op) (op : ℕ) : Type 0 where
@@ -297,11 +297,6 @@ other-node (suc (suc (suc (suc (suc zero))))) op name ws g e f = refl
 other-node (suc (suc (suc (suc (suc (suc zero)))))) op name ws g e f = refl
 other-node (suc (suc (suc (suc (suc (suc (suc n))))))) op name ws g e f = refl
 
--- so has one whose kind is 2
-pub call-headed-is : (kind : ℕ) → kind ≡ 2 → has-head kind ≡ true
-unfolding has-head
-call-headed-is kind e = rw e
-
 -- no argument is none
 pub never-is : {A : Type 0} {u : ℕ} → argument.No ≡ argument.Is u → A
 never-is e = let z : _≡_ {A = ℕ} 0 1 = cc in absurd (omega arith)
@@ -339,7 +334,7 @@ module _ {file names refs rows : List ℕ} {named used many t : ℕ} (tables : T
       ap (call-args k) line
       ∙ call-node k (row-kind rows t) _ (name-of file names (row-head rows t)) _ _
       ∙ ap (λ b. when b (terms-of-words (words refs (row-start rows t) (row-end rows used many t))))
-      (sym (and-same (eqb (row-kind rows t) 2) _ _ (λ h. ap (λ n. eqb n code) (code-of (call-headed (row-kind rows t) h)) ∙ code-same known (name-of file names (row-head rows t)))))
+      (sym (and-same (eqb (row-kind rows t) 2) _ _ (λ h. ap (λ n. eqb n code) (code-of (true-T (call-headed (row-kind rows t) (eqb-true (row-kind rows t) 2 h)))) ∙ code-same known (name-of file names (row-head rows t)))))
 
   -- whether a term is a call of a known name
   pub is-call-law : {k : String} {code : ℕ} → Known k code → is-call-at names rows t code ≡ holds (λ ts. true) (call-args k (term (terms-in file names refs rows used many) t .node))

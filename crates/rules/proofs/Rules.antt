@@ -1,15 +1,13 @@
 -- The twelve rules: what each comes to by what its term's line is, and the first that holds.
-use Prim.Native.Nat.{ℕ, zero, suc, _+_, _≤_, _<_}
-use Prim.Native.String.{String}
-use native.Mathlib.Omega.{arith}
+use Prim.Native.Nat.{ℕ}
 use mathlib.Core.Path.{_≡_, refl, sym, ap, _∙_}
-use mathlib.Core.Bool.{Bool, true, false, cond, _||_, true≢false}
+use mathlib.Core.Bool.{Bool, true, false, true≢false}
 use mathlib.Core.Option.{Option, none, some, Option·getD}
 use mathlib.Core.List.{List, [], _∷_}
-use Rattle.model.specs.Lists.{collect, holds, is-nil, or-else, when, _>>=_}
+use Rattle.model.specs.Lists.{holds, is-nil, or-else, when, _>>=_}
 use Rattle.model.specs.Names.{Name, bytes, same, starts-with}
-use Rattle.model.specs.Terms.{Node, Term, term, references}
-use Rattle.model.specs.Summaries.{Kinded, Sum-drop, Sum-ambient, Sum-triggers, exclude-names, free-of, call-of, op-number, two, op-args, call-args, call-one, call-two, head, is-empty, token, token-triggers, at, free-top-level-names, triggers-of-term, is-ambient-refinement, ambient-refinement-payload, has-eq, rule-1, rule-2, rule-3, rule-4, rule-5, rule-6, rule-7, rule-8, rule-9, rule-10, rule-11, rule-12, first-rule, maybe-add-ambient, summarize-kind}
+use Rattle.model.specs.Terms.{Term, term, references}
+use Rattle.model.specs.Summaries.{Kinded, exclude-names, two, op-args, call-args, call-one, call-two, head, is-empty, token, at, triggers-of-term, is-ambient-refinement, ambient-refinement-payload, has-eq, rule-1, rule-2, rule-3, rule-4, rule-5, rule-6, rule-7, rule-8, rule-9, rule-10, rule-11, rule-12, first-rule, maybe-add-ambient, summarize-kind}
 use Rattle.model.specs.declared.Op.the-variants.{TrueOp, Iff, Eq, And}
 use Rattle.rules.specs.declared.Choice.{Choice}
 use Rattle.rules.specs.declared.Choice.the-variants as choice

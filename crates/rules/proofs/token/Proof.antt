@@ -1,6 +1,6 @@
 -- `rules::token` meets its contract: by the kind and the count.
 use Rattle.rules.proofs.Looking.{count-ready, head-free, row-ready}
-use Rattle.rules.proofs.Meaning.{call-headed-is, head-within, token-call, token-free, token-more, token-other}
+use Rattle.rules.proofs.Meaning.{call-headed, head-within, token-call, token-free, token-more, token-other}
 use Rattle.rules.proofs.Rules.{token-is, token-not}
 use Rattle.rules.specs.Choices.{Within}
 use mathlib.Core.Path.{_∙_, sym}
@@ -49,7 +49,7 @@ returns-4 : tie.Need-returns-4
 unfolding Within
 returns-4 c =
     let start = c .before .before .before .before .before .before .before .before .before .before in
-    (token-is _ _ _ _ (token-call (start .pre .0) (start .pre .1) (sym (c .before .before .before .before .before .kind .ensures) ∙ c .before .before .before .if2 .left) (sym (c .before .before .count .ensures) ∙ c .before .if3 .left) (c .head2 .ensures)), head-within (start .pre .0) (start .pre .1) (call-headed-is _ (sym (c .before .before .before .before .before .kind .ensures) ∙ c .before .before .before .if2 .left)) (c .head2 .ensures))
+    (token-is _ _ _ _ (token-call (start .pre .0) (start .pre .1) (sym (c .before .before .before .before .before .kind .ensures) ∙ c .before .before .before .if2 .left) (sym (c .before .before .count .ensures) ∙ c .before .if3 .left) (c .head2 .ensures)), head-within (start .pre .0) (start .pre .1) (call-headed _ (sym (c .before .before .before .before .before .kind .ensures) ∙ c .before .before .before .if2 .left)) (c .head2 .ensures))
 
 pub token-spec : {M : Type 1} → statement M
 token-spec = tie.close (tie.spec kind-requires head-requires returns returns-2 count-requires returns-3 head-requires-2 returns-4)
