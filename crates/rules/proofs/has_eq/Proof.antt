@@ -23,7 +23,7 @@ returns c =
 call-two-requires : tie.Need-call-two-requires
 call-two-requires c κs =
     let start = c .before .before .before .before .before .before .before .before in
-    (start .pre .0 .term-table, start .pre .0 .name-table .room, (one-within (start .pre .0 .term-table) (start .pre .1) (start .args .names .now) 6 (c .before .before .before .call-one .ensures) (c .before .valid .given .1)))
+    (start .pre .0 .term-table, start .pre .0 .name-table .room, one-within (start .pre .0 .term-table) (start .pre .1) (start .args .names .now) 6 (c .before .before .before .call-one .ensures) (c .before .valid .given .1))
 
 enum-known-ty : tie.Need-enum-known-ty
 enum-known-ty c = c .match2 .keys1
@@ -34,12 +34,14 @@ enum-told-2 c = c .match2 .keys2
 returns-2 : tie.Need-returns-2
 returns-2 c =
     let start = c .before .before .before .before .before .before .before .before .before .before .before in
-    (has-eq-valid _ _ (one-found (start .pre .0) (start .pre .1) valid (c .before .before .before .before .before .before .call-one .ensures) (c .before .before .before .before .valid .given .1)) (two-no (start .pre .0) (one-within (start .pre .0 .term-table) (start .pre .1) (start .args .names .now) 6 (c .before .before .before .before .before .before .call-one .ensures) (c .before .before .before .before .valid .given .1)) prims-has-eq (c .before .before .call-two .ensures) (c .enum-told2 .given .1)), λ u e. never-is e)
+    let inner = one-within (start .pre .0 .term-table) (start .pre .1) (start .args .names .now) 6 (c .before .before .before .before .before .before .call-one .ensures) (c .before .before .before .before .valid .given .1) in
+    (has-eq-valid _ _ (one-found (start .pre .0) (start .pre .1) valid (c .before .before .before .before .before .before .call-one .ensures) (c .before .before .before .before .valid .given .1)) (two-no (start .pre .0) inner prims-has-eq (c .before .before .call-two .ensures) (c .enum-told2 .given .1)), λ u e. never-is e)
 
 returns-3 : tie.Need-returns-3
 returns-3 c =
     let start = c .before .before .before .before .before .before .before .before .before .before .before .before in
-    (has-eq-is _ _ (one-found (start .pre .0) (start .pre .1) valid (c .before .before .before .before .before .before .before .call-one .ensures) (c .before .before .before .before .before .valid .given .1)) (two-found (start .pre .0) (one-within (start .pre .0 .term-table) (start .pre .1) (start .args .names .now) 6 (c .before .before .before .before .before .before .before .call-one .ensures) (c .before .before .before .before .before .valid .given .1)) prims-has-eq (c .before .before .before .call-two .ensures) (c .before .ty .given .1)), λ u e. is-within e (two-within (start .pre .0 .term-table) (one-within (start .pre .0 .term-table) (start .pre .1) (start .args .names .now) 6 (c .before .before .before .before .before .before .before .call-one .ensures) (c .before .before .before .before .before .valid .given .1)) (start .args .names .now) 21 (c .before .before .before .call-two .ensures) (c .before .ty .given .1) .1))
+    let inner = one-within (start .pre .0 .term-table) (start .pre .1) (start .args .names .now) 6 (c .before .before .before .before .before .before .before .call-one .ensures) (c .before .before .before .before .before .valid .given .1) in
+    (has-eq-is _ _ (one-found (start .pre .0) (start .pre .1) valid (c .before .before .before .before .before .before .before .call-one .ensures) (c .before .before .before .before .before .valid .given .1)) (two-found (start .pre .0) inner prims-has-eq (c .before .before .before .call-two .ensures) (c .before .ty .given .1)), λ u e. is-within e (two-within (start .pre .0 .term-table) inner (start .args .names .now) 21 (c .before .before .before .call-two .ensures) (c .before .ty .given .1) .1))
 
 pub has-eq-spec : {M : Type 1} → statement M
 has-eq-spec = tie.close (tie.spec call-one-requires enum-known-valid enum-told returns call-two-requires enum-known-ty enum-told-2 returns-2 returns-3)

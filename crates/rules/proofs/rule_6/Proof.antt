@@ -37,13 +37,15 @@ returns-2 : tie.Need-returns-2
 unfolding Within
 returns-2 c =
     let start = c .before .before .before .before .before .before .before .before .before .before .before in
-    (rule-6-right _ _ _ _ (op-two-found (start .pre .0) (start .pre .2) eq-word (c .before .before .before .before .before .before .op-two .ensures) (c .before .before .before .before .right .given .1)) (one-no (start .pre .0) (op-within (start .pre .0 .term-table) (start .pre .2) 2 (c .before .before .before .before .before .before .op-two .ensures) (c .before .before .before .before .right .given .1) .1) term-constr-id (c .before .before .call-one .ensures) (c .enum-told2 .given .1)), tt)
+    let right = op-within (start .pre .0 .term-table) (start .pre .2) 2 (c .before .before .before .before .before .before .op-two .ensures) (c .before .before .before .before .right .given .1) .1 in
+    (rule-6-right _ _ _ _ (op-two-found (start .pre .0) (start .pre .2) eq-word (c .before .before .before .before .before .before .op-two .ensures) (c .before .before .before .before .right .given .1)) (one-no (start .pre .0) right term-constr-id (c .before .before .call-one .ensures) (c .enum-told2 .given .1)), tt)
 
 returns-3 : tie.Need-returns-3
 unfolding Within
 returns-3 c =
     let start = c .before .before .before .before .before .before .before .before .before .before .before .before in
-    (rule-6-holds _ _ _ _ (op-two-found (start .pre .0) (start .pre .2) eq-word (c .before .before .before .before .before .before .before .op-two .ensures) (c .before .before .before .before .before .right .given .1)) (one-found (start .pre .0) (op-within (start .pre .0 .term-table) (start .pre .2) 2 (c .before .before .before .before .before .before .before .op-two .ensures) (c .before .before .before .before .before .right .given .1) .1) term-constr-id (c .before .before .before .call-one .ensures) (c .before .argument .given .1)), one-within (start .pre .0 .term-table) (op-within (start .pre .0 .term-table) (start .pre .2) 2 (c .before .before .before .before .before .before .before .op-two .ensures) (c .before .before .before .before .before .right .given .1) .1) (start .args .names .now) 24 (c .before .before .before .call-one .ensures) (c .before .argument .given .1))
+    let right = op-within (start .pre .0 .term-table) (start .pre .2) 2 (c .before .before .before .before .before .before .before .op-two .ensures) (c .before .before .before .before .before .right .given .1) .1 in
+    (rule-6-holds _ _ _ _ (op-two-found (start .pre .0) (start .pre .2) eq-word (c .before .before .before .before .before .before .before .op-two .ensures) (c .before .before .before .before .before .right .given .1)) (one-found (start .pre .0) right term-constr-id (c .before .before .before .call-one .ensures) (c .before .argument .given .1)), one-within (start .pre .0 .term-table) right (start .args .names .now) 24 (c .before .before .before .call-one .ensures) (c .before .argument .given .1))
 
 pub rule-6-spec : {M : Type 1} → statement M
 rule-6-spec = tie.close (tie.spec op-two-requires enum-known-right enum-told returns call-one-requires enum-known-argument enum-told-2 returns-2 returns-3)
