@@ -178,7 +178,8 @@ fn call_two(
     if !is_call(names, rows, t, code) {
         return Arguments::No;
     }
-    if count(rows, used, many, t) != 2 {
+    let size = count(rows, used, many, t);
+    if size != 2 {
         return Arguments::No;
     }
     let first = nth(refs, rows, t, 0);
