@@ -66,20 +66,20 @@ terms-named {refs} {rows} {used} {many} name name′ same r = ap (fold-left add-
 -- ---- one row more
 
 -- words of lists that agree up to their end are the same
-words-same : (l m : List ℕ) (d a e : ℕ) → e - a ≡ d → e ≤ length l → e ≤ length m → ((i : ℕ) → i < e → getD m i 0 ≡ getD l i 0) → words m a e ≡ words l a e
+pub words-same : (l m : List ℕ) (d a e : ℕ) → e - a ≡ d → e ≤ length l → e ≤ length m → ((i : ℕ) → i < e → getD m i 0 ≡ getD l i 0) → words m a e ≡ words l a e
 words-same l m zero a e q x y h = rw (words-nil m a e (omega arith), words-nil l a e (omega arith))
 words-same l m (suc d) a e q x y h =
     words-cons m a e (omega arith) y ∙ ap₂ _∷_ (h a (omega arith)) (words-same l m d (a + 1) e (omega arith) x y h) ∙ sym (words-cons l a e (omega arith) x)
 
 -- a word by its place
-words-at : (l : List ℕ) (a e i : ℕ) → a ≤ i → i < e → getD (words l a e) (i - a) 0 ≡ getD l i 0
+pub words-at : (l : List ℕ) (a e i : ℕ) → a ≤ i → i < e → getD (words l a e) (i - a) 0 ≡ getD l i 0
 words-at l a e i h k =
     let n : i - a < e - a = omega arith in
     let q : a + (i - a) ≡ i = omega arith in
     rw (getD-take (e - a) (drop a l) (i - a) 0 n, getD-drop a l (i - a) 0, q)
 
 -- words with one more at their end
-words-snoc : (l : List ℕ) (a e : ℕ) → a ≤ e → e < length l → words l a (e + 1) ≡ words l a e ++ (getD l e 0 ∷ [])
+pub words-snoc : (l : List ℕ) (a e : ℕ) → a ≤ e → e < length l → words l a (e + 1) ≡ words l a e ++ (getD l e 0 ∷ [])
 words-snoc l a e h k =
     let n : e + 1 - a ≡ suc (e - a) = omega arith in
     let i : a + (e - a) ≡ e = omega arith in

@@ -149,6 +149,7 @@ fn file_list(
 ) -> Filed
     requires { ⌜ Rows (now refs) (now rows) used many named × Stage (now names) (now rows) (now out) mark at 8192 × (a ≤ e) × (e ≤ used) × ((i : ℕ) → a ≤ i → i < e → getD (now refs) i 0 % 4096 < many) ⌝ }
     ensures { λ r. ⌜ Comes (now (names .entry)) (now (rows .entry)) (now (out .entry)) (now (names .exit)) (now (rows .exit)) (now (out .exit)) named mark at (λ name. group-names exclude-names (terms-of name (now (refs .entry)) (now (rows .entry)) used many) (terms-of-words (words (now (refs .entry)) a e)) ∷ []) r ⌝ }
+    ensures one { λ r. ⌜ ((n e : ℕ) → r ≡ Filed.Sets n e → n ≡ 1) ⌝ }
 {
     let Walked::Names(end) = list_names(
         names,
@@ -184,6 +185,7 @@ fn file_one(
 ) -> Filed
     requires { ⌜ Rows (now refs) (now rows) used many named × Stage (now names) (now rows) (now out) mark at 8192 × (t < many) ⌝ }
     ensures { λ r. ⌜ Comes (now (names .entry)) (now (rows .entry)) (now (out .entry)) (now (names .exit)) (now (rows .exit)) (now (out .exit)) named mark at (λ name. free-top-level-names exclude-names (terms-of name (now (refs .entry)) (now (rows .entry)) used many) t ∷ []) r ⌝ }
+    ensures one { λ r. ⌜ ((n e : ℕ) → r ≡ Filed.Sets n e → n ≡ 1) ⌝ }
 {
     let Walked::Names(end) =
         term_names(names, refs, rows, out, named, used, many, t, mark, at, 8192)

@@ -1,0 +1,4 @@
+pub mod Disjuncts
+pub mod Filing
+pub mod Marked
+pub mod Front
