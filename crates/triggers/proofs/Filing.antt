@@ -7,7 +7,8 @@ use lib.ListN.{length, getD, set, length-append}
 use lib.Seq.{ext-getD}
 use Rattle.model.specs.Lists.{sum}
 use Rattle.model.specs.Names.{Name, from-list}
-use Rattle.terms.specs.Rows.{words}
+use Rattle.model.specs.Summaries.{exclude-names, free-top-level-names}
+use Rattle.terms.specs.Rows.{words, terms-of, Rows}
 use Rattle.terms.proofs.Table.{words-nil}
 use Rattle.terms.proofs.Adding.{words-same}
 use Rattle.terms.proofs.Groups.{words-split}
@@ -20,7 +21,7 @@ use Rattle.triggers.specs.declared.Filed.the-variants as filed
 use Rattle.triggers.specs.Entries.{disjuncts-of, disjuncts-of-words, entries, Entries, filed-end, Files, all-sets, no-room, Filled, Closes, last, empty, over, Opened}
 use Rattle.triggers.specs.Inner.{Stage, Within, Put, Comes}
 use Rattle.triggers.proofs.Disjuncts.{sets-append, block-sets, block-entries, empty-sets, empty-entries, no-entries, entries-then, entries-append, entries-one}
-use Rattle.triggers.proofs.Marked.{named-marked, fresh-later}
+use Rattle.triggers.proofs.Marked.{named-marked, terms-marked, fresh-later}
 
 -- ---- one disjunct
 
@@ -119,6 +120,42 @@ closes-one (over a b q) n e z = absurd (full-none z)
 -- a full slice is no answer of one
 pub full-one : {r : Filed} → r ≡ filed.Full → (n e : ℕ) → r ≡ filed.Sets n e → n ≡ 1
 full-one q n e z = absurd (full-none (sym q ∙ z))
+
+module _ {names rows out names₁ rows₁ out₁ : List ℕ} {named mark at : ℕ} {w : Walked} (s : (ℕ → Name) → List Name) (few : named ≤ 2048) (h : Stage names rows out mark at 8192)
+    (g : (name : ℕ → Name) → Named name names named → Gathers name named (s name) at 8192 out₁ w) (p : Put names rows out names₁ rows₁ out₁ mark at 8192 w) where
+  -- an answer without room
+  pub one-over : w ≡ gathered.Full → Comes names rows out names₁ rows₁ out₁ named mark at (λ name. s name ∷ []) filed.Full × ((n e : ℕ) → filed.Full ≡ filed.Sets n e → n ≡ 1)
+  one-over e = (comes-over s (λ name d. rw e at (g name d)) (rw e at p), full-one refl)
+
+  module _ {end : ℕ} (e : w ≡ gathered.Names end) where
+    -- the slices after the names
+    named-put : Put names rows out names₁ rows₁ out₁ mark at 8192 (gathered.Names end)
+    named-put = rw e at p
+
+    -- what ending the disjunct asks
+    pub one-asks : (at ≤ end) × (end ≤ 8192) × (8192 ≤ length out₁) × (at < end → getD out₁ (end - 1) 0 < 2048)
+    unfolding ended
+    one-asks = (named-put .low, named-put .high, rw (named-put .out-same .same-length) (h .high), named-put .small end refl)
+
+    -- the disjunct that was ended
+    pub one-closed : {r : Filed} {out₂ : List ℕ} → Closes out₁ out₂ at end r → Comes names rows out names₁ rows₁ out₂ named mark at (λ name. s name ∷ []) r × ((n k : ℕ) → r ≡ filed.Sets n k → n ≡ 1)
+    one-closed q = (comes-one s few (h .high) (λ name d. rw e at (g name d)) named-put q, closes-one q)
+
+-- what the public functions ask is what the private ones do
+pub opened-stage : {names rows out : List ℕ} {mark at : ℕ} → Opened names rows out mark at → Stage names rows out mark at 8192
+opened-stage h = record { name-room = h .name-room; fresh = h .fresh; low = h .low; high = h .high; few-marks = omega (arith, h .few-marks) }
+
+-- the last entry is marked
+pub close-last : {out : List ℕ} {at end w : ℕ} → at < end → w ≡ getD out (end - 1) 0 → Closes out (set out (end - 1) (w + 4096)) at end (filed.Sets 1 end)
+close-last h e = rw e (last h refl)
+
+-- an empty disjunct takes an entry
+pub close-empty : {out : List ℕ} {at end : ℕ} → at ≤ end → end ≤ at → at < 8192 → Closes out (set out at 6144) at end (filed.Sets 1 (at + 1))
+close-empty h k l = empty (omega arith) l refl
+
+-- or has no room
+pub close-over : {out : List ℕ} {at end : ℕ} → at ≤ end → end ≤ at → 8192 ≤ at → Closes out out at end filed.Full
+close-over h k l = over (omega arith) l refl
 
 -- ---- one after another
 
@@ -223,3 +260,60 @@ comes-none {names} {rows} {out} {named} {mark} {at} h f = record {
   high = h;
   few = λ n e z. let w = answer-end z in let v = answer-count z in omega arith;
 }
+
+-- the slices after filing are ready for more
+pub stage-then : {names rows out names₁ rows₁ out₁ : List ℕ} {named mark at n m : ℕ} {s : (ℕ → Name) → List (List Name)} → Stage names rows out mark at 8192
+    → Comes names rows out names₁ rows₁ out₁ named mark at s (filed.Sets n m) → Stage names₁ rows₁ out₁ (mark + (m - at)) m 8192
+unfolding filed-end
+stage-then {n = n} {m = m} h c = record {
+  name-room = rw (c .filled .names-same .same-length) (h .name-room);
+  fresh = c .filled .fresh n m refl;
+  low = c .high;
+  high = rw (c .filled .out-same .same-length) (h .high);
+  few-marks = omega (arith, h .few-marks, h .low, c .low, c .high);
+}
+
+-- where the entries so far end
+pub comes-ends : {names rows out names₁ rows₁ out₁ : List ℕ} {named mark at n m : ℕ} {s : (ℕ → Name) → List (List Name)}
+    → Comes names rows out names₁ rows₁ out₁ named mark at s (filed.Sets n m) → (at ≤ m) × (m ≤ 8192) × (n + at ≤ m)
+unfolding filed-end
+comes-ends {n = n} {m = m} c = (c .low, c .high, c .few n m refl)
+
+-- an answer after so many, without room
+pub after-full : (n : ℕ) {r : Filed} → r ≡ filed.Full → after n r ≡ filed.Full
+unfolding after
+after-full n e = rw e
+
+-- an answer after so many
+pub after-sets : (n k e j : ℕ) {r : Filed} → r ≡ filed.Sets k e → n + k ≡ j → after n r ≡ filed.Sets j e
+unfolding after
+after-sets n k e j p q = rw (p, q)
+
+-- filing after filing, said in another way
+pub comes-next : {names rows out names₁ rows₁ out₁ names₂ rows₂ out₂ : List ℕ} {named mark at n m : ℕ} {r : Filed} (s t u : (ℕ → Name) → List (List Name)) → named ≤ 2048 → 8192 ≤ length out
+    → ((name : ℕ → Name) → s name ++ t name ≡ u name)
+    → Comes names rows out names₁ rows₁ out₁ named mark at s (filed.Sets n m) → Comes names₁ rows₁ out₁ names₂ rows₂ out₂ named (mark + (m - at)) m t r
+    → Comes names rows out names₂ rows₂ out₂ named mark at u (after n r)
+comes-next s t u few long q c d = comes-as q (comes-then t few long c d)
+
+-- ---- two disjuncts
+
+-- the first has no room
+pub two-first : {names rows out names₁ rows₁ out₁ : List ℕ} {named mark at : ℕ} {r : Filed} (s t : (ℕ → Name) → List Name) → r ≡ filed.Full
+    → Comes names rows out names₁ rows₁ out₁ named mark at (λ name. s name ∷ []) r → Comes names rows out names₁ rows₁ out₁ named mark at (λ name. s name ∷ t name ∷ []) filed.Full
+two-first s t e c = comes-more (λ name. omega (arith, entries-append (s name ∷ []) (t name ∷ []))) (comes-is e c)
+
+module _ {names rows out names₁ rows₁ out₁ names₂ rows₂ out₂ refs : List ℕ} {used many named mark at n m t u : ℕ} {r : Filed} (h : Rows refs rows used many named) (long : 8192 ≤ length out)
+    (c : Comes names rows out names₁ rows₁ out₁ named mark at (λ name. free-top-level-names exclude-names (terms-of name refs rows used many) t ∷ []) (filed.Sets n m))
+    (d : Comes names₁ rows₁ out₁ names₂ rows₂ out₂ named (mark + (m - at)) m (λ name. free-top-level-names exclude-names (terms-of name refs rows₁ used many) u ∷ []) r) where
+  -- both, with the answer of the second
+  two-then : Comes names rows out names₂ rows₂ out₂ named mark at (λ name. free-top-level-names exclude-names (terms-of name refs rows used many) t ∷ free-top-level-names exclude-names (terms-of name refs rows used many) u ∷ []) (after n r)
+  two-then = comes-next _ _ _ (h .few-names) long (λ name. ap (λ ts. free-top-level-names exclude-names (terms-of name refs rows used many) t ∷ free-top-level-names exclude-names ts u ∷ []) (terms-marked name (c .filled .rows-same) h)) c d
+
+  -- the second has no room
+  pub two-full : r ≡ filed.Full → Comes names rows out names₂ rows₂ out₂ named mark at (λ name. free-top-level-names exclude-names (terms-of name refs rows used many) t ∷ free-top-level-names exclude-names (terms-of name refs rows used many) u ∷ []) filed.Full
+  two-full e = comes-is (after-full n e) two-then
+
+  -- both are filed
+  pub two-both : {k e : ℕ} → r ≡ filed.Sets k e → n ≡ 1 → k ≡ 1 → Comes names rows out names₂ rows₂ out₂ named mark at (λ name. free-top-level-names exclude-names (terms-of name refs rows used many) t ∷ free-top-level-names exclude-names (terms-of name refs rows used many) u ∷ []) (filed.Sets 2 e)
+  two-both {k} {e} q x y = comes-is (after-sets n k e 2 q (omega arith)) two-then

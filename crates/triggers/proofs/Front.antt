@@ -2,15 +2,18 @@
 use Prim.Native.Nat.{ℕ, _+_, _-_, _≤_, _<_}
 use native.Mathlib.Omega.{arith}
 use mathlib.Core.Path.{_≡_, refl, sym, ap, _∙_}
+use mathlib.Core.Bool.{Bool, true, false}
 use mathlib.Core.Logic.{_⊎_, inl, inr, ⊎-elim}
 use mathlib.Core.List.{List, _++_, map}
 use lib.ListN.{length, take, drop, getD, List·getD-append}
 use lib.Seq.{length-take-le, length-front, getD-take, getD-drop, getD-append-add, ext-getD}
+use lib.Dec.{ltb}
+use borrow.Author.Tests.{ltb-true, ltb-false}
 use Rattle.model.specs.Names.{Name, from-list}
 use Rattle.terms.specs.Rows.{words}
 use Rattle.terms.proofs.Laws.{below}
 use Rattle.terms.proofs.Adding.{words-same}
-use Rattle.gather.specs.Sets.{Same-but, Fresh, Gathers, all-names, no-room, Gathered, row-mark, name-mark, ended}
+use Rattle.gather.specs.Sets.{Same-but, Fresh, Named, Gathers, all-names, no-room, Gathered, row-mark, name-mark, ended}
 use Rattle.gather.specs.declared.Walked.{Walked}
 use Rattle.gather.specs.declared.Walked.the-variants as gathered
 use Rattle.triggers.specs.Inner.{Stage, Within, Put}
@@ -119,3 +122,55 @@ pub put-nothing : {names rows out names′ rows′ out′ : List ℕ} {mark at :
 put-nothing {out} {out′} {at} {r} p =
     let hi = p .high in
     ext-getD 0 out′ out (p .out-same .same-length) (λ i l. p .out-same .same-words i (λ a b. omega arith))
+
+-- ---- the functions' answers
+
+-- the whole is as long as it was
+pub front-room : (out : List ℕ) {names rows names′ rows′ part : List ℕ} {mark at room : ℕ} {r : Walked} → room ≤ length out → Gathered names rows (take room out) names′ rows′ part mark at room r → room ≤ length (part ++ drop room out)
+front-room out {part = part} {room = room} h g = rw (length-front out part room (g .out-same .same-length)) h
+
+-- the two answers of a test differ
+differ : false ≡ true → ⊥
+differ e = let z : _≡_ {A = ℕ} 0 1 = cc in omega arith
+
+-- an end before the start is not in its place
+pub within-low : {out : List ℕ} {at end room : ℕ} → end < at → (false ≡ true → Within out at end room) × (false ≡ false → Within out at end room → ⊥)
+within-low h = (λ e. absurd (differ e), λ e w. let l = w .low in omega arith)
+
+-- an end past the room is not
+pub within-high : {out : List ℕ} {at end room : ℕ} → room < end → (false ≡ true → Within out at end room) × (false ≡ false → Within out at end room → ⊥)
+within-high h = (λ e. absurd (differ e), λ e w. let l = w .high in omega arith)
+
+-- no name is in its place
+pub within-none : {out : List ℕ} {at end room : ℕ} → at ≡ end → end ≤ room → (true ≡ true → Within out at end room) × (true ≡ false → Within out at end room → ⊥)
+within-none h k = (λ e. record { low = omega arith; high = k; small = λ l. omega arith }, λ e. absurd (differ (sym e)))
+
+-- names are where the last of them has a number of a name
+pub within-last : {out : List ℕ} {at end room w : ℕ} → at ≤ end → end ≤ room → (at ≡ end → ⊥) → w ≡ getD out (end - 1) 0
+    → (ltb w 2048 ≡ true → Within out at end room) × (ltb w 2048 ≡ false → Within out at end room → ⊥)
+within-last {w = w} h k n q =
+    (λ e. record { low = h; high = k; small = λ l. omega (arith, ltb-true w 2048 e) }, λ e x. let s = x .small (omega arith) in omega (arith, ltb-false w 2048 e))
+
+module _ {names rows out names′ rows′ part : List ℕ} {named mark at room : ℕ} {r : Walked} {s : (ℕ → Name) → List Name} (h : Stage names rows out mark at room) (few : named ≤ 2048)
+    (g : (name : ℕ → Name) → Named name names named → Gathers name named (s name) at room part r) (p : Gathered names rows (take room out) names′ rows′ part mark at room r) where
+  -- there was no room
+  pub front-full : r ≡ gathered.Full → ((name : ℕ → Name) → Named name names named → Gathers name named (s name) at room (part ++ drop room out) gathered.Full) × Put names rows out names′ rows′ (part ++ drop room out) mark at room gathered.Full
+  unfolding ended
+  front-full e =
+      let q : Gathered names rows (take room out) names′ rows′ part mark at room gathered.Full = rw e at p in
+      (λ name d. gathers-front out part at room (room - at) (h .high) (q .out-same) (rw e at (g name d)), put-full h q)
+
+  module _ {end : ℕ} (e : r ≡ gathered.Names end) where
+    -- the names are not in their place
+    pub front-over : (Within (part ++ drop room out) at end room → ⊥) → ((name : ℕ → Name) → Named name names named → Gathers name named (s name) at room (part ++ drop room out) gathered.Full) × Put names rows out names′ rows′ (part ++ drop room out) mark at room gathered.Full
+    unfolding ended
+    front-over n =
+        let q : Gathered names rows (take room out) names′ rows′ part mark at room (gathered.Names end) = rw e at p in
+        (λ name d. absurd (n (gathers-within out part at room (end - at) (h .high) (q .out-same) few (rw e at (g name d)))), put-over h q)
+
+    -- they are
+    pub front-names : Within (part ++ drop room out) at end room → ((name : ℕ → Name) → Named name names named → Gathers name named (s name) at room (part ++ drop room out) (gathered.Names end)) × Put names rows out names′ rows′ (part ++ drop room out) mark at room (gathered.Names end)
+    unfolding ended
+    front-names w =
+        let q : Gathered names rows (take room out) names′ rows′ part mark at room (gathered.Names end) = rw e at p in
+        (λ name d. gathers-front out part at room (end - at) (h .high) (q .out-same) (rw e at (g name d)), put-names h q w)
