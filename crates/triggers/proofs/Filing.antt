@@ -303,7 +303,7 @@ pub two-first : {names rows out names₁ rows₁ out₁ : List ℕ} {named mark 
     → Comes names rows out names₁ rows₁ out₁ named mark at (λ name. s name ∷ []) r → Comes names rows out names₁ rows₁ out₁ named mark at (λ name. s name ∷ t name ∷ []) filed.Full
 two-first s t e c = comes-more (λ name. omega (arith, entries-append (s name ∷ []) (t name ∷ []))) (comes-is e c)
 
-module _ {names rows out names₁ rows₁ out₁ names₂ rows₂ out₂ refs : List ℕ} {used many named mark at n m t u : ℕ} {r : Filed} (h : Rows refs rows used many named) (long : 8192 ≤ length out)
+module _ {names rows out names₁ rows₁ out₁ names₂ rows₂ out₂ refs : List ℕ} {used many named mark at n m : ℕ} {r : Filed} (t u : ℕ) (h : Rows refs rows used many named) (long : 8192 ≤ length out)
     (c : Comes names rows out names₁ rows₁ out₁ named mark at (λ name. free-top-level-names exclude-names (terms-of name refs rows used many) t ∷ []) (filed.Sets n m))
     (d : Comes names₁ rows₁ out₁ names₂ rows₂ out₂ named (mark + (m - at)) m (λ name. free-top-level-names exclude-names (terms-of name refs rows₁ used many) u ∷ []) r) where
   -- both, with the answer of the second
@@ -317,3 +317,8 @@ module _ {names rows out names₁ rows₁ out₁ names₂ rows₂ out₂ refs : 
   -- both are filed
   pub two-both : {k e : ℕ} → r ≡ filed.Sets k e → n ≡ 1 → k ≡ 1 → Comes names rows out names₂ rows₂ out₂ named mark at (λ name. free-top-level-names exclude-names (terms-of name refs rows used many) t ∷ free-top-level-names exclude-names (terms-of name refs rows used many) u ∷ []) (filed.Sets 2 e)
   two-both {k} {e} q x y = comes-is (after-sets n k e 2 q (omega arith)) two-then
+
+-- what the public functions say of it
+pub posts : {names rows out names₁ rows₁ out₁ : List ℕ} {named mark at : ℕ} {s : (ℕ → Name) → List (List Name)} {r : Filed} → Comes names rows out names₁ rows₁ out₁ named mark at s r
+    → ((name : ℕ → Name) → Named name names named → Files name named (s name) at out₁ r) × Filled names rows out names₁ rows₁ out₁ mark at r
+posts c = (c .files, c .filled)

@@ -94,6 +94,17 @@ pub record All (refs rows : List ℕ) (used many t groups u e : ℕ) : Type 0 wh
 abbrev pub patterns : List ℕ → List ℕ → ℕ → ℕ → ℕ → List ℕ
 patterns refs rows used many u = drop 1 (words refs (row-start rows u) (row-end rows used many u))
 
+module _ (name : ℕ → Name) (refs rows : List ℕ) (used many u : ℕ) where
+  -- the groups of a row that is an `all`
+  row-all : row-kind rows u ≡ 4 → Option·getD (groups-of (node-of name refs rows used many u)) [] ≡ groups-of-words (patterns refs rows used many u) (row-extra rows u)
+  unfolding node-of
+  row-all k = groups-four (row-kind rows u) (op-of-code (row-op rows u)) (name (row-head rows u)) (words refs (row-start rows u) (row-end rows used many u)) (row-extra rows u) k
+
+  -- and of one that is not
+  row-other : (row-kind rows u ≡ 4 → ⊥) → Option·getD (groups-of (node-of name refs rows used many u)) [] ≡ []
+  unfolding node-of
+  row-other k = groups-none (row-kind rows u) (op-of-code (row-op rows u)) (name (row-head rows u)) (words refs (row-start rows u) (row-end rows used many u)) (row-extra rows u) k
+
 module _ {refs rows : List ℕ} {used many named t groups : ℕ} (r : Rows refs rows used many named) (l : t < many) (counts : groups ≡ groups-at rows t) where
   -- a term with groups is an `all`
   pub all-there : (groups ≡ 0 → ⊥) → {u e : ℕ} → u ≡ bare-of rows t → e ≡ row-end rows used many u → All refs rows used many t groups u e
@@ -112,18 +123,21 @@ module _ {refs rows : List ℕ} {used many named t groups : ℕ} (r : Rows refs 
 
   -- a term without groups has no trigger
   pub triggers-none : groups ≡ 0 → (name : ℕ → Name) → triggers-of-term exclude-names (terms-of name refs rows used many) t ≡ []
-  unfolding triggers-of-term node-of groups-of-words
-  triggers-none z name = rw (bare-law name refs rows used many r t l) (ap (map (group-names exclude-names (terms-of name refs rows used many))) (⊎-elim
-      (λ k. groups-four (row-kind rows (bare-of rows t)) _ _ _ _ k ∙ ap (groups-of-words (patterns refs rows used many (bare-of rows t))) (sym (groups-all rows t (bare-of rows t) refl k) ∙ sym counts ∙ z))
-      (λ k. groups-none (row-kind rows (bare-of rows t)) _ _ _ _ k)
-      (equal (row-kind rows (bare-of rows t)) 4)))
+  unfolding triggers-of-term groups-of-words
+  triggers-none z name =
+      ap (λ n. map (group-names exclude-names (terms-of name refs rows used many)) (Option·getD (groups-of n) [])) (bare-law name refs rows used many r t l)
+      ∙ ap (map (group-names exclude-names (terms-of name refs rows used many))) (⊎-elim
+      (λ k. row-all name refs rows used many (bare-of rows t) k ∙ ap (groups-of-words (patterns refs rows used many (bare-of rows t))) (sym (groups-all rows t (bare-of rows t) refl k) ∙ sym counts ∙ z))
+      (λ k. row-other name refs rows used many (bare-of rows t) k)
+      (equal (row-kind rows (bare-of rows t)) 4))
 
 -- the triggers of a term with groups
 pub triggers-all : {refs rows : List ℕ} {used many named t groups u e : ℕ} → Rows refs rows used many named → t < many → All refs rows used many t groups u e → (name : ℕ → Name)
     → map (group-names exclude-names (terms-of name refs rows used many)) (groups-of-words (patterns refs rows used many u) groups) ≡ triggers-of-term exclude-names (terms-of name refs rows used many) t
-unfolding triggers-of-term node-of
-triggers-all {refs} {rows} {used} {many} {t} {groups} {u} r l a name =
-    rw (bare-law name refs rows used many r t l, ← (a .bare), groups-four (row-kind rows u) (op-of-code (row-op rows u)) (name (row-head rows u)) (words refs (row-start rows u) (row-end rows used many u)) (row-extra rows u) (a .is-all), a .counted)
+unfolding triggers-of-term
+triggers-all {refs} {rows} {used} {many} {t} {groups} {u} r l a name = sym
+    (ap (λ n. map (group-names exclude-names (terms-of name refs rows used many)) (Option·getD (groups-of n) [])) (bare-law name refs rows used many r t l ∙ ap (node-of name refs rows used many) (sym (a .bare)))
+    ∙ ap (map (group-names exclude-names (terms-of name refs rows used many))) (row-all name refs rows used many u (a .is-all) ∙ ap (groups-of-words (patterns refs rows used many u)) (sym (a .counted))))
 
 -- ---- the groups so far
 
