@@ -55,6 +55,10 @@ module _ {refs rows : List ℕ} {used many named t groups u e : ℕ} (r : Rows r
   pub groups-first : {a w : ℕ} → w ≡ row-start rows u → a ≡ w + 1 → Before refs (row-start rows u + 1) (row-end rows used many u) 0 a
   groups-first p q = rw (q, p) (group-first r (all .lower) (all .quantifier))
 
+  -- after the last group the references end
+  groups-last : {g p : ℕ} → g ≡ groups → Before refs (row-start rows u + 1) (row-end rows used many u) g p → p ≡ e
+  groups-last q b = group-last r (all .lower) (all .quantifier) (rw (q ∙ all .counted) at b) ∙ sym (all .ends)
+
   module _ {g a b : ℕ} (before : Before refs (row-start rows u + 1) (row-end rows used many u) g a) (run : b ≡ a + group-run g (words refs a e)) where
     -- the end of the group's references
     run-is : b ≡ a + group-run g (words refs a (row-end rows used many u))
@@ -159,10 +163,10 @@ module _ {refs rows names out : List ℕ} {used many named mark at a e : ℕ} (r
     list-next {k} {m} q = comes-is (after-sets count k m (count + k) q refl) list-then
 
   -- the triggers up to the end
-  pub list-done : {names₁ rows₁ out₁ : List ℕ} {i : ℕ} {f : Filed} → i ≤ e → e ≤ i
+  pub list-done : {names₁ rows₁ out₁ : List ℕ} {i : ℕ} {f : Filed} → a ≤ i → i ≤ e → e ≤ i
       → Comes names rows out names₁ rows₁ out₁ named mark at (λ name. collect (triggers-of-term exclude-names (terms-of name refs rows used many)) (terms-of-words (words refs a i))) f
       → Comes names rows out names₁ rows₁ out₁ named mark at (λ name. collect (triggers-of-term exclude-names (terms-of name refs rows used many)) (terms-of-words (words refs a e))) f
-  list-done {i = i} x y c =
+  list-done {i = i} k x y c =
       let q : i ≡ e = omega arith in
       rw q at c
 
@@ -219,12 +223,10 @@ module _ {refs rows : List ℕ} {used many named t groups u e : ℕ} (r : Rows r
     unfolding groups-of-words
     single-trigger name =
         let b = groups-first r all starts refl in
-        let n : Before refs (row-start rows u + 1) (row-end rows used many u) 1 (w + 1 + group-run 0 (words refs (w + 1) e)) = groups-next r all b refl in
-        let extra : 1 ≡ row-extra rows u = sym one ∙ all .counted in
-        let last : w + 1 + group-run 0 (words refs (w + 1) e) ≡ row-end rows used many u = group-last r (all .lower) (all .quantifier) (rw extra at n) in
+        let last : w + 1 + group-run 0 (words refs (w + 1) e) ≡ e = groups-last r all (sym one) (groups-next r all b refl) in
         sym (triggers-all r l all name)
         ∙ ap (λ g. map (group-names exclude-names (terms-of name refs rows used many)) (groups-of-words (patterns refs rows used many u) g)) one
-        ∙ ap (λ ts. group-names exclude-names (terms-of name refs rows used many) ts ∷ []) (sym (group-terms r all b (all .ends ∙ sym last)))
+        ∙ ap (λ ts. group-names exclude-names (terms-of name refs rows used many) ts ∷ []) (sym (group-terms r all b (sym last)))
 
     -- a gathered set that has no name is empty, and one that has no room is not
     pub single-empty : {name : ℕ → Name} {at n : ℕ} {out : List ℕ} {f : Walked} → f ≡ gathered.Names n → Gathers name named (group-names exclude-names (terms-of name refs rows used many) (terms-of-words (words refs (w + 1) e))) at at out f
