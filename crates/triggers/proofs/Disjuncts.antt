@@ -1,12 +1,11 @@
 -- Entries on plain lists: the disjuncts of words one after the other, and how many entries disjuncts take.
-use Prim.Native.Nat.{ℕ, zero, suc, _+_, _-_, _%_, max, _≤_, _<_}
+use Prim.Native.Nat.{ℕ, suc, _+_, _-_, _%_, max, _≤_, _<_}
 use native.Mathlib.Omega.{arith}
 use mathlib.Core.Path.{_≡_, refl, sym, ap, ap₂, _∙_}
 use mathlib.Core.Logic.{_⊎_, inl, inr, ⊎-elim}
 use mathlib.Core.List.{List, [], _∷_, _++_, map, map-append, append-nil, List·Memᴰ, List·Memᴰ·head, List·Memᴰ·tail, List·Memᴰ·append-cases, List·Memᴰ·not-nil}
 use lib.ListN.{length, getD, set, length-append, length-set}
 use lib.Seq.{getD-append-add, getD-set-same, getD-set-other}
-use lib.Dec.{ltb}
 use borrow.Author.Tests.{lt-ltb, le-ltb}
 use Rattle.model.specs.Lists.{sum}
 use Rattle.model.specs.Names.{Name, from-list}

@@ -1,10 +1,9 @@
 -- Filing: one disjunct after another, with their bounds.
-use Prim.Native.Nat.{ℕ, _+_, _-_, _%_, max, _≤_, _<_}
+use Prim.Native.Nat.{ℕ, _+_, _-_, _≤_, _<_}
 use native.Mathlib.Omega.{arith}
 use mathlib.Core.Path.{_≡_, refl, sym, ap, ap₂, _∙_}
 use mathlib.Core.List.{List, [], _∷_, _++_, map}
 use lib.ListN.{length, getD, set, length-append}
-use lib.Seq.{ext-getD}
 use Rattle.model.specs.Lists.{sum}
 use Rattle.model.specs.Names.{Name, from-list}
 use Rattle.model.specs.Summaries.{exclude-names, free-top-level-names}
@@ -18,8 +17,8 @@ use Rattle.gather.specs.declared.Walked.the-variants as gathered
 use Rattle.gather.proofs.Steps.{same-self, same-then, same-wider, same-set}
 use Rattle.triggers.specs.declared.Filed.{Filed}
 use Rattle.triggers.specs.declared.Filed.the-variants as filed
-use Rattle.triggers.specs.Entries.{disjuncts-of, disjuncts-of-words, entries, Entries, filed-end, Files, all-sets, no-room, Filled, Closes, last, empty, over, Opened}
-use Rattle.triggers.specs.Inner.{Stage, Within, Put, Comes}
+use Rattle.triggers.specs.Entries.{disjuncts-of, disjuncts-of-words, entries, filed-end, Files, all-sets, no-room, Filled, Closes, last, empty, over, Opened}
+use Rattle.triggers.specs.Inner.{Stage, Put, Comes}
 use Rattle.triggers.proofs.Disjuncts.{sets-append, block-sets, block-entries, empty-sets, empty-entries, no-entries, entries-then, entries-append, entries-one}
 use Rattle.triggers.proofs.Marked.{named-marked, terms-marked, fresh-later}
 
@@ -225,6 +224,7 @@ module _ {names rows out names₁ rows₁ out₁ : List ℕ} {named mark at : �
         high = rw q (d .high);
         few = after-few at n m r (c .few n m refl) (d .few);
       }
+
   -- the same disjuncts, said in another way
   pub comes-as : {t : (ℕ → Name) → List (List Name)} {r : Filed} → ((name : ℕ → Name) → s name ≡ t name) → Comes names rows out names₁ rows₁ out₁ named mark at s r → Comes names rows out names₁ rows₁ out₁ named mark at t r
   comes-as q c = record { files = λ name d. rw (q name) at (c .files name d); filled = c .filled; low = c .low; high = c .high; few = c .few }

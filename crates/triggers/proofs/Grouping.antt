@@ -2,18 +2,18 @@
 use Prim.Native.Nat.{ℕ, zero, suc, _+_, _-_, _%_, _≤_, _<_}
 use native.Mathlib.Omega.{arith}
 use mathlib.Core.Path.{_≡_, refl, sym, ap, ap₂, _∙_}
-use mathlib.Core.Bool.{Bool, true, false}
+use mathlib.Core.Bool.{true, false}
 use mathlib.Core.List.{List, [], _∷_, _++_, map, map-append, append-nil}
-use lib.ListN.{length, drop, getD, length-append}
+use lib.ListN.{length, getD, length-append}
 use Rattle.model.specs.Lists.{collect, is-nil}
 use Rattle.model.specs.Names.{Name}
 use Rattle.model.specs.Summaries.{exclude-names, group-names, triggers-of-term, is-empty}
 use Rattle.model.proofs.ListLaws.{collect-append}
-use Rattle.terms.specs.Rows.{row-kind, row-start, row-extra, row-end, words, terms-of-words, group-of-words, groups-of-words, group-run, terms-of, bare-of, groups-at, Rows}
+use Rattle.terms.specs.Rows.{row-start, row-end, words, terms-of-words, group-of-words, groups-of-words, group-run, terms-of, bare-of, groups-at, Rows}
 use Rattle.terms.proofs.Table.{words-nil}
 use Rattle.terms.proofs.Adding.{words-snoc}
 use Rattle.terms.proofs.Groups.{Before, group-first, group-next, group-place, group-last, words-split}
-use Rattle.gather.specs.Sets.{Same-but, Fresh, Named, Gathers, all-names, no-room}
+use Rattle.gather.specs.Sets.{Same-but, Fresh, Gathers, all-names, no-room}
 use Rattle.gather.specs.declared.Walked.{Walked}
 use Rattle.gather.specs.declared.Walked.the-variants as gathered
 use Rattle.gather.proofs.Steps.{same-self}

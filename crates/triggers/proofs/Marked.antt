@@ -1,25 +1,23 @@
 -- A change of marks leaves the terms of a table; the triggers of a term by its row.
-use Prim.Native.Nat.{ℕ, zero, suc, _+_, _-_, _*_, _/_, _%_, _≤_, _<_}
+use Prim.Native.Nat.{ℕ, zero, suc, _+_, _%_, _≤_, _<_}
 use native.Mathlib.Omega.{arith}
 use native.Mathlib.Numerals.{add-one}
 use mathlib.Core.Path.{_≡_, refl, sym, ap, ap₂, _∙_}
-use mathlib.Core.Logic.{_⊎_, inl, inr, ⊎-elim}
+use mathlib.Core.Logic.{_⊎_, ⊎-elim}
 use mathlib.Core.List.{List, [], _∷_, _++_, map, map-append}
-use mathlib.Core.Option.{Option, none, some, Option·getD}
-use lib.ListN.{length, drop, getD}
-use lib.Dec.{T, eqb}
-use Rattle.model.specs.Lists.{fold-left, collect}
+use mathlib.Core.Option.{Option·getD}
+use lib.ListN.{drop, getD}
+use lib.Dec.{T}
+use Rattle.model.specs.Lists.{fold-left}
 use Rattle.model.specs.Names.{Name}
-use Rattle.model.specs.Terms.{Node, Term, term, add-term}
-use Rattle.model.specs.Summaries.{exclude-names, groups-of, group-names, triggers-of-term, is-empty}
+use Rattle.model.specs.Terms.{add-term}
+use Rattle.model.specs.Summaries.{exclude-names, groups-of, group-names, triggers-of-term}
 use Rattle.model.specs.declared.Op.{Op}
-use Rattle.model.proofs.ListLaws.{collect-append}
-use Rattle.terms.specs.Rows.{row-kind, row-op, row-head, row-start, row-extra, row-end, words, terms-of-words, group-of-words, groups-of-words, op-of-code, make-node, node-of, nodes-below, terms-of, has-body, has-groups, bare-of, groups-at, Rows}
+use Rattle.terms.specs.Rows.{row-kind, row-op, row-head, row-start, row-extra, row-end, words, group-of-words, groups-of-words, op-of-code, make-node, node-of, nodes-below, terms-of, has-groups, bare-of, groups-at, Rows}
 use Rattle.terms.proofs.Laws.{equal, below, bare-label, bare-own, groups-all, groups-other}
-use Rattle.terms.proofs.Table.{kind-small, bare-law}
-use Rattle.terms.proofs.Groups.{Before, group-place, words-split}
+use Rattle.terms.proofs.Table.{bare-law}
 use Rattle.gather.specs.Sets.{Named, Fresh, Same-but}
-use Rattle.gather.proofs.Walking.{word-same, kind-same, start-same, extra-same, end-same, bare-same}
+use Rattle.gather.proofs.Walking.{word-same, start-same, extra-same, end-same}
 use Rattle.triggers.specs.Entries.{entries}
 use Rattle.triggers.proofs.Disjuncts.{entries-append}
 

@@ -187,9 +187,19 @@ fn file_one(
     ensures { λ r. ⌜ Comes (now (names .entry)) (now (rows .entry)) (now (out .entry)) (now (names .exit)) (now (rows .exit)) (now (out .exit)) named mark at (λ name. free-top-level-names exclude-names (terms-of name (now (refs .entry)) (now (rows .entry)) used many) t ∷ []) r ⌝ }
     ensures one { λ r. ⌜ ((n e : ℕ) → r ≡ Filed.Sets n e → n ≡ 1) ⌝ }
 {
-    let Walked::Names(end) =
-        term_names(names, refs, rows, out, named, used, many, t, mark, at, 8192)
-    else {
+    let Walked::Names(end) = term_names(
+        names,
+        refs,
+        rows,
+        out,
+        named,
+        used,
+        many,
+        t,
+        mark,
+        at,
+        8192,
+    ) else {
         return Filed::Full;
     };
     close(out, at, end)

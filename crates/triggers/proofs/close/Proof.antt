@@ -1,5 +1,4 @@
 -- `triggers::close` meets its contract.
-use Prim.Native.Nat.{ℕ, _+_, _-_, _≤_, _<_}
 use native.Mathlib.Omega.{arith}
 use borrow.Author.Needs.{needs}
 use Rattle.triggers.proofs.Filing.{close-last, close-empty, close-over}

@@ -1,5 +1,5 @@
 -- `triggers::file_groups` meets its contract. The loop's invariant: the groups before `g` are filed, and their references end at `a`.
-use Prim.Native.Nat.{ℕ, _+_, _-_, _≤_, _<_}
+use Prim.Native.Nat.{_+_, _-_, _≤_}
 use native.Mathlib.Omega.{arith}
 use mathlib.Core.Path.{refl}
 use mathlib.Core.List.{map}

@@ -1,6 +1,4 @@
 -- `triggers::file_list` meets its contract: names that were gathered are ended.
-use Prim.Native.Nat.{ℕ, _+_, _-_, _≤_, _<_}
-use native.Mathlib.Omega.{arith}
 use Rattle.triggers.proofs.Filing.{one-over, one-asks, one-closed}
 use Rattle.triggers.proofs.file_list.Statement.{statement}
 use Rattle.triggers.proofs.file_list.Tie as tie

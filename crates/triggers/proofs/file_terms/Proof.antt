@@ -1,5 +1,4 @@
 -- `triggers::file_terms` meets its contract: one disjunct after another.
-use Prim.Native.Nat.{ℕ, _+_, _-_, _≤_, _<_}
 use native.Mathlib.Omega.{arith}
 use Rattle.gather.proofs.Walking.{rows-marked}
 use Rattle.triggers.proofs.Filing.{opened-stage, stage-then, comes-is, comes-ends, two-first, two-full, two-both, posts}

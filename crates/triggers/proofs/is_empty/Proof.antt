@@ -1,5 +1,4 @@
 -- `triggers::is_empty` meets its contract: a set that is gathered without room is empty.
-use Prim.Native.Nat.{ℕ, _+_, _-_, _%_, _≤_, _<_}
 use native.Mathlib.Omega.{arith}
 use mathlib.Core.Path.{refl, ap}
 use lib.ListN.{length}

@@ -1,5 +1,5 @@
 -- `triggers::triggers_of_list` meets its contract. The loop's invariant: the triggers of the terms before `i` are filed.
-use Prim.Native.Nat.{ℕ, _+_, _-_, _%_, _≤_, _<_}
+use Prim.Native.Nat.{_-_, _≤_}
 use native.Mathlib.Omega.{arith}
 use mathlib.Core.Path.{refl}
 use Rattle.model.specs.Lists.{collect}

@@ -1,6 +1,4 @@
 -- `triggers::triggers_of_term` meets its contract.
-use Prim.Native.Nat.{ℕ, _+_, _-_, _≤_, _<_}
-use native.Mathlib.Omega.{arith}
 use Rattle.triggers.proofs.Filing.{opened-stage}
 use Rattle.triggers.proofs.triggers_of_term.Statement.{statement}
 use Rattle.triggers.proofs.triggers_of_term.Tie as tie

@@ -1,5 +1,4 @@
 -- `triggers::within` meets its contract: each way out is a law of Front.antt.
-use Prim.Native.Nat.{ℕ, _+_, _-_, _≤_, _<_}
 use native.Mathlib.Omega.{arith}
 use Rattle.triggers.proofs.Front.{within-low, within-high, within-none, within-last}
 use Rattle.triggers.proofs.within.Statement.{statement}
