@@ -35,10 +35,8 @@ pub bare-small : {refs rows : List ℕ} {used many named u : ℕ} → Rows refs 
 bare-small r t l e = (r .row-room, omega (arith, bare-below r t l), r .few-rows)
 
 -- where the references of a row start is within them
-pub start-small : {refs rows : List ℕ} {used many named u w : ℕ} → Rows refs rows used many named → (t : ℕ) → t < many → u ≡ bare-of rows t → w ≡ row-start rows u → w ≤ 16384
-start-small {many = many} {u = u} r t l e q =
-    let k : u < many = bare-small r t l e .1 in
-    omega (arith, r .in-order u k, r .in-use u k, r .few-references)
+pub start-small : {refs rows : List ℕ} {used many named v w : ℕ} → Rows refs rows used many named → w ≡ row-start rows v → v < many → w ≤ 16384
+start-small {v = v} r q l = omega (arith, r .in-order v l, r .in-use v l, r .few-references)
 
 -- ---- the groups of an `all`
 

@@ -1,4 +1,5 @@
 -- `triggers::file_term` meets its contract.
+use native.Mathlib.Omega.{arith}
 use Rattle.triggers.proofs.Filing.{opened-stage}
 use Rattle.triggers.proofs.file_term.Statement.{statement}
 use Rattle.triggers.proofs.file_term.Tie as tie
@@ -6,7 +7,7 @@ use Rattle.triggers.proofs.file_term.Tie as tie
 file-one-requires : tie.Need-file-one-requires
 file-one-requires c κs =
     let start = c .before .before .before .before .before .before .before in
-    (start .pre .0, opened-stage (start .pre .1), start .pre .2)
+    (start .pre .0, opened-stage (start .pre .1), omega (arith, start .pre .2))
 
 returns : tie.Need-returns
 returns c = (c .before .before .before .before .before .before .file-one .ensures .0 .files, c .before .before .before .before .before .before .file-one .ensures .0 .filled)

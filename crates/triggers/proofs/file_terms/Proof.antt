@@ -8,7 +8,7 @@ use Rattle.triggers.proofs.file_terms.Tie as tie
 file-one-requires : tie.Need-file-one-requires
 file-one-requires c κs =
     let start = c .before .before .before .before .before .before .before in
-    (start .pre .0, opened-stage (start .pre .1), start .pre .2)
+    (start .pre .0, opened-stage (start .pre .1), omega (arith, start .pre .2, start .pre .3))
 
 enum-known-middle : tie.Need-enum-known-middle
 enum-known-middle c = c .match .keys1
@@ -37,7 +37,7 @@ add-file-one c = omega (arith, c .before .before .before .before .before .before
 file-one-requires-2 : tie.Need-file-one-requires-2
 file-one-requires-2 c κs =
     let start = c .before .before .before .before .before .before .before .before .before .before .before .before .before .before .before .before .before .before .before .before in
-    (rows-marked (c .before .before .before .before .before .before .before .before .before .before .before .before .file-one .ensures .0 .filled .rows-same) (start .pre .0), stage-then (opened-stage (start .pre .1)) (comes-is (c .before .before .before .before .middle .given .1) (c .before .before .before .before .before .before .before .before .before .before .before .before .file-one .ensures .0)), start .pre .3)
+    (rows-marked (c .before .before .before .before .before .before .before .before .before .before .before .before .file-one .ensures .0 .filled .rows-same) (start .pre .0), stage-then (opened-stage (start .pre .1)) (comes-is (c .before .before .before .before .middle .given .1) (c .before .before .before .before .before .before .before .before .before .before .before .before .file-one .ensures .0)), omega (arith, start .pre .2, start .pre .3))
 
 enum-known-end : tie.Need-enum-known-end
 enum-known-end c = c .match2 .keys1

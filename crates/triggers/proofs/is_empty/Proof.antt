@@ -36,12 +36,12 @@ bare-requires c κs =
 start-requires : tie.Need-start-requires
 start-requires c κs =
     let start = c .before .before .before .before .before .before .before .before .before .before .before in
-    (start .pre .0 .row-room, omega (arith, bare-small (start .pre .0) (start .args .t) (start .pre .2) (c .before .bare .ensures) .1, start .pre .0 .few-rows))
+    (start .pre .0 .row-room, omega (arith, bare-small (start .pre .0) (start .args .t) (start .pre .2) (c .before .bare .ensures) .1, start .pre .2, start .pre .0 .few-rows))
 
 add-a : tie.Need-add-a
 add-a c =
     let start = c .before .before .before .before .before .before .before .before .before .before .before .before in
-    omega (arith, start-small (start .pre .0) (start .args .t) (start .pre .2) (c .before .before .bare .ensures) (c .start .ensures))
+    omega (arith, start-small (start .pre .0) (c .start .ensures) (omega (arith, bare-small (start .pre .0) (start .args .t) (start .pre .2) (c .before .before .bare .ensures) .1, start .pre .2)))
 
 end-requires : tie.Need-end-requires
 end-requires c κs =
