@@ -16,10 +16,10 @@ use Rattle.model.specs.Summaries.{exclude-names, groups-of, group-names, trigge
 use Rattle.model.specs.declared.Op.{Op}
 use Rattle.model.proofs.ListLaws.{true-T, is-nil-elim}
 use Rattle.names.specs.Table.{name-of}
-use Rattle.terms.specs.Rows.{row-kind, row-start, row-extra, row-end, words, groups-of-words, make-node, node-of, terms-of, bare-of, Rows}
+use Rattle.terms.specs.Rows.{row-kind, row-start, row-extra, row-end, words, groups-of-words, make-node, node-of, terms-of, bare-of, groups-at, Rows}
 use Rattle.terms.proofs.Laws.{bare-label, bare-own, equal}
 use Rattle.terms.proofs.Table.{words-drop, bare-law}
-use Rattle.rules.specs.Views.{Tables, terms-in, groups-at}
+use Rattle.rules.specs.Views.{Tables, terms-in}
 
 -- ---- the term under labels
 

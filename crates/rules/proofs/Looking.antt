@@ -14,7 +14,7 @@ use Rattle.names.specs.Table.{name-of}
 use Rattle.terms.specs.Rows.{row-kind, row-op, row-head, row-start, row-extra, row-end, has-head, bare-of, Rows}
 use Rattle.rules.specs.declared.Argument.the-variants as argument
 use Rattle.rules.specs.declared.Arguments.the-variants as arguments
-use Rattle.rules.specs.Views.{row-count, row-argument, is-call-at, is-head-at, is-op-at, call-one-at, call-two-at, op-two-at, groups-at}
+use Rattle.rules.specs.Views.{row-count, row-argument, is-call-at, is-head-at, is-op-at, call-one-at, call-two-at, op-two-at}
 
 -- ---- one row
 
@@ -153,20 +153,10 @@ module _ {refs rows : List ℕ} {used many named t : ℕ} (table : Rows refs row
   unfolding row-count
   nth-ready i n h j = (table .row-room, omega (arith, table .few-rows), omega (arith, table .in-use t l, table .few-references, table .ref-room), j)
 
--- ---- names and groups
+-- ---- names
 
 -- the name of a number begins with a prefix if its part of the file does
 pub starts-law : (file names : List ℕ) (n : ℕ) (prefix : Name) {r : Bool} {a m : ℕ} → a ≡ getD names n 0 → m ≡ getD names (2048 + n) 0
     → r ≡ starts-with (part file a (a + m)) prefix → r ≡ starts-with (name-of file names n) prefix
 unfolding name-of
 starts-law file names n prefix a m r = rw (← a, ← m) r
-
--- no `all` under the labels
-pub groups-other : (rows : List ℕ) (t : ℕ) {u k : ℕ} → u ≡ bare-of rows t → k ≡ row-kind rows u → (k ≡ 4 → ⊥) → 0 ≡ groups-at rows t
-unfolding groups-at
-groups-other rows t u k h = rw (ne-eqb (row-kind rows (bare-of rows t)) 4 (λ e. h (k ∙ ap (row-kind rows) u ∙ e)))
-
--- an `all` under the labels
-pub groups-all : (rows : List ℕ) (t : ℕ) {u k g : ℕ} → u ≡ bare-of rows t → k ≡ row-kind rows u → k ≡ 4 → g ≡ row-extra rows u → g ≡ groups-at rows t
-unfolding groups-at
-groups-all rows t u k h g = rw (eq-eqb (row-kind rows (bare-of rows t)) 4 (sym (k ∙ ap (row-kind rows) u) ∙ h)) (g ∙ ap (row-extra rows) u)
