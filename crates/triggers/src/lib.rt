@@ -18,7 +18,8 @@ pub enum Filed {
     Full,
 }
 
-// Whether the names from `at` up to `end` are in their place, the last of them with a number of a name.
+// Whether the names from `at` up to `end` are in their place, the last of them with a number of a name. It holds of all
+// that `gather` answers: its contract says so where the numbers have names.
 fn within(out: &[u32], at: usize, end: usize, room: usize) -> bool
     requires { ⌜ room ≤ length (now out) ⌝ }
     ensures yes { λ r. ⌜ (r ≡ true → Within (now (out .entry)) at end room) ⌝ }
@@ -36,7 +37,7 @@ fn within(out: &[u32], at: usize, end: usize, room: usize) -> bool
     words::at(out, end - 1) < 2048
 }
 
-// Gathers the free names of a term into `out` up to `room`, and nothing past it.
+// Gathers the free names of a term into `out` up to `room`; the words past it are not lent.
 fn term_names(
     names: &mut [u32],
     refs: &[u32],
@@ -170,7 +171,7 @@ fn file_list(
     close(out, at, end)
 }
 
-// Files the free names of a term as one disjunct.
+// `file_term` with a mark for each entry that is left, so that sets can be filed one after the other.
 fn file_one(
     names: &mut [u32],
     refs: &[u32],
@@ -264,7 +265,7 @@ pub fn file_terms(
     Filed::Sets(2, end)
 }
 
-// Files the pattern groups of the `all` under a term's labels, a disjunct each, in order.
+// The same of `triggers_of_term`: a disjunct for each group, in order.
 fn file_groups(
     names: &mut [u32],
     refs: &[u32],

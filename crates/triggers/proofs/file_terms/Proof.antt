@@ -16,6 +16,20 @@ enum-known-middle c = c .match .keys1
 enum-told : tie.Need-enum-told
 enum-told c = c .match .keys2
 
+returns-3 : tie.Need-returns-3
+returns-3 c =
+    let start = c .before .before .before .before .before .before .before .before .before .before .before .before .before .before .before .before .before .before .before .before .before .before .before .before .before .before .before .before .before .before in
+    posts (two-both (start .args .t) (start .args .u) (start .pre .0) (start .pre .1 .high) (comes-is (c .before .before .before .before .before .before .before .before .before .before .before .before .before .before .middle .given .1) (c .before .before .before .before .before .before .before .before .before .before .before .before .before .before .before .before .before .before .before .before .before .before .file-one .ensures .0)) (c .before .before .before .before .before .before .before .before .before .file-one2 .ensures .0) (c .before .end .given .1) (c .before .before .before .before .before .before .before .before .before .before .before .before .before .before .before .before .before .before .before .before .before .before .file-one .ensures .1 _ _ (c .before .before .before .before .before .before .before .before .before .before .before .before .before .before .middle .given .1)) (c .before .before .before .before .before .before .before .before .before .file-one2 .ensures .1 _ _ (c .before .end .given .1)))
+
+same-length-7 : tie.Need-same-length-7
+same-length-7 c = returns-3 c .1 .names-same .same-length
+
+same-length-8 : tie.Need-same-length-8
+same-length-8 c = returns-3 c .1 .rows-same .same-length
+
+same-length-9 : tie.Need-same-length-9
+same-length-9 c = returns-3 c .1 .out-same .same-length
+
 returns : tie.Need-returns
 returns c = posts (two-first _ _ (c .enum-told .given .1) (c .before .before .before .before .before .before .before .before .file-one .ensures .0))
 
@@ -58,20 +72,6 @@ same-length-5 c = returns-2 c .1 .rows-same .same-length
 
 same-length-6 : tie.Need-same-length-6
 same-length-6 c = returns-2 c .1 .out-same .same-length
-
-returns-3 : tie.Need-returns-3
-returns-3 c =
-    let start = c .before .before .before .before .before .before .before .before .before .before .before .before .before .before .before .before .before .before .before .before .before .before .before .before .before .before .before .before .before .before in
-    posts (two-both (start .args .t) (start .args .u) (start .pre .0) (start .pre .1 .high) (comes-is (c .before .before .before .before .before .before .before .before .before .before .before .before .before .before .middle .given .1) (c .before .before .before .before .before .before .before .before .before .before .before .before .before .before .before .before .before .before .before .before .before .before .file-one .ensures .0)) (c .before .before .before .before .before .before .before .before .before .file-one2 .ensures .0) (c .before .end .given .1) (c .before .before .before .before .before .before .before .before .before .before .before .before .before .before .before .before .before .before .before .before .before .before .file-one .ensures .1 _ _ (c .before .before .before .before .before .before .before .before .before .before .before .before .before .before .middle .given .1)) (c .before .before .before .before .before .before .before .before .before .file-one2 .ensures .1 _ _ (c .before .end .given .1)))
-
-same-length-7 : tie.Need-same-length-7
-same-length-7 c = returns-3 c .1 .names-same .same-length
-
-same-length-8 : tie.Need-same-length-8
-same-length-8 c = returns-3 c .1 .rows-same .same-length
-
-same-length-9 : tie.Need-same-length-9
-same-length-9 c = returns-3 c .1 .out-same .same-length
 
 pub file-terms-spec : {M : Type 1} → statement M
 file-terms-spec =
