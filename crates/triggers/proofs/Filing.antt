@@ -6,22 +6,30 @@ use mathlib.Core.List.{List, [], _∷_, _++_, map}
 use lib.ListN.{length, getD, set, length-append}
 use Rattle.model.specs.Lists.{sum}
 use Rattle.model.specs.Names.{Name, from-list}
-use Rattle.model.specs.Summaries.{exclude-names, free-top-level-names}
-use Rattle.terms.specs.Rows.{words, terms-of, Rows}
+use Rattle.model.specs.Summaries.{exclude-names, free-top-level-names, group-names}
+use Rattle.terms.specs.Rows.{words, terms-of-words, terms-of, Rows}
 use Rattle.terms.proofs.Table.{words-nil, words-same}
 use Rattle.terms.proofs.Groups.{words-split}
-use Rattle.gather.specs.Sets.{Same-but, Fresh, Named, Gathers, all-names, no-room as no-names, ended}
+use Rattle.gather.specs.Sets.{Same-but, Fresh, Named, Gathers, all-names, no-room as no-names, Gathered, ended}
 use Rattle.gather.specs.declared.Walked.{Walked}
 use Rattle.gather.specs.declared.Walked.the-variants as gathered
 use Rattle.gather.proofs.Steps.{same-self, same-then, same-wider, same-set}
 use Rattle.triggers.specs.declared.Filed.{Filed}
 use Rattle.triggers.specs.declared.Filed.the-variants as filed
 use Rattle.triggers.specs.Entries.{disjuncts-of, disjuncts-of-words, entries, filed-end, Files, all-sets, no-room, Filled, Closes, last, empty, over, Opened}
-use Rattle.triggers.specs.Inner.{Stage, Put, Comes}
+use Rattle.triggers.specs.Inner.{Stage, Comes}
 use Rattle.triggers.proofs.Disjuncts.{sets-append, block-sets, block-entries, empty-sets, empty-entries, no-entries, entries-then, entries-append, entries-one}
-use Rattle.triggers.proofs.Marked.{named-marked, terms-marked, fresh-later}
+use Rattle.triggers.proofs.Marked.{named-marked, terms-marked, fresh-later, fresh-next}
 
 -- ---- one disjunct
+
+-- the free names of a term, by the names of the numbers
+abbrev pub term-set : List ℕ → List ℕ → ℕ → ℕ → ℕ → (ℕ → Name) → List Name
+term-set refs rows used many t name = free-top-level-names exclude-names (terms-of name refs rows used many) t
+
+-- those of the terms that the references from a up to e name
+abbrev pub list-set : List ℕ → List ℕ → ℕ → ℕ → ℕ → ℕ → (ℕ → Name) → List Name
+list-set refs rows used many a e name = group-names exclude-names (terms-of name refs rows used many) (terms-of-words (words refs a e))
 
 -- where the entries of an answer end
 answer-end : {n m e k : ℕ} → filed.Sets n e ≡ filed.Sets m k → e ≡ k
@@ -48,99 +56,99 @@ files-one {at} {s} few long (all-names is count fits small) (over e l q) = no-ro
 files-over : {name : ℕ → Name} {named at : ℕ} {s : List Name} {out : List ℕ} → Gathers name named s at 8192 out gathered.Full → Files name named (s ∷ []) at out filed.Full
 files-over {s} (no-names p f) = no-room (omega (arith, entries-one s))
 
-module _ {names rows out names₁ rows₁ out₁ : List ℕ} {named mark at : ℕ} (s : (ℕ → Name) → List Name) where
-  -- a set that was gathered and ended comes to one disjunct
-  pub comes-one : {end : ℕ} {r : Filed} {out₂ : List ℕ} → named ≤ 2048 → 8192 ≤ length out
-      → ((name : ℕ → Name) → Named name names named → Gathers name named (s name) at 8192 out₁ (gathered.Names end))
-      → Put names rows out names₁ rows₁ out₁ mark at 8192 (gathered.Names end) → Closes out₁ out₂ at end r
-      → Comes names rows out names₁ rows₁ out₂ named mark at (λ name. s name ∷ []) r
-  unfolding ended filed-end
-  comes-one {end} few long g p (last some q) =
-      let hi = p .high in
-      record {
-        files = λ name d. files-one few (rw (p .out-same .same-length) long) (g name d) (last some q);
-        filled = record {
-          names-same = p .names-same;
-          rows-same = p .rows-same;
-          out-same = rw q (same-then (p .out-same) (same-set at (end - at) out₁ (end - 1) (getD out₁ (end - 1) 0 + 4096) (omega arith) (omega arith)));
-          fresh = λ n e z. let w = answer-end z in rw (← w) (fresh-later (mark + 1) (mark + (end - at)) (omega arith) (p .fresh));
-        };
-        low = omega arith;
-        high = hi;
-        few = λ n e z. let w = answer-end z in let v = answer-count z in omega arith;
-      }
-  comes-one {end} few long g p (empty i l q) =
-      record {
-        files = λ name d. files-one few (rw (p .out-same .same-length) long) (g name d) (empty i l q);
-        filled = record {
-          names-same = p .names-same;
-          rows-same = p .rows-same;
-          out-same = rw q (same-then (same-wider at (at + 1 - at) (omega arith) (omega arith) (p .out-same)) (same-set at (at + 1 - at) out₁ at 6144 (omega arith) (omega arith)));
-          fresh = λ n e z. let w = answer-end z in rw (← w) (fresh-later (mark + 1) (mark + (at + 1 - at)) (omega arith) (p .fresh));
-        };
-        low = omega arith;
-        high = omega arith;
-        few = λ n e z. let w = answer-end z in let v = answer-count z in omega arith;
-      }
-  comes-one {end} few long g p (over i l q) =
-      let hi = p .high in
-      record {
-        files = λ name d. files-one few (rw (p .out-same .same-length) long) (g name d) (over i l q);
-        filled = record {
-          names-same = p .names-same;
-          rows-same = p .rows-same;
-          out-same = rw q (same-wider at (8192 - at) (omega arith) (omega arith) (p .out-same));
-          fresh = λ n e z. absurd (full-none z);
-        };
-        low = omega arith;
-        high = omega arith;
-        few = λ n e z. absurd (full-none z);
-      }
-
-  -- a set without room comes to none
-  pub comes-over : ((name : ℕ → Name) → Named name names named → Gathers name named (s name) at 8192 out₁ gathered.Full)
-      → Put names rows out names₁ rows₁ out₁ mark at 8192 gathered.Full → Comes names rows out names₁ rows₁ out₁ named mark at (λ name. s name ∷ []) filed.Full
-  unfolding ended filed-end
-  comes-over g p = record {
-    files = λ name d. files-over (g name d);
-    filled = record { names-same = p .names-same; rows-same = p .rows-same; out-same = p .out-same; fresh = λ n e z. absurd (full-none z) };
-    low = p .low;
-    high = omega arith;
-    few = λ n e z. absurd (full-none z);
-  }
-
 -- an ended disjunct is one
-pub closes-one : {out out′ : List ℕ} {at end : ℕ} {r : Filed} → Closes out out′ at end r → (n e : ℕ) → r ≡ filed.Sets n e → n ≡ 1
+closes-one : {out out′ : List ℕ} {at end : ℕ} {r : Filed} → Closes out out′ at end r → (n e : ℕ) → r ≡ filed.Sets n e → n ≡ 1
 closes-one (last a q) n e z = sym (answer-count z)
 closes-one (empty a b q) n e z = sym (answer-count z)
 closes-one (over a b q) n e z = absurd (full-none z)
 
--- a full slice is no answer of one
-pub full-one : {r : Filed} → r ≡ filed.Full → (n e : ℕ) → r ≡ filed.Sets n e → n ≡ 1
-full-one q n e z = absurd (full-none (sym q ∙ z))
+module _ {names rows out names₁ rows₁ out₁ : List ℕ} {named mark at : ℕ} (s : (ℕ → Name) → List Name) (less : named ≤ 2048) (h : Stage names rows out mark at) where
+  -- a set without room comes to no disjunct
+  comes-over : ((name : ℕ → Name) → Named name names named → Gathers name named (s name) at 8192 out₁ gathered.Full)
+      → Gathered names rows out names₁ rows₁ out₁ mark at 8192 gathered.Full → Comes names rows out names₁ rows₁ out₁ named mark at (λ name. s name ∷ []) filed.Full
+  unfolding ended filed-end
+  comes-over g p = record {
+    files = λ name d. files-over (g name d);
+    filled = record { names-same = p .names-same; rows-same = p .rows-same; out-same = p .out-same; fresh = λ n e z. absurd (full-none z) };
+    low = p .grows;
+    high = p .fits;
+    few = λ n e z. absurd (full-none z);
+  }
 
-module _ {names rows out names₁ rows₁ out₁ : List ℕ} {named mark at : ℕ} {w : Walked} (s : (ℕ → Name) → List Name) (few : named ≤ 2048) (h : Stage names rows out mark at 8192)
-    (g : (name : ℕ → Name) → Named name names named → Gathers name named (s name) at 8192 out₁ w) (p : Put names rows out names₁ rows₁ out₁ mark at 8192 w) where
-  -- an answer without room
-  pub one-over : w ≡ gathered.Full → Comes names rows out names₁ rows₁ out₁ named mark at (λ name. s name ∷ []) filed.Full × ((n e : ℕ) → filed.Full ≡ filed.Sets n e → n ≡ 1)
-  one-over e = (comes-over s (λ name d. rw e at (g name d)) (rw e at p), full-one refl)
-
-  module _ {end : ℕ} (e : w ≡ gathered.Names end) where
-    -- the slices after the names
-    named-put : Put names rows out names₁ rows₁ out₁ mark at 8192 (gathered.Names end)
-    named-put = rw e at p
-
-    -- what ending the disjunct asks
-    pub one-asks : (at ≤ end) × (end ≤ 8192) × (8192 ≤ length out₁) × (at < end → getD out₁ (end - 1) 0 < 2048)
+  module _ {end : ℕ} (g : (name : ℕ → Name) → Named name names named → Gathers name named (s name) at 8192 out₁ (gathered.Names end)) (p : Gathered names rows out names₁ rows₁ out₁ mark at 8192 (gathered.Names end)) where
+    -- where a set ends
+    set-ends : (at ≤ end) × (end ≤ 8192)
     unfolding ended
-    one-asks = (named-put .low, named-put .high, rw (named-put .out-same .same-length) (h .high), named-put .small end refl)
+    set-ends = (p .grows, p .fits)
+
+    -- the places of its names
+    set-same : Same-but at (end - at) out out₁
+    unfolding ended
+    set-same = p .out-same
+
+    -- the slice stays long
+    set-long : 8192 ≤ length out₁
+    set-long = rw (set-same .same-length) (h .high)
+
+    -- a set that was gathered and ended comes to one disjunct
+    comes-one : {r : Filed} {out₂ : List ℕ} → Closes out₁ out₂ at end r → Comes names rows out names₁ rows₁ out₂ named mark at (λ name. s name ∷ []) r
+    unfolding filed-end
+    comes-one (last some q) = record {
+      files = λ name d. files-one less set-long (g name d) (last some q);
+      filled = record {
+        names-same = p .names-same;
+        rows-same = p .rows-same;
+        out-same = rw q (same-then set-same (same-set at (end - at) out₁ (end - 1) (getD out₁ (end - 1) 0 + 4096) (omega arith) (omega arith)));
+        fresh = λ n e z. let w = answer-end z in rw (← w) (fresh-later (mark + 1) (mark + (end - at)) (omega arith) (fresh-next (h .fresh) p));
+      };
+      low = set-ends .0;
+      high = set-ends .1;
+      few = λ n e z. let w = answer-end z in let v = answer-count z in omega arith;
+    }
+    comes-one (empty i l q) = record {
+      files = λ name d. files-one less set-long (g name d) (empty i l q);
+      filled = record {
+        names-same = p .names-same;
+        rows-same = p .rows-same;
+        out-same = rw q (same-then (same-wider at (at + 1 - at) (omega arith) (omega arith) set-same) (same-set at (at + 1 - at) out₁ at 6144 (omega arith) (omega arith)));
+        fresh = λ n e z. let w = answer-end z in rw (← w) (fresh-later (mark + 1) (mark + (at + 1 - at)) (omega arith) (fresh-next (h .fresh) p));
+      };
+      low = omega arith;
+      high = omega arith;
+      few = λ n e z. let w = answer-end z in let v = answer-count z in omega arith;
+    }
+    comes-one (over i l q) = record {
+      files = λ name d. files-one less set-long (g name d) (over i l q);
+      filled = record {
+        names-same = p .names-same;
+        rows-same = p .rows-same;
+        out-same = rw q (same-wider at (8192 - at) (omega arith) (omega arith) set-same);
+        fresh = λ n e z. absurd (full-none z);
+      };
+      low = h .low;
+      high = omega arith;
+      few = λ n e z. absurd (full-none z);
+    }
+
+  module _ {w : Walked} (g : (name : ℕ → Name) → Named name names named → Gathers name named (s name) at 8192 out₁ w) (p : Gathered names rows out names₁ rows₁ out₁ mark at 8192 w) where
+    -- an answer without room
+    pub one-over : w ≡ gathered.Full → Comes names rows out names₁ rows₁ out₁ named mark at (λ name. s name ∷ []) filed.Full × ((n e : ℕ) → filed.Full ≡ filed.Sets n e → n ≡ 1)
+    one-over e = (comes-over (λ name d. rw e at (g name d)) (rw e at p), λ n k z. absurd (full-none z))
 
     -- the disjunct that was ended
-    pub one-closed : {r : Filed} {out₂ : List ℕ} → Closes out₁ out₂ at end r → Comes names rows out names₁ rows₁ out₂ named mark at (λ name. s name ∷ []) r × ((n k : ℕ) → r ≡ filed.Sets n k → n ≡ 1)
-    one-closed q = (comes-one s few (h .high) (λ name d. rw e at (g name d)) named-put q, closes-one q)
+    pub one-closed : {end : ℕ} {r : Filed} {out₂ : List ℕ} → w ≡ gathered.Names end → Closes out₁ out₂ at end r → Comes names rows out names₁ rows₁ out₂ named mark at (λ name. s name ∷ []) r × ((n k : ℕ) → r ≡ filed.Sets n k → n ≡ 1)
+    one-closed e q = (comes-one (λ name d. rw e at (g name d)) (rw e at p) q, closes-one q)
+
+-- what ending a disjunct asks
+pub one-asks : {names rows out names₁ rows₁ out₁ : List ℕ} {mark at end : ℕ} {w : Walked} → Stage names rows out mark at → Gathered names rows out names₁ rows₁ out₁ mark at 8192 w → w ≡ gathered.Names end
+    → (at ≤ end) × (end ≤ 8192) × (8192 ≤ length out₁) × (at < end → getD out₁ (end - 1) 0 < 2048)
+unfolding ended
+one-asks {names} {rows} {out} {names₁} {rows₁} {out₁} {mark} {at} {end} h p e =
+    let q : Gathered names rows out names₁ rows₁ out₁ mark at 8192 (gathered.Names end) = rw e at p in
+    (q .grows, q .fits, rw (q .out-same .same-length) (h .high), λ l. q .small (end - 1) (omega arith) (omega arith))
 
 -- what the public functions ask is what the private ones do
-pub opened-stage : {names rows out : List ℕ} {mark at : ℕ} → Opened names rows out mark at → Stage names rows out mark at 8192
+pub opened-stage : {names rows out : List ℕ} {mark at : ℕ} → Opened names rows out mark at → Stage names rows out mark at
 opened-stage h = record { name-room = h .name-room; fresh = h .fresh; low = h .low; high = h .high; few-marks = omega (arith, h .few-marks) }
 
 -- the last entry is marked
@@ -261,8 +269,8 @@ comes-none {names} {rows} {out} {named} {mark} {at} h f = record {
 }
 
 -- the slices after filing are ready for more
-pub stage-then : {names rows out names₁ rows₁ out₁ : List ℕ} {named mark at n m : ℕ} {s : (ℕ → Name) → List (List Name)} → Stage names rows out mark at 8192
-    → Comes names rows out names₁ rows₁ out₁ named mark at s (filed.Sets n m) → Stage names₁ rows₁ out₁ (mark + (m - at)) m 8192
+pub stage-then : {names rows out names₁ rows₁ out₁ : List ℕ} {named mark at n m : ℕ} {s : (ℕ → Name) → List (List Name)} → Stage names rows out mark at
+    → Comes names rows out names₁ rows₁ out₁ named mark at s (filed.Sets n m) → Stage names₁ rows₁ out₁ (mark + (m - at)) m
 unfolding filed-end
 stage-then {n = n} {m = m} h c = record {
   name-room = rw (c .filled .names-same .same-length) (h .name-room);

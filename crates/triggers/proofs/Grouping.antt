@@ -5,6 +5,7 @@ use mathlib.Core.Path.{_≡_, refl, sym, ap, ap₂, _∙_}
 use mathlib.Core.Bool.{true, false}
 use mathlib.Core.List.{List, [], _∷_, _++_, map, map-append, append-nil}
 use lib.ListN.{length, getD, length-append}
+use lib.Seq.{ext-getD}
 use Rattle.model.specs.Lists.{collect, is-nil}
 use Rattle.model.specs.Names.{Name}
 use Rattle.model.specs.Summaries.{exclude-names, group-names, triggers-of-term, is-empty}
@@ -12,17 +13,16 @@ use Rattle.model.proofs.ListLaws.{collect-append}
 use Rattle.terms.specs.Rows.{row-start, row-end, words, terms-of-words, group-of-words, groups-of-words, group-run, terms-of, bare-of, groups-at, Rows}
 use Rattle.terms.proofs.Table.{words-nil, words-snoc}
 use Rattle.terms.proofs.Groups.{Before, group-first, group-next, group-place, group-last, words-split}
-use Rattle.gather.specs.Sets.{Same-but, Fresh, Gathers, all-names, no-room}
+use Rattle.gather.specs.Sets.{Same-but, Fresh, Gathers, all-names, no-room, Gathered}
 use Rattle.gather.specs.declared.Walked.{Walked}
 use Rattle.gather.specs.declared.Walked.the-variants as gathered
 use Rattle.gather.proofs.Steps.{same-self}
 use Rattle.triggers.specs.declared.Filed.{Filed}
 use Rattle.triggers.specs.declared.Filed.the-variants as filed
-use Rattle.triggers.specs.Entries.{entries, Opened}
-use Rattle.triggers.specs.Inner.{Stage, Put, Comes}
+use Rattle.triggers.specs.Entries.{entries}
+use Rattle.triggers.specs.Inner.{Stage, Comes}
 use Rattle.triggers.proofs.Disjuncts.{entries-append}
-use Rattle.triggers.proofs.Marked.{terms-marked, fresh-later, bare-below, All, patterns, triggers-all, triggers-none, groups-more, groups-fewer}
-use Rattle.triggers.proofs.Front.{put-nothing}
+use Rattle.triggers.proofs.Marked.{terms-marked, fresh-later, fresh-next, bare-below, All, patterns, triggers-all, triggers-none, groups-more, groups-fewer}
 use Rattle.triggers.proofs.Filing.{after, after-full, after-sets, comes-as, comes-is, comes-more, comes-next, comes-none}
 
 -- a term of the table is within the rows
@@ -107,13 +107,13 @@ pub groups-again : {names rows out names₁ rows₁ out₁ : List ℕ} {named ma
 groups-again {k = k} {e = e} g p q c = comes-is (after-sets g k e (g + 1) p (omega arith)) c
 
 -- before the first group nothing is filed
-pub groups-start : {rows names out : List ℕ} {named mark at : ℕ} (f : (ℕ → Name) → List ℕ → List Name) (ws : List ℕ) → Stage names rows out mark at 8192
+pub groups-start : {rows names out : List ℕ} {named mark at : ℕ} (f : (ℕ → Name) → List ℕ → List Name) (ws : List ℕ) → Stage names rows out mark at
     → Comes names rows out names rows out named mark at (λ name. map (f name) (groups-of-words ws 0)) (filed.Sets 0 at)
 unfolding groups-of-words
 groups-start f ws h = comes-none (h .low) (h .fresh)
 
 -- a term without groups files nothing
-pub groups-none : {refs rows names out : List ℕ} {used many named mark at t groups : ℕ} → Rows refs rows used many named → t < many → groups ≡ groups-at rows t → groups ≡ 0 → Stage names rows out mark at 8192
+pub groups-none : {refs rows names out : List ℕ} {used many named mark at t groups : ℕ} → Rows refs rows used many named → t < many → groups ≡ groups-at rows t → groups ≡ 0 → Stage names rows out mark at
     → Comes names rows out names rows out named mark at (λ name. triggers-of-term exclude-names (terms-of name refs rows used many) t) (filed.Sets 0 at)
 groups-none r l c z h = comes-as (λ name. sym (triggers-none r l c z name)) (comes-none (h .low) (h .fresh))
 
@@ -137,7 +137,7 @@ list-none : {A : Type 0} (f : ℕ → List A) (refs : List ℕ) (a i : ℕ) → 
 unfolding terms-of-words collect
 list-none f refs a i q = rw (words-nil refs a i (omega arith))
 
-module _ {refs rows names out : List ℕ} {used many named mark at a e : ℕ} (r : Rows refs rows used many named) (h : Stage names rows out mark at 8192) (in-use : e ≤ used) where
+module _ {refs rows names out : List ℕ} {used many named mark at a e : ℕ} (r : Rows refs rows used many named) (h : Stage names rows out mark at) (in-use : e ≤ used) where
   -- no term files nothing
   pub list-start : {i : ℕ} → i ≡ a → Comes names rows out names rows out named mark at (λ name. collect (triggers-of-term exclude-names (terms-of name refs rows used many)) (terms-of-words (words refs a i))) (filed.Sets 0 at)
   list-start {i} q = comes-as (λ name. list-none (triggers-of-term exclude-names (terms-of name refs rows used many)) refs a i q) (comes-none (h .low) (h .fresh))
@@ -245,11 +245,9 @@ module _ {refs rows : List ℕ} {used many named t groups u e : ℕ} (r : Rows r
 pub tables-kept : (names rows : List ℕ) (mark : ℕ) → Fresh names rows mark → Same-but 8192 2048 names names × Same-but 12288 4096 rows rows × Fresh names rows (mark + 1)
 tables-kept names rows mark f = (same-self 8192 2048 names, same-self 12288 4096 rows, fresh-later mark (mark + 1) (omega arith) f)
 
--- tables that one set was marked in
-pub tables-put : {names rows out names′ rows′ out′ : List ℕ} {mark at : ℕ} {r : Walked} → Put names rows out names′ rows′ out′ mark at at r
+-- what gathering without room leaves: the slice, and tables that one set was marked in
+pub tables-gathered : {names rows out names′ rows′ out′ : List ℕ} {mark at : ℕ} {r : Walked} → Fresh names rows mark → Gathered names rows out names′ rows′ out′ mark at at r
     → (Same-but 8192 2048 names names′ × Same-but 12288 4096 rows rows′ × Fresh names′ rows′ (mark + 1)) × (out′ ≡ out)
-tables-put p = ((p .names-same, p .rows-same, p .fresh), put-nothing p)
-
--- gathering without room asks less than filing
-pub opened-still : {names rows out : List ℕ} {mark at : ℕ} → Opened names rows out mark at → Stage names rows out mark at at
-opened-still h = record { name-room = h .name-room; fresh = h .fresh; low = omega arith; high = omega (arith, h .low, h .high); few-marks = omega (arith, h .few-marks) }
+tables-gathered {out = out} {out′ = out′} f g =
+    let hi = g .fits in
+    ((g .names-same, g .rows-same, fresh-next f g), ext-getD 0 out′ out (g .out-same .same-length) (λ i l. g .out-same .same-words i (λ a b. omega arith)))

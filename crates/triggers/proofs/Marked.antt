@@ -16,7 +16,8 @@ use Rattle.model.specs.declared.Op.{Op}
 use Rattle.terms.specs.Rows.{row-kind, row-op, row-head, row-start, row-extra, row-end, words, group-of-words, groups-of-words, op-of-code, make-node, node-of, nodes-below, terms-of, has-groups, bare-of, groups-at, Rows}
 use Rattle.terms.proofs.Laws.{equal, below, bare-label, bare-own, groups-all, groups-other}
 use Rattle.terms.proofs.Table.{bare-law}
-use Rattle.gather.specs.Sets.{Named, Fresh, Same-but}
+use Rattle.gather.specs.Sets.{Named, Fresh, Same-but, Gathered}
+use Rattle.gather.specs.declared.Walked.{Walked}
 use Rattle.gather.proofs.Walking.{word-same, start-same, extra-same, end-same}
 use Rattle.triggers.specs.Entries.{entries}
 use Rattle.triggers.proofs.Disjuncts.{entries-append}
@@ -45,6 +46,13 @@ named-marked s few d = record {
 -- marks below one mark are below a later one
 pub fresh-later : {names rows : List ℕ} (m n : ℕ) → m ≤ n → Fresh names rows m → Fresh names rows n
 fresh-later m n h f = record { row-marks = λ t l. omega (arith, f .row-marks t l); name-marks = λ k l. omega (arith, f .name-marks k l) }
+
+-- the marks after gathering a set are below the next one
+pub fresh-next : {names rows out names′ rows′ out′ : List ℕ} {mark at room : ℕ} {r : Walked} → Fresh names rows mark → Gathered names rows out names′ rows′ out′ mark at room r → Fresh names′ rows′ (mark + 1)
+fresh-next f g = record {
+  row-marks = λ t l. ⊎-elim (λ e. omega arith) (λ e. omega (arith, f .row-marks t l)) (g .row-marks t l);
+  name-marks = λ k l. ⊎-elim (λ e. omega arith) (λ e. omega (arith, f .name-marks k l)) (g .name-marks k l);
+}
 
 -- ---- the triggers of a term
 

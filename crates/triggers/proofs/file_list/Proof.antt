@@ -1,10 +1,16 @@
 -- `triggers::file_list` meets its contract: names that were gathered are ended.
-use Rattle.triggers.proofs.Filing.{one-over, one-asks, one-closed}
+use native.Mathlib.Omega.{arith}
+use Rattle.triggers.proofs.Filing.{list-set, one-over, one-asks, one-closed}
 use Rattle.triggers.proofs.file_list.Statement.{statement}
 use Rattle.triggers.proofs.file_list.Tie as tie
 
-list-names-requires : tie.Need-list-names-requires
-list-names-requires c κs = c .before .before .before .before .before .before .before .pre
+cast-gather-list : tie.Need-cast-gather-list
+cast-gather-list c = omega (arith, c .before .before .before .before .before .before .before .pre .1 .few-marks)
+
+gather-list-requires : tie.Need-gather-list-requires
+gather-list-requires c κs =
+    let start = c .before .before .before .before .before .before .before in
+    (start .pre .0, start .pre .1 .name-room, start .pre .2, start .pre .3, start .pre .4, start .pre .1 .fresh, start .pre .1 .low, start .pre .1 .high)
 
 enum-known-end : tie.Need-enum-known-end
 enum-known-end c = c .match .keys1
@@ -15,7 +21,7 @@ enum-told c = c .match .keys2
 returns : tie.Need-returns
 returns c =
     let start = c .before .before .before .before .before .before .before .before .before .before .before .before .before .before .before .before in
-    one-over _ (start .pre .0 .few-names) (start .pre .1) (c .before .before .before .before .before .before .before .before .list-names .ensures .0) (c .before .before .before .before .before .before .before .before .list-names .ensures .1) (c .enum-told .given .1)
+    one-over (list-set (start .args .refs .now) (start .args .rows .now) (start .args .used) (start .args .many) (start .args .a) (start .args .e)) (start .pre .0 .few-names) (start .pre .1) (c .before .before .before .before .before .before .before .before .gather-list .ensures .0) (c .before .before .before .before .before .before .before .before .gather-list .ensures .1 .0) (c .enum-told .given .1)
 
 same-length : tie.Need-same-length
 same-length c = returns c .0 .filled .names-same .same-length
@@ -27,14 +33,12 @@ same-length-3 : tie.Need-same-length-3
 same-length-3 c = returns c .0 .filled .out-same .same-length
 
 close-requires : tie.Need-close-requires
-close-requires c κs =
-    let start = c .before .before .before .before .before .before .before .before .before .before .before .before .before .before .before .before .before .before in
-    one-asks _ (start .pre .0 .few-names) (start .pre .1) (c .before .before .before .before .before .before .before .before .before .before .list-names .ensures .0) (c .before .before .before .before .before .before .before .before .before .before .list-names .ensures .1) (c .before .before .end .given .1)
+close-requires c κs = one-asks (c .before .before .before .before .before .before .before .before .before .before .before .before .before .before .before .before .before .before .pre .1) (c .before .before .before .before .before .before .before .before .before .before .gather-list .ensures .1 .0) (c .before .before .end .given .1)
 
 returns-2 : tie.Need-returns-2
 returns-2 c =
     let start = c .before .before .before .before .before .before .before .before .before .before .before .before .before .before .before .before .before .before .before .before .before in
-    one-closed _ (start .pre .0 .few-names) (start .pre .1) (c .before .before .before .before .before .before .before .before .before .before .before .before .before .list-names .ensures .0) (c .before .before .before .before .before .before .before .before .before .before .before .before .before .list-names .ensures .1) (c .before .before .before .before .before .end .given .1) (c .before .before .close .ensures)
+    one-closed (list-set (start .args .refs .now) (start .args .rows .now) (start .args .used) (start .args .many) (start .args .a) (start .args .e)) (start .pre .0 .few-names) (start .pre .1) (c .before .before .before .before .before .before .before .before .before .before .before .before .before .gather-list .ensures .0) (c .before .before .before .before .before .before .before .before .before .before .before .before .before .gather-list .ensures .1 .0) (c .before .before .before .before .before .end .given .1) (c .before .before .close .ensures)
 
 same-length-4 : tie.Need-same-length-4
 same-length-4 c = returns-2 c .0 .filled .names-same .same-length
@@ -49,7 +53,8 @@ pub file-list-spec : {M : Type 1} → statement M
 file-list-spec =
     tie.close
     (tie.spec
-    list-names-requires
+    cast-gather-list
+    gather-list-requires
     enum-known-end
     enum-told
     same-length

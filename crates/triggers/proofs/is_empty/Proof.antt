@@ -3,7 +3,7 @@ use native.Mathlib.Omega.{arith}
 use mathlib.Core.Path.{refl, ap}
 use lib.ListN.{length}
 use Rattle.triggers.proofs.Marked.{all-there}
-use Rattle.triggers.proofs.Grouping.{term-small, bare-small, start-small, empty-none, empty-more, single-asks, single-empty, single-full, tables-kept, tables-put, opened-still}
+use Rattle.triggers.proofs.Grouping.{term-small, bare-small, start-small, empty-none, empty-more, single-asks, single-empty, single-full, tables-kept, tables-gathered}
 use Rattle.triggers.proofs.is_empty.Statement.{statement}
 use Rattle.triggers.proofs.is_empty.Tie as tie
 
@@ -48,10 +48,15 @@ end-requires c κs =
     let start = c .before .before .before .before .before .before .before .before .before .before .before .before .before in
     bare-small (start .pre .0) (start .args .t) (start .pre .2) (c .before .before .before .bare .ensures)
 
-list-names-requires : tie.Need-list-names-requires
-list-names-requires c κs =
+cast-gather-list : tie.Need-cast-gather-list
+cast-gather-list c = omega (arith, c .before .before .before .before .before .before .before .before .before .before .before .before .before .before .before .before .before .pre .1 .few-marks)
+
+gather-list-requires : tie.Need-gather-list-requires
+gather-list-requires c κs =
     let start = c .before .before .before .before .before .before .before .before .before .before .before .before .before .before .before .before .before in
-    (start .pre .0, opened-still (start .pre .1), single-asks (start .pre .0) (start .pre .2) (all-there (start .pre .0) (start .pre .2) (c .before .before .before .before .before .before .before .before .before .before .before .group-count .ensures) (c .before .before .before .before .before .before .before .before .before .before .if1 .left) (c .before .before .before .before .before .before .before .bare .ensures) (c .before .before .before .end .ensures)) (c .before .before .before .before .before .before .before .before .before .if2 .left) (c .before .before .before .before .before .start .ensures) .0, single-asks (start .pre .0) (start .pre .2) (all-there (start .pre .0) (start .pre .2) (c .before .before .before .before .before .before .before .before .before .before .before .group-count .ensures) (c .before .before .before .before .before .before .before .before .before .before .if1 .left) (c .before .before .before .before .before .before .before .bare .ensures) (c .before .before .before .end .ensures)) (c .before .before .before .before .before .before .before .before .before .if2 .left) (c .before .before .before .before .before .start .ensures) .1, single-asks (start .pre .0) (start .pre .2) (all-there (start .pre .0) (start .pre .2) (c .before .before .before .before .before .before .before .before .before .before .before .group-count .ensures) (c .before .before .before .before .before .before .before .before .before .before .if1 .left) (c .before .before .before .before .before .before .before .bare .ensures) (c .before .before .before .end .ensures)) (c .before .before .before .before .before .before .before .before .before .if2 .left) (c .before .before .before .before .before .start .ensures) .2)
+    let all = all-there (start .pre .0) (start .pre .2) (c .before .before .before .before .before .before .before .before .before .before .before .group-count .ensures) (c .before .before .before .before .before .before .before .before .before .before .if1 .left) (c .before .before .before .before .before .before .before .bare .ensures) (c .before .before .before .end .ensures) in
+    let asks = single-asks (start .pre .0) (start .pre .2) all (c .before .before .before .before .before .before .before .before .before .if2 .left) (c .before .before .before .before .before .start .ensures) in
+    (start .pre .0, start .pre .1 .name-room, asks .0, asks .1, asks .2, start .pre .1 .fresh, omega arith, omega (arith, start .pre .1 .low, start .pre .1 .high))
 
 enum-told : tie.Need-enum-told
 enum-told c = c .match .keys1
@@ -59,7 +64,7 @@ enum-told c = c .match .keys1
 returns-3 : tie.Need-returns-3
 returns-3 c =
     let start = c .before .before .before .before .before .before .before .before .before .before .before .before .before .before .before .before .before .before .before .before .before .before .before .before .before .before in
-    (λ name d. single-empty (start .pre .0) (start .pre .2) (all-there (start .pre .0) (start .pre .2) (c .before .before .before .before .before .before .before .before .before .before .before .before .before .before .before .before .before .before .before .before .group-count .ensures) (c .before .before .before .before .before .before .before .before .before .before .before .before .before .before .before .before .before .before .before .if1 .left) (c .before .before .before .before .before .before .before .before .before .before .before .before .before .before .before .before .bare .ensures) (c .before .before .before .before .before .before .before .before .before .before .before .before .end .ensures)) (c .before .before .before .before .before .before .before .before .before .before .before .before .before .before .before .before .before .before .if2 .left) (c .before .before .before .before .before .before .before .before .before .before .before .before .before .before .start .ensures) (c .enum-told .given .1) (c .before .before .before .before .before .before .before .before .list-names .ensures .0 name d), tables-put (c .before .before .before .before .before .before .before .before .list-names .ensures .1))
+    (λ name d. single-empty (start .pre .0) (start .pre .2) (all-there (start .pre .0) (start .pre .2) (c .before .before .before .before .before .before .before .before .before .before .before .before .before .before .before .before .before .before .before .before .group-count .ensures) (c .before .before .before .before .before .before .before .before .before .before .before .before .before .before .before .before .before .before .before .if1 .left) (c .before .before .before .before .before .before .before .before .before .before .before .before .before .before .before .before .bare .ensures) (c .before .before .before .before .before .before .before .before .before .before .before .before .end .ensures)) (c .before .before .before .before .before .before .before .before .before .before .before .before .before .before .before .before .before .before .if2 .left) (c .before .before .before .before .before .before .before .before .before .before .before .before .before .before .start .ensures) (c .enum-told .given .1) (c .before .before .before .before .before .before .before .before .gather-list .ensures .0 name d), tables-gathered (start .pre .1 .fresh) (c .before .before .before .before .before .before .before .before .gather-list .ensures .1 .0))
 
 same-length-3 : tie.Need-same-length-3
 same-length-3 c = returns-3 c .1 .0 .0 .same-length
@@ -76,7 +81,7 @@ enum-told-2 c = c .match .keys2
 returns-4 : tie.Need-returns-4
 returns-4 c =
     let start = c .before .before .before .before .before .before .before .before .before .before .before .before .before .before .before .before .before .before .before .before .before .before .before .before .before .before in
-    (λ name d. single-full (start .pre .0) (start .pre .2) (all-there (start .pre .0) (start .pre .2) (c .before .before .before .before .before .before .before .before .before .before .before .before .before .before .before .before .before .before .before .before .group-count .ensures) (c .before .before .before .before .before .before .before .before .before .before .before .before .before .before .before .before .before .before .before .if1 .left) (c .before .before .before .before .before .before .before .before .before .before .before .before .before .before .before .before .bare .ensures) (c .before .before .before .before .before .before .before .before .before .before .before .before .end .ensures)) (c .before .before .before .before .before .before .before .before .before .before .before .before .before .before .before .before .before .before .if2 .left) (c .before .before .before .before .before .before .before .before .before .before .before .before .before .before .start .ensures) (c .enum-told2 .given .1) (c .before .before .before .before .before .before .before .before .list-names .ensures .0 name d), tables-put (c .before .before .before .before .before .before .before .before .list-names .ensures .1))
+    (λ name d. single-full (start .pre .0) (start .pre .2) (all-there (start .pre .0) (start .pre .2) (c .before .before .before .before .before .before .before .before .before .before .before .before .before .before .before .before .before .before .before .before .group-count .ensures) (c .before .before .before .before .before .before .before .before .before .before .before .before .before .before .before .before .before .before .before .if1 .left) (c .before .before .before .before .before .before .before .before .before .before .before .before .before .before .before .before .bare .ensures) (c .before .before .before .before .before .before .before .before .before .before .before .before .end .ensures)) (c .before .before .before .before .before .before .before .before .before .before .before .before .before .before .before .before .before .before .if2 .left) (c .before .before .before .before .before .before .before .before .before .before .before .before .before .before .start .ensures) (c .enum-told2 .given .1) (c .before .before .before .before .before .before .before .before .gather-list .ensures .0 name d), tables-gathered (start .pre .1 .fresh) (c .before .before .before .before .before .before .before .before .gather-list .ensures .1 .0))
 
 same-length-6 : tie.Need-same-length-6
 same-length-6 c = returns-4 c .1 .0 .0 .same-length
@@ -100,7 +105,8 @@ is-empty-spec =
     start-requires
     add-a
     end-requires
-    list-names-requires
+    cast-gather-list
+    gather-list-requires
     enum-told
     same-length-3
     same-length-4
