@@ -25,17 +25,17 @@ use Rattle.triggers.proofs.Disjuncts.{entries-append}
 use Rattle.triggers.proofs.Marked.{terms-marked, fresh-later, fresh-next, bare-below, All, patterns, triggers-all, triggers-none, groups-more, groups-fewer}
 use Rattle.triggers.proofs.Filing.{after, after-full, after-sets, comes-as, comes-is, comes-more, comes-next, comes-none}
 
--- a term of the table is within the rows
-pub term-small : {refs rows : List ℕ} {used many named : ℕ} → Rows refs rows used many named → (t : ℕ) → t < many → (16384 ≤ length rows) × (t < 4096) × (bare-of rows t < 4096)
-term-small r t l = (r .row-room, omega (arith, r .few-rows), omega (arith, r .few-rows, bare-below r t l))
+-- what reading the groups of a term asks
+pub patterns-asks : {refs rows : List ℕ} {used many named : ℕ} → Rows refs rows used many named → (t : ℕ) → t < many
+    → (16384 ≤ length rows) × (many ≤ 4096) × (t < many) × (bare-of rows t < many) × (row-start rows (bare-of rows t) ≤ 16384)
+patterns-asks {rows = rows} {many = many} r t l =
+    let u : bare-of rows t < many = omega (arith, bare-below r t l) in
+    (r .row-room, r .few-rows, l, u, omega (arith, r .in-order (bare-of rows t) u, r .in-use (bare-of rows t) u, r .few-references))
 
--- so is the term under its labels
-pub bare-small : {refs rows : List ℕ} {used many named u : ℕ} → Rows refs rows used many named → (t : ℕ) → t < many → u ≡ bare-of rows t → (16384 ≤ length rows) × (u < many) × (many ≤ 4096)
-bare-small r t l e = (r .row-room, omega (arith, bare-below r t l), r .few-rows)
-
--- where the references of a row start is within them
-pub start-small : {refs rows : List ℕ} {used many named v w : ℕ} → Rows refs rows used many named → w ≡ row-start rows v → v < many → w ≤ 16384
-start-small {v = v} r q l = omega (arith, r .in-order v l, r .in-use v l, r .few-references)
+-- what is read of them
+pub patterns-read : (rows : List ℕ) (used many t : ℕ) {n u w e : ℕ} → n ≡ groups-at rows t → u ≡ bare-of rows t → w ≡ row-start rows u → e ≡ row-end rows used many u
+    → (n ≡ groups-at rows t) × (w + 1 ≡ row-start rows (bare-of rows t) + 1) × (e ≡ row-end rows used many (bare-of rows t))
+patterns-read rows used many t a b p q = (a, ap (_+ 1) (p ∙ ap (row-start rows) b), q ∙ ap (row-end rows used many) b)
 
 -- ---- the groups of an `all`
 
@@ -49,8 +49,8 @@ module _ {refs rows : List ℕ} {used many named t groups u e : ℕ} (r : Rows r
   groups-asks b = (omega (arith, all .ends, b .high), omega (arith, all .ends, r .in-use u (all .lower), r .few-references, r .ref-room))
 
   -- before the first group stands the body
-  pub groups-first : {a w : ℕ} → w ≡ row-start rows u → a ≡ w + 1 → Before refs (row-start rows u + 1) (row-end rows used many u) 0 a
-  groups-first p q = rw (q, p) (group-first r (all .lower) (all .quantifier))
+  pub groups-first : {a : ℕ} → a ≡ row-start rows u + 1 → Before refs (row-start rows u + 1) (row-end rows used many u) 0 a
+  groups-first q = rw q (group-first r (all .lower) (all .quantifier))
 
   -- after the last group the references end
   groups-last : {g p : ℕ} → g ≡ groups → Before refs (row-start rows u + 1) (row-end rows used many u) g p → p ≡ e
@@ -207,26 +207,26 @@ module _ {refs rows : List ℕ} {used many named t groups u e : ℕ} (r : Rows r
       (λ q. a (sym (triggers-length (group-names exclude-names (terms-of name refs rows used many)) (patterns refs rows used many u) groups) ∙ q))
       (λ q. b (sym (triggers-length (group-names exclude-names (terms-of name refs rows used many)) (patterns refs rows used many u) groups) ∙ q)))
 
-  module _ {w : ℕ} (one : groups ≡ 1) (starts : w ≡ row-start rows u) where
+  module _ {a : ℕ} (one : groups ≡ 1) (starts : a ≡ row-start rows u + 1) where
     -- the references of one group are all that stand after the body
-    pub single-asks : (w + 1 ≤ e) × (e ≤ used) × ((i : ℕ) → w + 1 ≤ i → i < e → getD refs i 0 % 4096 < many)
+    pub single-asks : (a ≤ e) × (e ≤ used) × ((i : ℕ) → a ≤ i → i < e → getD refs i 0 % 4096 < many)
     single-asks =
-        let b = groups-first r all starts refl in
+        let b = groups-first r all starts in
         let few = all .lower in
         (groups-asks r all b .0, omega (arith, all .ends, r .in-use u few), λ i x y. omega (arith, all .ends, r .lower u i few (omega arith) (omega (arith, all .ends))))
 
     -- they are the one trigger
-    pub single-trigger : (name : ℕ → Name) → triggers-of-term exclude-names (terms-of name refs rows used many) t ≡ group-names exclude-names (terms-of name refs rows used many) (terms-of-words (words refs (w + 1) e)) ∷ []
+    pub single-trigger : (name : ℕ → Name) → triggers-of-term exclude-names (terms-of name refs rows used many) t ≡ group-names exclude-names (terms-of name refs rows used many) (terms-of-words (words refs (a) e)) ∷ []
     unfolding groups-of-words
     single-trigger name =
-        let b = groups-first r all starts refl in
-        let last : w + 1 + group-run 0 (words refs (w + 1) e) ≡ e = groups-last r all (sym one) (groups-next r all b refl) in
+        let b = groups-first r all starts in
+        let last : a + group-run 0 (words refs (a) e) ≡ e = groups-last r all (sym one) (groups-next r all b refl) in
         sym (triggers-all r l all name)
         ∙ ap (λ g. map (group-names exclude-names (terms-of name refs rows used many)) (groups-of-words (patterns refs rows used many u) g)) one
         ∙ ap (λ ts. group-names exclude-names (terms-of name refs rows used many) ts ∷ []) (sym (group-terms r all b (sym last)))
 
     -- a gathered set that has no name is empty, and one that has no room is not
-    pub single-empty : {name : ℕ → Name} {at n : ℕ} {out : List ℕ} {f : Walked} → f ≡ gathered.Names n → Gathers name named (group-names exclude-names (terms-of name refs rows used many) (terms-of-words (words refs (w + 1) e))) at at out f
+    pub single-empty : {name : ℕ → Name} {at n : ℕ} {out : List ℕ} {f : Walked} → f ≡ gathered.Names n → Gathers name named (group-names exclude-names (terms-of name refs rows used many) (terms-of-words (words refs (a) e))) at at out f
         → true ≡ is-empty (triggers-of-term exclude-names (terms-of name refs rows used many) t)
     single-empty {name} p g = rw (single-trigger name) (empty-nil _ (none (rw p at g)))
       where
@@ -234,7 +234,7 @@ module _ {refs rows : List ℕ} {used many named t groups u e : ℕ} (r : Rows r
         none (all-names is count fits small) = omega arith
 
     -- the other answer
-    pub single-full : {name : ℕ → Name} {at : ℕ} {out : List ℕ} {f : Walked} → f ≡ gathered.Full → Gathers name named (group-names exclude-names (terms-of name refs rows used many) (terms-of-words (words refs (w + 1) e))) at at out f
+    pub single-full : {name : ℕ → Name} {at : ℕ} {out : List ℕ} {f : Walked} → f ≡ gathered.Full → Gathers name named (group-names exclude-names (terms-of name refs rows used many) (terms-of-words (words refs (a) e))) at at out f
         → false ≡ is-empty (triggers-of-term exclude-names (terms-of name refs rows used many) t)
     single-full {name} p g = rw (single-trigger name) (empty-some _ (some (rw p at g)))
       where

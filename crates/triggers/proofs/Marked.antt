@@ -160,5 +160,5 @@ groups-fewer f ws m zero h =
     rw e (omega arith)
 groups-fewer f ws m (suc n) h = ⊎-elim
     (λ (k : m < suc n). rw (map-append) (omega (arith, entries-append (map f (groups-of-words ws n)) (f (group-of-words ws n) ∷ []), groups-fewer f ws m n (omega arith))))
-    (λ k. let e : m ≡ suc n = omega arith in rw e (omega arith))
+    (λ (k : suc n ≤ m). let e : m ≡ suc n = omega arith in rw e (omega arith))
     (below m (suc n))

@@ -6,7 +6,7 @@ ghost use lib.ListN.{length, getD};
 ghost use Rattle.model.specs.Lists.{collect};
 ghost use Rattle.model.specs.Names.{Name};
 ghost use Rattle.model.specs.Summaries.{exclude-names, is-empty, free-top-level-names, group-names, triggers-of-term};
-ghost use Rattle.terms.specs.Rows.{row-start, row-end, words, terms-of-words, terms-of, Rows};
+ghost use Rattle.terms.specs.Rows.{row-start, row-end, words, terms-of-words, terms-of, bare-of, groups-at, Rows};
 ghost use Rattle.gather.specs.Sets.{Named, Fresh, Same-but};
 ghost use Rattle.triggers.specs.Entries.{Opened, Files, Filled, Closes};
 ghost use Rattle.triggers.specs.Inner.{Stage, Comes};
@@ -165,6 +165,25 @@ pub fn file_terms(
     Filed::Sets(2, end)
 }
 
+// The pattern groups of the `all` under a term's labels: how many there are, and where their references start and end.
+struct Patterns {
+    count: usize,
+    start: usize,
+    end: usize,
+}
+
+// Finds them; a term that is no `all` has none.
+fn pattern_groups(rows: &[u32], used: usize, many: usize, t: usize) -> Patterns
+    requires { ⌜ (16384 ≤ length (now rows)) × (many ≤ 4096) × (t < many) × (bare-of (now rows) t < many) × (row-start (now rows) (bare-of (now rows) t) ≤ 16384) ⌝ }
+    ensures { λ r. ⌜ (r .count ≡ groups-at (now (rows .entry)) t) × (r .start ≡ row-start (now (rows .entry)) (bare-of (now (rows .entry)) t) + 1) × (r .end ≡ row-end (now (rows .entry)) used many (bare-of (now (rows .entry)) t)) ⌝ }
+{
+    let count = terms::group_count(rows, t);
+    let u = terms::bare(rows, t);
+    let start = terms::start(rows, u) + 1;
+    let end = terms::end(rows, used, many, u);
+    Patterns { count, start, end }
+}
+
 // The same of `triggers_of_term`: a disjunct for each group, in order.
 fn file_groups(
     names: &mut [u32],
@@ -181,13 +200,13 @@ fn file_groups(
     requires { ⌜ Rows (now refs) (now rows) used many named × Stage (now names) (now rows) (now out) mark at × (t < many) ⌝ }
     ensures { λ r. ⌜ Comes (now (names .entry)) (now (rows .entry)) (now (out .entry)) (now (names .exit)) (now (rows .exit)) (now (out .exit)) named mark at (λ name. triggers-of-term exclude-names (terms-of name (now (refs .entry)) (now (rows .entry)) used many) t) r ⌝ }
 {
-    let groups = terms::group_count(rows, t);
+    let p = pattern_groups(rows, used, many, t);
+    let groups = p.count;
     if groups == 0 {
         return Filed::Sets(0, at);
     }
-    let u = terms::bare(rows, t);
-    let mut a = terms::start(rows, u) + 1;
-    let e = terms::end(rows, used, many, u);
+    let mut a = p.start;
+    let e = p.end;
     let mut end = at;
     let mut g = 0;
     while g < groups {
@@ -296,16 +315,13 @@ pub fn is_empty(
     ensures tables { λ r. ⌜ Same-but 8192 2048 (now (names .entry)) (now (names .exit)) × Same-but 12288 4096 (now (rows .entry)) (now (rows .exit)) × Fresh (now (names .exit)) (now (rows .exit)) (mark + 1) ⌝ }
     ensures out { λ r. ⌜ now (out .exit) ≡ now (out .entry) ⌝ }
 {
-    let groups = terms::group_count(rows, t);
-    if groups == 0 {
+    let p = pattern_groups(rows, used, many, t);
+    if p.count == 0 {
         return true;
     }
-    if groups != 1 {
+    if p.count != 1 {
         return false;
     }
-    let u = terms::bare(rows, t);
-    let a = terms::start(rows, u) + 1;
-    let e = terms::end(rows, used, many, u);
     if let Walked::Names(_) = gather::gather_list(
         names,
         refs,
@@ -314,8 +330,8 @@ pub fn is_empty(
         named,
         used,
         many,
-        a,
-        e,
+        p.start,
+        p.end,
         mark as u32,
         at,
         at,

@@ -1,6 +1,6 @@
 -- `triggers::file_term` meets its contract.
 use native.Mathlib.Omega.{arith}
-use Rattle.triggers.proofs.Filing.{opened-stage}
+use Rattle.triggers.proofs.Filing.{opened-stage, posts}
 use Rattle.triggers.proofs.file_term.Statement.{statement}
 use Rattle.triggers.proofs.file_term.Tie as tie
 
@@ -10,7 +10,7 @@ file-one-requires c κs =
     (start .pre .0, opened-stage (start .pre .1), omega (arith, start .pre .2))
 
 returns : tie.Need-returns
-returns c = (c .before .before .before .before .before .before .file-one .ensures .0 .files, c .before .before .before .before .before .before .file-one .ensures .0 .filled)
+returns c = posts (c .before .before .before .before .before .before .file-one .ensures .0)
 
 same-length : tie.Need-same-length
 same-length c = returns c .1 .names-same .same-length

@@ -1,7 +1,8 @@
 -- `triggers::file_terms` meets its contract: one disjunct after another.
 use native.Mathlib.Omega.{arith}
+use mathlib.Core.List.{[], _∷_}
 use Rattle.gather.proofs.Walking.{rows-marked}
-use Rattle.triggers.proofs.Filing.{opened-stage, stage-then, comes-is, comes-ends, two-first, two-full, two-both, posts}
+use Rattle.triggers.proofs.Filing.{term-set, opened-stage, stage-then, comes-is, comes-ends, two-first, two-full, two-both, posts}
 use Rattle.triggers.proofs.file_terms.Statement.{statement}
 use Rattle.triggers.proofs.file_terms.Tie as tie
 
@@ -19,7 +20,8 @@ enum-told c = c .match .keys2
 returns-3 : tie.Need-returns-3
 returns-3 c =
     let start = c .before .before .before .before .before .before .before .before .before .before .before .before .before .before .before .before .before .before .before .before .before .before .before .before .before .before .before .before .before .before in
-    posts (two-both (start .args .t) (start .args .u) (start .pre .0) (start .pre .1 .high) (comes-is (c .before .before .before .before .before .before .before .before .before .before .before .before .before .before .middle .given .1) (c .before .before .before .before .before .before .before .before .before .before .before .before .before .before .before .before .before .before .before .before .before .before .file-one .ensures .0)) (c .before .before .before .before .before .before .before .before .before .file-one2 .ensures .0) (c .before .end .given .1) (c .before .before .before .before .before .before .before .before .before .before .before .before .before .before .before .before .before .before .before .before .before .before .file-one .ensures .1 _ _ (c .before .before .before .before .before .before .before .before .before .before .before .before .before .before .middle .given .1)) (c .before .before .before .before .before .before .before .before .before .file-one2 .ensures .1 _ _ (c .before .end .given .1)))
+    let first = comes-is {s = λ name. term-set (start .args .refs .now) (start .args .rows .now) (start .args .used) (start .args .many) (start .args .t) name ∷ []} (c .before .before .before .before .before .before .before .before .before .before .before .before .before .before .middle .given .1) (c .before .before .before .before .before .before .before .before .before .before .before .before .before .before .before .before .before .before .before .before .before .before .file-one .ensures .0) in
+    posts (two-both (start .args .t) (start .args .u) (start .pre .0) (start .pre .1 .high) first (c .before .before .before .before .before .before .before .before .before .file-one2 .ensures .0) (c .before .end .given .1) (c .before .before .before .before .before .before .before .before .before .before .before .before .before .before .before .before .before .before .before .before .before .before .file-one .ensures .1 _ _ (c .before .before .before .before .before .before .before .before .before .before .before .before .before .before .middle .given .1)) (c .before .before .before .before .before .before .before .before .before .file-one2 .ensures .1 _ _ (c .before .end .given .1)))
 
 same-length-7 : tie.Need-same-length-7
 same-length-7 c = returns-3 c .1 .names-same .same-length
@@ -43,15 +45,22 @@ same-length-3 : tie.Need-same-length-3
 same-length-3 c = returns c .1 .out-same .same-length
 
 sub-file-one : tie.Need-sub-file-one
-sub-file-one c = comes-ends (comes-is (c .before .before .before .before .middle .given .1) (c .before .before .before .before .before .before .before .before .before .before .before .before .file-one .ensures .0)) .0
+sub-file-one c =
+    let start = c .before .before .before .before .before .before .before .before .before .before .before .before .before .before .before .before .before .before .before .before in
+    let first = comes-is {s = λ name. term-set (start .args .refs .now) (start .args .rows .now) (start .args .used) (start .args .many) (start .args .t) name ∷ []} (c .before .before .before .before .middle .given .1) (c .before .before .before .before .before .before .before .before .before .before .before .before .file-one .ensures .0) in
+    comes-ends first .0
 
 add-file-one : tie.Need-add-file-one
-add-file-one c = omega (arith, c .before .before .before .before .before .before .before .before .before .before .before .before .before .before .before .before .before .before .before .before .pre .1 .few-marks, comes-ends (comes-is (c .before .before .before .before .middle .given .1) (c .before .before .before .before .before .before .before .before .before .before .before .before .file-one .ensures .0)) .0, comes-ends (comes-is (c .before .before .before .before .middle .given .1) (c .before .before .before .before .before .before .before .before .before .before .before .before .file-one .ensures .0)) .1)
+add-file-one c =
+    let start = c .before .before .before .before .before .before .before .before .before .before .before .before .before .before .before .before .before .before .before .before in
+    let first = comes-is {s = λ name. term-set (start .args .refs .now) (start .args .rows .now) (start .args .used) (start .args .many) (start .args .t) name ∷ []} (c .before .before .before .before .middle .given .1) (c .before .before .before .before .before .before .before .before .before .before .before .before .file-one .ensures .0) in
+    omega (arith, start .pre .1 .few-marks, comes-ends first .0, comes-ends first .1)
 
 file-one-requires-2 : tie.Need-file-one-requires-2
 file-one-requires-2 c κs =
     let start = c .before .before .before .before .before .before .before .before .before .before .before .before .before .before .before .before .before .before .before .before in
-    (rows-marked (c .before .before .before .before .before .before .before .before .before .before .before .before .file-one .ensures .0 .filled .rows-same) (start .pre .0), stage-then (opened-stage (start .pre .1)) (comes-is (c .before .before .before .before .middle .given .1) (c .before .before .before .before .before .before .before .before .before .before .before .before .file-one .ensures .0)), omega (arith, start .pre .2, start .pre .3))
+    let first = comes-is {s = λ name. term-set (start .args .refs .now) (start .args .rows .now) (start .args .used) (start .args .many) (start .args .t) name ∷ []} (c .before .before .before .before .middle .given .1) (c .before .before .before .before .before .before .before .before .before .before .before .before .file-one .ensures .0) in
+    (rows-marked (first .filled .rows-same) (start .pre .0), stage-then {s = λ name. term-set (start .args .refs .now) (start .args .rows .now) (start .args .used) (start .args .many) (start .args .t) name ∷ []} (opened-stage (start .pre .1)) first, omega (arith, start .pre .2, start .pre .3))
 
 enum-known-end : tie.Need-enum-known-end
 enum-known-end c = c .match2 .keys1
@@ -62,7 +71,8 @@ enum-told-2 c = c .match2 .keys2
 returns-2 : tie.Need-returns-2
 returns-2 c =
     let start = c .before .before .before .before .before .before .before .before .before .before .before .before .before .before .before .before .before .before .before .before .before .before .before .before .before .before .before .before .before in
-    posts (two-full (start .args .t) (start .args .u) (start .pre .0) (start .pre .1 .high) (comes-is (c .before .before .before .before .before .before .before .before .before .before .before .before .before .middle .given .1) (c .before .before .before .before .before .before .before .before .before .before .before .before .before .before .before .before .before .before .before .before .before .file-one .ensures .0)) (c .before .before .before .before .before .before .before .before .file-one2 .ensures .0) (c .enum-told2 .given .1))
+    let first = comes-is {s = λ name. term-set (start .args .refs .now) (start .args .rows .now) (start .args .used) (start .args .many) (start .args .t) name ∷ []} (c .before .before .before .before .before .before .before .before .before .before .before .before .before .middle .given .1) (c .before .before .before .before .before .before .before .before .before .before .before .before .before .before .before .before .before .before .before .before .before .file-one .ensures .0) in
+    posts (two-full (start .args .t) (start .args .u) (start .pre .0) (start .pre .1 .high) first (c .before .before .before .before .before .before .before .before .file-one2 .ensures .0) (c .enum-told2 .given .1))
 
 same-length-4 : tie.Need-same-length-4
 same-length-4 c = returns-2 c .1 .names-same .same-length

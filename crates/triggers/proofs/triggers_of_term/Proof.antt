@@ -1,5 +1,5 @@
 -- `triggers::triggers_of_term` meets its contract.
-use Rattle.triggers.proofs.Filing.{opened-stage}
+use Rattle.triggers.proofs.Filing.{opened-stage, posts}
 use Rattle.triggers.proofs.triggers_of_term.Statement.{statement}
 use Rattle.triggers.proofs.triggers_of_term.Tie as tie
 
@@ -9,7 +9,7 @@ file-groups-requires c κs =
     (start .pre .0, opened-stage (start .pre .1), start .pre .2)
 
 returns : tie.Need-returns
-returns c = (c .before .before .before .before .before .before .file-groups .ensures .files, c .before .before .before .before .before .before .file-groups .ensures .filled)
+returns c = posts (c .before .before .before .before .before .before .file-groups .ensures)
 
 same-length : tie.Need-same-length
 same-length c = returns c .1 .names-same .same-length
