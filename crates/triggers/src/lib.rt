@@ -172,7 +172,7 @@ struct Patterns {
     end: usize,
 }
 
-// Finds them; a term that is no `all` has none.
+// Reads them from the rows; a term that is no `all` has none.
 fn pattern_groups(rows: &[u32], used: usize, many: usize, t: usize) -> Patterns
     requires { ⌜ (16384 ≤ length (now rows)) × (many ≤ 4096) × (t < many) × (bare-of (now rows) t < many) × (row-start (now rows) (bare-of (now rows) t) ≤ 16384) ⌝ }
     ensures { λ r. ⌜ (r .count ≡ groups-at (now (rows .entry)) t) × (r .start ≡ row-start (now (rows .entry)) (bare-of (now (rows .entry)) t) + 1) × (r .end ≡ row-end (now (rows .entry)) used many (bare-of (now (rows .entry)) t)) ⌝ }
@@ -184,7 +184,7 @@ fn pattern_groups(rows: &[u32], used: usize, many: usize, t: usize) -> Patterns
     Patterns { count, start, end }
 }
 
-// The same of `triggers_of_term`: a disjunct for each group, in order.
+// `triggers_of_term` with a mark for each entry that is left, so that the triggers of terms can be filed one after the other.
 fn file_groups(
     names: &mut [u32],
     refs: &[u32],
