@@ -18,23 +18,9 @@ use Rattle.terms.specs.Rows.{row-kind, row-op, row-head, row-start, row-extra, 
 use Rattle.lines.specs.Additions.{row-word, with-row, pushed, Pushed, Patterns}
 use Rattle.terms.proofs.Laws.{end-next, end-last, equal, below}
 use Rattle.lines.proofs.Laws.{pushed-in, pushed-full}
-use Rattle.terms.proofs.Table.{words-nil, words-cons}
+use Rattle.terms.proofs.Table.{words-same, words-snoc}
 
 -- ---- one row more
-
--- words of lists that agree up to their end are the same
-words-same : (l m : List ℕ) (d a e : ℕ) → e - a ≡ d → e ≤ length l → e ≤ length m → ((i : ℕ) → i < e → getD m i 0 ≡ getD l i 0) → words m a e ≡ words l a e
-words-same l m zero a e q x y h = rw (words-nil m a e (omega arith), words-nil l a e (omega arith))
-words-same l m (suc d) a e q x y h =
-    words-cons m a e (omega arith) y ∙ ap₂ _∷_ (h a (omega arith)) (words-same l m d (a + 1) e (omega arith) x y h) ∙ sym (words-cons l a e (omega arith) x)
-
--- words with one more at their end
-words-snoc : (l : List ℕ) (a e : ℕ) → a ≤ e → e < length l → words l a (e + 1) ≡ words l a e ++ (getD l e 0 ∷ [])
-words-snoc l a e h k =
-    let n : e + 1 - a ≡ suc (e - a) = omega arith in
-    let i : a + (e - a) ≡ e = omega arith in
-    let j : e - a < length (drop a l) = rw (length-drop a l) (omega arith) in
-    rw (n, take-suc (drop a l) (e - a) 0 j, getD-drop a l (e - a) 0, i)
 
 -- pushing a reference leaves those before it
 pub push-agrees : (refs : List ℕ) (used word i : ℕ) → i < used → getD (pushed refs used word) i 0 ≡ getD refs i 0

@@ -1,0 +1,4 @@
+pub mod Disjuncts
+pub mod Marked
+pub mod Filing
+pub mod Grouping
