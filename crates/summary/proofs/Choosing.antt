@@ -114,30 +114,30 @@ module _ {file names refs rows out names′ rows′ out′ : List ℕ} {named us
     unfolding kinded trimmed-table parts-kind Sum-triggers
     choose-parts {t} e s = rw e (sorts-chooses (λ terms. parts-kind terms t) (choice.Parts t) refl refl refl s)
 
-module _ {file names refs rows out : List ℕ} {named used many mark at : ℕ} {c : Choice} (tables : Tables file names refs rows named used many) (b : Begun names rows out mark at) where
-  -- a kind without triggers
-  none-sorts : (k : Kinded) → k .triggers ≡ [] → Sorts names rows out names rows out named mark at (λ name. k) (sorted.Kind (k .kind) at named)
-  none-sorts k e = nothing-sorts (k .kind) (λ name. k) (λ name d. (refl, e)) (b .low) (same-self 8192 2048 names) (same-self 12288 4096 rows) (fresh-later mark (mark + 1) (omega arith) (b .fresh))
+-- a kind without triggers
+none-sorts : {names rows out : List ℕ} {mark at : ℕ} (named : ℕ) → Begun names rows out mark at → (k : Kinded) → k .triggers ≡ [] → Sorts names rows out names rows out named mark at (λ name. k) (sorted.Kind (k .kind) at named)
+none-sorts {names} {rows} {mark = mark} named b k e = nothing-sorts (k .kind) (λ name. k) (λ name d. (refl, e)) (b .low) (same-self 8192 2048 names) (same-self 12288 4096 rows) (fresh-later mark (mark + 1) (omega arith) (b .fresh))
 
+module _ {file names refs rows out : List ℕ} {named used many mark at : ℕ} {c : Choice} (tables : Tables file names refs rows named used many) (b : Begun names rows out mark at) where
   -- no disjunct
   pub choose-nothing : c ≡ choice.Nothing → Chooses file names refs rows out names rows out named used many mark at c (sorted.Kind (asum.Triggers 0) at named)
   unfolding kinded trimmed-table Sum-triggers
-  choose-nothing e = rw e (sorts-chooses tables (λ terms. Sum-triggers []) choice.Nothing refl refl refl (none-sorts (Sum-triggers []) refl))
+  choose-nothing e = rw e (sorts-chooses tables (λ terms. Sum-triggers []) choice.Nothing refl refl refl (none-sorts named b (Sum-triggers []) refl))
 
   -- a fact that is dropped
   pub choose-drop : c ≡ choice.Drop → Chooses file names refs rows out names rows out named used many mark at c (sorted.Kind asum.Drop at named)
   unfolding kinded trimmed-table Sum-drop
-  choose-drop e = rw e (sorts-chooses tables (λ terms. Sum-drop) choice.Drop refl refl refl (none-sorts Sum-drop refl))
+  choose-drop e = rw e (sorts-chooses tables (λ terms. Sum-drop) choice.Drop refl refl refl (none-sorts named b Sum-drop refl))
 
   -- an ambient fact
   pub choose-ambient : c ≡ choice.Ambient → Chooses file names refs rows out names rows out named used many mark at c (sorted.Kind (asum.Ambient false) at named)
   unfolding kinded trimmed-table Sum-ambient
-  choose-ambient e = rw e (sorts-chooses tables (λ terms. Sum-ambient false) choice.Ambient refl refl refl (none-sorts (Sum-ambient false) refl))
+  choose-ambient e = rw e (sorts-chooses tables (λ terms. Sum-ambient false) choice.Ambient refl refl refl (none-sorts named b (Sum-ambient false) refl))
 
   -- no rule
   pub choose-no : c ≡ choice.No → Chooses file names refs rows out names rows out named used many mark at c (sorted.Kind asum.Drop at named)
   unfolding kinded trimmed-table Sum-drop
-  choose-no e = rw e (record { kinds = λ k h. let z : _≡_ {A = ℕ} 0 1 = cc in let y : ⊥ = omega arith in absurd y; marks = none-sorts Sum-drop refl .marks })
+  choose-no e = rw e (record { kinds = λ k h. let z : _≡_ {A = ℕ} 0 1 = cc in let y : ⊥ = omega arith in absurd y; marks = none-sorts named b Sum-drop refl .marks })
 
   -- a token
   pub choose-token : {names′ out′ : List ℕ} {n : ℕ} {r : Sorted} → c ≡ choice.Token n → Tokens file names out names′ out′ named n at r
