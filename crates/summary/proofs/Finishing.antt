@@ -206,10 +206,24 @@ module _ {file names refs rows out names′ rows′ out′ : List ℕ} {named us
             spelled = kept-table .names ∙ k .spelled;
           }
 
+      -- the words of `out` but the places of the free names and of the entries
+      kept-out : (x : Walked) → Same-but uses (ended 6144 x - uses) out′ out″ → uses ≤ ended 6144 x → (i : ℕ)
+          → (uses ≤ i → i < uses-end uses (finished a e total n x) → ⊥)
+          → (6144 + filed ≤ i → i < 6144 + entries-end filed (entries (fact-kind file names refs rows named used many name t .triggers)) (finished a e total n x) → ⊥)
+          → getD out″ i 0 ≡ getD out i 0
+      unfolding uses-end entries-end ended sorted-end
+      kept-out (walks.Names k) s up i f g =
+          let (lo, hi) = filed-ends in
+          s .same-words i (λ p q. f p (omega arith)) ∙ chooses .marks .out-same .same-words i (λ p q. g p (omega arith))
+      kept-out walks.Full s up i f g =
+          let (lo, hi) = filed-ends in
+          let ends = filed-there .ends in
+          s .same-words i (λ p q. f p (omega arith)) ∙ chooses .marks .out-same .same-words i (λ p q. g p (omega arith))
+
       -- the slices then
-      kept-slices : (x : Walked) → finishes .walked ≡ x → Slices file names refs rows out names″ rows″ out″ named used many name t filed uses (finished a e total n x)
-      unfolding fact-kind uses-end entries-end ended sorted-end
-      kept-slices x z =
+      kept-slices : Slices file names refs rows out names″ rows″ out″ named used many name t filed uses (finished a e total n (finishes .walked))
+      unfolding fact-kind
+      kept-slices =
           let m = chooses .marks in
           let s = finishes .slices in
           record {
@@ -219,16 +233,16 @@ module _ {file names refs rows out names′ rows′ out′ : List ℕ} {named us
             name-words = same-then (m .names-same) (s .names-same);
             row-words = same-then (m .rows-same) (s .rows-same);
             out-length = s .out-same .same-length ∙ m .out-same .same-length;
-            out-words = ?;
+            out-words = kept-out (finishes .walked) (s .out-same) (s .grows);
           }
 
       -- the summary, or that there is no room for the free names
-      kept-summary : (x : Walked) → Gathers (name-of file names″) named (fact-names file names refs rows named used many name t) uses 6144 out″ x → finishes .walked ≡ x
+      kept-summary : (x : Walked) → Gathers (name-of file names″) named (fact-names file names refs rows named used many name t) uses 6144 out″ x
           → Summarizes file names refs rows named used many name t names″ rows″ out″ mark filed uses (finished a e total n x)
-      kept-summary (walks.Names k) (all-names p q fits small) z =
+      kept-summary (walks.Names k) (all-names p q fits small) =
           let (lo, hi) = filed-ends in
           let ends = filed-there .ends in
-          done (record {
+          done {s = record { kind = a; entries = e - 6144; uses = k; named = total; mark = n + 1 }} (record {
             kind = filed-there .kind;
             entry-count = omega arith;
             triggers = kept-triggers;
@@ -239,9 +253,9 @@ module _ {file names refs rows out names′ rows′ out′ : List ℕ} {named us
             next-mark = omega arith;
             fresh = gathered-fresh (finishes .slices) (rw is (chooses .marks .fresh a e total refl));
           })
-      kept-summary walks.Full (no-names p f) z = uses-full {total = total} kept-triggers (omega arith)
+      kept-summary walks.Full (no-names p f) = uses-full {total = total} kept-triggers (omega arith)
 
       -- a fact whose kind was filed
       pub finish-law : Summarizes file names refs rows named used many name t names″ rows″ out″ mark filed uses r
           × Slices file names refs rows out names″ rows″ out″ named used many name t filed uses r
-      finish-law = rw (finishes .answer) (kept-summary (finishes .walked) gathered-names refl, kept-slices (finishes .walked) refl)
+      finish-law = rw (finishes .answer) (kept-summary (finishes .walked) gathered-names, kept-slices)

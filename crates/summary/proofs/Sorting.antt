@@ -1,5 +1,5 @@
 -- Filed disjuncts as a kind, whatever the names of the numbers are.
-use Prim.Native.Nat.{ℕ, _+_, _-_, _≤_, _<_}
+use Prim.Native.Nat.{ℕ, _+_, _-_, _%_, _≤_, _<_}
 use native.Mathlib.Omega.{arith}
 use mathlib.Core.Path.{_≡_, refl, sym, ap, _∙_}
 use mathlib.Core.Bool.{Bool, true, false, cond}
@@ -158,3 +158,8 @@ parts-sorts {rows = rows} {refs = refs} {used = used} {many} {a = a} {e} t table
     sorts-as
     (λ name d. ap (λ ts. Sum-triggers (collect (triggers-of-term exclude-names (terms-of name refs rows used many)) ts)) (rw (p, q) (sym (row-references table l name))))
     (files-sorts (λ name. collect (triggers-of-term exclude-names (terms-of name refs rows used many)) (terms-of-words (words refs a e))) k w z)
+
+-- what filing them asks
+pub parts-asks : {refs rows : List ℕ} {used many named t a e : ℕ} → Rows refs rows used many named → t < many → a ≡ row-start rows t → e ≡ row-end rows used many t
+    → (a ≤ e) × (e ≤ used) × ((i : ℕ) → a ≤ i → i < e → getD refs i 0 % 4096 < many)
+parts-asks {t = t} r l p q = rw (p, q) (r .in-order t l, r .in-use t l, λ i x y. omega (arith, r .lower t i l x y))

@@ -1,3 +1,8 @@
+-- `summary::put_two` meets its contract: two entries, where there is room for both.
+use native.Mathlib.Omega.{arith}
+use mathlib.Core.Path.{refl}
+use lib.ListN.{length-set}
+use Rattle.summary.specs.Steps.{both, over}
 use borrow.Author.Needs.{needs}
 use Rattle.summary.proofs.put_two.Statement.{statement}
 use Rattle.summary.proofs.put_two.Tie as tie
@@ -6,7 +11,7 @@ use Rattle.summary.proofs.put_two.Lts as lts
 
 -- src/lib.rt:52:9
 returns : tie.Need-returns
-returns c = ?
+returns c = over (omega arith) refl
 
 -- src/lib.rt:54:16
 add-out : tie.Need-add-out
@@ -42,7 +47,7 @@ mul-out-2 c = search needs
 
 -- src/lib.rt:55:5
 slice-write-out-2 : tie.Need-slice-write-out-2
-slice-write-out-2 c = ?
+slice-write-out-2 c = simp length-set (omega arith)
 
 -- src/lib.rt:56:41
 add-t8 : tie.Need-add-t8
@@ -54,7 +59,7 @@ same-length c = search needs
 
 -- src/lib.rt:47:1
 returns-2 : tie.Need-returns-2
-returns-2 c = ?
+returns-2 c = both (omega arith) refl
 
 pub put-two-spec : {M : Type 1} → statement M
 put-two-spec =
