@@ -23,7 +23,7 @@ use Rattle.triggers.specs.Entries.{Files, Filled}
 use Rattle.triggers.specs.declared.Filed.{Filed}
 use Rattle.triggers.proofs.Marked.{named-marked, fresh-later}
 use Rattle.rules.specs.Views.{Tables, terms-in}
-use Rattle.rules.specs.Choices.{kinded}
+use Rattle.rules.specs.Choices.{kinded, Within}
 use Rattle.rules.specs.declared.Choice.{Choice}
 use Rattle.rules.specs.declared.Choice.the-variants as choice
 use Rattle.summary.specs.Facts.{token-table, trimmed-table}
@@ -155,3 +155,36 @@ module _ {file names refs rows out : List ℕ} {named used many mark at : ℕ} {
       }));
     };
   })
+
+-- ---- the numbers of a choice
+
+module _ (named many : ℕ) {c : Choice} where
+  -- the term of one set
+  pub within-one : {t : ℕ} → c ≡ choice.One t → Within named many c → t < many
+  unfolding Within
+  within-one e w = rw e at w
+
+  -- the terms of two
+  pub within-two : {t u : ℕ} → c ≡ choice.Two t u → Within named many c → (t < many) × (u < many)
+  unfolding Within
+  within-two e w = rw e at w
+
+  -- the term of groups
+  pub within-groups : {t : ℕ} → c ≡ choice.Groups t → Within named many c → t < many
+  unfolding Within
+  within-groups e w = rw e at w
+
+  -- a payload
+  pub within-refinement : {t : ℕ} → c ≡ choice.Refinement t → Within named many c → t < many
+  unfolding Within
+  within-refinement e w = rw e at w
+
+  -- a token
+  pub within-token : {n : ℕ} → c ≡ choice.Token n → Within named many c → n < named
+  unfolding Within
+  within-token e w = rw e at w
+
+  -- an `and`
+  pub within-parts : {t : ℕ} → c ≡ choice.Parts t → Within named many c → t < many
+  unfolding Within
+  within-parts e w = rw e at w

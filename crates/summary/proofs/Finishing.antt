@@ -96,6 +96,11 @@ gathered-fresh g f = record {
   name-marks = λ n l. ⊎-elim (λ e. omega arith) (λ e. omega (arith, f .name-marks n l)) (g .name-marks n l);
 }
 
+-- what a choice comes to, by its answer
+pub chooses-is : {file names refs rows out names′ rows′ out′ : List ℕ} {named used many mark at : ℕ} {chosen : Choice} {r r′ : Sorted} → r ≡ r′ → Chooses file names refs rows out names′ rows′ out′ named used many mark at chosen r
+    → Chooses file names refs rows out names′ rows′ out′ named used many mark at chosen r′
+chooses-is e c = rw e at c
+
 -- what filing asks
 pub asked-begun : {file names refs rows out : List ℕ} {named used many name t mark filed uses : ℕ} → Asked file names refs rows out named used many name t mark filed uses → Begun names rows out mark (6144 + filed)
 asked-begun a = record { name-room = a .tables .name-table .room; fresh = a .fresh; few-marks = a .few-marks; low = omega (arith, a .few-entries); room = a .room }

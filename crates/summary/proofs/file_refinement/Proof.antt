@@ -16,7 +16,7 @@ is-empty-requires c κs = (c .before .before .before .before .before .before .be
 
 -- src/lib.rt:114:9
 returns : tie.Need-returns
-returns c = refinement-empty (c .before .before .before .before .before .before .before .before .before .before .before .before .before .before .before .args .t) (c .before .before .before .before .before .before .before .before .before .before .before .before .before .before .before .pre .0) (c .before .before .before .before .before .before .before .is-empty .ensures .0) (c .before .before .before .before .before .before .before .is-empty .ensures .1) (c .before .before .before .before .before .before .before .is-empty .ensures .2) (c .if1 .taken) (c .before .before .before .before .before .before .before .before .before .before .before .before .before .before .before .pre .1 .low)
+returns c = refinement-empty (c .before .before .before .before .before .before .before .before .before .before .before .before .before .before .before .args .t) (c .before .before .before .before .before .before .before .before .before .before .before .before .before .before .before .pre .0) (c .before .before .before .before .before .before .before .is-empty .ensures .0) (c .before .before .before .before .before .before .before .is-empty .ensures .1 .0) (c .before .before .before .before .before .before .before .is-empty .ensures .1 .1) (c .if1 .taken) (c .before .before .before .before .before .before .before .before .before .before .before .before .before .before .before .pre .1 .low)
 
 -- src/lib.rt:117:82
 add-triggers-of-term : tie.Need-add-triggers-of-term
@@ -24,7 +24,7 @@ add-triggers-of-term c = search needs
 
 -- src/lib.rt:117:9
 triggers-of-term-requires : tie.Need-triggers-of-term-requires
-triggers-of-term-requires c κs = (rows-marked (c .before .before .before .before .before .before .before .before .before .before .is-empty .ensures .1 .1) (c .before .before .before .before .before .before .before .before .before .before .before .before .before .before .before .before .before .before .pre .0), begun-then (c .before .before .before .before .before .before .before .before .before .before .before .before .before .before .before .before .before .before .pre .1) (c .before .before .before .before .before .before .before .before .before .before .is-empty .ensures .1) (c .before .before .before .before .before .before .before .before .before .before .is-empty .ensures .2), c .before .before .before .before .before .before .before .before .before .before .before .before .before .before .before .before .before .before .pre .2)
+triggers-of-term-requires c κs = (rows-marked (c .before .before .before .before .before .before .before .before .before .before .is-empty .ensures .1 .0 .1) (c .before .before .before .before .before .before .before .before .before .before .before .before .before .before .before .before .before .before .pre .0), begun-then (c .before .before .before .before .before .before .before .before .before .before .before .before .before .before .before .before .before .before .pre .1) (c .before .before .before .before .before .before .before .before .before .before .is-empty .ensures .1 .0) (c .before .before .before .before .before .before .before .before .before .before .is-empty .ensures .1 .1), c .before .before .before .before .before .before .before .before .before .before .before .before .before .before .before .before .before .before .pre .2)
 
 -- src/lib.rt:116:5
 filed-requires : tie.Need-filed-requires
@@ -32,7 +32,7 @@ filed-requires c κs = search needs
 
 -- src/lib.rt:98:1
 returns-2 : tie.Need-returns-2
-returns-2 c = refinement-more (c .before .before .before .before .before .before .before .before .before .before .before .before .before .before .before .before .before .before .before .before .before .before .before .before .before .before .args .t) (c .before .before .before .before .before .before .before .before .before .before .before .before .before .before .before .before .before .before .before .before .before .before .before .before .before .before .pre .0) (c .before .before .before .before .before .before .before .before .before .before .before .before .before .before .before .before .before .before .is-empty .ensures .0) (c .before .before .before .before .before .before .before .before .before .before .before .before .before .before .before .before .before .before .is-empty .ensures .1) (c .before .before .before .before .before .before .before .before .before .before .before .before .before .before .before .before .before .before .is-empty .ensures .2) (c .before .before .before .before .before .before .before .before .before .before .before .if1 .left) (c .before .before .before .before .before .before .before .triggers-of-term .ensures .0) (c .before .before .before .before .before .before .before .triggers-of-term .ensures .1) (c .filed .ensures)
+returns-2 c = refinement-more (c .before .before .before .before .before .before .before .before .before .before .before .before .before .before .before .before .before .before .before .before .before .before .before .before .before .before .args .t) (c .before .before .before .before .before .before .before .before .before .before .before .before .before .before .before .before .before .before .before .before .before .before .before .before .before .before .pre .0) (c .before .before .before .before .before .before .before .before .before .before .before .before .before .before .before .before .before .before .is-empty .ensures .0) (c .before .before .before .before .before .before .before .before .before .before .before .before .before .before .before .before .before .before .is-empty .ensures .1 .0) (c .before .before .before .before .before .before .before .before .before .before .before .before .before .before .before .before .before .before .is-empty .ensures .1 .1) (c .before .before .before .before .before .before .before .before .before .before .before .if1 .left) (c .before .before .before .before .before .before .before .triggers-of-term .ensures .0) (c .before .before .before .before .before .before .before .triggers-of-term .ensures .1) (c .filed .ensures)
 
 -- src/lib.rt:114:9
 same-length : tie.Need-same-length

@@ -1,3 +1,7 @@
+-- `summary::summarize_assumption` meets its contract: the choice, what it files, the free names.
+use native.Mathlib.Omega.{arith}
+use mathlib.Core.Path.{refl}
+use Rattle.summary.proofs.Finishing.{chooses-is, asked-begun, filed-ends, finish-asks, finish-law, over-law}
 use borrow.Author.Needs.{needs}
 use Rattle.summary.proofs.summarize_assumption.Statement.{statement}
 use Rattle.summary.proofs.summarize_assumption.Tie as tie
@@ -17,7 +21,7 @@ add-at c = search needs
 
 -- src/lib.rt:265:11
 file-choice-requires : tie.Need-file-choice-requires
-file-choice-requires c κs = ?
+file-choice-requires c κs = (c .before .before .before .before .before .before .before .before .before .before .before .pre .tables, c .before .before .before .summarize-kind .ensures .1, asked-begun (c .before .before .before .before .before .before .before .before .before .before .before .pre))
 
 -- src/lib.rt:278:22
 enum-known-kind : tie.Need-enum-known-kind
@@ -29,15 +33,15 @@ add-finish c = search needs
 
 -- src/lib.rt:290:25
 sub-finish : tie.Need-sub-finish
-sub-finish c = ?
+sub-finish c = filed-ends (c .before .before .before .before .before .before .before .before .before .before .before .before .before .before .before .before .before .before .before .before .before .before .before .before .pre) (c .before .before .before .before .before .before .before .before .before .before .before .before .before .before .before .before .summarize-kind .ensures .1) (c .before .before .before .before .before .before .before .before .before .before .before .before .before .before .before .before .summarize-kind .ensures .0) (chooses-is (c .before .before .before .before .kind .given .1) (c .before .before .before .before .before .before .before .before .before .before .before .before .file-choice .ensures)) .0
 
 -- src/lib.rt:290:13
 add-finish-2 : tie.Need-add-finish-2
-add-finish-2 c = ?
+add-finish-2 c = omega (arith, c .before .before .before .before .before .before .before .before .before .before .before .before .before .before .before .before .before .before .before .before .before .before .before .before .pre .few-marks, filed-ends (c .before .before .before .before .before .before .before .before .before .before .before .before .before .before .before .before .before .before .before .before .before .before .before .before .pre) (c .before .before .before .before .before .before .before .before .before .before .before .before .before .before .before .before .summarize-kind .ensures .1) (c .before .before .before .before .before .before .before .before .before .before .before .before .before .before .before .before .summarize-kind .ensures .0) (chooses-is (c .before .before .before .before .kind .given .1) (c .before .before .before .before .before .before .before .before .before .before .before .before .file-choice .ensures)) .0, filed-ends (c .before .before .before .before .before .before .before .before .before .before .before .before .before .before .before .before .before .before .before .before .before .before .before .before .pre) (c .before .before .before .before .before .before .before .before .before .before .before .before .before .before .before .before .summarize-kind .ensures .1) (c .before .before .before .before .before .before .before .before .before .before .before .before .before .before .before .before .summarize-kind .ensures .0) (chooses-is (c .before .before .before .before .kind .given .1) (c .before .before .before .before .before .before .before .before .before .before .before .before .file-choice .ensures)) .1)
 
 -- src/lib.rt:278:43
 finish-requires : tie.Need-finish-requires
-finish-requires c κs = ?
+finish-requires c κs = finish-asks (c .before .before .before .before .before .before .before .before .before .before .before .before .before .before .before .before .before .before .before .before .before .before .before .before .pre) (c .before .before .before .before .before .before .before .before .before .before .before .before .before .before .before .before .summarize-kind .ensures .1) (c .before .before .before .before .before .before .before .before .before .before .before .before .before .before .before .before .summarize-kind .ensures .0) (chooses-is (c .before .before .before .before .kind .given .1) (c .before .before .before .before .before .before .before .before .before .before .before .before .file-choice .ensures)) refl
 
 -- src/lib.rt:293:22
 enum-known-limit : tie.Need-enum-known-limit
@@ -57,7 +61,7 @@ same-length-3 c = search needs
 
 -- src/lib.rt:244:1
 returns : tie.Need-returns
-returns c = ?
+returns c = finish-law (c .before .before .before .before .before .before .before .before .before .before .before .before .before .before .before .before .before .before .before .before .before .before .before .before .before .before .before .before .before .before .before .pre) (c .before .before .before .before .before .before .before .before .before .before .before .before .before .before .before .before .before .before .before .before .before .before .before .summarize-kind .ensures .1) (c .before .before .before .before .before .before .before .before .before .before .before .before .before .before .before .before .before .before .before .before .before .before .before .summarize-kind .ensures .0) (chooses-is (c .before .before .before .before .before .before .before .before .before .before .before .kind .given .1) (c .before .before .before .before .before .before .before .before .before .before .before .before .before .before .before .before .before .before .before .file-choice .ensures)) refl (c .before .before .before .before .before .before .finish .ensures)
 
 -- src/lib.rt:244:1
 same-length-4 : tie.Need-same-length-4
@@ -73,7 +77,7 @@ same-length-6 c = search needs
 
 -- src/lib.rt:244:1
 returns-2 : tie.Need-returns-2
-returns-2 c = ?
+returns-2 c = over-law (c .before .before .before .before .before .before .before .before .before .before .before .before .before .before .before .before .before .before .before .before .before .pre) (c .before .before .before .before .before .before .before .before .before .before .before .before .before .summarize-kind .ensures .1) (c .before .before .before .before .before .before .before .before .before .before .before .before .before .summarize-kind .ensures .0) (chooses-is (c .before .limit .given .1) (c .before .before .before .before .before .before .before .before .before .file-choice .ensures))
 
 pub summarize-assumption-spec : {M : Type 1} → statement M
 summarize-assumption-spec =
