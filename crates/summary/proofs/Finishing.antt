@@ -117,24 +117,30 @@ module _ {file names refs rows out names′ rows′ out′ : List ℕ} {named us
       where
         go : {x : Limit} → Comes-to file names names′ out′ named (6144 + filed) (fact-kind file names refs rows named used many name t) (sorted.Over x) → Marks (trimmed-table file names named chosen) rows out names′ rows′ out′ mark (6144 + filed) (sorted.Over x)
             → Summarizes file names refs rows named used many name t names′ rows′ out′ mark filed uses (summarized.Over x) × Slices file names refs rows out names′ rows′ out′ named used many name t filed uses (summarized.Over x)
-        go (names-over p) m = (names-full p, record {
-          chosen = chosen;
-          within = within;
-          decided = decided;
-          name-words = m .names-same;
-          row-words = m .rows-same;
-          out-length = m .out-same .same-length;
-          out-words = λ i f g. m .out-same .same-words i (λ a b. omega arith);
-        })
-        go (entries-over p q) m = (entries-full p (omega arith), record {
-          chosen = chosen;
-          within = within;
-          decided = decided;
-          name-words = m .names-same;
-          row-words = m .rows-same;
-          out-length = m .out-same .same-length;
-          out-words = λ i f g. m .out-same .same-words i (λ a b. g a (omega (arith, asked .few-entries)));
-        })
+        go (names-over p) m = (
+          names-full p,
+          record {
+            chosen = chosen;
+            within = within;
+            decided = decided;
+            name-words = m .names-same;
+            row-words = m .rows-same;
+            out-length = m .out-same .same-length;
+            out-words = λ i f g. m .out-same .same-words i (λ a b. omega arith);
+          },
+        )
+        go (entries-over p q) m = (
+          entries-full p (omega arith),
+          record {
+            chosen = chosen;
+            within = within;
+            decided = decided;
+            name-words = m .names-same;
+            row-words = m .rows-same;
+            out-length = m .out-same .same-length;
+            out-words = λ i f g. m .out-same .same-words i (λ a b. g a (omega (arith, asked .few-entries)));
+          },
+        )
 
   module _ {a : AsumKind} {e total : ℕ} (chooses : Chooses file names refs rows out names′ rows′ out′ named used many mark (6144 + filed) chosen (sorted.Kind a e total)) where
     -- the kind that was filed
@@ -152,8 +158,7 @@ module _ {file names refs rows out names′ rows′ out′ : List ℕ} {named us
     -- what gathering its free names asks
     pub finish-asks : {n : ℕ} → n ≡ mark + 1 + (e - (6144 + filed)) → Rows refs rows′ used many named × (16384 ≤ length names′) × (t < many) × Fresh names′ rows′ n × (n + 1 < 4294967296) × (6144 ≤ e) × (uses ≤ 6144) × (16384 ≤ length out′)
     finish-asks {n} q =
-        let (lo, hi) = filed-ends in
-        (
+        let (lo, hi) = filed-ends in (
           rows-marked (chooses .marks .rows-same) (asked .tables .term-table),
           filed-there .table .room,
           asked .term,

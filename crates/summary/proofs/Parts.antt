@@ -38,11 +38,14 @@ module _ {refs rows : List ℕ} {used many named t : ℕ} (r : Rows refs rows us
         group-after g (p, b, e) =
             let n : ℕ = p + group-run g (words refs p (row-end rows used many t)) in
             let m = group-next r l q b in
-            let x = b .low in
-            (n, rw (add-one g) at m, concat-append (groups-of-words (drop 1 (words refs (row-start rows t) (row-end rows used many t))) g) (group-of-words (drop 1 (words refs (row-start rows t) (row-end rows used many t))) g ∷ [])
-            ∙ ap₂ _++_ e (append-nil _ ∙ sym (group-place r l q b))
-            ∙ sym (terms-append (words refs (row-start rows t + 1) p) (words refs p n))
-            ∙ ap terms-of-words (sym (words-split refs (p - (row-start rows t + 1)) (row-start rows t + 1) p n refl x (omega arith) (omega (arith, m .high, fits)))))
+            let x = b .low in (
+              n,
+              rw (add-one g) at m,
+              concat-append (groups-of-words (drop 1 (words refs (row-start rows t) (row-end rows used many t))) g) (group-of-words (drop 1 (words refs (row-start rows t) (row-end rows used many t))) g ∷ [])
+                  ∙ ap₂ _++_ e (append-nil _ ∙ sym (group-place r l q b))
+                  ∙ sym (terms-append (words refs (row-start rows t + 1) p) (words refs p n))
+                  ∙ ap terms-of-words (sym (words-split refs (p - (row-start rows t + 1)) (row-start rows t + 1) p n refl x (omega arith) (omega (arith, m .high, fits)))),
+            )
 
     -- the terms of all groups are those of the references after the body
     groups-all : concat (groups-of-words (drop 1 (words refs (row-start rows t) (row-end rows used many t))) (row-extra rows t)) ≡ terms-of-words (words refs (row-start rows t + 1) (row-end rows used many t))

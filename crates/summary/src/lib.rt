@@ -138,7 +138,19 @@ fn file_parts(
     let a = terms::start(rows, t);
     let e = terms::end(rows, used, many, t);
     filed(
-        triggers::triggers_of_list(names, refs, rows, out, named, used, many, a, e, mark + 1, at),
+        triggers::triggers_of_list(
+            names,
+            refs,
+            rows,
+            out,
+            named,
+            used,
+            many,
+            a,
+            e,
+            mark + 1,
+            at,
+        ),
         named,
     )
 }
