@@ -10,7 +10,7 @@ use lib.Dec.{T, eqb, ltb}
 use borrow.Author.Tests.{eq-eqb, ne-eqb, lt-ltb, le-ltb, eqb-true, eqb-false, ltb-true, ltb-false}
 use Rattle.terms.specs.declared.Added.{Added}
 use Rattle.terms.specs.declared.Added.the-variants as adds
-use Rattle.terms.specs.Rows.{row-kind, row-start, row-extra, row-end, bare-of, added, rows-after, with-row, pushed, push-answer}
+use Rattle.terms.specs.Rows.{row-kind, row-start, row-extra, row-end, bare-of, groups-at, added, rows-after, with-row, pushed, push-answer}
 
 -- two numbers are equal or not
 pub equal : (m n : ℕ) → (m ≡ n) ⊎ (m ≡ n → ⊥)
@@ -49,6 +49,16 @@ bare-label rows t h = rw (eq-eqb (row-kind rows t) 7 h)
 pub bare-own : (rows : List ℕ) (t : ℕ) → (row-kind rows t ≡ 7 → ⊥) → bare-of rows t ≡ t
 unfolding bare-of
 bare-own rows t h = rw (ne-eqb (row-kind rows t) 7 h)
+
+-- an `all` has the groups of its row
+pub groups-all : (rows : List ℕ) (t u : ℕ) → u ≡ bare-of rows t → row-kind rows u ≡ 4 → groups-at rows t ≡ row-extra rows u
+unfolding groups-at
+groups-all rows t u e h = rw (← e, eq-eqb (row-kind rows u) 4 h)
+
+-- another term has none
+pub groups-other : (rows : List ℕ) (t u : ℕ) → u ≡ bare-of rows t → (row-kind rows u ≡ 4 → ⊥) → groups-at rows t ≡ 0
+unfolding groups-at
+groups-other rows t u e h = rw (← e, ne-eqb (row-kind rows u) 4 h)
 
 -- a reference goes in where there is room
 pub pushed-in : (refs : List ℕ) (used word : ℕ) → used < 16384 → pushed refs used word ≡ set refs used word

@@ -112,6 +112,10 @@ has-groups k = eqb k 4 || eqb k 5
 unfoldable pub bare-of : List ℕ → ℕ → ℕ
 bare-of rows t = cond (eqb (row-kind rows t) 7) (row-extra rows t) t
 
+-- how many pattern groups the `all` under a term's labels has: none where it is no `all`
+unfoldable pub groups-at : List ℕ → ℕ → ℕ
+groups-at rows t = cond (eqb (row-kind rows (bare-of rows t)) 4) (row-extra rows (bare-of rows t)) 0
+
 -- a table of `many` rows with `used` references, whose heads are among `named` names
 pub record Rows (refs rows : List ℕ) (used many named : ℕ) : Type 0 where
   pub ref-room : 16384 ≤ length refs

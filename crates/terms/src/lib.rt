@@ -4,7 +4,7 @@ ghost use mathlib.Core.Bool.{not};
 ghost use lib.Dec.{T};
 ghost use lib.ListN.{length, getD};
 ghost use Rattle.model.specs.Terms.{FreeV, Leaf, Call, App, Forall, Exists, Let, Labeled};
-ghost use Rattle.terms.specs.Rows.{row-kind, row-op, row-head, row-start, row-extra, row-end, words, bare-of, row-word, added, rows-after, pushed, push-answer, group-run, terms-of-words, groups-of-words, op-of-code, Rows, Pushed, Patterns, Adds};
+ghost use Rattle.terms.specs.Rows.{row-kind, row-op, row-head, row-start, row-extra, row-end, words, bare-of, groups-at, row-word, added, rows-after, pushed, push-answer, group-run, terms-of-words, groups-of-words, op-of-code, Rows, Pushed, Patterns, Adds};
 
 // What adding a row or a reference comes to.
 pub enum Added {
@@ -108,6 +108,18 @@ pub fn bare(rows: &[u32], t: usize) -> usize
         return words::at(rows, 8192 + t);
     }
     t
+}
+
+// How many pattern groups the `all` under a term's labels has: none where it is no `all`.
+pub fn group_count(rows: &[u32], t: usize) -> usize
+    requires { ⌜ (16384 ≤ length (now rows)) × (t < 4096) × (bare-of (now rows) t < 4096) ⌝ }
+    ensures { λ r. ⌜ r ≡ groups-at (now (rows .entry)) t ⌝ }
+{
+    let u = bare(rows, t);
+    if kind(rows, u) != 4 {
+        return 0;
+    }
+    extra(rows, u)
 }
 
 // The term of a reference.
