@@ -1,0 +1,123 @@
+-- The summary of a fact in the lent slices: its trigger entries from word 6,144 of `out` on, behind those of the facts before
+-- it; its free names from word 0 on, behind theirs.
+use Prim.Native.Nat.{ℕ, _+_, _-_, _≤_, _<_}
+use mathlib.Core.Path.{_≡_}
+use mathlib.Core.Bool.{cond}
+use mathlib.Core.List.{List, map}
+use mathlib.Core.Option.{some}
+use lib.ListN.{length, getD}
+use Rattle.model.specs.Lists.{fold-left}
+use Rattle.model.specs.Names.{Name, bytes, from-list, ends-with}
+use Rattle.model.specs.Reading.{spell}
+use Rattle.model.specs.Summaries.{Kinded, exclude-names, free-top-level-names, summarize-kind}
+use Rattle.text.specs.Parts.{part}
+use Rattle.names.specs.Table.{Table, name-of, names-of, look-up, spell-table}
+use Rattle.terms.specs.Rows.{words}
+use Rattle.gather.specs.Sets.{Fresh, Same-but}
+use Rattle.rules.specs.Views.{Tables, terms-in}
+use Rattle.rules.specs.Choices.{kinded}
+use Rattle.rules.specs.declared.Choice.{Choice}
+use Rattle.rules.specs.declared.Choice.the-variants as choice
+use Rattle.triggers.specs.Entries.{disjuncts-of, entries, Entries}
+use Rattle.summary.specs.declared.Limit.{Limit}
+use Rattle.summary.specs.declared.Limit.the-variants as limit
+use Rattle.summary.specs.declared.Summary.{Summary}
+use Rattle.summary.specs.declared.Summarized.{Summarized}
+use Rattle.summary.specs.declared.Summarized.the-variants as summarized
+
+-- what summarising a fact asks: its name and term are of the tables, and the lists so far are within their limits
+pub record Asked (file names refs rows out : List ℕ) (named used many name t mark filed uses : ℕ) : Type 0 where
+  pub tables : Tables file names refs rows named used many
+  pub fact : name < named
+  pub term : t < many
+  pub fresh : Fresh names rows mark
+  pub few-marks : mark + 16384 < 4294967296
+  pub few-entries : filed ≤ 2048
+  pub few-uses : uses ≤ 6144
+  pub room : 16384 ≤ length out
+
+module _ (file names refs rows : List ℕ) (named used many name t : ℕ) where
+  -- the fact's kind and disjuncts
+  unfoldable pub fact-kind : Kinded
+  fact-kind = summarize-kind exclude-names (terms-in file names refs rows used many) (name-of file names name) t
+
+  -- the fact's free names
+  unfoldable pub fact-names : List Name
+  fact-names = free-top-level-names exclude-names (terms-in file names refs rows used many) t
+
+  -- the names of the table, with the one that rule 4 trims off the fact's token
+  unfoldable pub names-then : List Name
+  names-then = fold-left spell (names-of file names named) (fact-kind .trimmed)
+
+  -- a summary and the slices that hold its lists: `filed` entries and `uses` uses were there before
+  pub record Summary-of (names′ rows′ out′ : List ℕ) (mark filed uses : ℕ) (s : Summary) : Type 0 where
+    pub kind : s .kind ≡ fact-kind .kind
+    pub disjuncts : disjuncts-of (name-of file names′) (words out′ (6144 + filed) (6144 + s .entries)) ≡ fact-kind .triggers
+    pub entry-count : s .entries ≡ filed + entries (fact-kind .triggers)
+    pub few-entries : s .entries ≤ 2048
+    pub entry-words : Entries (s .named) (words out′ (6144 + filed) (6144 + s .entries))
+    pub free-names : from-list (map (name-of file names′) (words out′ uses (s .uses))) ≡ fact-names
+    pub use-count : s .uses ≡ uses + length fact-names
+    pub few-uses : s .uses ≤ 6144
+    pub use-words : (i : ℕ) → uses ≤ i → i < s .uses → getD out′ i 0 < named
+    pub table : Table file names′ (s .named)
+    pub names : names-of file names′ (s .named) ≡ names-then
+    pub next-mark : s .mark ≡ mark + 2 + (s .entries - filed)
+    pub fresh : Fresh names′ rows′ (s .mark)
+
+  -- what summarising the fact comes to: its summary, or the first limit that it passes
+  pub data Summarizes (names′ rows′ out′ : List ℕ) (mark filed uses : ℕ) : Summarized → Type 0 where
+    done : {s : Summary} → Summary-of names′ rows′ out′ mark filed uses s → Summarizes names′ rows′ out′ mark filed uses (summarized.Done s)
+    names-full : 2048 < length names-then → Summarizes names′ rows′ out′ mark filed uses (summarized.Over limit.Names)
+    entries-full : length names-then ≤ 2048 → 2048 < filed + entries (fact-kind .triggers)
+        → Summarizes names′ rows′ out′ mark filed uses (summarized.Over limit.Entries)
+    uses-full : length names-then ≤ 2048 → filed + entries (fact-kind .triggers) ≤ 2048 → 6144 < uses + length fact-names
+        → Summarizes names′ rows′ out′ mark filed uses (summarized.Over limit.Uses)
+
+-- the slice of names with the name that a token ending in @tok trims to
+unfoldable pub token-table : List ℕ → List ℕ → ℕ → ℕ → List ℕ
+token-table file names named n =
+    let a = getD names n 0 in
+    let e = a + getD names (2048 + n) 0 - 4 in
+    let trimmed = spell-table file names named a e (look-up (names-of file names named) (part file a e)) in
+    cond (ends-with (name-of file names n) (bytes "@tok")) trimmed names
+
+-- the slice of names after a choice: only a token enters a name
+unfoldable pub trimmed-table : List ℕ → List ℕ → ℕ → Choice → List ℕ
+trimmed-table file names named choice.No = names
+trimmed-table file names named (choice.One t) = names
+trimmed-table file names named (choice.Two t u) = names
+trimmed-table file names named (choice.Groups t) = names
+trimmed-table file names named (choice.Refinement t) = names
+trimmed-table file names named (choice.Token n) = token-table file names named n
+trimmed-table file names named choice.Nothing = names
+trimmed-table file names named (choice.Parts t) = names
+trimmed-table file names named choice.Drop = names
+trimmed-table file names named choice.Ambient = names
+
+-- where the free names end: at 6,144 where there is no room for all
+unfoldable pub uses-end : ℕ → Summarized → ℕ
+uses-end uses (summarized.Done s) = s .uses
+uses-end uses (summarized.Over limit.Names) = uses
+uses-end uses (summarized.Over limit.Entries) = uses
+uses-end uses (summarized.Over limit.Uses) = 6144
+
+-- where the entries end, of which the fact has so many more: at 2,048 where there is no room for all
+unfoldable pub entries-end : ℕ → ℕ → Summarized → ℕ
+entries-end filed more (summarized.Done s) = s .entries
+entries-end filed more (summarized.Over limit.Names) = filed
+entries-end filed more (summarized.Over limit.Entries) = 2048
+entries-end filed more (summarized.Over limit.Uses) = filed + more
+
+-- the slices after summarising a fact: in the name table the trimmed token and marks, in the term table marks, in `out` the
+-- places of the fact's free names and of its entries
+pub record Slices (file names refs rows out names′ rows′ out′ : List ℕ) (named used many name t filed uses : ℕ) (r : Summarized) : Type 0 where
+  pub chosen : Choice
+  pub decided : kinded (terms-in file names refs rows used many) (name-of file names) chosen ≡ some (fact-kind file names refs rows named used many name t)
+  pub name-words : Same-but 8192 2048 (trimmed-table file names named chosen) names′
+  pub row-words : Same-but 12288 4096 rows rows′
+  pub out-length : length out′ ≡ length out
+  pub out-words : (i : ℕ)
+      → (uses ≤ i → i < uses-end uses r → ⊥)
+      → (6144 + filed ≤ i → i < 6144 + entries-end filed (entries (fact-kind file names refs rows named used many name t .triggers)) r → ⊥)
+      → getD out′ i 0 ≡ getD out i 0

@@ -1,0 +1,264 @@
+use gather::Walked;
+use model::AsumKind;
+use names::Spelled;
+use rules::Choice;
+use triggers::Filed;
+ghost use Rattle.summary.specs.Facts.{Asked, Summarizes, Slices};
+
+// The limits that a fact may pass, in the order in which they are tried: names, trigger entries, name uses.
+pub enum Limit {
+    Names,
+    Entries,
+    Uses,
+}
+
+// The kind of a fact, where its trigger entries end, and the names of the table; or the limit passed.
+pub enum Sorted {
+    Kind(AsumKind, usize, usize),
+    Over(Limit),
+}
+
+// A fact's summary. Its trigger entries and its free names stand in the lent slice: where each of these lists ends, counted
+// from the list's start in the slice; the names in the table, and the next mark.
+pub struct Summary {
+    pub kind: AsumKind,
+    pub entries: usize,
+    pub uses: usize,
+    pub named: usize,
+    pub mark: usize,
+}
+
+// What summarising a fact comes to: its summary, or the limit passed.
+pub enum Summarized {
+    Done(Summary),
+    Over(Limit),
+}
+
+// Files two names as two disjuncts.
+fn put_two(out: &mut [u32], named: usize, n: usize, m: usize, at: usize) -> Sorted {
+    if 8191 <= at {
+        return Sorted::Over(Limit::Entries);
+    }
+    out[at] = (n + 4096) as u32;
+    out[at + 1] = (m + 4096) as u32;
+    Sorted::Kind(AsumKind::Triggers(2), at + 2, named)
+}
+
+// Files the name of a token as a disjunct; where it ends in @tok, the name without it as another, entered in the table.
+fn file_token(
+    file: &[u8],
+    names: &mut [u32],
+    out: &mut [u32],
+    named: usize,
+    n: usize,
+    at: usize,
+) -> Sorted {
+    let a = words::at(names, n);
+    let e = a + words::at(names, 2048 + n);
+    if !text::ends_with(file, a, e, b"@tok") {
+        if 8192 <= at {
+            return Sorted::Over(Limit::Entries);
+        }
+        out[at] = (n + 4096) as u32;
+        return Sorted::Kind(AsumKind::Triggers(1), at + 1, named);
+    }
+    match names::spell(file, names, named, a, e - 4) {
+        Spelled::Known(m) => put_two(out, named, n, m, at),
+        Spelled::New(m) => put_two(out, named + 1, n, m, at),
+        Spelled::Full => Sorted::Over(Limit::Names),
+    }
+}
+
+// Filed disjuncts as a kind.
+fn filed(f: Filed, named: usize) -> Sorted {
+    match f {
+        Filed::Sets(n, end) => Sorted::Kind(AsumKind::Triggers(n), end, named),
+        Filed::Full => Sorted::Over(Limit::Entries),
+    }
+}
+
+// The triggers of a refinement's payload; without any, or with one empty set, the fact is an ambient root.
+fn file_refinement(
+    names: &mut [u32],
+    refs: &[u32],
+    rows: &mut [u32],
+    out: &mut [u32],
+    named: usize,
+    used: usize,
+    many: usize,
+    t: usize,
+    mark: usize,
+    at: usize,
+) -> Sorted {
+    if triggers::is_empty(names, refs, rows, out, named, used, many, t, mark, at) {
+        return Sorted::Kind(AsumKind::Ambient(true), at, named);
+    }
+    filed(
+        triggers::triggers_of_term(names, refs, rows, out, named, used, many, t, mark + 1, at),
+        named,
+    )
+}
+
+// The triggers of each part of an `and`.
+fn file_parts(
+    names: &mut [u32],
+    refs: &[u32],
+    rows: &mut [u32],
+    out: &mut [u32],
+    named: usize,
+    used: usize,
+    many: usize,
+    t: usize,
+    mark: usize,
+    at: usize,
+) -> Sorted {
+    let a = terms::start(rows, t);
+    let e = terms::end(rows, used, many, t);
+    filed(
+        triggers::triggers_of_list(names, refs, rows, out, named, used, many, a, e, mark, at),
+        named,
+    )
+}
+
+// Files the disjuncts of a choice from `at` on, under marks after `mark`.
+fn file_choice(
+    file: &[u8],
+    names: &mut [u32],
+    refs: &[u32],
+    rows: &mut [u32],
+    out: &mut [u32],
+    named: usize,
+    used: usize,
+    many: usize,
+    choice: Choice,
+    mark: usize,
+    at: usize,
+) -> Sorted {
+    match choice {
+        Choice::No => Sorted::Kind(AsumKind::Drop, at, named),
+        Choice::One(t) => filed(
+            triggers::file_term(names, refs, rows, out, named, used, many, t, mark + 1, at),
+            named,
+        ),
+        Choice::Two(t, u) => filed(
+            triggers::file_terms(
+                names,
+                refs,
+                rows,
+                out,
+                named,
+                used,
+                many,
+                t,
+                u,
+                mark + 1,
+                at,
+            ),
+            named,
+        ),
+        Choice::Groups(t) => filed(
+            triggers::triggers_of_term(names, refs, rows, out, named, used, many, t, mark + 1, at),
+            named,
+        ),
+        Choice::Refinement(t) => {
+            file_refinement(names, refs, rows, out, named, used, many, t, mark, at)
+        }
+        Choice::Token(n) => file_token(file, names, out, named, n, at),
+        Choice::Nothing => Sorted::Kind(AsumKind::Triggers(0), at, named),
+        Choice::Parts(t) => file_parts(names, refs, rows, out, named, used, many, t, mark + 1, at),
+        Choice::Drop => Sorted::Kind(AsumKind::Drop, at, named),
+        Choice::Ambient => Sorted::Kind(AsumKind::Ambient(false), at, named),
+    }
+}
+
+// Gathers the free names of a fact's term behind those of the facts before it, and makes the summary.
+fn finish(
+    names: &mut [u32],
+    refs: &[u32],
+    rows: &mut [u32],
+    out: &mut [u32],
+    named: usize,
+    used: usize,
+    many: usize,
+    t: usize,
+    kind: AsumKind,
+    end: usize,
+    mark: usize,
+    uses: usize,
+) -> Summarized {
+    match gather::gather_term(
+        names,
+        refs,
+        rows,
+        out,
+        named,
+        used,
+        many,
+        t,
+        mark as u32,
+        uses,
+        6144,
+    ) {
+        Walked::Names(n) => Summarized::Done(Summary {
+            kind,
+            entries: end - 6144,
+            uses: n,
+            named,
+            mark: mark + 1,
+        }),
+        Walked::Full => Summarized::Over(Limit::Uses),
+    }
+}
+
+// `summarize_assumption`: the kind of a fact, its disjuncts from entry `entries` on, and its free names from use `uses` on.
+pub fn summarize_assumption(
+    file: &[u8],
+    names: &mut [u32],
+    refs: &[u32],
+    rows: &mut [u32],
+    out: &mut [u32],
+    named: usize,
+    used: usize,
+    many: usize,
+    name: usize,
+    t: usize,
+    mark: usize,
+    entries: usize,
+    uses: usize,
+) -> Summarized
+    requires { ⌜ Asked (now file) (now names) (now refs) (now rows) (now out) named used many name t mark entries uses ⌝ }
+    ensures summary { λ r. ⌜ Summarizes (now (file .entry)) (now (names .entry)) (now (refs .entry)) (now (rows .entry)) named used many name t (now (names .exit)) (now (rows .exit)) (now (out .exit)) mark entries uses r ⌝ }
+    ensures slices { λ r. ⌜ Slices (now (file .entry)) (now (names .entry)) (now (refs .entry)) (now (rows .entry)) (now (out .entry)) (now (names .exit)) (now (rows .exit)) (now (out .exit)) named used many name t entries uses r ⌝ }
+{
+    let choice = rules::summarize_kind(file, names, refs, rows, named, used, many, name, t);
+    let at = 6144 + entries;
+    match file_choice(
+        file,
+        names,
+        refs,
+        rows,
+        out,
+        named,
+        used,
+        many,
+        choice,
+        mark,
+        at,
+    ) {
+        Sorted::Kind(kind, end, total) => finish(
+            names,
+            refs,
+            rows,
+            out,
+            total,
+            used,
+            many,
+            t,
+            kind,
+            end,
+            mark + 1 + (end - at),
+            uses,
+        ),
+        Sorted::Over(limit) => Summarized::Over(limit),
+    }
+}
