@@ -1,10 +1,12 @@
 // Feeds the files of document 01's form on standard input, one after the other, each from its `ask` line on, into the tables,
 // and prints the summary of each fact: `fact,LINE,drop`, `fact,LINE,ambient,0` or `1`, or `fact,LINE,triggers` with its
-// disjuncts; then its free names. Names are in byte order. A line that cannot be fed ends the program with `stop,LINE`.
+// disjuncts; then its free names. Names are in byte order. A line that cannot be fed prints `stop,LINE`, after the limit that
+// it passes if it is a fact's, and the program goes on with the next file.
 use libc::STDIN_FILENO;
 use libc::STDOUT_FILENO;
 use model::AsumKind;
 use names::Spelled;
+use summary::Limit;
 use summary::Summarized;
 use summary::Summary;
 use terms::Added;
@@ -430,6 +432,21 @@ fn put_summary(
     put(b"\n");
 }
 
+// Prints the limit that a fact passes.
+fn put_limit(limit: Limit) {
+    match limit {
+        Limit::Names => {
+            put(b"names,");
+        }
+        Limit::Entries => {
+            put(b"entries,");
+        }
+        Limit::Uses => {
+            put(b"uses,");
+        }
+    }
+}
+
 // Summarises the fact of a name and a term, and prints the summary.
 fn feed_fact(
     file: &[u8],
@@ -448,7 +465,7 @@ fn feed_fact(
     let entries = k.entries;
     let uses = k.uses;
     let mark = k.mark;
-    let Summarized::Done(s) = summary::summarize_assumption(
+    match summary::summarize_assumption(
         file,
         names,
         refs,
@@ -462,18 +479,23 @@ fn feed_fact(
         mark,
         entries,
         uses,
-    ) else {
-        return Fed::Stop;
-    };
-    put_summary(file, names, out, line, entries, uses, s);
-    Fed::On(Counts {
-        named: s.named,
-        used,
-        many,
-        entries: s.entries,
-        uses: s.uses,
-        mark: s.mark,
-    })
+    ) {
+        Summarized::Done(s) => {
+            put_summary(file, names, out, line, entries, uses, s);
+            Fed::On(Counts {
+                named: s.named,
+                used,
+                many,
+                entries: s.entries,
+                uses: s.uses,
+                mark: s.mark,
+            })
+        }
+        Summarized::Over(limit) => {
+            put_limit(limit);
+            Fed::Stop
+        }
+    }
 }
 
 // Feeds an `assume`, from its name on.
@@ -574,13 +596,29 @@ fn feed_term(
     Fed::On(k)
 }
 
-// All lines.
+// Where the next `ask` line starts, from a line's start on, or the end of the file.
+fn next_ask(file: &[u8], start: usize) -> usize {
+    let mut from = start;
+    while from < file.len() {
+        let end = text::find(file, b'\n', from, file.len());
+        let stop = text::find(file, b',', from, end);
+        if text::same_text(file, from, stop, b"ask") {
+            return from;
+        }
+        from = end + 1;
+    }
+    file.len()
+}
+
+// Feeds the lines from `start` up to `upto`, the first of which is an `ask` line.
 fn all_lines(
     file: &[u8],
     names: &mut [u32],
     refs: &mut [u32],
     rows: &mut [u32],
     out: &mut [u32],
+    start: usize,
+    upto: usize,
 ) {
     let mut k = Counts {
         named: 0,
@@ -591,22 +629,11 @@ fn all_lines(
         mark: 1,
     };
     let mut line = 0;
-    let mut from = 0;
-    while from < file.len() {
-        let end = text::find(file, b'\n', from, file.len());
+    let mut from = start;
+    while from < upto {
+        let end = text::find(file, b'\n', from, upto);
         let stop = text::find(file, b',', from, end);
         line += 1;
-        if text::same_text(file, from, stop, b"ask") {
-            k = Counts {
-                named: 0,
-                used: 0,
-                many: 0,
-                entries: 0,
-                uses: 0,
-                mark: k.mark,
-            };
-            line = 1;
-        }
         let c = Cursor { at: stop + 1, end };
         let Fed::On(next) = feed_line(file, names, refs, rows, out, k, line, from, stop, c) else {
             put(b"stop,");
@@ -619,6 +646,37 @@ fn all_lines(
     }
 }
 
+// Feeds one file into new tables.
+fn one_file(file: &[u8], start: usize, upto: usize) {
+    let mut names = [0u32; 16384];
+    let mut refs = [0u32; 16384];
+    let mut rows = [0u32; 16384];
+    let mut out = [0u32; 16384];
+    all_lines(
+        file,
+        &mut names,
+        &mut refs,
+        &mut rows,
+        &mut out,
+        start,
+        upto,
+    );
+}
+
+// Feeds each file, from one `ask` line up to the next.
+fn all_files(file: &[u8]) {
+    let mut from = 0;
+    while from < file.len() {
+        let end = text::find(file, b'\n', from, file.len());
+        let mut upto = file.len();
+        if end < file.len() {
+            upto = next_ask(file, end + 1);
+        }
+        one_file(file, from, upto);
+        from = upto;
+    }
+}
+
 // Reads standard input; more than 65,535 bytes are not looked at.
 fn main() {
     let mut file = io::large_buffer();
@@ -626,9 +684,5 @@ fn main() {
     if 65535 < n {
         return;
     }
-    let mut names = [0u32; 16384];
-    let mut refs = [0u32; 16384];
-    let mut rows = [0u32; 16384];
-    let mut out = [0u32; 16384];
-    all_lines(&file[..n], &mut names, &mut refs, &mut rows, &mut out);
+    all_files(&file[..n]);
 }
