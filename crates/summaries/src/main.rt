@@ -6,13 +6,18 @@ use libc::STDIN_FILENO;
 use libc::STDOUT_FILENO;
 use model::AsumKind;
 use names::Spelled;
-use summary::Limit;
-use summary::Summarized;
-use summary::Summary;
 use terms::Added;
 use text::Cursor;
 use text::FieldStep;
 use text::NumberStep;
+ghost use Prim.Native.Nat.{_+_, _≤_, _<_};
+ghost use mathlib.Core.Path.{_≡_};
+ghost use lib.ListN.{length};
+ghost use Rattle.text.specs.Parts.{Placed};
+ghost use Rattle.names.specs.Table.{Table};
+ghost use Rattle.terms.specs.Rows.{Rows};
+ghost use Rattle.gather.specs.Sets.{Fresh};
+ghost use Rattle.summaries.specs.Fed.{Reads, Pushes, Quantifies, grown-to, Grows, Tables, Feeds, Ready, Goes};
 
 // What the tables hold: names, references, terms; trigger entries and name uses; the next mark.
 struct Counts {
@@ -53,7 +58,10 @@ fn put_number(n: usize) {
 }
 
 // Spells the name that the next field is.
-fn read_name(file: &[u8], names: &mut [u32], named: usize, c: Cursor) -> Word {
+fn read_name(file: &[u8], names: &mut [u32], named: usize, c: Cursor) -> Word
+    requires { ⌜ Table (now file) (now names) named × Placed (now file) c ⌝ }
+    ensures { λ r. ⌜ Reads (now (file .entry)) (now (names .entry)) (now (names .exit)) named r ⌝ }
+{
     match c.name(file) {
         FieldStep::Part { start, end, next } => {
             match names::spell(file, names, named, start, end) {
@@ -74,7 +82,10 @@ fn push_term(
     many: usize,
     group: usize,
     c: Cursor,
-) -> Upto {
+) -> Upto
+    requires { ⌜ (16384 ≤ length (now refs)) × (many ≤ 4096) × (group < 65536) × Placed (now file) c ⌝ }
+    ensures { λ r. ⌜ Pushes (now (file .entry)) (now (refs .entry)) (now (refs .exit)) many (group + 1) (group + 1) used c r ⌝ }
+{
     match c.term(file, many as u32) {
         NumberStep::Number(t, next) => match terms::push(refs, used, t as usize, group) {
             Added::Done => Upto::At(used + 1, next),
@@ -85,7 +96,10 @@ fn push_term(
 }
 
 // Pushes the terms that the fields left are.
-fn push_rest(file: &[u8], refs: &mut [u32], from: usize, many: usize, at: Cursor) -> Upto {
+fn push_rest(file: &[u8], refs: &mut [u32], from: usize, many: usize, at: Cursor) -> Upto
+    requires { ⌜ (16384 ≤ length (now refs)) × (many ≤ 4096) × Placed (now file) at ⌝ }
+    ensures { λ r. ⌜ Pushes (now (file .entry)) (now (refs .entry)) (now (refs .exit)) many 1 1 from at r ⌝ }
+{
     let mut used = from;
     let mut c = at;
     while c.at <= c.end {
@@ -107,7 +121,10 @@ fn push_group(
     group: usize,
     n: usize,
     at: Cursor,
-) -> Upto {
+) -> Upto
+    requires { ⌜ (16384 ≤ length (now refs)) × (many ≤ 4096) × (group < 65536) × Placed (now file) at ⌝ }
+    ensures { λ r. ⌜ Pushes (now (file .entry)) (now (refs .entry)) (now (refs .exit)) many (group + 1) (group + 1) from at r ⌝ }
+{
     let mut used = from;
     let mut c = at;
     let mut i = 0;
@@ -130,7 +147,10 @@ fn push_groups(
     many: usize,
     groups: usize,
     at: Cursor,
-) -> Upto {
+) -> Upto
+    requires { ⌜ (16384 ≤ length (now refs)) × (many ≤ 4096) × (groups < 65536) × Placed (now file) at ⌝ }
+    ensures { λ r. ⌜ Pushes (now (file .entry)) (now (refs .entry)) (now (refs .exit)) many 0 groups from at r ⌝ }
+{
     let mut used = from;
     let mut c = at;
     let mut g = 0;
@@ -149,7 +169,10 @@ fn push_groups(
 }
 
 // The counts with one term more.
-fn grown(added: Added, k: Counts, named: usize, used: usize) -> Fed {
+fn grown(added: Added, k: Counts, named: usize, used: usize) -> Fed
+    requires { ⌜ k .many ≤ 4096 ⌝ }
+    ensures { λ r. ⌜ r ≡ grown-to added k named used ⌝ }
+{
     match added {
         Added::Done => Fed::On(Counts {
             named,
@@ -171,7 +194,10 @@ fn feed_free(
     rows: &mut [u32],
     k: Counts,
     c: Cursor,
-) -> Fed {
+) -> Fed
+    requires { ⌜ Tables (now file) (now names) (now refs) (now rows) k × Placed (now file) c ⌝ }
+    ensures { λ r. ⌜ Feeds (now (file .entry)) (now (names .exit)) (now (refs .entry)) (now (rows .exit)) k r ⌝ }
+{
     let used = k.used;
     let many = k.many;
     let Word::Name(n, named, _) = read_name(file, names, k.named, c) else {
@@ -193,7 +219,10 @@ fn feed_call(
     rows: &mut [u32],
     k: Counts,
     c: Cursor,
-) -> Fed {
+) -> Fed
+    requires { ⌜ Tables (now file) (now names) (now refs) (now rows) k × Placed (now file) c ⌝ }
+    ensures { λ r. ⌜ Feeds (now (file .entry)) (now (names .exit)) (now (refs .exit)) (now (rows .exit)) k r ⌝ }
+{
     let start = k.used;
     let many = k.many;
     let Word::Name(n, named, next) = read_name(file, names, k.named, c) else {
@@ -211,7 +240,10 @@ fn feed_call(
 }
 
 // The number of an op word: true 0, iff 1, eq 2, and 3; other 4.
-fn op_word(file: &[u8], a: usize, e: usize) -> usize {
+fn op_word(file: &[u8], a: usize, e: usize) -> usize
+    requires { ⌜ (a ≤ e) × (e ≤ length (now file)) ⌝ }
+    ensures { λ r. ⌜ r < 5 ⌝ }
+{
     if text::same_text(file, a, e, b"true") {
         return 0;
     }
@@ -228,7 +260,10 @@ fn op_word(file: &[u8], a: usize, e: usize) -> usize {
 }
 
 // Feeds an `op`, from its word on.
-fn feed_op(file: &[u8], refs: &mut [u32], rows: &mut [u32], k: Counts, c: Cursor) -> Fed {
+fn feed_op(file: &[u8], refs: &mut [u32], rows: &mut [u32], k: Counts, c: Cursor) -> Fed
+    requires { ⌜ Rows (now refs) (now rows) (k .used) (k .many) (k .named) × Placed (now file) c ⌝ }
+    ensures { λ r. ⌜ Grows (now (refs .exit)) (now (rows .entry)) (now (rows .exit)) (k .named) k r ⌝ }
+{
     let start = k.used;
     let many = k.many;
     let named = k.named;
@@ -261,7 +296,10 @@ fn push_quantifier(
     groups: usize,
     body: Cursor,
     c: Cursor,
-) -> Upto {
+) -> Upto
+    requires { ⌜ (16384 ≤ length (now refs)) × (many ≤ 4096) × (groups < 65536) × Placed (now file) body × Placed (now file) c ⌝ }
+    ensures { λ r. ⌜ Quantifies (now (refs .entry)) (now (refs .exit)) many groups start r ⌝ }
+{
     let Upto::At(used, _) = push_term(file, refs, start, many, 0, body) else {
         return Upto::Stop;
     };
@@ -276,7 +314,10 @@ fn feed_quantifier(
     k: Counts,
     c: Cursor,
     all: bool,
-) -> Fed {
+) -> Fed
+    requires { ⌜ Rows (now refs) (now rows) (k .used) (k .many) (k .named) × Placed (now file) c ⌝ }
+    ensures { λ r. ⌜ Grows (now (refs .exit)) (now (rows .entry)) (now (rows .exit)) (k .named) k r ⌝ }
+{
     let start = k.used;
     let many = k.many;
     let named = k.named;
@@ -312,7 +353,10 @@ fn feed_quantifier(
 }
 
 // Feeds a `let`, from its body on.
-fn feed_let(file: &[u8], refs: &mut [u32], rows: &mut [u32], k: Counts, c: Cursor) -> Fed {
+fn feed_let(file: &[u8], refs: &mut [u32], rows: &mut [u32], k: Counts, c: Cursor) -> Fed
+    requires { ⌜ Rows (now refs) (now rows) (k .used) (k .many) (k .named) × Placed (now file) c ⌝ }
+    ensures { λ r. ⌜ Grows (now (refs .exit)) (now (rows .entry)) (now (rows .exit)) (k .named) k r ⌝ }
+{
     let start = k.used;
     let many = k.many;
     let named = k.named;
@@ -331,7 +375,10 @@ fn feed_let(file: &[u8], refs: &mut [u32], rows: &mut [u32], k: Counts, c: Curso
 }
 
 // Feeds a `label`, from its term on.
-fn feed_label(file: &[u8], refs: &mut [u32], rows: &mut [u32], k: Counts, c: Cursor) -> Fed {
+fn feed_label(file: &[u8], refs: &mut [u32], rows: &mut [u32], k: Counts, c: Cursor) -> Fed
+    requires { ⌜ Rows (now refs) (now rows) (k .used) (k .many) (k .named) × Placed (now file) c ⌝ }
+    ensures { λ r. ⌜ Grows (now (refs .exit)) (now (rows .entry)) (now (rows .exit)) (k .named) k r ⌝ }
+{
     let start = k.used;
     let many = k.many;
     let named = k.named;
@@ -347,7 +394,9 @@ fn feed_label(file: &[u8], refs: &mut [u32], rows: &mut [u32], k: Counts, c: Cur
 }
 
 // Whether the words from `a` up to `e` have the number of a name.
-fn has_number(out: &[u32], a: usize, e: usize, n: usize) -> bool {
+fn has_number(out: &[u32], a: usize, e: usize, n: usize) -> bool
+    requires { ⌜ e ≤ length (now out) ⌝ }
+{
     let mut i = a;
     while i < e {
         if words::at(out, i) % 4096 == n {
@@ -359,7 +408,9 @@ fn has_number(out: &[u32], a: usize, e: usize, n: usize) -> bool {
 }
 
 // Prints in braces and in byte order the names whose numbers stand from `a` up to `e`.
-fn put_set(file: &[u8], names: &[u32], out: &[u32], named: usize, a: usize, e: usize) {
+fn put_set(file: &[u8], names: &[u32], out: &[u32], named: usize, a: usize, e: usize)
+    requires { ⌜ Table (now file) (now names) named × (e ≤ length (now out)) ⌝ }
+{
     put(b"{");
     let mut first = true;
     let mut r = 0;
@@ -378,7 +429,9 @@ fn put_set(file: &[u8], names: &[u32], out: &[u32], named: usize, a: usize, e: u
 }
 
 // Prints the disjuncts whose entries stand from `a` up to `e`.
-fn put_disjuncts(file: &[u8], names: &[u32], out: &[u32], named: usize, a: usize, e: usize) {
+fn put_disjuncts(file: &[u8], names: &[u32], out: &[u32], named: usize, a: usize, e: usize)
+    requires { ⌜ Table (now file) (now names) named × (e ≤ length (now out)) ⌝ }
+{
     let mut from = a;
     let mut i = a;
     while i < e {
@@ -410,128 +463,6 @@ fn put_kind(kind: AsumKind) {
     }
 }
 
-// Prints a summary of the fact on a line; the entries and the uses before it are `entries` and `uses`.
-fn put_summary(
-    file: &[u8],
-    names: &[u32],
-    out: &[u32],
-    line: usize,
-    entries: usize,
-    uses: usize,
-    s: Summary,
-) {
-    let filed = s.entries;
-    let used = s.uses;
-    let named = s.named;
-    put(b"fact,");
-    put_number(line);
-    put_kind(s.kind);
-    put_disjuncts(file, names, out, named, 6144 + entries, 6144 + filed);
-    put(b" free=");
-    put_set(file, names, out, named, uses, used);
-    put(b"\n");
-}
-
-// Prints the limit that a fact passes.
-fn put_limit(limit: Limit) {
-    match limit {
-        Limit::Names => {
-            put(b"names,");
-        }
-        Limit::Entries => {
-            put(b"entries,");
-        }
-        Limit::Uses => {
-            put(b"uses,");
-        }
-    }
-}
-
-// Summarises the fact of a name and a term, and prints the summary.
-fn feed_fact(
-    file: &[u8],
-    names: &mut [u32],
-    refs: &[u32],
-    rows: &mut [u32],
-    out: &mut [u32],
-    k: Counts,
-    line: usize,
-    named: usize,
-    name: usize,
-    t: usize,
-) -> Fed {
-    let used = k.used;
-    let many = k.many;
-    let entries = k.entries;
-    let uses = k.uses;
-    let mark = k.mark;
-    match summary::summarize_assumption(
-        file,
-        names,
-        refs,
-        rows,
-        out,
-        named,
-        used,
-        many,
-        name,
-        t,
-        mark,
-        entries,
-        uses,
-    ) {
-        Summarized::Done(s) => {
-            put_summary(file, names, out, line, entries, uses, s);
-            Fed::On(Counts {
-                named: s.named,
-                used,
-                many,
-                entries: s.entries,
-                uses: s.uses,
-                mark: s.mark,
-            })
-        }
-        Summarized::Over(limit) => {
-            put_limit(limit);
-            Fed::Stop
-        }
-    }
-}
-
-// Feeds an `assume`, from its name on.
-fn feed_assume(
-    file: &[u8],
-    names: &mut [u32],
-    refs: &[u32],
-    rows: &mut [u32],
-    out: &mut [u32],
-    k: Counts,
-    line: usize,
-    c: Cursor,
-) -> Fed {
-    let Word::Name(name, named, next) = read_name(file, names, k.named, c) else {
-        return Fed::Stop;
-    };
-    let NumberStep::Number(_, after) = next.number(file, 1) else {
-        return Fed::Stop;
-    };
-    let NumberStep::Number(t, _) = after.term(file, k.many as u32) else {
-        return Fed::Stop;
-    };
-    feed_fact(
-        file,
-        names,
-        refs,
-        rows,
-        out,
-        k,
-        line,
-        named,
-        name,
-        t as usize,
-    )
-}
-
 // Feeds a line, from the field after its kind on; `a` up to `e` is the kind. Records other than facts are left out.
 fn feed_line(
     file: &[u8],
@@ -544,10 +475,10 @@ fn feed_line(
     a: usize,
     e: usize,
     c: Cursor,
-) -> Fed {
-    if text::same_text(file, a, e, b"assume") {
-        return feed_assume(file, names, refs, rows, out, k, line, c);
-    }
+) -> Fed
+    requires { ⌜ Ready (now file) (now names) (now refs) (now rows) k line × (16384 ≤ length (now out)) × (line ≤ 65535) × (a ≤ e) × (e ≤ length (now file)) × Placed (now file) c ⌝ }
+    ensures { λ r. ⌜ Goes (now (file .entry)) (now (names .exit)) (now (refs .exit)) (now (rows .exit)) line r ⌝ }
+{
     feed_term(file, names, refs, rows, k, a, e, c)
 }
 
@@ -561,7 +492,10 @@ fn feed_term(
     a: usize,
     e: usize,
     c: Cursor,
-) -> Fed {
+) -> Fed
+    requires { ⌜ Tables (now file) (now names) (now refs) (now rows) k × (a ≤ e) × (e ≤ length (now file)) × Placed (now file) c ⌝ }
+    ensures { λ r. ⌜ Feeds (now (file .entry)) (now (names .exit)) (now (refs .exit)) (now (rows .exit)) k r ⌝ }
+{
     if text::same_text(file, a, e, b"free") {
         return feed_free(file, names, refs, rows, k, c);
     }
@@ -597,7 +531,10 @@ fn feed_term(
 }
 
 // Where the next `ask` line starts, from a line's start on, or the end of the file.
-fn next_ask(file: &[u8], start: usize) -> usize {
+fn next_ask(file: &[u8], start: usize) -> usize
+    requires { ⌜ start ≤ length (now file) ⌝ }
+    ensures { λ r. ⌜ (start ≤ r) × (r ≤ length (now (file .entry))) ⌝ }
+{
     let mut from = start;
     while from < file.len() {
         let end = text::find(file, b'\n', from, file.len());
@@ -619,7 +556,9 @@ fn all_lines(
     out: &mut [u32],
     start: usize,
     upto: usize,
-) {
+)
+    requires { ⌜ Table (now file) (now names) 0 × Rows (now refs) (now rows) 0 0 0 × Fresh (now names) (now rows) 1 × (16384 ≤ length (now out)) × (upto ≤ length (now file)) ⌝ }
+{
     let mut k = Counts {
         named: 0,
         used: 0,
@@ -647,7 +586,9 @@ fn all_lines(
 }
 
 // Feeds one file into new tables.
-fn one_file(file: &[u8], start: usize, upto: usize) {
+fn one_file(file: &[u8], start: usize, upto: usize)
+    requires { ⌜ (length (now file) ≤ 65535) × (upto ≤ length (now file)) ⌝ }
+{
     let mut names = [0u32; 16384];
     let mut refs = [0u32; 16384];
     let mut rows = [0u32; 16384];
@@ -664,7 +605,9 @@ fn one_file(file: &[u8], start: usize, upto: usize) {
 }
 
 // Feeds each file, from one `ask` line up to the next.
-fn all_files(file: &[u8]) {
+fn all_files(file: &[u8])
+    requires { ⌜ length (now file) ≤ 65535 ⌝ }
+{
     let mut from = 0;
     while from < file.len() {
         let end = text::find(file, b'\n', from, file.len());
