@@ -29,8 +29,8 @@ pub record Spelt (file names names′ : List ℕ) (named named′ n : ℕ) : Typ
 
 -- what reading a name comes to
 pub data Reads (file names names′ : List ℕ) (named : ℕ) : Word → Type 0 where
-  name : {n named′ : ℕ} {next : Cursor} → Spelt file names names′ named named′ n → Placed file next → Reads file names names′ named (word.Name n named′ next)
-  none : Reads file names names′ named word.Stop
+  name-read : {n named′ : ℕ} {next : Cursor} → Spelt file names names′ named named′ n → Placed file next → Reads file names names′ named (word.Name n named′ next)
+  name-refused : Reads file names names′ named word.Stop
 
 -- ---- references
 
@@ -46,8 +46,13 @@ pub record Onto (file refs refs′ : List ℕ) (many low high from end : ℕ) (c
 
 -- what pushing references comes to
 pub data Pushes (file refs refs′ : List ℕ) (many low high from : ℕ) (c : Cursor) : Upto → Type 0 where
-  pushed : {end : ℕ} {next : Cursor} → Onto file refs refs′ many low high from end c next → Pushes file refs refs′ many low high from c (upto.At end next)
-  none : Pushes file refs refs′ many low high from c upto.Stop
+  all-pushed : {end : ℕ} {next : Cursor} → Onto file refs refs′ many low high from end c next → Pushes file refs refs′ many low high from c (upto.At end next)
+  push-refused : Pushes file refs refs′ many low high from c upto.Stop
+
+-- what pushing one reference in a group comes to
+pub data Pushes-one (file refs refs′ : List ℕ) (many group from : ℕ) (c : Cursor) : Upto → Type 0 where
+  one-pushed : {end : ℕ} {next : Cursor} → end ≡ from + 1 → Onto file refs refs′ many (group + 1) (group + 1) from end c next → Pushes-one file refs refs′ many group from c (upto.At end next)
+  one-refused : Pushes-one file refs refs′ many group from c upto.Stop
 
 -- the body and the patterns of a quantifier, pushed from `start` up to `end`
 pub record Bodied (refs refs′ : List ℕ) (many groups start end : ℕ) : Type 0 where
@@ -56,8 +61,8 @@ pub record Bodied (refs refs′ : List ℕ) (many groups start end : ℕ) : Type
 
 -- what pushing them comes to
 pub data Quantifies (refs refs′ : List ℕ) (many groups start : ℕ) : Upto → Type 0 where
-  pushed : {end : ℕ} {next : Cursor} → Bodied refs refs′ many groups start end → Quantifies refs refs′ many groups start (upto.At end next)
-  none : Quantifies refs refs′ many groups start upto.Stop
+  body-pushed : {end : ℕ} {next : Cursor} → Bodied refs refs′ many groups start end → Quantifies refs refs′ many groups start (upto.At end next)
+  body-refused : Quantifies refs refs′ many groups start upto.Stop
 
 -- ---- terms
 
@@ -82,8 +87,8 @@ pub record Grown (refs′ rows rows′ : List ℕ) (named : ℕ) (k k′ : Count
 
 -- what adding a term comes to
 pub data Grows (refs′ rows rows′ : List ℕ) (named : ℕ) (k : Counts) : Fed → Type 0 where
-  on : {k′ : Counts} → Grown refs′ rows rows′ named k k′ → Grows refs′ rows rows′ named k (fed.On k′)
-  none : Grows refs′ rows rows′ named k fed.Stop
+  one-more : {k′ : Counts} → Grown refs′ rows rows′ named k k′ → Grows refs′ rows rows′ named k (fed.On k′)
+  term-refused : Grows refs′ rows rows′ named k fed.Stop
 
 -- the two tables, and their marks below the next one
 pub record Tables (file names refs rows : List ℕ) (k : Counts) : Type 0 where
@@ -93,8 +98,8 @@ pub record Tables (file names refs rows : List ℕ) (k : Counts) : Type 0 where
 
 -- what feeding a term line comes to
 pub data Feeds (file names′ refs′ rows′ : List ℕ) (k : Counts) : Fed → Type 0 where
-  on : {k′ : Counts} → Tables file names′ refs′ rows′ k′ → Same-lists k k′ → Feeds file names′ refs′ rows′ k (fed.On k′)
-  none : Feeds file names′ refs′ rows′ k fed.Stop
+  term-fed : {k′ : Counts} → Tables file names′ refs′ rows′ k′ → Same-lists k k′ → Feeds file names′ refs′ rows′ k (fed.On k′)
+  feed-refused : Feeds file names′ refs′ rows′ k fed.Stop
 
 -- ---- lines
 
@@ -107,5 +112,5 @@ pub record Ready (file names refs rows : List ℕ) (k : Counts) (line : ℕ) : T
 
 -- what feeding a line comes to
 pub data Goes (file names′ refs′ rows′ : List ℕ) (line : ℕ) : Fed → Type 0 where
-  on : {k′ : Counts} → Ready file names′ refs′ rows′ k′ (line + 1) → Goes file names′ refs′ rows′ line (fed.On k′)
-  none : Goes file names′ refs′ rows′ line fed.Stop
+  line-fed : {k′ : Counts} → Ready file names′ refs′ rows′ k′ (line + 1) → Goes file names′ refs′ rows′ line (fed.On k′)
+  line-refused : Goes file names′ refs′ rows′ line fed.Stop

@@ -17,7 +17,7 @@ ghost use Rattle.text.specs.Parts.{Placed};
 ghost use Rattle.names.specs.Table.{Table};
 ghost use Rattle.terms.specs.Rows.{Rows};
 ghost use Rattle.gather.specs.Sets.{Fresh};
-ghost use Rattle.summaries.specs.Fed.{Reads, Pushes, Quantifies, grown-to, Grows, Tables, Feeds, Ready, Goes};
+ghost use Rattle.summaries.specs.Fed.{Reads, Pushes-one, Pushes, Quantifies, grown-to, Grows, Tables, Feeds, Ready, Goes};
 
 // What the tables hold: names, references, terms; trigger entries and name uses; the next mark.
 struct Counts {
@@ -84,7 +84,7 @@ fn push_term(
     c: Cursor,
 ) -> Upto
     requires { ⌜ (16384 ≤ length (now refs)) × (many ≤ 4096) × (group < 65536) × Placed (now file) c ⌝ }
-    ensures { λ r. ⌜ Pushes (now (file .entry)) (now (refs .entry)) (now (refs .exit)) many (group + 1) (group + 1) used c r ⌝ }
+    ensures { λ r. ⌜ Pushes-one (now (file .entry)) (now (refs .entry)) (now (refs .exit)) many group used c r ⌝ }
 {
     match c.term(file, many as u32) {
         NumberStep::Number(t, next) => match terms::push(refs, used, t as usize, group) {
