@@ -111,8 +111,13 @@ onto-group w a = record {
   placed = a .placed;
 }
 
+-- all groups are as many as there are
+pub onto-groups : {file refs refs′ : List ℕ} {many low high groups from end : ℕ} {c next : Cursor} → high ≡ groups → Onto file refs refs′ many low high from end c next
+    → Onto file refs refs′ many low groups from end c next
+onto-groups e a = rw e at a
+
 -- a push that is done had room
-push-done : (used : ℕ) {r : Added} → r ≡ push-answer used → r ≡ adds.Done → used < 16384
+pub push-done : (used : ℕ) {r : Added} → r ≡ push-answer used → r ≡ adds.Done → used < 16384
 push-done used p q = ⊎-elim (λ (h : used < 16384). h) (λ (h : 16384 ≤ used). let z : _≡_ {A = ℕ} 0 1 = cc (answer-full used h) in absurd (omega arith)) (below used 16384)
 
 -- a term that was read is pushed

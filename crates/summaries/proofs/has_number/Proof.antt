@@ -1,3 +1,5 @@
+-- `summaries::has_number` is safe and ends.
+use Prim.Native.Nat.{_-_, _≤_}
 use borrow.Author.Needs.{needs}
 use native.Mathlib.Omega.{arith}
 use Rattle.summaries.proofs.has_number.Statement.{statement}
@@ -7,36 +9,29 @@ use Rattle.summaries.proofs.has_number.Lts as lts
 use Rattle.words.proofs.at.Reads as at-reads
 
 abbrev Inv-loop : tie.InvT-loop
-Inv-loop out a e n i₀ i = ?
+Inv-loop out a e n i₀ i = a ≤ i
 
 abbrev μ-loop : tie.MeasureT-loop
-μ-loop out a e n i₀ i = ?
+μ-loop out a e n i₀ i = e - i
 
--- src/main.rt:401:5
 loop-holds : tie.Need-loop-holds Inv-loop μ-loop
 loop-holds c = search needs
 
--- src/main.rt:402:12
 at-requires : tie.Need-at-requires Inv-loop μ-loop
 at-requires c κs = search needs
 
--- src/main.rt:403:13
 returns : tie.Need-returns Inv-loop μ-loop
 returns c = search needs
 
--- src/main.rt:405:9
 add-i : tie.Need-add-i Inv-loop μ-loop
 add-i c = search needs
 
--- src/main.rt:401:5
 loop-less : tie.Need-loop-less Inv-loop μ-loop
 loop-less c = search needs
 
--- src/main.rt:401:5
 loop-again : tie.Need-loop-again Inv-loop μ-loop
 loop-again c = search needs
 
--- src/main.rt:397:1
 returns-2 : tie.Need-returns-2 Inv-loop μ-loop
 returns-2 c = search needs
 

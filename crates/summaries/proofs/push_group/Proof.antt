@@ -1,3 +1,9 @@
+-- `summaries::push_group` meets its contract. The loop's invariant: the references of the fields before the cursor are pushed.
+use Prim.Native.Nat.{_+_, _-_, _≤_}
+use mathlib.Core.Path.{_≡_, refl}
+use lib.ListN.{length}
+use Rattle.summaries.specs.Fed.{Onto, all-pushed, push-refused}
+use Rattle.summaries.proofs.Laws.{onto-none, onto-then, one-at}
 use borrow.Author.Needs.{needs}
 use native.Mathlib.Omega.{arith}
 use Rattle.summaries.proofs.push_group.Statement.{statement}
@@ -7,54 +13,45 @@ use Rattle.summaries.proofs.push_group.Lts as lts
 use Rattle.summaries.proofs.push_term.Reads as push-term-reads
 
 abbrev Inv-loop : tie.InvT-loop
-Inv-loop file refs₀ from many group n used₀ c₀ i₀ refs used c i = ?
+Inv-loop file refs₀ from many group n used₀ c₀ i₀ refs used c i = Onto file refs₀ refs many (group + 1) (group + 1) from used c₀ c × (length refs ≡ length refs₀) × (i ≤ n)
 
 abbrev μ-loop : tie.MeasureT-loop
-μ-loop file refs₀ from many group n used₀ c₀ i₀ refs used c i = ?
+μ-loop file refs₀ from many group n used₀ c₀ i₀ refs used c i = n - i
 
--- src/main.rt:131:5
 loop-holds : tie.Need-loop-holds Inv-loop μ-loop
-loop-holds c = search needs
+loop-holds c = (onto-none (omega arith) (c .before .before .pre .3), refl, omega arith)
 
--- src/main.rt:132:36
 push-term-requires : tie.Need-push-term-requires Inv-loop μ-loop
-push-term-requires c κs = search needs
+push-term-requires c κs = (omega (arith, c .before .before .loop .inv .1, c .before .before .before .before .before .pre .0), c .before .before .before .before .before .pre .1, c .before .before .before .before .before .pre .2, c .before .before .loop .inv .0 .placed)
 
--- src/main.rt:132:22
 enum-known-more : tie.Need-enum-known-more Inv-loop μ-loop
-enum-known-more c = search needs
+enum-known-more c = c .match .keys1
 
--- src/main.rt:133:13
 enum-told : tie.Need-enum-told Inv-loop μ-loop
-enum-told c = search needs
+enum-told c = c .match .keys2
 
--- src/main.rt:133:13
 same-length : tie.Need-same-length Inv-loop μ-loop
 same-length c = search needs
 
--- src/main.rt:133:13
 returns : tie.Need-returns Inv-loop μ-loop
-returns c = search needs
+returns c = push-refused
 
--- src/main.rt:137:9
 add-i : tie.Need-add-i Inv-loop μ-loop
-add-i c = search needs
+add-i c = omega arith
 
--- src/main.rt:131:5
 loop-less : tie.Need-loop-less Inv-loop μ-loop
-loop-less c = search needs
+loop-less c = omega arith
 
--- src/main.rt:131:5
 loop-again : tie.Need-loop-again Inv-loop μ-loop
-loop-again c = search needs
+loop-again c =
+    let step = one-at (c .before .before .before .before .before .push-term .ensures) (c .before .more .given .1) in
+    (onto-then (c .before .before .before .before .before .before .before .before .loop .inv .0) (step .1), search needs, omega arith)
 
--- src/main.rt:116:1
 same-length-2 : tie.Need-same-length-2 Inv-loop μ-loop
-same-length-2 c = search needs
+same-length-2 c = c .before .loop .inv .1
 
--- src/main.rt:116:1
 returns-2 : tie.Need-returns-2 Inv-loop μ-loop
-returns-2 c = search needs
+returns-2 c = all-pushed (c .before .loop .inv .0)
 
 pub push-group-spec : {M : Type 1} → statement M
 push-group-spec =

@@ -1,3 +1,10 @@
+-- `summaries::push_groups` meets its contract. The loop's invariant: the references of the groups before the g-th are pushed.
+use Prim.Native.Nat.{_-_, _≤_}
+use mathlib.Core.Path.{_≡_, refl, sym, _∙_}
+use lib.ListN.{length}
+use Rattle.text.proofs.Laws.{number-next}
+use Rattle.summaries.specs.Fed.{Onto, all-pushed, push-refused}
+use Rattle.summaries.proofs.Laws.{onto-none, onto-then, onto-group, onto-groups, pushes-at}
 use borrow.Author.Needs.{needs}
 use native.Mathlib.Omega.{arith}
 use Rattle.summaries.proofs.push_groups.Statement.{statement}
@@ -8,78 +15,65 @@ use Rattle.summaries.proofs.push_group.Reads as push-group-reads
 use Rattle.text.proofs.Cursor.number.Reads as number-reads
 
 abbrev Inv-loop : tie.InvT-loop
-Inv-loop file refs₀ from many groups used₀ c₀ g₀ refs used c g = ?
+Inv-loop file refs₀ from many groups used₀ c₀ g₀ refs used c g = Onto file refs₀ refs many 0 g from used c₀ c × (length refs ≡ length refs₀) × (g ≤ groups)
 
 abbrev μ-loop : tie.MeasureT-loop
-μ-loop file refs₀ from many groups used₀ c₀ g₀ refs used c g = ?
+μ-loop file refs₀ from many groups used₀ c₀ g₀ refs used c g = groups - g
 
--- src/main.rt:157:5
 loop-holds : tie.Need-loop-holds Inv-loop μ-loop
-loop-holds c = search needs
+loop-holds c = (onto-none (omega arith) (c .before .before .pre .3), refl, omega arith)
 
--- src/main.rt:158:43
 number-requires : tie.Need-number-requires Inv-loop μ-loop
-number-requires c κs = search needs
+number-requires c κs = c .before .loop .inv .0 .placed
 
--- src/main.rt:158:32
 enum-known-n : tie.Need-enum-known-n Inv-loop μ-loop
-enum-known-n c = search needs
+enum-known-n c = c .match .keys1
 
--- src/main.rt:159:13
 enum-told : tie.Need-enum-told Inv-loop μ-loop
-enum-told c = search needs
+enum-told c = c .match .keys2
 
--- src/main.rt:159:13
 same-length : tie.Need-same-length Inv-loop μ-loop
-same-length c = search needs
+same-length c = c .before .before .before .before .loop .inv .1
 
--- src/main.rt:159:13
 returns : tie.Need-returns Inv-loop μ-loop
-returns c = search needs
+returns c = push-refused
 
--- src/main.rt:161:75
 cast-push-group : tie.Need-cast-push-group Inv-loop μ-loop
 cast-push-group c = search needs
 
--- src/main.rt:161:37
 push-group-requires : tie.Need-push-group-requires Inv-loop μ-loop
-push-group-requires c κs = search needs
+push-group-requires c κs =
+    let read = number-next _ _ (c .before .before .before .before .before .before .loop .inv .0 .placed) _ _ _ (sym (c .before .before .before .before .number .ensures) ∙ c .before .before .n .given .1) in
+    (omega (arith, c .before .before .before .before .before .before .loop .inv .1, c .before .before .before .before .before .before .before .before .before .pre .0), c .before .before .before .before .before .before .before .before .before .pre .1, omega (arith, c .before .before .before .before .before .before .before .before .before .pre .2), read .0 .placed)
 
--- src/main.rt:161:22
 enum-known-more : tie.Need-enum-known-more Inv-loop μ-loop
-enum-known-more c = search needs
+enum-known-more c = c .match2 .keys1
 
--- src/main.rt:162:13
 enum-told-2 : tie.Need-enum-told-2 Inv-loop μ-loop
-enum-told-2 c = search needs
+enum-told-2 c = c .match2 .keys2
 
--- src/main.rt:162:13
 same-length-2 : tie.Need-same-length-2 Inv-loop μ-loop
 same-length-2 c = search needs
 
--- src/main.rt:162:13
 returns-2 : tie.Need-returns-2 Inv-loop μ-loop
-returns-2 c = search needs
+returns-2 c = push-refused
 
--- src/main.rt:166:9
 add-g : tie.Need-add-g Inv-loop μ-loop
-add-g c = search needs
+add-g c = omega arith
 
--- src/main.rt:157:5
 loop-less : tie.Need-loop-less Inv-loop μ-loop
-loop-less c = search needs
+loop-less c = omega arith
 
--- src/main.rt:157:5
 loop-again : tie.Need-loop-again Inv-loop μ-loop
-loop-again c = search needs
+loop-again c =
+    let read = number-next _ _ (c .before .before .before .before .before .before .before .before .before .before .before .before .loop .inv .0 .placed) _ _ _ (sym (c .before .before .before .before .before .before .before .before .before .before .number .ensures) ∙ c .before .before .before .before .before .before .before .before .n .given .1) in
+    (onto-then (c .before .before .before .before .before .before .before .before .before .before .before .before .loop .inv .0) (onto-group (read .0) (pushes-at (c .before .before .before .before .before .push-group .ensures) (c .before .more .given .1))), search needs, omega arith)
 
--- src/main.rt:143:1
 same-length-3 : tie.Need-same-length-3 Inv-loop μ-loop
-same-length-3 c = search needs
+same-length-3 c = c .before .loop .inv .1
 
--- src/main.rt:143:1
 returns-3 : tie.Need-returns-3 Inv-loop μ-loop
-returns-3 c = search needs
+returns-3 c = all-pushed (onto-groups (omega arith) (c .before .loop .inv .0))
 
 pub push-groups-spec : {M : Type 1} → statement M
 push-groups-spec =
