@@ -150,6 +150,10 @@ pushes-at {file} {refs} {refs′} {many} {low} {high} {from} {end} {c} {next} s 
     go : Pushes file refs refs′ many low high from c (upto.At end next) → Onto file refs refs′ many low high from end c next
     go (all-pushed a) = a
 
+-- where references end, said otherwise
+pub pushed-to : {refs rows : List ℕ} {start used used′ many named : ℕ} → used ≡ used′ → Pushed refs rows start used many named → Pushed refs rows start used′ many named
+pushed-to e p = rw e at p
+
 -- a quantifier's patterns behind its body
 pub quantifies : {file refs refs′ refs″ : List ℕ} {many groups start one : ℕ} {body next c : Cursor} {r : Upto} → one ≡ start + 1 → Onto file refs refs′ many 1 1 start one body next
     → Pushes file refs′ refs″ many 0 groups one c r → Quantifies refs refs″ many groups start r
@@ -192,6 +196,11 @@ grows {rows = rows} {start = start} {used} {named} {word} {extra} k p a = ⊎-el
     (λ (l : 4096 ≤ k .many). rw (p, a .answer, added-full rows (k .many) word start extra l .0) term-refused)
     (below (k .many) 4096)
 
+-- of a row with one reference
+pub grows-one : {refs rows rows′ : List ℕ} {start used named word extra : ℕ} {node : (ℕ → Name) → Node} {r : Added} {f : Fed} (k : Counts) → used ≡ start + 1 → f ≡ grown-to r k named used
+    → Adds refs rows rows′ start (start + 1) (k .many) named word extra node r → Grows refs rows rows′ named k f
+grows-one k e p a = grows k (rw e at p) a
+
 -- ---- tables
 
 -- marks that stay are below the next mark
@@ -219,12 +228,26 @@ pub feeds-rows : {file names refs rows refs′ rows′ : List ℕ} {k : Counts} 
     → Grows refs′ rows rows′ (k .named) k f → Feeds file names refs′ rows′ k f
 feeds-rows t g = feeds t (t .name-table) (λ n l. refl) g
 
+-- of a line that is left out
+pub feeds-none : {file names refs rows : List ℕ} {k : Counts} → Tables file names refs rows k → Feeds file names refs rows k (fed.On k)
+feeds-none {k = k} t = term-fed {k′ = k} t (record { entries = refl; uses = refl; mark = refl })
+
 -- the term table with the names then
 pub rows-spelt : {file names names′ refs rows : List ℕ} {named n : ℕ} {k : Counts} → Tables file names refs rows k → Spelt file names names′ (k .named) named n
     → Rows refs rows (k .used) (k .many) named
 rows-spelt t s = rows-named (s .more) (s .table .few) (t .term-table)
 
 -- ---- lines
+
+-- before the first line
+pub ready-start : {file names refs rows : List ℕ} → Table file names 0 → Rows refs rows 0 0 0 → Fresh names rows 1
+    → Ready file names refs rows (record { named = 0; used = 0; many = 0; entries = 0; uses = 0; mark = 1 }) 1
+ready-start n r f = record {
+  tables = record { name-table = n; term-table = r; fresh = f };
+  few-entries = omega arith;
+  few-uses = omega arith;
+  few-marks = omega arith;
+}
 
 -- a term line
 pub goes-term : {file names refs rows names′ refs′ rows′ : List ℕ} {k : Counts} {line : ℕ} {f : Fed} → Ready file names refs rows k line → Feeds file names′ refs′ rows′ k f
@@ -251,6 +274,10 @@ zero-at : (n i : ℕ) → _≡_ {A = ℕ} (getD (replicate n 0) i 0) 0
 zero-at zero i = refl
 zero-at (suc n) zero = refl
 zero-at (suc n) (suc i) = zero-at n i
+
+-- and is as long as it is made
+pub zeros-long : (n : ℕ) → 16384 ≤ n → 16384 ≤ length {A = ℕ} (replicate n 0)
+zeros-long n h = rw (length-replicate {A = ℕ} n 0) h
 
 -- lists of zeros have no mark above 0
 pub zeros-fresh : (m n : ℕ) → Fresh (replicate m 0) (replicate n 0) 1

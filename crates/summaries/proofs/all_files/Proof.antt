@@ -1,3 +1,8 @@
+-- `summaries::all_files` is safe and ends. The loop's invariant: the position is in the text.
+use Prim.Native.Nat.{_-_, _≤_}
+use lib.ListN.{length}
+use mathlib.Core.Logic.{⊎-elim}
+use Rattle.text.proofs.Laws.{mark-from}
 use borrow.Author.Needs.{needs}
 use native.Mathlib.Omega.{arith}
 use Rattle.summaries.proofs.all_files.Statement.{statement}
@@ -9,40 +14,34 @@ use Rattle.summaries.proofs.one_file.Reads as one-file-reads
 use Rattle.text.proofs.find.Reads as find-reads
 
 abbrev Inv-loop : tie.InvT-loop
-Inv-loop file from₀ from = ?
+Inv-loop file from₀ from = from ≤ length file
 
 abbrev μ-loop : tie.MeasureT-loop
-μ-loop file from₀ from = ?
+μ-loop file from₀ from = length file - from
 
--- src/main.rt:612:5
 loop-holds : tie.Need-loop-holds Inv-loop μ-loop
 loop-holds c = search needs
 
--- src/main.rt:613:13
 find-requires : tie.Need-find-requires Inv-loop μ-loop
-find-requires c κs = search needs
+find-requires c κs = (omega arith, omega arith)
 
--- src/main.rt:616:35
 add-next-ask : tie.Need-add-next-ask Inv-loop μ-loop
-add-next-ask c = search needs
+add-next-ask c = omega arith
 
--- src/main.rt:616:13
 next-ask-requires : tie.Need-next-ask-requires Inv-loop μ-loop
-next-ask-requires c κs = search needs
+next-ask-requires c κs = omega arith
 
--- src/main.rt:618:9
 one-file-requires : tie.Need-one-file-requires Inv-loop μ-loop
-one-file-requires c κs = search needs
+one-file-requires c κs = (c .before .before .before .before .before .pre, ⊎-elim (λ w. omega arith) (λ w. omega arith) (c .if1 .came))
 
--- src/main.rt:612:5
 loop-less : tie.Need-loop-less Inv-loop μ-loop
-loop-less c = search needs
+loop-less c =
+    let begin = mark-from _ _ _ _ _ (c .before .before .find .ensures) in
+    ⊎-elim (λ w. omega arith) (λ w. omega arith) (c .before .if1 .came)
 
--- src/main.rt:612:5
 loop-again : tie.Need-loop-again Inv-loop μ-loop
-loop-again c = search needs
+loop-again c = ⊎-elim (λ w. omega arith) (λ w. omega arith) (c .before .if1 .came)
 
--- src/main.rt:608:1
 returns : tie.Need-returns Inv-loop μ-loop
 returns c = search needs
 

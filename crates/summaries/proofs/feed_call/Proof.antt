@@ -1,3 +1,7 @@
+-- `summaries::feed_call` meets its contract.
+use Rattle.terms.proofs.Lines.{pushed-none}
+use Rattle.summaries.specs.Fed.{feed-refused}
+use Rattle.summaries.proofs.Laws.{reads-name, pushes-at, grows, feeds-name, rows-spelt}
 use borrow.Author.Needs.{needs}
 use Rattle.summaries.proofs.feed_call.Statement.{statement}
 use Rattle.summaries.proofs.feed_call.Tie as tie
@@ -8,73 +12,63 @@ use Rattle.summaries.proofs.push_rest.Reads as push-rest-reads
 use Rattle.summaries.proofs.read_name.Reads as read-name-reads
 use Rattle.terms.proofs.add_call.Reads as add-call-reads
 
--- src/main.rt:228:38
 read-name-requires : tie.Need-read-name-requires
-read-name-requires c κs = search needs
+read-name-requires c κs = (c .before .before .before .before .before .pre .0 .name-table, c .before .before .before .before .before .pre .1)
 
--- src/main.rt:228:20
 enum-known-n : tie.Need-enum-known-n
-enum-known-n c = search needs
+enum-known-n c = c .match .keys1
 
--- src/main.rt:229:9
 enum-told : tie.Need-enum-told
-enum-told c = search needs
+enum-told c = c .match .keys2
 
--- src/main.rt:229:9
 same-length : tie.Need-same-length
 same-length c = search needs
 
--- src/main.rt:229:9
 returns : tie.Need-returns
-returns c = search needs
+returns c = feed-refused
 
--- src/main.rt:231:29
 push-rest-requires : tie.Need-push-rest-requires
-push-rest-requires c κs = search needs
+push-rest-requires c κs =
+    let read = reads-name (c .before .before .before .before .before .before .read-name .ensures) (c .before .before .n .given .1) in
+    (c .before .before .before .before .before .before .before .before .before .before .before .before .pre .0 .term-table .ref-room, c .before .before .before .before .before .before .before .before .before .before .before .before .pre .0 .term-table .few-rows, read .1)
 
--- src/main.rt:231:18
 enum-known-used : tie.Need-enum-known-used
-enum-known-used c = search needs
+enum-known-used c = c .match2 .keys1
 
--- src/main.rt:232:9
 enum-told-2 : tie.Need-enum-told-2
-enum-told-2 c = search needs
+enum-told-2 c = c .match2 .keys2
 
--- src/main.rt:232:9
 same-length-2 : tie.Need-same-length-2
 same-length-2 c = search needs
 
--- src/main.rt:232:9
 same-length-3 : tie.Need-same-length-3
 same-length-3 c = search needs
 
--- src/main.rt:232:9
 returns-2 : tie.Need-returns-2
-returns-2 c = search needs
+returns-2 c = feed-refused
 
--- src/main.rt:235:9
 add-call-requires : tie.Need-add-call-requires
-add-call-requires c κs = search needs
+add-call-requires c κs =
+    let read = reads-name (c .before .before .before .before .before .before .before .before .before .before .before .before .before .before .read-name .ensures) (c .before .before .before .before .before .before .before .before .before .before .n .given .1) in
+    let onto = pushes-at (c .before .before .before .before .before .before .before .push-rest .ensures) (c .before .before .before .used .given .1) in
+    (onto .behind _ _ _ (pushed-none (rows-spelt (c .before .before .before .before .before .before .before .before .before .before .before .before .before .before .before .before .before .before .before .before .pre .0) (read .0))), read .0 .number)
 
--- src/main.rt:234:5
 grown-requires : tie.Need-grown-requires
-grown-requires c κs = search needs
+grown-requires c κs = c .before .before .before .before .before .before .before .before .before .before .before .before .before .before .before .before .before .before .before .before .before .before .before .pre .0 .term-table .few-rows
 
--- src/main.rt:215:1
 same-length-4 : tie.Need-same-length-4
 same-length-4 c = search needs
 
--- src/main.rt:215:1
 same-length-5 : tie.Need-same-length-5
 same-length-5 c = search needs
 
--- src/main.rt:215:1
 same-length-6 : tie.Need-same-length-6
 same-length-6 c = search needs
 
--- src/main.rt:215:1
 returns-3 : tie.Need-returns-3
-returns-3 c = search needs
+returns-3 c =
+    let read = reads-name (c .before .before .before .before .before .before .before .before .before .before .before .before .before .before .before .before .before .before .read-name .ensures) (c .before .before .before .before .before .before .before .before .before .before .before .before .before .before .n .given .1) in
+    feeds-name (c .before .before .before .before .before .before .before .before .before .before .before .before .before .before .before .before .before .before .before .before .before .before .before .before .pre .0) (read .0) (grows _ (c .grown .ensures) (c .before .before .before .add-call .ensures))
 
 pub feed-call-spec : {M : Type 1} → statement M
 feed-call-spec =

@@ -1,3 +1,6 @@
+-- `summaries::feed_free` meets its contract.
+use Rattle.summaries.specs.Fed.{feed-refused}
+use Rattle.summaries.proofs.Laws.{reads-name, grows, feeds-name, rows-spelt}
 use borrow.Author.Needs.{needs}
 use Rattle.summaries.proofs.feed_free.Statement.{statement}
 use Rattle.summaries.proofs.feed_free.Tie as tie
@@ -7,45 +10,39 @@ use Rattle.summaries.proofs.grown.Reads as grown-reads
 use Rattle.summaries.proofs.read_name.Reads as read-name-reads
 use Rattle.terms.proofs.add_free.Reads as add-free-reads
 
--- src/main.rt:203:35
 read-name-requires : tie.Need-read-name-requires
-read-name-requires c κs = search needs
+read-name-requires c κs = (c .before .before .before .before .before .pre .0 .name-table, c .before .before .before .before .before .pre .1)
 
--- src/main.rt:203:20
 enum-known-n : tie.Need-enum-known-n
-enum-known-n c = search needs
+enum-known-n c = c .match .keys1
 
--- src/main.rt:204:9
 enum-told : tie.Need-enum-told
-enum-told c = search needs
+enum-told c = c .match .keys2
 
--- src/main.rt:204:9
 same-length : tie.Need-same-length
 same-length c = search needs
 
--- src/main.rt:204:9
 returns : tie.Need-returns
-returns c = search needs
+returns c = feed-refused
 
--- src/main.rt:207:9
 add-free-requires : tie.Need-add-free-requires
-add-free-requires c κs = search needs
+add-free-requires c κs =
+    let read = reads-name (c .before .before .before .before .before .before .read-name .ensures) (c .before .before .n .given .1) in
+    (rows-spelt (c .before .before .before .before .before .before .before .before .before .before .before .before .pre .0) (read .0), read .0 .number)
 
--- src/main.rt:206:5
 grown-requires : tie.Need-grown-requires
-grown-requires c κs = search needs
+grown-requires c κs = c .before .before .before .before .before .before .before .before .before .before .before .before .before .before .before .pre .0 .term-table .few-rows
 
--- src/main.rt:190:1
 same-length-2 : tie.Need-same-length-2
 same-length-2 c = search needs
 
--- src/main.rt:190:1
 same-length-3 : tie.Need-same-length-3
 same-length-3 c = search needs
 
--- src/main.rt:190:1
 returns-2 : tie.Need-returns-2
-returns-2 c = search needs
+returns-2 c =
+    let read = reads-name (c .before .before .before .before .before .before .before .before .before .before .read-name .ensures) (c .before .before .before .before .before .before .n .given .1) in
+    feeds-name (c .before .before .before .before .before .before .before .before .before .before .before .before .before .before .before .before .pre .0) (read .0) (grows _ (c .grown .ensures) (c .before .before .before .add-free .ensures))
 
 pub feed-free-spec : {M : Type 1} → statement M
 feed-free-spec =

@@ -1,3 +1,8 @@
+-- `summaries::feed_let` meets its contract.
+use native.Mathlib.Omega.{arith}
+use Rattle.terms.proofs.Lines.{pushed-none}
+use Rattle.summaries.specs.Fed.{term-refused}
+use Rattle.summaries.proofs.Laws.{pushes-at, grows}
 use borrow.Author.Needs.{needs}
 use Rattle.summaries.proofs.feed_let.Statement.{statement}
 use Rattle.summaries.proofs.feed_let.Tie as tie
@@ -7,53 +12,43 @@ use Rattle.summaries.proofs.grown.Reads as grown-reads
 use Rattle.summaries.proofs.push_rest.Reads as push-rest-reads
 use Rattle.terms.proofs.add_let.Reads as add-let-reads
 
--- src/main.rt:363:29
 push-rest-requires : tie.Need-push-rest-requires
-push-rest-requires c κs = search needs
+push-rest-requires c κs = (c .before .before .before .before .pre .0 .ref-room, c .before .before .before .before .pre .0 .few-rows, c .before .before .before .before .pre .1)
 
--- src/main.rt:363:18
 enum-known-used : tie.Need-enum-known-used
-enum-known-used c = search needs
+enum-known-used c = c .match .keys1
 
--- src/main.rt:364:9
 enum-told : tie.Need-enum-told
-enum-told c = search needs
+enum-told c = c .match .keys2
 
--- src/main.rt:364:9
 same-length : tie.Need-same-length
 same-length c = search needs
 
--- src/main.rt:364:9
 returns : tie.Need-returns
-returns c = search needs
+returns c = term-refused
 
--- src/main.rt:367:9
 same-length-2 : tie.Need-same-length-2
 same-length-2 c = search needs
 
--- src/main.rt:367:9
 returns-2 : tie.Need-returns-2
-returns-2 c = search needs
+returns-2 c = term-refused
 
--- src/main.rt:370:9
 add-let-requires : tie.Need-add-let-requires
-add-let-requires c κs = search needs
+add-let-requires c κs =
+    let onto = pushes-at (c .before .before .before .before .before .before .before .before .push-rest .ensures) (c .before .before .before .before .used .given .1) in
+    (onto .behind _ _ _ (pushed-none (c .before .before .before .before .before .before .before .before .before .before .before .before .before .pre .0)), omega (arith, onto .more, c .before .before .if1 .left))
 
--- src/main.rt:369:5
 grown-requires : tie.Need-grown-requires
-grown-requires c κs = search needs
+grown-requires c κs = c .before .before .before .before .before .before .before .before .before .before .before .before .before .before .before .before .pre .0 .few-rows
 
--- src/main.rt:356:1
 same-length-3 : tie.Need-same-length-3
 same-length-3 c = search needs
 
--- src/main.rt:356:1
 same-length-4 : tie.Need-same-length-4
 same-length-4 c = search needs
 
--- src/main.rt:356:1
 returns-3 : tie.Need-returns-3
-returns-3 c = search needs
+returns-3 c = grows _ (c .grown .ensures) (c .before .before .before .add-let .ensures)
 
 pub feed-let-spec : {M : Type 1} → statement M
 feed-let-spec =

@@ -1,3 +1,9 @@
+-- `summaries::feed_quantifier` meets its contract.
+use mathlib.Core.Path.{sym, _∙_}
+use native.Mathlib.Omega.{arith}
+use Rattle.text.proofs.Laws.{field-next, number-next}
+use Rattle.summaries.specs.Fed.{term-refused}
+use Rattle.summaries.proofs.Laws.{quantified-at, grows}
 use borrow.Author.Needs.{needs}
 use Rattle.summaries.proofs.feed_quantifier.Statement.{statement}
 use Rattle.summaries.proofs.feed_quantifier.Tie as tie
@@ -10,101 +16,90 @@ use Rattle.terms.proofs.add_some.Reads as add-some-reads
 use Rattle.text.proofs.Cursor.field.Reads as field-reads
 use Rattle.text.proofs.Cursor.number.Reads as number-reads
 
--- src/main.rt:328:9
 field-requires : tie.Need-field-requires
-field-requires c κs = search needs
+field-requires c κs = c .before .before .before .pre .1
 
--- src/main.rt:327:9
 enum-known-next : tie.Need-enum-known-next
-enum-known-next c = search needs
+enum-known-next c = c .match .keys1
 
--- src/main.rt:330:9
 enum-told : tie.Need-enum-told
-enum-told c = search needs
+enum-told c = c .match .keys2
 
--- src/main.rt:330:9
 returns : tie.Need-returns
-returns c = search needs
+returns c = term-refused
 
--- src/main.rt:332:40
 number-requires : tie.Need-number-requires
-number-requires c κs = search needs
+number-requires c κs =
+    let read = field-next _ _ (c .before .before .before .before .before .before .before .pre .1) _ _ _ (sym (c .before .before .before .field .ensures) ∙ c .before .next .given .1) in
+    read .onward .placed
 
--- src/main.rt:332:28
 enum-known-g : tie.Need-enum-known-g
-enum-known-g c = search needs
+enum-known-g c = c .match2 .keys1
 
--- src/main.rt:333:9
 enum-told-2 : tie.Need-enum-told-2
-enum-told-2 c = search needs
+enum-told-2 c = c .match2 .keys2
 
--- src/main.rt:333:9
 returns-2 : tie.Need-returns-2
-returns-2 c = search needs
+returns-2 c = term-refused
 
--- src/main.rt:335:18
 cast-groups : tie.Need-cast-groups
 cast-groups c = search needs
 
--- src/main.rt:336:29
 push-quantifier-requires : tie.Need-push-quantifier-requires
-push-quantifier-requires c κs = search needs
+push-quantifier-requires c κs =
+    let read = field-next _ _ (c .before .before .before .before .before .before .before .before .before .before .before .before .pre .1) _ _ _ (sym (c .before .before .before .before .before .before .before .before .field .ensures) ∙ c .before .before .before .before .before .before .next .given .1) in
+    let count = number-next _ _ (read .onward .placed) _ _ _ (sym (c .before .before .before .before .number .ensures) ∙ c .before .before .g .given .1) in
+    (c .before .before .before .before .before .before .before .before .before .before .before .before .pre .0 .ref-room, c .before .before .before .before .before .before .before .before .before .before .before .before .pre .0 .few-rows, omega (arith, count .1), c .before .before .before .before .before .before .before .before .before .before .before .before .pre .1, count .0 .placed)
 
--- src/main.rt:336:18
 enum-known-used : tie.Need-enum-known-used
-enum-known-used c = search needs
+enum-known-used c = c .match3 .keys1
 
--- src/main.rt:337:9
 enum-told-3 : tie.Need-enum-told-3
-enum-told-3 c = search needs
+enum-told-3 c = c .match3 .keys2
 
--- src/main.rt:337:9
 same-length : tie.Need-same-length
 same-length c = search needs
 
--- src/main.rt:337:9
 returns-3 : tie.Need-returns-3
-returns-3 c = search needs
+returns-3 c = term-refused
 
--- src/main.rt:341:13
 add-all-requires : tie.Need-add-all-requires
-add-all-requires c κs = search needs
+add-all-requires c κs =
+    let read = field-next _ _ (c .before .before .before .before .before .before .before .before .before .before .before .before .before .before .before .before .before .before .before .before .before .pre .1) _ _ _ (sym (c .before .before .before .before .before .before .before .before .before .before .before .before .before .before .before .before .before .field .ensures) ∙ c .before .before .before .before .before .before .before .before .before .before .before .before .before .before .before .next .given .1) in
+    let count = number-next _ _ (read .onward .placed) _ _ _ (sym (c .before .before .before .before .before .before .before .before .before .before .before .before .before .number .ensures) ∙ c .before .before .before .before .before .before .before .before .before .before .before .g .given .1) in
+    let bodied = quantified-at (c .before .before .before .before .before .before .before .before .push-quantifier .ensures) (c .before .before .before .before .used .given .1) in
+    (bodied .behind _ _ (c .before .before .before .before .before .before .before .before .before .before .before .before .before .before .before .before .before .before .before .before .before .pre .0), bodied .patterns, omega (arith, count .1))
 
--- src/main.rt:340:9
 grown-requires : tie.Need-grown-requires
-grown-requires c κs = search needs
+grown-requires c κs = c .before .before .before .before .before .before .before .before .before .before .before .before .before .before .before .before .before .before .before .before .before .before .before .before .pre .0 .few-rows
 
--- src/main.rt:340:9
 same-length-2 : tie.Need-same-length-2
 same-length-2 c = search needs
 
--- src/main.rt:340:9
 same-length-3 : tie.Need-same-length-3
 same-length-3 c = search needs
 
--- src/main.rt:340:9
 returns-4 : tie.Need-returns-4
-returns-4 c = search needs
+returns-4 c = grows _ (c .grown .ensures) (c .before .before .before .add-all .ensures)
 
--- src/main.rt:348:9
 add-some-requires : tie.Need-add-some-requires
-add-some-requires c κs = search needs
+add-some-requires c κs =
+    let read = field-next _ _ (c .before .before .before .before .before .before .before .before .before .before .before .before .before .before .before .before .before .before .before .before .before .pre .1) _ _ _ (sym (c .before .before .before .before .before .before .before .before .before .before .before .before .before .before .before .before .before .field .ensures) ∙ c .before .before .before .before .before .before .before .before .before .before .before .before .before .before .before .next .given .1) in
+    let count = number-next _ _ (read .onward .placed) _ _ _ (sym (c .before .before .before .before .before .before .before .before .before .before .before .before .before .number .ensures) ∙ c .before .before .before .before .before .before .before .before .before .before .before .g .given .1) in
+    let bodied = quantified-at (c .before .before .before .before .before .before .before .before .push-quantifier .ensures) (c .before .before .before .before .used .given .1) in
+    (bodied .behind _ _ (c .before .before .before .before .before .before .before .before .before .before .before .before .before .before .before .before .before .before .before .before .before .pre .0), bodied .patterns, omega (arith, count .1))
 
--- src/main.rt:347:5
 grown-requires-2 : tie.Need-grown-requires-2
-grown-requires-2 c κs = search needs
+grown-requires-2 c κs = c .before .before .before .before .before .before .before .before .before .before .before .before .before .before .before .before .before .before .before .before .before .before .before .before .pre .0 .few-rows
 
--- src/main.rt:310:1
 same-length-4 : tie.Need-same-length-4
 same-length-4 c = search needs
 
--- src/main.rt:310:1
 same-length-5 : tie.Need-same-length-5
 same-length-5 c = search needs
 
--- src/main.rt:310:1
 returns-5 : tie.Need-returns-5
-returns-5 c = search needs
+returns-5 c = grows _ (c .grown2 .ensures) (c .before .before .before .add-some .ensures)
 
 pub feed-quantifier-spec : {M : Type 1} → statement M
 feed-quantifier-spec =

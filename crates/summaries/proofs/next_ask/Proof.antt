@@ -1,3 +1,7 @@
+-- `summaries::next_ask` meets its contract. The loop's invariant: the position is past the start.
+use Prim.Native.Nat.{_-_, _≤_}
+use lib.ListN.{length}
+use Rattle.text.proofs.Laws.{mark-from, mark-to}
 use borrow.Author.Needs.{needs}
 use native.Mathlib.Omega.{arith}
 use Rattle.summaries.proofs.next_ask.Statement.{statement}
@@ -8,48 +12,48 @@ use Rattle.text.proofs.find.Reads as find-reads
 use Rattle.text.proofs.same_text.Reads as same-text-reads
 
 abbrev Inv-loop : tie.InvT-loop
-Inv-loop file start from₀ t6 from = ?
+Inv-loop file start from₀ t6 from = start ≤ from
 
 abbrev μ-loop : tie.MeasureT-loop
-μ-loop file start from₀ t6 from = ?
+μ-loop file start from₀ t6 from = length file - from
 
--- src/main.rt:539:5
 loop-holds : tie.Need-loop-holds Inv-loop μ-loop
-loop-holds c = search needs
+loop-holds c = omega arith
 
--- src/main.rt:540:13
 find-requires : tie.Need-find-requires Inv-loop μ-loop
-find-requires c κs = search needs
+find-requires c κs = (omega arith, omega arith)
 
--- src/main.rt:541:13
 find-requires-2 : tie.Need-find-requires-2 Inv-loop μ-loop
-find-requires-2 c κs = search needs
+find-requires-2 c κs = (mark-from _ _ _ _ _ (c .find .ensures), mark-to _ _ _ _ _ (c .find .ensures) (omega arith) (omega arith))
 
--- src/main.rt:542:46
 slice-aggregate-same-text : tie.Need-slice-aggregate-same-text Inv-loop μ-loop
 slice-aggregate-same-text c = search needs
 
--- src/main.rt:542:12
 same-text-requires : tie.Need-same-text-requires Inv-loop μ-loop
-same-text-requires c κs = search needs
+same-text-requires c κs =
+    let end = mark-to _ _ _ _ _ (c .before .before .find .ensures) (omega arith) (omega arith) in
+    (mark-from _ _ _ _ _ (c .before .find2 .ensures), omega (arith, mark-to _ _ _ _ _ (c .before .find2 .ensures) (mark-from _ _ _ _ _ (c .before .before .find .ensures)) end))
 
--- src/main.rt:543:13
 returns : tie.Need-returns Inv-loop μ-loop
 returns c = search needs
 
--- src/main.rt:545:16
 add-from : tie.Need-add-from Inv-loop μ-loop
-add-from c = search needs
+add-from c =
+    let end = mark-to _ _ _ _ _ (c .before .before .before .before .find .ensures) (omega arith) (omega arith) in
+    omega arith
 
--- src/main.rt:539:5
 loop-less : tie.Need-loop-less Inv-loop μ-loop
-loop-less c = search needs
+loop-less c =
+    let end = mark-to _ _ _ _ _ (c .before .before .before .before .find .ensures) (omega arith) (omega arith) in
+    let begin = mark-from _ _ _ _ _ (c .before .before .before .before .find .ensures) in
+    omega arith
 
--- src/main.rt:539:5
 loop-again : tie.Need-loop-again Inv-loop μ-loop
-loop-again c = search needs
+loop-again c =
+    let end = mark-to _ _ _ _ _ (c .before .before .before .before .find .ensures) (omega arith) (omega arith) in
+    let begin = mark-from _ _ _ _ _ (c .before .before .before .before .find .ensures) in
+    omega arith
 
--- src/main.rt:534:1
 returns-2 : tie.Need-returns-2 Inv-loop μ-loop
 returns-2 c = search needs
 

@@ -1,3 +1,8 @@
+-- `summaries::one_file` is safe and ends.
+use native.Mathlib.Omega.{arith}
+use Rattle.names.proofs.Laws.{empty-table}
+use Rattle.terms.proofs.Adding.{empty-rows}
+use Rattle.summaries.proofs.Laws.{zeros-long, zeros-fresh}
 use borrow.Author.Needs.{needs}
 use Rattle.summaries.proofs.one_file.Statement.{statement}
 use Rattle.summaries.proofs.one_file.Tie as tie
@@ -5,27 +10,23 @@ use Rattle.summaries.proofs.one_file.Reads as reads
 use Rattle.summaries.proofs.one_file.Lts as lts
 use Rattle.summaries.proofs.all_lines.Reads as all-lines-reads
 
--- src/main.rt:598:9
 slice-aggregate-all-lines : tie.Need-slice-aggregate-all-lines
 slice-aggregate-all-lines c = search needs
 
--- src/main.rt:599:9
 slice-aggregate-all-lines-2 : tie.Need-slice-aggregate-all-lines-2
 slice-aggregate-all-lines-2 c = search needs
 
--- src/main.rt:600:9
 slice-aggregate-all-lines-3 : tie.Need-slice-aggregate-all-lines-3
 slice-aggregate-all-lines-3 c = search needs
 
--- src/main.rt:601:9
 slice-aggregate-all-lines-4 : tie.Need-slice-aggregate-all-lines-4
 slice-aggregate-all-lines-4 c = search needs
 
--- src/main.rt:596:5
 all-lines-requires : tie.Need-all-lines-requires
-all-lines-requires c κs = search needs
+all-lines-requires c κs =
+    let long = zeros-long 16384 (omega arith) in
+    (empty-table _ _ long (c .before .before .before .before .before .pre .0), empty-rows _ _ 0 long long (omega arith), zeros-fresh 16384 16384, long, c .before .before .before .before .before .pre .1)
 
--- src/main.rt:589:1
 returns : tie.Need-returns
 returns c = search needs
 
