@@ -7,11 +7,6 @@ use borrow.Author.Needs.{needs}
 use native.Mathlib.Omega.{arith}
 use Rattle.summaries.proofs.all_files.Statement.{statement}
 use Rattle.summaries.proofs.all_files.Tie as tie
-use Rattle.summaries.proofs.all_files.Reads as reads
-use Rattle.summaries.proofs.all_files.Lts as lts
-use Rattle.summaries.proofs.next_ask.Reads as next-ask-reads
-use Rattle.summaries.proofs.one_file.Reads as one-file-reads
-use Rattle.text.proofs.find.Reads as find-reads
 
 abbrev Inv-loop : tie.InvT-loop
 Inv-loop file from₀ from = from ≤ length file

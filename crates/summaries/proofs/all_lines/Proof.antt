@@ -9,12 +9,6 @@ use borrow.Author.Needs.{needs}
 use native.Mathlib.Omega.{arith}
 use Rattle.summaries.proofs.all_lines.Statement.{statement}
 use Rattle.summaries.proofs.all_lines.Tie as tie
-use Rattle.summaries.proofs.all_lines.Reads as reads
-use Rattle.summaries.proofs.all_lines.Lts as lts
-use Rattle.summaries.proofs.feed_line.Reads as feed-line-reads
-use Rattle.summaries.proofs.put.Reads as put-reads
-use Rattle.summaries.proofs.put_number.Reads as put-number-reads
-use Rattle.text.proofs.find.Reads as find-reads
 
 abbrev Inv-loop : tie.InvT-loop
 Inv-loop file names₀ refs₀ rows₀ out₀ start upto k₀ line₀ from₀ t15 t16 names refs rows out k line from = 

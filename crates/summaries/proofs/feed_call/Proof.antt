@@ -5,12 +5,6 @@ use Rattle.summaries.proofs.Laws.{reads-name, pushes-at, grows, feeds-n
 use borrow.Author.Needs.{needs}
 use Rattle.summaries.proofs.feed_call.Statement.{statement}
 use Rattle.summaries.proofs.feed_call.Tie as tie
-use Rattle.summaries.proofs.feed_call.Reads as reads
-use Rattle.summaries.proofs.feed_call.Lts as lts
-use Rattle.summaries.proofs.grown.Reads as grown-reads
-use Rattle.summaries.proofs.push_rest.Reads as push-rest-reads
-use Rattle.summaries.proofs.read_name.Reads as read-name-reads
-use Rattle.terms.proofs.add_call.Reads as add-call-reads
 
 read-name-requires : tie.Need-read-name-requires
 read-name-requires c κs = (c .before .before .before .before .before .pre .0 .name-table, c .before .before .before .before .before .pre .1)

@@ -4,11 +4,6 @@ use Rattle.summaries.proofs.Laws.{reads-name, grows, feeds-name, rows-s
 use borrow.Author.Needs.{needs}
 use Rattle.summaries.proofs.feed_free.Statement.{statement}
 use Rattle.summaries.proofs.feed_free.Tie as tie
-use Rattle.summaries.proofs.feed_free.Reads as reads
-use Rattle.summaries.proofs.feed_free.Lts as lts
-use Rattle.summaries.proofs.grown.Reads as grown-reads
-use Rattle.summaries.proofs.read_name.Reads as read-name-reads
-use Rattle.terms.proofs.add_free.Reads as add-free-reads
 
 read-name-requires : tie.Need-read-name-requires
 read-name-requires c κs = (c .before .before .before .before .before .pre .0 .name-table, c .before .before .before .before .before .pre .1)

@@ -6,11 +6,6 @@ use Rattle.summaries.proofs.Laws.{one-at, pushed-to, grows-one}
 use borrow.Author.Needs.{needs}
 use Rattle.summaries.proofs.feed_label.Statement.{statement}
 use Rattle.summaries.proofs.feed_label.Tie as tie
-use Rattle.summaries.proofs.feed_label.Reads as reads
-use Rattle.summaries.proofs.feed_label.Lts as lts
-use Rattle.summaries.proofs.grown.Reads as grown-reads
-use Rattle.summaries.proofs.push_term.Reads as push-term-reads
-use Rattle.terms.proofs.add_label.Reads as add-label-reads
 
 push-term-requires : tie.Need-push-term-requires
 push-term-requires c κs = (c .before .before .before .before .pre .0 .ref-room, c .before .before .before .before .pre .0 .few-rows, omega arith, c .before .before .before .before .pre .1)

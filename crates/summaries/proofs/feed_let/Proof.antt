@@ -6,11 +6,6 @@ use Rattle.summaries.proofs.Laws.{pushes-at, grows}
 use borrow.Author.Needs.{needs}
 use Rattle.summaries.proofs.feed_let.Statement.{statement}
 use Rattle.summaries.proofs.feed_let.Tie as tie
-use Rattle.summaries.proofs.feed_let.Reads as reads
-use Rattle.summaries.proofs.feed_let.Lts as lts
-use Rattle.summaries.proofs.grown.Reads as grown-reads
-use Rattle.summaries.proofs.push_rest.Reads as push-rest-reads
-use Rattle.terms.proofs.add_let.Reads as add-let-reads
 
 push-rest-requires : tie.Need-push-rest-requires
 push-rest-requires c κs = (c .before .before .before .before .pre .0 .ref-room, c .before .before .before .before .pre .0 .few-rows, c .before .before .before .before .pre .1)

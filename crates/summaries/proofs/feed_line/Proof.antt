@@ -3,9 +3,6 @@ use Rattle.summaries.proofs.Laws.{goes-term}
 use borrow.Author.Needs.{needs}
 use Rattle.summaries.proofs.feed_line.Statement.{statement}
 use Rattle.summaries.proofs.feed_line.Tie as tie
-use Rattle.summaries.proofs.feed_line.Reads as reads
-use Rattle.summaries.proofs.feed_line.Lts as lts
-use Rattle.summaries.proofs.feed_term.Reads as feed-term-reads
 
 feed-term-requires : tie.Need-feed-term-requires
 feed-term-requires c κs = (c .before .before .before .before .before .before .before .before .pre .0 .tables, c .before .before .before .before .before .before .before .before .pre .3, c .before .before .before .before .before .before .before .before .pre .4, c .before .before .before .before .before .before .before .before .pre .5)

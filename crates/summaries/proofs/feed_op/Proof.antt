@@ -7,13 +7,6 @@ use Rattle.summaries.proofs.Laws.{pushes-at, grows}
 use borrow.Author.Needs.{needs}
 use Rattle.summaries.proofs.feed_op.Statement.{statement}
 use Rattle.summaries.proofs.feed_op.Tie as tie
-use Rattle.summaries.proofs.feed_op.Reads as reads
-use Rattle.summaries.proofs.feed_op.Lts as lts
-use Rattle.summaries.proofs.grown.Reads as grown-reads
-use Rattle.summaries.proofs.op_word.Reads as op-word-reads
-use Rattle.summaries.proofs.push_rest.Reads as push-rest-reads
-use Rattle.terms.proofs.add_op.Reads as add-op-reads
-use Rattle.text.proofs.Cursor.field.Reads as field-reads
 
 field-requires : tie.Need-field-requires
 field-requires c κs = c .before .before .before .pre .1

@@ -7,14 +7,6 @@ use Rattle.summaries.proofs.Laws.{quantified-at, grows}
 use borrow.Author.Needs.{needs}
 use Rattle.summaries.proofs.feed_quantifier.Statement.{statement}
 use Rattle.summaries.proofs.feed_quantifier.Tie as tie
-use Rattle.summaries.proofs.feed_quantifier.Reads as reads
-use Rattle.summaries.proofs.feed_quantifier.Lts as lts
-use Rattle.summaries.proofs.grown.Reads as grown-reads
-use Rattle.summaries.proofs.push_quantifier.Reads as push-quantifier-reads
-use Rattle.terms.proofs.add_all.Reads as add-all-reads
-use Rattle.terms.proofs.add_some.Reads as add-some-reads
-use Rattle.text.proofs.Cursor.field.Reads as field-reads
-use Rattle.text.proofs.Cursor.number.Reads as number-reads
 
 field-requires : tie.Need-field-requires
 field-requires c κs = c .before .before .before .pre .1

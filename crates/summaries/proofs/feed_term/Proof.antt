@@ -3,17 +3,6 @@ use Rattle.summaries.proofs.Laws.{grows, feeds-rows, feeds-none}
 use borrow.Author.Needs.{needs}
 use Rattle.summaries.proofs.feed_term.Statement.{statement}
 use Rattle.summaries.proofs.feed_term.Tie as tie
-use Rattle.summaries.proofs.feed_term.Reads as reads
-use Rattle.summaries.proofs.feed_term.Lts as lts
-use Rattle.summaries.proofs.feed_call.Reads as feed-call-reads
-use Rattle.summaries.proofs.feed_free.Reads as feed-free-reads
-use Rattle.summaries.proofs.feed_label.Reads as feed-label-reads
-use Rattle.summaries.proofs.feed_let.Reads as feed-let-reads
-use Rattle.summaries.proofs.feed_op.Reads as feed-op-reads
-use Rattle.summaries.proofs.feed_quantifier.Reads as feed-quantifier-reads
-use Rattle.summaries.proofs.grown.Reads as grown-reads
-use Rattle.terms.proofs.add_leaf.Reads as add-leaf-reads
-use Rattle.text.proofs.same_text.Reads as same-text-reads
 
 slice-aggregate-same-text : tie.Need-slice-aggregate-same-text
 slice-aggregate-same-text c = search needs

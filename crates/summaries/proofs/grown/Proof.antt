@@ -3,8 +3,6 @@ use Rattle.summaries.specs.Fed.{grown-to}
 use borrow.Author.Needs.{needs}
 use Rattle.summaries.proofs.grown.Statement.{statement}
 use Rattle.summaries.proofs.grown.Tie as tie
-use Rattle.summaries.proofs.grown.Reads as reads
-use Rattle.summaries.proofs.grown.Lts as lts
 
 enum-told : tie.Need-enum-told
 enum-told c = search needs

@@ -4,9 +4,6 @@ use borrow.Author.Needs.{needs}
 use native.Mathlib.Omega.{arith}
 use Rattle.summaries.proofs.has_number.Statement.{statement}
 use Rattle.summaries.proofs.has_number.Tie as tie
-use Rattle.summaries.proofs.has_number.Reads as reads
-use Rattle.summaries.proofs.has_number.Lts as lts
-use Rattle.words.proofs.at.Reads as at-reads
 
 abbrev Inv-loop : tie.InvT-loop
 Inv-loop out a e n i₀ i = a ≤ i

@@ -6,10 +6,6 @@ use borrow.Author.Needs.{needs}
 use native.Mathlib.Omega.{arith}
 use Rattle.summaries.proofs.next_ask.Statement.{statement}
 use Rattle.summaries.proofs.next_ask.Tie as tie
-use Rattle.summaries.proofs.next_ask.Reads as reads
-use Rattle.summaries.proofs.next_ask.Lts as lts
-use Rattle.text.proofs.find.Reads as find-reads
-use Rattle.text.proofs.same_text.Reads as same-text-reads
 
 abbrev Inv-loop : tie.InvT-loop
 Inv-loop file start from₀ t6 from = start ≤ from

@@ -6,9 +6,6 @@ use Rattle.summaries.proofs.Laws.{zeros-long, zeros-fresh}
 use borrow.Author.Needs.{needs}
 use Rattle.summaries.proofs.one_file.Statement.{statement}
 use Rattle.summaries.proofs.one_file.Tie as tie
-use Rattle.summaries.proofs.one_file.Reads as reads
-use Rattle.summaries.proofs.one_file.Lts as lts
-use Rattle.summaries.proofs.all_lines.Reads as all-lines-reads
 
 slice-aggregate-all-lines : tie.Need-slice-aggregate-all-lines
 slice-aggregate-all-lines c = search needs

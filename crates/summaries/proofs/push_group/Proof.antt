@@ -8,9 +8,6 @@ use borrow.Author.Needs.{needs}
 use native.Mathlib.Omega.{arith}
 use Rattle.summaries.proofs.push_group.Statement.{statement}
 use Rattle.summaries.proofs.push_group.Tie as tie
-use Rattle.summaries.proofs.push_group.Reads as reads
-use Rattle.summaries.proofs.push_group.Lts as lts
-use Rattle.summaries.proofs.push_term.Reads as push-term-reads
 
 abbrev Inv-loop : tie.InvT-loop
 Inv-loop file refs₀ from many group n used₀ c₀ i₀ refs used c i = Onto file refs₀ refs many (group + 1) (group + 1) from used c₀ c × (length refs ≡ length refs₀) × (i ≤ n)

@@ -9,10 +9,6 @@ use borrow.Author.Needs.{needs}
 use native.Mathlib.Omega.{arith}
 use Rattle.summaries.proofs.push_groups.Statement.{statement}
 use Rattle.summaries.proofs.push_groups.Tie as tie
-use Rattle.summaries.proofs.push_groups.Reads as reads
-use Rattle.summaries.proofs.push_groups.Lts as lts
-use Rattle.summaries.proofs.push_group.Reads as push-group-reads
-use Rattle.text.proofs.Cursor.number.Reads as number-reads
 
 abbrev Inv-loop : tie.InvT-loop
 Inv-loop file refs₀ from many groups used₀ c₀ g₀ refs used c g = Onto file refs₀ refs many 0 g from used c₀ c × (length refs ≡ length refs₀) × (g ≤ groups)

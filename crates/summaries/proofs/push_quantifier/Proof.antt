@@ -5,10 +5,6 @@ use Rattle.summaries.proofs.Laws.{one-at, quantifies}
 use borrow.Author.Needs.{needs}
 use Rattle.summaries.proofs.push_quantifier.Statement.{statement}
 use Rattle.summaries.proofs.push_quantifier.Tie as tie
-use Rattle.summaries.proofs.push_quantifier.Reads as reads
-use Rattle.summaries.proofs.push_quantifier.Lts as lts
-use Rattle.summaries.proofs.push_groups.Reads as push-groups-reads
-use Rattle.summaries.proofs.push_term.Reads as push-term-reads
 
 push-term-requires : tie.Need-push-term-requires
 push-term-requires c κs = (c .before .before .before .pre .0, c .before .before .before .pre .1, omega arith, c .before .before .before .pre .3)

@@ -8,9 +8,6 @@ use borrow.Author.Needs.{needs}
 use native.Mathlib.Omega.{arith}
 use Rattle.summaries.proofs.push_rest.Statement.{statement}
 use Rattle.summaries.proofs.push_rest.Tie as tie
-use Rattle.summaries.proofs.push_rest.Reads as reads
-use Rattle.summaries.proofs.push_rest.Lts as lts
-use Rattle.summaries.proofs.push_term.Reads as push-term-reads
 
 abbrev Inv-loop : tie.InvT-loop
 Inv-loop file refs₀ from many used₀ c₀ refs used c = Onto file refs₀ refs many 1 1 from used c₀ c × (length refs ≡ length refs₀)

@@ -7,10 +7,6 @@ use Rattle.summaries.proofs.Laws.{push-done, pushes-one}
 use borrow.Author.Needs.{needs}
 use Rattle.summaries.proofs.push_term.Statement.{statement}
 use Rattle.summaries.proofs.push_term.Tie as tie
-use Rattle.summaries.proofs.push_term.Reads as reads
-use Rattle.summaries.proofs.push_term.Lts as lts
-use Rattle.terms.proofs.push.Reads as push-reads
-use Rattle.text.proofs.Cursor.term.Reads as term-reads
 
 cast-term : tie.Need-cast-term
 cast-term c = search needs

@@ -4,11 +4,6 @@ use borrow.Author.Needs.{needs}
 use native.Mathlib.Omega.{arith}
 use Rattle.summaries.proofs.put_disjuncts.Statement.{statement}
 use Rattle.summaries.proofs.put_disjuncts.Tie as tie
-use Rattle.summaries.proofs.put_disjuncts.Reads as reads
-use Rattle.summaries.proofs.put_disjuncts.Lts as lts
-use Rattle.summaries.proofs.put.Reads as put-reads
-use Rattle.summaries.proofs.put_set.Reads as put-set-reads
-use Rattle.words.proofs.at.Reads as at-reads
 
 abbrev Inv-loop : tie.InvT-loop
 Inv-loop file names out named a e from₀ i₀ t9 from i = a ≤ i

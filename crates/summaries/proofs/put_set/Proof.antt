@@ -4,12 +4,6 @@ use borrow.Author.Needs.{needs}
 use native.Mathlib.Omega.{arith}
 use Rattle.summaries.proofs.put_set.Statement.{statement}
 use Rattle.summaries.proofs.put_set.Tie as tie
-use Rattle.summaries.proofs.put_set.Reads as reads
-use Rattle.summaries.proofs.put_set.Lts as lts
-use Rattle.names.proofs.name_part.Reads as name-part-reads
-use Rattle.summaries.proofs.has_number.Reads as has-number-reads
-use Rattle.summaries.proofs.put.Reads as put-reads
-use Rattle.words.proofs.at.Reads as at-reads
 
 abbrev Inv-loop : tie.InvT-loop
 Inv-loop file names out named a e first₀ r₀ t11 t12 first r = r ≤ named

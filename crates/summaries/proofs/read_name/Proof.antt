@@ -7,10 +7,6 @@ use Rattle.summaries.proofs.Laws.{reads-known, reads-new}
 use borrow.Author.Needs.{needs}
 use Rattle.summaries.proofs.read_name.Statement.{statement}
 use Rattle.summaries.proofs.read_name.Tie as tie
-use Rattle.summaries.proofs.read_name.Reads as reads
-use Rattle.summaries.proofs.read_name.Lts as lts
-use Rattle.names.proofs.spell.Reads as spell-reads
-use Rattle.text.proofs.Cursor.name.Reads as name-reads
 
 name-requires : tie.Need-name-requires
 name-requires c κs = search needs
