@@ -1,31 +1,23 @@
 -- Laws of the program: names spelled, references pushed and rows added leave the tables right, and their marks as they were.
 use Prim.Native.Nat.{ℕ, zero, suc, _+_, _*_, _≤_, _<_}
 use native.Mathlib.Omega.{arith}
-use mathlib.Core.Path.{_≡_, refl, sym, _∙_}
-use mathlib.Core.Bool.{Bool, true, false}
+use mathlib.Core.Path.{_≡_, refl, _∙_}
 use mathlib.Core.Logic.{inr, ⊎-elim}
 use mathlib.Core.List.{List}
 use lib.ListN.{length, getD, set, replicate, length-replicate}
 use lib.Seq.{getD-set-other}
-use lib.Dec.{ltb}
-use borrow.Author.Tests.{ltb-true, ltb-false}
 use Rattle.model.specs.Names.{Name}
 use Rattle.model.specs.Terms.{Node}
 use Rattle.text.specs.declared.Cursor.{Cursor}
-use Rattle.text.specs.declared.FieldStep.the-variants as field
-use Rattle.text.specs.declared.NumberStep.the-variants as numbered
-use Rattle.text.specs.Parts.{part, Placed, name-at, number-at, term-at}
-use Rattle.text.proofs.Laws.{Onward, Stepped, name-next, number-next, term-next}
-use Rattle.names.specs.declared.Spelled.{Spelled}
-use Rattle.names.specs.declared.Spelled.the-variants as spelled
-use Rattle.names.specs.Table.{Table, names-of, look-up, spell-answer, spell-table}
+use Rattle.text.specs.Parts.{Placed}
+use Rattle.text.proofs.Laws.{Onward}
+use Rattle.names.specs.Table.{Table}
 use Rattle.names.proofs.Entering.{entered-keeps}
-use Rattle.names.proofs.Spelling.{Spelling, Was-known, Is-new, spelled-known, spelled-new, spell-law}
+use Rattle.names.proofs.Spelling.{Was-known, Is-new}
 use Rattle.terms.specs.declared.Added.{Added}
 use Rattle.terms.specs.declared.Added.the-variants as adds
 use Rattle.terms.specs.Rows.{with-row, pushed, push-answer, Rows, Pushed, Patterns, Adds}
-use Rattle.terms.proofs.Laws.{below, added-in, added-full, answer-in, answer-full}
-use Rattle.terms.proofs.Adding.{empty-rows}
+use Rattle.terms.proofs.Laws.{below, added-in, added-full, answer-full}
 use Rattle.terms.proofs.Lines.{pushed-none, pushed-one, patterns-body, patterns-one}
 use Rattle.gather.specs.Sets.{row-mark, name-mark, Fresh}
 use Rattle.gather.proofs.Gather.{rows-named}
@@ -36,11 +28,11 @@ use Rattle.summaries.specs.declared.Upto.{Upto}
 use Rattle.summaries.specs.declared.Upto.the-variants as upto
 use Rattle.summaries.specs.declared.Word.{Word}
 use Rattle.summaries.specs.declared.Word.the-variants as word
-use Rattle.summaries.specs.Fed.{Spelt, Reads, name-read, name-refused, Onto, Pushes, all-pushed, push-refused, Pushes-one, one-pushed, one-refused, Bodied, Quantifies, body-pushed, body-refused, grown-to, Same-lists, Grown, Grows, one-more, term-refused, Tables, Feeds, term-fed, feed-refused, Ready, Goes, line-fed, line-refused}
+use Rattle.summaries.specs.Fed.{Spelt, Reads, name-read, Onto, Pushes, all-pushed, push-refused, Pushes-one, one-pushed, Bodied, Quantifies, body-pushed, body-refused, grown-to, Grows, one-more, term-refused, Tables, Feeds, term-fed, feed-refused, Ready, Goes, line-fed, line-refused}
 
 -- ---- names
 
--- a known name
+-- a name that was known is read
 pub reads-known : {file names names′ : List ℕ} {named a e n : ℕ} {next : Cursor} → Table file names named → Was-known file names names′ named a e n → Placed file next
     → Reads file names names′ named (word.Name n named next)
 reads-known {named = named} {n = n} {next} table w p = name-read {n = n} {named′ = named} {next = next} (record {
@@ -50,7 +42,7 @@ reads-known {named = named} {n = n} {next} table w p = name-read {n = n} {named�
   marks = λ k l. rw (w .kept);
 }) p
 
--- a new name
+-- a name that is new is read
 pub reads-new : {file names names′ : List ℕ} {named a e n : ℕ} {next : Cursor} → Table file names named → Is-new file names names′ named a e n → Placed file next
     → Reads file names names′ named (word.Name n (named + 1) next)
 reads-new {file} {names} {named = named} {a} {e} {n} {next} table w p = name-read {n = n} {named′ = named + 1} {next = next} (record {
@@ -62,7 +54,7 @@ reads-new {file} {names} {named = named} {a} {e} {n} {next} table w p = name-rea
       rw (w .slice) (entered-keeps file names named a e (w .rank) (w .lacks .within) few (table .room) (8192 + k) (λ q. omega arith) (λ q. omega arith) (λ q. omega arith) (inr (omega arith)));
 }) p
 
--- what a name that was read says
+-- what reading a name says, where it is not refused
 pub reads-name : {file names names′ : List ℕ} {named n named′ : ℕ} {next : Cursor} {r : Word} → Reads file names names′ named r → r ≡ word.Name n named′ next
     → Spelt file names names′ named named′ n × Placed file next
 reads-name {file} {names} {names′} {named} {n} {named′} {next} s p = go (rw p at s)
@@ -76,7 +68,7 @@ reads-name {file} {names} {names′} {named} {n} {named′} {next} s p = go (rw 
 patterns-more : {refs : List ℕ} {start used low high : ℕ} → low ≤ high → Patterns refs start used low → Patterns refs start used high
 patterns-more h p = record { bodied = p .bodied; grouped = λ i a b. let d = p .grouped i a b in omega arith; rising = p .rising }
 
--- no reference pushed
+-- where no reference is pushed nothing changes
 pub onto-none : {file refs : List ℕ} {many low high from : ℕ} {c : Cursor} → low ≤ high → Placed file c → Onto file refs refs many low high from from c c
 onto-none h p = record {
   behind = λ rows start named b. b;
@@ -87,7 +79,7 @@ onto-none h p = record {
   placed = p;
 }
 
--- references pushed after others
+-- references pushed behind references just pushed
 pub onto-then : {file refs refs′ refs″ : List ℕ} {many low mid high from between end : ℕ} {c d next : Cursor} → Onto file refs refs′ many low mid from between c d
     → Onto file refs′ refs″ many mid high between end d next → Onto file refs refs″ many low high from end c next
 onto-then a b = record {
@@ -111,7 +103,7 @@ onto-group w a = record {
   placed = a .placed;
 }
 
--- all groups are as many as there are
+-- the number of groups, said otherwise
 pub onto-groups : {file refs refs′ : List ℕ} {many low high groups from end : ℕ} {c next : Cursor} → high ≡ groups → Onto file refs refs′ many low high from end c next
     → Onto file refs refs′ many low groups from end c next
 onto-groups e a = rw e at a
@@ -134,7 +126,7 @@ pushes-one {from = from} t group room few w h p q e =
       placed = w .placed;
     })
 
--- what one reference that was pushed says
+-- what pushing one reference says, where it is not refused
 pub one-at : {file refs refs′ : List ℕ} {many group from end : ℕ} {c next : Cursor} {r : Upto} → Pushes-one file refs refs′ many group from c r → r ≡ upto.At end next
     → (end ≡ from + 1) × Onto file refs refs′ many (group + 1) (group + 1) from end c next
 one-at {file} {refs} {refs′} {many} {group} {from} {end} {c} {next} s p = go (rw p at s)
@@ -142,7 +134,7 @@ one-at {file} {refs} {refs′} {many} {group} {from} {end} {c} {next} s p = go (
     go : Pushes-one file refs refs′ many group from c (upto.At end next) → (end ≡ from + 1) × Onto file refs refs′ many (group + 1) (group + 1) from end c next
     go (one-pushed e a) = (e, a)
 
--- what references that were pushed say
+-- what pushing references says, where none is refused
 pub pushes-at : {file refs refs′ : List ℕ} {many low high from end : ℕ} {c next : Cursor} {r : Upto} → Pushes file refs refs′ many low high from c r → r ≡ upto.At end next
     → Onto file refs refs′ many low high from end c next
 pushes-at {file} {refs} {refs′} {many} {low} {high} {from} {end} {c} {next} s p = go (rw p at s)
@@ -154,7 +146,7 @@ pushes-at {file} {refs} {refs′} {many} {low} {high} {from} {end} {c} {next} s 
 pub pushed-to : {refs rows : List ℕ} {start used used′ many named : ℕ} → used ≡ used′ → Pushed refs rows start used many named → Pushed refs rows start used′ many named
 pushed-to e p = rw e at p
 
--- a quantifier's patterns behind its body
+-- pushing a quantifier's patterns behind its body
 pub quantifies : {file refs refs′ refs″ : List ℕ} {many groups start one : ℕ} {body next c : Cursor} {r : Upto} → one ≡ start + 1 → Onto file refs refs′ many 1 1 start one body next
     → Pushes file refs′ refs″ many 0 groups one c r → Quantifies refs refs″ many groups start r
 quantifies {refs′ = refs′} {start = start} e a (all-pushed b) = body-pushed (record {
@@ -163,7 +155,7 @@ quantifies {refs′ = refs′} {start = start} e a (all-pushed b) = body-pushed 
 })
 quantifies e a push-refused = body-refused
 
--- what a quantifier's references that were pushed say
+-- what pushing a quantifier's references says, where none is refused
 pub quantified-at : {refs refs′ : List ℕ} {many groups start end : ℕ} {next : Cursor} {r : Upto} → Quantifies refs refs′ many groups start r → r ≡ upto.At end next
     → Bodied refs refs′ many groups start end
 quantified-at {refs} {refs′} {many} {groups} {start} {end} {next} s p = go (rw p at s)
@@ -196,19 +188,23 @@ grows {rows = rows} {start = start} {used} {named} {word} {extra} k p a = ⊎-el
     (λ (l : 4096 ≤ k .many). rw (p, a .answer, added-full rows (k .many) word start extra l .0) term-refused)
     (below (k .many) 4096)
 
--- of a row with one reference
+-- the same of a row with one reference
 pub grows-one : {refs rows rows′ : List ℕ} {start used named word extra : ℕ} {node : (ℕ → Name) → Node} {r : Added} {f : Fed} (k : Counts) → used ≡ start + 1 → f ≡ grown-to r k named used
     → Adds refs rows rows′ start (start + 1) (k .many) named word extra node r → Grows refs rows rows′ named k f
 grows-one k e p a = grows k (rw e at p) a
 
+-- a line that is left out changes nothing
+pub grows-none : {refs rows : List ℕ} {k : Counts} → Rows refs rows (k .used) (k .many) (k .named) → Grows refs rows rows (k .named) k (fed.On k)
+grows-none {k = k} r = one-more {k′ = k} (record { table = r; names = refl; marks = λ t l. refl; lists = record { entries = refl; uses = refl; mark = refl } })
+
 -- ---- tables
 
 -- marks that stay are below the next mark
-fresh-kept : {names names′ rows rows′ : List ℕ} {mark : ℕ} → ((k : ℕ) → k < 2048 → name-mark names′ k ≡ name-mark names k) → ((t : ℕ) → t < 4096 → row-mark rows′ t ≡ row-mark rows t)
+pub fresh-kept : {names names′ rows rows′ : List ℕ} {mark : ℕ} → ((k : ℕ) → k < 2048 → name-mark names′ k ≡ name-mark names k) → ((t : ℕ) → t < 4096 → row-mark rows′ t ≡ row-mark rows t)
     → Fresh names rows mark → Fresh names′ rows′ mark
 fresh-kept n r f = record { row-marks = λ t l. rw (r t l) (f .row-marks t l); name-marks = λ k l. rw (n k l) (f .name-marks k l) }
 
--- the tables with a new row
+-- the tables with a new row, and with the names then
 feeds : {file names names′ refs rows refs′ rows′ : List ℕ} {named : ℕ} {k : Counts} {f : Fed} → Tables file names refs rows k → Table file names′ named
     → ((n : ℕ) → n < 2048 → name-mark names′ n ≡ name-mark names n) → Grows refs′ rows rows′ named k f → Feeds file names′ refs′ rows′ k f
 feeds t n m (one-more {k′} g) = term-fed {k′ = k′} (record {
@@ -218,28 +214,24 @@ feeds t n m (one-more {k′} g) = term-fed {k′ = k′} (record {
 }) (g .lists)
 feeds t n m term-refused = feed-refused
 
--- of a name that was read
+-- the tables with a name that was read and a new row
 pub feeds-name : {file names names′ refs rows refs′ rows′ : List ℕ} {named n : ℕ} {k : Counts} {f : Fed} → Tables file names refs rows k → Spelt file names names′ (k .named) named n
     → Grows refs′ rows rows′ named k f → Feeds file names′ refs′ rows′ k f
 feeds-name t s g = feeds t (s .table) (s .marks) g
 
--- of no new name
+-- the tables with a new row
 pub feeds-rows : {file names refs rows refs′ rows′ : List ℕ} {k : Counts} {f : Fed} → Tables file names refs rows k
     → Grows refs′ rows rows′ (k .named) k f → Feeds file names refs′ rows′ k f
 feeds-rows t g = feeds t (t .name-table) (λ n l. refl) g
 
--- of a line that is left out
-pub feeds-none : {file names refs rows : List ℕ} {k : Counts} → Tables file names refs rows k → Feeds file names refs rows k (fed.On k)
-feeds-none {k = k} t = term-fed {k′ = k} t (record { entries = refl; uses = refl; mark = refl })
-
--- the term table with the names then
+-- the term table is right with one name more
 pub rows-spelt : {file names names′ refs rows : List ℕ} {named n : ℕ} {k : Counts} → Tables file names refs rows k → Spelt file names names′ (k .named) named n
     → Rows refs rows (k .used) (k .many) named
 rows-spelt t s = rows-named (s .more) (s .table .few) (t .term-table)
 
 -- ---- lines
 
--- before the first line
+-- tables without names, terms and marks are ready for the first line
 pub ready-start : {file names refs rows : List ℕ} → Table file names 0 → Rows refs rows 0 0 0 → Fresh names rows 1
     → Ready file names refs rows (record { named = 0; used = 0; many = 0; entries = 0; uses = 0; mark = 1 }) 1
 ready-start n r f = record {
@@ -249,7 +241,7 @@ ready-start n r f = record {
   few-marks = omega arith;
 }
 
--- a term line
+-- after a term line the tables are ready for the next line
 pub goes-term : {file names refs rows names′ refs′ rows′ : List ℕ} {k : Counts} {line : ℕ} {f : Fed} → Ready file names refs rows k line → Feeds file names′ refs′ rows′ k f
     → Goes file names′ refs′ rows′ line f
 goes-term r (term-fed t s) = line-fed (record {
@@ -260,7 +252,7 @@ goes-term r (term-fed t s) = line-fed (record {
 })
 goes-term r feed-refused = line-refused
 
--- what a line that was fed says
+-- what feeding a line says, where it is not refused
 pub goes-on : {file names′ refs′ rows′ : List ℕ} {line : ℕ} {k′ : Counts} {r : Fed} → Goes file names′ refs′ rows′ line r → r ≡ fed.On k′ → Ready file names′ refs′ rows′ k′ (line + 1)
 goes-on {file} {names′} {refs′} {rows′} {line} {k′} s p = go (rw p at s)
   where
@@ -275,7 +267,7 @@ zero-at zero i = refl
 zero-at (suc n) zero = refl
 zero-at (suc n) (suc i) = zero-at n i
 
--- and is as long as it is made
+-- a list of enough zeros is long enough for a table
 pub zeros-long : (n : ℕ) → 16384 ≤ n → 16384 ≤ length {A = ℕ} (replicate n 0)
 zeros-long n h = rw (length-replicate {A = ℕ} n 0) h
 

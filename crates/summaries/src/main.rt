@@ -499,6 +499,25 @@ fn feed_term(
     if text::same_text(file, a, e, b"free") {
         return feed_free(file, names, refs, rows, k, c);
     }
+    if text::same_text(file, a, e, b"call") {
+        return feed_call(file, names, refs, rows, k, c);
+    }
+    feed_row(file, refs, rows, k, a, e, c)
+}
+
+// Feeds the line of a term that has no name; another line is left out.
+fn feed_row(
+    file: &[u8],
+    refs: &mut [u32],
+    rows: &mut [u32],
+    k: Counts,
+    a: usize,
+    e: usize,
+    c: Cursor,
+) -> Fed
+    requires { ⌜ Rows (now refs) (now rows) (k .used) (k .many) (k .named) × (a ≤ e) × (e ≤ length (now file)) × Placed (now file) c ⌝ }
+    ensures { λ r. ⌜ Grows (now (refs .exit)) (now (rows .entry)) (now (rows .exit)) (k .named) k r ⌝ }
+{
     if text::same_text(file, a, e, b"leaf") {
         let used = k.used;
         let named = k.named;
@@ -508,9 +527,6 @@ fn feed_term(
             named,
             used,
         );
-    }
-    if text::same_text(file, a, e, b"call") {
-        return feed_call(file, names, refs, rows, k, c);
     }
     if text::same_text(file, a, e, b"op") {
         return feed_op(file, refs, rows, k, c);

@@ -11,7 +11,7 @@ use Rattle.summaries.proofs.all_lines.Statement.{statement}
 use Rattle.summaries.proofs.all_lines.Tie as tie
 
 abbrev Inv-loop : tie.InvT-loop
-Inv-loop file names₀ refs₀ rows₀ out₀ start upto k₀ line₀ from₀ t15 t16 names refs rows out k line from = 
+Inv-loop file names₀ refs₀ rows₀ out₀ start upto k₀ line₀ from₀ t15 t16 names refs rows out k line from =
     (length names ≡ length names₀)
     × (length refs ≡ length refs₀)
     × (length rows ≡ length rows₀)

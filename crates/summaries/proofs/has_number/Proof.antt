@@ -1,7 +1,6 @@
--- `summaries::has_number` is safe and ends.
+-- `summaries::has_number` is safe and ends. The loop's invariant: the place is not before the first.
 use Prim.Native.Nat.{_-_, _≤_}
 use borrow.Author.Needs.{needs}
-use native.Mathlib.Omega.{arith}
 use Rattle.summaries.proofs.has_number.Statement.{statement}
 use Rattle.summaries.proofs.has_number.Tie as tie
 

@@ -1,4 +1,4 @@
--- `summaries::put_disjuncts` is safe and ends.
+-- `summaries::put_disjuncts` is safe and ends. The loop's invariant: the place is not before the first.
 use Prim.Native.Nat.{_-_, _≤_}
 use borrow.Author.Needs.{needs}
 use native.Mathlib.Omega.{arith}

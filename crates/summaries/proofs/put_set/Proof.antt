@@ -1,7 +1,6 @@
 -- `summaries::put_set` is safe and ends. The loop's invariant: the rank is at most how many names there are.
 use Prim.Native.Nat.{_-_, _≤_}
 use borrow.Author.Needs.{needs}
-use native.Mathlib.Omega.{arith}
 use Rattle.summaries.proofs.put_set.Statement.{statement}
 use Rattle.summaries.proofs.put_set.Tie as tie
 
