@@ -82,6 +82,9 @@ module _ {names refs rows out : List ℕ} {used many named mark from room : ℕ}
       names-same = w .steps .names-same;
       rows-same = w .rows-same;
       out-same = w .steps .out-same;
+      grows = w .steps .grows;
+      fits = w .steps .fits;
+      small = w .steps .listed from (omega arith) (start-listed (fresh-name new)) .small;
       name-marks = w .steps .name-marks;
       row-marks = w .row-marks;
       marks = marks-of (fresh-name new) high (w .steps);

@@ -56,11 +56,14 @@ pub data Gathers (name : ℕ → Name) (named : ℕ) (set : List Name) (at room 
       → Gathers name named set at room out walks.Full
 
 -- the slices after gathering: in the tables only marks change, each to the set's or not at all; in `out` only the places of
--- the numbers; the names with the set's mark are those in `out`
+-- the numbers, within the room; the names with the set's mark are those in `out`
 pub record Gathered (names rows out names′ rows′ out′ : List ℕ) (mark at room : ℕ) (r : Walked) : Type 0 where
   pub names-same : Same-but 8192 2048 names names′
   pub rows-same : Same-but 12288 4096 rows rows′
   pub out-same : Same-but at (ended room r - at) out out′
+  pub grows : at ≤ ended room r
+  pub fits : ended room r ≤ room
+  pub small : (i : ℕ) → at ≤ i → i < ended room r → getD out′ i 0 < 2048
   pub name-marks : (k : ℕ) → k < 2048 → (name-mark names′ k ≡ mark) ⊎ (name-mark names′ k ≡ name-mark names k)
   pub row-marks : (t : ℕ) → t < 4096 → (row-mark rows′ t ≡ mark) ⊎ (row-mark rows′ t ≡ row-mark rows t)
   pub marks : (k : ℕ) → k < 2048 → (name-mark names′ k ≡ mark) ↔ List·Memᴰ k (words out′ at (ended room r))

@@ -3,19 +3,27 @@ use Prim.Native.Nat.{ℕ, _+_, _-_, _%_, _≤_, _<_}
 use mathlib.Core.Path.{_≡_}
 use mathlib.Core.Bool.{false}
 use mathlib.Core.Logic.{_⊎_}
-use mathlib.Core.List.{List}
+use mathlib.Core.List.{List, [], List·Memᴰ}
 use lib.ListN.{length, getD}
 use lib.Dec.{T}
+use Rattle.model.specs.Lists.{fold-left}
 use Rattle.gather.specs.declared.Walked.{Walked}
 use Rattle.gather.specs.declared.Walked.the-variants as walks
-use Rattle.terms.specs.Rows.{row-kind, row-head, row-start, row-end, has-head, Rows}
-use Rattle.gather.specs.Sets.{is-excluded, Same-but, row-mark, name-mark, ended}
+use Rattle.terms.specs.Rows.{row-kind, row-head, row-start, row-end, has-head, words, terms-of-words, Rows}
+use Rattle.gather.specs.Sets.{is-excluded, Fresh, Same-but, row-mark, name-mark, ended}
+use Rattle.gather.specs.Visits.{Visit, visit-head, visit, Walks-as}
 
 -- name number k is free in term t: its head, or free in a term that it names
 pub data Occurs (refs rows : List ℕ) (used many : ℕ) : ℕ → ℕ → Type 0 where
   own : {t k : ℕ} → T (has-head (row-kind rows t)) → row-head rows t ≡ k → Occurs refs rows used many t k
   under : {t k : ℕ} (i : ℕ) → row-start rows t ≤ i → i < row-end rows used many t
       → Occurs refs rows used many (getD refs i 0 % 4096) k → Occurs refs rows used many t k
+
+-- term u is reached from term t: it is t, or reached from a term that t names
+pub data Reached (refs rows : List ℕ) (used many : ℕ) : ℕ → ℕ → Type 0 where
+  itself : {t u : ℕ} → t ≡ u → Reached refs rows used many t u
+  below : {t u : ℕ} (i : ℕ) → row-start rows t ≤ i → i < row-end rows used many t
+      → Reached refs rows used many (getD refs i 0 % 4096) u → Reached refs rows used many t u
 
 -- whether a name counts: it is not excluded
 pub record Counted (names : List ℕ) (k : ℕ) : Type 0 where
@@ -96,3 +104,31 @@ pub record Walks (P : ℕ → Type 0) (names refs rows out names′ rows′ out�
   pub rows-same : Same-but 12288 4096 rows rows′
   pub row-marks : (t : ℕ) → t < 4096 → (row-mark rows′ t ≡ mark) ⊎ (row-mark rows′ t ≡ row-mark rows t)
   pub closed : Closed names′ refs rows′ used many mark
+
+-- a part of a walk, of the names and rows before the walk and the room for its names
+abbrev pub Part : Type 0
+Part = List ℕ → List ℕ → ℕ → Visit → Visit
+
+-- the head of a term
+unfoldable pub head-part : ℕ → Part
+head-part t names rows room v = visit-head names [] rows 0 0 room v t
+
+-- a term
+unfoldable pub term-part : List ℕ → ℕ → ℕ → ℕ → Part
+term-part refs used many t names rows room v = visit names refs rows used many room many v t
+
+-- the terms that the references from a up to e name
+unfoldable pub list-part : List ℕ → ℕ → ℕ → ℕ → ℕ → Part
+list-part refs used many a e names rows room v = fold-left (visit names refs rows used many room many) v (terms-of-words (words refs a e))
+
+-- the slices are those of a walk under a new mark, and its numbers are those of names and of rows
+pub record Renders (v : Visit) (names rows out names′ rows′ out′ : List ℕ) (mark from : ℕ) (r : Walked) : Type 0 where
+  pub new : Fresh names rows mark
+  pub walk : Walks-as v names rows out names′ rows′ out′ mark from r
+  pub found-small : (n : ℕ) → List·Memᴰ n (v .found) → n < 2048
+  pub walked-small : (t : ℕ) → List·Memᴰ t (v .walked) → t < 4096
+
+-- slices of a walk come to those of the walk with this part more
+pub record Follows (part : Part) (names rows out names′ rows′ out′ : List ℕ) (mark count room : ℕ) (r : Walked) : Type 0 where
+  pub follows : {names₀ rows₀ out₀ : List ℕ} {from : ℕ} {v : Visit} → Renders v names₀ rows₀ out₀ names rows out mark from (walks.Names count)
+      → Renders (part names₀ rows₀ (room - from) v) names₀ rows₀ out₀ names′ rows′ out′ mark from r

@@ -1,11 +1,12 @@
-ghost use Prim.Native.Nat.{ℕ, _%_, _≤_, _<_};
+ghost use Prim.Native.Nat.{ℕ, _-_, _%_, _≤_, _<_};
 ghost use mathlib.Core.Path.{_≡_};
 ghost use lib.ListN.{length, getD};
 ghost use Rattle.model.specs.Names.{Name};
 ghost use Rattle.model.specs.Summaries.{exclude-names, free-top-level-names, group-names};
 ghost use Rattle.terms.specs.Rows.{has-head, words, terms-of-words, terms-of, Rows};
 ghost use Rattle.gather.specs.Sets.{is-excluded, Fresh, Named, Gathers, Gathered};
-ghost use Rattle.gather.specs.Walks.{Own, Free, Among, Heads, Ready, References, Steps, Walks};
+ghost use Rattle.gather.specs.Visits.{visit-term, visit-list, Walks-as};
+ghost use Rattle.gather.specs.Walks.{Own, Free, Among, Heads, Ready, References, Steps, Walks, head-part, term-part, list-part, Follows};
 
 // What gathering names comes to: where the names end in the slice, or that there is no room for them.
 pub enum Walked {
@@ -44,7 +45,8 @@ fn gather_head(
     room: usize,
 ) -> Walked
     requires { ⌜ Heads (now names) (now rows) (now out) t count room ⌝ }
-    ensures { λ r. ⌜ Steps (Own (now (names .entry)) (now (rows .entry)) t) (now (names .entry)) (now (out .entry)) (now (names .exit)) (now (out .exit)) mark count room r ⌝ }
+    ensures set { λ r. ⌜ Steps (Own (now (names .entry)) (now (rows .entry)) t) (now (names .entry)) (now (out .entry)) (now (names .exit)) (now (out .exit)) mark count room r ⌝ }
+    ensures walk { λ r. ⌜ Follows (head-part t) (now (names .entry)) (now (rows .entry)) (now (out .entry)) (now (names .exit)) (now (rows .entry)) (now (out .exit)) mark count room r ⌝ }
 {
     if !has_head(terms::kind(rows, t)) {
         return Walked::Names(count);
@@ -79,7 +81,8 @@ fn walk_term(
     room: usize,
 ) -> Walked
     requires { ⌜ Ready (now names) (now refs) (now rows) (now out) used many mark count room × (t < many) ⌝ }
-    ensures { λ r. ⌜ Walks (Free (now (names .entry)) (now (refs .entry)) (now (rows .entry)) used many t) (now (names .entry)) (now (refs .entry)) (now (rows .entry)) (now (out .entry)) (now (names .exit)) (now (rows .exit)) (now (out .exit)) used many mark count room r ⌝ }
+    ensures set { λ r. ⌜ Walks (Free (now (names .entry)) (now (refs .entry)) (now (rows .entry)) used many t) (now (names .entry)) (now (refs .entry)) (now (rows .entry)) (now (out .entry)) (now (names .exit)) (now (rows .exit)) (now (out .exit)) used many mark count room r ⌝ }
+    ensures walk { λ r. ⌜ Follows (term-part (now (refs .entry)) used many t) (now (names .entry)) (now (rows .entry)) (now (out .entry)) (now (names .exit)) (now (rows .exit)) (now (out .exit)) mark count room r ⌝ }
 {
     if words::at(rows, 12288 + t) == mark as usize {
         return Walked::Names(count);
@@ -112,7 +115,8 @@ fn walk_list(
     room: usize,
 ) -> Walked
     requires { ⌜ Ready (now names) (now refs) (now rows) (now out) used many mark count room × References (now refs) used many a e ⌝ }
-    ensures { λ r. ⌜ Walks (Among (now (names .entry)) (now (refs .entry)) (now (rows .entry)) used many a e) (now (names .entry)) (now (refs .entry)) (now (rows .entry)) (now (out .entry)) (now (names .exit)) (now (rows .exit)) (now (out .exit)) used many mark count room r ⌝ }
+    ensures set { λ r. ⌜ Walks (Among (now (names .entry)) (now (refs .entry)) (now (rows .entry)) used many a e) (now (names .entry)) (now (refs .entry)) (now (rows .entry)) (now (out .entry)) (now (names .exit)) (now (rows .exit)) (now (out .exit)) used many mark count room r ⌝ }
+    ensures walk { λ r. ⌜ Follows (list-part (now (refs .entry)) used many a e) (now (names .entry)) (now (rows .entry)) (now (out .entry)) (now (names .exit)) (now (rows .exit)) (now (out .exit)) mark count room r ⌝ }
 {
     let mut i = a;
     let mut n = count;
@@ -145,6 +149,7 @@ pub fn gather_term(
     requires { ⌜ Rows (now refs) (now rows) used many named × (16384 ≤ length (now names)) × (t < many) × Fresh (now names) (now rows) mark × (from ≤ room) × (room ≤ length (now out)) ⌝ }
     ensures set { λ r. ⌜ ((name : ℕ → Name) → Named name (now (names .entry)) named → Gathers name named (free-top-level-names exclude-names (terms-of name (now (refs .entry)) (now (rows .entry)) used many) t) from room (now (out .exit)) r) ⌝ }
     ensures slices { λ r. ⌜ Gathered (now (names .entry)) (now (rows .entry)) (now (out .entry)) (now (names .exit)) (now (rows .exit)) (now (out .exit)) mark from room r ⌝ }
+    ensures walk { λ r. ⌜ Walks-as (visit-term (now (names .entry)) (now (refs .entry)) (now (rows .entry)) used many (room - from) t) (now (names .entry)) (now (rows .entry)) (now (out .entry)) (now (names .exit)) (now (rows .exit)) (now (out .exit)) mark from r ⌝ }
 {
     walk_term(names, refs, rows, out, used, many, t, mark, from, room)
 }
@@ -167,6 +172,7 @@ pub fn gather_list(
     requires { ⌜ Rows (now refs) (now rows) used many named × (16384 ≤ length (now names)) × (a ≤ e) × (e ≤ used) × ((i : ℕ) → a ≤ i → i < e → getD (now refs) i 0 % 4096 < many) × Fresh (now names) (now rows) mark × (from ≤ room) × (room ≤ length (now out)) ⌝ }
     ensures set { λ r. ⌜ ((name : ℕ → Name) → Named name (now (names .entry)) named → Gathers name named (group-names exclude-names (terms-of name (now (refs .entry)) (now (rows .entry)) used many) (terms-of-words (words (now (refs .entry)) a e))) from room (now (out .exit)) r) ⌝ }
     ensures slices { λ r. ⌜ Gathered (now (names .entry)) (now (rows .entry)) (now (out .entry)) (now (names .exit)) (now (rows .exit)) (now (out .exit)) mark from room r ⌝ }
+    ensures walk { λ r. ⌜ Walks-as (visit-list (now (names .entry)) (now (refs .entry)) (now (rows .entry)) used many (room - from) (terms-of-words (words (now (refs .entry)) a e))) (now (names .entry)) (now (rows .entry)) (now (out .entry)) (now (names .exit)) (now (rows .exit)) (now (out .exit)) mark from r ⌝ }
 {
     walk_list(names, refs, rows, out, used, many, a, e, mark, from, room)
 }

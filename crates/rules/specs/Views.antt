@@ -8,7 +8,7 @@ use lib.Dec.{eqb}
 use Rattle.model.specs.Lists.{when}
 use Rattle.names.specs.Table.{Table, name-of}
 use Rattle.model.specs.Terms.{Term}
-use Rattle.terms.specs.Rows.{row-kind, row-op, row-head, row-start, row-extra, row-end, has-head, bare-of, terms-of, Rows}
+use Rattle.terms.specs.Rows.{row-kind, row-op, row-head, row-start, row-end, has-head, terms-of, Rows}
 use Rattle.rules.specs.declared.Argument.{Argument}
 use Rattle.rules.specs.declared.Argument.the-variants as argument
 use Rattle.rules.specs.declared.Arguments.{Arguments}
@@ -61,7 +61,3 @@ op-two-at refs rows used many t op =
     cond (is-op-at rows t op && eqb (row-count rows used many t) 2)
     (arguments.Are (row-argument refs rows t 0) (row-argument refs rows t 1))
     arguments.No
-
--- how many pattern groups the `all` under a term's labels has: none where it is no `all`
-unfoldable pub groups-at : List ℕ → ℕ → ℕ
-groups-at rows t = cond (eqb (row-kind rows (bare-of rows t)) 4) (row-extra rows (bare-of rows t)) 0

@@ -6,8 +6,8 @@ ghost use lib.ListN.{length, getD};
 ghost use Rattle.model.specs.Names.{starts-with};
 ghost use Rattle.model.specs.Summaries.{exclude-names, is-ambient-refinement, ambient-refinement-payload, has-eq, rule-1, rule-2, rule-3, rule-4, rule-5, rule-6, rule-7, rule-8, rule-9, rule-10, rule-11, rule-12, maybe-add-ambient, summarize-kind};
 ghost use Rattle.names.specs.Table.{Table, name-of};
-ghost use Rattle.terms.specs.Rows.{row-kind, row-head, row-start, row-end, has-head, bare-of, Rows};
-ghost use Rattle.rules.specs.Views.{Tables, terms-in, is-call-at, is-head-at, is-op-at, call-one-at, call-two-at, op-two-at, groups-at, row-count, row-argument};
+ghost use Rattle.terms.specs.Rows.{row-kind, row-head, row-start, row-end, has-head, groups-at, Rows};
+ghost use Rattle.rules.specs.Views.{Tables, terms-in, is-call-at, is-head-at, is-op-at, call-one-at, call-two-at, op-two-at, row-count, row-argument};
 ghost use Rattle.rules.specs.Choices.{kinded, token-kinded, Within, is-held, as-option};
 
 // What a rule comes to: it does not hold, or where the disjuncts of the fact's trigger names come from.
@@ -178,7 +178,8 @@ fn call_two(
     if !is_call(names, rows, t, code) {
         return Arguments::No;
     }
-    if count(rows, used, many, t) != 2 {
+    let size = count(rows, used, many, t);
+    if size != 2 {
         return Arguments::No;
     }
     let first = nth(refs, rows, t, 0);
@@ -681,18 +682,6 @@ pub fn maybe_add_ambient(
     Choice::Ambient
 }
 
-// How many pattern groups the `all` under a term's labels has.
-pub fn groups(rows: &[u32], t: usize) -> usize
-    requires { ⌜ (16384 ≤ length (now rows)) × (t < 4096) × (bare-of (now rows) t < 4096) ⌝ }
-    ensures { λ r. ⌜ r ≡ groups-at (now (rows .entry)) t ⌝ }
-{
-    let u = terms::bare(rows, t);
-    if terms::kind(rows, u) != 4 {
-        return 0;
-    }
-    terms::extra(rows, u)
-}
-
 // The kind of a fact, of its name and term: by its triggers if it has any, else by the twelve rules.
 pub fn summarize_kind(
     file: &[u8],
@@ -709,7 +698,7 @@ pub fn summarize_kind(
     ensures choice { λ r. ⌜ kinded (terms-in (now (file .entry)) (now (names .entry)) (now (refs .entry)) (now (rows .entry)) used many) (name-of (now (file .entry)) (now (names .entry))) r ≡ some (summarize-kind exclude-names (terms-in (now (file .entry)) (now (names .entry)) (now (refs .entry)) (now (rows .entry)) used many) (name-of (now (file .entry)) (now (names .entry)) name) t) ⌝ }
     ensures within { λ r. ⌜ Within named many r ⌝ }
 {
-    if groups(rows, t) == 0 {
+    if terms::group_count(rows, t) == 0 {
         return maybe_add_ambient(file, names, refs, rows, named, used, many, name, t);
     }
     Choice::Groups(t)

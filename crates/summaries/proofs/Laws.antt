@@ -14,11 +14,13 @@ use Rattle.text.proofs.Laws.{Onward}
 use Rattle.names.specs.Table.{Table}
 use Rattle.names.proofs.Entering.{entered-keeps}
 use Rattle.names.proofs.Spelling.{Was-known, Is-new}
-use Rattle.terms.specs.declared.Added.{Added}
-use Rattle.terms.specs.declared.Added.the-variants as adds
-use Rattle.terms.specs.Rows.{with-row, pushed, push-answer, Rows, Pushed, Patterns, Adds}
-use Rattle.terms.proofs.Laws.{below, added-in, added-full, answer-full}
-use Rattle.terms.proofs.Lines.{pushed-none, pushed-one, patterns-body, patterns-one}
+use Rattle.terms.specs.Rows.{Rows}
+use Rattle.terms.proofs.Laws.{below}
+use Rattle.lines.specs.declared.Added.{Added}
+use Rattle.lines.specs.declared.Added.the-variants as adds
+use Rattle.lines.specs.Additions.{with-row, pushed, push-answer, Pushed, Patterns, Adds}
+use Rattle.lines.proofs.Laws.{added-in, added-full, answer-full}
+use Rattle.lines.proofs.Lines.{pushed-none, pushed-one, patterns-body, patterns-one}
 use Rattle.gather.specs.Sets.{row-mark, name-mark, Fresh}
 use Rattle.gather.proofs.Gather.{rows-named}
 use Rattle.summaries.specs.declared.Counts.{Counts}

@@ -5,9 +5,10 @@ use mathlib.Core.List.{List}
 use Rattle.text.specs.declared.Cursor.{Cursor}
 use Rattle.text.specs.Parts.{Placed}
 use Rattle.names.specs.Table.{Table}
-use Rattle.terms.specs.declared.Added.{Added}
-use Rattle.terms.specs.declared.Added.the-variants as adds
-use Rattle.terms.specs.Rows.{Rows, Pushed, Patterns}
+use Rattle.terms.specs.Rows.{Rows}
+use Rattle.lines.specs.declared.Added.{Added}
+use Rattle.lines.specs.declared.Added.the-variants as adds
+use Rattle.lines.specs.Additions.{Pushed, Patterns}
 use Rattle.gather.specs.Sets.{row-mark, name-mark, Fresh}
 use Rattle.summaries.specs.declared.Counts.{Counts}
 use Rattle.summaries.specs.declared.Fed.{Fed}

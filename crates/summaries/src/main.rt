@@ -4,9 +4,9 @@
 // it passes if it is a fact's, and the program goes on with the next file.
 use libc::STDIN_FILENO;
 use libc::STDOUT_FILENO;
+use lines::Added;
 use model::AsumKind;
 use names::Spelled;
-use terms::Added;
 use text::Cursor;
 use text::FieldStep;
 use text::NumberStep;
@@ -87,7 +87,7 @@ fn push_term(
     ensures { λ r. ⌜ Pushes-one (now (file .entry)) (now (refs .entry)) (now (refs .exit)) many group used c r ⌝ }
 {
     match c.term(file, many as u32) {
-        NumberStep::Number(t, next) => match terms::push(refs, used, t as usize, group) {
+        NumberStep::Number(t, next) => match lines::push(refs, used, t as usize, group) {
             Added::Done => Upto::At(used + 1, next),
             Added::Full => Upto::Stop,
         },
@@ -204,7 +204,7 @@ fn feed_free(
         return Fed::Stop;
     };
     grown(
-        terms::add_free(refs, rows, used, many, named, n),
+        lines::add_free(refs, rows, used, many, named, n),
         k,
         named,
         used,
@@ -232,7 +232,7 @@ fn feed_call(
         return Fed::Stop;
     };
     grown(
-        terms::add_call(refs, rows, start, used, many, named, n),
+        lines::add_call(refs, rows, start, used, many, named, n),
         k,
         named,
         used,
@@ -280,7 +280,7 @@ fn feed_op(file: &[u8], refs: &mut [u32], rows: &mut [u32], k: Counts, c: Cursor
     };
     let op = op_word(file, a, e);
     grown(
-        terms::add_op(refs, rows, start, used, many, named, op),
+        lines::add_op(refs, rows, start, used, many, named, op),
         k,
         named,
         used,
@@ -338,14 +338,14 @@ fn feed_quantifier(
     };
     if all {
         return grown(
-            terms::add_all(refs, rows, start, used, many, named, groups),
+            lines::add_all(refs, rows, start, used, many, named, groups),
             k,
             named,
             used,
         );
     }
     grown(
-        terms::add_some(refs, rows, start, used, many, named, groups),
+        lines::add_some(refs, rows, start, used, many, named, groups),
         k,
         named,
         used,
@@ -367,7 +367,7 @@ fn feed_let(file: &[u8], refs: &mut [u32], rows: &mut [u32], k: Counts, c: Curso
         return Fed::Stop;
     }
     grown(
-        terms::add_let(refs, rows, start, used, many, named),
+        lines::add_let(refs, rows, start, used, many, named),
         k,
         named,
         used,
@@ -386,7 +386,7 @@ fn feed_label(file: &[u8], refs: &mut [u32], rows: &mut [u32], k: Counts, c: Cur
         return Fed::Stop;
     };
     grown(
-        terms::add_label(refs, rows, start, many, named),
+        lines::add_label(refs, rows, start, many, named),
         k,
         named,
         used,
@@ -522,7 +522,7 @@ fn feed_row(
         let used = k.used;
         let named = k.named;
         return grown(
-            terms::add_leaf(refs, rows, used, k.many, named),
+            lines::add_leaf(refs, rows, used, k.many, named),
             k,
             named,
             used,

@@ -15,7 +15,7 @@ use Rattle.names.specs.Table.{Table, name-of, names-of, look-up, spell-table}
 use Rattle.terms.specs.Rows.{words}
 use Rattle.gather.specs.Sets.{Fresh, Same-but}
 use Rattle.rules.specs.Views.{Tables, terms-in}
-use Rattle.rules.specs.Choices.{kinded}
+use Rattle.rules.specs.Choices.{kinded, Within}
 use Rattle.rules.specs.declared.Choice.{Choice}
 use Rattle.rules.specs.declared.Choice.the-variants as choice
 use Rattle.triggers.specs.Entries.{disjuncts-of, entries, Entries}
@@ -49,19 +49,23 @@ module _ (file names refs rows : List ℕ) (named used many name t : ℕ) where
   unfoldable pub names-then : List Name
   names-then = fold-left spell (names-of file names named) (fact-kind .trimmed)
 
+  -- the fact's disjuncts in the slice behind the first `filed` entries, with the names of a table of `total`
+  pub record Triggers-of (names′ out′ : List ℕ) (filed total : ℕ) : Type 0 where
+    pub disjuncts : disjuncts-of (name-of file names′) (words out′ (6144 + filed) (6144 + filed + entries (fact-kind .triggers))) ≡ fact-kind .triggers
+    pub few : filed + entries (fact-kind .triggers) ≤ 2048
+    pub entry-words : Entries total (words out′ (6144 + filed) (6144 + filed + entries (fact-kind .triggers)))
+    pub table : Table file names′ total
+    pub spelled : names-of file names′ total ≡ names-then
+
   -- a summary and the slices that hold its lists: `filed` entries and `uses` uses were there before
   pub record Summary-of (names′ rows′ out′ : List ℕ) (mark filed uses : ℕ) (s : Summary) : Type 0 where
     pub kind : s .kind ≡ fact-kind .kind
-    pub disjuncts : disjuncts-of (name-of file names′) (words out′ (6144 + filed) (6144 + s .entries)) ≡ fact-kind .triggers
     pub entry-count : s .entries ≡ filed + entries (fact-kind .triggers)
-    pub few-entries : s .entries ≤ 2048
-    pub entry-words : Entries (s .named) (words out′ (6144 + filed) (6144 + s .entries))
+    pub triggers : Triggers-of names′ out′ filed (s .named)
     pub free-names : from-list (map (name-of file names′) (words out′ uses (s .uses))) ≡ fact-names
     pub use-count : s .uses ≡ uses + length fact-names
     pub few-uses : s .uses ≤ 6144
     pub use-words : (i : ℕ) → uses ≤ i → i < s .uses → getD out′ i 0 < named
-    pub table : Table file names′ (s .named)
-    pub names : names-of file names′ (s .named) ≡ names-then
     pub next-mark : s .mark ≡ mark + 2 + (s .entries - filed)
     pub fresh : Fresh names′ rows′ (s .mark)
 
@@ -71,7 +75,7 @@ module _ (file names refs rows : List ℕ) (named used many name t : ℕ) where
     names-full : 2048 < length names-then → Summarizes names′ rows′ out′ mark filed uses (summarized.Over limit.Names)
     entries-full : length names-then ≤ 2048 → 2048 < filed + entries (fact-kind .triggers)
         → Summarizes names′ rows′ out′ mark filed uses (summarized.Over limit.Entries)
-    uses-full : length names-then ≤ 2048 → filed + entries (fact-kind .triggers) ≤ 2048 → 6144 < uses + length fact-names
+    uses-full : {total : ℕ} → Triggers-of names′ out′ filed total → 6144 < uses + length fact-names
         → Summarizes names′ rows′ out′ mark filed uses (summarized.Over limit.Uses)
 
 -- the slice of names with the name that a token ending in @tok trims to
@@ -113,6 +117,7 @@ entries-end filed more (summarized.Over limit.Uses) = filed + more
 -- places of the fact's free names and of its entries
 pub record Slices (file names refs rows out names′ rows′ out′ : List ℕ) (named used many name t filed uses : ℕ) (r : Summarized) : Type 0 where
   pub chosen : Choice
+  pub within : Within named many chosen
   pub decided : kinded (terms-in file names refs rows used many) (name-of file names) chosen ≡ some (fact-kind file names refs rows named used many name t)
   pub name-words : Same-but 8192 2048 (trimmed-table file names named chosen) names′
   pub row-words : Same-but 12288 4096 rows rows′

@@ -3,7 +3,16 @@ use model::AsumKind;
 use names::Spelled;
 use rules::Choice;
 use triggers::Filed;
+ghost use Prim.Native.Nat.{_+_, _≤_, _<_};
+ghost use mathlib.Core.Path.{_≡_};
+ghost use lib.ListN.{length};
+ghost use Rattle.names.specs.Table.{Table};
+ghost use Rattle.terms.specs.Rows.{terms-of, Rows};
+ghost use Rattle.gather.specs.Sets.{Fresh};
+ghost use Rattle.rules.specs.Views.{Tables};
+ghost use Rattle.rules.specs.Choices.{Within};
 ghost use Rattle.summary.specs.Facts.{Asked, Summarizes, Slices};
+ghost use Rattle.summary.specs.Steps.{Begun, Sorts, Two, Tokens, Chooses, Finishes, sorted-of, refinement-kind, parts-kind};
 
 // The limits that a fact may pass, in the order in which they are tried: names, trigger entries, name uses.
 pub enum Limit {
@@ -13,7 +22,7 @@ pub enum Limit {
 }
 
 // The kind of a fact, where its trigger entries end, and the names of the table; or the limit passed.
-pub enum Sorted {
+enum Sorted {
     Kind(AsumKind, usize, usize),
     Over(Limit),
 }
@@ -35,7 +44,10 @@ pub enum Summarized {
 }
 
 // Files two names as two disjuncts.
-fn put_two(out: &mut [u32], named: usize, n: usize, m: usize, at: usize) -> Sorted {
+fn put_two(out: &mut [u32], named: usize, n: usize, m: usize, at: usize) -> Sorted
+    requires { ⌜ (n < 2048) × (m < 2048) × (at ≤ 8192) × (16384 ≤ length (now out)) ⌝ }
+    ensures { λ r. ⌜ Two (now (out .entry)) (now (out .exit)) named n m at r ⌝ }
+{
     if 8191 <= at {
         return Sorted::Over(Limit::Entries);
     }
@@ -52,7 +64,10 @@ fn file_token(
     named: usize,
     n: usize,
     at: usize,
-) -> Sorted {
+) -> Sorted
+    requires { ⌜ Table (now file) (now names) named × (n < named) × (at ≤ 8192) × (16384 ≤ length (now out)) ⌝ }
+    ensures { λ r. ⌜ Tokens (now (file .entry)) (now (names .entry)) (now (out .entry)) (now (names .exit)) (now (out .exit)) named n at r ⌝ }
+{
     let a = words::at(names, n);
     let e = a + words::at(names, 2048 + n);
     if !text::ends_with(file, a, e, b"@tok") {
@@ -70,7 +85,9 @@ fn file_token(
 }
 
 // Filed disjuncts as a kind.
-fn filed(f: Filed, named: usize) -> Sorted {
+fn filed(f: Filed, named: usize) -> Sorted
+    ensures { λ r. ⌜ r ≡ sorted-of named f ⌝ }
+{
     match f {
         Filed::Sets(n, end) => Sorted::Kind(AsumKind::Triggers(n), end, named),
         Filed::Full => Sorted::Over(Limit::Entries),
@@ -89,7 +106,10 @@ fn file_refinement(
     t: usize,
     mark: usize,
     at: usize,
-) -> Sorted {
+) -> Sorted
+    requires { ⌜ Rows (now refs) (now rows) used many named × Begun (now names) (now rows) (now out) mark at × (t < many) ⌝ }
+    ensures { λ r. ⌜ Sorts (now (names .entry)) (now (rows .entry)) (now (out .entry)) (now (names .exit)) (now (rows .exit)) (now (out .exit)) named mark at (λ name. refinement-kind (terms-of name (now (refs .entry)) (now (rows .entry)) used many) t) r ⌝ }
+{
     if triggers::is_empty(names, refs, rows, out, named, used, many, t, mark, at) {
         return Sorted::Kind(AsumKind::Ambient(true), at, named);
     }
@@ -111,11 +131,14 @@ fn file_parts(
     t: usize,
     mark: usize,
     at: usize,
-) -> Sorted {
+) -> Sorted
+    requires { ⌜ Rows (now refs) (now rows) used many named × Begun (now names) (now rows) (now out) mark at × (t < many) ⌝ }
+    ensures { λ r. ⌜ Sorts (now (names .entry)) (now (rows .entry)) (now (out .entry)) (now (names .exit)) (now (rows .exit)) (now (out .exit)) named mark at (λ name. parts-kind (terms-of name (now (refs .entry)) (now (rows .entry)) used many) t) r ⌝ }
+{
     let a = terms::start(rows, t);
     let e = terms::end(rows, used, many, t);
     filed(
-        triggers::triggers_of_list(names, refs, rows, out, named, used, many, a, e, mark, at),
+        triggers::triggers_of_list(names, refs, rows, out, named, used, many, a, e, mark + 1, at),
         named,
     )
 }
@@ -133,7 +156,10 @@ fn file_choice(
     choice: Choice,
     mark: usize,
     at: usize,
-) -> Sorted {
+) -> Sorted
+    requires { ⌜ Tables (now file) (now names) (now refs) (now rows) named used many × Within named many choice × Begun (now names) (now rows) (now out) mark at ⌝ }
+    ensures { λ r. ⌜ Chooses (now (file .entry)) (now (names .entry)) (now (refs .entry)) (now (rows .entry)) (now (out .entry)) (now (names .exit)) (now (rows .exit)) (now (out .exit)) named used many mark at choice r ⌝ }
+{
     match choice {
         Choice::No => Sorted::Kind(AsumKind::Drop, at, named),
         Choice::One(t) => filed(
@@ -165,7 +191,7 @@ fn file_choice(
         }
         Choice::Token(n) => file_token(file, names, out, named, n, at),
         Choice::Nothing => Sorted::Kind(AsumKind::Triggers(0), at, named),
-        Choice::Parts(t) => file_parts(names, refs, rows, out, named, used, many, t, mark + 1, at),
+        Choice::Parts(t) => file_parts(names, refs, rows, out, named, used, many, t, mark, at),
         Choice::Drop => Sorted::Kind(AsumKind::Drop, at, named),
         Choice::Ambient => Sorted::Kind(AsumKind::Ambient(false), at, named),
     }
@@ -178,6 +204,7 @@ fn finish(
     rows: &mut [u32],
     out: &mut [u32],
     named: usize,
+    total: usize,
     used: usize,
     many: usize,
     t: usize,
@@ -185,7 +212,10 @@ fn finish(
     end: usize,
     mark: usize,
     uses: usize,
-) -> Summarized {
+) -> Summarized
+    requires { ⌜ Rows (now refs) (now rows) used many named × (16384 ≤ length (now names)) × (t < many) × Fresh (now names) (now rows) mark × (mark + 1 < 4294967296) × (6144 ≤ end) × (uses ≤ 6144) × (16384 ≤ length (now out)) ⌝ }
+    ensures { λ r. ⌜ Finishes (now (names .entry)) (now (refs .entry)) (now (rows .entry)) (now (out .entry)) (now (names .exit)) (now (rows .exit)) (now (out .exit)) named total used many t kind end mark uses r ⌝ }
+{
     match gather::gather_term(
         names,
         refs,
@@ -203,7 +233,7 @@ fn finish(
             kind,
             entries: end - 6144,
             uses: n,
-            named,
+            named: total,
             mark: mark + 1,
         }),
         Walked::Full => Summarized::Over(Limit::Uses),
@@ -250,6 +280,7 @@ pub fn summarize_assumption(
             refs,
             rows,
             out,
+            named,
             total,
             used,
             many,

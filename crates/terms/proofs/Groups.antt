@@ -176,7 +176,7 @@ run-is refs g (suc d) p e q h k = go (run-is refs g d (p + 1) e (omega arith) (o
         rw z (record { low = omega arith; high = h; same = λ i a b. omega arith; ends = λ l. w })
 
 -- words up to a place and from it on
-words-split : (l : List ℕ) (d a b e : ℕ) → b - a ≡ d → a ≤ b → b ≤ e → e ≤ length l → words l a e ≡ words l a b ++ words l b e
+pub words-split : (l : List ℕ) (d a b e : ℕ) → b - a ≡ d → a ≤ b → b ≤ e → e ≤ length l → words l a e ≡ words l a b ++ words l b e
 words-split l zero a b e q h k m =
     let z : a ≡ b = omega arith in
     rw (z, words-nil l b b (omega arith))

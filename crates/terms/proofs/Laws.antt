@@ -8,9 +8,7 @@ use mathlib.Core.List.{List, [], _∷_, _++_}
 use lib.ListN.{length, take, drop, getD, set}
 use lib.Dec.{T, eqb, ltb}
 use borrow.Author.Tests.{eq-eqb, ne-eqb, lt-ltb, le-ltb, eqb-true, eqb-false, ltb-true, ltb-false}
-use Rattle.terms.specs.declared.Added.{Added}
-use Rattle.terms.specs.declared.Added.the-variants as adds
-use Rattle.terms.specs.Rows.{row-kind, row-start, row-extra, row-end, bare-of, groups-at, added, rows-after, with-row, pushed, push-answer}
+use Rattle.terms.specs.Rows.{row-kind, row-start, row-extra, row-end, bare-of, groups-at}
 
 -- two numbers are equal or not
 pub equal : (m n : ℕ) → (m ≡ n) ⊎ (m ≡ n → ⊥)
@@ -59,33 +57,3 @@ groups-all rows t u e h = rw (← e, eq-eqb (row-kind rows u) 4 h)
 pub groups-other : (rows : List ℕ) (t u : ℕ) → u ≡ bare-of rows t → (row-kind rows u ≡ 4 → ⊥) → groups-at rows t ≡ 0
 unfolding groups-at
 groups-other rows t u e h = rw (← e, ne-eqb (row-kind rows u) 4 h)
-
--- a reference goes in where there is room
-pub pushed-in : (refs : List ℕ) (used word : ℕ) → used < 16384 → pushed refs used word ≡ set refs used word
-unfolding pushed
-pushed-in refs used word h = rw (lt-ltb used 16384 h)
-
--- full references stay
-pub pushed-full : (refs : List ℕ) (used word : ℕ) → 16384 ≤ used → pushed refs used word ≡ refs
-unfolding pushed
-pushed-full refs used word h = rw (le-ltb used 16384 h)
-
--- the answer where there is room
-pub answer-in : (used : ℕ) → used < 16384 → push-answer used ≡ adds.Done
-unfolding push-answer
-answer-in used h = rw (lt-ltb used 16384 h)
-
--- the answer of full references
-pub answer-full : (used : ℕ) → 16384 ≤ used → push-answer used ≡ adds.Full
-unfolding push-answer
-answer-full used h = rw (le-ltb used 16384 h)
-
--- a row goes in where there is room
-pub added-in : (rows : List ℕ) (many word start extra : ℕ) → many < 4096 → (added many ≡ adds.Done) × (rows-after rows many word start extra ≡ with-row rows many word start extra)
-unfolding added rows-after
-added-in rows many word start extra h = (rw (lt-ltb many 4096 h), rw (lt-ltb many 4096 h))
-
--- a full table stays
-pub added-full : (rows : List ℕ) (many word start extra : ℕ) → 4096 ≤ many → (added many ≡ adds.Full) × (rows-after rows many word start extra ≡ rows)
-unfolding added rows-after
-added-full rows many word start extra h = (rw (le-ltb many 4096 h), rw (le-ltb many 4096 h))

@@ -3,12 +3,12 @@ use Prim.Native.Nat.{ℕ, zero, suc, _+_, _-_, _*_, _/_, _%_, _≤_, _<_}
 use native.Mathlib.Nat.{not-suc-le-zero}
 use native.Mathlib.Omega.{arith}
 use native.Mathlib.Numerals.{add-one}
-use mathlib.Core.Path.{_≡_, refl, sym, ap, _∙_}
+use mathlib.Core.Path.{_≡_, refl, sym, ap, ap₂, _∙_}
 use mathlib.Core.Bool.{Bool, true, false}
 use mathlib.Core.Logic.{_↔_, _⊎_, inl, inr, ⊎-elim}
 use mathlib.Core.List.{List, [], _∷_, _++_, map, List·Memᴰ, List·Memᴰ·head, List·Memᴰ·tail, List·Memᴰ·cases-cons, List·Memᴰ·not-nil, List·Memᴰ·append-cases, List·Memᴰ·eq-of-singleton, Memᴰ·append-left, Memᴰ·append-right, append-nil}
 use lib.ListN.{length, take, drop, getD, length-append, length-take, length-drop, drop-of-length-le, List·getD-append, List·getD-eq-default}
-use lib.Seq.{drop-cons, take-nil, getD-at}
+use lib.Seq.{drop-cons, take-nil, take-suc, getD-at, getD-drop, getD-take}
 use lib.Dec.{T, eqb, ltb, eqb→eq, eqb-refl, lt→ltb}
 use Rattle.model.specs.Lists.{any, keep, concat, fold-left}
 use Rattle.model.specs.Names.{Name, mem, add, union}
@@ -473,3 +473,67 @@ module _ (name : ℕ → Name) (refs rows : List ℕ) (used many : ℕ) where
   -- the node under a run of labels is that of the row that `bare-of` gives
   pub bare-law : {named : ℕ} → Rows refs rows used many named → (t : ℕ) → t < many → term (terms-of name refs rows used many) t .bare ≡ node-of name refs rows used many (bare-of rows t)
   bare-law r t l = rw table-all (bare-table r (suc t) many t (omega arith) l (omega arith))
+
+-- words of lists that agree up to their end are the same
+pub words-same : (l m : List ℕ) (d a e : ℕ) → e - a ≡ d → e ≤ length l → e ≤ length m → ((i : ℕ) → i < e → getD m i 0 ≡ getD l i 0) → words m a e ≡ words l a e
+words-same l m zero a e q x y h = rw (words-nil m a e (omega arith), words-nil l a e (omega arith))
+words-same l m (suc d) a e q x y h =
+    words-cons m a e (omega arith) y ∙ ap₂ _∷_ (h a (omega arith)) (words-same l m d (a + 1) e (omega arith) x y h) ∙ sym (words-cons l a e (omega arith) x)
+
+-- a word by its place
+pub words-at : (l : List ℕ) (a e i : ℕ) → a ≤ i → i < e → getD (words l a e) (i - a) 0 ≡ getD l i 0
+words-at l a e i h k =
+    let n : i - a < e - a = omega arith in
+    let q : a + (i - a) ≡ i = omega arith in
+    rw (getD-take (e - a) (drop a l) (i - a) 0 n, getD-drop a l (i - a) 0, q)
+
+-- words with one more at their end
+pub words-snoc : (l : List ℕ) (a e : ℕ) → a ≤ e → e < length l → words l a (e + 1) ≡ words l a e ++ (getD l e 0 ∷ [])
+words-snoc l a e h k =
+    let n : e + 1 - a ≡ suc (e - a) = omega arith in
+    let i : a + (e - a) ≡ e = omega arith in
+    let j : e - a < length (drop a l) = rw (length-drop a l) (omega arith) in
+    rw (n, take-suc (drop a l) (e - a) 0 j, getD-drop a l (e - a) 0, i)
+
+-- lent slices are a table of no rows
+pub empty-rows : (refs rows : List ℕ) (named : ℕ) → 16384 ≤ length refs → 16384 ≤ length rows → named ≤ 2048 → Rows refs rows 0 0 named
+empty-rows refs rows named a b c = record {
+  ref-room = a;
+  row-room = b;
+  few-references = omega arith;
+  few-rows = omega arith;
+  few-names = c;
+  in-order = λ t l. absurd (not-suc-le-zero l);
+  in-use = λ t l. absurd (not-suc-le-zero l);
+  lower = λ t i l. absurd (not-suc-le-zero l);
+  headed = λ t l. absurd (not-suc-le-zero l);
+  bodied = λ t l. absurd (not-suc-le-zero l);
+  labelled = λ t l. absurd (not-suc-le-zero l);
+  childless = λ t l. absurd (not-suc-le-zero l);
+  single = λ t l. absurd (not-suc-le-zero l);
+  grouped = λ t i l. absurd (not-suc-le-zero l);
+  rising = λ t i l. absurd (not-suc-le-zero l);
+}
+
+-- a node without a head has no name
+node-name : (kind : ℕ) (op : Op) (n m : Name) (ws : List ℕ) (g : ℕ) → (T (has-head kind) → n ≡ m) → make-node kind op n ws g ≡ make-node kind op m ws g
+unfolding make-node has-head
+node-name zero op n m ws g h = rw (h tt)
+node-name (suc zero) op n m ws g h = refl
+node-name (suc (suc zero)) op n m ws g h = rw (h tt)
+node-name (suc (suc (suc zero))) op n m ws g h = refl
+node-name (suc (suc (suc (suc zero)))) op n m ws g h = refl
+node-name (suc (suc (suc (suc (suc zero))))) op n m ws g h = refl
+node-name (suc (suc (suc (suc (suc (suc zero)))))) op n m ws g h = refl
+node-name (suc (suc (suc (suc (suc (suc (suc k))))))) op n m ws g h = refl
+
+-- the terms of a table do not change with names that it has not
+pub terms-named : {refs rows : List ℕ} {used many named : ℕ} (name name′ : ℕ → Name) → ((k : ℕ) → k < named → name k ≡ name′ k) → Rows refs rows used many named
+    → terms-of name refs rows used many ≡ terms-of name′ refs rows used many
+unfolding terms-of nodes-below node-of
+terms-named {refs} {rows} {used} {many} name name′ same r = ap (fold-left add-term []) (go many (omega arith))
+  where
+    go : (n : ℕ) → n ≤ many → nodes-below name refs rows used many n ≡ nodes-below name′ refs rows used many n
+    go zero l = refl
+    go (suc n) l = ap₂ (λ ns m. ns ++ (m ∷ [])) (go n (omega arith))
+        (node-name (row-kind rows n) (op-of-code (row-op rows n)) (name (row-head rows n)) (name′ (row-head rows n)) (words refs (row-start rows n) (row-end rows used many n)) (row-extra rows n) (λ h. same (row-head rows n) (r .headed n (omega arith) h)))

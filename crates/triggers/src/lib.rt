@@ -1,19 +1,120 @@
 use gather::Walked;
 ghost use Prim.Native.Nat.{ℕ, _+_, _-_, _%_, _≤_, _<_};
 ghost use mathlib.Core.Path.{_≡_};
+ghost use mathlib.Core.Bool.{true, false};
 ghost use mathlib.Core.List.{[], _∷_};
 ghost use lib.ListN.{length, getD};
 ghost use Rattle.model.specs.Lists.{collect};
 ghost use Rattle.model.specs.Names.{Name};
 ghost use Rattle.model.specs.Summaries.{exclude-names, is-empty, free-top-level-names, group-names, triggers-of-term};
 ghost use Rattle.terms.specs.Rows.{row-start, row-end, words, terms-of-words, terms-of, Rows};
-ghost use Rattle.gather.specs.Sets.{Named, Fresh, Same-but};
+ghost use Rattle.gather.specs.Sets.{Named, Fresh, Gathers, Same-but};
 ghost use Rattle.triggers.specs.Entries.{Opened, Files, Filled, Closes};
+ghost use Rattle.triggers.specs.Inner.{Stage, Within, Put, Comes};
 
 // What filing disjuncts comes to: how many there are and where their entries end, or that there is no room for them.
 pub enum Filed {
     Sets(usize, usize),
     Full,
+}
+
+// Whether the names from `at` up to `end` are in their place, the last of them with a number of a name. It holds of all
+// that `gather` answers: its contract says so where the numbers have names.
+fn within(out: &[u32], at: usize, end: usize, room: usize) -> bool
+    requires { ⌜ room ≤ length (now out) ⌝ }
+    ensures yes { λ r. ⌜ (r ≡ true → Within (now (out .entry)) at end room) ⌝ }
+    ensures no { λ r. ⌜ (r ≡ false → Within (now (out .entry)) at end room → ⊥) ⌝ }
+{
+    if end < at {
+        return false;
+    }
+    if room < end {
+        return false;
+    }
+    if at == end {
+        return true;
+    }
+    words::at(out, end - 1) < 2048
+}
+
+// Gathers the free names of a term into `out` up to `room`; the words past it are not lent.
+fn term_names(
+    names: &mut [u32],
+    refs: &[u32],
+    rows: &mut [u32],
+    out: &mut [u32],
+    named: usize,
+    used: usize,
+    many: usize,
+    t: usize,
+    mark: usize,
+    at: usize,
+    room: usize,
+) -> Walked
+    requires { ⌜ Rows (now refs) (now rows) used many named × Stage (now names) (now rows) (now out) mark at room × (t < many) ⌝ }
+    ensures set { λ r. ⌜ ((name : ℕ → Name) → Named name (now (names .entry)) named → Gathers name named (free-top-level-names exclude-names (terms-of name (now (refs .entry)) (now (rows .entry)) used many) t) at room (now (out .exit)) r) ⌝ }
+    ensures slices { λ r. ⌜ Put (now (names .entry)) (now (rows .entry)) (now (out .entry)) (now (names .exit)) (now (rows .exit)) (now (out .exit)) mark at room r ⌝ }
+{
+    let Walked::Names(end) = gather::gather_term(
+        names,
+        refs,
+        rows,
+        &mut out[..room],
+        named,
+        used,
+        many,
+        t,
+        mark as u32,
+        at,
+        room,
+    ) else {
+        return Walked::Full;
+    };
+    if !within(out, at, end, room) {
+        return Walked::Full;
+    }
+    Walked::Names(end)
+}
+
+// The same of the terms that the references from `a` up to `e` name.
+fn list_names(
+    names: &mut [u32],
+    refs: &[u32],
+    rows: &mut [u32],
+    out: &mut [u32],
+    named: usize,
+    used: usize,
+    many: usize,
+    a: usize,
+    e: usize,
+    mark: usize,
+    at: usize,
+    room: usize,
+) -> Walked
+    requires { ⌜ Rows (now refs) (now rows) used many named × Stage (now names) (now rows) (now out) mark at room × (a ≤ e) × (e ≤ used) × ((i : ℕ) → a ≤ i → i < e → getD (now refs) i 0 % 4096 < many) ⌝ }
+    ensures set { λ r. ⌜ ((name : ℕ → Name) → Named name (now (names .entry)) named → Gathers name named (group-names exclude-names (terms-of name (now (refs .entry)) (now (rows .entry)) used many) (terms-of-words (words (now (refs .entry)) a e))) at room (now (out .exit)) r) ⌝ }
+    ensures slices { λ r. ⌜ Put (now (names .entry)) (now (rows .entry)) (now (out .entry)) (now (names .exit)) (now (rows .exit)) (now (out .exit)) mark at room r ⌝ }
+{
+    let Walked::Names(end) = gather::gather_list(
+        names,
+        refs,
+        rows,
+        &mut out[..room],
+        named,
+        used,
+        many,
+        a,
+        e,
+        mark as u32,
+        at,
+        room,
+    ) else {
+        return Walked::Full;
+    };
+    if !within(out, at, end, room) {
+        return Walked::Full;
+    }
+    Walked::Names(end)
 }
 
 // Ends the disjunct whose names stand from `at` up to `end`: its last entry is marked, an empty disjunct takes one.
@@ -47,11 +148,11 @@ fn file_list(
     mark: usize,
     at: usize,
 ) -> Filed
-    requires { ⌜ Rows (now refs) (now rows) used many named × Opened (now names) (now rows) (now out) mark at × (a ≤ e) × (e ≤ used) × ((i : ℕ) → a ≤ i → i < e → getD (now refs) i 0 % 4096 < many) ⌝ }
-    ensures sets { λ r. ⌜ ((name : ℕ → Name) → Named name (now (names .entry)) named → Files name named (group-names exclude-names (terms-of name (now (refs .entry)) (now (rows .entry)) used many) (terms-of-words (words (now (refs .entry)) a e)) ∷ []) at (now (out .exit)) r) ⌝ }
-    ensures slices { λ r. ⌜ Filled (now (names .entry)) (now (rows .entry)) (now (out .entry)) (now (names .exit)) (now (rows .exit)) (now (out .exit)) mark at r ⌝ }
+    requires { ⌜ Rows (now refs) (now rows) used many named × Stage (now names) (now rows) (now out) mark at 8192 × (a ≤ e) × (e ≤ used) × ((i : ℕ) → a ≤ i → i < e → getD (now refs) i 0 % 4096 < many) ⌝ }
+    ensures { λ r. ⌜ Comes (now (names .entry)) (now (rows .entry)) (now (out .entry)) (now (names .exit)) (now (rows .exit)) (now (out .exit)) named mark at (λ name. group-names exclude-names (terms-of name (now (refs .entry)) (now (rows .entry)) used many) (terms-of-words (words (now (refs .entry)) a e)) ∷ []) r ⌝ }
+    ensures one { λ r. ⌜ ((n e : ℕ) → r ≡ Filed.Sets n e → n ≡ 1) ⌝ }
 {
-    match gather::gather_list(
+    let Walked::Names(end) = list_names(
         names,
         refs,
         rows,
@@ -61,13 +162,48 @@ fn file_list(
         many,
         a,
         e,
-        mark as u32,
+        mark,
         at,
         8192,
-    ) {
-        Walked::Names(end) => close(out, at, end),
-        Walked::Full => Filed::Full,
-    }
+    ) else {
+        return Filed::Full;
+    };
+    close(out, at, end)
+}
+
+// `file_term` with a mark for each entry that is left, so that sets can be filed one after the other.
+fn file_one(
+    names: &mut [u32],
+    refs: &[u32],
+    rows: &mut [u32],
+    out: &mut [u32],
+    named: usize,
+    used: usize,
+    many: usize,
+    t: usize,
+    mark: usize,
+    at: usize,
+) -> Filed
+    requires { ⌜ Rows (now refs) (now rows) used many named × Stage (now names) (now rows) (now out) mark at 8192 × (t < many) ⌝ }
+    ensures { λ r. ⌜ Comes (now (names .entry)) (now (rows .entry)) (now (out .entry)) (now (names .exit)) (now (rows .exit)) (now (out .exit)) named mark at (λ name. free-top-level-names exclude-names (terms-of name (now (refs .entry)) (now (rows .entry)) used many) t ∷ []) r ⌝ }
+    ensures one { λ r. ⌜ ((n e : ℕ) → r ≡ Filed.Sets n e → n ≡ 1) ⌝ }
+{
+    let Walked::Names(end) = term_names(
+        names,
+        refs,
+        rows,
+        out,
+        named,
+        used,
+        many,
+        t,
+        mark,
+        at,
+        8192,
+    ) else {
+        return Filed::Full;
+    };
+    close(out, at, end)
 }
 
 // Files the free names of a term as one disjunct.
@@ -87,22 +223,7 @@ pub fn file_term(
     ensures sets { λ r. ⌜ ((name : ℕ → Name) → Named name (now (names .entry)) named → Files name named (free-top-level-names exclude-names (terms-of name (now (refs .entry)) (now (rows .entry)) used many) t ∷ []) at (now (out .exit)) r) ⌝ }
     ensures slices { λ r. ⌜ Filled (now (names .entry)) (now (rows .entry)) (now (out .entry)) (now (names .exit)) (now (rows .exit)) (now (out .exit)) mark at r ⌝ }
 {
-    match gather::gather_term(
-        names,
-        refs,
-        rows,
-        out,
-        named,
-        used,
-        many,
-        t,
-        mark as u32,
-        at,
-        8192,
-    ) {
-        Walked::Names(end) => close(out, at, end),
-        Walked::Full => Filed::Full,
-    }
+    file_one(names, refs, rows, out, named, used, many, t, mark, at)
 }
 
 // Files the free names of two terms as two disjuncts.
@@ -123,11 +244,11 @@ pub fn file_terms(
     ensures sets { λ r. ⌜ ((name : ℕ → Name) → Named name (now (names .entry)) named → Files name named (free-top-level-names exclude-names (terms-of name (now (refs .entry)) (now (rows .entry)) used many) t ∷ free-top-level-names exclude-names (terms-of name (now (refs .entry)) (now (rows .entry)) used many) u ∷ []) at (now (out .exit)) r) ⌝ }
     ensures slices { λ r. ⌜ Filled (now (names .entry)) (now (rows .entry)) (now (out .entry)) (now (names .exit)) (now (rows .exit)) (now (out .exit)) mark at r ⌝ }
 {
-    let Filed::Sets(_, middle) = file_term(names, refs, rows, out, named, used, many, t, mark, at)
+    let Filed::Sets(_, middle) = file_one(names, refs, rows, out, named, used, many, t, mark, at)
     else {
         return Filed::Full;
     };
-    let Filed::Sets(_, end) = file_term(
+    let Filed::Sets(_, end) = file_one(
         names,
         refs,
         rows,
@@ -144,8 +265,8 @@ pub fn file_terms(
     Filed::Sets(2, end)
 }
 
-// `triggers_of_term`: files the pattern groups of the `all` under a term's labels, a disjunct each, in order.
-pub fn triggers_of_term(
+// The same of `triggers_of_term`: a disjunct for each group, in order.
+fn file_groups(
     names: &mut [u32],
     refs: &[u32],
     rows: &mut [u32],
@@ -157,9 +278,8 @@ pub fn triggers_of_term(
     mark: usize,
     at: usize,
 ) -> Filed
-    requires { ⌜ Rows (now refs) (now rows) used many named × Opened (now names) (now rows) (now out) mark at × (t < many) ⌝ }
-    ensures sets { λ r. ⌜ ((name : ℕ → Name) → Named name (now (names .entry)) named → Files name named (triggers-of-term exclude-names (terms-of name (now (refs .entry)) (now (rows .entry)) used many) t) at (now (out .exit)) r) ⌝ }
-    ensures slices { λ r. ⌜ Filled (now (names .entry)) (now (rows .entry)) (now (out .entry)) (now (names .exit)) (now (rows .exit)) (now (out .exit)) mark at r ⌝ }
+    requires { ⌜ Rows (now refs) (now rows) used many named × Stage (now names) (now rows) (now out) mark at 8192 × (t < many) ⌝ }
+    ensures { λ r. ⌜ Comes (now (names .entry)) (now (rows .entry)) (now (out .entry)) (now (names .exit)) (now (rows .exit)) (now (out .exit)) named mark at (λ name. triggers-of-term exclude-names (terms-of name (now (refs .entry)) (now (rows .entry)) used many) t) r ⌝ }
 {
     let groups = terms::group_count(rows, t);
     if groups == 0 {
@@ -194,6 +314,26 @@ pub fn triggers_of_term(
     Filed::Sets(groups, end)
 }
 
+// `triggers_of_term`: files the pattern groups of the `all` under a term's labels, a disjunct each, in order.
+pub fn triggers_of_term(
+    names: &mut [u32],
+    refs: &[u32],
+    rows: &mut [u32],
+    out: &mut [u32],
+    named: usize,
+    used: usize,
+    many: usize,
+    t: usize,
+    mark: usize,
+    at: usize,
+) -> Filed
+    requires { ⌜ Rows (now refs) (now rows) used many named × Opened (now names) (now rows) (now out) mark at × (t < many) ⌝ }
+    ensures sets { λ r. ⌜ ((name : ℕ → Name) → Named name (now (names .entry)) named → Files name named (triggers-of-term exclude-names (terms-of name (now (refs .entry)) (now (rows .entry)) used many) t) at (now (out .exit)) r) ⌝ }
+    ensures slices { λ r. ⌜ Filled (now (names .entry)) (now (rows .entry)) (now (out .entry)) (now (names .exit)) (now (rows .exit)) (now (out .exit)) mark at r ⌝ }
+{
+    file_groups(names, refs, rows, out, named, used, many, t, mark, at)
+}
+
 // Files the triggers of each term that the references from `a` up to `e` name, in order.
 pub fn triggers_of_list(
     names: &mut [u32],
@@ -217,7 +357,7 @@ pub fn triggers_of_list(
     let mut i = a;
     while i < e {
         let t = terms::reference(refs, i);
-        let Filed::Sets(more, next) = triggers_of_term(
+        let Filed::Sets(more, next) = file_groups(
             names,
             refs,
             rows,
@@ -266,7 +406,7 @@ pub fn is_empty(
     let u = terms::bare(rows, t);
     let a = terms::start(rows, u) + 1;
     let e = terms::end(rows, used, many, u);
-    if let Walked::Names(_) = gather::gather_list(
+    if let Walked::Names(_) = list_names(
         names,
         refs,
         rows,
@@ -276,7 +416,7 @@ pub fn is_empty(
         many,
         a,
         e,
-        mark as u32,
+        mark,
         at,
         at,
     ) {

@@ -9,12 +9,14 @@ use lib.ListN.{length, getD, set, replicate, length-replicate, length-set}
 use lib.Seq.{getD-set-other}
 use Rattle.model.specs.Names.{Name}
 use Rattle.model.specs.Terms.{Node}
-use Rattle.terms.specs.declared.Added.{Added}
-use Rattle.terms.specs.Rows.{with-row, pushed, Patterns, Adds}
+use Rattle.lines.specs.declared.Added.{Added}
+use Rattle.lines.specs.Additions.{with-row, pushed, Patterns, Adds}
 use Rattle.gather.specs.Sets.{Fresh}
-use Rattle.terms.proofs.Laws.{added-in, equal}
-use Rattle.terms.proofs.Adding.{empty-rows, push-agrees}
-use Rattle.terms.proofs.Lines.{pushed-none, pushed-one, push-last}
+use Rattle.terms.proofs.Laws.{equal}
+use Rattle.lines.proofs.Laws.{added-in}
+use Rattle.terms.proofs.Table.{empty-rows}
+use Rattle.lines.proofs.Adding.{push-agrees}
+use Rattle.lines.proofs.Lines.{pushed-none, pushed-one, push-last}
 use Rattle.walks.specs.Tables.{Blank, Table}
 
 -- a list of zeros has zeros everywhere

@@ -3,7 +3,7 @@ use Prim.Native.Nat.{ℕ, _≤_, _<_}
 use mathlib.Core.Path.{_≡_}
 use mathlib.Core.List.{List}
 use lib.ListN.{length, getD}
-use Rattle.terms.specs.Rows.{Pushed}
+use Rattle.lines.specs.Additions.{Pushed}
 
 -- a slice that holds only zeros from a column on
 pub record Blank (column : ℕ) (words : List ℕ) : Type 0 where

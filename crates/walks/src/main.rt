@@ -35,7 +35,7 @@ fn push_times(
 {
     let mut i = 0;
     while i < times {
-        terms::push(refs, used + i, to, 0);
+        lines::push(refs, used + i, to, 0);
         i += 1;
     }
 }
@@ -45,7 +45,7 @@ fn add_free(refs: &[u32], rows: &mut [u32], used: usize, many: usize, head: usiz
     requires { ⌜ Table (now refs) (now rows) used used many × (many < 4096) × (head < 2048) ⌝ }
     ensures { λ _. ⌜ Table (now (refs .entry)) (now (rows .exit)) used used (many + 1) ⌝ }
 {
-    terms::add_free(refs, rows, used, many, 2048, head);
+    lines::add_free(refs, rows, used, many, 2048, head);
 }
 
 // Adds a call with so many references to a term, or an op where the head is not the number of a name.
@@ -63,10 +63,10 @@ fn add_row_of(
 {
     push_times(refs, rows, used, used, many, to, times);
     if head < 2048 {
-        terms::add_call(refs, rows, used, used + times, many, 2048, head);
+        lines::add_call(refs, rows, used, used + times, many, 2048, head);
         return;
     }
-    terms::add_op(refs, rows, used, used + times, many, 2048, 4);
+    lines::add_op(refs, rows, used, used + times, many, 2048, 4);
 }
 
 // Adds an `all` with a body and one group of one term.
@@ -83,7 +83,7 @@ fn add_all(
 {
     push_times(refs, rows, used, used, many, body, 1);
     push_times(refs, rows, used, used + 1, many, pattern, 1);
-    terms::add_all(refs, rows, used, used + 2, many, 2048, 1);
+    lines::add_all(refs, rows, used, used + 2, many, 2048, 1);
 }
 
 // Adds the rows up to 4,096 to a table of one row, each with so many references to the row before, and its own number

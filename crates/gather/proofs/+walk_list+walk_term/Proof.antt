@@ -1,11 +1,13 @@
 -- `gather::walk_term` and `gather::walk_list` meet their contracts. A term's measure is twice its number and one, a list's twice
--- the greatest of its terms and one more. The loop's invariant: the names of the terms up to `i` are added.
+-- the greatest of its terms and one more. The loop's invariant: the names of the terms up to `i` are added, and the slices are those
+-- of the walk up to there.
 use native.Mathlib.Omega.{arith}
 use Prim.Native.Nat.{ℕ, _+_, _-_, _*_, _≤_, _<_}
 use mathlib.Core.Path.{sym, _∙_}
 use Rattle.gather.specs.declared.Walked.the-variants as walks
-use Rattle.gather.specs.Walks.{Among, Walks}
+use Rattle.gather.specs.Walks.{Among, Walks, list-part, Follows}
 use Rattle.gather.proofs.Walking.{top, list-falls, term-falls, walks-there, walks-none, walks-next, walks-term, walks-head-full, walks-marked, ready-then, heads-of, references-of, in-table-at, walks-is, steps-is, walks-stop, walks-end, walks-names}
+use Rattle.gather.proofs.Rendering.{follows-is, follow-there, follow-head-full, follow-list-full, follow-marked, follow-nil, follow-next, follow-stop, follow-end}
 use borrow.Fn.Kinds.{In}
 use borrow.Fn.PlainCycle.{Measures, is, falls, and}
 use Rattle.gather.proofs.walk_list.Reads as walk-list
@@ -53,6 +55,7 @@ term-claims t = (at-reads.Asked, at-reads.Learnt, gather-head-reads.Asked, gathe
 abbrev walk-list-Inv-loop : walk-list-lts.InvT-loop
 walk-list-Inv-loop names₀ refs rows₀ out₀ used many a e mark count room i₀ n₀ names rows out i n =
     (a ≤ i) × (i ≤ e) × Walks (Among names₀ refs rows₀ used many a i) names₀ refs rows₀ out₀ names rows out used many mark count room (walks.Names n)
+    × Follows (list-part refs used many a i) names₀ rows₀ out₀ names rows out mark count room (walks.Names n)
 
 abbrev walk-list-μ-loop : walk-list-lts.MeasureT-loop
 walk-list-μ-loop names₀ refs rows₀ out₀ used many a e mark count room i₀ n₀ names rows out i n = e - i
@@ -60,7 +63,7 @@ walk-list-μ-loop names₀ refs rows₀ out₀ used many a e mark count room i�
 walk-list-loop-holds : (t : ℕ) → walk-list-lts.Need-loop-holds (list-claims t) (walk-list-at t) walk-list.Post walk-list-Inv-loop walk-list-μ-loop
 walk-list-loop-holds t c =
     let start = c .before .before .before .before in
-    (omega arith, omega (arith, start .pre .1 .1 .in-order), walks-none (start .pre .1 .0))
+    (omega arith, omega (arith, start .pre .1 .1 .in-order), walks-none (start .pre .1 .0), follow-nil (start .args .refs .now) (start .args .used) (start .args .many) (start .args .a))
 
 walk-list-reference-requires : (t : ℕ) → walk-list-lts.Need-reference-requires (list-claims t) (walk-list-at t) walk-list.Post walk-list-Inv-loop walk-list-μ-loop
 walk-list-reference-requires t c κs =
@@ -70,7 +73,11 @@ walk-list-reference-requires t c κs =
 walk-list-walk-term-requires : (t : ℕ) → walk-list-lts.Need-walk-term-requires (list-claims t) (walk-list-at t) walk-list.Post walk-list-Inv-loop walk-list-μ-loop
 walk-list-walk-term-requires t c κs =
     let start = c .before .before .before .before .before .before .before .before .before .before in
-    (list-falls (start .args .refs .now) (c .before .before .before .before .before .loop .inv .0) (c .before .before .before .before .loop-test .taken) (c .before .before .before .reference .ensures) (start .pre .0), (ready-then (start .pre .1 .0) (c .before .before .before .before .before .loop .inv .2), in-table-at (start .pre .1 .1) (c .before .before .before .before .before .loop .inv .0) (c .before .before .before .before .loop-test .taken) (c .before .before .before .reference .ensures)))
+    let loop = c .before .before .before .before .before in
+    let low = loop .loop .inv .0 in
+    let high : loop .loop .i < start .args .e = omega arith in
+    let is = c .before .before .before .reference .ensures in
+    (list-falls (start .args .refs .now) low high is (start .pre .0), (ready-then (start .pre .1 .0) (loop .loop .inv .2), in-table-at (start .pre .1 .1) low high is))
 
 walk-list-enum-known-more : (t : ℕ) → walk-list-lts.Need-enum-known-more (list-claims t) (walk-list-at t) walk-list.Post walk-list-Inv-loop walk-list-μ-loop
 walk-list-enum-known-more t c = c .match .keys1
@@ -81,16 +88,23 @@ walk-list-enum-told t c = c .match .keys2
 walk-list-returns : (t : ℕ) → walk-list-lts.Need-returns (list-claims t) (walk-list-at t) walk-list.Post walk-list-Inv-loop walk-list-μ-loop
 walk-list-returns t c =
     let start = c .before .before .before .before .before .before .before .before .before .before .before .before .before .before .before .before .before .before .before in
-    walks-stop (c .before .before .before .before .before .before .before .before .before .before .before .before .before .loop-test .taken) (walks-next (start .pre .1 .0) (start .pre .1 .1) (c .before .before .before .before .before .before .before .before .before .before .before .before .before .before .loop .inv .0) (c .before .before .before .before .before .before .before .before .before .before .before .before .before .loop-test .taken) (c .before .before .before .before .before .before .before .before .before .before .before .before .reference .ensures) (c .before .before .before .before .before .before .before .before .before .before .before .before .before .before .loop .inv .2) (walks-is (c .enum-told .given .1) (c .before .before .before .before .before .before .before .before .walk-term .ensures)))
+    let at = c .before .before .before .before .before .before .before .before .before .before .before .before .before in
+    let low = at .before .loop .inv .0 in
+    let high : at .before .loop .i < start .args .e = omega arith in
+    let is = c .before .before .before .before .before .before .before .before .before .before .before .before .reference .ensures in
+    let term = c .before .before .before .before .before .before .before .before in (
+      walks-stop high (walks-next (start .pre .1 .0) (start .pre .1 .1) low high is (at .before .loop .inv .2) (walks-is (c .enum-told .given .1) (term .walk-term .ensures .0))),
+      follow-stop (start .pre .1 .0) (start .pre .1 .1) low high (follow-next (start .pre .1 .0) (start .pre .1 .1) low high is (at .before .loop .inv .3) (follows-is (c .enum-told .given .1) (term .walk-term .ensures .1))),
+    )
 
 walk-list-same-length : (t : ℕ) → walk-list-lts.Need-same-length (list-claims t) (walk-list-at t) walk-list.Post walk-list-Inv-loop walk-list-μ-loop
-walk-list-same-length t c = walk-list-returns t c .steps .names-same .same-length
+walk-list-same-length t c = walk-list-returns t c .0 .steps .names-same .same-length
 
 walk-list-same-length-2 : (t : ℕ) → walk-list-lts.Need-same-length-2 (list-claims t) (walk-list-at t) walk-list.Post walk-list-Inv-loop walk-list-μ-loop
-walk-list-same-length-2 t c = walk-list-returns t c .rows-same .same-length
+walk-list-same-length-2 t c = walk-list-returns t c .0 .rows-same .same-length
 
 walk-list-same-length-3 : (t : ℕ) → walk-list-lts.Need-same-length-3 (list-claims t) (walk-list-at t) walk-list.Post walk-list-Inv-loop walk-list-μ-loop
-walk-list-same-length-3 t c = walk-list-returns t c .steps .out-same .same-length
+walk-list-same-length-3 t c = walk-list-returns t c .0 .steps .out-same .same-length
 
 walk-list-add-i : (t : ℕ) → walk-list-lts.Need-add-i (list-claims t) (walk-list-at t) walk-list.Post walk-list-Inv-loop walk-list-μ-loop
 walk-list-add-i t c = omega arith
@@ -101,19 +115,31 @@ walk-list-loop-less t c = omega arith
 walk-list-loop-again : (t : ℕ) → walk-list-lts.Need-loop-again (list-claims t) (walk-list-at t) walk-list.Post walk-list-Inv-loop walk-list-μ-loop
 walk-list-loop-again t c =
     let start = c .before .before .before .before .before .before .before .before .before .before .before .before .before .before .before .before .before .before .before .before in
-    (omega arith, omega arith, walks-next (start .pre .1 .0) (start .pre .1 .1) (c .before .before .before .before .before .before .before .before .before .before .before .before .before .before .before .loop .inv .0) (c .before .before .before .before .before .before .before .before .before .before .before .before .before .before .loop-test .taken) (c .before .before .before .before .before .before .before .before .before .before .before .before .before .reference .ensures) (c .before .before .before .before .before .before .before .before .before .before .before .before .before .before .before .loop .inv .2) (walks-is (c .before .more .given .1) (c .before .before .before .before .before .before .before .before .before .walk-term .ensures)))
+    let at = c .before .before .before .before .before .before .before .before .before .before .before .before .before .before in
+    let low = at .before .loop .inv .0 in
+    let high : at .before .loop .i < start .args .e = omega arith in
+    let is = c .before .before .before .before .before .before .before .before .before .before .before .before .before .reference .ensures in
+    let term = c .before .before .before .before .before .before .before .before .before in (
+      omega arith,
+      omega arith,
+      walks-next (start .pre .1 .0) (start .pre .1 .1) low high is (at .before .loop .inv .2) (walks-is (c .before .more .given .1) (term .walk-term .ensures .0)),
+      follow-next (start .pre .1 .0) (start .pre .1 .1) low high is (at .before .loop .inv .3) (follows-is (c .before .more .given .1) (term .walk-term .ensures .1)),
+    )
 
 walk-list-returns-2 : (t : ℕ) → walk-list-lts.Need-returns-2 (list-claims t) (walk-list-at t) walk-list.Post walk-list-Inv-loop walk-list-μ-loop
-walk-list-returns-2 t c = walks-end (c .before .loop .inv .1) (c .loop-test .left) (c .before .loop .inv .2)
+walk-list-returns-2 t c = (
+  walks-end (c .before .loop .inv .1) (c .loop-test .left) (c .before .loop .inv .2),
+  follow-end (c .before .before .before .before .before .before .pre .1 .1) (c .before .loop .inv .1) (c .loop-test .left) (c .before .loop .inv .3),
+)
 
 walk-list-same-length-4 : (t : ℕ) → walk-list-lts.Need-same-length-4 (list-claims t) (walk-list-at t) walk-list.Post walk-list-Inv-loop walk-list-μ-loop
-walk-list-same-length-4 t c = walk-list-returns-2 t c .steps .names-same .same-length
+walk-list-same-length-4 t c = walk-list-returns-2 t c .0 .steps .names-same .same-length
 
 walk-list-same-length-5 : (t : ℕ) → walk-list-lts.Need-same-length-5 (list-claims t) (walk-list-at t) walk-list.Post walk-list-Inv-loop walk-list-μ-loop
-walk-list-same-length-5 t c = walk-list-returns-2 t c .rows-same .same-length
+walk-list-same-length-5 t c = walk-list-returns-2 t c .0 .rows-same .same-length
 
 walk-list-same-length-6 : (t : ℕ) → walk-list-lts.Need-same-length-6 (list-claims t) (walk-list-at t) walk-list.Post walk-list-Inv-loop walk-list-μ-loop
-walk-list-same-length-6 t c = walk-list-returns-2 t c .steps .out-same .same-length
+walk-list-same-length-6 t c = walk-list-returns-2 t c .0 .steps .out-same .same-length
 
 walk-term-add-at : (t : ℕ) → walk-term-lts.Need-add-at (term-claims t) (walk-term-at t) walk-term.Post
 walk-term-add-at t c =
@@ -127,11 +153,13 @@ walk-term-at-requires t c κs =
 
 walk-term-returns : (t : ℕ) → walk-term-lts.Need-returns (term-claims t) (walk-term-at t) walk-term.Post
 walk-term-returns t c =
-    let start = c .before .before .before .before .before .before .before in
-    walks-there (start .pre .1 .0) (start .pre .1 .1) (sym (c .before .at .ensures) ∙ c .if1 .taken)
+    let start = c .before .before .before .before .before .before .before in (
+      walks-there (start .pre .1 .0) (start .pre .1 .1) (sym (c .before .at .ensures) ∙ c .if1 .taken),
+      follow-there (start .pre .1 .0) (start .pre .1 .1) (sym (c .before .at .ensures) ∙ c .if1 .taken),
+    )
 
 walk-term-same-length : (t : ℕ) → walk-term-lts.Need-same-length (term-claims t) (walk-term-at t) walk-term.Post
-walk-term-same-length t c = walk-term-returns t c .rows-same .same-length
+walk-term-same-length t c = walk-term-returns t c .0 .rows-same .same-length
 
 walk-term-gather-head-requires : (t : ℕ) → walk-term-lts.Need-gather-head-requires (term-claims t) (walk-term-at t) walk-term.Post
 walk-term-gather-head-requires t c κs =
@@ -145,16 +173,22 @@ walk-term-enum-told : (t : ℕ) → walk-term-lts.Need-enum-told (term-claims t)
 walk-term-enum-told t c = c .match .keys2
 
 walk-term-returns-2 : (t : ℕ) → walk-term-lts.Need-returns-2 (term-claims t) (walk-term-at t) walk-term.Post
-walk-term-returns-2 t c = walks-head-full (c .before .before .before .before .before .before .before .before .before .before .before .before .before .before .before .before .before .pre .1 .0) (steps-is (c .enum-told .given .1) (c .before .before .before .before .before .before .gather-head .ensures))
+walk-term-returns-2 t c =
+    let start = c .before .before .before .before .before .before .before .before .before .before .before .before .before .before .before .before .before in
+    let test = c .before .before .before .before .before .before .before .before .before .before in
+    let head = c .before .before .before .before .before .before in (
+      walks-head-full (start .pre .1 .0) (steps-is (c .enum-told .given .1) (head .gather-head .ensures .0)),
+      follow-head-full (start .pre .1 .0) (start .pre .1 .1) (λ e. test .if1 .left (test .before .at .ensures ∙ e)) (follows-is (c .enum-told .given .1) (head .gather-head .ensures .1)),
+    )
 
 walk-term-same-length-2 : (t : ℕ) → walk-term-lts.Need-same-length-2 (term-claims t) (walk-term-at t) walk-term.Post
-walk-term-same-length-2 t c = walk-term-returns-2 t c .steps .names-same .same-length
+walk-term-same-length-2 t c = walk-term-returns-2 t c .0 .steps .names-same .same-length
 
 walk-term-same-length-3 : (t : ℕ) → walk-term-lts.Need-same-length-3 (term-claims t) (walk-term-at t) walk-term.Post
-walk-term-same-length-3 t c = walk-term-returns-2 t c .rows-same .same-length
+walk-term-same-length-3 t c = walk-term-returns-2 t c .0 .rows-same .same-length
 
 walk-term-same-length-4 : (t : ℕ) → walk-term-lts.Need-same-length-4 (term-claims t) (walk-term-at t) walk-term.Post
-walk-term-same-length-4 t c = walk-term-returns-2 t c .steps .out-same .same-length
+walk-term-same-length-4 t c = walk-term-returns-2 t c .0 .steps .out-same .same-length
 
 walk-term-start-requires : (t : ℕ) → walk-term-lts.Need-start-requires (term-claims t) (walk-term-at t) walk-term.Post
 walk-term-start-requires t c κs =
@@ -169,7 +203,7 @@ walk-term-end-requires t c κs =
 walk-term-walk-list-requires : (t : ℕ) → walk-term-lts.Need-walk-list-requires (term-claims t) (walk-term-at t) walk-term.Post
 walk-term-walk-list-requires t c κs =
     let start = c .before .before .before .before .before .before .before .before .before .before .before .before .before .before .before .before .before .before .before .before .before .before .before .before .before in
-    (term-falls (start .pre .1 .0 .table) (start .pre .1 .1) (c .before .before .before .before .before .start .ensures) (c .before .before .before .end .ensures) (start .pre .0), (ready-then (start .pre .1 .0) (walks-names (start .pre .1 .0) (steps-is (c .before .before .before .before .before .before .before .before .own .given .1) (c .before .before .before .before .before .before .before .before .before .before .before .before .before .before .gather-head .ensures))), references-of (start .pre .1 .0 .table) (start .pre .1 .1) (c .before .before .before .before .before .start .ensures) (c .before .before .before .end .ensures)))
+    (term-falls (start .pre .1 .0 .table) (start .pre .1 .1) (c .before .before .before .before .before .start .ensures) (c .before .before .before .end .ensures) (start .pre .0), (ready-then (start .pre .1 .0) (walks-names (start .pre .1 .0) (steps-is (c .before .before .before .before .before .before .before .before .own .given .1) (c .before .before .before .before .before .before .before .before .before .before .before .before .before .before .gather-head .ensures .0))), references-of (start .pre .1 .0 .table) (start .pre .1 .1) (c .before .before .before .before .before .start .ensures) (c .before .before .before .end .ensures)))
 
 walk-term-enum-known-n : (t : ℕ) → walk-term-lts.Need-enum-known-n (term-claims t) (walk-term-at t) walk-term.Post
 walk-term-enum-known-n t c = c .match2 .keys1
@@ -178,16 +212,26 @@ walk-term-enum-told-2 : (t : ℕ) → walk-term-lts.Need-enum-told-2 (term-claim
 walk-term-enum-told-2 t c = c .match2 .keys2
 
 walk-term-returns-3 : (t : ℕ) → walk-term-lts.Need-returns-3 (term-claims t) (walk-term-at t) walk-term.Post
-walk-term-returns-3 t c = walks-term (c .before .before .before .before .before .before .before .before .before .before .before .before .before .before .before .before .before .before .before .before .before .before .before .before .before .before .before .before .before .before .before .before .before .before .pre .1 .0) (c .before .before .before .before .before .before .before .before .before .before .before .before .before .before .start .ensures) (c .before .before .before .before .before .before .before .before .before .before .before .before .end .ensures) (steps-is (c .before .before .before .before .before .before .before .before .before .before .before .before .before .before .before .before .before .own .given .1) (c .before .before .before .before .before .before .before .before .before .before .before .before .before .before .before .before .before .before .before .before .before .before .before .gather-head .ensures)) (walks-is (c .enum-told2 .given .1) (c .before .before .before .before .before .before .before .before .walk-list .ensures))
+walk-term-returns-3 t c =
+    let start = c .before .before .before .before .before .before .before .before .before .before .before .before .before .before .before .before .before .before .before .before .before .before .before .before .before .before .before .before .before .before .before .before .before .before in
+    let test = c .before .before .before .before .before .before .before .before .before .before .before .before .before .before .before .before .before .before .before .before .before .before .before .before .before .before .before in
+    let head = c .before .before .before .before .before .before .before .before .before .before .before .before .before .before .before .before .before .before .before .before .before .before .before in
+    let own = c .before .before .before .before .before .before .before .before .before .before .before .before .before .before .before .before .before in
+    let from = c .before .before .before .before .before .before .before .before .before .before .before .before .before .before in
+    let to = c .before .before .before .before .before .before .before .before .before .before .before .before in
+    let list = c .before .before .before .before .before .before .before .before in (
+      walks-term (start .pre .1 .0) (from .start .ensures) (to .end .ensures) (steps-is (own .own .given .1) (head .gather-head .ensures .0)) (walks-is (c .enum-told2 .given .1) (list .walk-list .ensures .0)),
+      follow-list-full (start .pre .1 .0) (start .pre .1 .1) (λ e. test .if1 .left (test .before .at .ensures ∙ e)) (from .start .ensures) (to .end .ensures) (follows-is (own .own .given .1) (head .gather-head .ensures .1)) (follows-is (c .enum-told2 .given .1) (list .walk-list .ensures .1)),
+    )
 
 walk-term-same-length-5 : (t : ℕ) → walk-term-lts.Need-same-length-5 (term-claims t) (walk-term-at t) walk-term.Post
-walk-term-same-length-5 t c = walk-term-returns-3 t c .steps .names-same .same-length
+walk-term-same-length-5 t c = walk-term-returns-3 t c .0 .steps .names-same .same-length
 
 walk-term-same-length-6 : (t : ℕ) → walk-term-lts.Need-same-length-6 (term-claims t) (walk-term-at t) walk-term.Post
-walk-term-same-length-6 t c = walk-term-returns-3 t c .rows-same .same-length
+walk-term-same-length-6 t c = walk-term-returns-3 t c .0 .rows-same .same-length
 
 walk-term-same-length-7 : (t : ℕ) → walk-term-lts.Need-same-length-7 (term-claims t) (walk-term-at t) walk-term.Post
-walk-term-same-length-7 t c = walk-term-returns-3 t c .steps .out-same .same-length
+walk-term-same-length-7 t c = walk-term-returns-3 t c .0 .steps .out-same .same-length
 
 walk-term-add-rows : (t : ℕ) → walk-term-lts.Need-add-rows (term-claims t) (walk-term-at t) walk-term.Post
 walk-term-add-rows t c =
@@ -207,16 +251,24 @@ walk-term-slice-write-rows t c =
 walk-term-returns-4 : (t : ℕ) → walk-term-lts.Need-returns-4 (term-claims t) (walk-term-at t) walk-term.Post
 walk-term-returns-4 t c =
     let start = c .before .before .before .before .before .before .before .before .before .before .before .before .before .before .before .before .before .before .before .before .before .before .before .before .before .before .before .before .before .before .before .before .before .before .before in
-    walks-marked (start .pre .1 .0) (start .pre .1 .1) (walks-term (start .pre .1 .0) (c .before .before .before .before .before .before .before .before .before .before .before .before .before .before .before .start .ensures) (c .before .before .before .before .before .before .before .before .before .before .before .before .before .end .ensures) (steps-is (c .before .before .before .before .before .before .before .before .before .before .before .before .before .before .before .before .before .before .own .given .1) (c .before .before .before .before .before .before .before .before .before .before .before .before .before .before .before .before .before .before .before .before .before .before .before .before .gather-head .ensures)) (walks-is (c .before .n .given .1) (c .before .before .before .before .before .before .before .before .before .walk-list .ensures)))
+    let test = c .before .before .before .before .before .before .before .before .before .before .before .before .before .before .before .before .before .before .before .before .before .before .before .before .before .before .before .before in
+    let head = c .before .before .before .before .before .before .before .before .before .before .before .before .before .before .before .before .before .before .before .before .before .before .before .before in
+    let own = c .before .before .before .before .before .before .before .before .before .before .before .before .before .before .before .before .before .before in
+    let from = c .before .before .before .before .before .before .before .before .before .before .before .before .before .before .before in
+    let to = c .before .before .before .before .before .before .before .before .before .before .before .before .before in
+    let list = c .before .before .before .before .before .before .before .before .before in (
+      walks-marked (start .pre .1 .0) (start .pre .1 .1) (walks-term (start .pre .1 .0) (from .start .ensures) (to .end .ensures) (steps-is (own .own .given .1) (head .gather-head .ensures .0)) (walks-is (c .before .n .given .1) (list .walk-list .ensures .0))),
+      follow-marked (start .pre .1 .0) (start .pre .1 .1) (λ e. test .if1 .left (test .before .at .ensures ∙ e)) (from .start .ensures) (to .end .ensures) (follows-is (own .own .given .1) (head .gather-head .ensures .1)) (follows-is (c .before .n .given .1) (list .walk-list .ensures .1)),
+    )
 
 walk-term-same-length-8 : (t : ℕ) → walk-term-lts.Need-same-length-8 (term-claims t) (walk-term-at t) walk-term.Post
-walk-term-same-length-8 t c = walk-term-returns-4 t c .steps .names-same .same-length
+walk-term-same-length-8 t c = walk-term-returns-4 t c .0 .steps .names-same .same-length
 
 walk-term-same-length-9 : (t : ℕ) → walk-term-lts.Need-same-length-9 (term-claims t) (walk-term-at t) walk-term.Post
-walk-term-same-length-9 t c = walk-term-returns-4 t c .rows-same .same-length
+walk-term-same-length-9 t c = walk-term-returns-4 t c .0 .rows-same .same-length
 
 walk-term-same-length-10 : (t : ℕ) → walk-term-lts.Need-same-length-10 (term-claims t) (walk-term-at t) walk-term.Post
-walk-term-same-length-10 t c = walk-term-returns-4 t c .steps .out-same .same-length
+walk-term-same-length-10 t c = walk-term-returns-4 t c .0 .steps .out-same .same-length
 
 pub +walk-list+walk-term-spec : {M : Type 1} → statement M
 +walk-list+walk-term-spec = close μ-walk-list μ-walk-term (λ t. walk-list-lts.spec (list-claims t)

@@ -1,13 +1,13 @@
--- `gather::gather_head` meets its contract: each way out is a law of Heads.antt.
+-- `gather::gather_head` meets its contract: each way out is a law of Heads.antt and one of Rendering.antt.
 use Rattle.gather.specs.Walks.{Heads}
 use Rattle.model.proofs.ListLaws.{true-T}
 use mathlib.Core.Bool.{Bool, not, false}
 use Rattle.gather.proofs.Heads.{head-none, head-excluded, head-there, head-over, head-added}
+use Rattle.gather.proofs.Rendering.{follow-none, follow-excluded, follow-found, follow-over, follow-added}
 use Rattle.terms.specs.Rows.{has-head, row-kind, row-head}
-use Rattle.gather.specs.Sets.{is-excluded}
+use Rattle.gather.specs.Sets.{is-excluded, name-mark}
 use borrow.Author.Tests.{not-true, not-false}
-use lib.ListN.{length, length-set}
-use Prim.Native.Nat.{ℕ, _≤_, _<_}
+use Prim.Native.Nat.{ℕ, _<_}
 use mathlib.Core.List.{List}
 use mathlib.Core.Path.{_≡_, sym, ap, _∙_}
 use native.Mathlib.Omega.{arith}
@@ -28,7 +28,8 @@ has-head-requires c κs = search needs
 returns : tie.Need-returns
 returns c =
     let start = c .before .before .before .before .before .before in
-    head-none (start .pre) (start .args .mark) (ap has-head (sym (c .before .before .kind .ensures)) ∙ sym (c .before .has-head .ensures) ∙ not-true _ (c .if1 .taken))
+    let none = ap has-head (sym (c .before .before .kind .ensures)) ∙ sym (c .before .has-head .ensures) ∙ not-true _ (c .if1 .taken) in
+    (head-none (start .pre) (start .args .mark) none, follow-none (start .pre) (start .args .mark) none)
 
 head-requires : tie.Need-head-requires
 head-requires c κs = search needs
@@ -48,7 +49,10 @@ same-length c = search needs
 returns-2 : tie.Need-returns-2
 returns-2 c =
     let start = c .before .before .before .before .before .before .before .before .before .before .before in
-    head-excluded (start .pre) (start .args .mark) _ (c .before .before .before .before .head .ensures) (ap is-excluded (sym (c .before .before .at .ensures)) ∙ sym (c .before .excluded .ensures) ∙ c .if2 .taken)
+    let is = c .before .before .before .before .head .ensures in
+    let headed = ap has-head (sym (c .before .before .before .before .before .before .before .kind .ensures)) ∙ sym (c .before .before .before .before .before .before .has-head .ensures) ∙ not-false _ (c .before .before .before .before .before .if1 .left) in
+    let out = ap is-excluded (sym (c .before .before .at .ensures)) ∙ sym (c .before .excluded .ensures) ∙ c .if2 .taken in
+    (head-excluded (start .pre) (start .args .mark) _ is out, follow-excluded (start .pre) (start .args .mark) _ is headed out)
 
 add-at-2 : tie.Need-add-at-2
 add-at-2 c = omega (arith, (head-is-small (c .before .before .before .before .before .before .before .before .before .before .before .before .pre) (c .before .before .before .before .before .before .before .before .kind .ensures) (c .before .before .before .before .before .before .before .has-head .ensures) (c .before .before .before .before .before .before .if1 .left) (c .before .before .before .before .before .head .ensures)))
@@ -62,7 +66,11 @@ same-length-2 c = search needs
 returns-3 : tie.Need-returns-3
 returns-3 c =
     let start = c .before .before .before .before .before .before .before .before .before .before .before .before .before .before in
-    head-there (start .pre) (start .args .mark) _ (c .before .before .before .before .before .before .before .head .ensures) (sym (c .before .at2 .ensures) ∙ c .if3 .taken)
+    let is = c .before .before .before .before .before .before .before .head .ensures in
+    let headed = ap has-head (sym (c .before .before .before .before .before .before .before .before .before .before .kind .ensures)) ∙ sym (c .before .before .before .before .before .before .before .before .before .has-head .ensures) ∙ not-false _ (c .before .before .before .before .before .before .before .before .if1 .left) in
+    let counted = ap is-excluded (sym (c .before .before .before .before .before .at .ensures)) ∙ sym (c .before .before .before .before .excluded .ensures) ∙ c .before .before .before .if2 .left in
+    let there = sym (c .before .at2 .ensures) ∙ c .if3 .taken in
+    (head-there (start .pre) (start .args .mark) _ is there, follow-found (start .pre) (start .args .mark) _ is headed counted there)
 
 same-length-3 : tie.Need-same-length-3
 same-length-3 c = search needs
@@ -70,7 +78,11 @@ same-length-3 c = search needs
 returns-4 : tie.Need-returns-4
 returns-4 c =
     let start = c .before .before .before .before .before .before .before .before .before .before .before .before .before .before .before in
-    head-over (start .pre) (start .args .mark) _ (c .before .before .before .before .before .before .before .before .head .ensures) (ap has-head (sym (c .before .before .before .before .before .before .before .before .before .before .before .kind .ensures)) ∙ sym (c .before .before .before .before .before .before .before .before .before .before .has-head .ensures) ∙ not-false _ (c .before .before .before .before .before .before .before .before .before .if1 .left)) (ap is-excluded (sym (c .before .before .before .before .before .before .at .ensures)) ∙ sym (c .before .before .before .before .before .excluded .ensures) ∙ c .before .before .before .before .if2 .left) (λ e. c .before .if3 .left (c .before .before .at2 .ensures ∙ e)) (c .if4 .taken)
+    let is = c .before .before .before .before .before .before .before .before .head .ensures in
+    let headed = ap has-head (sym (c .before .before .before .before .before .before .before .before .before .before .before .kind .ensures)) ∙ sym (c .before .before .before .before .before .before .before .before .before .before .has-head .ensures) ∙ not-false _ (c .before .before .before .before .before .before .before .before .before .if1 .left) in
+    let counted = ap is-excluded (sym (c .before .before .before .before .before .before .at .ensures)) ∙ sym (c .before .before .before .before .before .excluded .ensures) ∙ c .before .before .before .before .if2 .left in
+    let new : name-mark (start .args .names .now) (c .before .before .before .before .before .before .before .before .head .result) ≡ start .args .mark → ⊥ = λ e. c .before .if3 .left (c .before .before .at2 .ensures ∙ e) in
+    (head-over (start .pre) (start .args .mark) _ is headed counted new (omega arith), follow-over (start .pre) (start .args .mark) _ is headed counted new (omega arith))
 
 cast-out : tie.Need-cast-out
 cast-out c = omega (arith, (head-is-small (c .before .before .before .before .before .before .before .before .before .before .before .before .before .before .before .pre) (c .before .before .before .before .before .before .before .before .before .before .before .kind .ensures) (c .before .before .before .before .before .before .before .before .before .before .has-head .ensures) (c .before .before .before .before .before .before .before .before .before .if1 .left) (c .before .before .before .before .before .before .before .before .head .ensures)))
@@ -104,7 +116,11 @@ same-length-5 c = search needs
 returns-5 : tie.Need-returns-5
 returns-5 c =
     let start = c .before .before .before .before .before .before .before .before .before .before .before .before .before .before .before in
-    head-added (start .pre) (start .args .mark) _ (c .before .before .before .before .before .before .before .before .head .ensures) (ap has-head (sym (c .before .before .before .before .before .before .before .before .before .before .before .kind .ensures)) ∙ sym (c .before .before .before .before .before .before .before .before .before .before .has-head .ensures) ∙ not-false _ (c .before .before .before .before .before .before .before .before .before .if1 .left)) (ap is-excluded (sym (c .before .before .before .before .before .before .at .ensures)) ∙ sym (c .before .before .before .before .before .excluded .ensures) ∙ c .before .before .before .before .if2 .left) (λ e. c .before .if3 .left (c .before .before .at2 .ensures ∙ e)) (c .if4 .left)
+    let is = c .before .before .before .before .before .before .before .before .head .ensures in
+    let headed = ap has-head (sym (c .before .before .before .before .before .before .before .before .before .before .before .kind .ensures)) ∙ sym (c .before .before .before .before .before .before .before .before .before .before .has-head .ensures) ∙ not-false _ (c .before .before .before .before .before .before .before .before .before .if1 .left) in
+    let counted = ap is-excluded (sym (c .before .before .before .before .before .before .at .ensures)) ∙ sym (c .before .before .before .before .before .excluded .ensures) ∙ c .before .before .before .before .if2 .left in
+    let new : name-mark (start .args .names .now) (c .before .before .before .before .before .before .before .before .head .result) ≡ start .args .mark → ⊥ = λ e. c .before .if3 .left (c .before .before .at2 .ensures ∙ e) in
+    (head-added (start .pre) (start .args .mark) _ is headed counted new (c .if4 .left), follow-added (start .pre) (start .args .mark) _ is headed counted new (c .if4 .left))
 
 pub gather-head-spec : {M : Type 1} → statement M
 gather-head-spec =

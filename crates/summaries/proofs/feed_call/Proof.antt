@@ -1,5 +1,5 @@
 -- `summaries::feed_call` meets its contract.
-use Rattle.terms.proofs.Lines.{pushed-none}
+use Rattle.lines.proofs.Lines.{pushed-none}
 use Rattle.summaries.specs.Fed.{feed-refused}
 use Rattle.summaries.proofs.Laws.{reads-name, pushes-at, grows, feeds-name, rows-spelt}
 use borrow.Author.Needs.{needs}

@@ -1,6 +1,6 @@
 -- `summaries::feed_let` meets its contract.
 use native.Mathlib.Omega.{arith}
-use Rattle.terms.proofs.Lines.{pushed-none}
+use Rattle.lines.proofs.Lines.{pushed-none}
 use Rattle.summaries.specs.Fed.{term-refused}
 use Rattle.summaries.proofs.Laws.{pushes-at, grows}
 use borrow.Author.Needs.{needs}

@@ -1,6 +1,6 @@
 -- `summaries::feed_op` meets its contract.
 use mathlib.Core.Path.{sym, _∙_}
-use Rattle.terms.proofs.Lines.{pushed-none}
+use Rattle.lines.proofs.Lines.{pushed-none}
 use Rattle.text.proofs.Laws.{field-next}
 use Rattle.summaries.specs.Fed.{term-refused}
 use Rattle.summaries.proofs.Laws.{pushes-at, grows}

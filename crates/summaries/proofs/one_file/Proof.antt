@@ -1,7 +1,7 @@
 -- `summaries::one_file` is safe and ends.
 use native.Mathlib.Omega.{arith}
 use Rattle.names.proofs.Laws.{empty-table}
-use Rattle.terms.proofs.Adding.{empty-rows}
+use Rattle.terms.proofs.Table.{empty-rows}
 use Rattle.summaries.proofs.Laws.{zeros-long, zeros-fresh}
 use borrow.Author.Needs.{needs}
 use Rattle.summaries.proofs.one_file.Statement.{statement}

@@ -1,0 +1,4 @@
+pub mod Looking
+pub mod Meaning
+pub mod Counting
+pub mod Rules

@@ -1,0 +1,36 @@
+-- `rules::is_call` meets its contract: by the kind, then by the head's code.
+use Rattle.rules.proofs.Looking.{call-coded, call-other, call-small}
+use native.Mathlib.Omega.{arith}
+use Rattle.rules.proofs.is_call.Statement.{statement}
+use Rattle.rules.proofs.is_call.Tie as tie
+
+kind-requires : tie.Need-kind-requires
+kind-requires c κs = (c .before .before .pre .1, c .before .before .pre .2)
+
+returns : tie.Need-returns
+returns c =
+    let start = c .before .before .before .before in
+    call-other (start .args .names .now) (start .args .rows .now) (start .args .t) (start .args .code) (c .before .kind .ensures) (c .if1 .taken)
+
+head-requires : tie.Need-head-requires
+head-requires c κs =
+    let start = c .before .before .before .before in
+    (start .pre .1, start .pre .2)
+
+add-at : tie.Need-add-at
+add-at c =
+    let start = c .before .before .before .before .before in
+    omega (arith, call-small (start .args .rows .now) (start .args .t) (start .pre .3) (c .before .before .kind .ensures) (c .before .if1 .left) (c .head .ensures))
+
+at-requires : tie.Need-at-requires
+at-requires c κs =
+    let start = c .before .before .before .before .before in
+    omega (arith, call-small (start .args .rows .now) (start .args .t) (start .pre .3) (c .before .before .kind .ensures) (c .before .if1 .left) (c .head .ensures))
+
+returns-2 : tie.Need-returns-2
+returns-2 c =
+    let start = c .before .before .before .before .before .before in
+    call-coded (start .args .names .now) (start .args .rows .now) (start .args .t) (start .args .code) (c .before .before .before .kind .ensures) (c .before .before .if1 .left) (c .before .head .ensures) (c .at .ensures)
+
+pub is-call-spec : {M : Type 1} → statement M
+is-call-spec = tie.close (tie.spec kind-requires returns head-requires add-at at-requires returns-2)

@@ -1,0 +1,37 @@
+-- `rules::is_head` meets its contract: by the kind, then by the head's code.
+use Rattle.rules.proofs.Looking.{head-coded, head-other, head-small}
+use borrow.Author.Tests.{not-false, not-true}
+use native.Mathlib.Omega.{arith}
+use Rattle.rules.proofs.is_head.Statement.{statement}
+use Rattle.rules.proofs.is_head.Tie as tie
+
+has-head-requires : tie.Need-has-head-requires
+has-head-requires c κs = (c .before .before .pre .1, c .before .before .pre .2)
+
+returns : tie.Need-returns
+returns c =
+    let start = c .before .before .before .before in
+    head-other (start .args .names .now) (start .args .rows .now) (start .args .t) (start .args .code) (c .before .has-head .ensures) (not-true _ (c .if1 .taken))
+
+head-requires : tie.Need-head-requires
+head-requires c κs =
+    let start = c .before .before .before .before in
+    (start .pre .1, start .pre .2)
+
+add-at : tie.Need-add-at
+add-at c =
+    let start = c .before .before .before .before .before in
+    omega (arith, head-small (start .args .rows .now) (start .args .t) (start .pre .3) (c .before .before .has-head .ensures) (not-false _ (c .before .if1 .left)) (c .head .ensures))
+
+at-requires : tie.Need-at-requires
+at-requires c κs =
+    let start = c .before .before .before .before .before in
+    omega (arith, head-small (start .args .rows .now) (start .args .t) (start .pre .3) (c .before .before .has-head .ensures) (not-false _ (c .before .if1 .left)) (c .head .ensures))
+
+returns-2 : tie.Need-returns-2
+returns-2 c =
+    let start = c .before .before .before .before .before .before in
+    head-coded (start .args .names .now) (start .args .rows .now) (start .args .t) (start .args .code) (c .before .before .before .has-head .ensures) (not-false _ (c .before .before .if1 .left)) (c .before .head .ensures) (c .at .ensures)
+
+pub is-head-spec : {M : Type 1} → statement M
+is-head-spec = tie.close (tie.spec has-head-requires returns head-requires add-at at-requires returns-2)

@@ -1,0 +1,49 @@
+-- `rules::rule_8` meets its contract: an `eq` of two, then the name.
+use Rattle.model.specs.Names.{bytes}
+use Rattle.rules.proofs.Meaning.{eq-word, op-two-found, op-two-no, op-within}
+use Rattle.rules.proofs.Rules.{rule-8-holds, rule-8-name, rule-8-other}
+use Rattle.rules.specs.Choices.{Within}
+use borrow.Author.Needs.{needs}
+use borrow.Author.Tests.{not-false, not-true}
+use Rattle.rules.proofs.rule_8.Statement.{statement}
+use Rattle.rules.proofs.rule_8.Tie as tie
+
+op-two-requires : tie.Need-op-two-requires
+op-two-requires c κs =
+    let start = c .before .before .before .before in
+    (start .pre .0 .term-table, start .pre .2)
+
+enum-known-left : tie.Need-enum-known-left
+enum-known-left c = c .match .keys1
+
+enum-told : tie.Need-enum-told
+enum-told c = c .match .keys2
+
+returns : tie.Need-returns
+unfolding Within
+returns c =
+    let start = c .before .before .before .before .before .before .before in
+    (rule-8-other _ _ _ _ (op-two-no (start .pre .0) (start .pre .2) eq-word (c .before .before .op-two .ensures) (c .enum-told .given .1)), tt)
+
+slice-aggregate-name-starts : tie.Need-slice-aggregate-name-starts
+slice-aggregate-name-starts c = search needs
+
+name-starts-requires : tie.Need-name-starts-requires
+name-starts-requires c κs =
+    let start = c .before .before .before .before .before .before .before .before .before in
+    (start .pre .0 .name-table, start .pre .1)
+
+returns-2 : tie.Need-returns-2
+unfolding Within bytes
+returns-2 c =
+    let start = c .before .before .before .before .before .before .before .before .before .before .before in
+    (rule-8-name _ _ _ _ (op-two-found (start .pre .0) (start .pre .2) eq-word (c .before .before .before .before .before .before .op-two .ensures) (c .before .before .before .before .left .given .1)) (c .before .name-starts .ensures) (not-true _ (c .if1 .taken)), tt)
+
+returns-3 : tie.Need-returns-3
+unfolding Within bytes
+returns-3 c =
+    let start = c .before .before .before .before .before .before .before .before .before .before .before in
+    (rule-8-holds _ _ _ _ (op-two-found (start .pre .0) (start .pre .2) eq-word (c .before .before .before .before .before .before .op-two .ensures) (c .before .before .before .before .left .given .1)) (c .before .name-starts .ensures) (not-false _ (c .if1 .left)), op-within (start .pre .0 .term-table) (start .pre .2) 2 (c .before .before .before .before .before .before .op-two .ensures) (c .before .before .before .before .left .given .1) .0)
+
+pub rule-8-spec : {M : Type 1} → statement M
+rule-8-spec = tie.close (tie.spec op-two-requires enum-known-left enum-told returns slice-aggregate-name-starts name-starts-requires returns-2 returns-3)

@@ -1,0 +1,32 @@
+-- `rules::summarize_kind` meets its contract: by the number of groups.
+use Rattle.rules.proofs.Counting.{groups-ready, triggers-nil}
+use Rattle.rules.proofs.Rules.{kind-groups, kind-rules}
+use Rattle.rules.specs.Choices.{Within}
+use borrow.Author.Tests.{eq-eqb, ne-eqb}
+use mathlib.Core.Path.{_∙_, sym}
+use Rattle.rules.proofs.summarize_kind.Statement.{statement}
+use Rattle.rules.proofs.summarize_kind.Tie as tie
+
+group-count-requires : tie.Need-group-count-requires
+group-count-requires c κs =
+    let start = c .before .before .before .before in
+    groups-ready (start .pre .0 .term-table) (start .pre .2)
+
+maybe-add-ambient-requires : tie.Need-maybe-add-ambient-requires
+maybe-add-ambient-requires c κs =
+    let start = c .before .before .before .before .before .before in
+    (start .pre .0, start .pre .1, start .pre .2, sym (c .before .group-count .ensures) ∙ c .if1 .taken)
+
+returns : tie.Need-returns
+returns c =
+    let start = c .before .before .before .before .before .before .before in
+    (kind-rules _ _ _ _ (c .maybe-add-ambient .result) (triggers-nil (start .pre .0) (start .pre .2) ∙ eq-eqb _ 0 (sym (c .before .before .group-count .ensures) ∙ c .before .if1 .taken)) (c .maybe-add-ambient .ensures .0), c .maybe-add-ambient .ensures .1)
+
+returns-2 : tie.Need-returns-2
+unfolding Within
+returns-2 c =
+    let start = c .before .before .before .before .before .before in
+    (kind-groups _ _ _ _ (triggers-nil (start .pre .0) (start .pre .2) ∙ ne-eqb _ 0 (λ e. c .if1 .left (c .before .group-count .ensures ∙ e))), start .pre .2)
+
+pub summarize-kind-spec : {M : Type 1} → statement M
+summarize-kind-spec = tie.close (tie.spec group-count-requires maybe-add-ambient-requires returns returns-2)

@@ -1,0 +1,255 @@
+-- The groups of an `all` filed one after the other, and the triggers of the terms of a list.
+use Prim.Native.Nat.{ℕ, zero, suc, _+_, _-_, _%_, _≤_, _<_}
+use native.Mathlib.Omega.{arith}
+use mathlib.Core.Path.{_≡_, refl, sym, ap, ap₂, _∙_}
+use mathlib.Core.Bool.{true, false}
+use mathlib.Core.List.{List, [], _∷_, _++_, map, map-append, append-nil}
+use lib.ListN.{length, getD, length-append}
+use Rattle.model.specs.Lists.{collect, is-nil}
+use Rattle.model.specs.Names.{Name}
+use Rattle.model.specs.Summaries.{exclude-names, group-names, triggers-of-term, is-empty}
+use Rattle.model.proofs.ListLaws.{collect-append}
+use Rattle.terms.specs.Rows.{row-start, row-end, words, terms-of-words, group-of-words, groups-of-words, group-run, terms-of, bare-of, groups-at, Rows}
+use Rattle.terms.proofs.Table.{words-nil, words-snoc}
+use Rattle.terms.proofs.Groups.{Before, group-first, group-next, group-place, group-last, words-split}
+use Rattle.gather.specs.Sets.{Same-but, Fresh, Gathers, all-names, no-room}
+use Rattle.gather.specs.declared.Walked.{Walked}
+use Rattle.gather.specs.declared.Walked.the-variants as gathered
+use Rattle.gather.proofs.Steps.{same-self}
+use Rattle.triggers.specs.declared.Filed.{Filed}
+use Rattle.triggers.specs.declared.Filed.the-variants as filed
+use Rattle.triggers.specs.Entries.{entries, Opened}
+use Rattle.triggers.specs.Inner.{Stage, Put, Comes}
+use Rattle.triggers.proofs.Disjuncts.{entries-append}
+use Rattle.triggers.proofs.Marked.{terms-marked, fresh-later, bare-below, All, patterns, triggers-all, triggers-none, groups-more, groups-fewer}
+use Rattle.triggers.proofs.Front.{put-nothing}
+use Rattle.triggers.proofs.Filing.{after, after-full, after-sets, comes-as, comes-is, comes-more, comes-next, comes-none}
+
+-- a term of the table is within the rows
+pub term-small : {refs rows : List ℕ} {used many named : ℕ} → Rows refs rows used many named → (t : ℕ) → t < many → (16384 ≤ length rows) × (t < 4096) × (bare-of rows t < 4096)
+term-small r t l = (r .row-room, omega (arith, r .few-rows), omega (arith, r .few-rows, bare-below r t l))
+
+-- so is the term under its labels
+pub bare-small : {refs rows : List ℕ} {used many named u : ℕ} → Rows refs rows used many named → (t : ℕ) → t < many → u ≡ bare-of rows t → (16384 ≤ length rows) × (u < many) × (many ≤ 4096)
+bare-small r t l e = (r .row-room, omega (arith, bare-below r t l), r .few-rows)
+
+-- where the references of a row start is within them
+pub start-small : {refs rows : List ℕ} {used many named v w : ℕ} → Rows refs rows used many named → w ≡ row-start rows v → v < many → w ≤ 16384
+start-small {v = v} r q l = omega (arith, r .in-order v l, r .in-use v l, r .few-references)
+
+-- ---- the groups of an `all`
+
+module _ {refs rows : List ℕ} {used many named t groups u e : ℕ} (r : Rows refs rows used many named) (all : All refs rows used many t groups u e) where
+  -- the names of a group
+  abbrev names-of : (ℕ → Name) → List ℕ → List Name
+  names-of name = group-names exclude-names (terms-of name refs rows used many)
+
+  -- the references of the groups are in use
+  pub groups-asks : {g a : ℕ} → Before refs (row-start rows u + 1) (row-end rows used many u) g a → (a ≤ e) × (e ≤ length refs)
+  groups-asks b = (omega (arith, all .ends, b .high), omega (arith, all .ends, r .in-use u (all .lower), r .few-references, r .ref-room))
+
+  -- before the first group stands the body
+  pub groups-first : {a w : ℕ} → w ≡ row-start rows u → a ≡ w + 1 → Before refs (row-start rows u + 1) (row-end rows used many u) 0 a
+  groups-first p q = rw (q, p) (group-first r (all .lower) (all .quantifier))
+
+  -- after the last group the references end
+  groups-last : {g p : ℕ} → g ≡ groups → Before refs (row-start rows u + 1) (row-end rows used many u) g p → p ≡ e
+  groups-last q b = group-last r (all .lower) (all .quantifier) (rw (q ∙ all .counted) at b) ∙ sym (all .ends)
+
+  module _ {g a b : ℕ} (before : Before refs (row-start rows u + 1) (row-end rows used many u) g a) (run : b ≡ a + group-run g (words refs a e)) where
+    -- the end of the group's references
+    run-is : b ≡ a + group-run g (words refs a (row-end rows used many u))
+    run-is = run ∙ ap (λ k. a + group-run g (words refs a k)) (all .ends)
+
+    -- after the group stand the references of the next
+    pub groups-next : Before refs (row-start rows u + 1) (row-end rows used many u) (g + 1) b
+    groups-next = rw run-is (group-next r (all .lower) (all .quantifier) before)
+
+    -- the group's references are in use
+    pub group-asks : (a ≤ b) × (b ≤ used) × ((i : ℕ) → a ≤ i → i < b → getD refs i 0 % 4096 < many)
+    group-asks =
+        let lo = before .low in
+        let hi = groups-next .high in
+        let few = all .lower in
+        (omega arith, omega (arith, r .in-use u few), λ i x y. omega (arith, r .lower u i few (omega arith) (omega arith)))
+
+    -- the terms of the group
+    group-terms : terms-of-words (words refs a b) ≡ group-of-words (patterns refs rows used many u) g
+    group-terms = rw run-is (group-place r (all .lower) (all .quantifier) before)
+
+    -- the group filed after those before it
+    pub groups-then : {names out names₁ rows₁ out₁ names₂ rows₂ out₂ : List ℕ} {mark at end : ℕ} {f : Filed} → 8192 ≤ length out
+        → Comes names rows out names₁ rows₁ out₁ named mark at (λ name. map (names-of name) (groups-of-words (patterns refs rows used many u) g)) (filed.Sets g end)
+        → Comes names₁ rows₁ out₁ names₂ rows₂ out₂ named (mark + (end - at)) end (λ name. group-names exclude-names (terms-of name refs rows₁ used many) (terms-of-words (words refs a b)) ∷ []) f
+        → Comes names rows out names₂ rows₂ out₂ named mark at (λ name. map (names-of name) (groups-of-words (patterns refs rows used many u) (g + 1))) (after g f)
+    groups-then long c d = comes-next _ _ _ (r .few-names) long (λ name.
+        ap (λ x. map (names-of name) (groups-of-words (patterns refs rows used many u) g) ++ (x ∷ [])) (ap₂ (group-names exclude-names) (terms-marked name (c .filled .rows-same) r) group-terms)
+        ∙ groups-more (names-of name) (patterns refs rows used many u) g) c d
+
+  module _ {names out names₁ rows₁ out₁ : List ℕ} {mark at : ℕ} (l : t < many) where
+    -- where a group has no room there is none for all
+    pub groups-full : {g : ℕ} {f : Filed} → g < groups → f ≡ filed.Full
+        → Comes names rows out names₁ rows₁ out₁ named mark at (λ name. map (names-of name) (groups-of-words (patterns refs rows used many u) (g + 1))) (after g f)
+        → Comes names rows out names₁ rows₁ out₁ named mark at (λ name. triggers-of-term exclude-names (terms-of name refs rows used many) t) filed.Full
+    groups-full {g} h e c = comes-as (triggers-all r l all) (comes-more (λ name. groups-fewer (names-of name) (patterns refs rows used many u) (g + 1) groups (omega arith)) (comes-is (after-full g e) c))
+
+    -- all groups are the triggers
+    pub groups-done : {g end : ℕ} → g ≤ groups → groups ≤ g
+        → Comes names rows out names₁ rows₁ out₁ named mark at (λ name. map (names-of name) (groups-of-words (patterns refs rows used many u) g)) (filed.Sets g end)
+        → Comes names rows out names₁ rows₁ out₁ named mark at (λ name. triggers-of-term exclude-names (terms-of name refs rows used many) t) (filed.Sets groups end)
+    groups-done {g} {end} h k c =
+        let q : g ≡ groups = omega arith in
+        comes-as (λ name. ap (λ n. map (names-of name) (groups-of-words (patterns refs rows used many u) n)) q ∙ triggers-all r l all name) (comes-is (ap (λ n. filed.Sets n end) q) c)
+
+-- one group more, with its answer
+pub groups-again : {names rows out names₁ rows₁ out₁ : List ℕ} {named mark at k e : ℕ} {f : Filed} {s : (ℕ → Name) → List (List Name)} (g : ℕ) → f ≡ filed.Sets k e → k ≡ 1
+    → Comes names rows out names₁ rows₁ out₁ named mark at s (after g f) → Comes names rows out names₁ rows₁ out₁ named mark at s (filed.Sets (g + 1) e)
+groups-again {k = k} {e = e} g p q c = comes-is (after-sets g k e (g + 1) p (omega arith)) c
+
+-- before the first group nothing is filed
+pub groups-start : {rows names out : List ℕ} {named mark at : ℕ} (f : (ℕ → Name) → List ℕ → List Name) (ws : List ℕ) → Stage names rows out mark at 8192
+    → Comes names rows out names rows out named mark at (λ name. map (f name) (groups-of-words ws 0)) (filed.Sets 0 at)
+unfolding groups-of-words
+groups-start f ws h = comes-none (h .low) (h .fresh)
+
+-- a term without groups files nothing
+pub groups-none : {refs rows names out : List ℕ} {used many named mark at t groups : ℕ} → Rows refs rows used many named → t < many → groups ≡ groups-at rows t → groups ≡ 0 → Stage names rows out mark at 8192
+    → Comes names rows out names rows out named mark at (λ name. triggers-of-term exclude-names (terms-of name refs rows used many) t) (filed.Sets 0 at)
+groups-none r l c z h = comes-as (λ name. sym (triggers-none r l c z name)) (comes-none (h .low) (h .fresh))
+
+-- ---- the terms of a list
+
+-- the triggers of the terms up to a place and of the term there
+list-more : {A : Type 0} (f : ℕ → List A) (refs : List ℕ) (a i t : ℕ) → a ≤ i → i < length refs → t ≡ getD refs i 0 % 4096
+    → collect f (terms-of-words (words refs a i)) ++ f t ≡ collect f (terms-of-words (words refs a (i + 1)))
+unfolding terms-of-words collect
+list-more f refs a i t h l e = rw (words-snoc refs a i h l, map-append, collect-append, e, append-nil)
+
+-- the triggers of fewer terms take no more entries
+list-fewer : (f : ℕ → List (List Name)) (refs : List ℕ) (a i e : ℕ) → a ≤ i → i ≤ e → e ≤ length refs → entries (collect f (terms-of-words (words refs a i))) ≤ entries (collect f (terms-of-words (words refs a e)))
+unfolding terms-of-words
+list-fewer f refs a i e h k l =
+    rw (words-split refs (i - a) a i e refl h k l, map-append, collect-append)
+    (omega (arith, entries-append (collect f (map (λ w. w % 4096) (words refs a i))) (collect f (map (λ w. w % 4096) (words refs i e)))))
+
+-- no term has no trigger
+list-none : {A : Type 0} (f : ℕ → List A) (refs : List ℕ) (a i : ℕ) → i ≡ a → [] ≡ collect f (terms-of-words (words refs a i))
+unfolding terms-of-words collect
+list-none f refs a i q = rw (words-nil refs a i (omega arith))
+
+module _ {refs rows names out : List ℕ} {used many named mark at a e : ℕ} (r : Rows refs rows used many named) (h : Stage names rows out mark at 8192) (in-use : e ≤ used) where
+  -- no term files nothing
+  pub list-start : {i : ℕ} → i ≡ a → Comes names rows out names rows out named mark at (λ name. collect (triggers-of-term exclude-names (terms-of name refs rows used many)) (terms-of-words (words refs a i))) (filed.Sets 0 at)
+  list-start {i} q = comes-as (λ name. list-none (triggers-of-term exclude-names (terms-of name refs rows used many)) refs a i q) (comes-none (h .low) (h .fresh))
+
+  module _ {names₁ rows₁ out₁ names₂ rows₂ out₂ : List ℕ} {count end i t : ℕ} {f : Filed} (low : a ≤ i) (high : i < e) (is : t ≡ getD refs i 0 % 4096)
+      (c : Comes names rows out names₁ rows₁ out₁ named mark at (λ name. collect (triggers-of-term exclude-names (terms-of name refs rows used many)) (terms-of-words (words refs a i))) (filed.Sets count end))
+      (d : Comes names₁ rows₁ out₁ names₂ rows₂ out₂ named (mark + (end - at)) end (λ name. triggers-of-term exclude-names (terms-of name refs rows₁ used many) t) f) where
+    -- the term's after those before it
+    list-then : Comes names rows out names₂ rows₂ out₂ named mark at (λ name. collect (triggers-of-term exclude-names (terms-of name refs rows used many)) (terms-of-words (words refs a (i + 1)))) (after count f)
+    list-then = comes-next _ _ _ (r .few-names) (h .high) (λ name.
+        ap (λ ts. collect (triggers-of-term exclude-names (terms-of name refs rows used many)) (terms-of-words (words refs a i)) ++ triggers-of-term exclude-names ts t) (terms-marked name (c .filled .rows-same) r)
+        ∙ list-more (triggers-of-term exclude-names (terms-of name refs rows used many)) refs a i t low (omega (arith, r .few-references, r .ref-room)) is) c d
+
+    -- where there is no room for them there is none for all
+    pub list-full : f ≡ filed.Full → Comes names rows out names₂ rows₂ out₂ named mark at (λ name. collect (triggers-of-term exclude-names (terms-of name refs rows used many)) (terms-of-words (words refs a e))) filed.Full
+    list-full q = comes-more (λ name. list-fewer (triggers-of-term exclude-names (terms-of name refs rows used many)) refs a (i + 1) e (omega arith) (omega arith) (omega (arith, r .few-references, r .ref-room))) (comes-is (after-full count q) list-then)
+
+    -- the triggers up to the next place
+    pub list-next : {k m : ℕ} → f ≡ filed.Sets k m → Comes names rows out names₂ rows₂ out₂ named mark at (λ name. collect (triggers-of-term exclude-names (terms-of name refs rows used many)) (terms-of-words (words refs a (i + 1)))) (filed.Sets (count + k) m)
+    list-next {k} {m} q = comes-is (after-sets count k m (count + k) q refl) list-then
+
+  -- the triggers up to the end
+  pub list-done : {names₁ rows₁ out₁ : List ℕ} {i : ℕ} {f : Filed} → a ≤ i → i ≤ e → e ≤ i
+      → Comes names rows out names₁ rows₁ out₁ named mark at (λ name. collect (triggers-of-term exclude-names (terms-of name refs rows used many)) (terms-of-words (words refs a i))) f
+      → Comes names rows out names₁ rows₁ out₁ named mark at (λ name. collect (triggers-of-term exclude-names (terms-of name refs rows used many)) (terms-of-words (words refs a e))) f
+  list-done {i = i} k x y c =
+      let q : i ≡ e = omega arith in
+      rw q at c
+
+-- ---- a term without a trigger
+
+-- how many triggers there are
+triggers-length : (f : List ℕ → List Name) (ws : List ℕ) (g : ℕ) → length (map f (groups-of-words ws g)) ≡ g
+unfolding groups-of-words
+triggers-length f ws zero = refl
+triggers-length f ws (suc g) = rw (map-append, length-append, triggers-length f ws g) (omega arith)
+
+-- two disjuncts and more are not empty
+empty-many : (l : List (List Name)) → (length l ≡ 0 → ⊥) → (length l ≡ 1 → ⊥) → false ≡ is-empty l
+unfolding is-empty
+empty-many [] a b = absurd (a refl)
+empty-many (x ∷ []) a b = absurd (b refl)
+empty-many (x ∷ y ∷ l) a b = refl
+
+-- one is where its set is
+empty-nil : (s : List Name) → length s ≡ 0 → true ≡ is-empty (s ∷ [])
+unfolding is-empty is-nil
+empty-nil [] e = refl
+empty-nil (x ∷ s) e = absurd (let z : ⊥ = omega arith in z)
+
+-- and is not where its set is not
+empty-some : (s : List Name) → 0 < length s → false ≡ is-empty (s ∷ [])
+unfolding is-empty is-nil
+empty-some [] h = absurd (let z : ⊥ = omega arith in z)
+empty-some (x ∷ s) h = refl
+
+-- no trigger is empty
+pub empty-none : {refs rows : List ℕ} {used many named t groups : ℕ} → Rows refs rows used many named → t < many → groups ≡ groups-at rows t → groups ≡ 0
+    → (name : ℕ → Name) → true ≡ is-empty (triggers-of-term exclude-names (terms-of name refs rows used many) t)
+unfolding is-empty
+empty-none r l c z name = rw (triggers-none r l c z name)
+
+module _ {refs rows : List ℕ} {used many named t groups u e : ℕ} (r : Rows refs rows used many named) (l : t < many) (all : All refs rows used many t groups u e) where
+  -- two groups and more are not empty
+  pub empty-more : (groups ≡ 0 → ⊥) → (groups ≡ 1 → ⊥) → (name : ℕ → Name) → false ≡ is-empty (triggers-of-term exclude-names (terms-of name refs rows used many) t)
+  empty-more a b name = rw (← (triggers-all r l all name)) (empty-many (map (group-names exclude-names (terms-of name refs rows used many)) (groups-of-words (patterns refs rows used many u) groups))
+      (λ q. a (sym (triggers-length (group-names exclude-names (terms-of name refs rows used many)) (patterns refs rows used many u) groups) ∙ q))
+      (λ q. b (sym (triggers-length (group-names exclude-names (terms-of name refs rows used many)) (patterns refs rows used many u) groups) ∙ q)))
+
+  module _ {w : ℕ} (one : groups ≡ 1) (starts : w ≡ row-start rows u) where
+    -- the references of one group are all that stand after the body
+    pub single-asks : (w + 1 ≤ e) × (e ≤ used) × ((i : ℕ) → w + 1 ≤ i → i < e → getD refs i 0 % 4096 < many)
+    single-asks =
+        let b = groups-first r all starts refl in
+        let few = all .lower in
+        (groups-asks r all b .0, omega (arith, all .ends, r .in-use u few), λ i x y. omega (arith, all .ends, r .lower u i few (omega arith) (omega (arith, all .ends))))
+
+    -- they are the one trigger
+    pub single-trigger : (name : ℕ → Name) → triggers-of-term exclude-names (terms-of name refs rows used many) t ≡ group-names exclude-names (terms-of name refs rows used many) (terms-of-words (words refs (w + 1) e)) ∷ []
+    unfolding groups-of-words
+    single-trigger name =
+        let b = groups-first r all starts refl in
+        let last : w + 1 + group-run 0 (words refs (w + 1) e) ≡ e = groups-last r all (sym one) (groups-next r all b refl) in
+        sym (triggers-all r l all name)
+        ∙ ap (λ g. map (group-names exclude-names (terms-of name refs rows used many)) (groups-of-words (patterns refs rows used many u) g)) one
+        ∙ ap (λ ts. group-names exclude-names (terms-of name refs rows used many) ts ∷ []) (sym (group-terms r all b (sym last)))
+
+    -- a gathered set that has no name is empty, and one that has no room is not
+    pub single-empty : {name : ℕ → Name} {at n : ℕ} {out : List ℕ} {f : Walked} → f ≡ gathered.Names n → Gathers name named (group-names exclude-names (terms-of name refs rows used many) (terms-of-words (words refs (w + 1) e))) at at out f
+        → true ≡ is-empty (triggers-of-term exclude-names (terms-of name refs rows used many) t)
+    single-empty {name} p g = rw (single-trigger name) (empty-nil _ (none (rw p at g)))
+      where
+        none : {name : ℕ → Name} {s : List Name} {at n : ℕ} {out : List ℕ} → Gathers name named s at at out (gathered.Names n) → length s ≡ 0
+        none (all-names is count fits small) = omega arith
+
+    -- the other answer
+    pub single-full : {name : ℕ → Name} {at : ℕ} {out : List ℕ} {f : Walked} → f ≡ gathered.Full → Gathers name named (group-names exclude-names (terms-of name refs rows used many) (terms-of-words (words refs (w + 1) e))) at at out f
+        → false ≡ is-empty (triggers-of-term exclude-names (terms-of name refs rows used many) t)
+    single-full {name} p g = rw (single-trigger name) (empty-some _ (some (rw p at g)))
+      where
+        some : {name : ℕ → Name} {s : List Name} {at : ℕ} {out : List ℕ} → Gathers name named s at at out gathered.Full → 0 < length s
+        some (no-room h f) = omega arith
+
+-- tables that nothing was marked in
+pub tables-kept : (names rows : List ℕ) (mark : ℕ) → Fresh names rows mark → Same-but 8192 2048 names names × Same-but 12288 4096 rows rows × Fresh names rows (mark + 1)
+tables-kept names rows mark f = (same-self 8192 2048 names, same-self 12288 4096 rows, fresh-later mark (mark + 1) (omega arith) f)
+
+-- tables that one set was marked in
+pub tables-put : {names rows out names′ rows′ out′ : List ℕ} {mark at : ℕ} {r : Walked} → Put names rows out names′ rows′ out′ mark at at r
+    → (Same-but 8192 2048 names names′ × Same-but 12288 4096 rows rows′ × Fresh names′ rows′ (mark + 1)) × (out′ ≡ out)
+tables-put p = ((p .names-same, p .rows-same, p .fresh), put-nothing p)
+
+-- gathering without room asks less than filing
+pub opened-still : {names rows out : List ℕ} {mark at : ℕ} → Opened names rows out mark at → Stage names rows out mark at at
+opened-still h = record { name-room = h .name-room; fresh = h .fresh; low = omega arith; high = omega (arith, h .low, h .high); few-marks = omega (arith, h .few-marks) }

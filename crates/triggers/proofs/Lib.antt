@@ -1,0 +1,5 @@
+pub mod Disjuncts
+pub mod Marked
+pub mod Front
+pub mod Filing
+pub mod Grouping

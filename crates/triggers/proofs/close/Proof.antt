@@ -1,0 +1,71 @@
+-- `triggers::close` meets its contract.
+use native.Mathlib.Omega.{arith}
+use borrow.Author.Needs.{needs}
+use Rattle.triggers.proofs.Filing.{close-last, close-empty, close-over}
+use Rattle.triggers.proofs.close.Statement.{statement}
+use Rattle.triggers.proofs.close.Tie as tie
+
+sub-at : tie.Need-sub-at
+sub-at c = omega arith
+
+at-requires : tie.Need-at-requires
+at-requires c κs = omega arith
+
+add-out : tie.Need-add-out
+add-out c = omega (arith, c .before .before .before .before .pre .3 (c .before .before .if1 .taken), c .at .ensures)
+
+cast-out : tie.Need-cast-out
+cast-out c = omega (arith, c .before .before .before .before .pre .3 (c .before .before .if1 .taken), c .at .ensures)
+
+sub-out : tie.Need-sub-out
+sub-out c = omega arith
+
+mul-out : tie.Need-mul-out
+mul-out c = omega arith
+
+slice-write-out : tie.Need-slice-write-out
+slice-write-out c = omega arith
+
+returns : tie.Need-returns
+returns c = close-last (c .before .before .if1 .taken) (c .at .ensures)
+
+same-length : tie.Need-same-length
+same-length c = search needs
+
+returns-2 : tie.Need-returns-2
+returns-2 c = close-over (c .before .before .before .pre .0) (c .before .if1 .left) (c .if2 .taken)
+
+mul-out-2 : tie.Need-mul-out-2
+mul-out-2 c = omega arith
+
+slice-write-out-2 : tie.Need-slice-write-out-2
+slice-write-out-2 c = omega arith
+
+add-t13 : tie.Need-add-t13
+add-t13 c = omega arith
+
+returns-3 : tie.Need-returns-3
+returns-3 c = close-empty (c .before .before .before .pre .0) (c .before .if1 .left) (c .if2 .left)
+
+same-length-2 : tie.Need-same-length-2
+same-length-2 c = search needs
+
+pub close-spec : {M : Type 1} → statement M
+close-spec =
+    tie.close
+    (tie.spec
+    sub-at
+    at-requires
+    add-out
+    cast-out
+    sub-out
+    mul-out
+    slice-write-out
+    same-length
+    returns
+    returns-2
+    mul-out-2
+    slice-write-out-2
+    add-t13
+    same-length-2
+    returns-3)
