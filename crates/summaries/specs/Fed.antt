@@ -20,7 +20,7 @@ use Rattle.summaries.specs.declared.Word.the-variants as word
 
 -- ---- names
 
--- a name table with at most one name more and the same marks, and a name's number in it
+-- a name table with no fewer names and the same marks, and the number of a name in it
 pub record Spelt (file names names′ : List ℕ) (named named′ n : ℕ) : Type 0 where
   pub table : Table file names′ named′
   pub more : named ≤ named′
