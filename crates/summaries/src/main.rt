@@ -7,6 +7,9 @@ use libc::STDOUT_FILENO;
 use lines::Added;
 use model::AsumKind;
 use names::Spelled;
+use summary::Limit;
+use summary::Summarized;
+use summary::Summary;
 use text::Cursor;
 use text::FieldStep;
 use text::NumberStep;
@@ -463,6 +466,134 @@ fn put_kind(kind: AsumKind) {
     }
 }
 
+// Prints a summary of the fact on a line; the entries and the uses before it are `entries` and `uses`.
+fn put_summary(
+    file: &[u8],
+    names: &[u32],
+    out: &[u32],
+    line: usize,
+    entries: usize,
+    uses: usize,
+    s: Summary,
+)
+    requires { ⌜ Table (now file) (now names) (s .named) × (16384 ≤ length (now out)) × (entries ≤ 2048) × (s .entries ≤ 2048) × (s .uses ≤ 6144) ⌝ }
+{
+    let filed = s.entries;
+    let used = s.uses;
+    let named = s.named;
+    let kind = s.kind;
+    put(b"fact,");
+    put_number(line);
+    put_kind(kind);
+    put_disjuncts(file, names, out, named, 6144 + entries, 6144 + filed);
+    put(b" free=");
+    put_set(file, names, out, named, uses, used);
+    put(b"\n");
+}
+
+// Prints the limit that a fact passes.
+fn put_limit(limit: Limit) {
+    match limit {
+        Limit::Names => {
+            put(b"names,");
+        }
+        Limit::Entries => {
+            put(b"entries,");
+        }
+        Limit::Uses => {
+            put(b"uses,");
+        }
+    }
+}
+
+// Summarises the fact of a name and a term, and prints the summary.
+fn feed_fact(
+    file: &[u8],
+    names: &mut [u32],
+    refs: &[u32],
+    rows: &mut [u32],
+    out: &mut [u32],
+    k: Counts,
+    line: usize,
+    name: usize,
+    t: usize,
+) -> Fed
+    requires { ⌜ Ready (now file) (now names) (now refs) (now rows) k line × (16384 ≤ length (now out)) × (line ≤ 65535) × (name < k .named) × (t < k .many) ⌝ }
+    ensures { λ r. ⌜ Goes (now (file .entry)) (now (names .exit)) (now (refs .entry)) (now (rows .exit)) line r ⌝ }
+{
+    let named = k.named;
+    let used = k.used;
+    let many = k.many;
+    let entries = k.entries;
+    let uses = k.uses;
+    let mark = k.mark;
+    match summary::summarize_assumption(
+        file,
+        names,
+        refs,
+        rows,
+        out,
+        named,
+        used,
+        many,
+        name,
+        t,
+        mark,
+        entries,
+        uses,
+    ) {
+        Summarized::Done(s) => {
+            put_summary(file, names, out, line, entries, uses, s);
+            Fed::On(Counts {
+                named: s.named,
+                used,
+                many,
+                entries: s.entries,
+                uses: s.uses,
+                mark: s.mark,
+            })
+        }
+        Summarized::Over(limit) => {
+            put_limit(limit);
+            Fed::Stop
+        }
+    }
+}
+
+// Feeds an `assume`, from its name on.
+fn feed_assume(
+    file: &[u8],
+    names: &mut [u32],
+    refs: &[u32],
+    rows: &mut [u32],
+    out: &mut [u32],
+    k: Counts,
+    line: usize,
+    c: Cursor,
+) -> Fed
+    requires { ⌜ Ready (now file) (now names) (now refs) (now rows) k line × (16384 ≤ length (now out)) × (line ≤ 65535) × Placed (now file) c ⌝ }
+    ensures { λ r. ⌜ Goes (now (file .entry)) (now (names .exit)) (now (refs .entry)) (now (rows .exit)) line r ⌝ }
+{
+    let Word::Name(name, named, next) = read_name(file, names, k.named, c) else {
+        return Fed::Stop;
+    };
+    let NumberStep::Number(_, after) = next.number(file, 1) else {
+        return Fed::Stop;
+    };
+    let NumberStep::Number(t, _) = after.term(file, k.many as u32) else {
+        return Fed::Stop;
+    };
+    let known = Counts {
+        named,
+        used: k.used,
+        many: k.many,
+        entries: k.entries,
+        uses: k.uses,
+        mark: k.mark,
+    };
+    feed_fact(file, names, refs, rows, out, known, line, name, t as usize)
+}
+
 // Feeds a line, from the field after its kind on; `a` up to `e` is the kind. Records other than facts are left out.
 fn feed_line(
     file: &[u8],
@@ -479,6 +610,9 @@ fn feed_line(
     requires { ⌜ Ready (now file) (now names) (now refs) (now rows) k line × (16384 ≤ length (now out)) × (line ≤ 65535) × (a ≤ e) × (e ≤ length (now file)) × Placed (now file) c ⌝ }
     ensures { λ r. ⌜ Goes (now (file .entry)) (now (names .exit)) (now (refs .exit)) (now (rows .exit)) line r ⌝ }
 {
+    if text::same_text(file, a, e, b"assume") {
+        return feed_assume(file, names, refs, rows, out, k, line, c);
+    }
     feed_term(file, names, refs, rows, k, a, e, c)
 }
 
