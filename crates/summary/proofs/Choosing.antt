@@ -1,0 +1,190 @@
+-- Filing what a choice says.
+use Prim.Native.Nat.{ℕ, _+_, _-_, _≤_, _<_}
+use native.Mathlib.Omega.{arith}
+use mathlib.Core.Path.{_≡_, refl, sym, ap, _∙_}
+use mathlib.Core.Bool.{Bool, true, false, cond}
+use mathlib.Core.List.{List, [], _∷_}
+use mathlib.Core.Option.{Option, none, some}
+use lib.ListN.{length, getD}
+use Rattle.model.specs.Lists.{fold-left}
+use Rattle.model.specs.Names.{Name}
+use Rattle.model.specs.Terms.{Term}
+use Rattle.model.specs.Reading.{spell}
+use Rattle.model.specs.Summaries.{Kinded, Sum-drop, Sum-ambient, Sum-triggers, exclude-names, is-empty, free-top-level-names, triggers-of-term, token-triggers}
+use Rattle.model.specs.declared.AsumKind.{AsumKind}
+use Rattle.model.specs.declared.AsumKind.the-variants as asum
+use Rattle.names.specs.Table.{Table, name-of, names-of}
+use Rattle.names.proofs.Laws.{names-length}
+use Rattle.terms.specs.Rows.{words, terms-of, Rows}
+use Rattle.terms.proofs.Table.{terms-named}
+use Rattle.gather.specs.Sets.{Fresh, Same-but, Named}
+use Rattle.gather.proofs.Steps.{same-self, same-back}
+use Rattle.triggers.specs.Entries.{Files, Filled}
+use Rattle.triggers.specs.declared.Filed.{Filed}
+use Rattle.triggers.proofs.Marked.{named-marked, fresh-later}
+use Rattle.rules.specs.Views.{Tables, terms-in}
+use Rattle.rules.specs.Choices.{kinded, Within}
+use Rattle.rules.specs.declared.Choice.{Choice}
+use Rattle.rules.specs.declared.Choice.the-variants as choice
+use Rattle.summary.specs.Facts.{token-table, trimmed-table}
+use Rattle.summary.specs.declared.Sorted.{Sorted}
+use Rattle.summary.specs.declared.Sorted.the-variants as sorted
+use Rattle.summary.specs.Steps.{Begun, sorted-of, sorted-end, Marks, Kinds, kind-there, no-room, Sorts, refinement-kind, parts-kind, Filed-kind, Comes-to, kind-filed, entries-over, Tokens, Chooses}
+use Rattle.summary.proofs.Token.{token-high}
+use Rattle.summary.proofs.Sorting.{named-of, table-marked, files-sorts, nothing-sorts}
+
+-- rule 3 trims no name off
+refinement-trimmed : (b : Bool) (sets : List (List Name)) → cond b (Sum-ambient true) (Sum-triggers sets) .trimmed ≡ []
+unfolding Sum-ambient Sum-triggers
+refinement-trimmed true sets = refl
+refinement-trimmed false sets = refl
+
+module _ {file names refs rows out names′ rows′ out′ : List ℕ} {named used many mark at : ℕ} {r : Sorted} (tables : Tables file names refs rows named used many) where
+  -- a kind that holds names of the table is filed
+  sorts-comes : (f : List Term → Kinded) → f (terms-in file names refs rows used many) .trimmed ≡ []
+      → Sorts names rows out names′ rows′ out′ named mark at (λ name. f (terms-of name refs rows used many)) r
+      → Comes-to file names names′ out′ named at (f (terms-in file names refs rows used many)) r
+  unfolding terms-in fold-left
+  sorts-comes f e s =
+      let kept = table-marked (tables .name-table) (s .marks .names-same) in
+      let few = tables .name-table .few in
+      let d : Named (name-of file names′) names named = named-marked (same-back (s .marks .names-same)) few (named-of (kept .table)) in
+      let q : terms-of (name-of file names′) refs rows used many ≡ terms-of (name-of file names) refs rows used many = terms-named (name-of file names′) (name-of file names) (kept .name) (tables .term-table) in
+      go (rw q at (s .kinds (name-of file names′) d))
+    where
+      go : {x : Sorted} → Kinds (name-of file names′) named (f (terms-of (name-of file names) refs rows used many)) at out′ x
+          → Comes-to file names names′ out′ named at (f (terms-of (name-of file names) refs rows used many)) x
+      go (kind-there a b c h k) =
+          let kept = table-marked (tables .name-table) (s .marks .names-same) in
+          kind-filed (record { kind = a; disjuncts = b; ends = c; high = h; entry-words = k; table = kept .table; spelled = rw e (kept .names); more = omega arith; same-names = kept .name })
+      go (no-room p) = entries-over (rw e (omega (arith, names-length file names named, tables .name-table .few))) p
+
+  -- a choice whose kind was filed
+  sorts-chooses : (f : List Term → Kinded) (c : Choice) → kinded (terms-in file names refs rows used many) (name-of file names) c ≡ some (f (terms-in file names refs rows used many))
+      → trimmed-table file names named c ≡ names → f (terms-in file names refs rows used many) .trimmed ≡ []
+      → Sorts names rows out names′ rows′ out′ named mark at (λ name. f (terms-of name refs rows used many)) r
+      → Chooses file names refs rows out names′ rows′ out′ named used many mark at c r
+  sorts-chooses f c e q t s = record {
+    kinds = λ k h. let z : f (terms-in file names refs rows used many) ≡ k = cc in rw z at (sorts-comes f t s);
+    marks = rw q (s .marks);
+  }
+
+  module _ {c : Choice} where
+    -- one set
+    pub choose-one : {t : ℕ} {f : Filed} → c ≡ choice.One t
+        → ((name : ℕ → Name) → Named name names named → Files name named (free-top-level-names exclude-names (terms-of name refs rows used many) t ∷ []) at out′ f)
+        → Filled names rows out names′ rows′ out′ (mark + 1) at f → r ≡ sorted-of named f
+        → Chooses file names refs rows out names′ rows′ out′ named used many mark at c r
+    unfolding kinded trimmed-table Sum-triggers
+    choose-one {t} e k w q =
+        rw e (sorts-chooses (λ terms. Sum-triggers (free-top-level-names exclude-names terms t ∷ [])) (choice.One t) refl refl refl
+        (files-sorts (λ name. free-top-level-names exclude-names (terms-of name refs rows used many) t ∷ []) k w q))
+
+    -- two sets
+    pub choose-two : {t u : ℕ} {f : Filed} → c ≡ choice.Two t u
+        → ((name : ℕ → Name) → Named name names named → Files name named (free-top-level-names exclude-names (terms-of name refs rows used many) t ∷ free-top-level-names exclude-names (terms-of name refs rows used many) u ∷ []) at out′ f)
+        → Filled names rows out names′ rows′ out′ (mark + 1) at f → r ≡ sorted-of named f
+        → Chooses file names refs rows out names′ rows′ out′ named used many mark at c r
+    unfolding kinded trimmed-table Sum-triggers
+    choose-two {t} {u} e k w q =
+        rw e (sorts-chooses (λ terms. Sum-triggers (free-top-level-names exclude-names terms t ∷ free-top-level-names exclude-names terms u ∷ [])) (choice.Two t u) refl refl refl
+        (files-sorts (λ name. free-top-level-names exclude-names (terms-of name refs rows used many) t ∷ free-top-level-names exclude-names (terms-of name refs rows used many) u ∷ []) k w q))
+
+    -- the triggers of a term
+    pub choose-groups : {t : ℕ} {f : Filed} → c ≡ choice.Groups t
+        → ((name : ℕ → Name) → Named name names named → Files name named (triggers-of-term exclude-names (terms-of name refs rows used many) t) at out′ f)
+        → Filled names rows out names′ rows′ out′ (mark + 1) at f → r ≡ sorted-of named f
+        → Chooses file names refs rows out names′ rows′ out′ named used many mark at c r
+    unfolding kinded trimmed-table Sum-triggers
+    choose-groups {t} e k w q =
+        rw e (sorts-chooses (λ terms. Sum-triggers (triggers-of-term exclude-names terms t)) (choice.Groups t) refl refl refl
+        (files-sorts (λ name. triggers-of-term exclude-names (terms-of name refs rows used many) t) k w q))
+
+    -- the payload of a refinement
+    pub choose-refinement : {t : ℕ} → c ≡ choice.Refinement t
+        → Sorts names rows out names′ rows′ out′ named mark at (λ name. refinement-kind (terms-of name refs rows used many) t) r
+        → Chooses file names refs rows out names′ rows′ out′ named used many mark at c r
+    unfolding kinded trimmed-table refinement-kind
+    choose-refinement {t} e s = rw e (sorts-chooses (λ terms. refinement-kind terms t) (choice.Refinement t) refl refl (refinement-trimmed (is-empty (triggers-of-term exclude-names (terms-in file names refs rows used many) t)) (triggers-of-term exclude-names (terms-in file names refs rows used many) t)) s)
+
+    -- the parts of an `and`
+    pub choose-parts : {t : ℕ} → c ≡ choice.Parts t
+        → Sorts names rows out names′ rows′ out′ named mark at (λ name. parts-kind (terms-of name refs rows used many) t) r
+        → Chooses file names refs rows out names′ rows′ out′ named used many mark at c r
+    unfolding kinded trimmed-table parts-kind Sum-triggers
+    choose-parts {t} e s = rw e (sorts-chooses (λ terms. parts-kind terms t) (choice.Parts t) refl refl refl s)
+
+-- a kind without triggers
+none-sorts : {names rows out : List ℕ} {mark at : ℕ} (named : ℕ) → Begun names rows out mark at → (k : Kinded) → k .triggers ≡ [] → Sorts names rows out names rows out named mark at (λ name. k) (sorted.Kind (k .kind) at named)
+none-sorts {names} {rows} {mark = mark} named b k e = nothing-sorts (k .kind) (λ name. k) (λ name d. (refl, e)) (b .low) (same-self 8192 2048 names) (same-self 12288 4096 rows) (fresh-later mark (mark + 1) (omega arith) (b .fresh))
+
+module _ {file names refs rows out : List ℕ} {named used many mark at : ℕ} {c : Choice} (tables : Tables file names refs rows named used many) (b : Begun names rows out mark at) where
+  -- no disjunct
+  pub choose-nothing : c ≡ choice.Nothing → Chooses file names refs rows out names rows out named used many mark at c (sorted.Kind (asum.Triggers 0) at named)
+  unfolding kinded trimmed-table Sum-triggers
+  choose-nothing e = rw e (sorts-chooses tables (λ terms. Sum-triggers []) choice.Nothing refl refl refl (none-sorts named b (Sum-triggers []) refl))
+
+  -- a fact that is dropped
+  pub choose-drop : c ≡ choice.Drop → Chooses file names refs rows out names rows out named used many mark at c (sorted.Kind asum.Drop at named)
+  unfolding kinded trimmed-table Sum-drop
+  choose-drop e = rw e (sorts-chooses tables (λ terms. Sum-drop) choice.Drop refl refl refl (none-sorts named b Sum-drop refl))
+
+  -- an ambient fact
+  pub choose-ambient : c ≡ choice.Ambient → Chooses file names refs rows out names rows out named used many mark at c (sorted.Kind (asum.Ambient false) at named)
+  unfolding kinded trimmed-table Sum-ambient
+  choose-ambient e = rw e (sorts-chooses tables (λ terms. Sum-ambient false) choice.Ambient refl refl refl (none-sorts named b (Sum-ambient false) refl))
+
+  -- no rule
+  pub choose-no : c ≡ choice.No → Chooses file names refs rows out names rows out named used many mark at c (sorted.Kind asum.Drop at named)
+  unfolding kinded trimmed-table Sum-drop
+  choose-no e = rw e (record { kinds = λ k h. let z : _≡_ {A = ℕ} 0 1 = cc in let y : ⊥ = omega arith in absurd y; marks = none-sorts named b Sum-drop refl .marks })
+
+  -- a token
+  pub choose-token : {names′ out′ : List ℕ} {n : ℕ} {r : Sorted} → c ≡ choice.Token n → Tokens file names out names′ out′ named n at r
+      → Chooses file names refs rows out names′ rows out′ named used many mark at c r
+  unfolding kinded trimmed-table
+  choose-token {n = n} e s = rw e (record {
+    kinds = λ k h. let z : token-triggers (name-of file names n) ≡ k = cc in rw z at (s .kinds);
+    marks = record {
+      names-same = rw (s .name-words) (same-self 8192 2048 (token-table file names named n));
+      rows-same = same-self 12288 4096 rows;
+      out-same = s .out-same;
+      fresh = λ a e total q. fresh-later mark (mark + 1 + (e - at)) (omega arith) (rw (s .name-words) (record {
+        row-marks = b .fresh .row-marks;
+        name-marks = λ k l. rw (token-high (tables .name-table) n (8192 + k) (omega arith)) (b .fresh .name-marks k l);
+      }));
+    };
+  })
+
+-- ---- the numbers of a choice
+
+module _ (named many : ℕ) {c : Choice} where
+  -- the term of one set
+  pub within-one : {t : ℕ} → c ≡ choice.One t → Within named many c → t < many
+  unfolding Within
+  within-one e w = rw e at w
+
+  -- the terms of two
+  pub within-two : {t u : ℕ} → c ≡ choice.Two t u → Within named many c → (t < many) × (u < many)
+  unfolding Within
+  within-two e w = rw e at w
+
+  -- the term of groups
+  pub within-groups : {t : ℕ} → c ≡ choice.Groups t → Within named many c → t < many
+  unfolding Within
+  within-groups e w = rw e at w
+
+  -- a payload
+  pub within-refinement : {t : ℕ} → c ≡ choice.Refinement t → Within named many c → t < many
+  unfolding Within
+  within-refinement e w = rw e at w
+
+  -- a token
+  pub within-token : {n : ℕ} → c ≡ choice.Token n → Within named many c → n < named
+  unfolding Within
+  within-token e w = rw e at w
+
+  -- an `and`
+  pub within-parts : {t : ℕ} → c ≡ choice.Parts t → Within named many c → t < many
+  unfolding Within
+  within-parts e w = rw e at w

@@ -1,0 +1,266 @@
+-- The summary of a fact: what was filed, and the free names that were gathered.
+use Prim.Native.Nat.{ℕ, zero, suc, _+_, _-_, _%_, _≤_, _<_}
+use native.Mathlib.Omega.{arith}
+use mathlib.Core.Path.{_≡_, refl, sym, ap, ap₂, _∙_}
+use mathlib.Core.Bool.{Bool, true, false, cond}
+use mathlib.Core.Logic.{_⊎_, inl, inr, ⊎-elim}
+use mathlib.Core.List.{List, [], _∷_, _++_, map, map-append}
+use mathlib.Core.Option.{Option, none, some}
+use lib.ListN.{length, getD}
+use lib.Dec.{ltb}
+use borrow.Author.Tests.{ltb-true}
+use Rattle.model.specs.Lists.{fold-left}
+use Rattle.model.specs.Names.{Name, from-list}
+use Rattle.model.specs.Reading.{spell}
+use Rattle.model.specs.Summaries.{Kinded, exclude-names, free-top-level-names, summarize-kind}
+use Rattle.model.specs.declared.AsumKind.{AsumKind}
+use Rattle.names.specs.Table.{Table, name-of, names-of}
+use Rattle.names.proofs.Coded.{Kept}
+use Rattle.terms.specs.Rows.{words, terms-of, Rows}
+use Rattle.terms.proofs.Table.{terms-named, words-cons, words-nil}
+use Rattle.gather.specs.Sets.{Fresh, Same-but, Named, Gathers, all-names, no-room as no-names, Gathered, ended}
+use Rattle.gather.specs.declared.Walked.{Walked}
+use Rattle.gather.specs.declared.Walked.the-variants as walks
+use Rattle.gather.proofs.Steps.{same-back, same-then}
+use Rattle.gather.proofs.Walking.{rows-marked}
+use Rattle.triggers.specs.Entries.{entry-number, before-first, disjuncts-of-words, disjuncts-of, entries, Entries}
+use Rattle.triggers.proofs.Marked.{named-marked, terms-marked}
+use Rattle.rules.specs.Views.{Tables, terms-in}
+use Rattle.rules.specs.Choices.{kinded, Within}
+use Rattle.rules.specs.declared.Choice.{Choice}
+use Rattle.summary.specs.declared.Limit.{Limit}
+use Rattle.summary.specs.declared.Limit.the-variants as limit
+use Rattle.summary.specs.declared.Sorted.{Sorted}
+use Rattle.summary.specs.declared.Sorted.the-variants as sorted
+use Rattle.summary.specs.declared.Summary.{Summary}
+use Rattle.summary.specs.declared.Summarized.{Summarized}
+use Rattle.summary.specs.declared.Summarized.the-variants as summarized
+use Rattle.summary.specs.Facts.{Asked, fact-kind, fact-names, names-then, Triggers-of, Summary-of, Summarizes, done, names-full, entries-full, uses-full, trimmed-table, uses-end, entries-end, Slices}
+use Rattle.summary.specs.Steps.{Begun, sorted-end, Marks, Filed-kind, Comes-to, kind-filed, names-over, entries-over, Chooses, finished, Finishes}
+use Rattle.summary.proofs.Sorting.{named-of, named-fewer, table-marked}
+
+-- ---- names that stay
+
+-- an entry's name
+entry-name : (f g : ℕ → Name) → ((n : ℕ) → n < 2048 → f n ≡ g n) → (w : ℕ) → map f (entry-number w) ≡ map g (entry-number w)
+unfolding entry-number
+entry-name f g h w = go (ltb (w % 4096) 2048) refl
+  where
+    go : (b : Bool) → ltb (w % 4096) 2048 ≡ b → map f (cond b (w % 4096 ∷ []) []) ≡ map g (cond b (w % 4096 ∷ []) [])
+    go true e = ap (_∷ []) (h (w % 4096) (ltb-true (w % 4096) 2048 e))
+    go false e = refl
+
+-- numbers at the front of the first disjunct
+front-names : (f g : ℕ → Name) (ns : List ℕ) (ds : List (List ℕ)) → map f ns ≡ map g ns → map (map f) ds ≡ map (map g) ds → map (map f) (before-first ns ds) ≡ map (map g) (before-first ns ds)
+unfolding before-first
+front-names f g ns [] p q = ap (_∷ []) p
+front-names f g ns (d ∷ ds) p q =
+    let a : map f d ≡ map g d = cc in
+    let b : map (map f) ds ≡ map (map g) ds = cc in
+    ap₂ _∷_ (map-append f ns d ∙ ap₂ _++_ p a ∙ sym (map-append g ns d)) b
+
+-- entries have the same disjuncts under names that agree
+disjuncts-named : (f g : ℕ → Name) → ((n : ℕ) → n < 2048 → f n ≡ g n) → (ws : List ℕ) → disjuncts-of f ws ≡ disjuncts-of g ws
+unfolding disjuncts-of disjuncts-of-words
+disjuncts-named f g h ws = split f (disjuncts-of-words ws) ∙ ap (map from-list) (go ws) ∙ sym (split g (disjuncts-of-words ws))
+  where
+    split : (f : ℕ → Name) (ds : List (List ℕ)) → map (λ ns. from-list (map f ns)) ds ≡ map from-list (map (map f) ds)
+    split f [] = refl
+    split f (d ∷ ds) = ap (λ l. from-list (map f d) ∷ l) (split f ds)
+
+    go : (ws : List ℕ) → map (map f) (disjuncts-of-words ws) ≡ map (map g) (disjuncts-of-words ws)
+    go [] = refl
+    go (w ∷ ws) = choose (go ws) (ltb w 4096)
+      where
+        choose : map (map f) (disjuncts-of-words ws) ≡ map (map g) (disjuncts-of-words ws) → (b : Bool) → map (map f) (cond b (before-first (entry-number w) (disjuncts-of-words ws)) (entry-number w ∷ disjuncts-of-words ws)) ≡ map (map g) (cond b (before-first (entry-number w) (disjuncts-of-words ws)) (entry-number w ∷ disjuncts-of-words ws))
+        choose more true = front-names f g (entry-number w) (disjuncts-of-words ws) (entry-name f g h w) more
+        choose more false = ap₂ _∷_ (entry-name f g h w) more
+
+-- words of two slices that agree from a place on
+words-agree : (l m : List ℕ) (d a e : ℕ) → e - a ≡ d → e ≤ length l → e ≤ length m → ((i : ℕ) → a ≤ i → getD m i 0 ≡ getD l i 0) → words m a e ≡ words l a e
+words-agree l m zero a e q x y h = words-nil m a e (omega arith) ∙ sym (words-nil l a e (omega arith))
+words-agree l m (suc d) a e q x y h =
+    words-cons m a e (omega arith) y
+    ∙ ap₂ _∷_ (h a (omega arith)) (words-agree l m d (a + 1) e (omega arith) x y (λ i k. h i (omega arith)))
+    ∙ sym (words-cons l a e (omega arith) x)
+
+-- with other marks each number below 2,048 has the same name
+name-marked : (file : List ℕ) {names names′ : List ℕ} → Same-but 8192 2048 names names′ → (n : ℕ) → n < 2048 → name-of file names′ n ≡ name-of file names n
+unfolding name-of
+name-marked file same n l = rw (same .same-words n (λ a b. omega arith), same .same-words (2048 + n) (λ a b. omega arith)) refl
+
+-- after gathering, marks are below the next
+gathered-fresh : {names rows out names′ rows′ out′ : List ℕ} {mark at room : ℕ} {r : Walked} → Gathered names rows out names′ rows′ out′ mark at room r → Fresh names rows mark → Fresh names′ rows′ (mark + 1)
+gathered-fresh g f = record {
+  row-marks = λ t l. ⊎-elim (λ e. omega arith) (λ e. omega (arith, f .row-marks t l)) (g .row-marks t l);
+  name-marks = λ n l. ⊎-elim (λ e. omega arith) (λ e. omega (arith, f .name-marks n l)) (g .name-marks n l);
+}
+
+-- what a choice comes to, by its answer
+pub chooses-is : {file names refs rows out names′ rows′ out′ : List ℕ} {named used many mark at : ℕ} {chosen : Choice} {r r′ : Sorted} → r ≡ r′ → Chooses file names refs rows out names′ rows′ out′ named used many mark at chosen r
+    → Chooses file names refs rows out names′ rows′ out′ named used many mark at chosen r′
+chooses-is e c = rw e at c
+
+-- what filing asks
+pub asked-begun : {file names refs rows out : List ℕ} {named used many name t mark filed uses : ℕ} → Asked file names refs rows out named used many name t mark filed uses → Begun names rows out mark (6144 + filed)
+asked-begun a = record { name-room = a .tables .name-table .room; fresh = a .fresh; few-marks = a .few-marks; low = omega (arith, a .few-entries); room = a .room }
+
+module _ {file names refs rows out names′ rows′ out′ : List ℕ} {named used many name t mark filed uses : ℕ} {chosen : Choice} (asked : Asked file names refs rows out named used many name t mark filed uses)
+    (within : Within named many chosen)
+    (decided : kinded (terms-in file names refs rows used many) (name-of file names) chosen ≡ some (summarize-kind exclude-names (terms-in file names refs rows used many) (name-of file names name) t)) where
+  module _ {l : Limit} (chooses : Chooses file names refs rows out names′ rows′ out′ named used many mark (6144 + filed) chosen (sorted.Over l)) where
+    -- a limit that filing passes
+    pub over-law : Summarizes file names refs rows named used many name t names′ rows′ out′ mark filed uses (summarized.Over l)
+        × Slices file names refs rows out names′ rows′ out′ named used many name t filed uses (summarized.Over l)
+    unfolding fact-kind names-then uses-end entries-end sorted-end
+    over-law = go (chooses .kinds _ decided) (chooses .marks)
+      where
+        go : {x : Limit} → Comes-to file names names′ out′ named (6144 + filed) (fact-kind file names refs rows named used many name t) (sorted.Over x) → Marks (trimmed-table file names named chosen) rows out names′ rows′ out′ mark (6144 + filed) (sorted.Over x)
+            → Summarizes file names refs rows named used many name t names′ rows′ out′ mark filed uses (summarized.Over x) × Slices file names refs rows out names′ rows′ out′ named used many name t filed uses (summarized.Over x)
+        go (names-over p) m = (names-full p, record {
+          chosen = chosen;
+          within = within;
+          decided = decided;
+          name-words = m .names-same;
+          row-words = m .rows-same;
+          out-length = m .out-same .same-length;
+          out-words = λ i f g. m .out-same .same-words i (λ a b. omega arith);
+        })
+        go (entries-over p q) m = (entries-full p (omega arith), record {
+          chosen = chosen;
+          within = within;
+          decided = decided;
+          name-words = m .names-same;
+          row-words = m .rows-same;
+          out-length = m .out-same .same-length;
+          out-words = λ i f g. m .out-same .same-words i (λ a b. g a (omega (arith, asked .few-entries)));
+        })
+
+  module _ {a : AsumKind} {e total : ℕ} (chooses : Chooses file names refs rows out names′ rows′ out′ named used many mark (6144 + filed) chosen (sorted.Kind a e total)) where
+    -- the kind that was filed
+    filed-there : Filed-kind file names names′ out′ named (6144 + filed) (fact-kind file names refs rows named used many name t) a e total
+    unfolding fact-kind
+    filed-there = go (chooses .kinds _ decided)
+      where
+        go : Comes-to file names names′ out′ named (6144 + filed) (fact-kind file names refs rows named used many name t) (sorted.Kind a e total) → Filed-kind file names names′ out′ named (6144 + filed) (fact-kind file names refs rows named used many name t) a e total
+        go (kind-filed k) = k
+
+    -- where its entries end
+    pub filed-ends : (6144 + filed ≤ e) × (e ≤ 8192)
+    filed-ends = let q = filed-there .ends in (omega arith, filed-there .high)
+
+    -- what gathering its free names asks
+    pub finish-asks : {n : ℕ} → n ≡ mark + 1 + (e - (6144 + filed)) → Rows refs rows′ used many named × (16384 ≤ length names′) × (t < many) × Fresh names′ rows′ n × (n + 1 < 4294967296) × (6144 ≤ e) × (uses ≤ 6144) × (16384 ≤ length out′)
+    finish-asks {n} q =
+        let (lo, hi) = filed-ends in
+        (
+          rows-marked (chooses .marks .rows-same) (asked .tables .term-table),
+          filed-there .table .room,
+          asked .term,
+          rw q (chooses .marks .fresh a e total refl),
+          omega (arith, asked .few-marks),
+          omega arith,
+          asked .few-uses,
+          rw (chooses .marks .out-same .same-length) (asked .room),
+        )
+
+    module _ {names″ rows″ out″ : List ℕ} {n : ℕ} {r : Summarized} (is : n ≡ mark + 1 + (e - (6144 + filed))) (finishes : Finishes names′ refs rows′ out′ names″ rows″ out″ named total used many t a e n uses r) where
+      -- the table then
+      kept-table : Kept file names′ names″ total
+      kept-table = table-marked (filed-there .table) (finishes .slices .names-same)
+
+      -- its names are names for the numbers of the table before
+      kept-named : Named (name-of file names″) names′ named
+      kept-named =
+          named-marked (same-back (finishes .slices .names-same)) (asked .tables .name-table .few) (named-fewer (filed-there .more) (named-of (kept-table .table)))
+
+      -- the terms are those of the table before
+      kept-terms : terms-of (name-of file names″) refs rows′ used many ≡ terms-in file names refs rows used many
+      unfolding terms-in
+      kept-terms =
+          terms-marked (name-of file names″) (chooses .marks .rows-same) (asked .tables .term-table)
+          ∙ terms-named (name-of file names″) (name-of file names) (λ k l. kept-table .name k (omega (arith, filed-there .more)) ∙ filed-there .same-names k l) (asked .tables .term-table)
+
+      -- the free names that were gathered
+      gathered-names : Gathers (name-of file names″) named (fact-names file names refs rows named used many name t) uses 6144 out″ (finishes .walked)
+      unfolding fact-names
+      gathered-names = rw kept-terms at (finishes .free-names (name-of file names″) kept-named)
+
+      -- the entries stay
+      kept-words : words out″ (6144 + filed) e ≡ words out′ (6144 + filed) e
+      kept-words =
+          let (lo, hi) = filed-ends in
+          let s = finishes .slices in
+          let fits = s .fits in
+          let grows = s .grows in
+          let room = asked .room in
+          let long : length out′ ≡ length out = chooses .marks .out-same .same-length in
+          words-agree out′ out″ (e - (6144 + filed)) (6144 + filed) e refl (omega arith) (omega (arith, s .out-same .same-length)) (λ i l. s .out-same .same-words i (λ x y. omega arith))
+
+      -- so the disjuncts do
+      kept-triggers : Triggers-of file names refs rows named used many name t names″ out″ filed total
+      unfolding names-then
+      kept-triggers =
+          let k = filed-there in
+          let q : e ≡ 6144 + filed + entries (fact-kind file names refs rows named used many name t .triggers) = k .ends in
+          record {
+            disjuncts = rw (← q, kept-words) (disjuncts-named (name-of file names″) (name-of file names′) (name-marked file (finishes .slices .names-same)) (words out′ (6144 + filed) e) ∙ k .disjuncts);
+            few = omega (arith, k .high);
+            entry-words = rw (← q, kept-words) (k .entry-words);
+            table = kept-table .table;
+            spelled = kept-table .names ∙ k .spelled;
+          }
+
+      -- the words of `out` but the places of the free names and of the entries
+      kept-out : (x : Walked) → Same-but uses (ended 6144 x - uses) out′ out″ → uses ≤ ended 6144 x → (i : ℕ)
+          → (uses ≤ i → i < uses-end uses (finished a e total n x) → ⊥)
+          → (6144 + filed ≤ i → i < 6144 + entries-end filed (entries (fact-kind file names refs rows named used many name t .triggers)) (finished a e total n x) → ⊥)
+          → getD out″ i 0 ≡ getD out i 0
+      unfolding uses-end entries-end ended sorted-end
+      kept-out (walks.Names k) s up i f g =
+          let (lo, hi) = filed-ends in
+          s .same-words i (λ p q. f p (omega arith)) ∙ chooses .marks .out-same .same-words i (λ p q. g p (omega arith))
+      kept-out walks.Full s up i f g =
+          let (lo, hi) = filed-ends in
+          let ends = filed-there .ends in
+          s .same-words i (λ p q. f p (omega arith)) ∙ chooses .marks .out-same .same-words i (λ p q. g p (omega arith))
+
+      -- the slices then
+      kept-slices : Slices file names refs rows out names″ rows″ out″ named used many name t filed uses (finished a e total n (finishes .walked))
+      unfolding fact-kind
+      kept-slices =
+          let m = chooses .marks in
+          let s = finishes .slices in
+          record {
+            chosen = chosen;
+            within = within;
+            decided = decided;
+            name-words = same-then (m .names-same) (s .names-same);
+            row-words = same-then (m .rows-same) (s .rows-same);
+            out-length = s .out-same .same-length ∙ m .out-same .same-length;
+            out-words = kept-out (finishes .walked) (s .out-same) (s .grows);
+          }
+
+      -- the summary, or that there is no room for the free names
+      kept-summary : (x : Walked) → Gathers (name-of file names″) named (fact-names file names refs rows named used many name t) uses 6144 out″ x
+          → Summarizes file names refs rows named used many name t names″ rows″ out″ mark filed uses (finished a e total n x)
+      kept-summary (walks.Names k) (all-names p q fits small) =
+          let (lo, hi) = filed-ends in
+          let ends = filed-there .ends in
+          done {s = record { kind = a; entries = e - 6144; uses = k; named = total; mark = n + 1 }} (record {
+            kind = filed-there .kind;
+            entry-count = omega arith;
+            triggers = kept-triggers;
+            free-names = p;
+            use-count = omega arith;
+            few-uses = fits;
+            use-words = small;
+            next-mark = omega arith;
+            fresh = gathered-fresh (finishes .slices) (rw is (chooses .marks .fresh a e total refl));
+          })
+      kept-summary walks.Full (no-names p f) = uses-full {total = total} kept-triggers (omega arith)
+
+      -- a fact whose kind was filed
+      pub finish-law : Summarizes file names refs rows named used many name t names″ rows″ out″ mark filed uses r
+          × Slices file names refs rows out names″ rows″ out″ named used many name t filed uses r
+      finish-law = rw (finishes .answer) (kept-summary (finishes .walked) gathered-names, kept-slices)

@@ -1,0 +1,5 @@
+pub mod Parts
+pub mod Sorting
+pub mod Token
+pub mod Choosing
+pub mod Finishing

@@ -1,0 +1,165 @@
+-- Filed disjuncts as a kind, whatever the names of the numbers are.
+use Prim.Native.Nat.{ℕ, _+_, _-_, _%_, _≤_, _<_}
+use native.Mathlib.Omega.{arith}
+use mathlib.Core.Path.{_≡_, refl, sym, ap, _∙_}
+use mathlib.Core.Bool.{Bool, true, false, cond}
+use mathlib.Core.List.{List, []}
+use lib.ListN.{length, getD}
+use Rattle.model.specs.Lists.{collect, sum}
+use Rattle.model.specs.Names.{Name}
+use Rattle.model.specs.Terms.{Term, term, references}
+use Rattle.model.specs.Reading.{spell}
+use Rattle.model.specs.Summaries.{Kinded, Sum-ambient, Sum-triggers, exclude-names, is-empty, triggers-of-term}
+use Rattle.model.specs.declared.AsumKind.{AsumKind}
+use Rattle.model.specs.declared.AsumKind.the-variants as asum
+use Rattle.names.specs.Table.{Table, name-of, names-of}
+use Rattle.names.proofs.Laws.{distinct, names-length}
+use Rattle.names.proofs.Coded.{code-excluded, Kept, table-kept}
+use Rattle.terms.specs.Rows.{row-start, row-end, words, terms-of-words, terms-of, Rows}
+use Rattle.terms.proofs.Table.{words-nil, terms-named}
+use Rattle.gather.specs.Sets.{Fresh, Same-but, Named, is-excluded}
+use Rattle.gather.proofs.Steps.{same-self, same-back, same-then}
+use Rattle.triggers.specs.Entries.{disjuncts-of, disjuncts-of-words, entries, Entries, Files, all-sets, no-room as no-sets, Filled, filed-end, Opened}
+use Rattle.triggers.specs.declared.Filed.{Filed}
+use Rattle.triggers.specs.declared.Filed.the-variants as files
+use Rattle.triggers.proofs.Marked.{named-marked, terms-marked, fresh-later}
+use Rattle.triggers.proofs.Disjuncts.{no-entries}
+use Rattle.summary.specs.declared.Limit.{Limit}
+use Rattle.summary.specs.declared.Limit.the-variants as limit
+use Rattle.summary.specs.declared.Sorted.{Sorted}
+use Rattle.summary.specs.declared.Sorted.the-variants as sorted
+use Rattle.summary.specs.Steps.{Begun, sorted-of, sorted-end, Marks, Kinds, kind-there, no-room, Sorts, refinement-kind, parts-kind, Filed-kind, Comes-to, kind-filed, entries-over}
+use Rattle.summary.proofs.Parts.{row-references}
+
+-- ---- names
+
+-- the names of a table are names for its numbers
+pub named-of : {file names : List ℕ} {named : ℕ} → Table file names named → Named (name-of file names) names named
+unfolding is-excluded
+named-of {file} {names} table = record {
+  distinct = λ m n l k e. distinct table m n l k e;
+  excluded = λ n l. rw (table .codes n l) (sym (code-excluded (name-of file names n)));
+}
+
+-- the first of them are names for fewer
+pub named-fewer : {name : ℕ → Name} {names : List ℕ} {named total : ℕ} → named ≤ total → Named name names total → Named name names named
+named-fewer less d = record { distinct = λ m n l k e. d .distinct m n (omega arith) (omega arith) e; excluded = λ n l. d .excluded n (omega arith) }
+
+-- with other marks a table has the same names
+pub table-marked : {file names names′ : List ℕ} {named : ℕ} → Table file names named → Same-but 8192 2048 names names′ → Kept file names names′ named
+table-marked table same = table-kept table (same .same-length) (λ i l. same .same-words i (λ a b. omega arith))
+
+-- ---- what filing asks
+
+-- to file from a mark on
+pub begun-opened : {names rows out : List ℕ} {mark at : ℕ} → Begun names rows out mark at → Opened names rows out mark at
+begun-opened b = record { name-room = b .name-room; fresh = b .fresh; low = b .low; high = omega (arith, b .room); few-marks = omega (arith, b .few-marks) }
+
+-- to file from the next mark on
+pub begun-next : {names rows out : List ℕ} {mark at : ℕ} → Begun names rows out mark at → Opened names rows out (mark + 1) at
+begun-next {mark} b = record { name-room = b .name-room; fresh = fresh-later mark (mark + 1) (omega arith) (b .fresh); low = b .low; high = omega (arith, b .room); few-marks = omega (arith, b .few-marks) }
+
+-- to file after a look at the tables
+pub begun-then : {names rows out names′ rows′ out′ : List ℕ} {mark at : ℕ} → Begun names rows out mark at
+    → Same-but 8192 2048 names names′ × Same-but 12288 4096 rows rows′ × Fresh names′ rows′ (mark + 1) → out′ ≡ out → Opened names′ rows′ out′ (mark + 1) at
+begun-then b (n, s, f) q = record { name-room = rw (n .same-length) (b .name-room); fresh = f; low = b .low; high = rw q (omega (arith, b .room)); few-marks = omega (arith, b .few-marks) }
+
+-- ---- kinds
+
+-- a kind of an answer
+kind-end : {a b : AsumKind} {e f m n : ℕ} → sorted.Kind a e m ≡ sorted.Kind b f n → e ≡ f
+kind-end p = cc
+
+-- a limit is no kind
+over-none : {l : Limit} {a : AsumKind} {e n : ℕ} → sorted.Over l ≡ sorted.Kind a e n → ⊥
+over-none p = let z : _≡_ {A = ℕ} 0 1 = cc in omega arith
+
+-- filed disjuncts are a kind of triggers
+files-kinds : {name : ℕ → Name} {named at : ℕ} {s : List (List Name)} {out : List ℕ} {f : Filed} → Files name named s at out f → Kinds name named (Sum-triggers s) at out (sorted-of named f)
+unfolding Sum-triggers
+files-kinds (all-sets a b c d e) = kind-there (ap asum.Triggers b) a c d e
+files-kinds (no-sets p) = no-room p
+
+-- the slices after filing them
+files-marks : {names rows out names′ rows′ out′ : List ℕ} {mark at : ℕ} (named : ℕ) (f : Filed) → Filled names rows out names′ rows′ out′ (mark + 1) at f → Marks names rows out names′ rows′ out′ mark at (sorted-of named f)
+unfolding sorted-end filed-end
+files-marks named (files.Sets n e) w = record { names-same = w .names-same; rows-same = w .rows-same; out-same = w .out-same; fresh = λ a k total q. rw (← (kind-end q)) (w .fresh n e refl) }
+files-marks named files.Full w = record { names-same = w .names-same; rows-same = w .rows-same; out-same = w .out-same; fresh = λ a k total q. absurd (over-none q) }
+
+-- filing disjuncts files a kind
+pub files-sorts : {names rows out names′ rows′ out′ : List ℕ} {named mark at : ℕ} {f : Filed} {r : Sorted} (s : (ℕ → Name) → List (List Name))
+    → ((name : ℕ → Name) → Named name names named → Files name named (s name) at out′ f) → Filled names rows out names′ rows′ out′ (mark + 1) at f
+    → r ≡ sorted-of named f → Sorts names rows out names′ rows′ out′ named mark at (λ name. Sum-triggers (s name)) r
+files-sorts {named = named} {f = f} s k w q = rw q (record { kinds = λ name d. files-kinds (k name d); marks = files-marks named f w })
+
+-- the same kinds, said in another way
+pub sorts-as : {names rows out names′ rows′ out′ : List ℕ} {named mark at : ℕ} {k l : (ℕ → Name) → Kinded} {r : Sorted} → ((name : ℕ → Name) → Named name names named → k name ≡ l name)
+    → Sorts names rows out names′ rows′ out′ named mark at k r → Sorts names rows out names′ rows′ out′ named mark at l r
+sorts-as e s = record { kinds = λ name d. rw (e name d) at (s .kinds name d); marks = s .marks }
+
+-- a kind without triggers files nothing
+pub nothing-sorts : {names rows out names′ rows′ : List ℕ} {named mark at : ℕ} (a : AsumKind) (k : (ℕ → Name) → Kinded)
+    → ((name : ℕ → Name) → Named name names named → (a ≡ k name .kind) × (k name .triggers ≡ [])) → at ≤ 8192
+    → Same-but 8192 2048 names names′ → Same-but 12288 4096 rows rows′ → Fresh names′ rows′ (mark + 1)
+    → Sorts names rows out names′ rows′ out named mark at k (sorted.Kind a at named)
+unfolding sorted-end disjuncts-of disjuncts-of-words entries sum
+nothing-sorts {out = out} {named = named} {mark} {at} a k e low n s f = record {
+  kinds = λ name d. kind-there {e = at} (e name d .0)
+      (rw (words-nil out at at (omega arith), e name d .1) refl)
+      (rw (e name d .1) (omega arith))
+      low
+      (rw (words-nil out at at (omega arith)) (no-entries named));
+  marks = record {
+    names-same = n;
+    rows-same = s;
+    out-same = same-self at (at - at) out;
+    fresh = λ b k total q. let z = kind-end q in fresh-later (mark + 1) (mark + 1 + (k - at)) (omega arith) f;
+  };
+}
+
+-- the slices after a look at the tables and filing
+marks-after : {names rows out names₁ rows₁ out₁ names₂ rows₂ out₂ : List ℕ} {mark at : ℕ} {r : Sorted} → Same-but 8192 2048 names names₁ → Same-but 12288 4096 rows rows₁ → out₁ ≡ out
+    → Marks names₁ rows₁ out₁ names₂ rows₂ out₂ mark at r → Marks names rows out names₂ rows₂ out₂ mark at r
+marks-after n s q m = record { names-same = same-then n (m .names-same); rows-same = same-then s (m .rows-same); out-same = rw q at (m .out-same); fresh = m .fresh }
+
+-- ---- the payload of a refinement
+
+module _ {names rows out names₁ rows₁ out₁ refs : List ℕ} {named used many mark at : ℕ} {b : Bool} (t : ℕ) (table : Rows refs rows used many named)
+    (answer : (name : ℕ → Name) → Named name names named → b ≡ is-empty (triggers-of-term exclude-names (terms-of name refs rows used many) t))
+    (tables : Same-but 8192 2048 names names₁ × Same-but 12288 4096 rows rows₁ × Fresh names₁ rows₁ (mark + 1)) (same : out₁ ≡ out) where
+  -- a payload that is empty is ambient
+  pub refinement-empty : b ≡ true → at ≤ 8192 → Sorts names rows out names₁ rows₁ out₁ named mark at (λ name. refinement-kind (terms-of name refs rows used many) t) (sorted.Kind (asum.Ambient true) at named)
+  unfolding refinement-kind Sum-ambient
+  refinement-empty e low = rw same (nothing-sorts (asum.Ambient true) (λ name. refinement-kind (terms-of name refs rows used many) t) (λ name d. rw (sym (answer name d) ∙ e) (refl, refl)) low (tables .0) (tables .1) (tables .2))
+
+  -- another has its triggers
+  pub refinement-more : {names₂ rows₂ out₂ : List ℕ} {f : Filed} {r : Sorted} → b ≡ false
+      → ((name : ℕ → Name) → Named name names₁ named → Files name named (triggers-of-term exclude-names (terms-of name refs rows₁ used many) t) at out₂ f)
+      → Filled names₁ rows₁ out₁ names₂ rows₂ out₂ (mark + 1) at f → r ≡ sorted-of named f
+      → Sorts names rows out names₂ rows₂ out₂ named mark at (λ name. refinement-kind (terms-of name refs rows used many) t) r
+  unfolding refinement-kind
+  refinement-more {f = f} e k w q = rw q (record {
+    kinds = λ name d.
+        rw (sym (answer name d) ∙ e)
+        (rw (terms-marked name (tables .1) table) at (files-kinds (k name (named-marked (tables .0) (table .few-names) d))));
+    marks = marks-after (tables .0) (tables .1) same (files-marks named f w);
+  })
+
+-- ---- the parts of an `and`
+
+-- the triggers of the terms that a row names
+pub parts-sorts : {names rows out names′ rows′ out′ refs : List ℕ} {named used many mark at a e : ℕ} {f : Filed} {r : Sorted} (t : ℕ) → Rows refs rows used many named → t < many
+    → a ≡ row-start rows t → e ≡ row-end rows used many t
+    → ((name : ℕ → Name) → Named name names named → Files name named (collect (triggers-of-term exclude-names (terms-of name refs rows used many)) (terms-of-words (words refs a e))) at out′ f)
+    → Filled names rows out names′ rows′ out′ (mark + 1) at f → r ≡ sorted-of named f
+    → Sorts names rows out names′ rows′ out′ named mark at (λ name. parts-kind (terms-of name refs rows used many) t) r
+unfolding parts-kind
+parts-sorts {rows = rows} {refs = refs} {used = used} {many} {a = a} {e} t table l p q k w z =
+    sorts-as
+    (λ name d. ap (λ ts. Sum-triggers (collect (triggers-of-term exclude-names (terms-of name refs rows used many)) ts)) (rw (p, q) (sym (row-references table l name))))
+    (files-sorts (λ name. collect (triggers-of-term exclude-names (terms-of name refs rows used many)) (terms-of-words (words refs a e))) k w z)
+
+-- what filing them asks
+pub parts-asks : {refs rows : List ℕ} {used many named t a e : ℕ} → Rows refs rows used many named → t < many → a ≡ row-start rows t → e ≡ row-end rows used many t
+    → (a ≤ e) × (e ≤ used) × ((i : ℕ) → a ≤ i → i < e → getD refs i 0 % 4096 < many)
+parts-asks {t = t} r l p q = rw (p, q) (r .in-order t l, r .in-use t l, λ i x y. omega (arith, r .lower t i l x y))

@@ -1,0 +1,281 @@
+-- Filing a token, with the name that it trims to.
+use Prim.Native.Nat.{ℕ, _+_, _-_, _%_, _≤_, _<_}
+use native.Mathlib.Omega.{arith}
+use mathlib.Core.Path.{_≡_, refl, sym, ap, _∙_}
+use mathlib.Core.Bool.{Bool, true, false, cond}
+use mathlib.Core.List.{List, [], _∷_}
+use lib.ListN.{length, getD}
+use lib.Dec.{ltb}
+use borrow.Author.Tests.{ltb-true}
+use Rattle.text.specs.Parts.{part}
+use Rattle.names.specs.Table.{Table, name-of, names-of, look-up, spell-table, entered}
+use Rattle.names.specs.declared.Found.{Found}
+use Rattle.names.specs.declared.Found.the-variants as found
+use Rattle.names.proofs.Laws.{found-missing}
+use Rattle.names.proofs.Entering.{entered-keeps}
+use Rattle.model.specs.Names.{Name, bytes, ends-with}
+use mathlib.Core.Logic.{inl, inr, _⊎_, ⊎-elim}
+use mathlib.Core.List.{map, List·Memᴰ, List·Memᴰ·cases-cons, List·Memᴰ·not-nil}
+use lib.ListN.{take, drop, set, length-take, length-drop, length-set}
+use lib.Seq.{take-take, getD-set-same, getD-set-other}
+use lib.Dec.{T, not-T}
+use lib.ListN.{length-append}
+use mathlib.Core.List.{_++_}
+use borrow.Author.Tests.{le-ltb, lt-ltb}
+use Rattle.model.specs.Lists.{fold-left, sum}
+use Rattle.model.specs.Names.{from-list, add, mem}
+use Rattle.model.proofs.ListLaws.{cond-false}
+use Rattle.model.specs.Reading.{spell}
+use Rattle.model.specs.Summaries.{Kinded, Sum-triggers, token-triggers}
+use Rattle.model.specs.declared.AsumKind.{AsumKind}
+use Rattle.model.specs.declared.AsumKind.the-variants as asum
+use Rattle.model.proofs.SetLaws.{same-eq}
+use Rattle.names.proofs.Laws.{names-length}
+use Rattle.names.proofs.Spelling.{Was-known, Is-new, Is-full}
+use Rattle.names.proofs.Entering.{entered-old, entered-new}
+use Rattle.terms.specs.Rows.{words}
+use Rattle.terms.proofs.Table.{words-cons, words-nil}
+use Rattle.gather.specs.Sets.{Same-but}
+use Rattle.gather.proofs.Steps.{same-self, same-set, same-then}
+use Rattle.triggers.specs.Entries.{entry-number, disjuncts-of-words, disjuncts-of, entries, Entries}
+use Rattle.summary.specs.declared.Limit.the-variants as limit
+use Rattle.summary.specs.declared.Sorted.{Sorted}
+use Rattle.summary.specs.declared.Sorted.the-variants as sorted
+use Rattle.summary.specs.Facts.{token-table}
+use Rattle.summary.specs.Steps.{sorted-end, Filed-kind, Comes-to, kind-filed, names-over, entries-over, Two, both, over, Tokens}
+
+-- spelling a name changes no word from 8,192 on
+spell-high : {file names : List ℕ} {named : ℕ} → Table file names named → (a e i : ℕ) → 8192 ≤ i
+    → getD (spell-table file names named a e (look-up (names-of file names named) (part file a e))) i 0 ≡ getD names i 0
+unfolding spell-table
+spell-high {file} {names} {named} table a e i h = go (look-up (names-of file names named) (part file a e)) refl
+  where
+    go : (f : Found) → look-up (names-of file names named) (part file a e) ≡ f → getD (spell-table file names named a e f) i 0 ≡ getD names i 0
+    go (found.At n) q = refl
+    go (found.Missing rank) q = choose (ltb named 2048) refl
+      where
+        choose : (t : Bool) → ltb named 2048 ≡ t → getD (cond t (entered file names named a e rank) names) i 0 ≡ getD names i 0
+        choose true t = let few = ltb-true named 2048 t in entered-keeps file names named a e rank (found-missing table (part file a e) rank q .within) few (table .room) i (λ x. omega arith) (λ x. omega arith) (λ x. omega arith) (inr (omega arith))
+        choose false t = refl
+
+-- filing a token changes no such word
+pub token-high : {file names : List ℕ} {named : ℕ} → Table file names named → (n i : ℕ) → 8192 ≤ i → getD (token-table file names named n) i 0 ≡ getD names i 0
+unfolding token-table
+token-high {file} {names} {named} table n i h = go (ends-with (name-of file names n) (bytes "@tok"))
+  where
+    go : (b : Bool) → getD (cond b (spell-table file names named (getD names n 0) (getD names n 0 + getD names (2048 + n) 0 - 4) (look-up (names-of file names named) (part file (getD names n 0) (getD names n 0 + getD names (2048 + n) 0 - 4)))) names) i 0 ≡ getD names i 0
+    go true = spell-high table (getD names n 0) (getD names n 0 + getD names (2048 + n) 0 - 4) i h
+    go false = refl
+
+-- ---- entries of one name each
+
+-- an entry of one name that ends its disjunct
+entry-one : (n : ℕ) (ws : List ℕ) → n < 2048 → disjuncts-of-words ((n + 4096) ∷ ws) ≡ (n ∷ []) ∷ disjuncts-of-words ws
+unfolding disjuncts-of-words entry-number
+entry-one n ws h =
+    let e : (n + 4096) % 4096 ≡ n = omega arith in
+    rw (le-ltb (n + 4096) 4096 (omega arith), e, lt-ltb n 2048 h)
+
+-- one such entry
+sets-one : (name : ℕ → Name) (n : ℕ) → n < 2048 → disjuncts-of name ((n + 4096) ∷ []) ≡ (name n ∷ []) ∷ []
+unfolding disjuncts-of disjuncts-of-words from-list add
+sets-one name n h = rw (entry-one n [] h) refl
+
+-- two such entries
+sets-two : (name : ℕ → Name) (n m : ℕ) → n < 2048 → m < 2048 → disjuncts-of name ((n + 4096) ∷ (m + 4096) ∷ []) ≡ (name n ∷ []) ∷ (name m ∷ []) ∷ []
+unfolding disjuncts-of disjuncts-of-words from-list add
+sets-two name n m h k = rw (entry-one n ((m + 4096) ∷ []) h, entry-one m [] k) refl
+
+-- they are entries
+entries-are-one : (named n : ℕ) → n < named → named ≤ 2048 → Entries named ((n + 4096) ∷ [])
+entries-are-one named n h few = record {
+  small = λ w m. ⊎-elim (λ e. inl (omega arith)) (λ k. absurd (List·Memᴰ·not-nil k)) (List·Memᴰ·cases-cons m);
+  flagged = λ w m. ⊎-elim (λ e. omega arith) (λ k. absurd (List·Memᴰ·not-nil k)) (List·Memᴰ·cases-cons m);
+  closed = λ i e. let z : i ≡ 0 = omega arith in rw z (omega arith);
+}
+
+-- and two
+entries-are-two : (named n m : ℕ) → n < named → m < named → named ≤ 2048 → Entries named ((n + 4096) ∷ (m + 4096) ∷ [])
+entries-are-two named n m h l few = record {
+  small = λ w i. ⊎-elim (λ e. inl (omega arith)) (λ j. ⊎-elim (λ e. inl (omega arith)) (λ k. absurd (List·Memᴰ·not-nil k)) (List·Memᴰ·cases-cons j)) (List·Memᴰ·cases-cons i);
+  flagged = λ w i. ⊎-elim (λ e. omega arith) (λ j. ⊎-elim (λ e. omega arith) (λ k. absurd (List·Memᴰ·not-nil k)) (List·Memᴰ·cases-cons j)) (List·Memᴰ·cases-cons i);
+  closed = λ i e. let z : i ≡ 1 = omega arith in rw z (omega arith);
+}
+
+-- one entry in a slice
+words-one : (out : List ℕ) (at v : ℕ) → at < length out → words (set out at v) at (at + 1) ≡ v ∷ []
+words-one out at v h =
+    words-cons (set out at v) at (at + 1) (omega arith) (rw (length-set out at v) (omega arith))
+    ∙ rw (getD-set-same out at v 0 h, words-nil (set out at v) (at + 1) (at + 1) (omega arith)) refl
+
+-- two entries in a slice
+words-two : (out : List ℕ) (at v w : ℕ) → at + 1 < length out → words (set (set out at v) (at + 1) w) at (at + 2) ≡ v ∷ w ∷ []
+words-two out at v w h =
+    let l : length (set (set out at v) (at + 1) w) ≡ length out = length-set (set out at v) (at + 1) w ∙ length-set out at v in
+    words-cons (set (set out at v) (at + 1) w) at (at + 2) (omega arith) (omega arith)
+    ∙ rw (
+      getD-set-other (set out at v) (at + 1) at w 0 (λ e. omega arith),
+      getD-set-same out at v 0 (omega arith),
+      words-cons (set (set out at v) (at + 1) w) (at + 1) (at + 2) (omega arith) (omega arith),
+      getD-set-same (set out at v) (at + 1) w 0 (rw (length-set out at v) h),
+    ) (ap (λ ws. v ∷ w ∷ ws) (words-nil (set (set out at v) (at + 1) w) (at + 1 + 1) (at + 2) (omega arith)))
+
+-- ---- the name that a token trims to
+
+-- a name that ends in @tok has four bytes or more
+ends-long : (t : Name) → ends-with t (bytes "@tok") ≡ true → 4 ≤ length t
+unfolding ends-with bytes
+ends-long t e =
+    let q : drop (length t - 4) t ≡ bytes "@tok" = same-eq (rw e tt) in
+    omega (arith, ap length q, length-drop (length t - 4) t)
+
+-- what a token that ends in @tok comes to
+token-yes : (t : Name) → ends-with t (bytes "@tok") ≡ true
+    → token-triggers t ≡ record { kind = asum.Triggers 2; triggers = (t ∷ []) ∷ (take (length t - 4) t ∷ []) ∷ []; trimmed = take (length t - 4) t ∷ [] }
+unfolding token-triggers
+token-yes t e = rw e refl
+
+-- what another comes to
+token-no : (t : Name) → ends-with t (bytes "@tok") ≡ false → token-triggers t ≡ Sum-triggers ((t ∷ []) ∷ [])
+unfolding token-triggers
+token-no t e = rw e refl
+
+module _ {file names : List ℕ} {named n x y : ℕ} (table : Table file names named) (l : n < named) (p : x ≡ getD names n 0) (q : y ≡ getD names (2048 + n) 0) where
+  -- the token's place
+  pub token-inside : x + y ≤ length file
+  token-inside = rw (p, q) (table .inside n l)
+
+  -- the token is the part there
+  pub token-part : part file x (x + y) ≡ name-of file names n
+  unfolding name-of
+  token-part = rw (p, q) refl
+
+  -- how long it is
+  token-length : length (name-of file names n) ≡ y
+  token-length = ap length (sym token-part) ∙ (simp (length-take, length-drop) (omega (arith, token-inside)))
+
+  module _ (yes : ends-with (name-of file names n) (bytes "@tok") ≡ true) where
+    -- what spelling the shorter name asks
+    pub token-asks : (4 ≤ x + y) × (x ≤ x + y - 4) × (x + y - 4 ≤ length file)
+    token-asks =
+        let h = ends-long (name-of file names n) yes in
+        (omega (arith, token-length), omega (arith, token-length), omega (arith, token-inside))
+
+    -- the shorter name is the part there
+    token-short : part file x (x + y - 4) ≡ take (length (name-of file names n) - 4) (name-of file names n)
+    token-short =
+        let z : x + y - 4 - x ≡ y - 4 = omega arith in
+        let w : x + y - x ≡ y = omega arith in
+        sym (rw (token-length, ← token-part, w, z) (take-take (y - 4) y (drop x file) (omega arith)))
+
+    -- the slice of names then
+    token-slice : {names′ : List ℕ} → names′ ≡ spell-table file names named x (x + y - 4) (look-up (names-of file names named) (part file x (x + y - 4))) → names′ ≡ token-table file names named n
+    unfolding token-table
+    token-slice e = rw (yes, ← p, ← q) e
+
+    -- a token and the shorter name, filed
+    token-two : {names′ out out′ : List ℕ} {total m at : ℕ} {r : Sorted} → Table file names′ total → names-of file names′ total ≡ spell (names-of file names named) (part file x (x + y - 4))
+        → named ≤ total → ((k : ℕ) → k < named → name-of file names′ k ≡ name-of file names k) → name-of file names′ m ≡ part file x (x + y - 4) → m < total
+        → 16384 ≤ length out → Two out out′ total n m at r
+        → Comes-to file names names′ out′ named at (token-triggers (name-of file names n)) r
+    unfolding fold-left entries sum
+    token-two {names′} {out} {total = total} {m} {at} table′ spelled more same is k room (both fits e) =
+        let few = table′ .few in
+        rw (token-yes (name-of file names n) yes)
+        (kind-filed {e = at + 2} {total = total} (record {
+          kind = refl;
+          disjuncts = rw (e, words-two out at (n + 4096) (m + 4096) (omega arith), sets-two (name-of file names′) n m (omega arith) (omega arith), same n l, is, token-short) refl;
+          ends = refl;
+          high = fits;
+          entry-words = rw (e, words-two out at (n + 4096) (m + 4096) (omega arith)) (entries-are-two total n m (omega arith) k few);
+          table = table′;
+          spelled = rw (← token-short) spelled;
+          more = more;
+          same-names = same;
+        }))
+    token-two {names′} {total = total} table′ spelled more same is k room (over past e) =
+        rw (token-yes (name-of file names n) yes)
+        (entries-over (rw (← token-short, ← spelled, names-length file names′ total) (table′ .few)) past)
+
+    -- what it does to the slice
+    token-out : {out out′ : List ℕ} {total m at : ℕ} {r : Sorted} → Two out out′ total n m at r → Same-but at (sorted-end at r - at) out out′
+    unfolding sorted-end
+    token-out {out} {m = m} {at} (both fits e) =
+        rw e (same-then (same-set at (at + 2 - at) out at (n + 4096) (omega arith) (omega arith)) (same-set at (at + 2 - at) (set out at (n + 4096)) (at + 1) (m + 4096) (omega arith) (omega arith)))
+    token-out {out} {at = at} (over past e) = rw e (same-self at (8192 - at) out)
+
+    module _ {names′ out out′ : List ℕ} {at : ℕ} (slice : names′ ≡ spell-table file names named x (x + y - 4) (look-up (names-of file names named) (part file x (x + y - 4)))) (room : 16384 ≤ length out) where
+      -- the shorter name was known
+      pub token-known : {m : ℕ} {r : Sorted} → Was-known file names names′ named x (x + y - 4) m → Two out out′ named n m at r → Tokens file names out names′ out′ named n at r
+      token-known {m} k two = record {
+        name-words = token-slice slice;
+        kinds = rw (k .kept) (token-two table (k .names) (omega arith) (λ i h. refl) (k .named) (k .number) room two);
+        out-same = token-out two;
+      }
+
+      -- it is new
+      pub token-new : {m : ℕ} {r : Sorted} → Is-new file names names′ named x (x + y - 4) m → Two out out′ (named + 1) n m at r → Tokens file names out names′ out′ named n at r
+      token-new {m} k two =
+          let within = k .lacks .within in
+          let few = k .few in
+          record {
+            name-words = token-slice slice;
+            kinds = token-two (k .table) (k .names) (omega arith)
+                (λ i h. rw (k .slice) (entered-old file names named x (x + y - 4) (k .rank) within few (table .room) i h))
+                (rw (k .number, k .slice) (entered-new file names named x (x + y - 4) (k .rank) within few (table .room) (token-asks .1)))
+                (omega (arith, k .number)) room two;
+            out-same = token-out two;
+          }
+
+    -- there is no room for it
+    pub token-full : {names′ out : List ℕ} {at : ℕ} → names′ ≡ spell-table file names named x (x + y - 4) (look-up (names-of file names named) (part file x (x + y - 4)))
+        → Is-full file names names′ named x (x + y - 4) → Tokens file names out names′ out named n at (sorted.Over limit.Names)
+    unfolding sorted-end fold-left spell
+    token-full {out = out} {at} slice k = record {
+      name-words = token-slice slice;
+      kinds = rw (token-yes (name-of file names n) yes)
+          (names-over (rw (
+            ← token-short,
+            cond-false (mem (part file x (x + y - 4)) (names-of file names named)) (names-of file names named) (names-of file names named ++ (part file x (x + y - 4) ∷ [])) (not-T (mem (part file x (x + y - 4)) (names-of file names named)) (k .absent)),
+            length-append,
+            names-length file names named,
+          ) (omega (arith, k .full))));
+      out-same = same-self at (at - at) out;
+    }
+
+  module _ (no : ends-with (name-of file names n) (bytes "@tok") ≡ false) where
+    -- the slice of names stays
+    token-kept : names ≡ token-table file names named n
+    unfolding token-table
+    token-kept = rw no refl
+
+    -- a token alone, filed
+    pub token-one : {out : List ℕ} {at : ℕ} → at < 8192 → 16384 ≤ length out → Tokens file names out names (set out at (n + 4096)) named n at (sorted.Kind (asum.Triggers 1) (at + 1) named)
+    unfolding sorted-end fold-left entries sum Sum-triggers
+    token-one {out} {at} h room =
+        let few = table .few in
+        record {
+          name-words = token-kept;
+          kinds = rw (token-no (name-of file names n) no)
+              (kind-filed {e = at + 1} {total = named} (record {
+                kind = refl;
+                disjuncts = rw (words-one out at (n + 4096) (omega arith), sets-one (name-of file names) n (omega arith)) refl;
+                ends = refl;
+                high = omega arith;
+                entry-words = rw (words-one out at (n + 4096) (omega arith)) (entries-are-one named n l few);
+                table = table;
+                spelled = refl;
+                more = omega arith;
+                same-names = λ k h. refl;
+              }));
+          out-same = same-set at (at + 1 - at) out at (n + 4096) (omega arith) (omega arith);
+        }
+
+    -- there is no room for it
+    pub token-over : {out : List ℕ} {at : ℕ} → 8192 ≤ at → Tokens file names out names out named n at (sorted.Over limit.Entries)
+    unfolding sorted-end fold-left entries sum Sum-triggers
+    token-over {out} {at} h = record {
+      name-words = token-kept;
+      kinds = rw (token-no (name-of file names n) no) (entries-over (rw (names-length file names named) (table .few)) (omega arith));
+      out-same = same-self at (8192 - at) out;
+    }

@@ -1,0 +1,66 @@
+-- `summary::file_parts` meets its contract: the terms that an `and` names are those of its reference words.
+use Rattle.summary.proofs.Sorting.{begun-next, parts-asks, parts-sorts}
+use borrow.Author.Needs.{needs}
+use Rattle.summary.proofs.file_parts.Statement.{statement}
+use Rattle.summary.proofs.file_parts.Tie as tie
+use Rattle.summary.proofs.file_parts.Reads as reads
+use Rattle.summary.proofs.file_parts.Lts as lts
+use Rattle.summary.proofs.filed.Reads as filed-reads
+use Rattle.terms.proofs.end.Reads as end-reads
+use Rattle.terms.proofs.start.Reads as start-reads
+use Rattle.triggers.proofs.triggers_of_list.Reads as triggers-of-list-reads
+
+-- src/lib.rt:138:9
+start-requires : tie.Need-start-requires
+start-requires c κs = search needs
+
+-- src/lib.rt:139:9
+end-requires : tie.Need-end-requires
+end-requires c κs = search needs
+
+-- src/lib.rt:141:85
+add-triggers-of-list : tie.Need-add-triggers-of-list
+add-triggers-of-list c = search needs
+
+-- src/lib.rt:141:9
+triggers-of-list-requires : tie.Need-triggers-of-list-requires
+triggers-of-list-requires c κs = 
+    let start = c .before .before .before .before .before .before .before .before .before .before .before in
+    let asks = parts-asks (start .pre .0) (start .pre .2) (c .before .before .before .before .before .start .ensures) (c .before .before .before .end .ensures) in
+    (start .pre .0, begun-next (start .pre .1), asks .0, asks .1, asks .2)
+
+-- src/lib.rt:140:5
+filed-requires : tie.Need-filed-requires
+filed-requires c κs = search needs
+
+-- src/lib.rt:123:1
+returns : tie.Need-returns
+returns c = 
+    let start = c .before .before .before .before .before .before .before .before .before .before .before .before .before .before .before .before .before .before .before in
+    parts-sorts (start .args .t) (start .pre .0) (start .pre .2) (c .before .before .before .before .before .before .before .before .before .before .before .before .before .start .ensures) (c .before .before .before .before .before .before .before .before .before .before .before .end .ensures) (c .before .before .before .before .before .before .before .triggers-of-list .ensures .0) (c .before .before .before .before .before .before .before .triggers-of-list .ensures .1) (c .filed .ensures)
+
+-- src/lib.rt:123:1
+same-length : tie.Need-same-length
+same-length c = returns c .marks .names-same .same-length
+
+-- src/lib.rt:123:1
+same-length-2 : tie.Need-same-length-2
+same-length-2 c = returns c .marks .rows-same .same-length
+
+-- src/lib.rt:123:1
+same-length-3 : tie.Need-same-length-3
+same-length-3 c = returns c .marks .out-same .same-length
+
+pub file-parts-spec : {M : Type 1} → statement M
+file-parts-spec =
+    tie.close
+    (tie.spec
+    start-requires
+    end-requires
+    add-triggers-of-list
+    triggers-of-list-requires
+    filed-requires
+    same-length
+    same-length-2
+    same-length-3
+    returns)

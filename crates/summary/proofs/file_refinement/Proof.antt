@@ -1,0 +1,76 @@
+-- `summary::file_refinement` meets its contract: a look at the payload's triggers, then they are filed.
+use Rattle.gather.proofs.Walking.{rows-marked}
+use Rattle.summary.proofs.Sorting.{begun-opened, begun-then, refinement-empty, refinement-more}
+use borrow.Author.Needs.{needs}
+use Rattle.summary.proofs.file_refinement.Statement.{statement}
+use Rattle.summary.proofs.file_refinement.Tie as tie
+use Rattle.summary.proofs.file_refinement.Reads as reads
+use Rattle.summary.proofs.file_refinement.Lts as lts
+use Rattle.summary.proofs.filed.Reads as filed-reads
+use Rattle.triggers.proofs.is_empty.Reads as is-empty-reads
+use Rattle.triggers.proofs.triggers_of_term.Reads as triggers-of-term-reads
+
+-- src/lib.rt:113:8
+is-empty-requires : tie.Need-is-empty-requires
+is-empty-requires c κs = (c .before .before .before .before .before .before .before .pre .0, begun-opened (c .before .before .before .before .before .before .before .pre .1), c .before .before .before .before .before .before .before .pre .2)
+
+-- src/lib.rt:114:9
+returns : tie.Need-returns
+returns c = refinement-empty (c .before .before .before .before .before .before .before .before .before .before .before .before .before .before .before .args .t) (c .before .before .before .before .before .before .before .before .before .before .before .before .before .before .before .pre .0) (c .before .before .before .before .before .before .before .is-empty .ensures .0) (c .before .before .before .before .before .before .before .is-empty .ensures .1 .0) (c .before .before .before .before .before .before .before .is-empty .ensures .1 .1) (c .if1 .taken) (c .before .before .before .before .before .before .before .before .before .before .before .before .before .before .before .pre .1 .low)
+
+-- src/lib.rt:117:82
+add-triggers-of-term : tie.Need-add-triggers-of-term
+add-triggers-of-term c = search needs
+
+-- src/lib.rt:117:9
+triggers-of-term-requires : tie.Need-triggers-of-term-requires
+triggers-of-term-requires c κs = (rows-marked (c .before .before .before .before .before .before .before .before .before .before .is-empty .ensures .1 .0 .1) (c .before .before .before .before .before .before .before .before .before .before .before .before .before .before .before .before .before .before .pre .0), begun-then (c .before .before .before .before .before .before .before .before .before .before .before .before .before .before .before .before .before .before .pre .1) (c .before .before .before .before .before .before .before .before .before .before .is-empty .ensures .1 .0) (c .before .before .before .before .before .before .before .before .before .before .is-empty .ensures .1 .1), c .before .before .before .before .before .before .before .before .before .before .before .before .before .before .before .before .before .before .pre .2)
+
+-- src/lib.rt:116:5
+filed-requires : tie.Need-filed-requires
+filed-requires c κs = search needs
+
+-- src/lib.rt:98:1
+returns-2 : tie.Need-returns-2
+returns-2 c = refinement-more (c .before .before .before .before .before .before .before .before .before .before .before .before .before .before .before .before .before .before .before .before .before .before .before .before .before .before .args .t) (c .before .before .before .before .before .before .before .before .before .before .before .before .before .before .before .before .before .before .before .before .before .before .before .before .before .before .pre .0) (c .before .before .before .before .before .before .before .before .before .before .before .before .before .before .before .before .before .before .is-empty .ensures .0) (c .before .before .before .before .before .before .before .before .before .before .before .before .before .before .before .before .before .before .is-empty .ensures .1 .0) (c .before .before .before .before .before .before .before .before .before .before .before .before .before .before .before .before .before .before .is-empty .ensures .1 .1) (c .before .before .before .before .before .before .before .before .before .before .before .if1 .left) (c .before .before .before .before .before .before .before .triggers-of-term .ensures .0) (c .before .before .before .before .before .before .before .triggers-of-term .ensures .1) (c .filed .ensures)
+
+-- src/lib.rt:114:9
+same-length : tie.Need-same-length
+same-length c = returns c .marks .names-same .same-length
+
+-- src/lib.rt:114:9
+same-length-2 : tie.Need-same-length-2
+same-length-2 c = returns c .marks .rows-same .same-length
+
+-- src/lib.rt:114:9
+same-length-3 : tie.Need-same-length-3
+same-length-3 c = returns c .marks .out-same .same-length
+
+-- src/lib.rt:98:1
+same-length-4 : tie.Need-same-length-4
+same-length-4 c = returns-2 c .marks .names-same .same-length
+
+-- src/lib.rt:98:1
+same-length-5 : tie.Need-same-length-5
+same-length-5 c = returns-2 c .marks .rows-same .same-length
+
+-- src/lib.rt:98:1
+same-length-6 : tie.Need-same-length-6
+same-length-6 c = returns-2 c .marks .out-same .same-length
+
+pub file-refinement-spec : {M : Type 1} → statement M
+file-refinement-spec =
+    tie.close
+    (tie.spec
+    is-empty-requires
+    same-length
+    same-length-2
+    same-length-3
+    returns
+    add-triggers-of-term
+    triggers-of-term-requires
+    filed-requires
+    same-length-4
+    same-length-5
+    same-length-6
+    returns-2)

@@ -1,0 +1,85 @@
+-- `summary::finish` meets its contract: the free names that were gathered.
+use native.Mathlib.Omega.{arith}
+use mathlib.Core.Path.{sym, ap}
+use Rattle.summary.specs.Steps.{finished}
+use borrow.Author.Needs.{needs}
+use Rattle.summary.proofs.finish.Statement.{statement}
+use Rattle.summary.proofs.finish.Tie as tie
+use Rattle.summary.proofs.finish.Reads as reads
+use Rattle.summary.proofs.finish.Lts as lts
+use Rattle.gather.proofs.gather_term.Reads as gather-term-reads
+
+-- src/lib.rt:228:9
+cast-gather-term : tie.Need-cast-gather-term
+cast-gather-term c = omega (arith, c .before .before .before .before .before .before .before .pre .4)
+
+-- src/lib.rt:219:11
+gather-term-requires : tie.Need-gather-term-requires
+gather-term-requires c κs = (c .before .before .before .before .before .before .before .pre .0, c .before .before .before .before .before .before .before .pre .1, c .before .before .before .before .before .before .before .pre .2, c .before .before .before .before .before .before .before .pre .3, c .before .before .before .before .before .before .before .pre .6, omega (arith, c .before .before .before .before .before .before .before .pre .7))
+
+-- src/lib.rt:232:23
+enum-known-n : tie.Need-enum-known-n
+enum-known-n c = search needs
+
+-- src/lib.rt:234:22
+sub-t24 : tie.Need-sub-t24
+sub-t24 c = omega (arith, c .before .before .before .before .before .before .before .before .before .before .before .before .before .before .before .before .before .pre .5)
+
+-- src/lib.rt:237:19
+add-t25 : tie.Need-add-t25
+add-t25 c = omega (arith, c .before .before .before .before .before .before .before .before .before .before .before .before .before .before .before .before .before .pre .4)
+
+-- src/lib.rt:239:42
+enum-told : tie.Need-enum-told
+enum-told c = search needs
+
+-- src/lib.rt:201:1
+returns : tie.Need-returns
+returns c = record { walked = c .before .before .before .before .before .before .before .before .before .gather-term .result; answer = ap (finished (c .before .before .before .before .before .before .before .before .before .before .before .before .before .before .before .before .before .args .kind) (c .before .before .before .before .before .before .before .before .before .before .before .before .before .before .before .before .before .args .end) (c .before .before .before .before .before .before .before .before .before .before .before .before .before .before .before .before .before .args .total) (c .before .before .before .before .before .before .before .before .before .before .before .before .before .before .before .before .before .args .mark)) (sym (c .before .n .given .1)); free-names = c .before .before .before .before .before .before .before .before .before .gather-term .ensures .0; slices = c .before .before .before .before .before .before .before .before .before .gather-term .ensures .1 .0 }
+
+-- src/lib.rt:201:1
+returns-2 : tie.Need-returns-2
+returns-2 c = record { walked = c .before .before .before .before .before .before .before .before .gather-term .result; answer = ap (finished (c .before .before .before .before .before .before .before .before .before .before .before .before .before .before .before .before .args .kind) (c .before .before .before .before .before .before .before .before .before .before .before .before .before .before .before .before .args .end) (c .before .before .before .before .before .before .before .before .before .before .before .before .before .before .before .before .args .total) (c .before .before .before .before .before .before .before .before .before .before .before .before .before .before .before .before .args .mark)) (sym (c .enum-told .given .1)); free-names = c .before .before .before .before .before .before .before .before .gather-term .ensures .0; slices = c .before .before .before .before .before .before .before .before .gather-term .ensures .1 .0 }
+
+-- src/lib.rt:201:1
+same-length : tie.Need-same-length
+same-length c = returns c .slices .names-same .same-length
+
+-- src/lib.rt:201:1
+same-length-2 : tie.Need-same-length-2
+same-length-2 c = returns c .slices .rows-same .same-length
+
+-- src/lib.rt:201:1
+same-length-3 : tie.Need-same-length-3
+same-length-3 c = returns c .slices .out-same .same-length
+
+-- src/lib.rt:201:1
+same-length-4 : tie.Need-same-length-4
+same-length-4 c = returns-2 c .slices .names-same .same-length
+
+-- src/lib.rt:201:1
+same-length-5 : tie.Need-same-length-5
+same-length-5 c = returns-2 c .slices .rows-same .same-length
+
+-- src/lib.rt:201:1
+same-length-6 : tie.Need-same-length-6
+same-length-6 c = returns-2 c .slices .out-same .same-length
+
+pub finish-spec : {M : Type 1} → statement M
+finish-spec =
+    tie.close
+    (tie.spec
+    cast-gather-term
+    gather-term-requires
+    enum-known-n
+    sub-t24
+    add-t25
+    enum-told
+    same-length
+    same-length-2
+    same-length-3
+    returns
+    same-length-4
+    same-length-5
+    same-length-6
+    returns-2)
