@@ -1,0 +1,111 @@
+-- Laws of a fact's line: what summarising it asks, and that its summary leaves the tables and the lists right.
+use Prim.Native.Nat.{ℕ, _+_, _≤_, _<_}
+use native.Mathlib.Omega.{arith}
+use mathlib.Core.Path.{_≡_, refl, ap}
+use mathlib.Core.Bool.{Bool, true, false, cond}
+use mathlib.Core.List.{List, [], _∷_, _++_}
+use lib.ListN.{length, length-append}
+use Rattle.model.specs.Lists.{fold-left}
+use Rattle.model.specs.Names.{Name, mem}
+use Rattle.model.specs.Reading.{spell}
+use Rattle.names.specs.Table.{names-of}
+use Rattle.names.proofs.Laws.{names-length}
+use Rattle.gather.specs.Sets.{Same-but}
+use Rattle.gather.proofs.Gather.{rows-named}
+use Rattle.gather.proofs.Walking.{rows-marked}
+use Rattle.summary.specs.declared.Summary.{Summary}
+use Rattle.summary.specs.declared.Summarized.{Summarized}
+use Rattle.summary.specs.declared.Summarized.the-variants as summarized
+use Rattle.summary.specs.Facts.{Asked, fact-kind, names-then, Summary-of, Summarizes, done}
+use Rattle.summaries.specs.declared.Counts.{Counts}
+use Rattle.summaries.specs.declared.Fed.the-variants as fed
+use Rattle.summaries.specs.Fed.{Spelt, Ready, Goes, line-fed}
+use Rattle.summaries.proofs.Laws.{fresh-kept, rows-spelt}
+
+-- spelling takes no name away
+spell-more : (names : List Name) (name : Name) → length names ≤ length (spell names name)
+unfolding spell
+spell-more names name = go (mem name names)
+  where
+    go : (b : Bool) → length names ≤ length (cond b names (names ++ (name ∷ [])))
+    go true = omega arith
+    go false = omega (arith, length-append names (name ∷ []))
+
+-- spelling several names takes none away
+fold-more : (names more : List Name) → length names ≤ length (fold-left spell names more)
+unfolding fold-left
+fold-more names [] = omega arith
+fold-more names (name ∷ more) =
+    let one = spell-more names name in
+    let rest = fold-more (spell names name) more in
+    omega arith
+
+-- the tables with the name of a fact are ready for its line
+pub ready-spelt : {file names names′ refs rows : List ℕ} {named n line : ℕ} {k : Counts} → Ready file names refs rows k line → Spelt file names names′ (k .named) named n
+    → Ready file names′ refs rows (record { named = named; used = k .used; many = k .many; entries = k .entries; uses = k .uses; mark = k .mark }) line
+ready-spelt r s = record {
+  tables = record {
+    name-table = s .table;
+    term-table = rows-spelt (r .tables) s;
+    fresh = fresh-kept (s .marks) (λ t l. refl) (r .tables .fresh);
+  };
+  few-entries = r .few-entries;
+  few-uses = r .few-uses;
+  few-marks = r .few-marks;
+}
+
+-- tables that are ready for a line are right for a fact of theirs
+pub asked : {file names refs rows out : List ℕ} {k : Counts} {line name t : ℕ} → Ready file names refs rows k line → 16384 ≤ length out → line ≤ 65535 → name < k .named → t < k .many
+    → Asked file names refs rows out (k .named) (k .used) (k .many) name t (k .mark) (k .entries) (k .uses)
+asked r room few name term = record {
+  tables = record { name-table = r .tables .name-table; term-table = r .tables .term-table };
+  fact = name;
+  term = term;
+  fresh = r .tables .fresh;
+  few-marks = omega (arith, r .few-marks, r .few-entries);
+  few-entries = r .few-entries;
+  few-uses = r .few-uses;
+  room = room;
+}
+
+module _ {file names refs rows names′ rows′ out′ : List ℕ} {named used many name t mark filed uses : ℕ} where
+  -- what summarising a fact says, where it passes no limit
+  pub summarizes-done : {s : Summary} {r : Summarized} → Summarizes file names refs rows named used many name t names′ rows′ out′ mark filed uses r → r ≡ summarized.Done s
+      → Summary-of file names refs rows named used many name t names′ rows′ out′ mark filed uses s
+  summarizes-done {s} d p = go (rw p at d)
+    where
+      go : Summarizes file names refs rows named used many name t names′ rows′ out′ mark filed uses (summarized.Done s)
+          → Summary-of file names refs rows named used many name t names′ rows′ out′ mark filed uses s
+      go (done a) = a
+
+  module _ {s : Summary} (a : Summary-of file names refs rows named used many name t names′ rows′ out′ mark filed uses s) where
+    -- the entries then are within their limit
+    pub few-filed : s .entries ≤ 2048
+    few-filed = omega (arith, a .entry-count, a .triggers .few)
+
+    -- the table has no fewer names then
+    names-more : named ≤ s .named
+    unfolding names-then
+    names-more =
+        omega (
+          arith,
+          names-length file names named,
+          names-length file names′ (s .named),
+          ap length (a .triggers .spelled),
+          fold-more (names-of file names named) (fact-kind file names refs rows named used many name t .trimmed),
+        )
+
+-- after a fact the tables are ready for the next line
+pub goes-fact : {file names refs rows names′ rows′ out′ : List ℕ} {k : Counts} {line name t : ℕ} {s : Summary} → Ready file names refs rows k line → Same-but 12288 4096 rows rows′
+    → Summary-of file names refs rows (k .named) (k .used) (k .many) name t names′ rows′ out′ (k .mark) (k .entries) (k .uses) s
+    → Goes file names′ refs rows′ line (fed.On (record { named = s .named; used = k .used; many = k .many; entries = s .entries; uses = s .uses; mark = s .mark }))
+goes-fact r same a = line-fed (record {
+  tables = record {
+    name-table = a .triggers .table;
+    term-table = rows-marked same (rows-named (names-more a) (a .triggers .table .few) (r .tables .term-table));
+    fresh = a .fresh;
+  };
+  few-entries = few-filed a;
+  few-uses = a .few-uses;
+  few-marks = omega (arith, r .few-marks, a .next-mark, a .entry-count);
+})
