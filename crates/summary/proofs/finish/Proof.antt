@@ -10,7 +10,7 @@ cast-gather-term : tie.Need-cast-gather-term
 cast-gather-term c = omega (arith, c .before .before .before .before .before .before .before .pre .4)
 
 gather-term-requires : tie.Need-gather-term-requires
-gather-term-requires c κs = (c .before .before .before .before .before .before .before .pre .0, c .before .before .before .before .before .before .before .pre .1, c .before .before .before .before .before .before .before .pre .2, c .before .before .before .before .before .before .before .pre .3, c .before .before .before .before .before .before .before .pre .6, omega (arith, c .before .before .before .before .before .before .before .pre .7))
+gather-term-requires c κs = (c .before .before .before .before .before .before .before .pre .0, c .before .before .before .before .before .before .before .pre .1, c .before .before .before .before .before .before .before .pre .2, c .before .before .before .before .before .before .before .pre .3, omega (arith, c .before .before .before .before .before .before .before .pre .6), omega (arith, c .before .before .before .before .before .before .before .pre .7))
 
 enum-known-n : tie.Need-enum-known-n
 enum-known-n c = search needs
