@@ -16,7 +16,7 @@ use Rattle.terms.specs.Rows.{row-kind, row-start, row-end, words, terms-of-word
 use Rattle.lines.specs.Additions.{row-word, with-row, added, rows-after, pushed, Pushed, Patterns, Adds}
 use Rattle.terms.proofs.Laws.{bare-label, bare-own, equal}
 use Rattle.lines.proofs.Laws.{pushed-in, added-in}
-use Rattle.terms.proofs.Table.{words-cons, words-drop}
+use Rattle.terms.proofs.Table.{words-cons, words-drop, bare-low}
 use Rattle.terms.proofs.Groups.{groups-bodied}
 use Rattle.lines.proofs.Adding.{push-agrees, push-length, New-row, row-added, terms-added}
 
@@ -91,19 +91,6 @@ patterns-one {refs} {start} {used} {groups} t g r l s k last p = record {
     old i h = push-agrees refs used (t + 4096 * g) i h
 
 -- ---- the row of each kind
-
--- the term under a run of labels is not above the row
-pub bare-low : {refs rows : List ℕ} {used many named : ℕ} → Rows refs rows used many named → (t : ℕ) → t < many → bare-of rows t ≤ t
-bare-low {refs} {rows} {used} {many} r t l = go (suc t) t (omega arith) l
-  where
-    go : (m t : ℕ) → t < m → t < many → bare-of rows t ≤ t
-    go zero t h l = absurd (not-suc-le-zero h)
-    go (suc m) t h l = ⊎-elim
-        (λ (e : row-kind rows t ≡ 7).
-        let d = r .lower t (row-start rows t) l (omega arith) (omega (arith, r .single t l e)) in
-        omega (arith, bare-label rows t e, r .labelled t l e, go m (getD refs (row-start rows t) 0 % 4096) (omega arith) (omega arith)))
-        (λ (e : row-kind rows t ≡ 7 → ⊥). omega (arith, bare-own rows t e))
-        (equal (row-kind rows t) 7)
 
 -- what `add_row` comes to
 abbrev pub Row-written : List ℕ → List ℕ → ℕ → ℕ → ℕ → ℕ → Added → Type 0

@@ -17,14 +17,14 @@ use Rattle.model.specs.declared.AsumKind.{AsumKind}
 use Rattle.names.specs.Table.{Table, name-of, names-of}
 use Rattle.names.proofs.Coded.{Kept}
 use Rattle.terms.specs.Rows.{words, terms-of, Rows}
-use Rattle.terms.proofs.Table.{terms-named, words-cons, words-nil}
+use Rattle.terms.proofs.Table.{terms-named, words-agree}
 use Rattle.gather.specs.Sets.{Fresh, Same-but, Named, Gathers, all-names, no-room as no-names, Gathered, ended}
 use Rattle.gather.specs.declared.Walked.{Walked}
 use Rattle.gather.specs.declared.Walked.the-variants as walks
 use Rattle.gather.proofs.Steps.{same-back, same-then}
 use Rattle.gather.proofs.Walking.{rows-marked}
 use Rattle.triggers.specs.Entries.{entry-number, before-first, disjuncts-of-words, disjuncts-of, entries, Entries}
-use Rattle.triggers.proofs.Marked.{named-marked, terms-marked}
+use Rattle.triggers.proofs.Marked.{named-marked, terms-marked, fresh-next}
 use Rattle.rules.specs.Views.{Tables, terms-in}
 use Rattle.rules.specs.Choices.{kinded, Within}
 use Rattle.rules.specs.declared.Choice.{Choice}
@@ -76,25 +76,10 @@ disjuncts-named f g h ws = split f (disjuncts-of-words ws) ∙ ap (map from-list
         choose more true = front-names f g (entry-number w) (disjuncts-of-words ws) (entry-name f g h w) more
         choose more false = ap₂ _∷_ (entry-name f g h w) more
 
--- words of two slices that agree from a place on
-words-agree : (l m : List ℕ) (d a e : ℕ) → e - a ≡ d → e ≤ length l → e ≤ length m → ((i : ℕ) → a ≤ i → getD m i 0 ≡ getD l i 0) → words m a e ≡ words l a e
-words-agree l m zero a e q x y h = words-nil m a e (omega arith) ∙ sym (words-nil l a e (omega arith))
-words-agree l m (suc d) a e q x y h =
-    words-cons m a e (omega arith) y
-    ∙ ap₂ _∷_ (h a (omega arith)) (words-agree l m d (a + 1) e (omega arith) x y (λ i k. h i (omega arith)))
-    ∙ sym (words-cons l a e (omega arith) x)
-
 -- with other marks each number below 2,048 has the same name
 name-marked : (file : List ℕ) {names names′ : List ℕ} → Same-but 8192 2048 names names′ → (n : ℕ) → n < 2048 → name-of file names′ n ≡ name-of file names n
 unfolding name-of
 name-marked file same n l = rw (same .same-words n (λ a b. omega arith), same .same-words (2048 + n) (λ a b. omega arith)) refl
-
--- after gathering, marks are below the next
-gathered-fresh : {names rows out names′ rows′ out′ : List ℕ} {mark at room : ℕ} {r : Walked} → Gathered names rows out names′ rows′ out′ mark at room r → Fresh names rows mark → Fresh names′ rows′ (mark + 1)
-gathered-fresh g f = record {
-  row-marks = λ t l. ⊎-elim (λ e. omega arith) (λ e. omega (arith, f .row-marks t l)) (g .row-marks t l);
-  name-marks = λ n l. ⊎-elim (λ e. omega arith) (λ e. omega (arith, f .name-marks n l)) (g .name-marks n l);
-}
 
 -- what a choice comes to, by its answer
 pub chooses-is : {file names refs rows out names′ rows′ out′ : List ℕ} {named used many mark at : ℕ} {chosen : Choice} {r r′ : Sorted} → r ≡ r′ → Chooses file names refs rows out names′ rows′ out′ named used many mark at chosen r
@@ -200,7 +185,7 @@ module _ {file names refs rows out names′ rows′ out′ : List ℕ} {named us
           let grows = s .grows in
           let room = asked .room in
           let long : length out′ ≡ length out = chooses .marks .out-same .same-length in
-          words-agree out′ out″ (e - (6144 + filed)) (6144 + filed) e refl (omega arith) (omega (arith, s .out-same .same-length)) (λ i l. s .out-same .same-words i (λ x y. omega arith))
+          words-agree out′ out″ (e - (6144 + filed)) (6144 + filed) e refl (omega arith) (omega (arith, s .out-same .same-length)) (λ i l k. s .out-same .same-words i (λ x y. omega arith))
 
       -- so the disjuncts do
       kept-triggers : Triggers-of file names refs rows named used many name t names″ out″ filed total
@@ -261,7 +246,7 @@ module _ {file names refs rows out names′ rows′ out′ : List ℕ} {named us
             few-uses = fits;
             use-words = small;
             next-mark = omega arith;
-            fresh = gathered-fresh (finishes .slices) (rw is (chooses .marks .fresh a e total refl));
+            fresh = fresh-next (rw is (chooses .marks .fresh a e total refl)) (finishes .slices);
           })
       kept-summary walks.Full (no-names p f) = uses-full {total = total} kept-triggers (omega arith)
 

@@ -5,16 +5,21 @@ use native.Mathlib.Numerals.{add-one}
 use native.Mathlib.Omega.{arith}
 use mathlib.Core.Path.{_≡_, refl, sym, ap, ap₂, _∙_}
 use mathlib.Core.List.{List, [], _∷_, _++_, map, map-append, List·Memᴰ, List·Memᴰ·head, List·Memᴰ·tail, Memᴰ·append-left, Memᴰ·append-right, append-nil}
+use mathlib.Core.Bool.{Bool, true, false, cond}
 use mathlib.Core.Logic.{_⊎_, inl, inr, ⊎-elim}
+use mathlib.Core.Option.{Option·getD}
 use lib.ListN.{length, drop, getD, length-append, List·getD-append}
 use lib.Seq.{ext-getD, getD-at}
 use lib.Dec.{T, eqb, eqb→eq}
 use borrow.Author.Tests.{eq-eqb, ne-eqb}
-use Rattle.model.specs.Lists.{keep, concat}
+use Rattle.model.specs.Lists.{keep, concat, when}
+use Rattle.model.specs.Names.{Name}
+use Rattle.model.specs.Summaries.{exclude-names, groups-of, group-names, triggers-of-term}
+use Rattle.model.specs.declared.Op.{Op}
 use Rattle.model.proofs.ListLaws.{T-or, keep-append, keep-all, keep-none}
-use Rattle.terms.specs.Rows.{row-kind, row-start, row-extra, row-end, words, terms-of-words, group-of-words, groups-of-words, group-run, has-body, has-groups, Rows}
+use Rattle.terms.specs.Rows.{row-kind, row-start, row-extra, row-end, words, terms-of-words, group-of-words, groups-of-words, group-run, make-node, node-of, terms-of, has-body, has-groups, bare-of, groups-at, Rows}
 use Rattle.terms.proofs.Laws.{equal, below}
-use Rattle.terms.proofs.Table.{words-nil, words-cons, words-elim, words-drop}
+use Rattle.terms.proofs.Table.{words-nil, words-cons, words-elim, words-drop, bare-law}
 
 -- the words of groups, the first of which has the number g
 unfoldable pub group-words : ℕ → List (List ℕ) → List ℕ
@@ -79,14 +84,14 @@ groups-length ws zero = refl
 groups-length ws (suc n) = rw (length-append, groups-length ws n) (omega arith)
 
 -- each group by its number
-groups-at : (ws : List ℕ) (n h : ℕ) → h < n → getD (groups-of-words ws n) h [] ≡ group-of-words ws h
+nth-group : (ws : List ℕ) (n h : ℕ) → h < n → getD (groups-of-words ws n) h [] ≡ group-of-words ws h
 unfolding groups-of-words
-groups-at ws zero h l = absurd (not-suc-le-zero l)
-groups-at ws (suc n) h l = ⊎-elim
+nth-group ws zero h l = absurd (not-suc-le-zero l)
+nth-group ws (suc n) h l = ⊎-elim
     (λ e. rw e (getD-at (groups-of-words ws n) (group-of-words ws n) [] [] n (groups-length ws n)))
     (λ (e : h ≡ n → ⊥).
     let k : h < n = omega arith in
-    List·getD-append (groups-of-words ws n) (group-of-words ws n ∷ []) [] h (rw (groups-length ws n) k) ∙ groups-at ws n h k)
+    List·getD-append (groups-of-words ws n) (group-of-words ws n ∷ []) [] h (rw (groups-length ws n) k) ∙ nth-group ws n h k)
     (equal h n)
 
 -- groups are read back from their words
@@ -95,7 +100,7 @@ unfolding Small
 groups-law gs s = ext-getD [] (groups-of-words (group-words 0 gs) (length gs)) gs (groups-length (group-words 0 gs) (length gs)) (λ i l.
     let k : i < length gs = rw (groups-length (group-words 0 gs) (length gs)) at l in
     let e : 0 + i ≡ i = omega arith in
-    groups-at (group-words 0 gs) (length gs) i k ∙ sym (ap (group-of-words (group-words 0 gs)) e) ∙ group-at gs 0 i k s)
+    nth-group (group-words 0 gs) (length gs) i k ∙ sym (ap (group-of-words (group-words 0 gs)) e) ∙ group-at gs 0 i k s)
 
 -- the words of a group with words of later groups behind them are of no group before
 low-in : (ts ws : List ℕ) (g : ℕ) → ((i : ℕ) → i < length ws → suc g ≤ getD ws i 0 / 4096) → (i : ℕ) → i < length (map (λ t. t + 4096 * g) ts ++ ws) → g ≤ getD (map (λ t. t + 4096 * g) ts ++ ws) i 0 / 4096
@@ -275,3 +280,37 @@ module _ {refs rows : List ℕ} {used many named t : ℕ} (r : Rows refs rows us
       (λ k. let x = b .low in let z : ⊥ = omega (arith, b .upper p (omega arith) k, r .grouped t p l q (omega arith) k) in absurd z)
       (λ k. omega (arith, b .high))
       (below p (row-end rows used many t))
+
+-- ---- the triggers of a term
+
+-- an `all` is a node of kind 4
+groups-node : (kind : ℕ) (op : Op) (name : Name) (ws : List ℕ) (g : ℕ) → groups-of (make-node kind op name ws g) ≡ when (eqb kind 4) (groups-of-words (drop 1 ws) g)
+unfolding groups-of make-node when
+groups-node zero op name ws g = refl
+groups-node (suc zero) op name ws g = refl
+groups-node (suc (suc zero)) op name ws g = refl
+groups-node (suc (suc (suc zero))) op name ws g = refl
+groups-node (suc (suc (suc (suc zero)))) op name ws g = refl
+groups-node (suc (suc (suc (suc (suc zero))))) op name ws g = refl
+groups-node (suc (suc (suc (suc (suc (suc zero)))))) op name ws g = refl
+groups-node (suc (suc (suc (suc (suc (suc (suc n))))))) op name ws g = rw (ne-eqb (suc (suc (suc (suc (suc (suc (suc n))))))) 4 (λ e. omega arith))
+
+-- groups by a test are no groups where it does not hold
+groups-when : (b : Bool) (ws : List ℕ) (g : ℕ) → Option·getD (when b (groups-of-words ws g)) [] ≡ groups-of-words ws (cond b g 0)
+unfolding when groups-of-words
+groups-when true ws g = refl
+groups-when false ws g = refl
+
+module _ {refs rows : List ℕ} {used many named : ℕ} (table : Rows refs rows used many named) (name : ℕ → Name) where
+  -- the triggers of a term: one name set for each group of the `all` under its labels
+  pub groups-count : {t : ℕ} → t < many → triggers-of-term exclude-names (terms-of name refs rows used many) t
+      ≡ map (group-names exclude-names (terms-of name refs rows used many))
+      (groups-of-words (words refs (row-start rows (bare-of rows t) + 1) (row-end rows used many (bare-of rows t))) (groups-at rows t))
+  unfolding triggers-of-term node-of groups-at
+  groups-count {t} l =
+      let u = bare-of rows t in
+      ap (map (group-names exclude-names (terms-of name refs rows used many)))
+      (ap (λ node. Option·getD (groups-of node) []) (bare-law name refs rows used many table t l)
+      ∙ ap (λ gs. Option·getD gs []) (groups-node (row-kind rows u) _ _ _ _)
+      ∙ groups-when (eqb (row-kind rows u) 4) _ (row-extra rows u)
+      ∙ ap (λ ws. groups-of-words ws (groups-at rows t)) (words-drop refs (row-start rows u) (row-end rows used many u)))

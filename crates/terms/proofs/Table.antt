@@ -474,11 +474,30 @@ module _ (name : ℕ → Name) (refs rows : List ℕ) (used many : ℕ) where
   pub bare-law : {named : ℕ} → Rows refs rows used many named → (t : ℕ) → t < many → term (terms-of name refs rows used many) t .bare ≡ node-of name refs rows used many (bare-of rows t)
   bare-law r t l = rw table-all (bare-table r (suc t) many t (omega arith) l (omega arith))
 
+-- the term under a run of labels is not above the row
+pub bare-low : {refs rows : List ℕ} {used many named : ℕ} → Rows refs rows used many named → (t : ℕ) → t < many → bare-of rows t ≤ t
+bare-low {refs} {rows} {used} {many} r t l = go (suc t) t (omega arith) l
+  where
+    go : (m t : ℕ) → t < m → t < many → bare-of rows t ≤ t
+    go zero t h l = absurd (not-suc-le-zero h)
+    go (suc m) t h l = ⊎-elim
+        (λ (e : row-kind rows t ≡ 7).
+        let d = r .lower t (row-start rows t) l (omega arith) (omega (arith, r .single t l e)) in
+        omega (arith, bare-label rows t e, r .labelled t l e, go m (getD refs (row-start rows t) 0 % 4096) (omega arith) (omega arith)))
+        (λ (e : row-kind rows t ≡ 7 → ⊥). omega (arith, bare-own rows t e))
+        (equal (row-kind rows t) 7)
+
+-- words of lists that agree from their start up to their end are the same
+pub words-agree : (l m : List ℕ) (d a e : ℕ) → e - a ≡ d → e ≤ length l → e ≤ length m → ((i : ℕ) → a ≤ i → i < e → getD m i 0 ≡ getD l i 0) → words m a e ≡ words l a e
+words-agree l m zero a e q x y h = rw (words-nil m a e (omega arith), words-nil l a e (omega arith))
+words-agree l m (suc d) a e q x y h =
+    words-cons m a e (omega arith) y
+    ∙ ap₂ _∷_ (h a (omega arith) (omega arith)) (words-agree l m d (a + 1) e (omega arith) x y (λ i k b. h i (omega arith) b))
+    ∙ sym (words-cons l a e (omega arith) x)
+
 -- words of lists that agree up to their end are the same
 pub words-same : (l m : List ℕ) (d a e : ℕ) → e - a ≡ d → e ≤ length l → e ≤ length m → ((i : ℕ) → i < e → getD m i 0 ≡ getD l i 0) → words m a e ≡ words l a e
-words-same l m zero a e q x y h = rw (words-nil m a e (omega arith), words-nil l a e (omega arith))
-words-same l m (suc d) a e q x y h =
-    words-cons m a e (omega arith) y ∙ ap₂ _∷_ (h a (omega arith)) (words-same l m d (a + 1) e (omega arith) x y h) ∙ sym (words-cons l a e (omega arith) x)
+words-same l m d a e q x y h = words-agree l m d a e q x y (λ i k b. h i b)
 
 -- a word by its place
 pub words-at : (l : List ℕ) (a e i : ℕ) → a ≤ i → i < e → getD (words l a e) (i - a) 0 ≡ getD l i 0

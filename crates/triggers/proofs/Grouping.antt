@@ -11,7 +11,7 @@ use Rattle.model.specs.Names.{Name}
 use Rattle.model.specs.Summaries.{exclude-names, group-names, triggers-of-term, is-empty}
 use Rattle.model.proofs.ListLaws.{collect-append}
 use Rattle.terms.specs.Rows.{row-start, row-end, words, terms-of-words, group-of-words, groups-of-words, group-run, terms-of, bare-of, groups-at, Rows}
-use Rattle.terms.proofs.Table.{words-nil, words-snoc}
+use Rattle.terms.proofs.Table.{words-nil, words-snoc, bare-low}
 use Rattle.terms.proofs.Groups.{Before, group-first, group-next, group-place, group-last, words-split}
 use Rattle.gather.specs.Sets.{Same-but, Fresh, Gathers, all-names, no-room, Gathered}
 use Rattle.gather.specs.declared.Walked.{Walked}
@@ -22,14 +22,14 @@ use Rattle.triggers.specs.declared.Filed.the-variants as filed
 use Rattle.triggers.specs.Entries.{entries}
 use Rattle.triggers.specs.Inner.{Stage, Comes}
 use Rattle.triggers.proofs.Disjuncts.{entries-append}
-use Rattle.triggers.proofs.Marked.{terms-marked, fresh-later, fresh-next, bare-below, All, patterns, triggers-all, triggers-none, groups-more, groups-fewer}
+use Rattle.triggers.proofs.Marked.{terms-marked, fresh-later, fresh-next, All, patterns, triggers-all, triggers-none, groups-more, groups-fewer}
 use Rattle.triggers.proofs.Filing.{after, after-full, after-sets, comes-as, comes-is, comes-more, comes-next, comes-none}
 
 -- what reading the groups of a term asks
 pub patterns-asks : {refs rows : List ℕ} {used many named : ℕ} → Rows refs rows used many named → (t : ℕ) → t < many
     → (16384 ≤ length rows) × (many ≤ 4096) × (t < many) × (bare-of rows t < many) × (row-start rows (bare-of rows t) ≤ 16384)
 patterns-asks {rows = rows} {many = many} r t l =
-    let u : bare-of rows t < many = omega (arith, bare-below r t l) in
+    let u : bare-of rows t < many = omega (arith, bare-low r t l) in
     (r .row-room, r .few-rows, l, u, omega (arith, r .in-order (bare-of rows t) u, r .in-use (bare-of rows t) u, r .few-references))
 
 -- what is read of them

@@ -5,17 +5,16 @@ use native.Mathlib.Numerals.{add-one}
 use mathlib.Core.Path.{_≡_, refl, sym, ap, ap₂, _∙_}
 use mathlib.Core.Logic.{_⊎_, ⊎-elim}
 use mathlib.Core.List.{List, [], _∷_, _++_, map, map-append}
-use mathlib.Core.Option.{Option·getD}
 use lib.ListN.{drop, getD}
 use lib.Dec.{T}
 use Rattle.model.specs.Lists.{fold-left}
 use Rattle.model.specs.Names.{Name}
 use Rattle.model.specs.Terms.{add-term}
-use Rattle.model.specs.Summaries.{exclude-names, groups-of, group-names, triggers-of-term}
-use Rattle.model.specs.declared.Op.{Op}
+use Rattle.model.specs.Summaries.{exclude-names, group-names, triggers-of-term}
 use Rattle.terms.specs.Rows.{row-kind, row-op, row-head, row-start, row-extra, row-end, words, group-of-words, groups-of-words, op-of-code, make-node, node-of, nodes-below, terms-of, has-groups, bare-of, groups-at, Rows}
-use Rattle.terms.proofs.Laws.{equal, below, bare-label, bare-own, groups-all, groups-other}
-use Rattle.terms.proofs.Table.{bare-law}
+use Rattle.terms.proofs.Laws.{equal, below, groups-all, groups-other}
+use Rattle.terms.proofs.Table.{bare-low, words-drop}
+use Rattle.terms.proofs.Groups.{groups-count}
 use Rattle.gather.specs.Sets.{Named, Fresh, Same-but, Gathered}
 use Rattle.gather.specs.declared.Walked.{Walked}
 use Rattle.gather.proofs.Walking.{word-same, start-same, extra-same, end-same}
@@ -56,37 +55,6 @@ fresh-next f g = record {
 
 -- ---- the triggers of a term
 
--- a label's term is lower
-pub bare-below : {refs rows : List ℕ} {used many named : ℕ} → Rows refs rows used many named → (t : ℕ) → t < many → bare-of rows t ≤ t
-bare-below {refs} {rows} {used} {many} r t l = go (t + 1) t (omega arith) l
-  where
-    go : (m t : ℕ) → t < m → t < many → bare-of rows t ≤ t
-    go zero t h l = omega arith
-    go (suc m) t h l = ⊎-elim
-        (λ (e : row-kind rows t ≡ 7).
-        let b : row-start rows t < row-end rows used many t = omega (arith, r .single t l e) in
-        let d : getD refs (row-start rows t) 0 % 4096 < t = r .lower t (row-start rows t) l (omega arith) b in
-        omega (arith, bare-label rows t e ∙ r .labelled t l e, go m (getD refs (row-start rows t) 0 % 4096) (omega arith) (omega arith)))
-        (λ e. omega (arith, bare-own rows t e))
-        (equal (row-kind rows t) 7)
-
--- the groups of an `all`
-groups-four : (kind : ℕ) (op : Op) (name : Name) (ws : List ℕ) (g : ℕ) → kind ≡ 4 → Option·getD (groups-of (make-node kind op name ws g)) [] ≡ groups-of-words (drop 1 ws) g
-unfolding groups-of make-node
-groups-four kind op name ws g e = rw e
-
--- another node has none
-groups-none : (kind : ℕ) (op : Op) (name : Name) (ws : List ℕ) (g : ℕ) → (kind ≡ 4 → ⊥) → Option·getD (groups-of (make-node kind op name ws g)) [] ≡ []
-unfolding groups-of make-node
-groups-none zero op name ws g n = refl
-groups-none (suc zero) op name ws g n = refl
-groups-none (suc (suc zero)) op name ws g n = refl
-groups-none (suc (suc (suc zero))) op name ws g n = refl
-groups-none (suc (suc (suc (suc zero)))) op name ws g n = absurd (n refl)
-groups-none (suc (suc (suc (suc (suc zero))))) op name ws g n = refl
-groups-none (suc (suc (suc (suc (suc (suc zero)))))) op name ws g n = refl
-groups-none (suc (suc (suc (suc (suc (suc (suc k))))))) op name ws g n = refl
-
 -- an `all` under a term's labels, with its groups
 pub record All (refs rows : List ℕ) (used many t groups u e : ℕ) : Type 0 where
   pub bare : u ≡ bare-of rows t
@@ -100,17 +68,6 @@ pub record All (refs rows : List ℕ) (used many t groups u e : ℕ) : Type 0 wh
 abbrev pub patterns : List ℕ → List ℕ → ℕ → ℕ → ℕ → List ℕ
 patterns refs rows used many u = drop 1 (words refs (row-start rows u) (row-end rows used many u))
 
-module _ (name : ℕ → Name) (refs rows : List ℕ) (used many u : ℕ) where
-  -- the groups of a row that is an `all`
-  row-all : row-kind rows u ≡ 4 → Option·getD (groups-of (node-of name refs rows used many u)) [] ≡ groups-of-words (patterns refs rows used many u) (row-extra rows u)
-  unfolding node-of
-  row-all k = groups-four (row-kind rows u) (op-of-code (row-op rows u)) (name (row-head rows u)) (words refs (row-start rows u) (row-end rows used many u)) (row-extra rows u) k
-
-  -- and of one that is not
-  row-other : (row-kind rows u ≡ 4 → ⊥) → Option·getD (groups-of (node-of name refs rows used many u)) [] ≡ []
-  unfolding node-of
-  row-other k = groups-none (row-kind rows u) (op-of-code (row-op rows u)) (name (row-head rows u)) (words refs (row-start rows u) (row-end rows used many u)) (row-extra rows u) k
-
 module _ {refs rows : List ℕ} {used many named t groups : ℕ} (r : Rows refs rows used many named) (l : t < many) (counts : groups ≡ groups-at rows t) where
   -- a term with groups is an `all`
   pub all-there : (groups ≡ 0 → ⊥) → {u e : ℕ} → u ≡ bare-of rows t → e ≡ row-end rows used many u → All refs rows used many t groups u e
@@ -118,7 +75,7 @@ module _ {refs rows : List ℕ} {used many named t groups : ℕ} (r : Rows refs 
   all-there there {u} {e} b q = ⊎-elim
       (λ (k : row-kind rows u ≡ 4). record {
         bare = b;
-        lower = omega (arith, bare-below r t l);
+        lower = omega (arith, bare-low r t l);
         is-all = k;
         quantifier = rw k tt;
         counted = counts ∙ groups-all rows t u b k;
@@ -129,21 +86,17 @@ module _ {refs rows : List ℕ} {used many named t groups : ℕ} (r : Rows refs 
 
   -- a term without groups has no trigger
   pub triggers-none : groups ≡ 0 → (name : ℕ → Name) → triggers-of-term exclude-names (terms-of name refs rows used many) t ≡ []
-  unfolding triggers-of-term groups-of-words
-  triggers-none z name =
-      ap (λ n. map (group-names exclude-names (terms-of name refs rows used many)) (Option·getD (groups-of n) [])) (bare-law name refs rows used many r t l)
-      ∙ ap (map (group-names exclude-names (terms-of name refs rows used many))) (⊎-elim
-      (λ k. row-all name refs rows used many (bare-of rows t) k ∙ ap (groups-of-words (patterns refs rows used many (bare-of rows t))) (sym (groups-all rows t (bare-of rows t) refl k) ∙ sym counts ∙ z))
-      (λ k. row-other name refs rows used many (bare-of rows t) k)
-      (equal (row-kind rows (bare-of rows t)) 4))
+  unfolding groups-of-words
+  triggers-none z name = groups-count r name l ∙ ap (λ g. map (group-names exclude-names (terms-of name refs rows used many)) (groups-of-words (words refs (row-start rows (bare-of rows t) + 1) (row-end rows used many (bare-of rows t))) g)) (sym counts ∙ z)
 
 -- the triggers of a term with groups
 pub triggers-all : {refs rows : List ℕ} {used many named t groups u e : ℕ} → Rows refs rows used many named → t < many → All refs rows used many t groups u e → (name : ℕ → Name)
     → map (group-names exclude-names (terms-of name refs rows used many)) (groups-of-words (patterns refs rows used many u) groups) ≡ triggers-of-term exclude-names (terms-of name refs rows used many) t
-unfolding triggers-of-term
 triggers-all {refs} {rows} {used} {many} {t} {groups} {u} r l a name = sym
-    (ap (λ n. map (group-names exclude-names (terms-of name refs rows used many)) (Option·getD (groups-of n) [])) (bare-law name refs rows used many r t l ∙ ap (node-of name refs rows used many) (sym (a .bare)))
-    ∙ ap (map (group-names exclude-names (terms-of name refs rows used many))) (row-all name refs rows used many u (a .is-all) ∙ ap (groups-of-words (patterns refs rows used many u)) (sym (a .counted))))
+    (groups-count r name l
+    ∙ ap₂ (λ ws g. map (group-names exclude-names (terms-of name refs rows used many)) (groups-of-words ws g))
+    (ap (λ v. words refs (row-start rows v + 1) (row-end rows used many v)) (sym (a .bare)) ∙ sym (words-drop refs (row-start rows u) (row-end rows used many u)))
+    (groups-all rows t u (a .bare) (a .is-all) ∙ sym (a .counted)))
 
 -- ---- the groups so far
 
