@@ -32,14 +32,14 @@ reference-requires c κs =
     let start = c .before .before .before .before .before .before in
     omega (arith, start .pre .0 .ref-room, start .pre .0 .few-references, start .pre .3)
 
-sub-file-groups : tie.Need-sub-file-groups Inv-loop μ-loop
-sub-file-groups c = comes-ends (c .before .before .before .before .before .loop .inv .2) .0
+sub-triggers-of-term : tie.Need-sub-triggers-of-term Inv-loop μ-loop
+sub-triggers-of-term c = comes-ends (c .before .before .before .before .before .loop .inv .2) .0
 
-add-file-groups : tie.Need-add-file-groups Inv-loop μ-loop
-add-file-groups c = omega (arith, c .before .before .before .before .before .before .before .before .before .before .pre .1 .few-marks, comes-ends (c .before .before .before .before .before .loop .inv .2) .0, comes-ends (c .before .before .before .before .before .loop .inv .2) .1)
+add-triggers-of-term : tie.Need-add-triggers-of-term Inv-loop μ-loop
+add-triggers-of-term c = omega (arith, c .before .before .before .before .before .before .before .before .before .before .pre .1 .few-marks, comes-ends (c .before .before .before .before .before .loop .inv .2) .0, comes-ends (c .before .before .before .before .before .loop .inv .2) .1)
 
-file-groups-requires : tie.Need-file-groups-requires Inv-loop μ-loop
-file-groups-requires c κs =
+triggers-of-term-requires : tie.Need-triggers-of-term-requires Inv-loop μ-loop
+triggers-of-term-requires c κs =
     let start = c .before .before .before .before .before .before .before .before .before .before in
     (rows-marked (c .before .before .before .before .before .loop .inv .2 .filled .rows-same) (start .pre .0), stage-then (opened-stage (start .pre .1)) (c .before .before .before .before .before .loop .inv .2), omega (arith, c .before .before .before .reference .ensures, start .pre .4 (c .before .before .before .before .before .loop .i) (c .before .before .before .before .before .loop .inv .0) (c .before .before .before .before .loop-test .taken)))
 
@@ -52,7 +52,7 @@ enum-told c = c .match .keys2
 returns : tie.Need-returns Inv-loop μ-loop
 returns c =
     let start = c .before .before .before .before .before .before .before .before .before .before .before .before .before .before .before .before .before .before .before in
-    posts (list-full (start .pre .0) (opened-stage (start .pre .1)) (start .pre .3) (c .before .before .before .before .before .before .before .before .before .before .before .before .before .before .loop .inv .0) (c .before .before .before .before .before .before .before .before .before .before .before .before .before .loop-test .taken) (c .before .before .before .before .before .before .before .before .before .before .before .before .reference .ensures) (c .before .before .before .before .before .before .before .before .before .before .before .before .before .before .loop .inv .2) (c .before .before .before .before .before .before .before .before .file-groups .ensures) (c .enum-told .given .1))
+    posts (list-full (start .pre .0) (opened-stage (start .pre .1)) (start .pre .3) (c .before .before .before .before .before .before .before .before .before .before .before .before .before .before .loop .inv .0) (c .before .before .before .before .before .before .before .before .before .before .before .before .before .loop-test .taken) (c .before .before .before .before .before .before .before .before .before .before .before .before .reference .ensures) (c .before .before .before .before .before .before .before .before .before .before .before .before .before .before .loop .inv .2) (c .before .before .before .before .before .before .before .before .triggers-of-term .ensures) (c .enum-told .given .1))
 
 same-length : tie.Need-same-length Inv-loop μ-loop
 same-length c = returns c .1 .names-same .same-length
@@ -64,7 +64,7 @@ same-length-3 : tie.Need-same-length-3 Inv-loop μ-loop
 same-length-3 c = returns c .1 .out-same .same-length
 
 add-count : tie.Need-add-count Inv-loop μ-loop
-add-count c = omega (arith, comes-ends (c .before .before .before .before .before .before .before .before .before .before .before .before .before .before .before .loop .inv .2) .1, comes-ends (c .before .before .before .before .before .before .before .before .before .before .before .before .before .before .before .loop .inv .2) .2, comes-ends (comes-is (c .before .more .given .1) (c .before .before .before .before .before .before .before .before .before .file-groups .ensures)) .1, comes-ends (comes-is (c .before .more .given .1) (c .before .before .before .before .before .before .before .before .before .file-groups .ensures)) .2)
+add-count c = omega (arith, comes-ends (c .before .before .before .before .before .before .before .before .before .before .before .before .before .before .before .loop .inv .2) .1, comes-ends (c .before .before .before .before .before .before .before .before .before .before .before .before .before .before .before .loop .inv .2) .2, comes-ends (comes-is (c .before .more .given .1) (c .before .before .before .before .before .before .before .before .before .triggers-of-term .ensures)) .1, comes-ends (comes-is (c .before .more .given .1) (c .before .before .before .before .before .before .before .before .before .triggers-of-term .ensures)) .2)
 
 add-i : tie.Need-add-i Inv-loop μ-loop
 add-i c = omega arith
@@ -75,7 +75,7 @@ loop-less c = omega arith
 loop-again : tie.Need-loop-again Inv-loop μ-loop
 loop-again c =
     let start = c .before .before .before .before .before .before .before .before .before .before .before .before .before .before .before .before .before .before .before .before in
-    (omega (arith, c .before .before .before .before .before .before .before .before .before .before .before .before .before .before .before .loop .inv .0), omega (arith, c .before .before .before .before .before .before .before .before .before .before .before .before .before .before .loop-test .taken), list-next (start .pre .0) (opened-stage (start .pre .1)) (start .pre .3) (c .before .before .before .before .before .before .before .before .before .before .before .before .before .before .before .loop .inv .0) (c .before .before .before .before .before .before .before .before .before .before .before .before .before .before .loop-test .taken) (c .before .before .before .before .before .before .before .before .before .before .before .before .before .reference .ensures) (c .before .before .before .before .before .before .before .before .before .before .before .before .before .before .before .loop .inv .2) (c .before .before .before .before .before .before .before .before .before .file-groups .ensures) (c .before .more .given .1))
+    (omega (arith, c .before .before .before .before .before .before .before .before .before .before .before .before .before .before .before .loop .inv .0), omega (arith, c .before .before .before .before .before .before .before .before .before .before .before .before .before .before .loop-test .taken), list-next (start .pre .0) (opened-stage (start .pre .1)) (start .pre .3) (c .before .before .before .before .before .before .before .before .before .before .before .before .before .before .before .loop .inv .0) (c .before .before .before .before .before .before .before .before .before .before .before .before .before .before .loop-test .taken) (c .before .before .before .before .before .before .before .before .before .before .before .before .before .reference .ensures) (c .before .before .before .before .before .before .before .before .before .before .before .before .before .before .before .loop .inv .2) (c .before .before .before .before .before .before .before .before .before .triggers-of-term .ensures) (c .before .more .given .1))
 
 returns-2 : tie.Need-returns-2 Inv-loop μ-loop
 returns-2 c =
@@ -99,9 +99,9 @@ triggers-of-list-spec =
     μ-loop
     loop-holds
     reference-requires
-    sub-file-groups
-    add-file-groups
-    file-groups-requires
+    sub-triggers-of-term
+    add-triggers-of-term
+    triggers-of-term-requires
     enum-known-more
     enum-told
     same-length
