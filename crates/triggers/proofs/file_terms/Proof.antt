@@ -9,7 +9,7 @@ use Rattle.triggers.proofs.file_terms.Tie as tie
 file-term-requires : tie.Need-file-term-requires
 file-term-requires c κs =
     let start = c .before .before .before .before .before .before .before in
-    (start .pre .0, opened-stage (start .pre .1), omega (arith, start .pre .2, start .pre .3))
+    (start .pre .0, start .pre .1, omega (arith, start .pre .2, start .pre .3))
 
 enum-known-middle : tie.Need-enum-known-middle
 enum-known-middle c = c .match .keys1
@@ -20,7 +20,7 @@ enum-told c = c .match .keys2
 returns-3 : tie.Need-returns-3
 returns-3 c =
     let start = c .before .before .before .before .before .before .before .before .before .before .before .before .before .before .before .before .before .before .before .before .before .before .before .before .before .before .before .before .before .before in
-    let first = comes-is {s = λ name. term-set (start .args .refs .now) (start .args .rows .now) (start .args .used) (start .args .many) (start .args .t) name ∷ []} (c .before .before .before .before .before .before .before .before .before .before .before .before .before .before .middle .given .1) (c .before .before .before .before .before .before .before .before .before .before .before .before .before .before .before .before .before .before .before .before .before .before .file-term .ensures .0) in
+    let first = comes-is (c .before .before .before .before .before .before .before .before .before .before .before .before .before .before .middle .given .1) (comes-of (term-sets (start .args .refs .now) (start .args .rows .now) (start .args .used) (start .args .many) (start .args .t)) (c .before .before .before .before .before .before .before .before .before .before .before .before .before .before .before .before .before .before .before .before .before .before .file-term .ensures)) in
     posts (two-both (start .args .t) (start .args .u) (start .pre .0) (start .pre .1 .high) first (c .before .before .before .before .before .before .before .before .before .file-term2 .ensures .0) (c .before .end .given .1) (c .before .before .before .before .before .before .before .before .before .before .before .before .before .before .before .before .before .before .before .before .before .before .file-term .ensures .1 _ _ (c .before .before .before .before .before .before .before .before .before .before .before .before .before .before .middle .given .1)) (c .before .before .before .before .before .before .before .before .before .file-term2 .ensures .1 _ _ (c .before .end .given .1)))
 
 same-length-7 : tie.Need-same-length-7
@@ -47,20 +47,20 @@ same-length-3 c = returns c .1 .out-same .same-length
 sub-file-term : tie.Need-sub-file-term
 sub-file-term c =
     let start = c .before .before .before .before .before .before .before .before .before .before .before .before .before .before .before .before .before .before .before .before in
-    let first = comes-is {s = λ name. term-set (start .args .refs .now) (start .args .rows .now) (start .args .used) (start .args .many) (start .args .t) name ∷ []} (c .before .before .before .before .middle .given .1) (c .before .before .before .before .before .before .before .before .before .before .before .before .file-term .ensures .0) in
+    let first = comes-is (c .before .before .before .before .middle .given .1) (comes-of (term-sets (start .args .refs .now) (start .args .rows .now) (start .args .used) (start .args .many) (start .args .t)) (c .before .before .before .before .before .before .before .before .before .before .before .before .file-term .ensures)) in
     comes-ends first .0
 
 add-file-term : tie.Need-add-file-term
 add-file-term c =
     let start = c .before .before .before .before .before .before .before .before .before .before .before .before .before .before .before .before .before .before .before .before in
-    let first = comes-is {s = λ name. term-set (start .args .refs .now) (start .args .rows .now) (start .args .used) (start .args .many) (start .args .t) name ∷ []} (c .before .before .before .before .middle .given .1) (c .before .before .before .before .before .before .before .before .before .before .before .before .file-term .ensures .0) in
+    let first = comes-is (c .before .before .before .before .middle .given .1) (comes-of (term-sets (start .args .refs .now) (start .args .rows .now) (start .args .used) (start .args .many) (start .args .t)) (c .before .before .before .before .before .before .before .before .before .before .before .before .file-term .ensures)) in
     omega (arith, start .pre .1 .few-marks, comes-ends first .0, comes-ends first .1)
 
 file-term-requires-2 : tie.Need-file-term-requires-2
 file-term-requires-2 c κs =
     let start = c .before .before .before .before .before .before .before .before .before .before .before .before .before .before .before .before .before .before .before .before in
-    let first = comes-is {s = λ name. term-set (start .args .refs .now) (start .args .rows .now) (start .args .used) (start .args .many) (start .args .t) name ∷ []} (c .before .before .before .before .middle .given .1) (c .before .before .before .before .before .before .before .before .before .before .before .before .file-term .ensures .0) in
-    (rows-marked (first .filled .rows-same) (start .pre .0), stage-then {s = λ name. term-set (start .args .refs .now) (start .args .rows .now) (start .args .used) (start .args .many) (start .args .t) name ∷ []} (opened-stage (start .pre .1)) first, omega (arith, start .pre .2, start .pre .3))
+    let first = comes-is (c .before .before .before .before .middle .given .1) (comes-of (term-sets (start .args .refs .now) (start .args .rows .now) (start .args .used) (start .args .many) (start .args .t)) (c .before .before .before .before .before .before .before .before .before .before .before .before .file-term .ensures)) in
+    (rows-marked (first .filled .rows-same) (start .pre .0), opened-then (start .pre .1) first, omega (arith, start .pre .2, start .pre .3))
 
 enum-known-end : tie.Need-enum-known-end
 enum-known-end c = c .match2 .keys1
@@ -71,7 +71,7 @@ enum-told-2 c = c .match2 .keys2
 returns-2 : tie.Need-returns-2
 returns-2 c =
     let start = c .before .before .before .before .before .before .before .before .before .before .before .before .before .before .before .before .before .before .before .before .before .before .before .before .before .before .before .before .before in
-    let first = comes-is {s = λ name. term-set (start .args .refs .now) (start .args .rows .now) (start .args .used) (start .args .many) (start .args .t) name ∷ []} (c .before .before .before .before .before .before .before .before .before .before .before .before .before .middle .given .1) (c .before .before .before .before .before .before .before .before .before .before .before .before .before .before .before .before .before .before .before .before .before .file-term .ensures .0) in
+    let first = comes-is (c .before .before .before .before .before .before .before .before .before .before .before .before .before .middle .given .1) (comes-of (term-sets (start .args .refs .now) (start .args .rows .now) (start .args .used) (start .args .many) (start .args .t)) (c .before .before .before .before .before .before .before .before .before .before .before .before .before .before .before .before .before .before .before .before .before .file-term .ensures)) in
     posts (two-full (start .args .t) (start .args .u) (start .pre .0) (start .pre .1 .high) first (c .before .before .before .before .before .before .before .before .file-term2 .ensures .0) (c .enum-told2 .given .1))
 
 same-length-4 : tie.Need-same-length-4
