@@ -2,7 +2,7 @@
 use native.Mathlib.Omega.{arith}
 use mathlib.Core.List.{[], _∷_}
 use Rattle.gather.proofs.Walking.{rows-marked}
-use Rattle.triggers.proofs.Filing.{term-set, opened-stage, stage-then, comes-is, comes-ends, two-first, two-full, two-both, posts}
+use Rattle.triggers.proofs.Filing.{term-sets, opened-then, comes-of, comes-is, comes-ends, two-first, two-full, two-both, posts}
 use Rattle.triggers.proofs.file_terms.Statement.{statement}
 use Rattle.triggers.proofs.file_terms.Tie as tie
 
@@ -21,28 +21,30 @@ returns-3 : tie.Need-returns-3
 returns-3 c =
     let start = c .before .before .before .before .before .before .before .before .before .before .before .before .before .before .before .before .before .before .before .before .before .before .before .before .before .before .before .before .before .before in
     let first = comes-is (c .before .before .before .before .before .before .before .before .before .before .before .before .before .before .middle .given .1) (comes-of (term-sets (start .args .refs .now) (start .args .rows .now) (start .args .used) (start .args .many) (start .args .t)) (c .before .before .before .before .before .before .before .before .before .before .before .before .before .before .before .before .before .before .before .before .before .before .file-term .ensures)) in
-    posts (two-both (start .args .t) (start .args .u) (start .pre .0) (start .pre .1 .high) first (c .before .before .before .before .before .before .before .before .before .file-term2 .ensures .0) (c .before .end .given .1) (c .before .before .before .before .before .before .before .before .before .before .before .before .before .before .before .before .before .before .before .before .before .before .file-term .ensures .1 _ _ (c .before .before .before .before .before .before .before .before .before .before .before .before .before .before .middle .given .1)) (c .before .before .before .before .before .before .before .before .before .file-term2 .ensures .1 _ _ (c .before .end .given .1)))
+    posts (two-both (start .args .t) (start .args .u) (start .pre .0) (start .pre .1 .high) first (comes-of _ (c .before .before .before .before .before .before .before .before .before .file-term2 .ensures)) (c .before .end .given .1))
 
 same-length-7 : tie.Need-same-length-7
-same-length-7 c = returns-3 c .1 .names-same .same-length
+same-length-7 c = returns-3 c .1 .0 .names-same .same-length
 
 same-length-8 : tie.Need-same-length-8
-same-length-8 c = returns-3 c .1 .rows-same .same-length
+same-length-8 c = returns-3 c .1 .0 .rows-same .same-length
 
 same-length-9 : tie.Need-same-length-9
-same-length-9 c = returns-3 c .1 .out-same .same-length
+same-length-9 c = returns-3 c .1 .0 .out-same .same-length
 
 returns : tie.Need-returns
-returns c = posts (two-first _ _ (c .enum-told .given .1) (c .before .before .before .before .before .before .before .before .file-term .ensures .0))
+returns c =
+    let start = c .before .before .before .before .before .before .before .before .before .before .before .before .before .before .before .before in
+    posts (two-first (start .args .t) (start .args .u) (start .pre .0) (c .enum-told .given .1) (comes-of _ (c .before .before .before .before .before .before .before .before .file-term .ensures)))
 
 same-length : tie.Need-same-length
-same-length c = returns c .1 .names-same .same-length
+same-length c = returns c .1 .0 .names-same .same-length
 
 same-length-2 : tie.Need-same-length-2
-same-length-2 c = returns c .1 .rows-same .same-length
+same-length-2 c = returns c .1 .0 .rows-same .same-length
 
 same-length-3 : tie.Need-same-length-3
-same-length-3 c = returns c .1 .out-same .same-length
+same-length-3 c = returns c .1 .0 .out-same .same-length
 
 sub-file-term : tie.Need-sub-file-term
 sub-file-term c =
@@ -72,16 +74,16 @@ returns-2 : tie.Need-returns-2
 returns-2 c =
     let start = c .before .before .before .before .before .before .before .before .before .before .before .before .before .before .before .before .before .before .before .before .before .before .before .before .before .before .before .before .before in
     let first = comes-is (c .before .before .before .before .before .before .before .before .before .before .before .before .before .middle .given .1) (comes-of (term-sets (start .args .refs .now) (start .args .rows .now) (start .args .used) (start .args .many) (start .args .t)) (c .before .before .before .before .before .before .before .before .before .before .before .before .before .before .before .before .before .before .before .before .before .file-term .ensures)) in
-    posts (two-full (start .args .t) (start .args .u) (start .pre .0) (start .pre .1 .high) first (c .before .before .before .before .before .before .before .before .file-term2 .ensures .0) (c .enum-told2 .given .1))
+    posts (two-full (start .args .t) (start .args .u) (start .pre .0) (start .pre .1 .high) first (comes-of _ (c .before .before .before .before .before .before .before .before .file-term2 .ensures)) (c .enum-told2 .given .1))
 
 same-length-4 : tie.Need-same-length-4
-same-length-4 c = returns-2 c .1 .names-same .same-length
+same-length-4 c = returns-2 c .1 .0 .names-same .same-length
 
 same-length-5 : tie.Need-same-length-5
-same-length-5 c = returns-2 c .1 .rows-same .same-length
+same-length-5 c = returns-2 c .1 .0 .rows-same .same-length
 
 same-length-6 : tie.Need-same-length-6
-same-length-6 c = returns-2 c .1 .out-same .same-length
+same-length-6 c = returns-2 c .1 .0 .out-same .same-length
 
 pub file-terms-spec : {M : Type 1} → statement M
 file-terms-spec =
