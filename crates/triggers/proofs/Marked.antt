@@ -1,17 +1,17 @@
 -- A change of marks leaves the terms of a table; the triggers of a term by its row.
-use Prim.Native.Nat.{ℕ, zero, suc, _+_, _%_, _≤_, _<_}
+use Prim.Native.Nat.{ℕ, zero, suc, _+_, _≤_, _<_}
 use native.Mathlib.Omega.{arith}
 use native.Mathlib.Numerals.{add-one}
 use mathlib.Core.Path.{_≡_, refl, sym, ap, ap₂, _∙_}
-use mathlib.Core.Logic.{_⊎_, ⊎-elim}
+use mathlib.Core.Logic.{⊎-elim}
 use mathlib.Core.List.{List, [], _∷_, _++_, map, map-append}
-use lib.ListN.{drop, getD}
+use lib.ListN.{drop}
 use lib.Dec.{T}
 use Rattle.model.specs.Lists.{fold-left}
 use Rattle.model.specs.Names.{Name}
 use Rattle.model.specs.Terms.{add-term}
 use Rattle.model.specs.Summaries.{exclude-names, group-names, triggers-of-term}
-use Rattle.terms.specs.Rows.{row-kind, row-op, row-head, row-start, row-extra, row-end, words, group-of-words, groups-of-words, op-of-code, make-node, node-of, nodes-below, terms-of, has-groups, bare-of, groups-at, Rows}
+use Rattle.terms.specs.Rows.{row-kind, row-op, row-head, row-start, row-extra, row-end, words, group-of-words, groups-of-words, node-of, nodes-below, terms-of, has-groups, bare-of, groups-at, Rows}
 use Rattle.terms.proofs.Laws.{equal, below, groups-all, groups-other}
 use Rattle.terms.proofs.Table.{bare-low, words-drop}
 use Rattle.terms.proofs.Groups.{groups-count}

@@ -5,21 +5,20 @@ use native.Mathlib.Omega.{arith}
 use mathlib.Core.Path.{_≡_, refl, sym, ap, ap₂, _∙_}
 use mathlib.Core.Bool.{Bool, true, false, cond, _||_}
 use mathlib.Core.Logic.{⊎-elim}
-use mathlib.Core.List.{List, [], _∷_, _++_, map, map-append, append-nil, List·Memᴰ·not-nil}
+use mathlib.Core.List.{List, [], _∷_, map, map-append, append-nil, List·Memᴰ·not-nil}
 use lib.ListN.{length, getD, set, length-set}
 use lib.Seq.{ext-getD, getD-set-same, set-set}
-use lib.Dec.{eqb, ltb}
-use borrow.Author.Tests.{lt-ltb, le-ltb, eq-eqb, ne-eqb}
+use lib.Dec.{ltb}
+use borrow.Author.Tests.{lt-ltb, le-ltb, ne-eqb}
 use Rattle.model.specs.Lists.{concat, fold-left, sum}
 use Rattle.model.proofs.ListLaws.{fold-left-append, sum-append}
-use Rattle.terms.specs.Rows.{row-start, row-end, words, terms-of-words, group-of-words, groups-of-words, bare-of, groups-at, Rows}
+use Rattle.terms.specs.Rows.{words, terms-of-words, group-of-words, groups-of-words, groups-at}
 use Rattle.terms.proofs.Laws.{below, groups-all}
-use Rattle.terms.proofs.Table.{words-nil, words-drop, bare-low}
+use Rattle.terms.proofs.Table.{words-nil}
 use Rattle.gather.specs.declared.Walked.{Walked}
 use Rattle.gather.specs.declared.Walked.the-variants as gathered
-use Rattle.gather.specs.Sets.{Same-but, Gathered, ended}
-use Rattle.gather.specs.Visits.{Visit, start-visit, visit-term, visit-list, marked-at, put, Walks-as}
-use Rattle.gather.proofs.Walking.{kind-same, extra-same, bare-same}
+use Rattle.gather.specs.Sets.{Gathered, ended}
+use Rattle.gather.specs.Visits.{Visit, start-visit, visit-list, marked-at, put, Walks-as}
 use Rattle.gather.proofs.Visiting.{terms-split, terms-more}
 use Rattle.gather.proofs.Rendering.{answer-names, answer-full}
 use Rattle.triggers.specs.declared.Filed.{Filed}
@@ -218,14 +217,14 @@ names-kept {names} {names′ = names′} {out′ = out′} {at = at} {r = r} g =
     ext-getD 0 names′ names (g .names-same .same-length) (λ i l. ⊎-elim
     (λ (h : i < 8192). g .names-same .same-words i (λ a b. omega arith))
     (λ (h : 8192 ≤ i). ⊎-elim
-        (λ (k : i < 10240).
-        let q : 8192 + (i - 8192) ≡ i = omega arith in
-        rw (← q) (⊎-elim
-            (λ e. absurd (List·Memᴰ·not-nil (rw (words-nil out′ at (ended at r) (g .fits)) at (g .marks (i - 8192) (omega arith) .0 e))))
-            (λ e. e)
-            (g .name-marks (i - 8192) (omega arith))))
-        (λ (k : 10240 ≤ i). g .names-same .same-words i (λ a b. omega arith))
-        (below i 10240))
+    (λ (k : i < 10240).
+    let q : 8192 + (i - 8192) ≡ i = omega arith in
+    rw (← q) (⊎-elim
+    (λ e. absurd (List·Memᴰ·not-nil (rw (words-nil out′ at (ended at r) (g .fits)) at (g .marks (i - 8192) (omega arith) .0 e))))
+    (λ e. e)
+    (g .name-marks (i - 8192) (omega arith))))
+    (λ (k : 10240 ≤ i). g .names-same .same-words i (λ a b. omega arith))
+    (below i 10240))
     (below i 8192))
 
 -- and the slice

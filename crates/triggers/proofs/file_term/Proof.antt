@@ -13,7 +13,7 @@ cast-gather-term c = omega (arith, c .before .before .before .before .before .be
 gather-term-requires : tie.Need-gather-term-requires
 gather-term-requires c κs =
     let start = c .before .before .before .before .before .before .before in
-    (start .pre .0, start .pre .1 .name-room, start .pre .2, start .pre .1 .fresh, start .pre .1 .low, start .pre .1 .high)
+    (start .pre .0, start .pre .1 .name-room, omega (arith, start .pre .2), start .pre .1 .fresh, start .pre .1 .low, start .pre .1 .high)
 
 enum-known-end : tie.Need-enum-known-end
 enum-known-end c = c .match .keys1

@@ -1,6 +1,5 @@
 -- `triggers::file_terms` meets its contract: one disjunct after another.
 use native.Mathlib.Omega.{arith}
-use mathlib.Core.List.{[], _∷_}
 use Rattle.gather.proofs.Walking.{rows-marked}
 use Rattle.triggers.proofs.Filing.{term-sets, opened-then, comes-of, comes-is, comes-ends, two-first, two-full, two-both, posts}
 use Rattle.triggers.proofs.file_terms.Statement.{statement}
@@ -50,7 +49,7 @@ sub-file-term : tie.Need-sub-file-term
 sub-file-term c =
     let start = c .before .before .before .before .before .before .before .before .before .before .before .before .before .before .before .before .before .before .before .before in
     let first = comes-is (c .before .before .before .before .middle .given .1) (comes-of (term-sets (start .args .refs .now) (start .args .rows .now) (start .args .used) (start .args .many) (start .args .t)) (c .before .before .before .before .before .before .before .before .before .before .before .before .file-term .ensures)) in
-    comes-ends first .0
+    omega (arith, comes-ends first .0)
 
 add-file-term : tie.Need-add-file-term
 add-file-term c =
