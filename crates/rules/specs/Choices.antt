@@ -3,10 +3,12 @@ use Prim.Native.Nat.{ℕ, _<_}
 use mathlib.Core.Bool.{Bool, true, false, cond}
 use mathlib.Core.List.{List, [], _∷_}
 use mathlib.Core.Option.{Option, none, some, Option·getD}
-use Rattle.model.specs.Lists.{collect, _>>=_}
-use Rattle.model.specs.Names.{Name}
+use Rattle.model.specs.Lists.{collect, holds, is-nil, or-else, when, _>>=_}
+use Rattle.model.specs.Names.{Name, bytes, same, starts-with}
 use Rattle.model.specs.Terms.{Term, term, references}
-use Rattle.model.specs.Summaries.{Kinded, Sum-drop, Sum-ambient, Sum-triggers, exclude-names, is-empty, token, token-triggers, free-top-level-names, triggers-of-term}
+use Rattle.model.specs.Summaries.{Kinded, Sum-drop, Sum-ambient, Sum-triggers, exclude-names, at, two, op-args, call-one, call-two, head, is-empty, token, token-triggers, has-eq, is-ambient-refinement, ambient-refinement-payload, free-top-level-names, triggers-of-term}
+use Rattle.model.specs.declared.Op.the-variants.{TrueOp, Iff, Eq, And}
+use Rattle.terms.specs.Rows.{row-head}
 use Rattle.rules.specs.declared.Argument.{Argument}
 use Rattle.rules.specs.declared.Argument.the-variants as argument
 use Rattle.rules.specs.declared.Choice.{Choice}
@@ -28,6 +30,110 @@ kinded terms name (choice.Parts t) =
     some (Sum-triggers (collect (triggers-of-term exclude-names terms) (references (term terms t .node))))
 kinded terms name choice.Drop = some Sum-drop
 kinded terms name choice.Ambient = some (Sum-ambient false)
+
+-- which rule takes a fact and what it gathers, by the numbers of terms; a token by the number of its row's head
+module _ (terms : List Term) (rows : List ℕ) where
+  -- (1) {left}
+  unfoldable pub choose-1 : Name → ℕ → Option Choice
+  choose-1 name t = do
+    (left, right) ← op-args Iff (at exclude-names terms t) >>= two
+    when (starts-with name (bytes "l_quant_interp")) (choice.One left)
+
+  -- (2) {whole term}
+  unfoldable pub choose-2 : Name → ℕ → Option Choice
+  choose-2 name t = when (starts-with name (bytes "assumption_")) (choice.One t)
+
+  -- (3) the payload's triggers, or ambient root
+  unfoldable pub choose-3 : Name → ℕ → Option Choice
+  choose-3 name t = do
+    (subject, ty) ← call-two "HasType" (at exclude-names terms t)
+    when (is-ambient-refinement exclude-names terms ty) (choice.Refinement (ambient-refinement-payload exclude-names terms ty))
+
+  -- the token of a partial application; no token, no disjunct
+  unfoldable pub token-choice : ℕ → Choice
+  token-choice t = Option·getD (token exclude-names terms t >>= λ n. some (choice.Token (row-head rows t))) choice.Nothing
+
+  -- (4) {token}, and {token less @tok}
+  unfoldable pub choose-4 : Name → ℕ → Option Choice
+  choose-4 name t = do
+    applied ← call-one "Valid" (at exclude-names terms t)
+    (function, argument) ← call-two "ApplyTT" (at exclude-names terms applied)
+    when (holds (same (bytes "__uu__PartialApp")) (head (at exclude-names terms function))) (token-choice argument)
+
+  -- (5) {first}
+  unfoldable pub choose-5 : Name → ℕ → Option Choice
+  choose-5 name t = do
+    first ←
+        or-else (call-one "Valid" (at exclude-names terms t))
+        (or-else (call-two "HasType" (at exclude-names terms t) >>= λ (subject, ty). some subject)
+        (or-else (call-one "IsTotFun" (at exclude-names terms t)) (call-one "is-Tm_arrow" (at exclude-names terms t))))
+    some (choice.One first)
+
+  -- (6) {argument of the right's Term_constr_id}
+  unfoldable pub choose-6 : Name → ℕ → Option Choice
+  choose-6 name t = do
+    (left, right) ← op-args Eq (at exclude-names terms t) >>= two
+    argument ← call-one "Term_constr_id" (at exclude-names terms right)
+    some (choice.One argument)
+
+  -- (7) the triggers of its parts
+  unfoldable pub choose-7 : Name → ℕ → Option Choice
+  choose-7 name t = op-args And (at exclude-names terms t) >>= λ parts. some (choice.Parts t)
+
+  -- (8) {left}
+  unfoldable pub choose-8 : Name → ℕ → Option Choice
+  choose-8 name t = do
+    (left, right) ← op-args Eq (at exclude-names terms t) >>= two
+    when (starts-with name (bytes "equation_")) (choice.One left)
+
+  -- (9) {left's second argument}, or {left}, {right}
+  unfoldable pub choose-9 : Name → ℕ → Option Choice
+  choose-9 name t = do
+    (left, right) ← op-args Iff (at exclude-names terms t) >>= two
+    or-else (has-eq exclude-names terms left >>= λ l. has-eq exclude-names terms right >>= λ r. some (choice.One l)) (some (choice.Two left right))
+
+  -- (10) {left}, {right}
+  unfoldable pub choose-10 : Name → ℕ → Option Choice
+  choose-10 name t = do
+    (left, right) ← op-args Eq (at exclude-names terms t) >>= two
+    some (choice.Two left right)
+
+  -- (11) drop
+  unfoldable pub choose-11 : Name → ℕ → Option Choice
+  choose-11 name t = op-args TrueOp (at exclude-names terms t) >>= λ ts. some choice.Drop
+
+  -- (12) ambient
+  unfoldable pub choose-12 : Name → ℕ → Option Choice
+  choose-12 name t = some choice.Ambient
+
+  -- the first choice that there is
+  unfoldable pub first-choice : List (Name → ℕ → Option Choice) → Name → ℕ → Choice
+  first-choice [] name t = choice.No
+  first-choice (choose ∷ more) name t = let other = first-choice more name t in Option·getD (choose name t) other
+
+  -- the choice of `maybe_add_ambient`
+  unfoldable pub ambient-choice : Name → ℕ → Choice
+  ambient-choice =
+      first-choice
+      (choose-1
+      ∷ choose-2
+      ∷ choose-3
+      ∷ choose-4
+      ∷ choose-5
+      ∷ choose-6
+      ∷ choose-7
+      ∷ choose-8
+      ∷ choose-9
+      ∷ choose-10
+      ∷ choose-11
+      ∷ choose-12
+      ∷ [])
+
+  -- the choice of `summarize_kind`
+  unfoldable pub kind-choice : Name → ℕ → Choice
+  kind-choice name t =
+      let ambient = ambient-choice name t in
+      cond (is-nil (triggers-of-term exclude-names terms t)) ambient (choice.Groups t)
 
 -- what rule 4 makes of a token: its disjuncts; no token, no disjunct
 unfoldable pub token-kinded : List Term → ℕ → Kinded
@@ -58,6 +164,10 @@ is-held choice.Nothing = true
 is-held (choice.Parts t) = true
 is-held choice.Drop = true
 is-held choice.Ambient = true
+
+-- a choice where the rule holds
+unfoldable pub as-held : Choice → Option Choice
+as-held c = when (is-held c) c
 
 -- an argument that may be missing
 unfoldable pub as-option : Argument → Option ℕ
