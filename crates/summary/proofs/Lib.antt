@@ -3,3 +3,4 @@ pub mod Sorting
 pub mod Token
 pub mod Choosing
 pub mod Finishing
+pub mod Writing
