@@ -84,7 +84,7 @@ same-length-3 : tie.Need-same-length-3
 same-length-3 c = search needs
 
 returns-2 : tie.Need-returns-2
-returns-2 c = choose-one (c .before .before .before .before .before .before .before .before .before .before .before .before .before .before .before .before .before .before .before .pre .0) (c .before .before .before .before .before .before .before .before .before .before .before .before .choice .given .1) (c .before .before .before .before .before .before .before .file-term .ensures .0) (c .before .before .before .before .before .before .before .file-term .ensures .1) (c .filed .ensures)
+returns-2 c = choose-one (c .before .before .before .before .before .before .before .before .before .before .before .before .before .before .before .before .before .before .before .pre .0) (c .before .before .before .before .before .before .before .before .before .before .before .before .choice .given .1) (c .before .before .before .before .before .before .before .file-term .ensures .0) (c .before .before .before .before .before .before .before .file-term .ensures .1 .0) (c .before .before .before .before .before .before .before .file-term .ensures .1 .1) (c .filed .ensures)
 
 same-length-4 : tie.Need-same-length-4
 same-length-4 c = search needs
@@ -96,7 +96,7 @@ same-length-6 : tie.Need-same-length-6
 same-length-6 c = search needs
 
 returns-3 : tie.Need-returns-3
-returns-3 c = choose-two (c .before .before .before .before .before .before .before .before .before .before .before .before .before .before .before .before .before .before .before .pre .0) (c .before .before .before .before .before .before .before .before .before .before .before .before .choice2 .given .1) (c .before .before .before .before .before .before .before .file-terms .ensures .0) (c .before .before .before .before .before .before .before .file-terms .ensures .1) (c .filed2 .ensures)
+returns-3 c = choose-two (c .before .before .before .before .before .before .before .before .before .before .before .before .before .before .before .before .before .before .before .pre .0) (c .before .before .before .before .before .before .before .before .before .before .before .before .choice2 .given .1) (c .before .before .before .before .before .before .before .file-terms .ensures .0) (c .before .before .before .before .before .before .before .file-terms .ensures .1 .0) (c .before .before .before .before .before .before .before .file-terms .ensures .1 .1) (c .filed2 .ensures)
 
 same-length-7 : tie.Need-same-length-7
 same-length-7 c = search needs
@@ -108,7 +108,7 @@ same-length-9 : tie.Need-same-length-9
 same-length-9 c = search needs
 
 returns-4 : tie.Need-returns-4
-returns-4 c = choose-groups (c .before .before .before .before .before .before .before .before .before .before .before .before .before .before .before .before .before .before .before .pre .0) (c .before .before .before .before .before .before .before .before .before .before .before .before .choice3 .given .1) (c .before .before .before .before .before .before .before .triggers-of-term .ensures .0) (c .before .before .before .before .before .before .before .triggers-of-term .ensures .1) (c .filed3 .ensures)
+returns-4 c = choose-groups (c .before .before .before .before .before .before .before .before .before .before .before .before .before .before .before .before .before .before .before .pre .0) (c .before .before .before .before .before .before .before .before .before .before .before .before .choice3 .given .1) (c .before .before .before .before .before .before .before .triggers-of-term .ensures .0) (c .before .before .before .before .before .before .before .triggers-of-term .ensures .1 .0) (c .before .before .before .before .before .before .before .triggers-of-term .ensures .1 .1) (c .filed3 .ensures)
 
 same-length-10 : tie.Need-same-length-10
 same-length-10 c = search needs
@@ -120,7 +120,7 @@ same-length-12 : tie.Need-same-length-12
 same-length-12 c = search needs
 
 returns-5 : tie.Need-returns-5
-returns-5 c = choose-refinement (c .before .before .before .before .before .before .before .before .before .before .before .before .before .before .before .before .before .before .pre .0) (c .before .before .before .before .before .before .before .before .before .before .before .choice4 .given .1) (c .before .before .before .before .before .before .file-refinement .ensures)
+returns-5 c = choose-refinement (c .before .before .before .before .before .before .before .before .before .before .before .before .before .before .before .before .before .before .pre .0) (c .before .before .before .before .before .before .before .before .before .before .before .choice4 .given .1) (c .before .before .before .before .before .before .file-refinement .ensures .0) (c .before .before .before .before .before .before .file-refinement .ensures .1)
 
 same-length-13 : tie.Need-same-length-13
 same-length-13 c = search needs
@@ -144,7 +144,7 @@ same-length-17 : tie.Need-same-length-17
 same-length-17 c = search needs
 
 returns-8 : tie.Need-returns-8
-returns-8 c = choose-parts (c .before .before .before .before .before .before .before .before .before .before .before .before .before .before .before .before .before .before .pre .0) (c .before .before .before .before .before .before .before .before .before .before .before .choice6 .given .1) (c .before .before .before .before .before .before .file-parts .ensures)
+returns-8 c = choose-parts (c .before .before .before .before .before .before .before .before .before .before .before .before .before .before .before .before .before .before .pre .0) (c .before .before .before .before .before .before .before .before .before .before .before .choice6 .given .1) (c .before .before .before .before .before .before .file-parts .ensures .0) (c .before .before .before .before .before .before .file-parts .ensures .1)
 
 returns-9 : tie.Need-returns-9
 returns-9 c = choose-drop (c .before .before .before .before .before .before .before .pre .0) (c .before .before .before .before .before .before .before .pre .2) (c .enum-told3 .given .1)

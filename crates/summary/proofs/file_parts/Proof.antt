@@ -25,16 +25,16 @@ filed-requires c κs = search needs
 returns : tie.Need-returns
 returns c =
     let start = c .before .before .before .before .before .before .before .before .before .before .before .before .before .before .before .before .before .before .before in
-    parts-sorts (start .args .t) (start .pre .0) (start .pre .2) (c .before .before .before .before .before .before .before .before .before .before .before .before .before .start .ensures) (c .before .before .before .before .before .before .before .before .before .before .before .end .ensures) (c .before .before .before .before .before .before .before .triggers-of-list .ensures .0) (c .before .before .before .before .before .before .before .triggers-of-list .ensures .1) (c .filed .ensures)
+    parts-sorts (start .args .t) (start .pre .0) (start .pre .2) (c .before .before .before .before .before .before .before .before .before .before .before .before .before .start .ensures) (c .before .before .before .before .before .before .before .before .before .before .before .end .ensures) (c .before .before .before .before .before .before .before .triggers-of-list .ensures .0) (c .before .before .before .before .before .before .before .triggers-of-list .ensures .1 .0) (c .before .before .before .before .before .before .before .triggers-of-list .ensures .1 .1) (c .filed .ensures)
 
 same-length : tie.Need-same-length
-same-length c = returns c .marks .names-same .same-length
+same-length c = returns c .0 .marks .names-same .same-length
 
 same-length-2 : tie.Need-same-length-2
-same-length-2 c = returns c .marks .rows-same .same-length
+same-length-2 c = returns c .0 .marks .rows-same .same-length
 
 same-length-3 : tie.Need-same-length-3
-same-length-3 c = returns c .marks .out-same .same-length
+same-length-3 c = returns c .0 .marks .out-same .same-length
 
 pub file-parts-spec : {M : Type 1} → statement M
 file-parts-spec =
