@@ -20,7 +20,7 @@ use Rattle.terms.proofs.Table.{terms-named}
 use Rattle.gather.specs.Sets.{Fresh, Same-but, Named}
 use Rattle.gather.proofs.Steps.{same-self, same-back}
 use Rattle.triggers.specs.Entries.{Files, Filled}
-use Rattle.triggers.specs.Filings.{filing, file-list, file-groups, file-parts, Files-as}
+use Rattle.triggers.specs.Filings.{Filing, filing, file-list, file-groups, file-parts, Files-as}
 use Rattle.triggers.specs.declared.Filed.{Filed}
 use Rattle.triggers.proofs.Marked.{named-marked, fresh-later}
 use Rattle.rules.specs.Views.{Tables, terms-in}
@@ -78,6 +78,19 @@ module _ {file names refs rows out names′ rows′ out′ : List ℕ} {named us
     marks = rw q (s .marks);
   }
 
+  -- a choice whose sets were filed
+  sets-chooses : {g : Filing} {count : ℕ} {f : Filed} (s : List Term → List (List Name)) (c : Choice)
+      → kinded (terms-in file names refs rows used many) (name-of file names) c ≡ some (Sum-triggers (s (terms-in file names refs rows used many)))
+      → trimmed-table file names named c ≡ names → file-choice refs used many file named mark (filing names rows out (mark + 1) at) c ≡ g
+      → ((name : ℕ → Name) → Named name names named → Files name named (s (terms-of name refs rows used many)) at out′ f)
+      → Filled names rows out names′ rows′ out′ (mark + 1) at f → Files-as g count names′ rows′ out′ (mark + 1) at f → r ≡ sorted-of named f
+      → Choice-files file names refs rows out names′ rows′ out′ named used many mark at c r
+  unfolding Sum-triggers
+  sets-chooses s c e q g k w x z = (
+    sorts-chooses (λ terms. Sum-triggers (s terms)) c e q refl (files-sorts (λ name. s (terms-of name refs rows used many)) k w z),
+    rw g (files-sorts-as named x z),
+  )
+
   module _ {c : Choice} where
     -- one set
     pub choose-one : {t count : ℕ} {f : Filed} → c ≡ choice.One t
@@ -86,12 +99,8 @@ module _ {file names refs rows out names′ rows′ out′ : List ℕ} {named us
         → Files-as (file-list refs used many (filing names rows out (mark + 1) at) (t ∷ [])) count names′ rows′ out′ (mark + 1) at f
         → r ≡ sorted-of named f
         → Choice-files file names refs rows out names′ rows′ out′ named used many mark at c r
-    unfolding kinded trimmed-table Sum-triggers file-choice
-    choose-one {t} e k w x q = rw e (
-      sorts-chooses (λ terms. Sum-triggers (free-top-level-names exclude-names terms t ∷ [])) (choice.One t) refl refl refl
-          (files-sorts (λ name. free-top-level-names exclude-names (terms-of name refs rows used many) t ∷ []) k w q),
-      files-sorts-as named x q,
-    )
+    unfolding kinded trimmed-table file-choice
+    choose-one {t} e k w x q = rw e (sets-chooses (λ terms. free-top-level-names exclude-names terms t ∷ []) (choice.One t) refl refl refl k w x q)
 
     -- two sets
     pub choose-two : {t u count : ℕ} {f : Filed} → c ≡ choice.Two t u
@@ -100,12 +109,8 @@ module _ {file names refs rows out names′ rows′ out′ : List ℕ} {named us
         → Files-as (file-list refs used many (file-list refs used many (filing names rows out (mark + 1) at) (t ∷ [])) (u ∷ [])) count names′ rows′ out′ (mark + 1) at f
         → r ≡ sorted-of named f
         → Choice-files file names refs rows out names′ rows′ out′ named used many mark at c r
-    unfolding kinded trimmed-table Sum-triggers file-choice
-    choose-two {t} {u} e k w x q = rw e (
-      sorts-chooses (λ terms. Sum-triggers (free-top-level-names exclude-names terms t ∷ free-top-level-names exclude-names terms u ∷ [])) (choice.Two t u) refl refl refl
-          (files-sorts (λ name. free-top-level-names exclude-names (terms-of name refs rows used many) t ∷ free-top-level-names exclude-names (terms-of name refs rows used many) u ∷ []) k w q),
-      files-sorts-as named x q,
-    )
+    unfolding kinded trimmed-table file-choice
+    choose-two {t} {u} e k w x q = rw e (sets-chooses (λ terms. free-top-level-names exclude-names terms t ∷ free-top-level-names exclude-names terms u ∷ []) (choice.Two t u) refl refl refl k w x q)
 
     -- the triggers of a term
     pub choose-groups : {t count : ℕ} {f : Filed} → c ≡ choice.Groups t
@@ -114,12 +119,8 @@ module _ {file names refs rows out names′ rows′ out′ : List ℕ} {named us
         → Files-as (file-groups refs used many (filing names rows out (mark + 1) at) t) count names′ rows′ out′ (mark + 1) at f
         → r ≡ sorted-of named f
         → Choice-files file names refs rows out names′ rows′ out′ named used many mark at c r
-    unfolding kinded trimmed-table Sum-triggers file-choice
-    choose-groups {t} e k w x q = rw e (
-      sorts-chooses (λ terms. Sum-triggers (triggers-of-term exclude-names terms t)) (choice.Groups t) refl refl refl
-          (files-sorts (λ name. triggers-of-term exclude-names (terms-of name refs rows used many) t) k w q),
-      files-sorts-as named x q,
-    )
+    unfolding kinded trimmed-table file-choice
+    choose-groups {t} e k w x q = rw e (sets-chooses (λ terms. triggers-of-term exclude-names terms t) (choice.Groups t) refl refl refl k w x q)
 
     -- the payload of a refinement
     pub choose-refinement : {t : ℕ} → c ≡ choice.Refinement t

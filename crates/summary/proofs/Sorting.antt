@@ -55,13 +55,9 @@ table-marked table same = table-kept table (same .same-length) (λ i l. same .sa
 
 -- ---- what filing asks
 
--- to file from a mark on
-pub begun-opened : {names rows out : List ℕ} {mark at : ℕ} → Begun names rows out mark at → Opened names rows out mark at
-begun-opened b = record { name-room = b .name-room; fresh = b .fresh; low = b .low; high = omega (arith, b .room); few-marks = omega (arith, b .few-marks) }
-
--- to file from the next mark on
-pub begun-next : {names rows out : List ℕ} {mark at : ℕ} → Begun names rows out mark at → Opened names rows out (mark + 1) at
-begun-next {mark} b = record { name-room = b .name-room; fresh = fresh-later mark (mark + 1) (omega arith) (b .fresh); low = b .low; high = omega (arith, b .room); few-marks = omega (arith, b .few-marks) }
+-- to file from the mark or a later one on
+pub begun-opened : {names rows out : List ℕ} {mark at n : ℕ} → Begun names rows out mark at → mark ≤ n → n ≤ mark + 8192 → Opened names rows out n at
+begun-opened {mark = mark} {n = n} b less few = record { name-room = b .name-room; fresh = fresh-later mark n less (b .fresh); low = b .low; high = omega (arith, b .room); few-marks = omega (arith, b .few-marks) }
 
 -- to file after a look at the tables
 pub begun-then : {names rows out names′ rows′ out′ : List ℕ} {mark at : ℕ} → Begun names rows out mark at

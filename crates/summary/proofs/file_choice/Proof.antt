@@ -1,5 +1,6 @@
 -- `summary::file_choice` meets its contract, choice by choice.
-use Rattle.summary.proofs.Sorting.{begun-next}
+use native.Mathlib.Omega.{arith}
+use Rattle.summary.proofs.Sorting.{begun-opened}
 use Rattle.summary.proofs.Choosing.{within-one, within-two, within-groups, within-refinement, within-token, within-parts, choose-no, choose-one, choose-two, choose-groups, choose-refinement, choose-token, choose-nothing, choose-parts, choose-drop, choose-ambient}
 use borrow.Author.Needs.{needs}
 use Rattle.summary.proofs.file_choice.Statement.{statement}
@@ -15,7 +16,7 @@ add-file-term : tie.Need-add-file-term
 add-file-term c = search needs
 
 file-term-requires : tie.Need-file-term-requires
-file-term-requires c κs = (c .before .before .before .before .before .before .before .before .before .before .before .pre .0 .term-table, begun-next (c .before .before .before .before .before .before .before .before .before .before .before .pre .2), within-one (c .before .before .before .before .before .before .before .before .before .before .before .args .named) (c .before .before .before .before .before .before .before .before .before .before .before .args .many) (c .before .before .before .before .choice .given .1) (c .before .before .before .before .before .before .before .before .before .before .before .pre .1))
+file-term-requires c κs = (c .before .before .before .before .before .before .before .before .before .before .before .pre .0 .term-table, begun-opened (c .before .before .before .before .before .before .before .before .before .before .before .pre .2) (omega arith) (omega arith), within-one (c .before .before .before .before .before .before .before .before .before .before .before .args .named) (c .before .before .before .before .before .before .before .before .before .before .before .args .many) (c .before .before .before .before .choice .given .1) (c .before .before .before .before .before .before .before .before .before .before .before .pre .1))
 
 filed-requires : tie.Need-filed-requires
 filed-requires c κs = search needs
@@ -27,7 +28,7 @@ add-file-terms : tie.Need-add-file-terms
 add-file-terms c = search needs
 
 file-terms-requires : tie.Need-file-terms-requires
-file-terms-requires c κs = (c .before .before .before .before .before .before .before .before .before .before .before .pre .0 .term-table, begun-next (c .before .before .before .before .before .before .before .before .before .before .before .pre .2), within-two (c .before .before .before .before .before .before .before .before .before .before .before .args .named) (c .before .before .before .before .before .before .before .before .before .before .before .args .many) (c .before .before .before .before .choice2 .given .1) (c .before .before .before .before .before .before .before .before .before .before .before .pre .1) .0, within-two (c .before .before .before .before .before .before .before .before .before .before .before .args .named) (c .before .before .before .before .before .before .before .before .before .before .before .args .many) (c .before .before .before .before .choice2 .given .1) (c .before .before .before .before .before .before .before .before .before .before .before .pre .1) .1)
+file-terms-requires c κs = (c .before .before .before .before .before .before .before .before .before .before .before .pre .0 .term-table, begun-opened (c .before .before .before .before .before .before .before .before .before .before .before .pre .2) (omega arith) (omega arith), within-two (c .before .before .before .before .before .before .before .before .before .before .before .args .named) (c .before .before .before .before .before .before .before .before .before .before .before .args .many) (c .before .before .before .before .choice2 .given .1) (c .before .before .before .before .before .before .before .before .before .before .before .pre .1) .0, within-two (c .before .before .before .before .before .before .before .before .before .before .before .args .named) (c .before .before .before .before .before .before .before .before .before .before .before .args .many) (c .before .before .before .before .choice2 .given .1) (c .before .before .before .before .before .before .before .before .before .before .before .pre .1) .1)
 
 filed-requires-2 : tie.Need-filed-requires-2
 filed-requires-2 c κs = search needs
@@ -39,7 +40,7 @@ add-triggers-of-term : tie.Need-add-triggers-of-term
 add-triggers-of-term c = search needs
 
 triggers-of-term-requires : tie.Need-triggers-of-term-requires
-triggers-of-term-requires c κs = (c .before .before .before .before .before .before .before .before .before .before .before .pre .0 .term-table, begun-next (c .before .before .before .before .before .before .before .before .before .before .before .pre .2), within-groups (c .before .before .before .before .before .before .before .before .before .before .before .args .named) (c .before .before .before .before .before .before .before .before .before .before .before .args .many) (c .before .before .before .before .choice3 .given .1) (c .before .before .before .before .before .before .before .before .before .before .before .pre .1))
+triggers-of-term-requires c κs = (c .before .before .before .before .before .before .before .before .before .before .before .pre .0 .term-table, begun-opened (c .before .before .before .before .before .before .before .before .before .before .before .pre .2) (omega arith) (omega arith), within-groups (c .before .before .before .before .before .before .before .before .before .before .before .args .named) (c .before .before .before .before .before .before .before .before .before .before .before .args .many) (c .before .before .before .before .choice3 .given .1) (c .before .before .before .before .before .before .before .before .before .before .before .pre .1))
 
 filed-requires-3 : tie.Need-filed-requires-3
 filed-requires-3 c κs = search needs

@@ -1,4 +1,5 @@
 -- `summary::file_refinement` meets its contract: a look at the payload's triggers, then they are filed.
+use native.Mathlib.Omega.{arith}
 use Rattle.gather.proofs.Walking.{rows-marked}
 use Rattle.summary.proofs.Sorting.{begun-opened, begun-then, refinement-empty, refinement-more}
 use borrow.Author.Needs.{needs}
@@ -6,7 +7,7 @@ use Rattle.summary.proofs.file_refinement.Statement.{statement}
 use Rattle.summary.proofs.file_refinement.Tie as tie
 
 is-empty-requires : tie.Need-is-empty-requires
-is-empty-requires c κs = (c .before .before .before .before .before .before .before .pre .0, begun-opened (c .before .before .before .before .before .before .before .pre .1), c .before .before .before .before .before .before .before .pre .2)
+is-empty-requires c κs = (c .before .before .before .before .before .before .before .pre .0, begun-opened (c .before .before .before .before .before .before .before .pre .1) (omega arith) (omega arith), c .before .before .before .before .before .before .before .pre .2)
 
 returns : tie.Need-returns
 returns c = refinement-empty (c .before .before .before .before .before .before .before .before .before .before .before .before .before .before .before .args .t) (c .before .before .before .before .before .before .before .before .before .before .before .before .before .before .before .pre .0) (c .before .before .before .before .before .before .before .is-empty .ensures .0) (c .before .before .before .before .before .before .before .is-empty .ensures .1 .0) (c .before .before .before .before .before .before .before .is-empty .ensures .1 .1) (c .if1 .taken) (c .before .before .before .before .before .before .before .before .before .before .before .before .before .before .before .pre .1 .low)
