@@ -1,23 +1,20 @@
 -- Filing what a choice says.
-use Prim.Native.Nat.{ℕ, _+_, _-_, _≤_, _<_}
+use Prim.Native.Nat.{ℕ, _+_, _-_, _<_}
 use native.Mathlib.Omega.{arith}
-use mathlib.Core.Path.{_≡_, refl, sym, ap, _∙_}
+use mathlib.Core.Path.{_≡_, refl}
 use mathlib.Core.Bool.{Bool, true, false, cond}
 use mathlib.Core.List.{List, [], _∷_}
-use mathlib.Core.Option.{Option, none, some}
-use lib.ListN.{length, getD}
+use mathlib.Core.Option.{some}
 use Rattle.model.specs.Lists.{fold-left}
 use Rattle.model.specs.Names.{Name}
 use Rattle.model.specs.Terms.{Term}
-use Rattle.model.specs.Reading.{spell}
 use Rattle.model.specs.Summaries.{Kinded, Sum-drop, Sum-ambient, Sum-triggers, exclude-names, is-empty, free-top-level-names, triggers-of-term, token-triggers}
-use Rattle.model.specs.declared.AsumKind.{AsumKind}
 use Rattle.model.specs.declared.AsumKind.the-variants as asum
-use Rattle.names.specs.Table.{Table, name-of, names-of}
+use Rattle.names.specs.Table.{name-of}
 use Rattle.names.proofs.Laws.{names-length}
-use Rattle.terms.specs.Rows.{row-start, row-end, words, terms-of-words, terms-of, Rows}
+use Rattle.terms.specs.Rows.{row-start, row-end, words, terms-of-words, terms-of}
 use Rattle.terms.proofs.Table.{terms-named}
-use Rattle.gather.specs.Sets.{Fresh, Same-but, Named}
+use Rattle.gather.specs.Sets.{Named}
 use Rattle.gather.proofs.Steps.{same-self, same-back}
 use Rattle.triggers.specs.Entries.{Files, Filled}
 use Rattle.triggers.specs.Filings.{Filing, filing, file-list, file-groups, file-parts, Files-as}
@@ -30,7 +27,7 @@ use Rattle.rules.specs.declared.Choice.the-variants as choice
 use Rattle.summary.specs.Facts.{token-table, trimmed-table}
 use Rattle.summary.specs.declared.Sorted.{Sorted}
 use Rattle.summary.specs.declared.Sorted.the-variants as sorted
-use Rattle.summary.specs.Steps.{Begun, sorted-of, sorted-end, Marks, Kinds, kind-there, no-room, Sorts, Sorts-as, refinement-kind, parts-kind, Filed-kind, Comes-to, kind-filed, entries-over, Tokens, Chooses}
+use Rattle.summary.specs.Steps.{Begun, sorted-of, Kinds, kind-there, no-room, Sorts, Sorts-as, refinement-kind, parts-kind, Comes-to, kind-filed, entries-over, Tokens, Chooses}
 use Rattle.summary.specs.Writing.{file-refinement, file-choice}
 use Rattle.summary.proofs.Token.{token-high}
 use Rattle.summary.proofs.Sorting.{named-of, table-marked, files-sorts, nothing-sorts}

@@ -1,42 +1,37 @@
 -- The summary of a fact: what was filed, and the free names that were gathered.
-use Prim.Native.Nat.{ℕ, zero, suc, _+_, _-_, _%_, _≤_, _<_}
+use Prim.Native.Nat.{ℕ, _+_, _-_, _%_, _≤_, _<_}
 use native.Mathlib.Omega.{arith}
 use mathlib.Core.Path.{_≡_, refl, sym, ap, ap₂, _∙_}
 use mathlib.Core.Bool.{Bool, true, false, cond}
-use mathlib.Core.Logic.{_⊎_, inl, inr, ⊎-elim}
 use mathlib.Core.List.{List, [], _∷_, _++_, map, map-append}
-use mathlib.Core.Option.{Option, none, some}
+use mathlib.Core.Option.{some}
 use lib.ListN.{length, getD}
 use lib.Dec.{ltb}
 use borrow.Author.Tests.{ltb-true}
-use Rattle.model.specs.Lists.{fold-left}
 use Rattle.model.specs.Names.{Name, from-list}
-use Rattle.model.specs.Reading.{spell}
-use Rattle.model.specs.Summaries.{Kinded, exclude-names, free-top-level-names, summarize-kind}
+use Rattle.model.specs.Summaries.{exclude-names, summarize-kind}
 use Rattle.model.specs.declared.AsumKind.{AsumKind}
-use Rattle.names.specs.Table.{Table, name-of, names-of}
+use Rattle.names.specs.Table.{name-of}
 use Rattle.names.proofs.Coded.{Kept}
 use Rattle.terms.specs.Rows.{words, terms-of, Rows}
 use Rattle.terms.proofs.Table.{terms-named, words-agree}
-use Rattle.gather.specs.Sets.{Fresh, Same-but, Named, Gathers, all-names, no-room as no-names, Gathered, ended}
+use Rattle.gather.specs.Sets.{Fresh, Same-but, Named, Gathers, all-names, no-room as no-names, ended}
 use Rattle.gather.specs.declared.Walked.{Walked}
 use Rattle.gather.specs.declared.Walked.the-variants as walks
 use Rattle.gather.proofs.Steps.{same-back, same-then}
 use Rattle.gather.proofs.Walking.{rows-marked}
-use Rattle.triggers.specs.Entries.{entry-number, before-first, disjuncts-of-words, disjuncts-of, entries, Entries}
+use Rattle.triggers.specs.Entries.{entry-number, before-first, disjuncts-of-words, disjuncts-of, entries}
 use Rattle.triggers.proofs.Marked.{named-marked, terms-marked, fresh-next}
 use Rattle.triggers.specs.Filings.{filing}
-use Rattle.rules.specs.Views.{Tables, terms-in}
+use Rattle.rules.specs.Views.{terms-in}
 use Rattle.rules.specs.Choices.{kinded}
 use Rattle.rules.specs.declared.Choice.{Choice}
 use Rattle.summary.specs.declared.Limit.{Limit}
-use Rattle.summary.specs.declared.Limit.the-variants as limit
 use Rattle.summary.specs.declared.Sorted.{Sorted}
 use Rattle.summary.specs.declared.Sorted.the-variants as sorted
-use Rattle.summary.specs.declared.Summary.{Summary}
 use Rattle.summary.specs.declared.Summarized.{Summarized}
 use Rattle.summary.specs.declared.Summarized.the-variants as summarized
-use Rattle.summary.specs.Facts.{Asked, fact-kind, fact-choice, fact-names, names-then, Triggers-of, Summary-of, Summarizes, done, names-full, entries-full, uses-full, trimmed-table, uses-end, entries-end, Slices}
+use Rattle.summary.specs.Facts.{Asked, fact-kind, fact-choice, fact-names, names-then, Triggers-of, Summarizes, done, names-full, entries-full, uses-full, trimmed-table, uses-end, entries-end, Slices}
 use Rattle.summary.specs.Steps.{Begun, sorted-end, Marks, Filed-kind, Comes-to, kind-filed, names-over, entries-over, Sorts-as, Chooses, finished, Finishes}
 use Rattle.summary.specs.Writing.{file-choice, file-fact, Written}
 use Rattle.summary.proofs.Sorting.{named-of, named-fewer, table-marked}

@@ -2,35 +2,32 @@
 use Prim.Native.Nat.{ℕ, _+_, _-_, _%_, _≤_, _<_}
 use native.Mathlib.Omega.{arith}
 use mathlib.Core.Path.{_≡_, refl, sym, ap, _∙_}
-use mathlib.Core.Bool.{Bool, true, false, cond}
+use mathlib.Core.Bool.{Bool, true, false}
 use mathlib.Core.List.{List, []}
-use lib.ListN.{length, getD}
+use lib.ListN.{getD}
 use Rattle.model.specs.Lists.{collect, sum}
 use Rattle.model.specs.Names.{Name}
-use Rattle.model.specs.Terms.{Term, term, references}
-use Rattle.model.specs.Reading.{spell}
 use Rattle.model.specs.Summaries.{Kinded, Sum-ambient, Sum-triggers, exclude-names, is-empty, triggers-of-term}
 use Rattle.model.specs.declared.AsumKind.{AsumKind}
 use Rattle.model.specs.declared.AsumKind.the-variants as asum
-use Rattle.names.specs.Table.{Table, name-of, names-of}
-use Rattle.names.proofs.Laws.{distinct, names-length}
+use Rattle.names.specs.Table.{Table, name-of}
+use Rattle.names.proofs.Laws.{distinct}
 use Rattle.names.proofs.Coded.{code-excluded, Kept, table-kept}
 use Rattle.terms.specs.Rows.{row-start, row-end, words, terms-of-words, terms-of, Rows}
-use Rattle.terms.proofs.Table.{words-nil, terms-named}
+use Rattle.terms.proofs.Table.{words-nil}
 use Rattle.gather.specs.Sets.{Fresh, Same-but, Named, is-excluded}
 use Rattle.gather.specs.Visits.{marked-at}
-use Rattle.gather.proofs.Steps.{same-self, same-back, same-then}
-use Rattle.triggers.specs.Entries.{disjuncts-of, disjuncts-of-words, entries, Entries, Files, all-sets, no-room as no-sets, Filled, filed-end, Opened}
+use Rattle.gather.proofs.Steps.{same-self, same-then}
+use Rattle.triggers.specs.Entries.{disjuncts-of, disjuncts-of-words, entries, Files, all-sets, no-room as no-sets, Filled, filed-end, Opened}
 use Rattle.triggers.specs.Filings.{filing, file-groups, file-parts, empty-visit, Files-as}
 use Rattle.triggers.specs.declared.Filed.{Filed}
 use Rattle.triggers.specs.declared.Filed.the-variants as files
 use Rattle.triggers.proofs.Marked.{named-marked, terms-marked, fresh-later}
 use Rattle.triggers.proofs.Disjuncts.{no-entries}
 use Rattle.summary.specs.declared.Limit.{Limit}
-use Rattle.summary.specs.declared.Limit.the-variants as limit
 use Rattle.summary.specs.declared.Sorted.{Sorted}
 use Rattle.summary.specs.declared.Sorted.the-variants as sorted
-use Rattle.summary.specs.Steps.{Begun, sorted-of, sorted-end, Marks, Kinds, kind-there, no-room, Sorts, Sorts-as, refinement-kind, parts-kind, Filed-kind, Comes-to, kind-filed, entries-over}
+use Rattle.summary.specs.Steps.{Begun, sorted-of, sorted-end, Marks, Kinds, kind-there, no-room, Sorts, Sorts-as, refinement-kind, parts-kind}
 use Rattle.summary.specs.Writing.{file-refinement}
 use Rattle.summary.proofs.Parts.{row-references}
 use Rattle.summary.proofs.Writing.{files-sorts-as, nothing-as}

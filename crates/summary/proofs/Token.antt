@@ -3,39 +3,29 @@ use Prim.Native.Nat.{ℕ, _+_, _-_, _%_, _≤_, _<_}
 use native.Mathlib.Omega.{arith}
 use mathlib.Core.Path.{_≡_, refl, sym, ap, _∙_}
 use mathlib.Core.Bool.{Bool, true, false, cond}
-use mathlib.Core.List.{List, [], _∷_}
-use mathlib.Core.Option.{Option, none, some}
-use lib.ListN.{length, getD}
-use lib.Dec.{ltb}
-use borrow.Author.Tests.{ltb-true}
+use mathlib.Core.List.{List, [], _∷_, List·Memᴰ·cases-cons, List·Memᴰ·not-nil, _++_}
+use mathlib.Core.Option.{none, some}
+use lib.ListN.{length, getD, take, drop, set, length-take, length-drop, length-set, length-append}
+use lib.Dec.{ltb, not-T}
+use borrow.Author.Tests.{ltb-true, le-ltb, lt-ltb}
 use Rattle.text.specs.Parts.{part}
 use Rattle.names.specs.Table.{Table, name-of, names-of, look-up, spell-answer, spell-table, entered}
 use Rattle.names.specs.declared.Found.{Found}
 use Rattle.names.specs.declared.Found.the-variants as found
 use Rattle.names.specs.declared.Spelled.{Spelled}
 use Rattle.names.specs.declared.Spelled.the-variants as spelled
-use Rattle.names.proofs.Laws.{found-missing}
-use Rattle.names.proofs.Entering.{entered-keeps}
-use Rattle.model.specs.Names.{Name, bytes, ends-with}
+use Rattle.names.proofs.Laws.{found-missing, names-length}
+use Rattle.names.proofs.Entering.{entered-keeps, entered-old, entered-new}
+use Rattle.model.specs.Names.{Name, bytes, ends-with, from-list, add, mem}
 use mathlib.Core.Logic.{inl, inr, _⊎_, ⊎-elim}
-use mathlib.Core.List.{map, List·Memᴰ, List·Memᴰ·cases-cons, List·Memᴰ·not-nil}
-use lib.ListN.{take, drop, set, length-take, length-drop, length-set}
 use lib.Seq.{take-take, getD-set-same, getD-set-other}
-use lib.Dec.{T, not-T}
-use lib.ListN.{length-append}
-use mathlib.Core.List.{_++_}
-use borrow.Author.Tests.{le-ltb, lt-ltb}
 use Rattle.model.specs.Lists.{fold-left, sum, _>>=_}
-use Rattle.model.specs.Names.{from-list, add, mem}
 use Rattle.model.proofs.ListLaws.{cond-false}
 use Rattle.model.specs.Reading.{spell}
-use Rattle.model.specs.Summaries.{Kinded, Sum-triggers, token-triggers}
-use Rattle.model.specs.declared.AsumKind.{AsumKind}
+use Rattle.model.specs.Summaries.{Sum-triggers, token-triggers}
 use Rattle.model.specs.declared.AsumKind.the-variants as asum
 use Rattle.model.proofs.SetLaws.{same-eq}
-use Rattle.names.proofs.Laws.{names-length}
 use Rattle.names.proofs.Spelling.{Spelling, spell-law, spelled-known, spelled-new, spelled-full}
-use Rattle.names.proofs.Entering.{entered-old, entered-new}
 use Rattle.terms.specs.Rows.{words}
 use Rattle.terms.proofs.Table.{words-cons, words-nil}
 use Rattle.gather.specs.Sets.{Same-but}
@@ -48,7 +38,7 @@ use Rattle.summary.specs.declared.Limit.the-variants as limit
 use Rattle.summary.specs.declared.Sorted.{Sorted}
 use Rattle.summary.specs.declared.Sorted.the-variants as sorted
 use Rattle.summary.specs.Facts.{token-table}
-use Rattle.summary.specs.Steps.{sorted-end, Filed-kind, Comes-to, kind-filed, names-over, entries-over, Two, both, over, Tokens, Sorts-as, as-kind, as-over}
+use Rattle.summary.specs.Steps.{sorted-end, Comes-to, kind-filed, names-over, entries-over, Two, both, over, Tokens, Sorts-as, as-kind, as-over}
 use Rattle.summary.specs.Writing.{spelled-number, token-words, stopped, file-words, file-token}
 
 -- spelling a name changes no word from 8,192 on

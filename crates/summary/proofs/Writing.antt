@@ -2,7 +2,6 @@
 use Prim.Native.Nat.{ℕ, _+_, _-_}
 use native.Mathlib.Omega.{arith}
 use mathlib.Core.Path.{_≡_, refl}
-use mathlib.Core.Bool.{true, cond}
 use mathlib.Core.List.{List}
 use Rattle.model.specs.declared.AsumKind.{AsumKind}
 use Rattle.triggers.specs.Filings.{Filing, filing, Files-as, as-sets, as-full}
