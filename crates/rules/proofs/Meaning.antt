@@ -3,6 +3,7 @@ use Prim.Native.Nat.{ℕ, zero, suc, _+_, _-_, _%_, _≤_, _<_}
 use Prim.Native.String.{String}
 use native.Mathlib.Omega.{arith}
 use mathlib.Core.Path.{_≡_, refl, sym, ap, _∙_}
+use mathlib.Core.Logic.{⊎-elim}
 use mathlib.Core.Bool.{Bool, true, false, cond, _&&_}
 use mathlib.Core.Option.{Option, none, some}
 use mathlib.Core.List.{List, [], map}
@@ -11,7 +12,7 @@ use lib.Dec.{T, eqb, eqb→eq}
 use borrow.Author.Tests.{eq-eqb, ne-eqb, eqb-true}
 use Rattle.model.specs.Lists.{holds, or-else, when, is-nil, _>>=_}
 use Rattle.model.specs.Names.{Name, bytes, same}
-use Rattle.model.specs.Terms.{term, references}
+use Rattle.model.specs.Terms.{term}
 use Rattle.model.specs.Summaries.{common-names, exclude-names, token, at, free-of, call-of, op-of, op-number, one, two, op-args, call-args, call-one, call-two, head}
 use Rattle.model.specs.declared.Op.{Op}
 use Rattle.model.specs.declared.Op.the-variants.{TrueOp, Iff, Eq, And}
@@ -21,6 +22,7 @@ use Rattle.names.specs.Known.{known-names, head-code}
 use Rattle.names.specs.Table.{name-of}
 use Rattle.names.proofs.Coded.{code-exact}
 use Rattle.terms.specs.Rows.{row-kind, row-op, row-head, row-start, row-end, words, terms-of-words, op-of-code, make-node, node-of, has-head, Rows}
+use Rattle.terms.proofs.Laws.{equal}
 use Rattle.terms.proofs.Table.{words-cons, words-nil, term-node}
 use Rattle.rules.specs.declared.Argument.{Argument}
 use Rattle.rules.specs.declared.Argument.the-variants as argument
@@ -141,11 +143,6 @@ head-node (suc (suc (suc (suc zero)))) op name ws g = refl
 head-node (suc (suc (suc (suc (suc zero))))) op name ws g = refl
 head-node (suc (suc (suc (suc (suc (suc zero)))))) op name ws g = refl
 head-node (suc (suc (suc (suc (suc (suc (suc n))))))) op name ws g = rw (ne-eqb (suc (suc (suc (suc (suc (suc (suc n))))))) 0 (λ e. omega arith), ne-eqb (suc (suc (suc (suc (suc (suc (suc n))))))) 2 (λ e. omega arith))
-
--- the references of an `op` are its arguments
-op-references : (kind : ℕ) (op : Op) (name : Name) (ws : List ℕ) (g : ℕ) → kind ≡ 3 → references (make-node kind op name ws g) ≡ terms-of-words ws
-unfolding references make-node
-op-references kind op name ws g e = rw e
 
 -- a word that the rules know is that of its number
 op-code : (n o : ℕ) → o < 4 → eqb (op-number (op-of-code n)) o ≡ eqb n o
@@ -297,6 +294,21 @@ other-node (suc (suc (suc (suc (suc zero))))) op name ws g e f = refl
 other-node (suc (suc (suc (suc (suc (suc zero)))))) op name ws g e f = refl
 other-node (suc (suc (suc (suc (suc (suc (suc n))))))) op name ws g e f = refl
 
+-- an argument that is there
+option-is : {u : ℕ} (r : Argument) → as-option r ≡ some u → r ≡ argument.Is u
+unfolding as-option
+option-is argument.No e = cc
+option-is (argument.Is v) e = cc
+
+-- two arguments that are there
+pair-is : {u v : ℕ} (r : Arguments) → as-pair r ≡ some (u, v) → r ≡ arguments.Are u v
+unfolding as-pair
+pair-is arguments.No e = cc
+pair-is {u} {v} (arguments.Are a b) e =
+    let z : _≡_ {A = ℕ × ℕ} (a, b) (u, v) = cc in
+    let (x, y) : (a ≡ u) × (b ≡ v) = (ap (λ p. p .0) z, ap (λ p. p .1) z) in
+    cc
+
 -- no argument is none
 pub never-is : {A : Type 0} {u : ℕ} → argument.No ≡ argument.Is u → A
 never-is e = let z : _≡_ {A = ℕ} 0 1 = cc in absurd (omega arith)
@@ -373,17 +385,13 @@ module _ {file names refs rows : List ℕ} {named used many t : ℕ} (tables : T
       two-when (is-op-at rows t (op-number word)) _ _ _ _ (two-words refs (row-start rows t) (row-end rows used many t) (row-fits (tables .term-table) l))
       ∙ ap (λ ts. ts >>= two) (sym (op-law word h))
 
-  -- the terms that an `op` names are its arguments
-  pub op-named : (op : ℕ) → is-op-at rows t op ≡ true → references (term (terms-in file names refs rows used many) t .node) ≡ terms-of-words (words refs (row-start rows t) (row-end rows used many t))
-  unfolding node-of is-op-at
-  op-named op h = ap references line ∙ op-references (row-kind rows t) _ _ _ _ (first (row-kind rows t) (eqb (row-op rows t) op) h)
-    where
-      first : (kind : ℕ) (b : Bool) → (eqb kind 3 && b) ≡ true → kind ≡ 3
-      first kind b h = eqb-true kind 3 (go (eqb kind 3) h)
-        where
-          go : (a : Bool) → (a && b) ≡ true → a ≡ true
-          go true h = refl
-          go false h = h
+  -- the argument of a call of a known name with one is a term of the table
+  pub one-inside : {k : String} {code u : ℕ} → Known k code → call-one k (term (terms-in file names refs rows used many) t .node) ≡ some u → u < many
+  one-inside {code} known e = one-within (tables .term-table) l names code refl (option-is _ (call-one-law known ∙ e))
+
+  -- the arguments of a call of a known name with two are terms of the table
+  pub two-inside : {k : String} {code u v : ℕ} → Known k code → call-two k (term (terms-in file names refs rows used many) t .node) ≡ some (u, v) → (u < many) × (v < many)
+  two-inside {code} known e = two-within (tables .term-table) l names code refl (pair-is _ (call-two-law known ∙ e))
 
   -- ---- by what a function found
 
@@ -430,9 +438,9 @@ module _ {file names refs rows : List ℕ} {named used many t : ℕ} (tables : T
 
   -- an `op` of the word
   pub op-found : {word : Op} {op : ℕ} → Word word op → is-op-at rows t op ≡ true
-      → op-args word (term (terms-in file names refs rows used many) t .node) ≡ some (references (term (terms-in file names refs rows used many) t .node))
+      → op-args word (term (terms-in file names refs rows used many) t .node) ≡ some (terms-of-words (words refs (row-start rows t) (row-end rows used many t)))
   unfolding when
-  op-found {word} {op} w e = op-law word (w .small) ∙ rw (w .is, e, op-named op e)
+  op-found {word} w e = op-law word (w .small) ∙ rw (w .is, e)
 
   -- a term without a head
   pub head-no : has-head (row-kind rows t) ≡ false → head (term (terms-in file names refs rows used many) t .node) ≡ none
@@ -469,3 +477,13 @@ module _ {file names refs rows : List ℕ} {named used many t : ℕ} (tables : T
   pub token-other : (row-kind rows t ≡ 0 → ⊥) → (row-kind rows t ≡ 2 → ⊥) → token exclude-names (terms-in file names refs rows used many) t ≡ none
   unfolding token at node-of
   token-other e f = rw line (other-node (row-kind rows t) _ _ _ _ e f)
+
+  -- the name of a token is that of its row's head
+  pub token-named : {n : Name} → token exclude-names (terms-in file names refs rows used many) t ≡ some n → name-of file names (row-head rows t) ≡ n
+  token-named h = ⊎-elim
+      (λ e. cc (token-free e refl))
+      (λ e. ⊎-elim
+      (λ f. ⊎-elim (λ g. cc (token-call f g refl)) (λ g. cc (token-more f g)) (equal (row-count rows used many t) 0))
+      (λ f. cc (token-other e f))
+      (equal (row-kind rows t) 2))
+      (equal (row-kind rows t) 0)

@@ -135,10 +135,6 @@ module _ (terms : List Term) (rows : List ℕ) where
       let ambient = ambient-choice name t in
       cond (is-nil (triggers-of-term exclude-names terms t)) ambient (choice.Groups t)
 
--- what rule 4 makes of a token: its disjuncts; no token, no disjunct
-unfoldable pub token-kinded : List Term → ℕ → Kinded
-token-kinded terms t = Option·getD (token exclude-names terms t >>= λ n. some (token-triggers n)) (Sum-triggers [])
-
 -- the numbers of a choice are those of terms and names of the tables
 unfoldable pub Within : ℕ → ℕ → Choice → Type 0
 Within named many choice.No = Unit {0}

@@ -4,11 +4,11 @@ ghost use mathlib.Core.Option.{some};
 ghost use lib.Dec.{T};
 ghost use lib.ListN.{length, getD};
 ghost use Rattle.model.specs.Names.{starts-with};
-ghost use Rattle.model.specs.Summaries.{exclude-names, is-ambient-refinement, ambient-refinement-payload, has-eq, rule-1, rule-2, rule-3, rule-4, rule-5, rule-6, rule-7, rule-8, rule-9, rule-10, rule-11, rule-12, maybe-add-ambient, summarize-kind};
+ghost use Rattle.model.specs.Summaries.{exclude-names, is-ambient-refinement, ambient-refinement-payload, has-eq, maybe-add-ambient, summarize-kind};
 ghost use Rattle.names.specs.Table.{Table, name-of};
 ghost use Rattle.terms.specs.Rows.{row-kind, row-head, row-start, row-end, has-head, groups-at, Rows};
 ghost use Rattle.rules.specs.Views.{Tables, terms-in, is-call-at, is-head-at, is-op-at, call-one-at, call-two-at, op-two-at, row-count, row-argument};
-ghost use Rattle.rules.specs.Choices.{kinded, token-kinded, Within, is-held, as-option};
+ghost use Rattle.rules.specs.Choices.{kinded, choose-1, choose-2, choose-3, choose-4, choose-5, choose-6, choose-7, choose-8, choose-9, choose-10, choose-11, token-choice, ambient-choice, kind-choice, Within, is-held, as-held, as-option};
 
 // What a rule comes to: it does not hold, or where the disjuncts of the fact's trigger names come from.
 pub enum Choice {
@@ -279,7 +279,7 @@ fn token(
     t: usize,
 ) -> Choice
     requires { ⌜ Tables (now file) (now names) (now refs) (now rows) named used many × (t < many) ⌝ }
-    ensures token { λ r. ⌜ kinded (terms-in (now (file .entry)) (now (names .entry)) (now (refs .entry)) (now (rows .entry)) used many) (name-of (now (file .entry)) (now (names .entry))) r ≡ some (token-kinded (terms-in (now (file .entry)) (now (names .entry)) (now (refs .entry)) (now (rows .entry)) used many) t) ⌝ }
+    ensures token { λ r. ⌜ r ≡ token-choice (terms-in (now (file .entry)) (now (names .entry)) (now (refs .entry)) (now (rows .entry)) used many) (now (rows .entry)) t ⌝ }
     ensures within { λ r. ⌜ Within named many r ⌝ }
 {
     let kind = terms::kind(rows, t);
@@ -332,7 +332,7 @@ fn rule_1(
     t: usize,
 ) -> Choice
     requires { ⌜ Tables (now file) (now names) (now refs) (now rows) named used many × (name < named) × (t < many) ⌝ }
-    ensures rule { λ r. ⌜ kinded (terms-in (now (file .entry)) (now (names .entry)) (now (refs .entry)) (now (rows .entry)) used many) (name-of (now (file .entry)) (now (names .entry))) r ≡ rule-1 exclude-names (terms-in (now (file .entry)) (now (names .entry)) (now (refs .entry)) (now (rows .entry)) used many) (name-of (now (file .entry)) (now (names .entry)) name) t ⌝ }
+    ensures rule { λ r. ⌜ as-held r ≡ choose-1 (terms-in (now (file .entry)) (now (names .entry)) (now (refs .entry)) (now (rows .entry)) used many) (now (rows .entry)) (name-of (now (file .entry)) (now (names .entry)) name) t ⌝ }
     ensures within { λ r. ⌜ Within named many r ⌝ }
 {
     let Arguments::Are(left, _) = op_two(refs, rows, named, used, many, t, IFF) else {
@@ -357,7 +357,7 @@ fn rule_2(
     t: usize,
 ) -> Choice
     requires { ⌜ Tables (now file) (now names) (now refs) (now rows) named used many × (name < named) × (t < many) × (groups-at (now rows) t ≡ 0) ⌝ }
-    ensures rule { λ r. ⌜ kinded (terms-in (now (file .entry)) (now (names .entry)) (now (refs .entry)) (now (rows .entry)) used many) (name-of (now (file .entry)) (now (names .entry))) r ≡ rule-2 exclude-names (terms-in (now (file .entry)) (now (names .entry)) (now (refs .entry)) (now (rows .entry)) used many) (name-of (now (file .entry)) (now (names .entry)) name) t ⌝ }
+    ensures rule { λ r. ⌜ as-held r ≡ choose-2 (terms-in (now (file .entry)) (now (names .entry)) (now (refs .entry)) (now (rows .entry)) used many) (now (rows .entry)) (name-of (now (file .entry)) (now (names .entry)) name) t ⌝ }
     ensures within { λ r. ⌜ Within named many r ⌝ }
 {
     if !name_starts(file, names, named, name, b"assumption_") {
@@ -379,7 +379,7 @@ fn rule_3(
     t: usize,
 ) -> Choice
     requires { ⌜ Tables (now file) (now names) (now refs) (now rows) named used many × (name < named) × (t < many) ⌝ }
-    ensures rule { λ r. ⌜ kinded (terms-in (now (file .entry)) (now (names .entry)) (now (refs .entry)) (now (rows .entry)) used many) (name-of (now (file .entry)) (now (names .entry))) r ≡ rule-3 exclude-names (terms-in (now (file .entry)) (now (names .entry)) (now (refs .entry)) (now (rows .entry)) used many) (name-of (now (file .entry)) (now (names .entry)) name) t ⌝ }
+    ensures rule { λ r. ⌜ as-held r ≡ choose-3 (terms-in (now (file .entry)) (now (names .entry)) (now (refs .entry)) (now (rows .entry)) used many) (now (rows .entry)) (name-of (now (file .entry)) (now (names .entry)) name) t ⌝ }
     ensures within { λ r. ⌜ Within named many r ⌝ }
 {
     let Arguments::Are(_, ty) = call_two(names, refs, rows, named, used, many, t, HAS_TYPE) else {
@@ -404,7 +404,7 @@ fn rule_4(
     t: usize,
 ) -> Choice
     requires { ⌜ Tables (now file) (now names) (now refs) (now rows) named used many × (name < named) × (t < many) ⌝ }
-    ensures rule { λ r. ⌜ kinded (terms-in (now (file .entry)) (now (names .entry)) (now (refs .entry)) (now (rows .entry)) used many) (name-of (now (file .entry)) (now (names .entry))) r ≡ rule-4 exclude-names (terms-in (now (file .entry)) (now (names .entry)) (now (refs .entry)) (now (rows .entry)) used many) (name-of (now (file .entry)) (now (names .entry)) name) t ⌝ }
+    ensures rule { λ r. ⌜ as-held r ≡ choose-4 (terms-in (now (file .entry)) (now (names .entry)) (now (refs .entry)) (now (rows .entry)) used many) (now (rows .entry)) (name-of (now (file .entry)) (now (names .entry)) name) t ⌝ }
     ensures within { λ r. ⌜ Within named many r ⌝ }
 {
     let Argument::Is(applied) = call_one(names, refs, rows, named, used, many, t, VALID) else {
@@ -441,7 +441,7 @@ fn rule_5(
     t: usize,
 ) -> Choice
     requires { ⌜ Tables (now file) (now names) (now refs) (now rows) named used many × (name < named) × (t < many) ⌝ }
-    ensures rule { λ r. ⌜ kinded (terms-in (now (file .entry)) (now (names .entry)) (now (refs .entry)) (now (rows .entry)) used many) (name-of (now (file .entry)) (now (names .entry))) r ≡ rule-5 exclude-names (terms-in (now (file .entry)) (now (names .entry)) (now (refs .entry)) (now (rows .entry)) used many) (name-of (now (file .entry)) (now (names .entry)) name) t ⌝ }
+    ensures rule { λ r. ⌜ as-held r ≡ choose-5 (terms-in (now (file .entry)) (now (names .entry)) (now (refs .entry)) (now (rows .entry)) used many) (now (rows .entry)) (name-of (now (file .entry)) (now (names .entry)) name) t ⌝ }
     ensures within { λ r. ⌜ Within named many r ⌝ }
 {
     if let Argument::Is(first) = call_one(names, refs, rows, named, used, many, t, VALID) {
@@ -472,7 +472,7 @@ fn rule_6(
     t: usize,
 ) -> Choice
     requires { ⌜ Tables (now file) (now names) (now refs) (now rows) named used many × (name < named) × (t < many) ⌝ }
-    ensures rule { λ r. ⌜ kinded (terms-in (now (file .entry)) (now (names .entry)) (now (refs .entry)) (now (rows .entry)) used many) (name-of (now (file .entry)) (now (names .entry))) r ≡ rule-6 exclude-names (terms-in (now (file .entry)) (now (names .entry)) (now (refs .entry)) (now (rows .entry)) used many) (name-of (now (file .entry)) (now (names .entry)) name) t ⌝ }
+    ensures rule { λ r. ⌜ as-held r ≡ choose-6 (terms-in (now (file .entry)) (now (names .entry)) (now (refs .entry)) (now (rows .entry)) used many) (now (rows .entry)) (name-of (now (file .entry)) (now (names .entry)) name) t ⌝ }
     ensures within { λ r. ⌜ Within named many r ⌝ }
 {
     let Arguments::Are(_, right) = op_two(refs, rows, named, used, many, t, EQ) else {
@@ -506,7 +506,7 @@ fn rule_7(
     t: usize,
 ) -> Choice
     requires { ⌜ Tables (now file) (now names) (now refs) (now rows) named used many × (name < named) × (t < many) ⌝ }
-    ensures rule { λ r. ⌜ kinded (terms-in (now (file .entry)) (now (names .entry)) (now (refs .entry)) (now (rows .entry)) used many) (name-of (now (file .entry)) (now (names .entry))) r ≡ rule-7 exclude-names (terms-in (now (file .entry)) (now (names .entry)) (now (refs .entry)) (now (rows .entry)) used many) (name-of (now (file .entry)) (now (names .entry)) name) t ⌝ }
+    ensures rule { λ r. ⌜ as-held r ≡ choose-7 (terms-in (now (file .entry)) (now (names .entry)) (now (refs .entry)) (now (rows .entry)) used many) (now (rows .entry)) (name-of (now (file .entry)) (now (names .entry)) name) t ⌝ }
     ensures within { λ r. ⌜ Within named many r ⌝ }
 {
     if !is_op(rows, t, AND) {
@@ -528,7 +528,7 @@ fn rule_8(
     t: usize,
 ) -> Choice
     requires { ⌜ Tables (now file) (now names) (now refs) (now rows) named used many × (name < named) × (t < many) ⌝ }
-    ensures rule { λ r. ⌜ kinded (terms-in (now (file .entry)) (now (names .entry)) (now (refs .entry)) (now (rows .entry)) used many) (name-of (now (file .entry)) (now (names .entry))) r ≡ rule-8 exclude-names (terms-in (now (file .entry)) (now (names .entry)) (now (refs .entry)) (now (rows .entry)) used many) (name-of (now (file .entry)) (now (names .entry)) name) t ⌝ }
+    ensures rule { λ r. ⌜ as-held r ≡ choose-8 (terms-in (now (file .entry)) (now (names .entry)) (now (refs .entry)) (now (rows .entry)) used many) (now (rows .entry)) (name-of (now (file .entry)) (now (names .entry)) name) t ⌝ }
     ensures within { λ r. ⌜ Within named many r ⌝ }
 {
     let Arguments::Are(left, _) = op_two(refs, rows, named, used, many, t, EQ) else {
@@ -553,7 +553,7 @@ fn rule_9(
     t: usize,
 ) -> Choice
     requires { ⌜ Tables (now file) (now names) (now refs) (now rows) named used many × (name < named) × (t < many) ⌝ }
-    ensures rule { λ r. ⌜ kinded (terms-in (now (file .entry)) (now (names .entry)) (now (refs .entry)) (now (rows .entry)) used many) (name-of (now (file .entry)) (now (names .entry))) r ≡ rule-9 exclude-names (terms-in (now (file .entry)) (now (names .entry)) (now (refs .entry)) (now (rows .entry)) used many) (name-of (now (file .entry)) (now (names .entry)) name) t ⌝ }
+    ensures rule { λ r. ⌜ as-held r ≡ choose-9 (terms-in (now (file .entry)) (now (names .entry)) (now (refs .entry)) (now (rows .entry)) used many) (now (rows .entry)) (name-of (now (file .entry)) (now (names .entry)) name) t ⌝ }
     ensures within { λ r. ⌜ Within named many r ⌝ }
 {
     let Arguments::Are(left, right) = op_two(refs, rows, named, used, many, t, IFF) else {
@@ -581,7 +581,7 @@ fn rule_10(
     t: usize,
 ) -> Choice
     requires { ⌜ Tables (now file) (now names) (now refs) (now rows) named used many × (name < named) × (t < many) ⌝ }
-    ensures rule { λ r. ⌜ kinded (terms-in (now (file .entry)) (now (names .entry)) (now (refs .entry)) (now (rows .entry)) used many) (name-of (now (file .entry)) (now (names .entry))) r ≡ rule-10 exclude-names (terms-in (now (file .entry)) (now (names .entry)) (now (refs .entry)) (now (rows .entry)) used many) (name-of (now (file .entry)) (now (names .entry)) name) t ⌝ }
+    ensures rule { λ r. ⌜ as-held r ≡ choose-10 (terms-in (now (file .entry)) (now (names .entry)) (now (refs .entry)) (now (rows .entry)) used many) (now (rows .entry)) (name-of (now (file .entry)) (now (names .entry)) name) t ⌝ }
     ensures within { λ r. ⌜ Within named many r ⌝ }
 {
     let Arguments::Are(left, right) = op_two(refs, rows, named, used, many, t, EQ) else {
@@ -603,7 +603,7 @@ fn rule_11(
     t: usize,
 ) -> Choice
     requires { ⌜ Tables (now file) (now names) (now refs) (now rows) named used many × (name < named) × (t < many) ⌝ }
-    ensures rule { λ r. ⌜ kinded (terms-in (now (file .entry)) (now (names .entry)) (now (refs .entry)) (now (rows .entry)) used many) (name-of (now (file .entry)) (now (names .entry))) r ≡ rule-11 exclude-names (terms-in (now (file .entry)) (now (names .entry)) (now (refs .entry)) (now (rows .entry)) used many) (name-of (now (file .entry)) (now (names .entry)) name) t ⌝ }
+    ensures rule { λ r. ⌜ as-held r ≡ choose-11 (terms-in (now (file .entry)) (now (names .entry)) (now (refs .entry)) (now (rows .entry)) used many) (now (rows .entry)) (name-of (now (file .entry)) (now (names .entry)) name) t ⌝ }
     ensures within { λ r. ⌜ Within named many r ⌝ }
 {
     if !is_op(rows, t, TRUE) {
@@ -632,8 +632,9 @@ pub fn maybe_add_ambient(
     t: usize,
 ) -> Choice
     requires { ⌜ Tables (now file) (now names) (now refs) (now rows) named used many × (name < named) × (t < many) × (groups-at (now rows) t ≡ 0) ⌝ }
-    ensures choice { λ r. ⌜ kinded (terms-in (now (file .entry)) (now (names .entry)) (now (refs .entry)) (now (rows .entry)) used many) (name-of (now (file .entry)) (now (names .entry))) r ≡ some (maybe-add-ambient exclude-names (terms-in (now (file .entry)) (now (names .entry)) (now (refs .entry)) (now (rows .entry)) used many) (name-of (now (file .entry)) (now (names .entry)) name) t) ⌝ }
+    ensures kind { λ r. ⌜ kinded (terms-in (now (file .entry)) (now (names .entry)) (now (refs .entry)) (now (rows .entry)) used many) (name-of (now (file .entry)) (now (names .entry))) r ≡ some (maybe-add-ambient exclude-names (terms-in (now (file .entry)) (now (names .entry)) (now (refs .entry)) (now (rows .entry)) used many) (name-of (now (file .entry)) (now (names .entry)) name) t) ⌝ }
     ensures within { λ r. ⌜ Within named many r ⌝ }
+    ensures choice { λ r. ⌜ r ≡ ambient-choice (terms-in (now (file .entry)) (now (names .entry)) (now (refs .entry)) (now (rows .entry)) used many) (now (rows .entry)) (name-of (now (file .entry)) (now (names .entry)) name) t ⌝ }
 {
     let c1 = rule_1(file, names, refs, rows, named, used, many, name, t);
     if held(c1) {
@@ -695,8 +696,9 @@ pub fn summarize_kind(
     t: usize,
 ) -> Choice
     requires { ⌜ Tables (now file) (now names) (now refs) (now rows) named used many × (name < named) × (t < many) ⌝ }
-    ensures choice { λ r. ⌜ kinded (terms-in (now (file .entry)) (now (names .entry)) (now (refs .entry)) (now (rows .entry)) used many) (name-of (now (file .entry)) (now (names .entry))) r ≡ some (summarize-kind exclude-names (terms-in (now (file .entry)) (now (names .entry)) (now (refs .entry)) (now (rows .entry)) used many) (name-of (now (file .entry)) (now (names .entry)) name) t) ⌝ }
+    ensures kind { λ r. ⌜ kinded (terms-in (now (file .entry)) (now (names .entry)) (now (refs .entry)) (now (rows .entry)) used many) (name-of (now (file .entry)) (now (names .entry))) r ≡ some (summarize-kind exclude-names (terms-in (now (file .entry)) (now (names .entry)) (now (refs .entry)) (now (rows .entry)) used many) (name-of (now (file .entry)) (now (names .entry)) name) t) ⌝ }
     ensures within { λ r. ⌜ Within named many r ⌝ }
+    ensures choice { λ r. ⌜ r ≡ kind-choice (terms-in (now (file .entry)) (now (names .entry)) (now (refs .entry)) (now (rows .entry)) used many) (now (rows .entry)) (name-of (now (file .entry)) (now (names .entry)) name) t ⌝ }
 {
     if terms::group_count(rows, t) == 0 {
         return maybe_add_ambient(file, names, refs, rows, named, used, many, name, t);

@@ -1,6 +1,5 @@
 -- `rules::rule_2` meets its contract: the name alone.
 use Rattle.model.specs.Names.{bytes}
-use Rattle.rules.proofs.Counting.{no-groups}
 use Rattle.rules.proofs.Rules.{rule-2-holds, rule-2-name}
 use Rattle.rules.specs.Choices.{Within}
 use borrow.Author.Needs.{needs}
@@ -24,7 +23,7 @@ returns-2 : tie.Need-returns-2
 unfolding Within bytes
 returns-2 c =
     let start = c .before .before .before .before .before .before .before in
-    (rule-2-holds _ _ _ _ (c .before .name-starts .ensures) (not-false _ (c .if1 .left)) (no-groups (start .pre .0) (start .pre .2) (start .pre .3)), start .pre .2)
+    (rule-2-holds _ _ _ _ (c .before .name-starts .ensures) (not-false _ (c .if1 .left)), start .pre .2)
 
 pub rule-2-spec : {M : Type 1} → statement M
 rule-2-spec = tie.close (tie.spec slice-aggregate-name-starts name-starts-requires returns returns-2)

@@ -70,7 +70,7 @@ returns-4 c =
     let start = c .before .before .before .before .before .before .before .before .before .before .before .before .before .before .before in
     let applied = one-within (start .pre .0 .term-table) (start .pre .2) (start .args .names .now) 6 (c .before .before .before .before .before .before .before .before .before .before .call-one .ensures) (c .before .before .before .before .before .before .before .before .applied .given .1) in
     let parts = two-within (start .pre .0 .term-table) applied (start .args .names .now) 7 (c .before .before .before .before .before .before .call-two .ensures) (c .before .before .before .before .function .given .1) in
-    (rule-4-holds _ _ _ _ (c .token .result) (one-found (start .pre .0) (start .pre .2) valid (c .before .before .before .before .before .before .before .before .before .before .call-one .ensures) (c .before .before .before .before .before .before .before .before .applied .given .1)) (two-found (start .pre .0) applied apply-tt (c .before .before .before .before .before .before .call-two .ensures) (c .before .before .before .before .function .given .1)) (sym (is-head-law (start .pre .0) (parts .0) partial-app) ∙ sym (c .before .before .is-head .ensures) ∙ not-false _ (c .before .if1 .left)) (c .token .ensures .0), c .token .ensures .1)
+    (rule-4-holds _ _ _ _ (one-found (start .pre .0) (start .pre .2) valid (c .before .before .before .before .before .before .before .before .before .before .call-one .ensures) (c .before .before .before .before .before .before .before .before .applied .given .1)) (two-found (start .pre .0) applied apply-tt (c .before .before .before .before .before .before .call-two .ensures) (c .before .before .before .before .function .given .1)) (sym (is-head-law (start .pre .0) (parts .0) partial-app) ∙ sym (c .before .before .is-head .ensures) ∙ not-false _ (c .before .if1 .left)) (c .token .ensures .0), c .token .ensures .1)
 
 pub rule-4-spec : {M : Type 1} → statement M
 rule-4-spec = tie.close (tie.spec call-one-requires enum-known-applied enum-told returns call-two-requires enum-known-function enum-told-2 returns-2 is-head-requires returns-3 token-requires returns-4)

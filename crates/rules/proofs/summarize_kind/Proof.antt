@@ -1,4 +1,5 @@
 -- `rules::summarize_kind` meets its contract: by the number of groups.
+use Rattle.rules.proofs.Choosing.{kind-kinded}
 use Rattle.rules.proofs.Counting.{groups-ready, triggers-nil}
 use Rattle.rules.proofs.Rules.{kind-groups, kind-rules}
 use Rattle.rules.specs.Choices.{Within}
@@ -20,13 +21,15 @@ maybe-add-ambient-requires c κs =
 returns : tie.Need-returns
 returns c =
     let start = c .before .before .before .before .before .before .before in
-    (kind-rules _ _ _ _ (c .maybe-add-ambient .result) (triggers-nil (start .pre .0) (start .pre .2) ∙ eq-eqb _ 0 (sym (c .before .before .group-count .ensures) ∙ c .before .if1 .taken)) (c .maybe-add-ambient .ensures .0), c .maybe-add-ambient .ensures .1)
+    let chosen = kind-rules _ _ _ _ (triggers-nil (start .pre .0) (start .pre .2) ∙ eq-eqb _ 0 (sym (c .before .before .group-count .ensures) ∙ c .before .if1 .taken)) (c .maybe-add-ambient .ensures .1 .1) in
+    (kind-kinded (start .pre .0) (start .pre .2) _ chosen, (c .maybe-add-ambient .ensures .1 .0, chosen))
 
 returns-2 : tie.Need-returns-2
 unfolding Within
 returns-2 c =
     let start = c .before .before .before .before .before .before in
-    (kind-groups _ _ _ _ (triggers-nil (start .pre .0) (start .pre .2) ∙ ne-eqb _ 0 (λ e. c .if1 .left (c .before .group-count .ensures ∙ e))), start .pre .2)
+    let chosen = kind-groups _ _ _ _ (triggers-nil (start .pre .0) (start .pre .2) ∙ ne-eqb _ 0 (λ e. c .if1 .left (c .before .group-count .ensures ∙ e))) in
+    (kind-kinded (start .pre .0) (start .pre .2) _ chosen, (start .pre .2, chosen))
 
 pub summarize-kind-spec : {M : Type 1} → statement M
 summarize-kind-spec = tie.close (tie.spec group-count-requires maybe-add-ambient-requires returns returns-2)

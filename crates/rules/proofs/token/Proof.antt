@@ -21,7 +21,7 @@ returns : tie.Need-returns
 unfolding Within
 returns c =
     let start = c .before .before .before .before .before .before .before in
-    (token-is _ _ _ _ (token-free (start .pre .0) (start .pre .1) (sym (c .before .before .kind .ensures) ∙ c .before .if1 .taken) (c .head .ensures)), head-within (start .pre .0) (start .pre .1) (head-free _ (sym (c .before .before .kind .ensures) ∙ c .before .if1 .taken)) (c .head .ensures))
+    (token-is _ _ _ (token-free (start .pre .0) (start .pre .1) (sym (c .before .before .kind .ensures) ∙ c .before .if1 .taken) (c .head .ensures)) (c .head .ensures), head-within (start .pre .0) (start .pre .1) (head-free _ (sym (c .before .before .kind .ensures) ∙ c .before .if1 .taken)) (c .head .ensures))
 
 returns-2 : tie.Need-returns-2
 unfolding Within
@@ -49,7 +49,7 @@ returns-4 : tie.Need-returns-4
 unfolding Within
 returns-4 c =
     let start = c .before .before .before .before .before .before .before .before .before .before in
-    (token-is _ _ _ _ (token-call (start .pre .0) (start .pre .1) (sym (c .before .before .before .before .before .kind .ensures) ∙ c .before .before .before .if2 .left) (sym (c .before .before .count .ensures) ∙ c .before .if3 .left) (c .head2 .ensures)), head-within (start .pre .0) (start .pre .1) (call-headed _ (sym (c .before .before .before .before .before .kind .ensures) ∙ c .before .before .before .if2 .left)) (c .head2 .ensures))
+    (token-is _ _ _ (token-call (start .pre .0) (start .pre .1) (sym (c .before .before .before .before .before .kind .ensures) ∙ c .before .before .before .if2 .left) (sym (c .before .before .count .ensures) ∙ c .before .if3 .left) (c .head2 .ensures)) (c .head2 .ensures), head-within (start .pre .0) (start .pre .1) (call-headed _ (sym (c .before .before .before .before .before .kind .ensures) ∙ c .before .before .before .if2 .left)) (c .head2 .ensures))
 
 pub token-spec : {M : Type 1} → statement M
 token-spec = tie.close (tie.spec kind-requires head-requires returns returns-2 count-requires returns-3 head-requires-2 returns-4)
