@@ -23,7 +23,7 @@ use Rattle.gather.proofs.Visiting.{marked-more, marked-same, marked-has
 -- ---- what the slices tell of a walk
 
 -- after names the walk has not stopped, and the names end at its last
-answer-names : (from : ℕ) (v : Visit) {n : ℕ} → walks.Names n ≡ walk-answer from v → (v .full ≡ false) × (n ≡ from + length (v .found))
+pub answer-names : (from : ℕ) (v : Visit) {n : ℕ} → walks.Names n ≡ walk-answer from v → (v .full ≡ false) × (n ≡ from + length (v .found))
 unfolding walk-answer
 answer-names from v {n} e = go (v .full) refl e
   where
@@ -32,7 +32,7 @@ answer-names from v {n} e = go (v .full) refl e
     go false q e = (q, cc)
 
 -- without room it has
-answer-full : (from : ℕ) (v : Visit) → walks.Full ≡ walk-answer from v → v .full ≡ true
+pub answer-full : (from : ℕ) (v : Visit) → walks.Full ≡ walk-answer from v → v .full ≡ true
 unfolding walk-answer
 answer-full from v e = go (v .full) refl e
   where

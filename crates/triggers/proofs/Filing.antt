@@ -2,6 +2,7 @@
 use Prim.Native.Nat.{ℕ, _+_, _-_, _≤_, _<_}
 use native.Mathlib.Omega.{arith}
 use mathlib.Core.Path.{_≡_, refl, sym, ap, ap₂, _∙_}
+use mathlib.Core.Bool.{true}
 use mathlib.Core.List.{List, [], _∷_, _++_, map}
 use lib.ListN.{length, getD, set, length-append}
 use Rattle.model.specs.Lists.{sum}
@@ -13,13 +14,21 @@ use Rattle.terms.proofs.Groups.{words-split}
 use Rattle.gather.specs.Sets.{Same-but, Fresh, Named, Gathers, all-names, no-room as no-names, Gathered, ended}
 use Rattle.gather.specs.declared.Walked.{Walked}
 use Rattle.gather.specs.declared.Walked.the-variants as gathered
+use Rattle.gather.specs.Visits.{Visit, Walks-as}
 use Rattle.gather.proofs.Steps.{same-self, same-then, same-wider, same-set}
 use Rattle.triggers.specs.declared.Filed.{Filed}
 use Rattle.triggers.specs.declared.Filed.the-variants as filed
 use Rattle.triggers.specs.Entries.{disjuncts-of, disjuncts-of-words, entries, filed-end, Files, all-sets, no-room, Filled, Closes, last, empty, over, Opened}
-use Rattle.triggers.specs.Inner.{Stage, Comes}
+use Rattle.triggers.specs.Filings.{Filing, filing, file-set, file-list, Files-as}
 use Rattle.triggers.proofs.Disjuncts.{sets-append, block-sets, block-entries, empty-sets, empty-entries, no-entries, entries-then, entries-append, entries-one}
 use Rattle.triggers.proofs.Marked.{named-marked, terms-marked, fresh-later, fresh-next}
+use Rattle.triggers.proofs.Words.{after, words-over, words-closed, words-then, words-as, words-more, words-count, words-none, list-stays}
+
+-- what filing sets comes to, whatever the names are: their entries, the slices, and every word of these
+pub record Comes (names rows out names′ rows′ out′ : List ℕ) (named mark at : ℕ) (sets : (ℕ → Name) → List (List Name)) (f : Filing) (count : ℕ) (r : Filed) : Type 0 where
+  pub files : (name : ℕ → Name) → Named name names named → Files name named (sets name) at out′ r
+  pub filled : Filled names rows out names′ rows′ out′ mark at r
+  pub filed-as : Files-as f count names′ rows′ out′ mark at r
 
 -- ---- one disjunct
 
@@ -56,23 +65,23 @@ files-one {at} {s} few long (all-names is count fits small) (over e l q) = no-ro
 files-over : {name : ℕ → Name} {named at : ℕ} {s : List Name} {out : List ℕ} → Gathers name named s at 8192 out gathered.Full → Files name named (s ∷ []) at out filed.Full
 files-over {s} (no-names p f) = no-room (omega (arith, entries-one s))
 
--- an ended disjunct is one
-closes-one : {out out′ : List ℕ} {at end : ℕ} {r : Filed} → Closes out out′ at end r → (n e : ℕ) → r ≡ filed.Sets n e → n ≡ 1
-closes-one (last a q) n e z = sym (answer-count z)
-closes-one (empty a b q) n e z = sym (answer-count z)
-closes-one (over a b q) n e z = absurd (full-none z)
-
-module _ {names rows out names₁ rows₁ out₁ : List ℕ} {named mark at : ℕ} (s : (ℕ → Name) → List Name) (less : named ≤ 2048) (h : Stage names rows out mark at) where
+module _ {names rows out names₁ rows₁ out₁ : List ℕ} {named mark at : ℕ} (s : (ℕ → Name) → List Name) (less : named ≤ 2048) (h : Opened names rows out mark at) where
   -- a set without room comes to no disjunct
-  comes-over : ((name : ℕ → Name) → Named name names named → Gathers name named (s name) at 8192 out₁ gathered.Full)
-      → Gathered names rows out names₁ rows₁ out₁ mark at 8192 gathered.Full → Comes names rows out names₁ rows₁ out₁ named mark at (λ name. s name ∷ []) filed.Full
+  comes-over : {f : Filing} → ((name : ℕ → Name) → Named name names named → Gathers name named (s name) at 8192 out₁ gathered.Full)
+      → Gathered names rows out names₁ rows₁ out₁ mark at 8192 gathered.Full → Files-as f 1 names₁ rows₁ out₁ mark at filed.Full → Comes names rows out names₁ rows₁ out₁ named mark at (λ name. s name ∷ []) f 1 filed.Full
   unfolding ended filed-end
-  comes-over g p = record {
+  comes-over g p x = record {
     files = λ name d. files-over (g name d);
-    filled = record { names-same = p .names-same; rows-same = p .rows-same; out-same = p .out-same; fresh = λ n e z. absurd (full-none z) };
-    low = p .grows;
-    high = p .fits;
-    few = λ n e z. absurd (full-none z);
+    filled = record {
+      names-same = p .names-same;
+      rows-same = p .rows-same;
+      out-same = p .out-same;
+      low = p .grows;
+      high = p .fits;
+      few = λ n e z. absurd (full-none z);
+      fresh = λ n e z. absurd (full-none z);
+    };
+    filed-as = x;
   }
 
   module _ {end : ℕ} (g : (name : ℕ → Name) → Named name names named → Gathers name named (s name) at 8192 out₁ (gathered.Names end)) (p : Gathered names rows out names₁ rows₁ out₁ mark at 8192 (gathered.Names end)) where
@@ -91,65 +100,65 @@ module _ {names rows out names₁ rows₁ out₁ : List ℕ} {named mark at : �
     set-long = rw (set-same .same-length) (h .high)
 
     -- a set that was gathered and ended comes to one disjunct
-    comes-one : {r : Filed} {out₂ : List ℕ} → Closes out₁ out₂ at end r → Comes names rows out names₁ rows₁ out₂ named mark at (λ name. s name ∷ []) r
+    comes-one : {f : Filing} {r : Filed} {out₂ : List ℕ} → Closes out₁ out₂ at end r → Files-as f 1 names₁ rows₁ out₂ mark at r → Comes names rows out names₁ rows₁ out₂ named mark at (λ name. s name ∷ []) f 1 r
     unfolding filed-end
-    comes-one (last some q) = record {
+    comes-one (last some q) x = record {
       files = λ name d. files-one less set-long (g name d) (last some q);
       filled = record {
         names-same = p .names-same;
         rows-same = p .rows-same;
         out-same = rw q (same-then set-same (same-set at (end - at) out₁ (end - 1) (getD out₁ (end - 1) 0 + 4096) (omega arith) (omega arith)));
+        low = set-ends .0;
+        high = set-ends .1;
+        few = λ n e z. let w = answer-end z in let v = answer-count z in omega arith;
         fresh = λ n e z. let w = answer-end z in rw (← w) (fresh-later (mark + 1) (mark + (end - at)) (omega arith) (fresh-next (h .fresh) p));
       };
-      low = set-ends .0;
-      high = set-ends .1;
-      few = λ n e z. let w = answer-end z in let v = answer-count z in omega arith;
+      filed-as = x;
     }
-    comes-one (empty i l q) = record {
+    comes-one (empty i l q) x = record {
       files = λ name d. files-one less set-long (g name d) (empty i l q);
       filled = record {
         names-same = p .names-same;
         rows-same = p .rows-same;
         out-same = rw q (same-then (same-wider at (at + 1 - at) (omega arith) (omega arith) set-same) (same-set at (at + 1 - at) out₁ at 6144 (omega arith) (omega arith)));
+        low = omega arith;
+        high = omega arith;
+        few = λ n e z. let w = answer-end z in let v = answer-count z in omega arith;
         fresh = λ n e z. let w = answer-end z in rw (← w) (fresh-later (mark + 1) (mark + (at + 1 - at)) (omega arith) (fresh-next (h .fresh) p));
       };
-      low = omega arith;
-      high = omega arith;
-      few = λ n e z. let w = answer-end z in let v = answer-count z in omega arith;
+      filed-as = x;
     }
-    comes-one (over i l q) = record {
+    comes-one (over i l q) x = record {
       files = λ name d. files-one less set-long (g name d) (over i l q);
       filled = record {
         names-same = p .names-same;
         rows-same = p .rows-same;
         out-same = rw q (same-wider at (8192 - at) (omega arith) (omega arith) set-same);
+        low = h .low;
+        high = omega arith;
+        few = λ n e z. absurd (full-none z);
         fresh = λ n e z. absurd (full-none z);
       };
-      low = h .low;
-      high = omega arith;
-      few = λ n e z. absurd (full-none z);
+      filed-as = x;
     }
 
-  module _ {w : Walked} (g : (name : ℕ → Name) → Named name names named → Gathers name named (s name) at 8192 out₁ w) (p : Gathered names rows out names₁ rows₁ out₁ mark at 8192 w) where
-    -- an answer without room
-    pub one-over : w ≡ gathered.Full → Comes names rows out names₁ rows₁ out₁ named mark at (λ name. s name ∷ []) filed.Full × ((n e : ℕ) → filed.Full ≡ filed.Sets n e → n ≡ 1)
-    one-over e = (comes-over (λ name d. rw e at (g name d)) (rw e at p), λ n k z. absurd (full-none z))
-
-    -- the disjunct that was ended
-    pub one-closed : {end : ℕ} {r : Filed} {out₂ : List ℕ} → w ≡ gathered.Names end → Closes out₁ out₂ at end r → Comes names rows out names₁ rows₁ out₂ named mark at (λ name. s name ∷ []) r × ((n k : ℕ) → r ≡ filed.Sets n k → n ≡ 1)
-    one-closed e q = (comes-one (λ name d. rw e at (g name d)) (rw e at p) q, closes-one q)
-
 -- what ending a disjunct asks
-pub one-asks : {names rows out names₁ rows₁ out₁ : List ℕ} {mark at end : ℕ} {w : Walked} → Stage names rows out mark at → Gathered names rows out names₁ rows₁ out₁ mark at 8192 w → w ≡ gathered.Names end
+pub one-asks : {names rows out names₁ rows₁ out₁ : List ℕ} {mark at end : ℕ} {w : Walked} → Opened names rows out mark at → Gathered names rows out names₁ rows₁ out₁ mark at 8192 w → w ≡ gathered.Names end
     → (at ≤ end) × (end ≤ 8192) × (8192 ≤ length out₁) × (at < end → getD out₁ (end - 1) 0 < 2048)
 unfolding ended
 one-asks {names} {rows} {out} {names₁} {rows₁} {out₁} {mark} {at} {end} h p e =
     let q : Gathered names rows out names₁ rows₁ out₁ mark at 8192 (gathered.Names end) = rw e at p in
     (q .grows, q .fits, rw (q .out-same .same-length) (h .high), λ l. q .small (end - 1) (omega arith) (omega arith))
 
--- what the public functions ask is what the private ones do
-pub opened-stage : {names rows out : List ℕ} {mark at : ℕ} → Opened names rows out mark at → Stage names rows out mark at
-opened-stage h = record { name-room = h .name-room; fresh = h .fresh; low = h .low; high = h .high; few-marks = omega (arith, h .few-marks) }
+module _ {names rows out names₁ rows₁ out₁ : List ℕ} {named mark at : ℕ} {v : Visit} {w : Walked} (s : (ℕ → Name) → List Name) (less : named ≤ 2048) (h : Opened names rows out mark at)
+    (g : (name : ℕ → Name) → Named name names named → Gathers name named (s name) at 8192 out₁ w) (p : Gathered names rows out names₁ rows₁ out₁ mark at 8192 w) (x : Walks-as v names rows out names₁ rows₁ out₁ mark at w) where
+  -- an answer without room
+  pub one-over : w ≡ gathered.Full → Comes names rows out names₁ rows₁ out₁ named mark at (λ name. s name ∷ []) (file-set (filing names rows out mark at) v) 1 filed.Full
+  one-over e = comes-over s less h (λ name d. rw e at (g name d)) (rw e at p) (words-over h x e)
+
+  -- the disjunct that was ended
+  pub one-closed : {end : ℕ} {r : Filed} {out₂ : List ℕ} → w ≡ gathered.Names end → Closes out₁ out₂ at end r → Comes names rows out names₁ rows₁ out₂ named mark at (λ name. s name ∷ []) (file-set (filing names rows out mark at) v) 1 r
+  one-closed e q = comes-one s less h (λ name d. rw e at (g name d)) (rw e at p) q (words-closed h x e (one-asks h p e .1) q)
 
 -- the last entry is marked
 pub close-last : {out : List ℕ} {at end w : ℕ} → at < end → w ≡ getD out (end - 1) 0 → Closes out (set out (end - 1) (w + 4096)) at end (filed.Sets 1 end)
@@ -164,11 +173,6 @@ pub close-over : {out : List ℕ} {at end : ℕ} → at ≤ end → end ≤ at �
 close-over h k l = over (omega arith) l refl
 
 -- ---- one after another
-
--- an answer after so many disjuncts
-unfoldable pub after : ℕ → Filed → Filed
-after n (filed.Sets m e) = filed.Sets (n + m) e
-after n filed.Full = filed.Full
 
 -- disjuncts after disjuncts
 files-then : {name : ℕ → Name} {named at n m k : ℕ} {s t : List (List Name)} {out out′ : List ℕ} {r : Filed} → 8192 ≤ length out
@@ -208,16 +212,16 @@ after-few at n m (filed.Sets p q) lo few k e z =
     omega arith
 after-few at n m filed.Full lo few k e z = absurd (full-none z)
 
-module _ {names rows out names₁ rows₁ out₁ : List ℕ} {named mark at : ℕ} {s : (ℕ → Name) → List (List Name)} where
+module _ {names rows out names₁ rows₁ out₁ : List ℕ} {named mark at count : ℕ} {s : (ℕ → Name) → List (List Name)} {f : Filing} where
   -- filing after filing
-  pub comes-then : {names₂ rows₂ out₂ : List ℕ} {n m : ℕ} {r : Filed} (t : (ℕ → Name) → List (List Name)) → named ≤ 2048 → 8192 ≤ length out
-      → Comes names rows out names₁ rows₁ out₁ named mark at s (filed.Sets n m)
-      → Comes names₁ rows₁ out₁ names₂ rows₂ out₂ named (mark + (m - at)) m t r
-      → Comes names rows out names₂ rows₂ out₂ named mark at (λ name. s name ++ t name) (after n r)
+  comes-then : {names₂ rows₂ out₂ : List ℕ} {n m more : ℕ} {r : Filed} (t : (ℕ → Name) → List (List Name)) (step : Filing → Filing) → named ≤ 2048 → 8192 ≤ length out
+      → Comes names rows out names₁ rows₁ out₁ named mark at s f count (filed.Sets n m)
+      → Comes names₁ rows₁ out₁ names₂ rows₂ out₂ named (mark + (m - at)) m t (step (filing names₁ rows₁ out₁ (mark + (m - at)) m)) more r
+      → Comes names rows out names₂ rows₂ out₂ named mark at (λ name. s name ++ t name) (step f) (count + more) (after n r)
   unfolding filed-end
-  comes-then {n} {m} {r} t less long c d =
-      let lo : at ≤ m = c .low in
-      let li = d .low in
+  comes-then {n} {m} {r} t step less long c d =
+      let lo : at ≤ m = c .filled .low in
+      let li = d .filled .low in
       let q = after-end n r in
       record {
         files = λ name k. files-then (rw (c .filled .out-same .same-length) long) (c .files name k) (d .filled .out-same) (d .files name (named-marked (c .filled .names-same) less k));
@@ -225,24 +229,27 @@ module _ {names rows out names₁ rows₁ out₁ : List ℕ} {named mark at : �
           names-same = same-then (c .filled .names-same) (d .filled .names-same);
           rows-same = same-then (c .filled .rows-same) (d .filled .rows-same);
           out-same = rw q (same-then (same-wider at (filed-end r - at) (omega arith) (omega arith) (c .filled .out-same)) (same-wider at (filed-end r - at) lo (omega arith) (d .filled .out-same)));
-          fresh = after-fresh mark at n m r lo (d .few) (d .filled .fresh);
+          low = rw q (omega arith);
+          high = rw q (d .filled .high);
+          few = after-few at n m r (c .filled .few n m refl) (d .filled .few);
+          fresh = after-fresh mark at n m r lo (d .filled .few) (d .filled .fresh);
         };
-        low = rw q (omega arith);
-        high = rw q (d .high);
-        few = after-few at n m r (c .few n m refl) (d .few);
+        filed-as = words-then step lo li (c .filed-as) (d .filed-as);
       }
 
   -- the same disjuncts, said in another way
-  pub comes-as : {t : (ℕ → Name) → List (List Name)} {r : Filed} → ((name : ℕ → Name) → s name ≡ t name) → Comes names rows out names₁ rows₁ out₁ named mark at s r → Comes names rows out names₁ rows₁ out₁ named mark at t r
-  comes-as q c = record { files = λ name d. rw (q name) at (c .files name d); filled = c .filled; low = c .low; high = c .high; few = c .few }
+  pub comes-as : {t : (ℕ → Name) → List (List Name)} {g : Filing} {as-many : ℕ} {r : Filed} → ((name : ℕ → Name) → s name ≡ t name) → f ≡ g → count ≡ as-many
+      → Comes names rows out names₁ rows₁ out₁ named mark at s f count r → Comes names rows out names₁ rows₁ out₁ named mark at t g as-many r
+  comes-as q p n c = record { files = λ name d. rw (q name) at (c .files name d); filled = c .filled; filed-as = words-as p n (c .filed-as) }
 
   -- the same answer
-  pub comes-is : {r r′ : Filed} → r ≡ r′ → Comes names rows out names₁ rows₁ out₁ named mark at s r → Comes names rows out names₁ rows₁ out₁ named mark at s r′
+  pub comes-is : {r r′ : Filed} → r ≡ r′ → Comes names rows out names₁ rows₁ out₁ named mark at s f count r → Comes names rows out names₁ rows₁ out₁ named mark at s f count r′
   comes-is e c = rw e at c
 
   -- where there is no room for disjuncts there is none for more
-  pub comes-more : {t : (ℕ → Name) → List (List Name)} → ((name : ℕ → Name) → entries (s name) ≤ entries (t name)) → Comes names rows out names₁ rows₁ out₁ named mark at s filed.Full → Comes names rows out names₁ rows₁ out₁ named mark at t filed.Full
-  comes-more {t} q c = record { files = λ name d. full (q name) (c .files name d); filled = c .filled; low = c .low; high = c .high; few = c .few }
+  pub comes-more : {t : (ℕ → Name) → List (List Name)} {g : Filing} {as-many : ℕ} → ((name : ℕ → Name) → entries (s name) ≤ entries (t name)) → (f .full ≡ true → g ≡ f)
+      → Comes names rows out names₁ rows₁ out₁ named mark at s f count filed.Full → Comes names rows out names₁ rows₁ out₁ named mark at t g as-many filed.Full
+  comes-more {t} q p c = record { files = λ name d. full (q name) (c .files name d); filled = c .filled; filed-as = words-more p (c .filed-as) }
     where
       full : {name : ℕ → Name} {u v : List (List Name)} → entries u ≤ entries v → Files name named u at out₁ filed.Full → Files name named v at out₁ filed.Full
       full h (no-room p) = no-room (omega arith)
@@ -253,38 +260,39 @@ unfolding disjuncts-of disjuncts-of-words entries sum
 files-none name named at out h = all-sets {n = 0} {e = at} (rw (words-nil out at at (omega arith))) refl (omega arith) h (rw (words-nil out at at (omega arith)) (no-entries named))
 
 -- no disjunct comes to none
-pub comes-none : {names rows out : List ℕ} {named mark at : ℕ} → at ≤ 8192 → Fresh names rows mark → Comes names rows out names rows out named mark at (λ name. []) (filed.Sets 0 at)
+pub comes-none : {names rows out : List ℕ} {named mark at : ℕ} → Opened names rows out mark at → Comes names rows out names rows out named mark at (λ name. []) (filing names rows out mark at) 0 (filed.Sets 0 at)
 unfolding filed-end
-comes-none {names} {rows} {out} {named} {mark} {at} h f = record {
-  files = λ name d. files-none name named at out h;
+comes-none {names} {rows} {out} {named} {mark} {at} h = record {
+  files = λ name d. files-none name named at out (h .low);
   filled = record {
     names-same = same-self 8192 2048 names;
     rows-same = same-self 12288 4096 rows;
     out-same = same-self at (at - at) out;
-    fresh = λ n e z. let w = answer-end z in fresh-later mark (mark + (e - at)) (omega arith) f;
+    low = omega arith;
+    high = h .low;
+    few = λ n e z. let w = answer-end z in let v = answer-count z in omega arith;
+    fresh = λ n e z. let w = answer-end z in fresh-later mark (mark + (e - at)) (omega arith) (h .fresh);
   };
-  low = omega arith;
-  high = h;
-  few = λ n e z. let w = answer-end z in let v = answer-count z in omega arith;
+  filed-as = words-none;
 }
 
 -- the slices after filing are ready for more
-pub stage-then : {names rows out names₁ rows₁ out₁ : List ℕ} {named mark at n m : ℕ} {s : (ℕ → Name) → List (List Name)} → Stage names rows out mark at
-    → Comes names rows out names₁ rows₁ out₁ named mark at s (filed.Sets n m) → Stage names₁ rows₁ out₁ (mark + (m - at)) m
+pub opened-then : {names rows out names₁ rows₁ out₁ : List ℕ} {named mark at count n m : ℕ} {s : (ℕ → Name) → List (List Name)} {f : Filing} → Opened names rows out mark at
+    → Comes names rows out names₁ rows₁ out₁ named mark at s f count (filed.Sets n m) → Opened names₁ rows₁ out₁ (mark + (m - at)) m
 unfolding filed-end
-stage-then {n = n} {m = m} h c = record {
+opened-then {n = n} {m = m} h c = record {
   name-room = rw (c .filled .names-same .same-length) (h .name-room);
   fresh = c .filled .fresh n m refl;
-  low = c .high;
+  low = c .filled .high;
   high = rw (c .filled .out-same .same-length) (h .high);
-  few-marks = omega (arith, h .few-marks, h .low, c .low, c .high);
+  few-marks = omega (arith, h .few-marks, h .low, c .filled .low, c .filled .high);
 }
 
 -- where the entries so far end
-pub comes-ends : {names rows out names₁ rows₁ out₁ : List ℕ} {named mark at n m : ℕ} {s : (ℕ → Name) → List (List Name)}
-    → Comes names rows out names₁ rows₁ out₁ named mark at s (filed.Sets n m) → (at ≤ m) × (m ≤ 8192) × (n + at ≤ m)
+pub comes-ends : {names rows out names₁ rows₁ out₁ : List ℕ} {named mark at count n m : ℕ} {s : (ℕ → Name) → List (List Name)} {f : Filing}
+    → Comes names rows out names₁ rows₁ out₁ named mark at s f count (filed.Sets n m) → (at ≤ m) × (m ≤ 8192) × (n + at ≤ m)
 unfolding filed-end
-comes-ends {n = n} {m = m} c = (c .low, c .high, c .few n m refl)
+comes-ends {n = n} {m = m} c = (c .filled .low, c .filled .high, c .filled .few n m refl)
 
 -- an answer after so many, without room
 pub after-full : (n : ℕ) {r : Filed} → r ≡ filed.Full → after n r ≡ filed.Full
@@ -297,35 +305,52 @@ unfolding after
 after-sets n k e j p q = rw (p, q)
 
 -- filing after filing, said in another way
-pub comes-next : {names rows out names₁ rows₁ out₁ names₂ rows₂ out₂ : List ℕ} {named mark at n m : ℕ} {r : Filed} (s t u : (ℕ → Name) → List (List Name)) → named ≤ 2048 → 8192 ≤ length out
-    → ((name : ℕ → Name) → s name ++ t name ≡ u name)
-    → Comes names rows out names₁ rows₁ out₁ named mark at s (filed.Sets n m) → Comes names₁ rows₁ out₁ names₂ rows₂ out₂ named (mark + (m - at)) m t r
-    → Comes names rows out names₂ rows₂ out₂ named mark at u (after n r)
-comes-next s t u few long q c d = comes-as q (comes-then t few long c d)
+pub comes-next : {names rows out names₁ rows₁ out₁ names₂ rows₂ out₂ : List ℕ} {named mark at count n m more as-many : ℕ} {f g : Filing} {r : Filed} (s t u : (ℕ → Name) → List (List Name)) (step : Filing → Filing) → named ≤ 2048 → 8192 ≤ length out
+    → ((name : ℕ → Name) → s name ++ t name ≡ u name) → step f ≡ g → count + more ≡ as-many
+    → Comes names rows out names₁ rows₁ out₁ named mark at s f count (filed.Sets n m)
+    → Comes names₁ rows₁ out₁ names₂ rows₂ out₂ named (mark + (m - at)) m t (step (filing names₁ rows₁ out₁ (mark + (m - at)) m)) more r
+    → Comes names rows out names₂ rows₂ out₂ named mark at u g as-many (after n r)
+comes-next s t u step few long q p i c d = comes-as q p i (comes-then t step few long c d)
+
+-- ---- what the functions say of it
+
+-- of filing, by what is asked of the names
+pub posts : {names rows out names₁ rows₁ out₁ : List ℕ} {named mark at count : ℕ} {s : (ℕ → Name) → List (List Name)} {f : Filing} {r : Filed} → Comes names rows out names₁ rows₁ out₁ named mark at s f count r
+    → ((name : ℕ → Name) → Named name names named → Files name named (s name) at out₁ r) × (Filled names rows out names₁ rows₁ out₁ mark at r × Files-as f count names₁ rows₁ out₁ mark at r)
+posts c = (c .files, (c .filled, c .filed-as))
+
+-- and back
+pub comes-of : {names rows out names₁ rows₁ out₁ : List ℕ} {named mark at count : ℕ} {f : Filing} {r : Filed} (s : (ℕ → Name) → List (List Name))
+    → ((name : ℕ → Name) → Named name names named → Files name named (s name) at out₁ r) × (Filled names rows out names₁ rows₁ out₁ mark at r × Files-as f count names₁ rows₁ out₁ mark at r)
+    → Comes names rows out names₁ rows₁ out₁ named mark at s f count r
+comes-of s p = record { files = p .0; filled = p .1 .0; filed-as = p .1 .1 }
 
 -- ---- two disjuncts
 
--- the first has no room
-pub two-first : {names rows out names₁ rows₁ out₁ : List ℕ} {named mark at : ℕ} {r : Filed} (s t : (ℕ → Name) → List Name) → r ≡ filed.Full
-    → Comes names rows out names₁ rows₁ out₁ named mark at (λ name. s name ∷ []) r → Comes names rows out names₁ rows₁ out₁ named mark at (λ name. s name ∷ t name ∷ []) filed.Full
-two-first s t e c = comes-more (λ name. omega (arith, entries-append (s name ∷ []) (t name ∷ []))) (comes-is e c)
+-- the disjuncts of one term, by the names of the numbers
+abbrev pub term-sets : List ℕ → List ℕ → ℕ → ℕ → ℕ → (ℕ → Name) → List (List Name)
+term-sets refs rows used many t name = term-set refs rows used many t name ∷ []
 
-module _ {names rows out names₁ rows₁ out₁ names₂ rows₂ out₂ refs : List ℕ} {used many named mark at n m : ℕ} {r : Filed} (t u : ℕ) (h : Rows refs rows used many named) (long : 8192 ≤ length out)
-    (c : Comes names rows out names₁ rows₁ out₁ named mark at (λ name. free-top-level-names exclude-names (terms-of name refs rows used many) t ∷ []) (filed.Sets n m))
-    (d : Comes names₁ rows₁ out₁ names₂ rows₂ out₂ named (mark + (m - at)) m (λ name. free-top-level-names exclude-names (terms-of name refs rows₁ used many) u ∷ []) r) where
+-- the first has no room
+pub two-first : {names rows out names₁ rows₁ out₁ refs : List ℕ} {used many named mark at count : ℕ} {f : Filing} {r : Filed} (t u : ℕ) → Rows refs rows used many named → r ≡ filed.Full
+    → Comes names rows out names₁ rows₁ out₁ named mark at (term-sets refs rows used many t) f count r
+    → Comes names rows out names₁ rows₁ out₁ named mark at (λ name. term-set refs rows used many t name ∷ term-set refs rows used many u name ∷ []) (file-list refs used many f (u ∷ [])) 2 filed.Full
+two-first {rows = rows} {refs = refs} {used} {many} {f = f} t u h e c = comes-more (λ name. omega (arith, entries-append (term-set refs rows used many t name ∷ []) (term-set refs rows used many u name ∷ []))) (list-stays refs used many f (u ∷ [])) (comes-is e c)
+
+module _ {names rows out names₁ rows₁ out₁ names₂ rows₂ out₂ refs : List ℕ} {used many named mark at n m : ℕ} {f : Filing} {r : Filed} (t u : ℕ) (h : Rows refs rows used many named) (long : 8192 ≤ length out)
+    (c : Comes names rows out names₁ rows₁ out₁ named mark at (term-sets refs rows used many t) f 1 (filed.Sets n m))
+    (d : Comes names₁ rows₁ out₁ names₂ rows₂ out₂ named (mark + (m - at)) m (term-sets refs rows₁ used many u) (file-list refs used many (filing names₁ rows₁ out₁ (mark + (m - at)) m) (u ∷ [])) 1 r) where
   -- both, with the answer of the second
-  two-then : Comes names rows out names₂ rows₂ out₂ named mark at (λ name. free-top-level-names exclude-names (terms-of name refs rows used many) t ∷ free-top-level-names exclude-names (terms-of name refs rows used many) u ∷ []) (after n r)
-  two-then = comes-next _ _ _ (h .few-names) long (λ name. ap (λ ts. free-top-level-names exclude-names (terms-of name refs rows used many) t ∷ free-top-level-names exclude-names ts u ∷ []) (terms-marked name (c .filled .rows-same) h)) c d
+  two-then : Comes names rows out names₂ rows₂ out₂ named mark at (λ name. term-set refs rows used many t name ∷ term-set refs rows used many u name ∷ []) (file-list refs used many f (u ∷ [])) 2 (after n r)
+  two-then = comes-next _ _ _ (λ f. file-list refs used many f (u ∷ [])) (h .few-names) long (λ name. ap (λ ts. term-set refs rows used many t name ∷ free-top-level-names exclude-names ts u ∷ []) (terms-marked name (c .filled .rows-same) h)) refl refl c d
 
   -- the second has no room
-  pub two-full : r ≡ filed.Full → Comes names rows out names₂ rows₂ out₂ named mark at (λ name. free-top-level-names exclude-names (terms-of name refs rows used many) t ∷ free-top-level-names exclude-names (terms-of name refs rows used many) u ∷ []) filed.Full
+  pub two-full : r ≡ filed.Full → Comes names rows out names₂ rows₂ out₂ named mark at (λ name. term-set refs rows used many t name ∷ term-set refs rows used many u name ∷ []) (file-list refs used many f (u ∷ [])) 2 filed.Full
   two-full e = comes-is (after-full n e) two-then
 
   -- both are filed
-  pub two-both : {k e : ℕ} → r ≡ filed.Sets k e → n ≡ 1 → k ≡ 1 → Comes names rows out names₂ rows₂ out₂ named mark at (λ name. free-top-level-names exclude-names (terms-of name refs rows used many) t ∷ free-top-level-names exclude-names (terms-of name refs rows used many) u ∷ []) (filed.Sets 2 e)
-  two-both {k} {e} q x y = comes-is (after-sets n k e 2 q (omega arith)) two-then
-
--- what the public functions say of it
-pub posts : {names rows out names₁ rows₁ out₁ : List ℕ} {named mark at : ℕ} {s : (ℕ → Name) → List (List Name)} {r : Filed} → Comes names rows out names₁ rows₁ out₁ named mark at s r
-    → ((name : ℕ → Name) → Named name names named → Files name named (s name) at out₁ r) × Filled names rows out names₁ rows₁ out₁ mark at r
-posts c = (c .files, c .filled)
+  pub two-both : {k e : ℕ} → r ≡ filed.Sets k e → Comes names rows out names₂ rows₂ out₂ named mark at (λ name. term-set refs rows used many t name ∷ term-set refs rows used many u name ∷ []) (file-list refs used many f (u ∷ [])) 2 (filed.Sets 2 e)
+  two-both {k} {e} q =
+      let x = words-count refl (c .filed-as) in
+      let y = words-count q (d .filed-as) in
+      comes-is (after-sets n k e 2 q (omega arith)) two-then

@@ -5,25 +5,27 @@ use mathlib.Core.Path.{_≡_, refl, sym, ap, ap₂, _∙_}
 use mathlib.Core.Bool.{true, false}
 use mathlib.Core.List.{List, [], _∷_, _++_, map, map-append, append-nil}
 use lib.ListN.{length, getD, length-append}
-use lib.Seq.{ext-getD}
-use Rattle.model.specs.Lists.{collect, is-nil}
+use Rattle.model.specs.Lists.{collect, fold-left, sum, is-nil}
 use Rattle.model.specs.Names.{Name}
 use Rattle.model.specs.Summaries.{exclude-names, group-names, triggers-of-term, is-empty}
 use Rattle.model.proofs.ListLaws.{collect-append}
 use Rattle.terms.specs.Rows.{row-start, row-end, words, terms-of-words, group-of-words, groups-of-words, group-run, terms-of, bare-of, groups-at, Rows}
 use Rattle.terms.proofs.Table.{words-nil, words-snoc, bare-low}
+use Rattle.terms.proofs.Laws.{groups-all}
 use Rattle.terms.proofs.Groups.{Before, group-first, group-next, group-place, group-last, words-split}
 use Rattle.gather.specs.Sets.{Same-but, Fresh, Gathers, all-names, no-room, Gathered}
+use Rattle.gather.specs.Visits.{visit-list, marked-at, Walks-as}
 use Rattle.gather.specs.declared.Walked.{Walked}
 use Rattle.gather.specs.declared.Walked.the-variants as gathered
 use Rattle.gather.proofs.Steps.{same-self}
 use Rattle.triggers.specs.declared.Filed.{Filed}
 use Rattle.triggers.specs.declared.Filed.the-variants as filed
-use Rattle.triggers.specs.Entries.{entries}
-use Rattle.triggers.specs.Inner.{Stage, Comes}
+use Rattle.triggers.specs.Entries.{entries, Opened}
+use Rattle.triggers.specs.Filings.{Filing, filing, file-list, file-groups, file-parts, empty-visit}
 use Rattle.triggers.proofs.Disjuncts.{entries-append}
-use Rattle.triggers.proofs.Marked.{terms-marked, fresh-later, fresh-next, All, patterns, triggers-all, triggers-none, groups-more, groups-fewer}
-use Rattle.triggers.proofs.Filing.{after, after-full, after-sets, comes-as, comes-is, comes-more, comes-next, comes-none}
+use Rattle.triggers.proofs.Marked.{terms-marked, groups-marked, fresh-later, fresh-next, All, patterns, triggers-all, triggers-none, groups-more, groups-fewer}
+use Rattle.triggers.proofs.Words.{after, words-count, filed-group, filed-groups, filed-all, filed-none, filed-part, filed-parts, counted-more, walked-one, names-kept, out-kept}
+use Rattle.triggers.proofs.Filing.{Comes, after-full, after-sets, comes-as, comes-is, comes-more, comes-next, comes-none}
 
 -- what reading the groups of a term asks
 pub patterns-asks : {refs rows : List ℕ} {used many named : ℕ} → Rows refs rows used many named → (t : ℕ) → t < many
@@ -79,43 +81,54 @@ module _ {refs rows : List ℕ} {used many named t groups u e : ℕ} (r : Rows r
 
     -- the group filed after those before it
     pub groups-then : {names out names₁ rows₁ out₁ names₂ rows₂ out₂ : List ℕ} {mark at end : ℕ} {f : Filed} → 8192 ≤ length out
-        → Comes names rows out names₁ rows₁ out₁ named mark at (λ name. map (names-of name) (groups-of-words (patterns refs rows used many u) g)) (filed.Sets g end)
-        → Comes names₁ rows₁ out₁ names₂ rows₂ out₂ named (mark + (end - at)) end (λ name. group-names exclude-names (terms-of name refs rows₁ used many) (terms-of-words (words refs a b)) ∷ []) f
-        → Comes names rows out names₂ rows₂ out₂ named mark at (λ name. map (names-of name) (groups-of-words (patterns refs rows used many u) (g + 1))) (after g f)
-    groups-then long c d = comes-next _ _ _ (r .few-names) long (λ name.
+        → Comes names rows out names₁ rows₁ out₁ named mark at (λ name. map (names-of name) (groups-of-words (patterns refs rows used many u) g)) (fold-left (file-list refs used many) (filing names rows out mark at) (groups-of-words (patterns refs rows used many u) g)) g (filed.Sets g end)
+        → Comes names₁ rows₁ out₁ names₂ rows₂ out₂ named (mark + (end - at)) end (λ name. group-names exclude-names (terms-of name refs rows₁ used many) (terms-of-words (words refs a b)) ∷ []) (file-list refs used many (filing names₁ rows₁ out₁ (mark + (end - at)) end) (terms-of-words (words refs a b))) 1 f
+        → Comes names rows out names₂ rows₂ out₂ named mark at (λ name. map (names-of name) (groups-of-words (patterns refs rows used many u) (g + 1))) (fold-left (file-list refs used many) (filing names rows out mark at) (groups-of-words (patterns refs rows used many u) (g + 1))) (g + 1) (after g f)
+    groups-then {names} {out} {mark = mark} {at} long c d = comes-next _ _ _ (λ f. file-list refs used many f (terms-of-words (words refs a b))) (r .few-names) long
+        (λ name.
         ap (λ x. map (names-of name) (groups-of-words (patterns refs rows used many u) g) ++ (x ∷ [])) (ap₂ (group-names exclude-names) (terms-marked name (c .filled .rows-same) r) group-terms)
-        ∙ groups-more (names-of name) (patterns refs rows used many u) g) c d
+        ∙ groups-more (names-of name) (patterns refs rows used many u) g)
+        (ap (file-list refs used many (fold-left (file-list refs used many) (filing names rows out mark at) (groups-of-words (patterns refs rows used many u) g))) group-terms ∙ filed-group refs used many (filing names rows out mark at) (patterns refs rows used many u) g) refl c d
 
   module _ {names out names₁ rows₁ out₁ : List ℕ} {mark at : ℕ} (l : t < many) where
     -- where a group has no room there is none for all
-    pub groups-full : {g : ℕ} {f : Filed} → g < groups → f ≡ filed.Full
-        → Comes names rows out names₁ rows₁ out₁ named mark at (λ name. map (names-of name) (groups-of-words (patterns refs rows used many u) (g + 1))) (after g f)
-        → Comes names rows out names₁ rows₁ out₁ named mark at (λ name. triggers-of-term exclude-names (terms-of name refs rows used many) t) filed.Full
-    groups-full {g} h e c = comes-as (triggers-all r l all) (comes-more (λ name. groups-fewer (names-of name) (patterns refs rows used many u) (g + 1) groups (omega arith)) (comes-is (after-full g e) c))
+    pub groups-full : {g count : ℕ} {f : Filed} → g < groups → f ≡ filed.Full
+        → Comes names rows out names₁ rows₁ out₁ named mark at (λ name. map (names-of name) (groups-of-words (patterns refs rows used many u) (g + 1))) (fold-left (file-list refs used many) (filing names rows out mark at) (groups-of-words (patterns refs rows used many u) (g + 1))) (g + 1) (after g f)
+        → Comes names rows out names₁ rows₁ out₁ named mark at (λ name. triggers-of-term exclude-names (terms-of name refs rows used many) t) (file-groups refs used many (filing names rows out mark at) t) count filed.Full
+    groups-full {g} h e c = comes-as (triggers-all r l all) (filed-all refs used many (filing names rows out mark at) all) refl
+        (comes-more (λ name. groups-fewer (names-of name) (patterns refs rows used many u) (g + 1) groups (omega arith)) (filed-groups refs used many (filing names rows out mark at) (patterns refs rows used many u) (g + 1) groups (omega arith)) (comes-is (after-full g e) c))
 
     -- all groups are the triggers
     pub groups-done : {g end : ℕ} → g ≤ groups → groups ≤ g
-        → Comes names rows out names₁ rows₁ out₁ named mark at (λ name. map (names-of name) (groups-of-words (patterns refs rows used many u) g)) (filed.Sets g end)
-        → Comes names rows out names₁ rows₁ out₁ named mark at (λ name. triggers-of-term exclude-names (terms-of name refs rows used many) t) (filed.Sets groups end)
+        → Comes names rows out names₁ rows₁ out₁ named mark at (λ name. map (names-of name) (groups-of-words (patterns refs rows used many u) g)) (fold-left (file-list refs used many) (filing names rows out mark at) (groups-of-words (patterns refs rows used many u) g)) g (filed.Sets g end)
+        → Comes names rows out names₁ rows₁ out₁ named mark at (λ name. triggers-of-term exclude-names (terms-of name refs rows used many) t) (file-groups refs used many (filing names rows out mark at) t) (groups-at rows t) (filed.Sets groups end)
     groups-done {g} {end} h k c =
         let q : g ≡ groups = omega arith in
-        comes-as (λ name. ap (λ n. map (names-of name) (groups-of-words (patterns refs rows used many u) n)) q ∙ triggers-all r l all name) (comes-is (ap (λ n. filed.Sets n end) q) c)
+        comes-as
+        (λ name. ap (λ n. map (names-of name) (groups-of-words (patterns refs rows used many u) n)) q ∙ triggers-all r l all name)
+        (ap (λ n. fold-left (file-list refs used many) (filing names rows out mark at) (groups-of-words (patterns refs rows used many u) n)) q ∙ filed-all refs used many (filing names rows out mark at) all)
+        (q ∙ all .counted ∙ sym (groups-all rows t u (all .bare) (all .is-all)))
+        (comes-is (ap (λ n. filed.Sets n end) q) c)
 
 -- one group more, with its answer
-pub groups-again : {names rows out names₁ rows₁ out₁ : List ℕ} {named mark at k e : ℕ} {f : Filed} {s : (ℕ → Name) → List (List Name)} (g : ℕ) → f ≡ filed.Sets k e → k ≡ 1
-    → Comes names rows out names₁ rows₁ out₁ named mark at s (after g f) → Comes names rows out names₁ rows₁ out₁ named mark at s (filed.Sets (g + 1) e)
-groups-again {k = k} {e = e} g p q c = comes-is (after-sets g k e (g + 1) p (omega arith)) c
+pub groups-again : {names rows out names₁ rows₁ out₁ names₂ rows₂ out₂ : List ℕ} {named mark mark₁ at m k e : ℕ} {f : Filed} {s t : (ℕ → Name) → List (List Name)} {x y : Filing} (g : ℕ) → f ≡ filed.Sets k e
+    → Comes names₁ rows₁ out₁ names₂ rows₂ out₂ named mark₁ m t y 1 f
+    → Comes names rows out names₂ rows₂ out₂ named mark at s x (g + 1) (after g f) → Comes names rows out names₂ rows₂ out₂ named mark at s x (g + 1) (filed.Sets (g + 1) e)
+groups-again {k = k} {e = e} g p d c =
+    let q = words-count p (d .filed-as) in
+    comes-is (after-sets g k e (g + 1) p (omega arith)) c
 
 -- before the first group nothing is filed
-pub groups-start : {rows names out : List ℕ} {named mark at : ℕ} (f : (ℕ → Name) → List ℕ → List Name) (ws : List ℕ) → Stage names rows out mark at
-    → Comes names rows out names rows out named mark at (λ name. map (f name) (groups-of-words ws 0)) (filed.Sets 0 at)
-unfolding groups-of-words
-groups-start f ws h = comes-none (h .low) (h .fresh)
+pub groups-start : {rows names out : List ℕ} {named mark at : ℕ} (f : (ℕ → Name) → List ℕ → List Name) (step : Filing → List ℕ → Filing) (ws : List ℕ) → Opened names rows out mark at
+    → Comes names rows out names rows out named mark at (λ name. map (f name) (groups-of-words ws 0)) (fold-left step (filing names rows out mark at) (groups-of-words ws 0)) 0 (filed.Sets 0 at)
+unfolding groups-of-words fold-left
+groups-start f step ws h = comes-none h
 
 -- a term without groups files nothing
-pub groups-none : {refs rows names out : List ℕ} {used many named mark at t groups : ℕ} → Rows refs rows used many named → t < many → groups ≡ groups-at rows t → groups ≡ 0 → Stage names rows out mark at
-    → Comes names rows out names rows out named mark at (λ name. triggers-of-term exclude-names (terms-of name refs rows used many) t) (filed.Sets 0 at)
-groups-none r l c z h = comes-as (λ name. sym (triggers-none r l c z name)) (comes-none (h .low) (h .fresh))
+pub groups-none : {refs rows names out : List ℕ} {used many named mark at groups : ℕ} (t : ℕ) → Rows refs rows used many named → t < many → groups ≡ groups-at rows t → groups ≡ 0 → Opened names rows out mark at
+    → Comes names rows out names rows out named mark at (λ name. triggers-of-term exclude-names (terms-of name refs rows used many) t) (file-groups refs used many (filing names rows out mark at) t) (groups-at rows t) (filed.Sets 0 at)
+groups-none {refs} {rows} {names} {out} {used} {many} {mark = mark} {at} t r l c z h =
+    comes-as (λ name. sym (triggers-none r l c z name)) (filed-none refs used many (filing names rows out mark at) t c z) (sym z ∙ c) (comes-none h)
 
 -- ---- the terms of a list
 
@@ -137,32 +150,51 @@ list-none : {A : Type 0} (f : ℕ → List A) (refs : List ℕ) (a i : ℕ) → 
 unfolding terms-of-words collect
 list-none f refs a i q = rw (words-nil refs a i (omega arith))
 
-module _ {refs rows names out : List ℕ} {used many named mark at a e : ℕ} (r : Rows refs rows used many named) (h : Stage names rows out mark at) (in-use : e ≤ used) where
-  -- no term files nothing
-  pub list-start : {i : ℕ} → i ≡ a → Comes names rows out names rows out named mark at (λ name. collect (triggers-of-term exclude-names (terms-of name refs rows used many)) (terms-of-words (words refs a i))) (filed.Sets 0 at)
-  list-start {i} q = comes-as (λ name. list-none (triggers-of-term exclude-names (terms-of name refs rows used many)) refs a i q) (comes-none (h .low) (h .fresh))
+-- the triggers of the terms that the references from a up to e name, by the names of the numbers
+abbrev pub list-sets : List ℕ → List ℕ → ℕ → ℕ → ℕ → ℕ → (ℕ → Name) → List (List Name)
+list-sets refs rows used many a e name = collect (triggers-of-term exclude-names (terms-of name refs rows used many)) (terms-of-words (words refs a e))
 
-  module _ {names₁ rows₁ out₁ names₂ rows₂ out₂ : List ℕ} {count end i t : ℕ} {f : Filed} (low : a ≤ i) (high : i < e) (is : t ≡ getD refs i 0 % 4096)
-      (c : Comes names rows out names₁ rows₁ out₁ named mark at (λ name. collect (triggers-of-term exclude-names (terms-of name refs rows used many)) (terms-of-words (words refs a i))) (filed.Sets count end))
-      (d : Comes names₁ rows₁ out₁ names₂ rows₂ out₂ named (mark + (end - at)) end (λ name. triggers-of-term exclude-names (terms-of name refs rows₁ used many) t) f) where
+-- how many there are
+abbrev pub list-count : List ℕ → List ℕ → ℕ → ℕ → ℕ
+list-count refs rows a e = sum (map (groups-at rows) (terms-of-words (words refs a e)))
+
+module _ {refs rows names out : List ℕ} {used many named mark at a e : ℕ} (r : Rows refs rows used many named) (h : Opened names rows out mark at) (in-use : e ≤ used) where
+  -- no term files nothing
+  pub list-start : {i : ℕ} → i ≡ a → Comes names rows out names rows out named mark at (list-sets refs rows used many a i) (file-parts refs used many (filing names rows out mark at) (terms-of-words (words refs a i))) (list-count refs rows a i) (filed.Sets 0 at)
+  unfolding file-parts terms-of-words fold-left sum
+  list-start {i} q = comes-as (λ name. list-none (triggers-of-term exclude-names (terms-of name refs rows used many)) refs a i q) (rw (words-nil refs a i (omega arith))) (rw (words-nil refs a i (omega arith))) (comes-none h)
+
+  module _ {names₁ rows₁ out₁ names₂ rows₂ out₂ : List ℕ} {count end i t : ℕ} {f : Filed} (low : a ≤ i) (high : i < e) (is : t ≡ getD refs i 0 % 4096) (lower : t < many)
+      (c : Comes names rows out names₁ rows₁ out₁ named mark at (list-sets refs rows used many a i) (file-parts refs used many (filing names rows out mark at) (terms-of-words (words refs a i))) (list-count refs rows a i) (filed.Sets count end))
+      (d : Comes names₁ rows₁ out₁ names₂ rows₂ out₂ named (mark + (end - at)) end (λ name. triggers-of-term exclude-names (terms-of name refs rows₁ used many) t) (file-groups refs used many (filing names₁ rows₁ out₁ (mark + (end - at)) end) t) (groups-at rows₁ t) f) where
+    -- the references are in the slice
+    list-fits : i < length refs
+    list-fits = omega (arith, r .few-references, r .ref-room)
+
     -- the term's after those before it
-    list-then : Comes names rows out names₂ rows₂ out₂ named mark at (λ name. collect (triggers-of-term exclude-names (terms-of name refs rows used many)) (terms-of-words (words refs a (i + 1)))) (after count f)
-    list-then = comes-next _ _ _ (r .few-names) (h .high) (λ name.
-        ap (λ ts. collect (triggers-of-term exclude-names (terms-of name refs rows used many)) (terms-of-words (words refs a i)) ++ triggers-of-term exclude-names ts t) (terms-marked name (c .filled .rows-same) r)
-        ∙ list-more (triggers-of-term exclude-names (terms-of name refs rows used many)) refs a i t low (omega (arith, r .few-references, r .ref-room)) is) c d
+    list-then : Comes names rows out names₂ rows₂ out₂ named mark at (list-sets refs rows used many a (i + 1)) (file-parts refs used many (filing names rows out mark at) (terms-of-words (words refs a (i + 1)))) (list-count refs rows a (i + 1)) (after count f)
+    list-then = comes-next _ _ _ (λ f. file-groups refs used many f t) (r .few-names) (h .high)
+        (λ name.
+        ap (λ ts. list-sets refs rows used many a i name ++ triggers-of-term exclude-names ts t) (terms-marked name (c .filled .rows-same) r)
+        ∙ list-more (triggers-of-term exclude-names (terms-of name refs rows used many)) refs a i t low list-fits is)
+        (filed-part refs used many (filing names rows out mark at) a i low t list-fits is)
+        (ap (λ n. list-count refs rows a i + n) (groups-marked (c .filled .rows-same) r t lower) ∙ counted-more rows refs a i t low list-fits is) c d
 
     -- where there is no room for them there is none for all
-    pub list-full : f ≡ filed.Full → Comes names rows out names₂ rows₂ out₂ named mark at (λ name. collect (triggers-of-term exclude-names (terms-of name refs rows used many)) (terms-of-words (words refs a e))) filed.Full
-    list-full q = comes-more (λ name. list-fewer (triggers-of-term exclude-names (terms-of name refs rows used many)) refs a (i + 1) e (omega arith) (omega arith) (omega (arith, r .few-references, r .ref-room))) (comes-is (after-full count q) list-then)
+    pub list-full : f ≡ filed.Full → Comes names rows out names₂ rows₂ out₂ named mark at (list-sets refs rows used many a e) (file-parts refs used many (filing names rows out mark at) (terms-of-words (words refs a e))) (list-count refs rows a e) filed.Full
+    list-full q = comes-more
+        (λ name. list-fewer (triggers-of-term exclude-names (terms-of name refs rows used many)) refs a (i + 1) e (omega arith) (omega arith) (omega (arith, r .few-references, r .ref-room)))
+        (filed-parts refs used many (filing names rows out mark at) a (i + 1) (omega arith) e (omega arith) (omega (arith, r .few-references, r .ref-room)))
+        (comes-is (after-full count q) list-then)
 
     -- the triggers up to the next place
-    pub list-next : {k m : ℕ} → f ≡ filed.Sets k m → Comes names rows out names₂ rows₂ out₂ named mark at (λ name. collect (triggers-of-term exclude-names (terms-of name refs rows used many)) (terms-of-words (words refs a (i + 1)))) (filed.Sets (count + k) m)
+    pub list-next : {k m : ℕ} → f ≡ filed.Sets k m → Comes names rows out names₂ rows₂ out₂ named mark at (list-sets refs rows used many a (i + 1)) (file-parts refs used many (filing names rows out mark at) (terms-of-words (words refs a (i + 1)))) (list-count refs rows a (i + 1)) (filed.Sets (count + k) m)
     list-next {k} {m} q = comes-is (after-sets count k m (count + k) q refl) list-then
 
   -- the triggers up to the end
   pub list-done : {names₁ rows₁ out₁ : List ℕ} {i : ℕ} {f : Filed} → a ≤ i → i ≤ e → e ≤ i
-      → Comes names rows out names₁ rows₁ out₁ named mark at (λ name. collect (triggers-of-term exclude-names (terms-of name refs rows used many)) (terms-of-words (words refs a i))) f
-      → Comes names rows out names₁ rows₁ out₁ named mark at (λ name. collect (triggers-of-term exclude-names (terms-of name refs rows used many)) (terms-of-words (words refs a e))) f
+      → Comes names rows out names₁ rows₁ out₁ named mark at (list-sets refs rows used many a i) (file-parts refs used many (filing names rows out mark at) (terms-of-words (words refs a i))) (list-count refs rows a i) f
+      → Comes names rows out names₁ rows₁ out₁ named mark at (list-sets refs rows used many a e) (file-parts refs used many (filing names rows out mark at) (terms-of-words (words refs a e))) (list-count refs rows a e) f
   list-done {i = i} k x y c =
       let q : i ≡ e = omega arith in
       rw q at c
@@ -215,15 +247,26 @@ module _ {refs rows : List ℕ} {used many named t groups u e : ℕ} (r : Rows r
         let few = all .lower in
         (groups-asks r all b .0, omega (arith, all .ends, r .in-use u few), λ i x y. omega (arith, all .ends, r .lower u i few (omega arith) (omega (arith, all .ends))))
 
+    -- they are the terms of the group
+    single-terms : terms-of-words (words refs a e) ≡ group-of-words (patterns refs rows used many u) 0
+    single-terms =
+        let b = groups-first r all starts in
+        let last : a + group-run 0 (words refs a e) ≡ e = groups-last r all (sym one) (groups-next r all b refl) in
+        group-terms r all b (sym last)
+
     -- they are the one trigger
     pub single-trigger : (name : ℕ → Name) → triggers-of-term exclude-names (terms-of name refs rows used many) t ≡ group-names exclude-names (terms-of name refs rows used many) (terms-of-words (words refs (a) e)) ∷ []
     unfolding groups-of-words
     single-trigger name =
-        let b = groups-first r all starts in
-        let last : a + group-run 0 (words refs (a) e) ≡ e = groups-last r all (sym one) (groups-next r all b refl) in
         sym (triggers-all r l all name)
         ∙ ap (λ g. map (group-names exclude-names (terms-of name refs rows used many)) (groups-of-words (patterns refs rows used many u) g)) one
-        ∙ ap (λ ts. group-names exclude-names (terms-of name refs rows used many) ts ∷ []) (sym (group-terms r all b (sym last)))
+        ∙ ap (λ ts. group-names exclude-names (terms-of name refs rows used many) ts ∷ []) (sym single-terms)
+
+    -- every word of the slices after gathering them without room
+    pub single-words : {names out names′ rows′ out′ : List ℕ} {mark at : ℕ} {w : Walked} → Gathered names rows out names′ rows′ out′ mark at at w
+        → Walks-as (visit-list names refs rows used many (at - at) (terms-of-words (words refs a e))) names rows out names′ rows′ out′ mark at w
+        → (names′ ≡ names) × (rows′ ≡ marked-at 12288 mark (empty-visit refs used many names rows t .walked) rows) × (out′ ≡ out)
+    single-words {names} {mark = mark} {at} g x = (names-kept g, x .row-words ∙ ap (λ v. marked-at 12288 mark (v .walked) rows) (walked-one names a at all one single-terms), out-kept g)
 
     -- a gathered set that has no name is empty, and one that has no room is not
     pub single-empty : {name : ℕ → Name} {at n : ℕ} {out : List ℕ} {f : Walked} → f ≡ gathered.Names n → Gathers name named (group-names exclude-names (terms-of name refs rows used many) (terms-of-words (words refs (a) e))) at at out f
@@ -245,9 +288,7 @@ module _ {refs rows : List ℕ} {used many named t groups u e : ℕ} (r : Rows r
 pub tables-kept : (names rows : List ℕ) (mark : ℕ) → Fresh names rows mark → Same-but 8192 2048 names names × Same-but 12288 4096 rows rows × Fresh names rows (mark + 1)
 tables-kept names rows mark f = (same-self 8192 2048 names, same-self 12288 4096 rows, fresh-later mark (mark + 1) (omega arith) f)
 
--- what gathering without room leaves: the slice, and tables that one set was marked in
-pub tables-gathered : {names rows out names′ rows′ out′ : List ℕ} {mark at : ℕ} {r : Walked} → Fresh names rows mark → Gathered names rows out names′ rows′ out′ mark at at r
-    → (Same-but 8192 2048 names names′ × Same-but 12288 4096 rows rows′ × Fresh names′ rows′ (mark + 1)) × (out′ ≡ out)
-tables-gathered {out = out} {out′ = out′} f g =
-    let hi = g .fits in
-    ((g .names-same, g .rows-same, fresh-next f g), ext-getD 0 out′ out (g .out-same .same-length) (λ i l. g .out-same .same-words i (λ a b. omega arith)))
+-- tables that one set was marked in
+pub tables-gathered : {names rows out names′ rows′ out′ : List ℕ} {mark at room : ℕ} {r : Walked} → Fresh names rows mark → Gathered names rows out names′ rows′ out′ mark at room r
+    → Same-but 8192 2048 names names′ × Same-but 12288 4096 rows rows′ × Fresh names′ rows′ (mark + 1)
+tables-gathered f g = (g .names-same, g .rows-same, fresh-next f g)

@@ -1,4 +1,5 @@
 pub mod Disjuncts
 pub mod Marked
+pub mod Words
 pub mod Filing
 pub mod Grouping

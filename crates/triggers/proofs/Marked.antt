@@ -1,24 +1,25 @@
 -- A change of marks leaves the terms of a table; the triggers of a term by its row.
-use Prim.Native.Nat.{ℕ, zero, suc, _+_, _%_, _≤_, _<_}
+use Prim.Native.Nat.{ℕ, zero, suc, _+_, _≤_, _<_}
 use native.Mathlib.Omega.{arith}
 use native.Mathlib.Numerals.{add-one}
 use mathlib.Core.Path.{_≡_, refl, sym, ap, ap₂, _∙_}
-use mathlib.Core.Logic.{_⊎_, ⊎-elim}
+use mathlib.Core.Logic.{⊎-elim}
 use mathlib.Core.List.{List, [], _∷_, _++_, map, map-append}
-use lib.ListN.{drop, getD}
+use lib.ListN.{drop}
 use lib.Dec.{T}
 use Rattle.model.specs.Lists.{fold-left}
 use Rattle.model.specs.Names.{Name}
 use Rattle.model.specs.Terms.{add-term}
 use Rattle.model.specs.Summaries.{exclude-names, group-names, triggers-of-term}
-use Rattle.terms.specs.Rows.{row-kind, row-op, row-head, row-start, row-extra, row-end, words, group-of-words, groups-of-words, op-of-code, make-node, node-of, nodes-below, terms-of, has-groups, bare-of, groups-at, Rows}
+use Rattle.terms.specs.Rows.{row-kind, row-op, row-head, row-start, row-extra, row-end, words, group-of-words, groups-of-words, node-of, nodes-below, terms-of, has-groups, bare-of, groups-at, Rows}
 use Rattle.terms.proofs.Laws.{equal, below, groups-all, groups-other}
 use Rattle.terms.proofs.Table.{bare-low, words-drop}
 use Rattle.terms.proofs.Groups.{groups-count}
 use Rattle.gather.specs.Sets.{Named, Fresh, Same-but, Gathered}
 use Rattle.gather.specs.declared.Walked.{Walked}
-use Rattle.gather.proofs.Walking.{word-same, start-same, extra-same, end-same}
+use Rattle.gather.proofs.Walking.{word-same, kind-same, start-same, extra-same, end-same, bare-same}
 use Rattle.triggers.specs.Entries.{entries}
+use Rattle.triggers.specs.Filings.{groups-under}
 use Rattle.triggers.proofs.Disjuncts.{entries-append}
 
 -- a row's node stays
@@ -34,6 +35,14 @@ terms-marked {refs} {rows} {rows′} {used} {many} name s r = ap (fold-left add-
     go : (n : ℕ) → n ≤ many → nodes-below name refs rows′ used many n ≡ nodes-below name refs rows used many n
     go zero l = refl
     go (suc n) l = ap₂ (λ ns m. ns ++ (m ∷ [])) (go n (omega arith)) (node-same name refs used many s (r .few-rows) n (omega arith))
+
+-- how many groups a term has does not change with marks
+pub groups-marked : {refs rows rows′ : List ℕ} {used many named : ℕ} → Same-but 12288 4096 rows rows′ → Rows refs rows used many named → (t : ℕ) → t < many → groups-at rows′ t ≡ groups-at rows t
+unfolding groups-at
+groups-marked {rows = rows} s r t l =
+    let few = r .few-rows in
+    let low = bare-low r t l in
+    rw (bare-same s t (omega arith), kind-same s (bare-of rows t) (omega arith), extra-same s (bare-of rows t) (omega arith))
 
 -- names for a table are names for it with other marks
 pub named-marked : {name : ℕ → Name} {names names′ : List ℕ} {named : ℕ} → Same-but 8192 2048 names names′ → named ≤ 2048 → Named name names named → Named name names′ named
@@ -89,14 +98,18 @@ module _ {refs rows : List ℕ} {used many named t groups : ℕ} (r : Rows refs 
   unfolding groups-of-words
   triggers-none z name = groups-count r name l ∙ ap (λ g. map (group-names exclude-names (terms-of name refs rows used many)) (groups-of-words (words refs (row-start rows (bare-of rows t) + 1) (row-end rows used many (bare-of rows t))) g)) (sym counts ∙ z)
 
+-- the groups of a term with groups
+pub groups-here : {refs rows : List ℕ} {used many t groups u e : ℕ} → All refs rows used many t groups u e → groups-of-words (patterns refs rows used many u) groups ≡ groups-under refs used many rows t
+unfolding groups-under
+groups-here {refs} {rows} {used} {many} {t} {groups} {u} a = ap₂ groups-of-words
+    (words-drop refs (row-start rows u) (row-end rows used many u) ∙ ap (λ v. words refs (row-start rows v + 1) (row-end rows used many v)) (a .bare))
+    (a .counted ∙ sym (groups-all rows t u (a .bare) (a .is-all)))
+
 -- the triggers of a term with groups
 pub triggers-all : {refs rows : List ℕ} {used many named t groups u e : ℕ} → Rows refs rows used many named → t < many → All refs rows used many t groups u e → (name : ℕ → Name)
     → map (group-names exclude-names (terms-of name refs rows used many)) (groups-of-words (patterns refs rows used many u) groups) ≡ triggers-of-term exclude-names (terms-of name refs rows used many) t
-triggers-all {refs} {rows} {used} {many} {t} {groups} {u} r l a name = sym
-    (groups-count r name l
-    ∙ ap₂ (λ ws g. map (group-names exclude-names (terms-of name refs rows used many)) (groups-of-words ws g))
-    (ap (λ v. words refs (row-start rows v + 1) (row-end rows used many v)) (sym (a .bare)) ∙ sym (words-drop refs (row-start rows u) (row-end rows used many u)))
-    (groups-all rows t u (a .bare) (a .is-all) ∙ sym (a .counted)))
+unfolding groups-under
+triggers-all {refs} {rows} {used} {many} r l a name = ap (map (group-names exclude-names (terms-of name refs rows used many))) (groups-here a) ∙ sym (groups-count r name l)
 
 -- ---- the groups so far
 

@@ -58,11 +58,15 @@ pub data Files (name : ℕ → Name) (named : ℕ) (sets : List (List Name)) (at
       → Files name named sets at out (filed.Sets n e)
   no-room : 8192 < at + entries sets → Files name named sets at out filed.Full
 
--- the slices after filing: in the tables only marks change, all below the next one; in `out` only the entries
+-- the slices after filing: in the tables only marks change, all below the next one; in `out` only the entries, one or more
+-- for each set
 pub record Filled (names rows out names′ rows′ out′ : List ℕ) (mark at : ℕ) (r : Filed) : Type 0 where
   pub names-same : Same-but 8192 2048 names names′
   pub rows-same : Same-but 12288 4096 rows rows′
   pub out-same : Same-but at (filed-end r - at) out out′
+  pub low : at ≤ filed-end r
+  pub high : filed-end r ≤ 8192
+  pub few : (n e : ℕ) → r ≡ filed.Sets n e → n + at ≤ e
   pub fresh : (n e : ℕ) → r ≡ filed.Sets n e → Fresh names′ rows′ (mark + (e - at))
 
 -- what ending a disjunct comes to
@@ -71,10 +75,10 @@ pub data Closes (out out′ : List ℕ) (at end : ℕ) : Filed → Type 0 where
   empty : at ≡ end → at < 8192 → out′ ≡ set out at 6144 → Closes out out′ at end (filed.Sets 1 (at + 1))
   over : at ≡ end → 8192 ≤ at → out′ ≡ out → Closes out out′ at end filed.Full
 
--- what filing asks: a table, marks below the next one, and room for the entries
+-- what filing from `at` on asks: marks below the next one, and a mark for each entry that is left
 pub record Opened (names rows out : List ℕ) (mark at : ℕ) : Type 0 where
   pub name-room : 16384 ≤ length names
   pub fresh : Fresh names rows mark
   pub low : at ≤ 8192
   pub high : 8192 ≤ length out
-  pub few-marks : mark + 8192 < 4294967296
+  pub few-marks : mark + (8192 - at) < 4294967296

@@ -1,15 +1,16 @@
 use gather::Walked;
 ghost use Prim.Native.Nat.{ℕ, _+_, _-_, _%_, _≤_, _<_};
 ghost use mathlib.Core.Path.{_≡_};
-ghost use mathlib.Core.List.{[], _∷_};
+ghost use mathlib.Core.List.{[], _∷_, map};
 ghost use lib.ListN.{length, getD};
-ghost use Rattle.model.specs.Lists.{collect};
+ghost use Rattle.model.specs.Lists.{collect, sum};
 ghost use Rattle.model.specs.Names.{Name};
 ghost use Rattle.model.specs.Summaries.{exclude-names, is-empty, free-top-level-names, group-names, triggers-of-term};
 ghost use Rattle.terms.specs.Rows.{row-start, row-end, words, terms-of-words, terms-of, bare-of, groups-at, Rows};
 ghost use Rattle.gather.specs.Sets.{Named, Fresh, Same-but};
+ghost use Rattle.gather.specs.Visits.{marked-at};
 ghost use Rattle.triggers.specs.Entries.{Opened, Files, Filled, Closes};
-ghost use Rattle.triggers.specs.Inner.{Stage, Comes};
+ghost use Rattle.triggers.specs.Filings.{filing, file-list, file-groups, file-parts, empty-visit, Files-as};
 
 // What filing disjuncts comes to: how many there are and where their entries end, or that there is no room for them.
 pub enum Filed {
@@ -48,9 +49,10 @@ fn file_list(
     mark: usize,
     at: usize,
 ) -> Filed
-    requires { ⌜ Rows (now refs) (now rows) used many named × Stage (now names) (now rows) (now out) mark at × (a ≤ e) × (e ≤ used) × ((i : ℕ) → a ≤ i → i < e → getD (now refs) i 0 % 4096 < many) ⌝ }
-    ensures { λ r. ⌜ Comes (now (names .entry)) (now (rows .entry)) (now (out .entry)) (now (names .exit)) (now (rows .exit)) (now (out .exit)) named mark at (λ name. group-names exclude-names (terms-of name (now (refs .entry)) (now (rows .entry)) used many) (terms-of-words (words (now (refs .entry)) a e)) ∷ []) r ⌝ }
-    ensures one { λ r. ⌜ ((n e : ℕ) → r ≡ Filed.Sets n e → n ≡ 1) ⌝ }
+    requires { ⌜ Rows (now refs) (now rows) used many named × Opened (now names) (now rows) (now out) mark at × (a ≤ e) × (e ≤ used) × ((i : ℕ) → a ≤ i → i < e → getD (now refs) i 0 % 4096 < many) ⌝ }
+    ensures sets { λ r. ⌜ ((name : ℕ → Name) → Named name (now (names .entry)) named → Files name named (group-names exclude-names (terms-of name (now (refs .entry)) (now (rows .entry)) used many) (terms-of-words (words (now (refs .entry)) a e)) ∷ []) at (now (out .exit)) r) ⌝ }
+    ensures slices { λ r. ⌜ Filled (now (names .entry)) (now (rows .entry)) (now (out .entry)) (now (names .exit)) (now (rows .exit)) (now (out .exit)) mark at r ⌝ }
+    ensures words { λ r. ⌜ Files-as (file-list (now (refs .entry)) used many (filing (now (names .entry)) (now (rows .entry)) (now (out .entry)) mark at) (terms-of-words (words (now (refs .entry)) a e))) 1 (now (names .exit)) (now (rows .exit)) (now (out .exit)) mark at r ⌝ }
 {
     let Walked::Names(end) = gather::gather_list(
         names,
@@ -62,41 +64,6 @@ fn file_list(
         many,
         a,
         e,
-        mark as u32,
-        at,
-        8192,
-    ) else {
-        return Filed::Full;
-    };
-    close(out, at, end)
-}
-
-// `file_term` with a mark for each entry that is left, so that sets can be filed one after the other.
-fn file_one(
-    names: &mut [u32],
-    refs: &[u32],
-    rows: &mut [u32],
-    out: &mut [u32],
-    named: usize,
-    used: usize,
-    many: usize,
-    t: usize,
-    mark: usize,
-    at: usize,
-) -> Filed
-    requires { ⌜ Rows (now refs) (now rows) used many named × Stage (now names) (now rows) (now out) mark at × (t < many) ⌝ }
-    ensures { λ r. ⌜ Comes (now (names .entry)) (now (rows .entry)) (now (out .entry)) (now (names .exit)) (now (rows .exit)) (now (out .exit)) named mark at (λ name. free-top-level-names exclude-names (terms-of name (now (refs .entry)) (now (rows .entry)) used many) t ∷ []) r ⌝ }
-    ensures one { λ r. ⌜ ((n e : ℕ) → r ≡ Filed.Sets n e → n ≡ 1) ⌝ }
-{
-    let Walked::Names(end) = gather::gather_term(
-        names,
-        refs,
-        rows,
-        out,
-        named,
-        used,
-        many,
-        t,
         mark as u32,
         at,
         8192,
@@ -122,8 +89,24 @@ pub fn file_term(
     requires { ⌜ Rows (now refs) (now rows) used many named × Opened (now names) (now rows) (now out) mark at × (t < many) ⌝ }
     ensures sets { λ r. ⌜ ((name : ℕ → Name) → Named name (now (names .entry)) named → Files name named (free-top-level-names exclude-names (terms-of name (now (refs .entry)) (now (rows .entry)) used many) t ∷ []) at (now (out .exit)) r) ⌝ }
     ensures slices { λ r. ⌜ Filled (now (names .entry)) (now (rows .entry)) (now (out .entry)) (now (names .exit)) (now (rows .exit)) (now (out .exit)) mark at r ⌝ }
+    ensures words { λ r. ⌜ Files-as (file-list (now (refs .entry)) used many (filing (now (names .entry)) (now (rows .entry)) (now (out .entry)) mark at) (t ∷ [])) 1 (now (names .exit)) (now (rows .exit)) (now (out .exit)) mark at r ⌝ }
 {
-    file_one(names, refs, rows, out, named, used, many, t, mark, at)
+    let Walked::Names(end) = gather::gather_term(
+        names,
+        refs,
+        rows,
+        out,
+        named,
+        used,
+        many,
+        t,
+        mark as u32,
+        at,
+        8192,
+    ) else {
+        return Filed::Full;
+    };
+    close(out, at, end)
 }
 
 // Files the free names of two terms as two disjuncts.
@@ -143,12 +126,13 @@ pub fn file_terms(
     requires { ⌜ Rows (now refs) (now rows) used many named × Opened (now names) (now rows) (now out) mark at × (t < many) × (u < many) ⌝ }
     ensures sets { λ r. ⌜ ((name : ℕ → Name) → Named name (now (names .entry)) named → Files name named (free-top-level-names exclude-names (terms-of name (now (refs .entry)) (now (rows .entry)) used many) t ∷ free-top-level-names exclude-names (terms-of name (now (refs .entry)) (now (rows .entry)) used many) u ∷ []) at (now (out .exit)) r) ⌝ }
     ensures slices { λ r. ⌜ Filled (now (names .entry)) (now (rows .entry)) (now (out .entry)) (now (names .exit)) (now (rows .exit)) (now (out .exit)) mark at r ⌝ }
+    ensures words { λ r. ⌜ Files-as (file-list (now (refs .entry)) used many (file-list (now (refs .entry)) used many (filing (now (names .entry)) (now (rows .entry)) (now (out .entry)) mark at) (t ∷ [])) (u ∷ [])) 2 (now (names .exit)) (now (rows .exit)) (now (out .exit)) mark at r ⌝ }
 {
-    let Filed::Sets(_, middle) = file_one(names, refs, rows, out, named, used, many, t, mark, at)
+    let Filed::Sets(_, middle) = file_term(names, refs, rows, out, named, used, many, t, mark, at)
     else {
         return Filed::Full;
     };
-    let Filed::Sets(_, end) = file_one(
+    let Filed::Sets(_, end) = file_term(
         names,
         refs,
         rows,
@@ -184,8 +168,8 @@ fn pattern_groups(rows: &[u32], used: usize, many: usize, t: usize) -> Patterns
     Patterns { count, start, end }
 }
 
-// `triggers_of_term` with a mark for each entry that is left, so that the triggers of terms can be filed one after the other.
-fn file_groups(
+// `triggers_of_term`: files the pattern groups of the `all` under a term's labels, a disjunct each, in order.
+pub fn triggers_of_term(
     names: &mut [u32],
     refs: &[u32],
     rows: &mut [u32],
@@ -197,8 +181,10 @@ fn file_groups(
     mark: usize,
     at: usize,
 ) -> Filed
-    requires { ⌜ Rows (now refs) (now rows) used many named × Stage (now names) (now rows) (now out) mark at × (t < many) ⌝ }
-    ensures { λ r. ⌜ Comes (now (names .entry)) (now (rows .entry)) (now (out .entry)) (now (names .exit)) (now (rows .exit)) (now (out .exit)) named mark at (λ name. triggers-of-term exclude-names (terms-of name (now (refs .entry)) (now (rows .entry)) used many) t) r ⌝ }
+    requires { ⌜ Rows (now refs) (now rows) used many named × Opened (now names) (now rows) (now out) mark at × (t < many) ⌝ }
+    ensures sets { λ r. ⌜ ((name : ℕ → Name) → Named name (now (names .entry)) named → Files name named (triggers-of-term exclude-names (terms-of name (now (refs .entry)) (now (rows .entry)) used many) t) at (now (out .exit)) r) ⌝ }
+    ensures slices { λ r. ⌜ Filled (now (names .entry)) (now (rows .entry)) (now (out .entry)) (now (names .exit)) (now (rows .exit)) (now (out .exit)) mark at r ⌝ }
+    ensures words { λ r. ⌜ Files-as (file-groups (now (refs .entry)) used many (filing (now (names .entry)) (now (rows .entry)) (now (out .entry)) mark at) t) (groups-at (now (rows .entry)) t) (now (names .exit)) (now (rows .exit)) (now (out .exit)) mark at r ⌝ }
 {
     let p = pattern_groups(rows, used, many, t);
     let groups = p.count;
@@ -233,26 +219,6 @@ fn file_groups(
     Filed::Sets(groups, end)
 }
 
-// `triggers_of_term`: files the pattern groups of the `all` under a term's labels, a disjunct each, in order.
-pub fn triggers_of_term(
-    names: &mut [u32],
-    refs: &[u32],
-    rows: &mut [u32],
-    out: &mut [u32],
-    named: usize,
-    used: usize,
-    many: usize,
-    t: usize,
-    mark: usize,
-    at: usize,
-) -> Filed
-    requires { ⌜ Rows (now refs) (now rows) used many named × Opened (now names) (now rows) (now out) mark at × (t < many) ⌝ }
-    ensures sets { λ r. ⌜ ((name : ℕ → Name) → Named name (now (names .entry)) named → Files name named (triggers-of-term exclude-names (terms-of name (now (refs .entry)) (now (rows .entry)) used many) t) at (now (out .exit)) r) ⌝ }
-    ensures slices { λ r. ⌜ Filled (now (names .entry)) (now (rows .entry)) (now (out .entry)) (now (names .exit)) (now (rows .exit)) (now (out .exit)) mark at r ⌝ }
-{
-    file_groups(names, refs, rows, out, named, used, many, t, mark, at)
-}
-
 // Files the triggers of each term that the references from `a` up to `e` name, in order.
 pub fn triggers_of_list(
     names: &mut [u32],
@@ -270,13 +236,14 @@ pub fn triggers_of_list(
     requires { ⌜ Rows (now refs) (now rows) used many named × Opened (now names) (now rows) (now out) mark at × (a ≤ e) × (e ≤ used) × ((i : ℕ) → a ≤ i → i < e → getD (now refs) i 0 % 4096 < many) ⌝ }
     ensures sets { λ r. ⌜ ((name : ℕ → Name) → Named name (now (names .entry)) named → Files name named (collect (triggers-of-term exclude-names (terms-of name (now (refs .entry)) (now (rows .entry)) used many)) (terms-of-words (words (now (refs .entry)) a e))) at (now (out .exit)) r) ⌝ }
     ensures slices { λ r. ⌜ Filled (now (names .entry)) (now (rows .entry)) (now (out .entry)) (now (names .exit)) (now (rows .exit)) (now (out .exit)) mark at r ⌝ }
+    ensures words { λ r. ⌜ Files-as (file-parts (now (refs .entry)) used many (filing (now (names .entry)) (now (rows .entry)) (now (out .entry)) mark at) (terms-of-words (words (now (refs .entry)) a e))) (sum (map (groups-at (now (rows .entry))) (terms-of-words (words (now (refs .entry)) a e)))) (now (names .exit)) (now (rows .exit)) (now (out .exit)) mark at r ⌝ }
 {
     let mut end = at;
     let mut count = 0;
     let mut i = a;
     while i < e {
         let t = terms::reference(refs, i);
-        let Filed::Sets(more, next) = file_groups(
+        let Filed::Sets(more, next) = triggers_of_term(
             names,
             refs,
             rows,
@@ -313,7 +280,7 @@ pub fn is_empty(
     requires { ⌜ Rows (now refs) (now rows) used many named × Opened (now names) (now rows) (now out) mark at × (t < many) ⌝ }
     ensures answer { λ r. ⌜ ((name : ℕ → Name) → Named name (now (names .entry)) named → r ≡ is-empty (triggers-of-term exclude-names (terms-of name (now (refs .entry)) (now (rows .entry)) used many) t)) ⌝ }
     ensures tables { λ r. ⌜ Same-but 8192 2048 (now (names .entry)) (now (names .exit)) × Same-but 12288 4096 (now (rows .entry)) (now (rows .exit)) × Fresh (now (names .exit)) (now (rows .exit)) (mark + 1) ⌝ }
-    ensures out { λ r. ⌜ now (out .exit) ≡ now (out .entry) ⌝ }
+    ensures words { λ r. ⌜ (now (names .exit) ≡ now (names .entry)) × (now (rows .exit) ≡ marked-at 12288 mark (empty-visit (now (refs .entry)) used many (now (names .entry)) (now (rows .entry)) t .walked) (now (rows .entry))) × (now (out .exit) ≡ now (out .entry)) ⌝ }
 {
     let p = pattern_groups(rows, used, many, t);
     if p.count == 0 {

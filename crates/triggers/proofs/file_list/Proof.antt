@@ -1,6 +1,7 @@
 -- `triggers::file_list` meets its contract: names that were gathered are ended.
 use native.Mathlib.Omega.{arith}
-use Rattle.triggers.proofs.Filing.{list-set, one-over, one-asks, one-closed}
+use Rattle.triggers.specs.Filings.{file-list}
+use Rattle.triggers.proofs.Filing.{list-set, one-over, one-asks, one-closed, posts}
 use Rattle.triggers.proofs.file_list.Statement.{statement}
 use Rattle.triggers.proofs.file_list.Tie as tie
 
@@ -19,35 +20,37 @@ enum-told : tie.Need-enum-told
 enum-told c = c .match .keys2
 
 returns : tie.Need-returns
+unfolding file-list
 returns c =
     let start = c .before .before .before .before .before .before .before .before .before .before .before .before .before .before .before .before in
-    one-over (list-set (start .args .refs .now) (start .args .rows .now) (start .args .used) (start .args .many) (start .args .a) (start .args .e)) (start .pre .0 .few-names) (start .pre .1) (c .before .before .before .before .before .before .before .before .gather-list .ensures .0) (c .before .before .before .before .before .before .before .before .gather-list .ensures .1 .0) (c .enum-told .given .1)
+    posts (one-over (list-set (start .args .refs .now) (start .args .rows .now) (start .args .used) (start .args .many) (start .args .a) (start .args .e)) (start .pre .0 .few-names) (start .pre .1) (c .before .before .before .before .before .before .before .before .gather-list .ensures .0) (c .before .before .before .before .before .before .before .before .gather-list .ensures .1 .0) (c .before .before .before .before .before .before .before .before .gather-list .ensures .1 .1) (c .enum-told .given .1))
 
 same-length : tie.Need-same-length
-same-length c = returns c .0 .filled .names-same .same-length
+same-length c = returns c .1 .0 .names-same .same-length
 
 same-length-2 : tie.Need-same-length-2
-same-length-2 c = returns c .0 .filled .rows-same .same-length
+same-length-2 c = returns c .1 .0 .rows-same .same-length
 
 same-length-3 : tie.Need-same-length-3
-same-length-3 c = returns c .0 .filled .out-same .same-length
+same-length-3 c = returns c .1 .0 .out-same .same-length
 
 close-requires : tie.Need-close-requires
 close-requires c κs = one-asks (c .before .before .before .before .before .before .before .before .before .before .before .before .before .before .before .before .before .before .pre .1) (c .before .before .before .before .before .before .before .before .before .before .gather-list .ensures .1 .0) (c .before .before .end .given .1)
 
 returns-2 : tie.Need-returns-2
+unfolding file-list
 returns-2 c =
     let start = c .before .before .before .before .before .before .before .before .before .before .before .before .before .before .before .before .before .before .before .before .before in
-    one-closed (list-set (start .args .refs .now) (start .args .rows .now) (start .args .used) (start .args .many) (start .args .a) (start .args .e)) (start .pre .0 .few-names) (start .pre .1) (c .before .before .before .before .before .before .before .before .before .before .before .before .before .gather-list .ensures .0) (c .before .before .before .before .before .before .before .before .before .before .before .before .before .gather-list .ensures .1 .0) (c .before .before .before .before .before .end .given .1) (c .before .before .close .ensures)
+    posts (one-closed (list-set (start .args .refs .now) (start .args .rows .now) (start .args .used) (start .args .many) (start .args .a) (start .args .e)) (start .pre .0 .few-names) (start .pre .1) (c .before .before .before .before .before .before .before .before .before .before .before .before .before .gather-list .ensures .0) (c .before .before .before .before .before .before .before .before .before .before .before .before .before .gather-list .ensures .1 .0) (c .before .before .before .before .before .before .before .before .before .before .before .before .before .gather-list .ensures .1 .1) (c .before .before .before .before .before .end .given .1) (c .before .before .close .ensures))
 
 same-length-4 : tie.Need-same-length-4
-same-length-4 c = returns-2 c .0 .filled .names-same .same-length
+same-length-4 c = returns-2 c .1 .0 .names-same .same-length
 
 same-length-5 : tie.Need-same-length-5
-same-length-5 c = returns-2 c .0 .filled .rows-same .same-length
+same-length-5 c = returns-2 c .1 .0 .rows-same .same-length
 
 same-length-6 : tie.Need-same-length-6
-same-length-6 c = returns-2 c .0 .filled .out-same .same-length
+same-length-6 c = returns-2 c .1 .0 .out-same .same-length
 
 pub file-list-spec : {M : Type 1} → statement M
 file-list-spec =

@@ -2,14 +2,12 @@
 use Prim.Native.Nat.{_-_, _≤_}
 use native.Mathlib.Omega.{arith}
 use mathlib.Core.Path.{refl}
-use Rattle.model.specs.Lists.{collect}
-use Rattle.model.specs.Summaries.{exclude-names, triggers-of-term}
-use Rattle.terms.specs.Rows.{words, terms-of-words, terms-of}
+use Rattle.terms.specs.Rows.{words, terms-of-words}
 use Rattle.gather.proofs.Walking.{rows-marked}
 use Rattle.triggers.specs.declared.Filed.the-variants as filed
-use Rattle.triggers.specs.Inner.{Comes}
-use Rattle.triggers.proofs.Filing.{opened-stage, stage-then, comes-is, comes-ends, posts}
-use Rattle.triggers.proofs.Grouping.{list-start, list-full, list-next, list-done}
+use Rattle.triggers.specs.Filings.{filing, file-parts}
+use Rattle.triggers.proofs.Filing.{Comes, opened-then, comes-of, comes-is, comes-ends, posts}
+use Rattle.triggers.proofs.Grouping.{list-sets, list-count, list-start, list-full, list-next, list-done}
 use Rattle.triggers.proofs.triggers_of_list.Statement.{statement}
 use Rattle.triggers.proofs.triggers_of_list.Tie as tie
 
@@ -17,7 +15,7 @@ abbrev Inv-loop : tie.InvT-loop
 Inv-loop names₀ refs rows₀ out₀ named used many a e mark at end₀ count₀ i₀ names rows out end count i =
     (a ≤ i)
     × (i ≤ e)
-    × Comes names₀ rows₀ out₀ names rows out named mark at (λ name. collect (triggers-of-term exclude-names (terms-of name refs rows₀ used many)) (terms-of-words (words refs a i))) (filed.Sets count end)
+    × Comes names₀ rows₀ out₀ names rows out named mark at (list-sets refs rows₀ used many a i) (file-parts refs used many (filing names₀ rows₀ out₀ mark at) (terms-of-words (words refs a i))) (list-count refs rows₀ a i) (filed.Sets count end)
 
 abbrev μ-loop : tie.MeasureT-loop
 μ-loop names₀ refs rows₀ out₀ named used many a e mark at end₀ count₀ i₀ names rows out end count i = e - i
@@ -25,23 +23,23 @@ abbrev μ-loop : tie.MeasureT-loop
 loop-holds : tie.Need-loop-holds Inv-loop μ-loop
 loop-holds c =
     let start = c .before .before .before .before in
-    (omega arith, start .pre .2, list-start (start .pre .0) (opened-stage (start .pre .1)) (start .pre .3) {i = start .args .a} refl)
+    (omega arith, start .pre .2, list-start (start .pre .0) (start .pre .1) (start .pre .3) {i = start .args .a} refl)
 
 reference-requires : tie.Need-reference-requires Inv-loop μ-loop
 reference-requires c κs =
     let start = c .before .before .before .before .before .before in
     omega (arith, start .pre .0 .ref-room, start .pre .0 .few-references, start .pre .3)
 
-sub-file-groups : tie.Need-sub-file-groups Inv-loop μ-loop
-sub-file-groups c = comes-ends (c .before .before .before .before .before .loop .inv .2) .0
+sub-triggers-of-term : tie.Need-sub-triggers-of-term Inv-loop μ-loop
+sub-triggers-of-term c = comes-ends (c .before .before .before .before .before .loop .inv .2) .0
 
-add-file-groups : tie.Need-add-file-groups Inv-loop μ-loop
-add-file-groups c = omega (arith, c .before .before .before .before .before .before .before .before .before .before .pre .1 .few-marks, comes-ends (c .before .before .before .before .before .loop .inv .2) .0, comes-ends (c .before .before .before .before .before .loop .inv .2) .1)
+add-triggers-of-term : tie.Need-add-triggers-of-term Inv-loop μ-loop
+add-triggers-of-term c = omega (arith, c .before .before .before .before .before .before .before .before .before .before .pre .1 .few-marks, comes-ends (c .before .before .before .before .before .loop .inv .2) .0, comes-ends (c .before .before .before .before .before .loop .inv .2) .1)
 
-file-groups-requires : tie.Need-file-groups-requires Inv-loop μ-loop
-file-groups-requires c κs =
+triggers-of-term-requires : tie.Need-triggers-of-term-requires Inv-loop μ-loop
+triggers-of-term-requires c κs =
     let start = c .before .before .before .before .before .before .before .before .before .before in
-    (rows-marked (c .before .before .before .before .before .loop .inv .2 .filled .rows-same) (start .pre .0), stage-then (opened-stage (start .pre .1)) (c .before .before .before .before .before .loop .inv .2), omega (arith, c .before .before .before .reference .ensures, start .pre .4 (c .before .before .before .before .before .loop .i) (c .before .before .before .before .before .loop .inv .0) (c .before .before .before .before .loop-test .taken)))
+    (rows-marked (c .before .before .before .before .before .loop .inv .2 .filled .rows-same) (start .pre .0), opened-then (start .pre .1) (c .before .before .before .before .before .loop .inv .2), omega (arith, c .before .before .before .reference .ensures, start .pre .4 (c .before .before .before .before .before .loop .i) (c .before .before .before .before .before .loop .inv .0) (c .before .before .before .before .loop-test .taken)))
 
 enum-known-more : tie.Need-enum-known-more Inv-loop μ-loop
 enum-known-more c = c .match .keys1
@@ -52,19 +50,19 @@ enum-told c = c .match .keys2
 returns : tie.Need-returns Inv-loop μ-loop
 returns c =
     let start = c .before .before .before .before .before .before .before .before .before .before .before .before .before .before .before .before .before .before .before in
-    posts (list-full (start .pre .0) (opened-stage (start .pre .1)) (start .pre .3) (c .before .before .before .before .before .before .before .before .before .before .before .before .before .before .loop .inv .0) (c .before .before .before .before .before .before .before .before .before .before .before .before .before .loop-test .taken) (c .before .before .before .before .before .before .before .before .before .before .before .before .reference .ensures) (c .before .before .before .before .before .before .before .before .before .before .before .before .before .before .loop .inv .2) (c .before .before .before .before .before .before .before .before .file-groups .ensures) (c .enum-told .given .1))
+    posts (list-full (start .pre .0) (start .pre .1) (start .pre .3) (c .before .before .before .before .before .before .before .before .before .before .before .before .before .before .loop .inv .0) (c .before .before .before .before .before .before .before .before .before .before .before .before .before .loop-test .taken) (c .before .before .before .before .before .before .before .before .before .before .before .before .reference .ensures) (omega (arith, c .before .before .before .before .before .before .before .before .before .before .before .before .reference .ensures, start .pre .4 (c .before .before .before .before .before .before .before .before .before .before .before .before .before .before .loop .i) (c .before .before .before .before .before .before .before .before .before .before .before .before .before .before .loop .inv .0) (c .before .before .before .before .before .before .before .before .before .before .before .before .before .loop-test .taken))) (c .before .before .before .before .before .before .before .before .before .before .before .before .before .before .loop .inv .2) (comes-of _ (c .before .before .before .before .before .before .before .before .triggers-of-term .ensures)) (c .enum-told .given .1))
 
 same-length : tie.Need-same-length Inv-loop μ-loop
-same-length c = returns c .1 .names-same .same-length
+same-length c = returns c .1 .0 .names-same .same-length
 
 same-length-2 : tie.Need-same-length-2 Inv-loop μ-loop
-same-length-2 c = returns c .1 .rows-same .same-length
+same-length-2 c = returns c .1 .0 .rows-same .same-length
 
 same-length-3 : tie.Need-same-length-3 Inv-loop μ-loop
-same-length-3 c = returns c .1 .out-same .same-length
+same-length-3 c = returns c .1 .0 .out-same .same-length
 
 add-count : tie.Need-add-count Inv-loop μ-loop
-add-count c = omega (arith, comes-ends (c .before .before .before .before .before .before .before .before .before .before .before .before .before .before .before .loop .inv .2) .1, comes-ends (c .before .before .before .before .before .before .before .before .before .before .before .before .before .before .before .loop .inv .2) .2, comes-ends (comes-is (c .before .more .given .1) (c .before .before .before .before .before .before .before .before .before .file-groups .ensures)) .1, comes-ends (comes-is (c .before .more .given .1) (c .before .before .before .before .before .before .before .before .before .file-groups .ensures)) .2)
+add-count c = omega (arith, comes-ends (c .before .before .before .before .before .before .before .before .before .before .before .before .before .before .before .loop .inv .2) .1, comes-ends (c .before .before .before .before .before .before .before .before .before .before .before .before .before .before .before .loop .inv .2) .2, comes-ends (comes-is (c .before .more .given .1) (comes-of _ (c .before .before .before .before .before .before .before .before .before .triggers-of-term .ensures))) .1, comes-ends (comes-is (c .before .more .given .1) (comes-of _ (c .before .before .before .before .before .before .before .before .before .triggers-of-term .ensures))) .2)
 
 add-i : tie.Need-add-i Inv-loop μ-loop
 add-i c = omega arith
@@ -75,21 +73,21 @@ loop-less c = omega arith
 loop-again : tie.Need-loop-again Inv-loop μ-loop
 loop-again c =
     let start = c .before .before .before .before .before .before .before .before .before .before .before .before .before .before .before .before .before .before .before .before in
-    (omega (arith, c .before .before .before .before .before .before .before .before .before .before .before .before .before .before .before .loop .inv .0), omega (arith, c .before .before .before .before .before .before .before .before .before .before .before .before .before .before .loop-test .taken), list-next (start .pre .0) (opened-stage (start .pre .1)) (start .pre .3) (c .before .before .before .before .before .before .before .before .before .before .before .before .before .before .before .loop .inv .0) (c .before .before .before .before .before .before .before .before .before .before .before .before .before .before .loop-test .taken) (c .before .before .before .before .before .before .before .before .before .before .before .before .before .reference .ensures) (c .before .before .before .before .before .before .before .before .before .before .before .before .before .before .before .loop .inv .2) (c .before .before .before .before .before .before .before .before .before .file-groups .ensures) (c .before .more .given .1))
+    (omega (arith, c .before .before .before .before .before .before .before .before .before .before .before .before .before .before .before .loop .inv .0), omega (arith, c .before .before .before .before .before .before .before .before .before .before .before .before .before .before .loop-test .taken), list-next (start .pre .0) (start .pre .1) (start .pre .3) (c .before .before .before .before .before .before .before .before .before .before .before .before .before .before .before .loop .inv .0) (c .before .before .before .before .before .before .before .before .before .before .before .before .before .before .loop-test .taken) (c .before .before .before .before .before .before .before .before .before .before .before .before .before .reference .ensures) (omega (arith, c .before .before .before .before .before .before .before .before .before .before .before .before .before .reference .ensures, start .pre .4 (c .before .before .before .before .before .before .before .before .before .before .before .before .before .before .before .loop .i) (c .before .before .before .before .before .before .before .before .before .before .before .before .before .before .before .loop .inv .0) (c .before .before .before .before .before .before .before .before .before .before .before .before .before .before .loop-test .taken))) (c .before .before .before .before .before .before .before .before .before .before .before .before .before .before .before .loop .inv .2) (comes-of _ (c .before .before .before .before .before .before .before .before .before .triggers-of-term .ensures)) (c .before .more .given .1))
 
 returns-2 : tie.Need-returns-2 Inv-loop μ-loop
 returns-2 c =
     let start = c .before .before .before .before .before .before in
-    posts (list-done (start .pre .0) (opened-stage (start .pre .1)) (start .pre .3) (c .before .loop .inv .0) (c .before .loop .inv .1) (c .loop-test .left) (c .before .loop .inv .2))
+    posts (list-done (start .pre .0) (start .pre .1) (start .pre .3) (c .before .loop .inv .0) (c .before .loop .inv .1) (c .loop-test .left) (c .before .loop .inv .2))
 
 same-length-4 : tie.Need-same-length-4 Inv-loop μ-loop
-same-length-4 c = returns-2 c .1 .names-same .same-length
+same-length-4 c = returns-2 c .1 .0 .names-same .same-length
 
 same-length-5 : tie.Need-same-length-5 Inv-loop μ-loop
-same-length-5 c = returns-2 c .1 .rows-same .same-length
+same-length-5 c = returns-2 c .1 .0 .rows-same .same-length
 
 same-length-6 : tie.Need-same-length-6 Inv-loop μ-loop
-same-length-6 c = returns-2 c .1 .out-same .same-length
+same-length-6 c = returns-2 c .1 .0 .out-same .same-length
 
 pub triggers-of-list-spec : {M : Type 1} → statement M
 triggers-of-list-spec =
@@ -99,9 +97,9 @@ triggers-of-list-spec =
     μ-loop
     loop-holds
     reference-requires
-    sub-file-groups
-    add-file-groups
-    file-groups-requires
+    sub-triggers-of-term
+    add-triggers-of-term
+    triggers-of-term-requires
     enum-known-more
     enum-told
     same-length
