@@ -5,6 +5,7 @@ use mathlib.Core.Path.{_≡_}
 use mathlib.Core.Bool.{cond}
 use mathlib.Core.List.{List, map}
 use lib.ListN.{length, getD}
+use lib.Dec.{ltb}
 use Rattle.model.specs.Lists.{fold-left}
 use Rattle.model.specs.Names.{Name, bytes, from-list, ends-with}
 use Rattle.model.specs.Reading.{spell}
@@ -82,6 +83,25 @@ module _ (file names refs rows : List ℕ) (named used many name t : ℕ) where
     uses-full : {total : ℕ} → Triggers-of names′ out′ filed total → 6144 < uses + length fact-names
         → Summarizes names′ rows′ out′ mark filed uses (summarized.Over limit.Uses)
 
+  -- the fact's summary, were there no limits
+  unfoldable pub fact-summary : ℕ → ℕ → ℕ → Summary
+  fact-summary mark filed uses =
+      let more = entries (fact-kind .triggers) in
+      record {
+        kind = fact-kind .kind;
+        entries = filed + more;
+        uses = uses + length fact-names;
+        named = length names-then;
+        mark = mark + 2 + more;
+      }
+
+-- a summary, or the first limit that it passes
+unfoldable pub limited : Summary → Summarized
+limited s =
+    cond (ltb 2048 (s .named)) (summarized.Over limit.Names)
+    (cond (ltb 2048 (s .entries)) (summarized.Over limit.Entries)
+    (cond (ltb 6144 (s .uses)) (summarized.Over limit.Uses) (summarized.Done s)))
+
 -- where the name that a token trims to ends in the file
 abbrev pub trimmed-end : List ℕ → ℕ → ℕ
 trimmed-end names n = getD names n 0 + getD names (2048 + n) 0 - 4
@@ -133,3 +153,8 @@ pub record Slices (file names refs rows out names′ rows′ out′ : List ℕ) 
       → (uses ≤ i → i < uses-end uses r → ⊥)
       → (6144 + filed ≤ i → i < 6144 + entries-end filed (entries (fact-kind file names refs rows named used many name t .triggers)) r → ⊥)
       → getD out′ i 0 ≡ getD out i 0
+
+-- two slices that are the same from word 16,384 on
+pub record Past (before after : List ℕ) : Type 0 where
+  pub same-length : length after ≡ length before
+  pub same-words : (i : ℕ) → 16384 ≤ i → getD after i 0 ≡ getD before i 0
