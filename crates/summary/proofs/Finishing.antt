@@ -96,10 +96,10 @@ module _ {file names refs rows out names′ rows′ out′ : List ℕ} {named us
     -- a limit that filing passes
     pub over-law : chosen ≡ fact-choice file names refs rows named used many name t
         → Summarizes file names refs rows named used many name t names′ rows′ out′ mark filed uses (summarized.Over l)
-        × Slices file names refs rows out names′ rows′ out′ named used many name t filed uses (summarized.Over l)
-        × Written (file-fact refs used many file names rows out named name t mark filed uses) names′ rows′ out′
+        × (Slices file names refs rows out names′ rows′ out′ named used many name t filed uses (summarized.Over l)
+        × Written (file-fact refs used many file names rows out named name t mark filed uses) names′ rows′ out′)
     unfolding fact-kind names-then uses-end entries-end sorted-end file-fact
-    over-law chose = let (s, w) = go (chooses .kinds _ decided) (chooses .marks) in (s, w, rw (← chose) (over-written refs used many t uses filed-as))
+    over-law chose = let (s, w) = go (chooses .kinds _ decided) (chooses .marks) in (s, (w, rw (← chose) (over-written refs used many t uses filed-as)))
       where
         go : {x : Limit} → Comes-to file names names′ out′ named (6144 + filed) (fact-kind file names refs rows named used many name t) (sorted.Over x) → Marks (trimmed-table file names named chosen) rows out names′ rows′ out′ mark (6144 + filed) (sorted.Over x)
             → Summarizes file names refs rows named used many name t names′ rows′ out′ mark filed uses (summarized.Over x) × Slices file names refs rows out names′ rows′ out′ named used many name t filed uses (summarized.Over x)
@@ -246,11 +246,10 @@ module _ {file names refs rows out names′ rows′ out′ : List ℕ} {named us
       pub finish-law : chosen ≡ fact-choice file names refs rows named used many name t
           → Sorts-as (file-choice refs used many file named mark (filing names rows out (mark + 1) (6144 + filed)) chosen) names′ rows′ out′ mark (6144 + filed) (sorted.Kind a e total)
           → Summarizes file names refs rows named used many name t names″ rows″ out″ mark filed uses r
-          × Slices file names refs rows out names″ rows″ out″ named used many name t filed uses r
-          × Written (file-fact refs used many file names rows out named name t mark filed uses) names″ rows″ out″
+          × (Slices file names refs rows out names″ rows″ out″ named used many name t filed uses r
+          × Written (file-fact refs used many file names rows out named name t mark filed uses) names″ rows″ out″)
       unfolding file-fact
       finish-law chose filed-as = (
         rw (finishes .answer) (kept-summary (finishes .walked) gathered-names),
-        rw (finishes .answer) (kept-slices chose),
-        rw (← chose) (kind-written filed-as is finishes),
+        (rw (finishes .answer) (kept-slices chose), rw (← chose) (kind-written filed-as is finishes)),
       )
