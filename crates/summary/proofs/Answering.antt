@@ -17,12 +17,14 @@ use Rattle.text.specs.Parts.{part}
 use Rattle.rules.specs.declared.Choice.{Choice}
 use Rattle.rules.specs.declared.Choice.the-variants as choice
 use Rattle.triggers.specs.Entries.{entries}
+use Rattle.triggers.specs.Filings.{Filing}
 use Rattle.summary.specs.declared.Limit.{Limit}
 use Rattle.summary.specs.declared.Limit.the-variants as limit
 use Rattle.summary.specs.declared.Summary.{Summary}
 use Rattle.summary.specs.declared.Summarized.{Summarized}
 use Rattle.summary.specs.declared.Summarized.the-variants as summarized
-use Rattle.summary.specs.Facts.{fact-kind, names-then, fact-summary, limited, Triggers-of, Summary-of, Summarizes, done, names-full, entries-full, uses-full, trimmed-end, trimmed-found, token-table, trimmed-table, uses-end, entries-end, Slices, Past}
+use Rattle.summary.specs.Facts.{Asked, fact-kind, names-then, fact-summary, limited, Triggers-of, Summary-of, Summarizes, done, names-full, entries-full, uses-full, trimmed-end, trimmed-found, token-table, trimmed-table, uses-end, entries-end, Slices, Past}
+use Rattle.summary.specs.Writing.{Written}
 use Rattle.summary.proofs.Token.{token-high}
 
 -- ---- the answer
@@ -135,3 +137,17 @@ module _ {file names refs rows names′ rows′ out′ : List ℕ} {named used m
         record { same-length = s .row-words .same-length; same-words = λ i h. s .row-words .same-words i (λ a b. omega arith) },
         record { same-length = s .out-length; same-words = λ i h. s .out-words i (λ a b. omega (arith, high .0)) (λ a b. omega (arith, high .1)) },
       )
+
+-- ---- the promises
+
+module _ {file names refs rows out names′ rows′ out′ : List ℕ} {named used many name t mark filed uses : ℕ} {r : Summarized} {f : Filing} where
+  -- the answer and the words past the tables come with the summary and its slices
+  pub promised : Asked file names refs rows out named used many name t mark filed uses
+      → Summarizes file names refs rows named used many name t names′ rows′ out′ mark filed uses r
+      × (Slices file names refs rows out names′ rows′ out′ named used many name t filed uses r × Written f names′ rows′ out′)
+      → Summarizes file names refs rows named used many name t names′ rows′ out′ mark filed uses r
+      × (Slices file names refs rows out names′ rows′ out′ named used many name t filed uses r
+      × (Written f names′ rows′ out′
+      × ((r ≡ limited (fact-summary file names refs rows named used many name t mark filed uses))
+      × (Past names names′ × Past rows rows′ × Past out out′))))
+  promised asked (m, (s, w)) = (m, (s, (w, (answer-is m, slices-past (asked .tables .name-table) m (asked .few-uses) (asked .few-entries) s))))
