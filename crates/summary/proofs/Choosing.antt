@@ -1,25 +1,23 @@
 -- Filing what a choice says.
-use Prim.Native.Nat.{ℕ, _+_, _-_, _≤_, _<_}
+use Prim.Native.Nat.{ℕ, _+_, _-_, _<_}
 use native.Mathlib.Omega.{arith}
-use mathlib.Core.Path.{_≡_, refl, sym, ap, _∙_}
+use mathlib.Core.Path.{_≡_, refl}
 use mathlib.Core.Bool.{Bool, true, false, cond}
 use mathlib.Core.List.{List, [], _∷_}
-use mathlib.Core.Option.{Option, none, some}
-use lib.ListN.{length, getD}
+use mathlib.Core.Option.{some}
 use Rattle.model.specs.Lists.{fold-left}
 use Rattle.model.specs.Names.{Name}
 use Rattle.model.specs.Terms.{Term}
-use Rattle.model.specs.Reading.{spell}
 use Rattle.model.specs.Summaries.{Kinded, Sum-drop, Sum-ambient, Sum-triggers, exclude-names, is-empty, free-top-level-names, triggers-of-term, token-triggers}
-use Rattle.model.specs.declared.AsumKind.{AsumKind}
 use Rattle.model.specs.declared.AsumKind.the-variants as asum
-use Rattle.names.specs.Table.{Table, name-of, names-of}
+use Rattle.names.specs.Table.{name-of}
 use Rattle.names.proofs.Laws.{names-length}
-use Rattle.terms.specs.Rows.{words, terms-of, Rows}
+use Rattle.terms.specs.Rows.{row-start, row-end, words, terms-of-words, terms-of}
 use Rattle.terms.proofs.Table.{terms-named}
-use Rattle.gather.specs.Sets.{Fresh, Same-but, Named}
+use Rattle.gather.specs.Sets.{Named}
 use Rattle.gather.proofs.Steps.{same-self, same-back}
 use Rattle.triggers.specs.Entries.{Files, Filled}
+use Rattle.triggers.specs.Filings.{Filing, filing, file-list, file-groups, file-parts, Files-as}
 use Rattle.triggers.specs.declared.Filed.{Filed}
 use Rattle.triggers.proofs.Marked.{named-marked, fresh-later}
 use Rattle.rules.specs.Views.{Tables, terms-in}
@@ -29,9 +27,17 @@ use Rattle.rules.specs.declared.Choice.the-variants as choice
 use Rattle.summary.specs.Facts.{token-table, trimmed-table}
 use Rattle.summary.specs.declared.Sorted.{Sorted}
 use Rattle.summary.specs.declared.Sorted.the-variants as sorted
-use Rattle.summary.specs.Steps.{Begun, sorted-of, sorted-end, Marks, Kinds, kind-there, no-room, Sorts, refinement-kind, parts-kind, Filed-kind, Comes-to, kind-filed, entries-over, Tokens, Chooses}
+use Rattle.summary.specs.Steps.{Begun, sorted-of, Kinds, kind-there, no-room, Sorts, Sorts-as, refinement-kind, parts-kind, Comes-to, kind-filed, entries-over, Tokens, Chooses}
+use Rattle.summary.specs.Writing.{file-refinement, file-choice}
 use Rattle.summary.proofs.Token.{token-high}
 use Rattle.summary.proofs.Sorting.{named-of, table-marked, files-sorts, nothing-sorts}
+use Rattle.summary.proofs.Writing.{files-sorts-as, nothing-as}
+
+-- what filing a choice comes to, with every word
+abbrev pub Choice-files : List ℕ → List ℕ → List ℕ → List ℕ → List ℕ → List ℕ → List ℕ → List ℕ → ℕ → ℕ → ℕ → ℕ → ℕ → Choice → Sorted → Type 0
+Choice-files file names refs rows out names′ rows′ out′ named used many mark at c r =
+    Chooses file names refs rows out names′ rows′ out′ named used many mark at c r
+    × Sorts-as (file-choice refs used many file named mark (filing names rows out (mark + 1) at) c) names′ rows′ out′ mark at r
 
 -- rule 3 trims no name off
 refinement-trimmed : (b : Bool) (sets : List (List Name)) → cond b (Sum-ambient true) (Sum-triggers sets) .trimmed ≡ []
@@ -69,50 +75,68 @@ module _ {file names refs rows out names′ rows′ out′ : List ℕ} {named us
     marks = rw q (s .marks);
   }
 
+  -- a choice whose sets were filed
+  sets-chooses : {g : Filing} {count : ℕ} {f : Filed} (s : List Term → List (List Name)) (c : Choice)
+      → kinded (terms-in file names refs rows used many) (name-of file names) c ≡ some (Sum-triggers (s (terms-in file names refs rows used many)))
+      → trimmed-table file names named c ≡ names → file-choice refs used many file named mark (filing names rows out (mark + 1) at) c ≡ g
+      → ((name : ℕ → Name) → Named name names named → Files name named (s (terms-of name refs rows used many)) at out′ f)
+      → Filled names rows out names′ rows′ out′ (mark + 1) at f → Files-as g count names′ rows′ out′ (mark + 1) at f → r ≡ sorted-of named f
+      → Choice-files file names refs rows out names′ rows′ out′ named used many mark at c r
+  unfolding Sum-triggers
+  sets-chooses s c e q g k w x z = (
+    sorts-chooses (λ terms. Sum-triggers (s terms)) c e q refl (files-sorts (λ name. s (terms-of name refs rows used many)) k w z),
+    rw g (files-sorts-as named x z),
+  )
+
   module _ {c : Choice} where
     -- one set
-    pub choose-one : {t : ℕ} {f : Filed} → c ≡ choice.One t
+    pub choose-one : {t count : ℕ} {f : Filed} → c ≡ choice.One t
         → ((name : ℕ → Name) → Named name names named → Files name named (free-top-level-names exclude-names (terms-of name refs rows used many) t ∷ []) at out′ f)
-        → Filled names rows out names′ rows′ out′ (mark + 1) at f → r ≡ sorted-of named f
-        → Chooses file names refs rows out names′ rows′ out′ named used many mark at c r
-    unfolding kinded trimmed-table Sum-triggers
-    choose-one {t} e k w q =
-        rw e (sorts-chooses (λ terms. Sum-triggers (free-top-level-names exclude-names terms t ∷ [])) (choice.One t) refl refl refl
-        (files-sorts (λ name. free-top-level-names exclude-names (terms-of name refs rows used many) t ∷ []) k w q))
+        → Filled names rows out names′ rows′ out′ (mark + 1) at f
+        → Files-as (file-list refs used many (filing names rows out (mark + 1) at) (t ∷ [])) count names′ rows′ out′ (mark + 1) at f
+        → r ≡ sorted-of named f
+        → Choice-files file names refs rows out names′ rows′ out′ named used many mark at c r
+    unfolding kinded trimmed-table file-choice
+    choose-one {t} e k w x q = rw e (sets-chooses (λ terms. free-top-level-names exclude-names terms t ∷ []) (choice.One t) refl refl refl k w x q)
 
     -- two sets
-    pub choose-two : {t u : ℕ} {f : Filed} → c ≡ choice.Two t u
+    pub choose-two : {t u count : ℕ} {f : Filed} → c ≡ choice.Two t u
         → ((name : ℕ → Name) → Named name names named → Files name named (free-top-level-names exclude-names (terms-of name refs rows used many) t ∷ free-top-level-names exclude-names (terms-of name refs rows used many) u ∷ []) at out′ f)
-        → Filled names rows out names′ rows′ out′ (mark + 1) at f → r ≡ sorted-of named f
-        → Chooses file names refs rows out names′ rows′ out′ named used many mark at c r
-    unfolding kinded trimmed-table Sum-triggers
-    choose-two {t} {u} e k w q =
-        rw e (sorts-chooses (λ terms. Sum-triggers (free-top-level-names exclude-names terms t ∷ free-top-level-names exclude-names terms u ∷ [])) (choice.Two t u) refl refl refl
-        (files-sorts (λ name. free-top-level-names exclude-names (terms-of name refs rows used many) t ∷ free-top-level-names exclude-names (terms-of name refs rows used many) u ∷ []) k w q))
+        → Filled names rows out names′ rows′ out′ (mark + 1) at f
+        → Files-as (file-list refs used many (file-list refs used many (filing names rows out (mark + 1) at) (t ∷ [])) (u ∷ [])) count names′ rows′ out′ (mark + 1) at f
+        → r ≡ sorted-of named f
+        → Choice-files file names refs rows out names′ rows′ out′ named used many mark at c r
+    unfolding kinded trimmed-table file-choice
+    choose-two {t} {u} e k w x q = rw e (sets-chooses (λ terms. free-top-level-names exclude-names terms t ∷ free-top-level-names exclude-names terms u ∷ []) (choice.Two t u) refl refl refl k w x q)
 
     -- the triggers of a term
-    pub choose-groups : {t : ℕ} {f : Filed} → c ≡ choice.Groups t
+    pub choose-groups : {t count : ℕ} {f : Filed} → c ≡ choice.Groups t
         → ((name : ℕ → Name) → Named name names named → Files name named (triggers-of-term exclude-names (terms-of name refs rows used many) t) at out′ f)
-        → Filled names rows out names′ rows′ out′ (mark + 1) at f → r ≡ sorted-of named f
-        → Chooses file names refs rows out names′ rows′ out′ named used many mark at c r
-    unfolding kinded trimmed-table Sum-triggers
-    choose-groups {t} e k w q =
-        rw e (sorts-chooses (λ terms. Sum-triggers (triggers-of-term exclude-names terms t)) (choice.Groups t) refl refl refl
-        (files-sorts (λ name. triggers-of-term exclude-names (terms-of name refs rows used many) t) k w q))
+        → Filled names rows out names′ rows′ out′ (mark + 1) at f
+        → Files-as (file-groups refs used many (filing names rows out (mark + 1) at) t) count names′ rows′ out′ (mark + 1) at f
+        → r ≡ sorted-of named f
+        → Choice-files file names refs rows out names′ rows′ out′ named used many mark at c r
+    unfolding kinded trimmed-table file-choice
+    choose-groups {t} e k w x q = rw e (sets-chooses (λ terms. triggers-of-term exclude-names terms t) (choice.Groups t) refl refl refl k w x q)
 
     -- the payload of a refinement
     pub choose-refinement : {t : ℕ} → c ≡ choice.Refinement t
         → Sorts names rows out names′ rows′ out′ named mark at (λ name. refinement-kind (terms-of name refs rows used many) t) r
-        → Chooses file names refs rows out names′ rows′ out′ named used many mark at c r
-    unfolding kinded trimmed-table refinement-kind
-    choose-refinement {t} e s = rw e (sorts-chooses (λ terms. refinement-kind terms t) (choice.Refinement t) refl refl (refinement-trimmed (is-empty (triggers-of-term exclude-names (terms-in file names refs rows used many) t)) (triggers-of-term exclude-names (terms-in file names refs rows used many) t)) s)
+        → ((name : ℕ → Name) → Named name names named → Sorts-as (file-refinement refs used many (terms-of name refs rows used many) mark (filing names rows out (mark + 1) at) t) names′ rows′ out′ mark at r)
+        → Choice-files file names refs rows out names′ rows′ out′ named used many mark at c r
+    unfolding kinded trimmed-table refinement-kind file-choice terms-in
+    choose-refinement {t} e s w = rw e (
+      sorts-chooses (λ terms. refinement-kind terms t) (choice.Refinement t) refl refl (refinement-trimmed (is-empty (triggers-of-term exclude-names (terms-in file names refs rows used many) t)) (triggers-of-term exclude-names (terms-in file names refs rows used many) t)) s,
+      w (name-of file names) (named-of (tables .name-table)),
+    )
 
     -- the parts of an `and`
     pub choose-parts : {t : ℕ} → c ≡ choice.Parts t
         → Sorts names rows out names′ rows′ out′ named mark at (λ name. parts-kind (terms-of name refs rows used many) t) r
-        → Chooses file names refs rows out names′ rows′ out′ named used many mark at c r
-    unfolding kinded trimmed-table parts-kind Sum-triggers
-    choose-parts {t} e s = rw e (sorts-chooses (λ terms. parts-kind terms t) (choice.Parts t) refl refl refl s)
+        → Sorts-as (file-parts refs used many (filing names rows out (mark + 1) at) (terms-of-words (words refs (row-start rows t) (row-end rows used many t)))) names′ rows′ out′ mark at r
+        → Choice-files file names refs rows out names′ rows′ out′ named used many mark at c r
+    unfolding kinded trimmed-table parts-kind Sum-triggers file-choice
+    choose-parts {t} e s w = rw e (sorts-chooses (λ terms. parts-kind terms t) (choice.Parts t) refl refl refl s, w)
 
 -- a kind without triggers
 none-sorts : {names rows out : List ℕ} {mark at : ℕ} (named : ℕ) → Begun names rows out mark at → (k : Kinded) → k .triggers ≡ [] → Sorts names rows out names rows out named mark at (λ name. k) (sorted.Kind (k .kind) at named)
@@ -120,41 +144,44 @@ none-sorts {names} {rows} {mark = mark} named b k e = nothing-sorts (k .kind) (�
 
 module _ {file names refs rows out : List ℕ} {named used many mark at : ℕ} {c : Choice} (tables : Tables file names refs rows named used many) (b : Begun names rows out mark at) where
   -- no disjunct
-  pub choose-nothing : c ≡ choice.Nothing → Chooses file names refs rows out names rows out named used many mark at c (sorted.Kind (asum.Triggers 0) at named)
-  unfolding kinded trimmed-table Sum-triggers
-  choose-nothing e = rw e (sorts-chooses tables (λ terms. Sum-triggers []) choice.Nothing refl refl refl (none-sorts named b (Sum-triggers []) refl))
+  pub choose-nothing : c ≡ choice.Nothing → Choice-files file names refs rows out names rows out named used many mark at c (sorted.Kind (asum.Triggers 0) at named)
+  unfolding kinded trimmed-table Sum-triggers file-choice
+  choose-nothing e = rw e (sorts-chooses tables (λ terms. Sum-triggers []) choice.Nothing refl refl refl (none-sorts named b (Sum-triggers []) refl), nothing-as)
 
   -- a fact that is dropped
-  pub choose-drop : c ≡ choice.Drop → Chooses file names refs rows out names rows out named used many mark at c (sorted.Kind asum.Drop at named)
-  unfolding kinded trimmed-table Sum-drop
-  choose-drop e = rw e (sorts-chooses tables (λ terms. Sum-drop) choice.Drop refl refl refl (none-sorts named b Sum-drop refl))
+  pub choose-drop : c ≡ choice.Drop → Choice-files file names refs rows out names rows out named used many mark at c (sorted.Kind asum.Drop at named)
+  unfolding kinded trimmed-table Sum-drop file-choice
+  choose-drop e = rw e (sorts-chooses tables (λ terms. Sum-drop) choice.Drop refl refl refl (none-sorts named b Sum-drop refl), nothing-as)
 
   -- an ambient fact
-  pub choose-ambient : c ≡ choice.Ambient → Chooses file names refs rows out names rows out named used many mark at c (sorted.Kind (asum.Ambient false) at named)
-  unfolding kinded trimmed-table Sum-ambient
-  choose-ambient e = rw e (sorts-chooses tables (λ terms. Sum-ambient false) choice.Ambient refl refl refl (none-sorts named b (Sum-ambient false) refl))
+  pub choose-ambient : c ≡ choice.Ambient → Choice-files file names refs rows out names rows out named used many mark at c (sorted.Kind (asum.Ambient false) at named)
+  unfolding kinded trimmed-table Sum-ambient file-choice
+  choose-ambient e = rw e (sorts-chooses tables (λ terms. Sum-ambient false) choice.Ambient refl refl refl (none-sorts named b (Sum-ambient false) refl), nothing-as)
 
   -- no rule
-  pub choose-no : c ≡ choice.No → Chooses file names refs rows out names rows out named used many mark at c (sorted.Kind asum.Drop at named)
-  unfolding kinded trimmed-table Sum-drop
-  choose-no e = rw e (record { kinds = λ k h. let z : _≡_ {A = ℕ} 0 1 = cc in let y : ⊥ = omega arith in absurd y; marks = none-sorts named b Sum-drop refl .marks })
+  pub choose-no : c ≡ choice.No → Choice-files file names refs rows out names rows out named used many mark at c (sorted.Kind asum.Drop at named)
+  unfolding kinded trimmed-table Sum-drop file-choice
+  choose-no e = rw e (record { kinds = λ k h. let z : _≡_ {A = ℕ} 0 1 = cc in let y : ⊥ = omega arith in absurd y; marks = none-sorts named b Sum-drop refl .marks }, nothing-as)
 
   -- a token
   pub choose-token : {names′ out′ : List ℕ} {n : ℕ} {r : Sorted} → c ≡ choice.Token n → Tokens file names out names′ out′ named n at r
-      → Chooses file names refs rows out names′ rows out′ named used many mark at c r
-  unfolding kinded trimmed-table
-  choose-token {n = n} e s = rw e (record {
-    kinds = λ k h. let z : token-triggers (name-of file names n) ≡ k = cc in rw z at (s .kinds);
-    marks = record {
-      names-same = rw (s .name-words) (same-self 8192 2048 (token-table file names named n));
-      rows-same = same-self 12288 4096 rows;
-      out-same = s .out-same;
-      fresh = λ a e total q. fresh-later mark (mark + 1 + (e - at)) (omega arith) (rw (s .name-words) (record {
-        row-marks = b .fresh .row-marks;
-        name-marks = λ k l. rw (token-high (tables .name-table) n (8192 + k) (omega arith)) (b .fresh .name-marks k l);
-      }));
-    };
-  })
+      → Choice-files file names refs rows out names′ rows out′ named used many mark at c r
+  unfolding kinded trimmed-table file-choice
+  choose-token {n = n} e s = rw e (
+    record {
+      kinds = λ k h. let z : token-triggers (name-of file names n) ≡ k = cc in rw z at (s .kinds);
+      marks = record {
+        names-same = rw (s .name-words) (same-self 8192 2048 (token-table file names named n));
+        rows-same = same-self 12288 4096 rows;
+        out-same = s .out-same;
+        fresh = λ a e total q. fresh-later mark (mark + 1 + (e - at)) (omega arith) (rw (s .name-words) (record {
+          row-marks = b .fresh .row-marks;
+          name-marks = λ k l. rw (token-high (tables .name-table) n (8192 + k) (omega arith)) (b .fresh .name-marks k l);
+        }));
+      };
+    },
+    s .words-as rows mark,
+  )
 
 -- ---- the numbers of a choice
 

@@ -1,43 +1,42 @@
 -- The summary of a fact: what was filed, and the free names that were gathered.
-use Prim.Native.Nat.{ℕ, zero, suc, _+_, _-_, _%_, _≤_, _<_}
+use Prim.Native.Nat.{ℕ, _+_, _-_, _%_, _≤_, _<_}
 use native.Mathlib.Omega.{arith}
 use mathlib.Core.Path.{_≡_, refl, sym, ap, ap₂, _∙_}
 use mathlib.Core.Bool.{Bool, true, false, cond}
-use mathlib.Core.Logic.{_⊎_, inl, inr, ⊎-elim}
 use mathlib.Core.List.{List, [], _∷_, _++_, map, map-append}
-use mathlib.Core.Option.{Option, none, some}
+use mathlib.Core.Option.{some}
 use lib.ListN.{length, getD}
 use lib.Dec.{ltb}
 use borrow.Author.Tests.{ltb-true}
-use Rattle.model.specs.Lists.{fold-left}
 use Rattle.model.specs.Names.{Name, from-list}
-use Rattle.model.specs.Reading.{spell}
-use Rattle.model.specs.Summaries.{Kinded, exclude-names, free-top-level-names, summarize-kind}
+use Rattle.model.specs.Summaries.{exclude-names, summarize-kind}
 use Rattle.model.specs.declared.AsumKind.{AsumKind}
-use Rattle.names.specs.Table.{Table, name-of, names-of}
+use Rattle.names.specs.Table.{name-of}
 use Rattle.names.proofs.Coded.{Kept}
 use Rattle.terms.specs.Rows.{words, terms-of, Rows}
 use Rattle.terms.proofs.Table.{terms-named, words-agree}
-use Rattle.gather.specs.Sets.{Fresh, Same-but, Named, Gathers, all-names, no-room as no-names, Gathered, ended}
+use Rattle.gather.specs.Sets.{Fresh, Same-but, Named, Gathers, all-names, no-room as no-names, ended}
 use Rattle.gather.specs.declared.Walked.{Walked}
 use Rattle.gather.specs.declared.Walked.the-variants as walks
 use Rattle.gather.proofs.Steps.{same-back, same-then}
 use Rattle.gather.proofs.Walking.{rows-marked}
-use Rattle.triggers.specs.Entries.{entry-number, before-first, disjuncts-of-words, disjuncts-of, entries, Entries}
+use Rattle.triggers.specs.Entries.{entry-number, before-first, disjuncts-of-words, disjuncts-of, entries}
 use Rattle.triggers.proofs.Marked.{named-marked, terms-marked, fresh-next}
-use Rattle.rules.specs.Views.{Tables, terms-in}
-use Rattle.rules.specs.Choices.{kinded, Within}
+use Rattle.triggers.specs.Filings.{filing}
+use Rattle.rules.specs.Views.{terms-in}
+use Rattle.rules.specs.Choices.{kinded}
 use Rattle.rules.specs.declared.Choice.{Choice}
 use Rattle.summary.specs.declared.Limit.{Limit}
-use Rattle.summary.specs.declared.Limit.the-variants as limit
 use Rattle.summary.specs.declared.Sorted.{Sorted}
 use Rattle.summary.specs.declared.Sorted.the-variants as sorted
-use Rattle.summary.specs.declared.Summary.{Summary}
 use Rattle.summary.specs.declared.Summarized.{Summarized}
 use Rattle.summary.specs.declared.Summarized.the-variants as summarized
-use Rattle.summary.specs.Facts.{Asked, fact-kind, fact-names, names-then, Triggers-of, Summary-of, Summarizes, done, names-full, entries-full, uses-full, trimmed-table, uses-end, entries-end, Slices}
-use Rattle.summary.specs.Steps.{Begun, sorted-end, Marks, Filed-kind, Comes-to, kind-filed, names-over, entries-over, Chooses, finished, Finishes}
+use Rattle.summary.specs.Facts.{Asked, fact-kind, fact-choice, fact-names, names-then, Triggers-of, Summarizes, done, names-full, entries-full, uses-full, trimmed-table, uses-end, entries-end, Slices}
+use Rattle.summary.specs.Steps.{Begun, sorted-end, Marks, Filed-kind, Comes-to, kind-filed, names-over, entries-over, Sorts-as, Chooses, finished, Finishes}
+use Rattle.summary.specs.Writing.{file-choice, file-fact, Written}
 use Rattle.summary.proofs.Sorting.{named-of, named-fewer, table-marked}
+use Rattle.summary.proofs.Choosing.{Choice-files}
+use Rattle.summary.proofs.Writing.{kind-written, over-written}
 
 -- ---- names that stay
 
@@ -82,8 +81,8 @@ unfolding name-of
 name-marked file same n l = rw (same .same-words n (λ a b. omega arith), same .same-words (2048 + n) (λ a b. omega arith)) refl
 
 -- what a choice comes to, by its answer
-pub chooses-is : {file names refs rows out names′ rows′ out′ : List ℕ} {named used many mark at : ℕ} {chosen : Choice} {r r′ : Sorted} → r ≡ r′ → Chooses file names refs rows out names′ rows′ out′ named used many mark at chosen r
-    → Chooses file names refs rows out names′ rows′ out′ named used many mark at chosen r′
+pub chooses-is : {file names refs rows out names′ rows′ out′ : List ℕ} {named used many mark at : ℕ} {chosen : Choice} {r r′ : Sorted} → r ≡ r′ → Choice-files file names refs rows out names′ rows′ out′ named used many mark at chosen r
+    → Choice-files file names refs rows out names′ rows′ out′ named used many mark at chosen r′
 chooses-is e c = rw e at c
 
 -- what filing asks
@@ -91,24 +90,23 @@ pub asked-begun : {file names refs rows out : List ℕ} {named used many name t 
 asked-begun a = record { name-room = a .tables .name-table .room; fresh = a .fresh; few-marks = a .few-marks; low = omega (arith, a .few-entries); room = a .room }
 
 module _ {file names refs rows out names′ rows′ out′ : List ℕ} {named used many name t mark filed uses : ℕ} {chosen : Choice} (asked : Asked file names refs rows out named used many name t mark filed uses)
-    (within : Within named many chosen)
     (decided : kinded (terms-in file names refs rows used many) (name-of file names) chosen ≡ some (summarize-kind exclude-names (terms-in file names refs rows used many) (name-of file names name) t)) where
-  module _ {l : Limit} (chooses : Chooses file names refs rows out names′ rows′ out′ named used many mark (6144 + filed) chosen (sorted.Over l)) where
+  module _ {l : Limit} (chooses : Chooses file names refs rows out names′ rows′ out′ named used many mark (6144 + filed) chosen (sorted.Over l))
+      (filed-as : Sorts-as (file-choice refs used many file named mark (filing names rows out (mark + 1) (6144 + filed)) chosen) names′ rows′ out′ mark (6144 + filed) (sorted.Over l)) where
     -- a limit that filing passes
-    pub over-law : Summarizes file names refs rows named used many name t names′ rows′ out′ mark filed uses (summarized.Over l)
-        × Slices file names refs rows out names′ rows′ out′ named used many name t filed uses (summarized.Over l)
-    unfolding fact-kind names-then uses-end entries-end sorted-end
-    over-law = go (chooses .kinds _ decided) (chooses .marks)
+    pub over-law : chosen ≡ fact-choice file names refs rows named used many name t
+        → Summarizes file names refs rows named used many name t names′ rows′ out′ mark filed uses (summarized.Over l)
+        × (Slices file names refs rows out names′ rows′ out′ named used many name t filed uses (summarized.Over l)
+        × Written (file-fact refs used many file names rows out named name t mark filed uses) names′ rows′ out′)
+    unfolding fact-kind names-then uses-end entries-end sorted-end file-fact
+    over-law chose = let (s, w) = go (chooses .kinds _ decided) (chooses .marks) in (s, (w, rw (← chose) (over-written refs used many t uses filed-as)))
       where
         go : {x : Limit} → Comes-to file names names′ out′ named (6144 + filed) (fact-kind file names refs rows named used many name t) (sorted.Over x) → Marks (trimmed-table file names named chosen) rows out names′ rows′ out′ mark (6144 + filed) (sorted.Over x)
             → Summarizes file names refs rows named used many name t names′ rows′ out′ mark filed uses (summarized.Over x) × Slices file names refs rows out names′ rows′ out′ named used many name t filed uses (summarized.Over x)
         go (names-over p) m = (
           names-full p,
           record {
-            chosen = chosen;
-            within = within;
-            decided = decided;
-            name-words = m .names-same;
+            name-words = rw chose at (m .names-same);
             row-words = m .rows-same;
             out-length = m .out-same .same-length;
             out-words = λ i f g. m .out-same .same-words i (λ a b. omega arith);
@@ -117,10 +115,7 @@ module _ {file names refs rows out names′ rows′ out′ : List ℕ} {named us
         go (entries-over p q) m = (
           entries-full p (omega arith),
           record {
-            chosen = chosen;
-            within = within;
-            decided = decided;
-            name-words = m .names-same;
+            name-words = rw chose at (m .names-same);
             row-words = m .rows-same;
             out-length = m .out-same .same-length;
             out-words = λ i f g. m .out-same .same-words i (λ a b. g a (omega (arith, asked .few-entries)));
@@ -216,16 +211,13 @@ module _ {file names refs rows out names′ rows′ out′ : List ℕ} {named us
           s .same-words i (λ p q. f p (omega arith)) ∙ chooses .marks .out-same .same-words i (λ p q. g p (omega arith))
 
       -- the slices then
-      kept-slices : Slices file names refs rows out names″ rows″ out″ named used many name t filed uses (finished a e total n (finishes .walked))
+      kept-slices : chosen ≡ fact-choice file names refs rows named used many name t → Slices file names refs rows out names″ rows″ out″ named used many name t filed uses (finished a e total n (finishes .walked))
       unfolding fact-kind
-      kept-slices =
+      kept-slices chose =
           let m = chooses .marks in
           let s = finishes .slices in
           record {
-            chosen = chosen;
-            within = within;
-            decided = decided;
-            name-words = same-then (m .names-same) (s .names-same);
+            name-words = rw chose at (same-then (m .names-same) (s .names-same));
             row-words = same-then (m .rows-same) (s .rows-same);
             out-length = s .out-same .same-length ∙ m .out-same .same-length;
             out-words = kept-out (finishes .walked) (s .out-same) (s .grows);
@@ -251,6 +243,13 @@ module _ {file names refs rows out names′ rows′ out′ : List ℕ} {named us
       kept-summary walks.Full (no-names p f) = uses-full {total = total} kept-triggers (omega arith)
 
       -- a fact whose kind was filed
-      pub finish-law : Summarizes file names refs rows named used many name t names″ rows″ out″ mark filed uses r
-          × Slices file names refs rows out names″ rows″ out″ named used many name t filed uses r
-      finish-law = rw (finishes .answer) (kept-summary (finishes .walked) gathered-names, kept-slices)
+      pub finish-law : chosen ≡ fact-choice file names refs rows named used many name t
+          → Sorts-as (file-choice refs used many file named mark (filing names rows out (mark + 1) (6144 + filed)) chosen) names′ rows′ out′ mark (6144 + filed) (sorted.Kind a e total)
+          → Summarizes file names refs rows named used many name t names″ rows″ out″ mark filed uses r
+          × (Slices file names refs rows out names″ rows″ out″ named used many name t filed uses r
+          × Written (file-fact refs used many file names rows out named name t mark filed uses) names″ rows″ out″)
+      unfolding file-fact
+      finish-law chose filed-as = (
+        rw (finishes .answer) (kept-summary (finishes .walked) gathered-names),
+        (rw (finishes .answer) (kept-slices chose), rw (← chose) (kind-written filed-as is finishes)),
+      )

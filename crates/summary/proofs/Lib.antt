@@ -3,3 +3,5 @@ pub mod Sorting
 pub mod Token
 pub mod Choosing
 pub mod Finishing
+pub mod Answering
+pub mod Writing

@@ -3,12 +3,12 @@ use Prim.Native.Nat.{ℕ, zero, suc, _+_, _-_, _%_, _≤_, _<_}
 use native.Mathlib.Omega.{arith}
 use native.Mathlib.Numerals.{add-one}
 use mathlib.Core.Path.{_≡_, refl, sym, ap, ap₂, _∙_}
-use mathlib.Core.List.{List, [], _∷_, _++_, map, append-nil}
+use mathlib.Core.List.{List, [], _∷_, _++_, append-nil}
 use lib.ListN.{length, drop, getD}
 use lib.Dec.{T}
 use Rattle.model.specs.Lists.{concat}
 use Rattle.model.specs.Names.{Name}
-use Rattle.model.specs.Terms.{Term, term, references}
+use Rattle.model.specs.Terms.{term, references}
 use Rattle.model.specs.declared.Op.{Op}
 use Rattle.model.proofs.ListLaws.{concat-append}
 use Rattle.terms.specs.Rows.{row-kind, row-op, row-head, row-start, row-end, row-extra, words, terms-of-words, group-of-words, groups-of-words, group-run, op-of-code, make-node, node-of, terms-of, has-groups, has-body, Rows}

@@ -2,34 +2,35 @@
 use Prim.Native.Nat.{ℕ, _+_, _-_, _%_, _≤_, _<_}
 use native.Mathlib.Omega.{arith}
 use mathlib.Core.Path.{_≡_, refl, sym, ap, _∙_}
-use mathlib.Core.Bool.{Bool, true, false, cond}
+use mathlib.Core.Bool.{Bool, true, false}
 use mathlib.Core.List.{List, []}
-use lib.ListN.{length, getD}
+use lib.ListN.{getD}
 use Rattle.model.specs.Lists.{collect, sum}
 use Rattle.model.specs.Names.{Name}
-use Rattle.model.specs.Terms.{Term, term, references}
-use Rattle.model.specs.Reading.{spell}
 use Rattle.model.specs.Summaries.{Kinded, Sum-ambient, Sum-triggers, exclude-names, is-empty, triggers-of-term}
 use Rattle.model.specs.declared.AsumKind.{AsumKind}
 use Rattle.model.specs.declared.AsumKind.the-variants as asum
-use Rattle.names.specs.Table.{Table, name-of, names-of}
-use Rattle.names.proofs.Laws.{distinct, names-length}
+use Rattle.names.specs.Table.{Table, name-of}
+use Rattle.names.proofs.Laws.{distinct}
 use Rattle.names.proofs.Coded.{code-excluded, Kept, table-kept}
 use Rattle.terms.specs.Rows.{row-start, row-end, words, terms-of-words, terms-of, Rows}
-use Rattle.terms.proofs.Table.{words-nil, terms-named}
+use Rattle.terms.proofs.Table.{words-nil}
 use Rattle.gather.specs.Sets.{Fresh, Same-but, Named, is-excluded}
-use Rattle.gather.proofs.Steps.{same-self, same-back, same-then}
-use Rattle.triggers.specs.Entries.{disjuncts-of, disjuncts-of-words, entries, Entries, Files, all-sets, no-room as no-sets, Filled, filed-end, Opened}
+use Rattle.gather.specs.Visits.{marked-at}
+use Rattle.gather.proofs.Steps.{same-self, same-then}
+use Rattle.triggers.specs.Entries.{disjuncts-of, disjuncts-of-words, entries, Files, all-sets, no-room as no-sets, Filled, filed-end, Opened}
+use Rattle.triggers.specs.Filings.{filing, file-groups, file-parts, empty-visit, Files-as}
 use Rattle.triggers.specs.declared.Filed.{Filed}
 use Rattle.triggers.specs.declared.Filed.the-variants as files
 use Rattle.triggers.proofs.Marked.{named-marked, terms-marked, fresh-later}
 use Rattle.triggers.proofs.Disjuncts.{no-entries}
 use Rattle.summary.specs.declared.Limit.{Limit}
-use Rattle.summary.specs.declared.Limit.the-variants as limit
 use Rattle.summary.specs.declared.Sorted.{Sorted}
 use Rattle.summary.specs.declared.Sorted.the-variants as sorted
-use Rattle.summary.specs.Steps.{Begun, sorted-of, sorted-end, Marks, Kinds, kind-there, no-room, Sorts, refinement-kind, parts-kind, Filed-kind, Comes-to, kind-filed, entries-over}
+use Rattle.summary.specs.Steps.{Begun, sorted-of, sorted-end, Marks, Kinds, kind-there, no-room, Sorts, Sorts-as, refinement-kind, parts-kind}
+use Rattle.summary.specs.Writing.{file-refinement}
 use Rattle.summary.proofs.Parts.{row-references}
+use Rattle.summary.proofs.Writing.{files-sorts-as, nothing-as}
 
 -- ---- names
 
@@ -51,13 +52,9 @@ table-marked table same = table-kept table (same .same-length) (λ i l. same .sa
 
 -- ---- what filing asks
 
--- to file from a mark on
-pub begun-opened : {names rows out : List ℕ} {mark at : ℕ} → Begun names rows out mark at → Opened names rows out mark at
-begun-opened b = record { name-room = b .name-room; fresh = b .fresh; low = b .low; high = omega (arith, b .room); few-marks = omega (arith, b .few-marks) }
-
--- to file from the next mark on
-pub begun-next : {names rows out : List ℕ} {mark at : ℕ} → Begun names rows out mark at → Opened names rows out (mark + 1) at
-begun-next {mark} b = record { name-room = b .name-room; fresh = fresh-later mark (mark + 1) (omega arith) (b .fresh); low = b .low; high = omega (arith, b .room); few-marks = omega (arith, b .few-marks) }
+-- to file from the mark or a later one on
+pub begun-opened : {names rows out : List ℕ} {mark at n : ℕ} → Begun names rows out mark at → mark ≤ n → n ≤ mark + 8192 → Opened names rows out n at
+begun-opened {mark = mark} {n = n} b less few = record { name-room = b .name-room; fresh = fresh-later mark n less (b .fresh); low = b .low; high = omega (arith, b .room); few-marks = omega (arith, b .few-marks) }
 
 -- to file after a look at the tables
 pub begun-then : {names rows out names′ rows′ out′ : List ℕ} {mark at : ℕ} → Begun names rows out mark at
@@ -126,38 +123,54 @@ marks-after n s q m = record { names-same = same-then n (m .names-same); rows-sa
 
 module _ {names rows out names₁ rows₁ out₁ refs : List ℕ} {named used many mark at : ℕ} {b : Bool} (t : ℕ) (table : Rows refs rows used many named)
     (answer : (name : ℕ → Name) → Named name names named → b ≡ is-empty (triggers-of-term exclude-names (terms-of name refs rows used many) t))
-    (tables : Same-but 8192 2048 names names₁ × Same-but 12288 4096 rows rows₁ × Fresh names₁ rows₁ (mark + 1)) (same : out₁ ≡ out) where
+    (tables : Same-but 8192 2048 names names₁ × Same-but 12288 4096 rows rows₁ × Fresh names₁ rows₁ (mark + 1))
+    (same : (names₁ ≡ names) × (rows₁ ≡ marked-at 12288 mark (empty-visit refs used many names rows t .walked) rows) × (out₁ ≡ out)) where
   -- a payload that is empty is ambient
   pub refinement-empty : b ≡ true → at ≤ 8192 → Sorts names rows out names₁ rows₁ out₁ named mark at (λ name. refinement-kind (terms-of name refs rows used many) t) (sorted.Kind (asum.Ambient true) at named)
-  unfolding refinement-kind Sum-ambient
-  refinement-empty e low = rw same (nothing-sorts (asum.Ambient true) (λ name. refinement-kind (terms-of name refs rows used many) t) (λ name d. rw (sym (answer name d) ∙ e) (refl, refl)) low (tables .0) (tables .1) (tables .2))
+      × ((name : ℕ → Name) → Named name names named → Sorts-as (file-refinement refs used many (terms-of name refs rows used many) mark (filing names rows out (mark + 1) at) t) names₁ rows₁ out₁ mark at (sorted.Kind (asum.Ambient true) at named))
+  unfolding refinement-kind Sum-ambient file-refinement
+  refinement-empty e low = (
+    rw (same .2) (nothing-sorts (asum.Ambient true) (λ name. refinement-kind (terms-of name refs rows used many) t) (λ name d. rw (sym (answer name d) ∙ e) (refl, refl)) low (tables .0) (tables .1) (tables .2)),
+    λ name d. rw (same .0, same .1, same .2, sym (answer name d) ∙ e) nothing-as,
+  )
 
   -- another has its triggers
-  pub refinement-more : {names₂ rows₂ out₂ : List ℕ} {f : Filed} {r : Sorted} → b ≡ false
+  pub refinement-more : {names₂ rows₂ out₂ : List ℕ} {count : ℕ} {f : Filed} {r : Sorted} → b ≡ false
       → ((name : ℕ → Name) → Named name names₁ named → Files name named (triggers-of-term exclude-names (terms-of name refs rows₁ used many) t) at out₂ f)
-      → Filled names₁ rows₁ out₁ names₂ rows₂ out₂ (mark + 1) at f → r ≡ sorted-of named f
+      → Filled names₁ rows₁ out₁ names₂ rows₂ out₂ (mark + 1) at f
+      → Files-as (file-groups refs used many (filing names₁ rows₁ out₁ (mark + 1) at) t) count names₂ rows₂ out₂ (mark + 1) at f
+      → r ≡ sorted-of named f
       → Sorts names rows out names₂ rows₂ out₂ named mark at (λ name. refinement-kind (terms-of name refs rows used many) t) r
-  unfolding refinement-kind
-  refinement-more {f = f} e k w q = rw q (record {
-    kinds = λ name d.
-        rw (sym (answer name d) ∙ e)
-        (rw (terms-marked name (tables .1) table) at (files-kinds (k name (named-marked (tables .0) (table .few-names) d))));
-    marks = marks-after (tables .0) (tables .1) same (files-marks named f w);
-  })
+      × ((name : ℕ → Name) → Named name names named → Sorts-as (file-refinement refs used many (terms-of name refs rows used many) mark (filing names rows out (mark + 1) at) t) names₂ rows₂ out₂ mark at r)
+  unfolding refinement-kind file-refinement
+  refinement-more {f = f} e k w z q = (
+    rw q (record {
+      kinds = λ name d.
+          rw (sym (answer name d) ∙ e)
+          (rw (terms-marked name (tables .1) table) at (files-kinds (k name (named-marked (tables .0) (table .few-names) d))));
+      marks = marks-after (tables .0) (tables .1) (same .2) (files-marks named f w);
+    }),
+    λ name d. rw (sym (answer name d) ∙ e) (files-sorts-as named (rw (same .0, same .1, same .2) at z) q),
+  )
 
 -- ---- the parts of an `and`
 
 -- the triggers of the terms that a row names
-pub parts-sorts : {names rows out names′ rows′ out′ refs : List ℕ} {named used many mark at a e : ℕ} {f : Filed} {r : Sorted} (t : ℕ) → Rows refs rows used many named → t < many
+pub parts-sorts : {names rows out names′ rows′ out′ refs : List ℕ} {named used many mark at a e count : ℕ} {f : Filed} {r : Sorted} (t : ℕ) → Rows refs rows used many named → t < many
     → a ≡ row-start rows t → e ≡ row-end rows used many t
     → ((name : ℕ → Name) → Named name names named → Files name named (collect (triggers-of-term exclude-names (terms-of name refs rows used many)) (terms-of-words (words refs a e))) at out′ f)
-    → Filled names rows out names′ rows′ out′ (mark + 1) at f → r ≡ sorted-of named f
+    → Filled names rows out names′ rows′ out′ (mark + 1) at f
+    → Files-as (file-parts refs used many (filing names rows out (mark + 1) at) (terms-of-words (words refs a e))) count names′ rows′ out′ (mark + 1) at f
+    → r ≡ sorted-of named f
     → Sorts names rows out names′ rows′ out′ named mark at (λ name. parts-kind (terms-of name refs rows used many) t) r
+    × Sorts-as (file-parts refs used many (filing names rows out (mark + 1) at) (terms-of-words (words refs (row-start rows t) (row-end rows used many t)))) names′ rows′ out′ mark at r
 unfolding parts-kind
-parts-sorts {rows = rows} {refs = refs} {used = used} {many} {a = a} {e} t table l p q k w z =
-    sorts-as
-    (λ name d. ap (λ ts. Sum-triggers (collect (triggers-of-term exclude-names (terms-of name refs rows used many)) ts)) (rw (p, q) (sym (row-references table l name))))
-    (files-sorts (λ name. collect (triggers-of-term exclude-names (terms-of name refs rows used many)) (terms-of-words (words refs a e))) k w z)
+parts-sorts {rows = rows} {refs = refs} {named} {used} {many} {a = a} {e} t table l p q k w x z = (
+  sorts-as
+      (λ name d. ap (λ ts. Sum-triggers (collect (triggers-of-term exclude-names (terms-of name refs rows used many)) ts)) (rw (p, q) (sym (row-references table l name))))
+      (files-sorts (λ name. collect (triggers-of-term exclude-names (terms-of name refs rows used many)) (terms-of-words (words refs a e))) k w z),
+  files-sorts-as named (rw (p, q) at x) z,
+)
 
 -- what filing them asks
 pub parts-asks : {refs rows : List ℕ} {used many named t a e : ℕ} → Rows refs rows used many named → t < many → a ≡ row-start rows t → e ≡ row-end rows used many t

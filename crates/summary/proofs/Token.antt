@@ -3,46 +3,43 @@ use Prim.Native.Nat.{ℕ, _+_, _-_, _%_, _≤_, _<_}
 use native.Mathlib.Omega.{arith}
 use mathlib.Core.Path.{_≡_, refl, sym, ap, _∙_}
 use mathlib.Core.Bool.{Bool, true, false, cond}
-use mathlib.Core.List.{List, [], _∷_}
-use lib.ListN.{length, getD}
-use lib.Dec.{ltb}
-use borrow.Author.Tests.{ltb-true}
+use mathlib.Core.List.{List, [], _∷_, List·Memᴰ·cases-cons, List·Memᴰ·not-nil, _++_}
+use mathlib.Core.Option.{none, some}
+use lib.ListN.{length, getD, take, drop, set, length-take, length-drop, length-set, length-append}
+use lib.Dec.{ltb, not-T}
+use borrow.Author.Tests.{ltb-true, le-ltb, lt-ltb}
 use Rattle.text.specs.Parts.{part}
-use Rattle.names.specs.Table.{Table, name-of, names-of, look-up, spell-table, entered}
+use Rattle.names.specs.Table.{Table, name-of, names-of, look-up, spell-answer, spell-table, entered}
 use Rattle.names.specs.declared.Found.{Found}
 use Rattle.names.specs.declared.Found.the-variants as found
-use Rattle.names.proofs.Laws.{found-missing}
-use Rattle.names.proofs.Entering.{entered-keeps}
-use Rattle.model.specs.Names.{Name, bytes, ends-with}
+use Rattle.names.specs.declared.Spelled.{Spelled}
+use Rattle.names.specs.declared.Spelled.the-variants as spelled
+use Rattle.names.proofs.Laws.{found-missing, names-length}
+use Rattle.names.proofs.Entering.{entered-keeps, entered-old, entered-new}
+use Rattle.model.specs.Names.{Name, bytes, ends-with, from-list, add, mem}
 use mathlib.Core.Logic.{inl, inr, _⊎_, ⊎-elim}
-use mathlib.Core.List.{map, List·Memᴰ, List·Memᴰ·cases-cons, List·Memᴰ·not-nil}
-use lib.ListN.{take, drop, set, length-take, length-drop, length-set}
 use lib.Seq.{take-take, getD-set-same, getD-set-other}
-use lib.Dec.{T, not-T}
-use lib.ListN.{length-append}
-use mathlib.Core.List.{_++_}
-use borrow.Author.Tests.{le-ltb, lt-ltb}
-use Rattle.model.specs.Lists.{fold-left, sum}
-use Rattle.model.specs.Names.{from-list, add, mem}
+use Rattle.model.specs.Lists.{fold-left, sum, _>>=_}
 use Rattle.model.proofs.ListLaws.{cond-false}
 use Rattle.model.specs.Reading.{spell}
-use Rattle.model.specs.Summaries.{Kinded, Sum-triggers, token-triggers}
-use Rattle.model.specs.declared.AsumKind.{AsumKind}
+use Rattle.model.specs.Summaries.{Sum-triggers, token-triggers}
 use Rattle.model.specs.declared.AsumKind.the-variants as asum
 use Rattle.model.proofs.SetLaws.{same-eq}
-use Rattle.names.proofs.Laws.{names-length}
-use Rattle.names.proofs.Spelling.{Was-known, Is-new, Is-full}
-use Rattle.names.proofs.Entering.{entered-old, entered-new}
+use Rattle.names.proofs.Spelling.{Spelling, spell-law, spelled-known, spelled-new, spelled-full}
 use Rattle.terms.specs.Rows.{words}
 use Rattle.terms.proofs.Table.{words-cons, words-nil}
 use Rattle.gather.specs.Sets.{Same-but}
+use Rattle.gather.specs.Visits.{put}
 use Rattle.gather.proofs.Steps.{same-self, same-set, same-then}
 use Rattle.triggers.specs.Entries.{entry-number, disjuncts-of-words, disjuncts-of, entries, Entries}
+use Rattle.triggers.specs.Filings.{filing}
+use Rattle.summary.specs.declared.Limit.{Limit}
 use Rattle.summary.specs.declared.Limit.the-variants as limit
 use Rattle.summary.specs.declared.Sorted.{Sorted}
 use Rattle.summary.specs.declared.Sorted.the-variants as sorted
 use Rattle.summary.specs.Facts.{token-table}
-use Rattle.summary.specs.Steps.{sorted-end, Filed-kind, Comes-to, kind-filed, names-over, entries-over, Two, both, over, Tokens}
+use Rattle.summary.specs.Steps.{sorted-end, Comes-to, kind-filed, names-over, entries-over, Two, both, over, Tokens, Sorts-as, as-kind, as-over}
+use Rattle.summary.specs.Writing.{spelled-number, token-words, stopped, file-words, file-token}
 
 -- spelling a name changes no word from 8,192 on
 spell-high : {file names : List ℕ} {named : ℕ} → Table file names named → (a e i : ℕ) → 8192 ≤ i
@@ -146,13 +143,24 @@ module _ {file names : List ℕ} {named n x y : ℕ} (table : Table file names n
   token-inside = rw (p, q) (table .inside n l)
 
   -- the token is the part there
-  pub token-part : part file x (x + y) ≡ name-of file names n
+  token-part : part file x (x + y) ≡ name-of file names n
   unfolding name-of
   token-part = rw (p, q) refl
+
+  -- whether it ends in @tok, as a test of that part says
+  pub token-ends : {b v : Bool} → b ≡ ends-with (part file x (x + y)) (bytes "@tok") → b ≡ v → ends-with (name-of file names n) (bytes "@tok") ≡ v
+  token-ends e is = rw (← token-part) (sym e ∙ is)
 
   -- how long it is
   token-length : length (name-of file names n) ≡ y
   token-length = ap length (sym token-part) ∙ (simp (length-take, length-drop) (omega (arith, token-inside)))
+
+  -- a token that is not filed: only the name that it trims to may be entered
+  token-stops : {names′ out out′ : List ℕ} {at : ℕ} {w : Limit} (rows : List ℕ) (mark : ℕ) → names′ ≡ token-table file names named n → out′ ≡ out
+      → file-words (filing (token-table file names named n) rows out (mark + 1) at) (token-words file names named n) ≡ stopped (filing (token-table file names named n) rows out (mark + 1) at)
+      → Sorts-as (file-token file named (filing names rows out (mark + 1) at) n) names′ rows out′ mark at (sorted.Over w)
+  unfolding file-token stopped
+  token-stops rows mark e o s = as-over (rw s refl) (rw s e) (rw s refl) (rw s o)
 
   module _ (yes : ends-with (name-of file names n) (bytes "@tok") ≡ true) where
     -- what spelling the shorter name asks
@@ -204,18 +212,51 @@ module _ {file names : List ℕ} {named n x y : ℕ} (table : Table file names n
         rw e (same-then (same-set at (at + 2 - at) out at (n + 4096) (omega arith) (omega arith)) (same-set at (at + 2 - at) (set out at (n + 4096)) (at + 1) (m + 4096) (omega arith) (omega arith)))
     token-out {out} {at = at} (over past e) = rw e (same-self at (8192 - at) out)
 
-    module _ {names′ out out′ : List ℕ} {at : ℕ} (slice : names′ ≡ spell-table file names named x (x + y - 4) (look-up (names-of file names named) (part file x (x + y - 4)))) (room : 16384 ≤ length out) where
+    -- the entries of a token, by what spelling the shorter name answers
+    token-entries : {s : Spelled} → s ≡ spell-answer named (look-up (names-of file names named) (part file x (x + y - 4)))
+        → token-words file names named n ≡ (spelled-number s >>= λ m. some ((n + 4096) ∷ (m + 4096) ∷ []))
+    unfolding token-words
+    token-entries e = rw (yes, ← p, ← q, ← e) refl
+
+    -- every word after filing a token and the shorter name
+    token-two-as : {names′ out out′ : List ℕ} {total m at : ℕ} {r : Sorted} → names′ ≡ token-table file names named n → token-words file names named n ≡ some ((n + 4096) ∷ (m + 4096) ∷ []) → Two out out′ total n m at r
+        → (rows : List ℕ) (mark : ℕ) → Sorts-as (file-token file named (filing names rows out (mark + 1) at) n) names′ rows out′ mark at r
+    unfolding file-token file-words put
+    token-two-as {m = m} {at} w ws (both fits e) rows mark =
+        let z : mark + 1 + 2 ≡ mark + 1 + (at + 2 - at) = omega arith in
+        as-kind {e = at + 2} (rw (ws, le-ltb 8192 (at + 2) fits, w, e, z) refl)
+    token-two-as {at = at} w ws (over past e) rows mark = token-stops rows mark w e (rw (ws, lt-ltb 8192 (at + 2) past) refl)
+
+    module _ {names′ : List ℕ} {s : Spelled} (answer : s ≡ spell-answer named (look-up (names-of file names named) (part file x (x + y - 4)))) (slice : names′ ≡ spell-table file names named x (x + y - 4) (look-up (names-of file names named) (part file x (x + y - 4)))) where
+      -- what spelling the shorter name says
+      token-spelled : Spelling file names names′ named x (x + y - 4) s
+      token-spelled = spell-law table x (x + y - 4) (token-asks .1) (token-asks .2) names′ s answer slice
+
+      -- the number of a known name
+      pub token-known-small : {m : ℕ} → s ≡ spelled.Known m → m < 2048
+      token-known-small e = omega (arith, spelled-known token-spelled e .number, table .few)
+
+      -- the number of a new one
+      pub token-new-small : {m : ℕ} → s ≡ spelled.New m → m < 2048
+      token-new-small e = let k = spelled-new token-spelled e in omega (arith, k .number, k .few)
+
       -- the shorter name was known
-      pub token-known : {m : ℕ} {r : Sorted} → Was-known file names names′ named x (x + y - 4) m → Two out out′ named n m at r → Tokens file names out names′ out′ named n at r
-      token-known {m} k two = record {
-        name-words = token-slice slice;
-        kinds = rw (k .kept) (token-two table (k .names) (omega arith) (λ i h. refl) (k .named) (k .number) room two);
-        out-same = token-out two;
-      }
+      pub token-known : {out out′ : List ℕ} {m at : ℕ} {r : Sorted} → s ≡ spelled.Known m → 16384 ≤ length out → Two out out′ named n m at r → Tokens file names out names′ out′ named n at r
+      unfolding spelled-number
+      token-known e room two =
+          let k = spelled-known token-spelled e in
+          record {
+            name-words = token-slice slice;
+            kinds = rw (k .kept) (token-two table (k .names) (omega arith) (λ i h. refl) (k .named) (k .number) room two);
+            out-same = token-out two;
+            words-as = token-two-as (token-slice slice) (token-entries answer ∙ rw e refl) two;
+          }
 
       -- it is new
-      pub token-new : {m : ℕ} {r : Sorted} → Is-new file names names′ named x (x + y - 4) m → Two out out′ (named + 1) n m at r → Tokens file names out names′ out′ named n at r
-      token-new {m} k two =
+      pub token-new : {out out′ : List ℕ} {m at : ℕ} {r : Sorted} → s ≡ spelled.New m → 16384 ≤ length out → Two out out′ (named + 1) n m at r → Tokens file names out names′ out′ named n at r
+      unfolding spelled-number
+      token-new e room two =
+          let k = spelled-new token-spelled e in
           let within = k .lacks .within in
           let few = k .few in
           record {
@@ -225,23 +266,27 @@ module _ {file names : List ℕ} {named n x y : ℕ} (table : Table file names n
                 (rw (k .number, k .slice) (entered-new file names named x (x + y - 4) (k .rank) within few (table .room) (token-asks .1)))
                 (omega (arith, k .number)) room two;
             out-same = token-out two;
+            words-as = token-two-as (token-slice slice) (token-entries answer ∙ rw e refl) two;
           }
 
-    -- there is no room for it
-    pub token-full : {names′ out : List ℕ} {at : ℕ} → names′ ≡ spell-table file names named x (x + y - 4) (look-up (names-of file names named) (part file x (x + y - 4)))
-        → Is-full file names names′ named x (x + y - 4) → Tokens file names out names′ out named n at (sorted.Over limit.Names)
-    unfolding sorted-end fold-left spell
-    token-full {out = out} {at} slice k = record {
-      name-words = token-slice slice;
-      kinds = rw (token-yes (name-of file names n) yes)
-          (names-over (rw (
-            ← token-short,
-            cond-false (mem (part file x (x + y - 4)) (names-of file names named)) (names-of file names named) (names-of file names named ++ (part file x (x + y - 4) ∷ [])) (not-T (mem (part file x (x + y - 4)) (names-of file names named)) (k .absent)),
-            length-append,
-            names-length file names named,
-          ) (omega (arith, k .full))));
-      out-same = same-self at (at - at) out;
-    }
+      -- there is no room for it
+      pub token-full : {out : List ℕ} {at : ℕ} → s ≡ spelled.Full → Tokens file names out names′ out named n at (sorted.Over limit.Names)
+      unfolding sorted-end fold-left spell spelled-number file-words
+      token-full {out} {at} e =
+          let k = spelled-full token-spelled e in
+          let ws : token-words file names named n ≡ none = token-entries answer ∙ rw e refl in
+          record {
+            name-words = token-slice slice;
+            kinds = rw (token-yes (name-of file names n) yes)
+                (names-over (rw (
+                  ← token-short,
+                  cond-false (mem (part file x (x + y - 4)) (names-of file names named)) (names-of file names named) (names-of file names named ++ (part file x (x + y - 4) ∷ [])) (not-T (mem (part file x (x + y - 4)) (names-of file names named)) (k .absent)),
+                  length-append,
+                  names-length file names named,
+                ) (omega (arith, k .full))));
+            out-same = same-self at (at - at) out;
+            words-as = λ rows mark. token-stops rows mark (token-slice slice) refl (rw ws refl);
+          }
 
   module _ (no : ends-with (name-of file names n) (bytes "@tok") ≡ false) where
     -- the slice of names stays
@@ -249,9 +294,14 @@ module _ {file names : List ℕ} {named n x y : ℕ} (table : Table file names n
     unfolding token-table
     token-kept = rw no refl
 
+    -- its entry
+    token-entry : token-words file names named n ≡ some ((n + 4096) ∷ [])
+    unfolding token-words
+    token-entry = rw no refl
+
     -- a token alone, filed
     pub token-one : {out : List ℕ} {at : ℕ} → at < 8192 → 16384 ≤ length out → Tokens file names out names (set out at (n + 4096)) named n at (sorted.Kind (asum.Triggers 1) (at + 1) named)
-    unfolding sorted-end fold-left entries sum Sum-triggers
+    unfolding sorted-end fold-left entries sum Sum-triggers file-token file-words put
     token-one {out} {at} h room =
         let few = table .few in
         record {
@@ -269,13 +319,17 @@ module _ {file names : List ℕ} {named n x y : ℕ} (table : Table file names n
                 same-names = λ k h. refl;
               }));
           out-same = same-set at (at + 1 - at) out at (n + 4096) (omega arith) (omega arith);
+          words-as = λ rows mark.
+              let z : mark + 1 + 1 ≡ mark + 1 + (at + 1 - at) = omega arith in
+              as-kind {e = at + 1} (rw (token-entry, le-ltb 8192 (at + 1) (omega arith), ← token-kept, z) refl);
         }
 
     -- there is no room for it
     pub token-over : {out : List ℕ} {at : ℕ} → 8192 ≤ at → Tokens file names out names out named n at (sorted.Over limit.Entries)
-    unfolding sorted-end fold-left entries sum Sum-triggers
+    unfolding sorted-end fold-left entries sum Sum-triggers file-words
     token-over {out} {at} h = record {
       name-words = token-kept;
       kinds = rw (token-no (name-of file names n) no) (entries-over (rw (names-length file names named) (table .few)) (omega arith));
       out-same = same-self at (8192 - at) out;
+      words-as = λ rows mark. token-stops rows mark token-kept refl (rw (token-entry, lt-ltb 8192 (at + 1) (omega arith)) refl);
     }

@@ -4,18 +4,19 @@ use Prim.Native.Nat.{ℕ, _+_, _-_, _≤_, _<_}
 use mathlib.Core.Path.{_≡_}
 use mathlib.Core.Bool.{cond}
 use mathlib.Core.List.{List, map}
-use mathlib.Core.Option.{some}
 use lib.ListN.{length, getD}
+use lib.Dec.{ltb}
 use Rattle.model.specs.Lists.{fold-left}
 use Rattle.model.specs.Names.{Name, bytes, from-list, ends-with}
 use Rattle.model.specs.Reading.{spell}
 use Rattle.model.specs.Summaries.{Kinded, exclude-names, free-top-level-names, summarize-kind}
 use Rattle.text.specs.Parts.{part}
 use Rattle.names.specs.Table.{Table, name-of, names-of, look-up, spell-table}
+use Rattle.names.specs.declared.Found.{Found}
 use Rattle.terms.specs.Rows.{words}
 use Rattle.gather.specs.Sets.{Fresh, Same-but}
 use Rattle.rules.specs.Views.{Tables, terms-in}
-use Rattle.rules.specs.Choices.{kinded, Within}
+use Rattle.rules.specs.Choices.{kind-choice}
 use Rattle.rules.specs.declared.Choice.{Choice}
 use Rattle.rules.specs.declared.Choice.the-variants as choice
 use Rattle.triggers.specs.Entries.{disjuncts-of, entries, Entries}
@@ -40,6 +41,10 @@ module _ (file names refs rows : List ℕ) (named used many name t : ℕ) where
   -- the fact's kind and disjuncts
   unfoldable pub fact-kind : Kinded
   fact-kind = summarize-kind exclude-names (terms-in file names refs rows used many) (name-of file names name) t
+
+  -- what its rule gathers
+  unfoldable pub fact-choice : Choice
+  fact-choice = kind-choice (terms-in file names refs rows used many) rows (name-of file names name) t
 
   -- the fact's free names
   unfoldable pub fact-names : List Name
@@ -78,12 +83,37 @@ module _ (file names refs rows : List ℕ) (named used many name t : ℕ) where
     uses-full : {total : ℕ} → Triggers-of names′ out′ filed total → 6144 < uses + length fact-names
         → Summarizes names′ rows′ out′ mark filed uses (summarized.Over limit.Uses)
 
+  -- the fact's summary, were there no limits
+  unfoldable pub fact-summary : ℕ → ℕ → ℕ → Summary
+  fact-summary mark filed uses =
+      let more = entries (fact-kind .triggers) in
+      record {
+        kind = fact-kind .kind;
+        entries = filed + more;
+        uses = uses + length fact-names;
+        named = length names-then;
+        mark = mark + 2 + more;
+      }
+
+-- a summary, or the first limit that it passes
+unfoldable pub limited : Summary → Summarized
+limited s =
+    cond (ltb 2048 (s .named)) (summarized.Over limit.Names)
+    (cond (ltb 2048 (s .entries)) (summarized.Over limit.Entries)
+    (cond (ltb 6144 (s .uses)) (summarized.Over limit.Uses) (summarized.Done s)))
+
+-- where the name that a token trims to ends in the file
+abbrev pub trimmed-end : List ℕ → ℕ → ℕ
+trimmed-end names n = getD names n 0 + getD names (2048 + n) 0 - 4
+
+-- what looking that name up finds
+abbrev pub trimmed-found : List ℕ → List ℕ → ℕ → ℕ → Found
+trimmed-found file names named n = look-up (names-of file names named) (part file (getD names n 0) (trimmed-end names n))
+
 -- the slice of names with the name that a token ending in @tok trims to
 unfoldable pub token-table : List ℕ → List ℕ → ℕ → ℕ → List ℕ
 token-table file names named n =
-    let a = getD names n 0 in
-    let e = a + getD names (2048 + n) 0 - 4 in
-    let trimmed = spell-table file names named a e (look-up (names-of file names named) (part file a e)) in
+    let trimmed = spell-table file names named (getD names n 0) (trimmed-end names n) (trimmed-found file names named n) in
     cond (ends-with (name-of file names n) (bytes "@tok")) trimmed names
 
 -- the slice of names after a choice: only a token enters a name
@@ -116,13 +146,15 @@ entries-end filed more (summarized.Over limit.Uses) = filed + more
 -- the slices after summarising a fact: in the name table the trimmed token and marks, in the term table marks, in `out` the
 -- places of the fact's free names and of its entries
 pub record Slices (file names refs rows out names′ rows′ out′ : List ℕ) (named used many name t filed uses : ℕ) (r : Summarized) : Type 0 where
-  pub chosen : Choice
-  pub within : Within named many chosen
-  pub decided : kinded (terms-in file names refs rows used many) (name-of file names) chosen ≡ some (fact-kind file names refs rows named used many name t)
-  pub name-words : Same-but 8192 2048 (trimmed-table file names named chosen) names′
+  pub name-words : Same-but 8192 2048 (trimmed-table file names named (fact-choice file names refs rows named used many name t)) names′
   pub row-words : Same-but 12288 4096 rows rows′
   pub out-length : length out′ ≡ length out
   pub out-words : (i : ℕ)
       → (uses ≤ i → i < uses-end uses r → ⊥)
       → (6144 + filed ≤ i → i < 6144 + entries-end filed (entries (fact-kind file names refs rows named used many name t .triggers)) r → ⊥)
       → getD out′ i 0 ≡ getD out i 0
+
+-- two slices that are the same from word 16,384 on
+pub record Past (before after : List ℕ) : Type 0 where
+  pub same-length : length after ≡ length before
+  pub same-words : (i : ℕ) → 16384 ≤ i → getD after i 0 ≡ getD before i 0

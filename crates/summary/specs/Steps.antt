@@ -15,12 +15,14 @@ use Rattle.model.specs.declared.AsumKind.the-variants.{Triggers}
 use Rattle.names.specs.Table.{Table, name-of, names-of}
 use Rattle.terms.specs.Rows.{words, terms-of}
 use Rattle.gather.specs.Sets.{Fresh, Same-but, Named, Gathers, Gathered}
+use Rattle.gather.specs.Visits.{visit-term, Walks-as}
 use Rattle.gather.specs.declared.Walked.{Walked}
 use Rattle.gather.specs.declared.Walked.the-variants as walks
 use Rattle.rules.specs.Views.{terms-in}
 use Rattle.rules.specs.Choices.{kinded}
 use Rattle.rules.specs.declared.Choice.{Choice}
 use Rattle.triggers.specs.Entries.{disjuncts-of, entries, Entries}
+use Rattle.triggers.specs.Filings.{Filing, filing}
 use Rattle.triggers.specs.declared.Filed.{Filed}
 use Rattle.triggers.specs.declared.Filed.the-variants as files
 use Rattle.summary.specs.declared.Limit.{Limit}
@@ -31,6 +33,7 @@ use Rattle.summary.specs.declared.Summary.{Summary}
 use Rattle.summary.specs.declared.Summarized.{Summarized}
 use Rattle.summary.specs.declared.Summarized.the-variants as summarized
 use Rattle.summary.specs.Facts.{token-table, trimmed-table}
+use Rattle.summary.specs.Writing.{file-token}
 
 -- what filing from `at` on asks of the slices
 pub record Begun (names rows out : List ℕ) (mark at : ℕ) : Type 0 where
@@ -72,6 +75,11 @@ pub record Sorts (names rows out names′ rows′ out′ : List ℕ) (named mark
   pub kinds : (name : ℕ → Name) → Named name names named → Kinds name named (k name) at out′ r
   pub marks : Marks names rows out names′ rows′ out′ mark at r
 
+-- the answer and every word of the slices after filing from `at` on under marks after `mark`
+pub data Sorts-as (f : Filing) (names′ rows′ out′ : List ℕ) (mark at : ℕ) : Sorted → Type 0 where
+  as-kind : {a : AsumKind} {e total : ℕ} → f ≡ filing names′ rows′ out′ (mark + 1 + (e - at)) e → Sorts-as f names′ rows′ out′ mark at (sorted.Kind a e total)
+  as-over : {l : Limit} → f .full ≡ true → names′ ≡ f .names → rows′ ≡ f .rows → out′ ≡ f .out → Sorts-as f names′ rows′ out′ mark at (sorted.Over l)
+
 -- what rule 3 makes of a payload
 unfoldable pub refinement-kind : List Term → ℕ → Kinded
 refinement-kind terms t =
@@ -111,6 +119,7 @@ pub record Tokens (file names out names′ out′ : List ℕ) (named n at : ℕ)
   pub name-words : names′ ≡ token-table file names named n
   pub kinds : Comes-to file names names′ out′ named at (token-triggers (name-of file names n)) r
   pub out-same : Same-but at (sorted-end at r - at) out out′
+  pub words-as : (rows : List ℕ) (mark : ℕ) → Sorts-as (file-token file named (filing names rows out (mark + 1) at) n) names′ rows out′ mark at r
 
 -- what filing a choice comes to
 pub record Chooses (file names refs rows out names′ rows′ out′ : List ℕ) (named used many mark at : ℕ) (chosen : Choice) (r : Sorted) : Type 0 where
@@ -130,3 +139,4 @@ pub record Finishes (names refs rows out names′ rows′ out′ : List ℕ) (na
   pub free-names : (name : ℕ → Name) → Named name names named
       → Gathers name named (free-top-level-names exclude-names (terms-of name refs rows used many) t) uses 6144 out′ walked
   pub slices : Gathered names rows out names′ rows′ out′ mark uses 6144 walked
+  pub words-as : Walks-as (visit-term names refs rows used many (6144 - uses) t) names rows out names′ rows′ out′ mark uses walked

@@ -3,16 +3,19 @@ use model::AsumKind;
 use names::Spelled;
 use rules::Choice;
 use triggers::Filed;
-ghost use Prim.Native.Nat.{_+_, _≤_, _<_};
+ghost use Prim.Native.Nat.{ℕ, _+_, _≤_, _<_};
 ghost use mathlib.Core.Path.{_≡_};
 ghost use lib.ListN.{length};
+ghost use Rattle.model.specs.Names.{Name};
 ghost use Rattle.names.specs.Table.{Table};
-ghost use Rattle.terms.specs.Rows.{terms-of, Rows};
-ghost use Rattle.gather.specs.Sets.{Fresh};
+ghost use Rattle.terms.specs.Rows.{row-start, row-end, words, terms-of-words, terms-of, Rows};
+ghost use Rattle.gather.specs.Sets.{Fresh, Named};
 ghost use Rattle.rules.specs.Views.{Tables};
 ghost use Rattle.rules.specs.Choices.{Within};
-ghost use Rattle.summary.specs.Facts.{Asked, Summarizes, Slices};
-ghost use Rattle.summary.specs.Steps.{Begun, Sorts, Two, Tokens, Chooses, Finishes, sorted-of, refinement-kind, parts-kind};
+ghost use Rattle.triggers.specs.Filings.{filing, file-parts};
+ghost use Rattle.summary.specs.Facts.{Asked, fact-summary, limited, Summarizes, Slices, Past};
+ghost use Rattle.summary.specs.Steps.{Begun, Sorts, Sorts-as, Two, Tokens, Chooses, Finishes, sorted-of, refinement-kind, parts-kind};
+ghost use Rattle.summary.specs.Writing.{file-refinement, file-choice, file-fact, Written};
 
 // The limits that a fact may pass, in the order in which they are tried: names, trigger entries, name uses.
 pub enum Limit {
@@ -108,7 +111,8 @@ fn file_refinement(
     at: usize,
 ) -> Sorted
     requires { ⌜ Rows (now refs) (now rows) used many named × Begun (now names) (now rows) (now out) mark at × (t < many) ⌝ }
-    ensures { λ r. ⌜ Sorts (now (names .entry)) (now (rows .entry)) (now (out .entry)) (now (names .exit)) (now (rows .exit)) (now (out .exit)) named mark at (λ name. refinement-kind (terms-of name (now (refs .entry)) (now (rows .entry)) used many) t) r ⌝ }
+    ensures kinds { λ r. ⌜ Sorts (now (names .entry)) (now (rows .entry)) (now (out .entry)) (now (names .exit)) (now (rows .exit)) (now (out .exit)) named mark at (λ name. refinement-kind (terms-of name (now (refs .entry)) (now (rows .entry)) used many) t) r ⌝ }
+    ensures words { λ r. ⌜ ((name : ℕ → Name) → Named name (now (names .entry)) named → Sorts-as (file-refinement (now (refs .entry)) used many (terms-of name (now (refs .entry)) (now (rows .entry)) used many) mark (filing (now (names .entry)) (now (rows .entry)) (now (out .entry)) (mark + 1) at) t) (now (names .exit)) (now (rows .exit)) (now (out .exit)) mark at r) ⌝ }
 {
     if triggers::is_empty(names, refs, rows, out, named, used, many, t, mark, at) {
         return Sorted::Kind(AsumKind::Ambient(true), at, named);
@@ -133,7 +137,8 @@ fn file_parts(
     at: usize,
 ) -> Sorted
     requires { ⌜ Rows (now refs) (now rows) used many named × Begun (now names) (now rows) (now out) mark at × (t < many) ⌝ }
-    ensures { λ r. ⌜ Sorts (now (names .entry)) (now (rows .entry)) (now (out .entry)) (now (names .exit)) (now (rows .exit)) (now (out .exit)) named mark at (λ name. parts-kind (terms-of name (now (refs .entry)) (now (rows .entry)) used many) t) r ⌝ }
+    ensures kinds { λ r. ⌜ Sorts (now (names .entry)) (now (rows .entry)) (now (out .entry)) (now (names .exit)) (now (rows .exit)) (now (out .exit)) named mark at (λ name. parts-kind (terms-of name (now (refs .entry)) (now (rows .entry)) used many) t) r ⌝ }
+    ensures words { λ r. ⌜ Sorts-as (file-parts (now (refs .entry)) used many (filing (now (names .entry)) (now (rows .entry)) (now (out .entry)) (mark + 1) at) (terms-of-words (words (now (refs .entry)) (row-start (now (rows .entry)) t) (row-end (now (rows .entry)) used many t)))) (now (names .exit)) (now (rows .exit)) (now (out .exit)) mark at r ⌝ }
 {
     let a = terms::start(rows, t);
     let e = terms::end(rows, used, many, t);
@@ -170,7 +175,8 @@ fn file_choice(
     at: usize,
 ) -> Sorted
     requires { ⌜ Tables (now file) (now names) (now refs) (now rows) named used many × Within named many choice × Begun (now names) (now rows) (now out) mark at ⌝ }
-    ensures { λ r. ⌜ Chooses (now (file .entry)) (now (names .entry)) (now (refs .entry)) (now (rows .entry)) (now (out .entry)) (now (names .exit)) (now (rows .exit)) (now (out .exit)) named used many mark at choice r ⌝ }
+    ensures kinds { λ r. ⌜ Chooses (now (file .entry)) (now (names .entry)) (now (refs .entry)) (now (rows .entry)) (now (out .entry)) (now (names .exit)) (now (rows .exit)) (now (out .exit)) named used many mark at choice r ⌝ }
+    ensures words { λ r. ⌜ Sorts-as (file-choice (now (refs .entry)) used many (now (file .entry)) named mark (filing (now (names .entry)) (now (rows .entry)) (now (out .entry)) (mark + 1) at) choice) (now (names .exit)) (now (rows .exit)) (now (out .exit)) mark at r ⌝ }
 {
     match choice {
         Choice::No => Sorted::Kind(AsumKind::Drop, at, named),
@@ -271,6 +277,9 @@ pub fn summarize_assumption(
     requires { ⌜ Asked (now file) (now names) (now refs) (now rows) (now out) named used many name t mark entries uses ⌝ }
     ensures summary { λ r. ⌜ Summarizes (now (file .entry)) (now (names .entry)) (now (refs .entry)) (now (rows .entry)) named used many name t (now (names .exit)) (now (rows .exit)) (now (out .exit)) mark entries uses r ⌝ }
     ensures slices { λ r. ⌜ Slices (now (file .entry)) (now (names .entry)) (now (refs .entry)) (now (rows .entry)) (now (out .entry)) (now (names .exit)) (now (rows .exit)) (now (out .exit)) named used many name t entries uses r ⌝ }
+    ensures words { λ r. ⌜ Written (file-fact (now (refs .entry)) used many (now (file .entry)) (now (names .entry)) (now (rows .entry)) (now (out .entry)) named name t mark entries uses) (now (names .exit)) (now (rows .exit)) (now (out .exit)) ⌝ }
+    ensures answer { λ r. ⌜ r ≡ limited (fact-summary (now (file .entry)) (now (names .entry)) (now (refs .entry)) (now (rows .entry)) named used many name t mark entries uses) ⌝ }
+    ensures past { λ r. ⌜ Past (now (names .entry)) (now (names .exit)) × Past (now (rows .entry)) (now (rows .exit)) × Past (now (out .entry)) (now (out .exit)) ⌝ }
 {
     let choice = rules::summarize_kind(file, names, refs, rows, named, used, many, name, t);
     let at = 6144 + entries;

@@ -35,7 +35,7 @@ same-length-3 c = search needs
 returns : tie.Need-returns
 returns c =
     let made = summarizes-done (c .before .before .before .before .before .before .before .before .before .before .before .before .summarize-assumption .ensures .0) (c .before .before .before .before .s .given .1) in
-    goes-fact (c .before .before .before .before .before .before .before .before .before .before .before .before .before .before .before .before .before .before .before .before .before .pre .0) (c .before .before .before .before .before .before .before .before .before .before .before .before .summarize-assumption .ensures .1 .row-words) made
+    goes-fact (c .before .before .before .before .before .before .before .before .before .before .before .before .before .before .before .before .before .before .before .before .before .pre .0) (c .before .before .before .before .before .before .before .before .before .before .before .before .summarize-assumption .ensures .1 .0 .row-words) made
 
 same-length-4 : tie.Need-same-length-4
 same-length-4 c = search needs

@@ -1,5 +1,6 @@
 -- `summary::file_choice` meets its contract, choice by choice.
-use Rattle.summary.proofs.Sorting.{begun-next}
+use native.Mathlib.Omega.{arith}
+use Rattle.summary.proofs.Sorting.{begun-opened}
 use Rattle.summary.proofs.Choosing.{within-one, within-two, within-groups, within-refinement, within-token, within-parts, choose-no, choose-one, choose-two, choose-groups, choose-refinement, choose-token, choose-nothing, choose-parts, choose-drop, choose-ambient}
 use borrow.Author.Needs.{needs}
 use Rattle.summary.proofs.file_choice.Statement.{statement}
@@ -15,7 +16,7 @@ add-file-term : tie.Need-add-file-term
 add-file-term c = search needs
 
 file-term-requires : tie.Need-file-term-requires
-file-term-requires c κs = (c .before .before .before .before .before .before .before .before .before .before .before .pre .0 .term-table, begun-next (c .before .before .before .before .before .before .before .before .before .before .before .pre .2), within-one (c .before .before .before .before .before .before .before .before .before .before .before .args .named) (c .before .before .before .before .before .before .before .before .before .before .before .args .many) (c .before .before .before .before .choice .given .1) (c .before .before .before .before .before .before .before .before .before .before .before .pre .1))
+file-term-requires c κs = (c .before .before .before .before .before .before .before .before .before .before .before .pre .0 .term-table, begun-opened (c .before .before .before .before .before .before .before .before .before .before .before .pre .2) (omega arith) (omega arith), within-one (c .before .before .before .before .before .before .before .before .before .before .before .args .named) (c .before .before .before .before .before .before .before .before .before .before .before .args .many) (c .before .before .before .before .choice .given .1) (c .before .before .before .before .before .before .before .before .before .before .before .pre .1))
 
 filed-requires : tie.Need-filed-requires
 filed-requires c κs = search needs
@@ -27,7 +28,7 @@ add-file-terms : tie.Need-add-file-terms
 add-file-terms c = search needs
 
 file-terms-requires : tie.Need-file-terms-requires
-file-terms-requires c κs = (c .before .before .before .before .before .before .before .before .before .before .before .pre .0 .term-table, begun-next (c .before .before .before .before .before .before .before .before .before .before .before .pre .2), within-two (c .before .before .before .before .before .before .before .before .before .before .before .args .named) (c .before .before .before .before .before .before .before .before .before .before .before .args .many) (c .before .before .before .before .choice2 .given .1) (c .before .before .before .before .before .before .before .before .before .before .before .pre .1) .0, within-two (c .before .before .before .before .before .before .before .before .before .before .before .args .named) (c .before .before .before .before .before .before .before .before .before .before .before .args .many) (c .before .before .before .before .choice2 .given .1) (c .before .before .before .before .before .before .before .before .before .before .before .pre .1) .1)
+file-terms-requires c κs = (c .before .before .before .before .before .before .before .before .before .before .before .pre .0 .term-table, begun-opened (c .before .before .before .before .before .before .before .before .before .before .before .pre .2) (omega arith) (omega arith), within-two (c .before .before .before .before .before .before .before .before .before .before .before .args .named) (c .before .before .before .before .before .before .before .before .before .before .before .args .many) (c .before .before .before .before .choice2 .given .1) (c .before .before .before .before .before .before .before .before .before .before .before .pre .1) .0, within-two (c .before .before .before .before .before .before .before .before .before .before .before .args .named) (c .before .before .before .before .before .before .before .before .before .before .before .args .many) (c .before .before .before .before .choice2 .given .1) (c .before .before .before .before .before .before .before .before .before .before .before .pre .1) .1)
 
 filed-requires-2 : tie.Need-filed-requires-2
 filed-requires-2 c κs = search needs
@@ -39,7 +40,7 @@ add-triggers-of-term : tie.Need-add-triggers-of-term
 add-triggers-of-term c = search needs
 
 triggers-of-term-requires : tie.Need-triggers-of-term-requires
-triggers-of-term-requires c κs = (c .before .before .before .before .before .before .before .before .before .before .before .pre .0 .term-table, begun-next (c .before .before .before .before .before .before .before .before .before .before .before .pre .2), within-groups (c .before .before .before .before .before .before .before .before .before .before .before .args .named) (c .before .before .before .before .before .before .before .before .before .before .before .args .many) (c .before .before .before .before .choice3 .given .1) (c .before .before .before .before .before .before .before .before .before .before .before .pre .1))
+triggers-of-term-requires c κs = (c .before .before .before .before .before .before .before .before .before .before .before .pre .0 .term-table, begun-opened (c .before .before .before .before .before .before .before .before .before .before .before .pre .2) (omega arith) (omega arith), within-groups (c .before .before .before .before .before .before .before .before .before .before .before .args .named) (c .before .before .before .before .before .before .before .before .before .before .before .args .many) (c .before .before .before .before .choice3 .given .1) (c .before .before .before .before .before .before .before .before .before .before .before .pre .1))
 
 filed-requires-3 : tie.Need-filed-requires-3
 filed-requires-3 c κs = search needs
@@ -84,7 +85,7 @@ same-length-3 : tie.Need-same-length-3
 same-length-3 c = search needs
 
 returns-2 : tie.Need-returns-2
-returns-2 c = choose-one (c .before .before .before .before .before .before .before .before .before .before .before .before .before .before .before .before .before .before .before .pre .0) (c .before .before .before .before .before .before .before .before .before .before .before .before .choice .given .1) (c .before .before .before .before .before .before .before .file-term .ensures .0) (c .before .before .before .before .before .before .before .file-term .ensures .1) (c .filed .ensures)
+returns-2 c = choose-one (c .before .before .before .before .before .before .before .before .before .before .before .before .before .before .before .before .before .before .before .pre .0) (c .before .before .before .before .before .before .before .before .before .before .before .before .choice .given .1) (c .before .before .before .before .before .before .before .file-term .ensures .0) (c .before .before .before .before .before .before .before .file-term .ensures .1 .0) (c .before .before .before .before .before .before .before .file-term .ensures .1 .1) (c .filed .ensures)
 
 same-length-4 : tie.Need-same-length-4
 same-length-4 c = search needs
@@ -96,7 +97,7 @@ same-length-6 : tie.Need-same-length-6
 same-length-6 c = search needs
 
 returns-3 : tie.Need-returns-3
-returns-3 c = choose-two (c .before .before .before .before .before .before .before .before .before .before .before .before .before .before .before .before .before .before .before .pre .0) (c .before .before .before .before .before .before .before .before .before .before .before .before .choice2 .given .1) (c .before .before .before .before .before .before .before .file-terms .ensures .0) (c .before .before .before .before .before .before .before .file-terms .ensures .1) (c .filed2 .ensures)
+returns-3 c = choose-two (c .before .before .before .before .before .before .before .before .before .before .before .before .before .before .before .before .before .before .before .pre .0) (c .before .before .before .before .before .before .before .before .before .before .before .before .choice2 .given .1) (c .before .before .before .before .before .before .before .file-terms .ensures .0) (c .before .before .before .before .before .before .before .file-terms .ensures .1 .0) (c .before .before .before .before .before .before .before .file-terms .ensures .1 .1) (c .filed2 .ensures)
 
 same-length-7 : tie.Need-same-length-7
 same-length-7 c = search needs
@@ -108,7 +109,7 @@ same-length-9 : tie.Need-same-length-9
 same-length-9 c = search needs
 
 returns-4 : tie.Need-returns-4
-returns-4 c = choose-groups (c .before .before .before .before .before .before .before .before .before .before .before .before .before .before .before .before .before .before .before .pre .0) (c .before .before .before .before .before .before .before .before .before .before .before .before .choice3 .given .1) (c .before .before .before .before .before .before .before .triggers-of-term .ensures .0) (c .before .before .before .before .before .before .before .triggers-of-term .ensures .1) (c .filed3 .ensures)
+returns-4 c = choose-groups (c .before .before .before .before .before .before .before .before .before .before .before .before .before .before .before .before .before .before .before .pre .0) (c .before .before .before .before .before .before .before .before .before .before .before .before .choice3 .given .1) (c .before .before .before .before .before .before .before .triggers-of-term .ensures .0) (c .before .before .before .before .before .before .before .triggers-of-term .ensures .1 .0) (c .before .before .before .before .before .before .before .triggers-of-term .ensures .1 .1) (c .filed3 .ensures)
 
 same-length-10 : tie.Need-same-length-10
 same-length-10 c = search needs
@@ -120,7 +121,7 @@ same-length-12 : tie.Need-same-length-12
 same-length-12 c = search needs
 
 returns-5 : tie.Need-returns-5
-returns-5 c = choose-refinement (c .before .before .before .before .before .before .before .before .before .before .before .before .before .before .before .before .before .before .pre .0) (c .before .before .before .before .before .before .before .before .before .before .before .choice4 .given .1) (c .before .before .before .before .before .before .file-refinement .ensures)
+returns-5 c = choose-refinement (c .before .before .before .before .before .before .before .before .before .before .before .before .before .before .before .before .before .before .pre .0) (c .before .before .before .before .before .before .before .before .before .before .before .choice4 .given .1) (c .before .before .before .before .before .before .file-refinement .ensures .0) (c .before .before .before .before .before .before .file-refinement .ensures .1)
 
 same-length-13 : tie.Need-same-length-13
 same-length-13 c = search needs
@@ -144,7 +145,7 @@ same-length-17 : tie.Need-same-length-17
 same-length-17 c = search needs
 
 returns-8 : tie.Need-returns-8
-returns-8 c = choose-parts (c .before .before .before .before .before .before .before .before .before .before .before .before .before .before .before .before .before .before .pre .0) (c .before .before .before .before .before .before .before .before .before .before .before .choice6 .given .1) (c .before .before .before .before .before .before .file-parts .ensures)
+returns-8 c = choose-parts (c .before .before .before .before .before .before .before .before .before .before .before .before .before .before .before .before .before .before .pre .0) (c .before .before .before .before .before .before .before .before .before .before .before .choice6 .given .1) (c .before .before .before .before .before .before .file-parts .ensures .0) (c .before .before .before .before .before .before .file-parts .ensures .1)
 
 returns-9 : tie.Need-returns-9
 returns-9 c = choose-drop (c .before .before .before .before .before .before .before .pre .0) (c .before .before .before .before .before .before .before .pre .2) (c .enum-told3 .given .1)

@@ -1,5 +1,6 @@
 -- `summary::file_parts` meets its contract: the terms that an `and` names are those of its reference words.
-use Rattle.summary.proofs.Sorting.{begun-next, parts-asks, parts-sorts}
+use native.Mathlib.Omega.{arith}
+use Rattle.summary.proofs.Sorting.{begun-opened, parts-asks, parts-sorts}
 use borrow.Author.Needs.{needs}
 use Rattle.summary.proofs.file_parts.Statement.{statement}
 use Rattle.summary.proofs.file_parts.Tie as tie
@@ -17,7 +18,7 @@ triggers-of-list-requires : tie.Need-triggers-of-list-requires
 triggers-of-list-requires c κs =
     let start = c .before .before .before .before .before .before .before .before .before .before .before in
     let asks = parts-asks (start .pre .0) (start .pre .2) (c .before .before .before .before .before .start .ensures) (c .before .before .before .end .ensures) in
-    (start .pre .0, begun-next (start .pre .1), asks .0, asks .1, asks .2)
+    (start .pre .0, begun-opened (start .pre .1) (omega arith) (omega arith), asks .0, asks .1, asks .2)
 
 filed-requires : tie.Need-filed-requires
 filed-requires c κs = search needs
@@ -25,16 +26,16 @@ filed-requires c κs = search needs
 returns : tie.Need-returns
 returns c =
     let start = c .before .before .before .before .before .before .before .before .before .before .before .before .before .before .before .before .before .before .before in
-    parts-sorts (start .args .t) (start .pre .0) (start .pre .2) (c .before .before .before .before .before .before .before .before .before .before .before .before .before .start .ensures) (c .before .before .before .before .before .before .before .before .before .before .before .end .ensures) (c .before .before .before .before .before .before .before .triggers-of-list .ensures .0) (c .before .before .before .before .before .before .before .triggers-of-list .ensures .1) (c .filed .ensures)
+    parts-sorts (start .args .t) (start .pre .0) (start .pre .2) (c .before .before .before .before .before .before .before .before .before .before .before .before .before .start .ensures) (c .before .before .before .before .before .before .before .before .before .before .before .end .ensures) (c .before .before .before .before .before .before .before .triggers-of-list .ensures .0) (c .before .before .before .before .before .before .before .triggers-of-list .ensures .1 .0) (c .before .before .before .before .before .before .before .triggers-of-list .ensures .1 .1) (c .filed .ensures)
 
 same-length : tie.Need-same-length
-same-length c = returns c .marks .names-same .same-length
+same-length c = returns c .0 .marks .names-same .same-length
 
 same-length-2 : tie.Need-same-length-2
-same-length-2 c = returns c .marks .rows-same .same-length
+same-length-2 c = returns c .0 .marks .rows-same .same-length
 
 same-length-3 : tie.Need-same-length-3
-same-length-3 c = returns c .marks .out-same .same-length
+same-length-3 c = returns c .0 .marks .out-same .same-length
 
 pub file-parts-spec : {M : Type 1} → statement M
 file-parts-spec =

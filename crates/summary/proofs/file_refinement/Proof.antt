@@ -1,4 +1,5 @@
 -- `summary::file_refinement` meets its contract: a look at the payload's triggers, then they are filed.
+use native.Mathlib.Omega.{arith}
 use Rattle.gather.proofs.Walking.{rows-marked}
 use Rattle.summary.proofs.Sorting.{begun-opened, begun-then, refinement-empty, refinement-more}
 use borrow.Author.Needs.{needs}
@@ -6,7 +7,7 @@ use Rattle.summary.proofs.file_refinement.Statement.{statement}
 use Rattle.summary.proofs.file_refinement.Tie as tie
 
 is-empty-requires : tie.Need-is-empty-requires
-is-empty-requires c κs = (c .before .before .before .before .before .before .before .pre .0, begun-opened (c .before .before .before .before .before .before .before .pre .1), c .before .before .before .before .before .before .before .pre .2)
+is-empty-requires c κs = (c .before .before .before .before .before .before .before .pre .0, begun-opened (c .before .before .before .before .before .before .before .pre .1) (omega arith) (omega arith), c .before .before .before .before .before .before .before .pre .2)
 
 returns : tie.Need-returns
 returns c = refinement-empty (c .before .before .before .before .before .before .before .before .before .before .before .before .before .before .before .args .t) (c .before .before .before .before .before .before .before .before .before .before .before .before .before .before .before .pre .0) (c .before .before .before .before .before .before .before .is-empty .ensures .0) (c .before .before .before .before .before .before .before .is-empty .ensures .1 .0) (c .before .before .before .before .before .before .before .is-empty .ensures .1 .1) (c .if1 .taken) (c .before .before .before .before .before .before .before .before .before .before .before .before .before .before .before .pre .1 .low)
@@ -15,31 +16,31 @@ add-triggers-of-term : tie.Need-add-triggers-of-term
 add-triggers-of-term c = search needs
 
 triggers-of-term-requires : tie.Need-triggers-of-term-requires
-triggers-of-term-requires c κs = (rows-marked (c .before .before .before .before .before .before .before .before .before .before .is-empty .ensures .1 .0 .1) (c .before .before .before .before .before .before .before .before .before .before .before .before .before .before .before .before .before .before .pre .0), begun-then (c .before .before .before .before .before .before .before .before .before .before .before .before .before .before .before .before .before .before .pre .1) (c .before .before .before .before .before .before .before .before .before .before .is-empty .ensures .1 .0) (c .before .before .before .before .before .before .before .before .before .before .is-empty .ensures .1 .1), c .before .before .before .before .before .before .before .before .before .before .before .before .before .before .before .before .before .before .pre .2)
+triggers-of-term-requires c κs = (rows-marked (c .before .before .before .before .before .before .before .before .before .before .is-empty .ensures .1 .0 .1) (c .before .before .before .before .before .before .before .before .before .before .before .before .before .before .before .before .before .before .pre .0), begun-then (c .before .before .before .before .before .before .before .before .before .before .before .before .before .before .before .before .before .before .pre .1) (c .before .before .before .before .before .before .before .before .before .before .is-empty .ensures .1 .0) (c .before .before .before .before .before .before .before .before .before .before .is-empty .ensures .1 .1 .2), c .before .before .before .before .before .before .before .before .before .before .before .before .before .before .before .before .before .before .pre .2)
 
 filed-requires : tie.Need-filed-requires
 filed-requires c κs = search needs
 
 returns-2 : tie.Need-returns-2
-returns-2 c = refinement-more (c .before .before .before .before .before .before .before .before .before .before .before .before .before .before .before .before .before .before .before .before .before .before .before .before .before .before .args .t) (c .before .before .before .before .before .before .before .before .before .before .before .before .before .before .before .before .before .before .before .before .before .before .before .before .before .before .pre .0) (c .before .before .before .before .before .before .before .before .before .before .before .before .before .before .before .before .before .before .is-empty .ensures .0) (c .before .before .before .before .before .before .before .before .before .before .before .before .before .before .before .before .before .before .is-empty .ensures .1 .0) (c .before .before .before .before .before .before .before .before .before .before .before .before .before .before .before .before .before .before .is-empty .ensures .1 .1) (c .before .before .before .before .before .before .before .before .before .before .before .if1 .left) (c .before .before .before .before .before .before .before .triggers-of-term .ensures .0) (c .before .before .before .before .before .before .before .triggers-of-term .ensures .1) (c .filed .ensures)
+returns-2 c = refinement-more (c .before .before .before .before .before .before .before .before .before .before .before .before .before .before .before .before .before .before .before .before .before .before .before .before .before .before .args .t) (c .before .before .before .before .before .before .before .before .before .before .before .before .before .before .before .before .before .before .before .before .before .before .before .before .before .before .pre .0) (c .before .before .before .before .before .before .before .before .before .before .before .before .before .before .before .before .before .before .is-empty .ensures .0) (c .before .before .before .before .before .before .before .before .before .before .before .before .before .before .before .before .before .before .is-empty .ensures .1 .0) (c .before .before .before .before .before .before .before .before .before .before .before .before .before .before .before .before .before .before .is-empty .ensures .1 .1) (c .before .before .before .before .before .before .before .before .before .before .before .if1 .left) (c .before .before .before .before .before .before .before .triggers-of-term .ensures .0) (c .before .before .before .before .before .before .before .triggers-of-term .ensures .1 .0) (c .before .before .before .before .before .before .before .triggers-of-term .ensures .1 .1) (c .filed .ensures)
 
 same-length : tie.Need-same-length
-same-length c = returns c .marks .names-same .same-length
+same-length c = returns c .0 .marks .names-same .same-length
 
 same-length-2 : tie.Need-same-length-2
-same-length-2 c = returns c .marks .rows-same .same-length
+same-length-2 c = returns c .0 .marks .rows-same .same-length
 
 same-length-3 : tie.Need-same-length-3
-same-length-3 c = returns c .marks .out-same .same-length
+same-length-3 c = returns c .0 .marks .out-same .same-length
 
 same-length-4 : tie.Need-same-length-4
-same-length-4 c = returns-2 c .marks .names-same .same-length
+same-length-4 c = returns-2 c .0 .marks .names-same .same-length
 
 same-length-5 : tie.Need-same-length-5
-same-length-5 c = returns-2 c .marks .rows-same .same-length
+same-length-5 c = returns-2 c .0 .marks .rows-same .same-length
 
 same-length-6 : tie.Need-same-length-6
-same-length-6 c = returns-2 c .marks .out-same .same-length
+same-length-6 c = returns-2 c .0 .marks .out-same .same-length
 
 pub file-refinement-spec : {M : Type 1} → statement M
 file-refinement-spec =

@@ -1,10 +1,8 @@
 -- `summary::file_token` meets its contract: the token, and the name that it trims to.
 use native.Mathlib.Omega.{arith}
-use mathlib.Core.Path.{sym, ap, _∙_}
 use borrow.Author.Tests.{not-false, not-true}
-use Rattle.model.specs.Names.{bytes, ends-with}
-use Rattle.names.proofs.Spelling.{spell-law, spelled-known, spelled-new, spelled-full}
-use Rattle.summary.proofs.Token.{token-inside, token-part, token-asks, token-one, token-over, token-known, token-new, token-full}
+use Rattle.model.specs.Names.{bytes}
+use Rattle.summary.proofs.Token.{token-inside, token-ends, token-asks, token-one, token-over, token-known-small, token-new-small, token-known, token-new, token-full}
 use borrow.Author.Needs.{needs}
 use Rattle.summary.proofs.file_token.Statement.{statement}
 use Rattle.summary.proofs.file_token.Tie as tie
@@ -29,7 +27,9 @@ ends-with-requires c κs = (omega arith, token-inside (c .before .before .before
 
 returns : tie.Need-returns
 unfolding bytes
-returns c = token-over (c .before .before .before .before .before .before .before .before .before .before .before .pre .0) (c .before .before .before .before .before .before .before .before .before .before .before .pre .1) (c .before .before .before .before .before .before .at .ensures) (c .before .before .before .before .at2 .ensures) (sym (c .before .before .ends-with .ensures ∙ ap (λ t. ends-with t (bytes "@tok")) (token-part (c .before .before .before .before .before .before .before .before .before .before .before .pre .0) (c .before .before .before .before .before .before .before .before .before .before .before .pre .1) (c .before .before .before .before .before .before .at .ensures) (c .before .before .before .before .at2 .ensures))) ∙ not-true _ (c .before .if1 .taken)) (c .if2 .taken)
+returns c =
+    let no = token-ends (c .before .before .before .before .before .before .before .before .before .before .before .pre .0) (c .before .before .before .before .before .before .before .before .before .before .before .pre .1) (c .before .before .before .before .before .before .at .ensures) (c .before .before .before .before .at2 .ensures) (c .before .before .ends-with .ensures) (not-true _ (c .before .if1 .taken)) in
+    token-over (c .before .before .before .before .before .before .before .before .before .before .before .pre .0) (c .before .before .before .before .before .before .before .before .before .before .before .pre .1) (c .before .before .before .before .before .before .at .ensures) (c .before .before .before .before .at2 .ensures) no (c .if2 .taken)
 
 add-out : tie.Need-add-out
 add-out c = search needs
@@ -48,22 +48,30 @@ add-t24 c = search needs
 
 returns-2 : tie.Need-returns-2
 unfolding bytes
-returns-2 c = token-one (c .before .before .before .before .before .before .before .before .before .before .before .pre .0) (c .before .before .before .before .before .before .before .before .before .before .before .pre .1) (c .before .before .before .before .before .before .at .ensures) (c .before .before .before .before .at2 .ensures) (sym (c .before .before .ends-with .ensures ∙ ap (λ t. ends-with t (bytes "@tok")) (token-part (c .before .before .before .before .before .before .before .before .before .before .before .pre .0) (c .before .before .before .before .before .before .before .before .before .before .before .pre .1) (c .before .before .before .before .before .before .at .ensures) (c .before .before .before .before .at2 .ensures))) ∙ not-true _ (c .before .if1 .taken)) (c .if2 .left) (c .before .before .before .before .before .before .before .before .before .before .before .pre .3)
+returns-2 c =
+    let no = token-ends (c .before .before .before .before .before .before .before .before .before .before .before .pre .0) (c .before .before .before .before .before .before .before .before .before .before .before .pre .1) (c .before .before .before .before .before .before .at .ensures) (c .before .before .before .before .at2 .ensures) (c .before .before .ends-with .ensures) (not-true _ (c .before .if1 .taken)) in
+    token-one (c .before .before .before .before .before .before .before .before .before .before .before .pre .0) (c .before .before .before .before .before .before .before .before .before .before .before .pre .1) (c .before .before .before .before .before .before .at .ensures) (c .before .before .before .before .at2 .ensures) no (c .if2 .left) (c .before .before .before .before .before .before .before .before .before .before .before .pre .3)
 
 sub-spell : tie.Need-sub-spell
 unfolding bytes
-sub-spell c = token-asks (c .before .before .before .before .before .before .before .before .before .before .before .pre .0) (c .before .before .before .before .before .before .before .before .before .before .before .pre .1) (c .before .before .before .before .before .before .at .ensures) (c .before .before .before .before .at2 .ensures) (sym (c .before .before .ends-with .ensures ∙ ap (λ t. ends-with t (bytes "@tok")) (token-part (c .before .before .before .before .before .before .before .before .before .before .before .pre .0) (c .before .before .before .before .before .before .before .before .before .before .before .pre .1) (c .before .before .before .before .before .before .at .ensures) (c .before .before .before .before .at2 .ensures))) ∙ not-false _ (c .before .if1 .left)) .0
+sub-spell c =
+    let yes = token-ends (c .before .before .before .before .before .before .before .before .before .before .before .pre .0) (c .before .before .before .before .before .before .before .before .before .before .before .pre .1) (c .before .before .before .before .before .before .at .ensures) (c .before .before .before .before .at2 .ensures) (c .before .before .ends-with .ensures) (not-false _ (c .before .if1 .left)) in
+    token-asks (c .before .before .before .before .before .before .before .before .before .before .before .pre .0) (c .before .before .before .before .before .before .before .before .before .before .before .pre .1) (c .before .before .before .before .before .before .at .ensures) (c .before .before .before .before .at2 .ensures) yes .0
 
 spell-requires : tie.Need-spell-requires
 unfolding bytes
-spell-requires c κs = (c .before .before .before .before .before .before .before .before .before .before .before .pre .0, token-asks (c .before .before .before .before .before .before .before .before .before .before .before .pre .0) (c .before .before .before .before .before .before .before .before .before .before .before .pre .1) (c .before .before .before .before .before .before .at .ensures) (c .before .before .before .before .at2 .ensures) (sym (c .before .before .ends-with .ensures ∙ ap (λ t. ends-with t (bytes "@tok")) (token-part (c .before .before .before .before .before .before .before .before .before .before .before .pre .0) (c .before .before .before .before .before .before .before .before .before .before .before .pre .1) (c .before .before .before .before .before .before .at .ensures) (c .before .before .before .before .at2 .ensures))) ∙ not-false _ (c .before .if1 .left)) .1, token-asks (c .before .before .before .before .before .before .before .before .before .before .before .pre .0) (c .before .before .before .before .before .before .before .before .before .before .before .pre .1) (c .before .before .before .before .before .before .at .ensures) (c .before .before .before .before .at2 .ensures) (sym (c .before .before .ends-with .ensures ∙ ap (λ t. ends-with t (bytes "@tok")) (token-part (c .before .before .before .before .before .before .before .before .before .before .before .pre .0) (c .before .before .before .before .before .before .before .before .before .before .before .pre .1) (c .before .before .before .before .before .before .at .ensures) (c .before .before .before .before .at2 .ensures))) ∙ not-false _ (c .before .if1 .left)) .2)
+spell-requires c κs =
+    let yes = token-ends (c .before .before .before .before .before .before .before .before .before .before .before .pre .0) (c .before .before .before .before .before .before .before .before .before .before .before .pre .1) (c .before .before .before .before .before .before .at .ensures) (c .before .before .before .before .at2 .ensures) (c .before .before .ends-with .ensures) (not-false _ (c .before .if1 .left)) in
+    (c .before .before .before .before .before .before .before .before .before .before .before .pre .0, token-asks (c .before .before .before .before .before .before .before .before .before .before .before .pre .0) (c .before .before .before .before .before .before .before .before .before .before .before .pre .1) (c .before .before .before .before .before .before .at .ensures) (c .before .before .before .before .at2 .ensures) yes .1, token-asks (c .before .before .before .before .before .before .before .before .before .before .before .pre .0) (c .before .before .before .before .before .before .before .before .before .before .before .pre .1) (c .before .before .before .before .before .before .at .ensures) (c .before .before .before .before .at2 .ensures) yes .2)
 
 enum-known-m : tie.Need-enum-known-m
 enum-known-m c = search needs
 
 put-two-requires : tie.Need-put-two-requires
 unfolding bytes
-put-two-requires c κs = (omega (arith, c .before .before .before .before .before .before .before .before .before .before .before .before .before .before .before .before .before .before .pre .1, c .before .before .before .before .before .before .before .before .before .before .before .before .before .before .before .before .before .before .pre .0 .few), omega (arith, spelled-known (spell-law (c .before .before .before .before .before .before .before .before .before .before .before .before .before .before .before .before .before .before .pre .0) _ _ (token-asks (c .before .before .before .before .before .before .before .before .before .before .before .before .before .before .before .before .before .before .pre .0) (c .before .before .before .before .before .before .before .before .before .before .before .before .before .before .before .before .before .before .pre .1) (c .before .before .before .before .before .before .before .before .before .before .before .before .before .at .ensures) (c .before .before .before .before .before .before .before .before .before .before .before .at2 .ensures) (sym (c .before .before .before .before .before .before .before .before .before .ends-with .ensures ∙ ap (λ t. ends-with t (bytes "@tok")) (token-part (c .before .before .before .before .before .before .before .before .before .before .before .before .before .before .before .before .before .before .pre .0) (c .before .before .before .before .before .before .before .before .before .before .before .before .before .before .before .before .before .before .pre .1) (c .before .before .before .before .before .before .before .before .before .before .before .before .before .at .ensures) (c .before .before .before .before .before .before .before .before .before .before .before .at2 .ensures))) ∙ not-false _ (c .before .before .before .before .before .before .before .before .if1 .left)) .1) (token-asks (c .before .before .before .before .before .before .before .before .before .before .before .before .before .before .before .before .before .before .pre .0) (c .before .before .before .before .before .before .before .before .before .before .before .before .before .before .before .before .before .before .pre .1) (c .before .before .before .before .before .before .before .before .before .before .before .before .before .at .ensures) (c .before .before .before .before .before .before .before .before .before .before .before .at2 .ensures) (sym (c .before .before .before .before .before .before .before .before .before .ends-with .ensures ∙ ap (λ t. ends-with t (bytes "@tok")) (token-part (c .before .before .before .before .before .before .before .before .before .before .before .before .before .before .before .before .before .before .pre .0) (c .before .before .before .before .before .before .before .before .before .before .before .before .before .before .before .before .before .before .pre .1) (c .before .before .before .before .before .before .before .before .before .before .before .before .before .at .ensures) (c .before .before .before .before .before .before .before .before .before .before .before .at2 .ensures))) ∙ not-false _ (c .before .before .before .before .before .before .before .before .if1 .left)) .2) _ _ (c .before .before .before .before .before .before .spell .ensures .0) (c .before .before .before .before .before .before .spell .ensures .1)) (c .before .before .m .given .1) .number, c .before .before .before .before .before .before .before .before .before .before .before .before .before .before .before .before .before .before .pre .0 .few), c .before .before .before .before .before .before .before .before .before .before .before .before .before .before .before .before .before .before .pre .2, c .before .before .before .before .before .before .before .before .before .before .before .before .before .before .before .before .before .before .pre .3)
+put-two-requires c κs =
+    let yes = token-ends (c .before .before .before .before .before .before .before .before .before .before .before .before .before .before .before .before .before .before .pre .0) (c .before .before .before .before .before .before .before .before .before .before .before .before .before .before .before .before .before .before .pre .1) (c .before .before .before .before .before .before .before .before .before .before .before .before .before .at .ensures) (c .before .before .before .before .before .before .before .before .before .before .before .at2 .ensures) (c .before .before .before .before .before .before .before .before .before .ends-with .ensures) (not-false _ (c .before .before .before .before .before .before .before .before .if1 .left)) in
+    (omega (arith, c .before .before .before .before .before .before .before .before .before .before .before .before .before .before .before .before .before .before .pre .1, c .before .before .before .before .before .before .before .before .before .before .before .before .before .before .before .before .before .before .pre .0 .few), token-known-small (c .before .before .before .before .before .before .before .before .before .before .before .before .before .before .before .before .before .before .pre .0) (c .before .before .before .before .before .before .before .before .before .before .before .before .before .before .before .before .before .before .pre .1) (c .before .before .before .before .before .before .before .before .before .before .before .before .before .at .ensures) (c .before .before .before .before .before .before .before .before .before .before .before .at2 .ensures) yes (c .before .before .before .before .before .before .spell .ensures .0) (c .before .before .before .before .before .before .spell .ensures .1) (c .before .before .m .given .1), c .before .before .before .before .before .before .before .before .before .before .before .before .before .before .before .before .before .before .pre .2, c .before .before .before .before .before .before .before .before .before .before .before .before .before .before .before .before .before .before .pre .3)
 
 enum-known-m-2 : tie.Need-enum-known-m-2
 enum-known-m-2 c = search needs
@@ -73,22 +81,30 @@ add-put-two c = search needs
 
 put-two-requires-2 : tie.Need-put-two-requires-2
 unfolding bytes
-put-two-requires-2 c κs = (omega (arith, c .before .before .before .before .before .before .before .before .before .before .before .before .before .before .before .before .before .before .pre .1, c .before .before .before .before .before .before .before .before .before .before .before .before .before .before .before .before .before .before .pre .0 .few), omega (arith, spelled-new (spell-law (c .before .before .before .before .before .before .before .before .before .before .before .before .before .before .before .before .before .before .pre .0) _ _ (token-asks (c .before .before .before .before .before .before .before .before .before .before .before .before .before .before .before .before .before .before .pre .0) (c .before .before .before .before .before .before .before .before .before .before .before .before .before .before .before .before .before .before .pre .1) (c .before .before .before .before .before .before .before .before .before .before .before .before .before .at .ensures) (c .before .before .before .before .before .before .before .before .before .before .before .at2 .ensures) (sym (c .before .before .before .before .before .before .before .before .before .ends-with .ensures ∙ ap (λ t. ends-with t (bytes "@tok")) (token-part (c .before .before .before .before .before .before .before .before .before .before .before .before .before .before .before .before .before .before .pre .0) (c .before .before .before .before .before .before .before .before .before .before .before .before .before .before .before .before .before .before .pre .1) (c .before .before .before .before .before .before .before .before .before .before .before .before .before .at .ensures) (c .before .before .before .before .before .before .before .before .before .before .before .at2 .ensures))) ∙ not-false _ (c .before .before .before .before .before .before .before .before .if1 .left)) .1) (token-asks (c .before .before .before .before .before .before .before .before .before .before .before .before .before .before .before .before .before .before .pre .0) (c .before .before .before .before .before .before .before .before .before .before .before .before .before .before .before .before .before .before .pre .1) (c .before .before .before .before .before .before .before .before .before .before .before .before .before .at .ensures) (c .before .before .before .before .before .before .before .before .before .before .before .at2 .ensures) (sym (c .before .before .before .before .before .before .before .before .before .ends-with .ensures ∙ ap (λ t. ends-with t (bytes "@tok")) (token-part (c .before .before .before .before .before .before .before .before .before .before .before .before .before .before .before .before .before .before .pre .0) (c .before .before .before .before .before .before .before .before .before .before .before .before .before .before .before .before .before .before .pre .1) (c .before .before .before .before .before .before .before .before .before .before .before .before .before .at .ensures) (c .before .before .before .before .before .before .before .before .before .before .before .at2 .ensures))) ∙ not-false _ (c .before .before .before .before .before .before .before .before .if1 .left)) .2) _ _ (c .before .before .before .before .before .before .spell .ensures .0) (c .before .before .before .before .before .before .spell .ensures .1)) (c .before .before .m2 .given .1) .number, spelled-new (spell-law (c .before .before .before .before .before .before .before .before .before .before .before .before .before .before .before .before .before .before .pre .0) _ _ (token-asks (c .before .before .before .before .before .before .before .before .before .before .before .before .before .before .before .before .before .before .pre .0) (c .before .before .before .before .before .before .before .before .before .before .before .before .before .before .before .before .before .before .pre .1) (c .before .before .before .before .before .before .before .before .before .before .before .before .before .at .ensures) (c .before .before .before .before .before .before .before .before .before .before .before .at2 .ensures) (sym (c .before .before .before .before .before .before .before .before .before .ends-with .ensures ∙ ap (λ t. ends-with t (bytes "@tok")) (token-part (c .before .before .before .before .before .before .before .before .before .before .before .before .before .before .before .before .before .before .pre .0) (c .before .before .before .before .before .before .before .before .before .before .before .before .before .before .before .before .before .before .pre .1) (c .before .before .before .before .before .before .before .before .before .before .before .before .before .at .ensures) (c .before .before .before .before .before .before .before .before .before .before .before .at2 .ensures))) ∙ not-false _ (c .before .before .before .before .before .before .before .before .if1 .left)) .1) (token-asks (c .before .before .before .before .before .before .before .before .before .before .before .before .before .before .before .before .before .before .pre .0) (c .before .before .before .before .before .before .before .before .before .before .before .before .before .before .before .before .before .before .pre .1) (c .before .before .before .before .before .before .before .before .before .before .before .before .before .at .ensures) (c .before .before .before .before .before .before .before .before .before .before .before .at2 .ensures) (sym (c .before .before .before .before .before .before .before .before .before .ends-with .ensures ∙ ap (λ t. ends-with t (bytes "@tok")) (token-part (c .before .before .before .before .before .before .before .before .before .before .before .before .before .before .before .before .before .before .pre .0) (c .before .before .before .before .before .before .before .before .before .before .before .before .before .before .before .before .before .before .pre .1) (c .before .before .before .before .before .before .before .before .before .before .before .before .before .at .ensures) (c .before .before .before .before .before .before .before .before .before .before .before .at2 .ensures))) ∙ not-false _ (c .before .before .before .before .before .before .before .before .if1 .left)) .2) _ _ (c .before .before .before .before .before .before .spell .ensures .0) (c .before .before .before .before .before .before .spell .ensures .1)) (c .before .before .m2 .given .1) .few), c .before .before .before .before .before .before .before .before .before .before .before .before .before .before .before .before .before .before .pre .2, c .before .before .before .before .before .before .before .before .before .before .before .before .before .before .before .before .before .before .pre .3)
+put-two-requires-2 c κs =
+    let yes = token-ends (c .before .before .before .before .before .before .before .before .before .before .before .before .before .before .before .before .before .before .pre .0) (c .before .before .before .before .before .before .before .before .before .before .before .before .before .before .before .before .before .before .pre .1) (c .before .before .before .before .before .before .before .before .before .before .before .before .before .at .ensures) (c .before .before .before .before .before .before .before .before .before .before .before .at2 .ensures) (c .before .before .before .before .before .before .before .before .before .ends-with .ensures) (not-false _ (c .before .before .before .before .before .before .before .before .if1 .left)) in
+    (omega (arith, c .before .before .before .before .before .before .before .before .before .before .before .before .before .before .before .before .before .before .pre .1, c .before .before .before .before .before .before .before .before .before .before .before .before .before .before .before .before .before .before .pre .0 .few), token-new-small (c .before .before .before .before .before .before .before .before .before .before .before .before .before .before .before .before .before .before .pre .0) (c .before .before .before .before .before .before .before .before .before .before .before .before .before .before .before .before .before .before .pre .1) (c .before .before .before .before .before .before .before .before .before .before .before .before .before .at .ensures) (c .before .before .before .before .before .before .before .before .before .before .before .at2 .ensures) yes (c .before .before .before .before .before .before .spell .ensures .0) (c .before .before .before .before .before .before .spell .ensures .1) (c .before .before .m2 .given .1), c .before .before .before .before .before .before .before .before .before .before .before .before .before .before .before .before .before .before .pre .2, c .before .before .before .before .before .before .before .before .before .before .before .before .before .before .before .before .before .before .pre .3)
 
 enum-told : tie.Need-enum-told
 enum-told c = search needs
 
 returns-3 : tie.Need-returns-3
 unfolding bytes
-returns-3 c = token-known (c .before .before .before .before .before .before .before .before .before .before .before .before .before .before .before .before .before .before .before .before .before .pre .0) (c .before .before .before .before .before .before .before .before .before .before .before .before .before .before .before .before .before .before .before .before .before .pre .1) (c .before .before .before .before .before .before .before .before .before .before .before .before .before .before .before .before .at .ensures) (c .before .before .before .before .before .before .before .before .before .before .before .before .before .before .at2 .ensures) (sym (c .before .before .before .before .before .before .before .before .before .before .before .before .ends-with .ensures ∙ ap (λ t. ends-with t (bytes "@tok")) (token-part (c .before .before .before .before .before .before .before .before .before .before .before .before .before .before .before .before .before .before .before .before .before .pre .0) (c .before .before .before .before .before .before .before .before .before .before .before .before .before .before .before .before .before .before .before .before .before .pre .1) (c .before .before .before .before .before .before .before .before .before .before .before .before .before .before .before .before .at .ensures) (c .before .before .before .before .before .before .before .before .before .before .before .before .before .before .at2 .ensures))) ∙ not-false _ (c .before .before .before .before .before .before .before .before .before .before .before .if1 .left)) (c .before .before .before .before .before .before .before .before .before .spell .ensures .1) (c .before .before .before .before .before .before .before .before .before .before .before .before .before .before .before .before .before .before .before .before .before .pre .3) (spelled-known (spell-law (c .before .before .before .before .before .before .before .before .before .before .before .before .before .before .before .before .before .before .before .before .before .pre .0) _ _ (token-asks (c .before .before .before .before .before .before .before .before .before .before .before .before .before .before .before .before .before .before .before .before .before .pre .0) (c .before .before .before .before .before .before .before .before .before .before .before .before .before .before .before .before .before .before .before .before .before .pre .1) (c .before .before .before .before .before .before .before .before .before .before .before .before .before .before .before .before .at .ensures) (c .before .before .before .before .before .before .before .before .before .before .before .before .before .before .at2 .ensures) (sym (c .before .before .before .before .before .before .before .before .before .before .before .before .ends-with .ensures ∙ ap (λ t. ends-with t (bytes "@tok")) (token-part (c .before .before .before .before .before .before .before .before .before .before .before .before .before .before .before .before .before .before .before .before .before .pre .0) (c .before .before .before .before .before .before .before .before .before .before .before .before .before .before .before .before .before .before .before .before .before .pre .1) (c .before .before .before .before .before .before .before .before .before .before .before .before .before .before .before .before .at .ensures) (c .before .before .before .before .before .before .before .before .before .before .before .before .before .before .at2 .ensures))) ∙ not-false _ (c .before .before .before .before .before .before .before .before .before .before .before .if1 .left)) .1) (token-asks (c .before .before .before .before .before .before .before .before .before .before .before .before .before .before .before .before .before .before .before .before .before .pre .0) (c .before .before .before .before .before .before .before .before .before .before .before .before .before .before .before .before .before .before .before .before .before .pre .1) (c .before .before .before .before .before .before .before .before .before .before .before .before .before .before .before .before .at .ensures) (c .before .before .before .before .before .before .before .before .before .before .before .before .before .before .at2 .ensures) (sym (c .before .before .before .before .before .before .before .before .before .before .before .before .ends-with .ensures ∙ ap (λ t. ends-with t (bytes "@tok")) (token-part (c .before .before .before .before .before .before .before .before .before .before .before .before .before .before .before .before .before .before .before .before .before .pre .0) (c .before .before .before .before .before .before .before .before .before .before .before .before .before .before .before .before .before .before .before .before .before .pre .1) (c .before .before .before .before .before .before .before .before .before .before .before .before .before .before .before .before .at .ensures) (c .before .before .before .before .before .before .before .before .before .before .before .before .before .before .at2 .ensures))) ∙ not-false _ (c .before .before .before .before .before .before .before .before .before .before .before .if1 .left)) .2) _ _ (c .before .before .before .before .before .before .before .before .before .spell .ensures .0) (c .before .before .before .before .before .before .before .before .before .spell .ensures .1)) (c .before .before .before .before .before .m .given .1)) (c .before .before .put-two .ensures)
+returns-3 c =
+    let yes = token-ends (c .before .before .before .before .before .before .before .before .before .before .before .before .before .before .before .before .before .before .before .before .before .pre .0) (c .before .before .before .before .before .before .before .before .before .before .before .before .before .before .before .before .before .before .before .before .before .pre .1) (c .before .before .before .before .before .before .before .before .before .before .before .before .before .before .before .before .at .ensures) (c .before .before .before .before .before .before .before .before .before .before .before .before .before .before .at2 .ensures) (c .before .before .before .before .before .before .before .before .before .before .before .before .ends-with .ensures) (not-false _ (c .before .before .before .before .before .before .before .before .before .before .before .if1 .left)) in
+    token-known (c .before .before .before .before .before .before .before .before .before .before .before .before .before .before .before .before .before .before .before .before .before .pre .0) (c .before .before .before .before .before .before .before .before .before .before .before .before .before .before .before .before .before .before .before .before .before .pre .1) (c .before .before .before .before .before .before .before .before .before .before .before .before .before .before .before .before .at .ensures) (c .before .before .before .before .before .before .before .before .before .before .before .before .before .before .at2 .ensures) yes (c .before .before .before .before .before .before .before .before .before .spell .ensures .0) (c .before .before .before .before .before .before .before .before .before .spell .ensures .1) (c .before .before .before .before .before .m .given .1) (c .before .before .before .before .before .before .before .before .before .before .before .before .before .before .before .before .before .before .before .before .before .pre .3) (c .before .before .put-two .ensures)
 
 returns-4 : tie.Need-returns-4
 unfolding bytes
-returns-4 c = token-new (c .before .before .before .before .before .before .before .before .before .before .before .before .before .before .before .before .before .before .before .before .before .pre .0) (c .before .before .before .before .before .before .before .before .before .before .before .before .before .before .before .before .before .before .before .before .before .pre .1) (c .before .before .before .before .before .before .before .before .before .before .before .before .before .before .before .before .at .ensures) (c .before .before .before .before .before .before .before .before .before .before .before .before .before .before .at2 .ensures) (sym (c .before .before .before .before .before .before .before .before .before .before .before .before .ends-with .ensures ∙ ap (λ t. ends-with t (bytes "@tok")) (token-part (c .before .before .before .before .before .before .before .before .before .before .before .before .before .before .before .before .before .before .before .before .before .pre .0) (c .before .before .before .before .before .before .before .before .before .before .before .before .before .before .before .before .before .before .before .before .before .pre .1) (c .before .before .before .before .before .before .before .before .before .before .before .before .before .before .before .before .at .ensures) (c .before .before .before .before .before .before .before .before .before .before .before .before .before .before .at2 .ensures))) ∙ not-false _ (c .before .before .before .before .before .before .before .before .before .before .before .if1 .left)) (c .before .before .before .before .before .before .before .before .before .spell .ensures .1) (c .before .before .before .before .before .before .before .before .before .before .before .before .before .before .before .before .before .before .before .before .before .pre .3) (spelled-new (spell-law (c .before .before .before .before .before .before .before .before .before .before .before .before .before .before .before .before .before .before .before .before .before .pre .0) _ _ (token-asks (c .before .before .before .before .before .before .before .before .before .before .before .before .before .before .before .before .before .before .before .before .before .pre .0) (c .before .before .before .before .before .before .before .before .before .before .before .before .before .before .before .before .before .before .before .before .before .pre .1) (c .before .before .before .before .before .before .before .before .before .before .before .before .before .before .before .before .at .ensures) (c .before .before .before .before .before .before .before .before .before .before .before .before .before .before .at2 .ensures) (sym (c .before .before .before .before .before .before .before .before .before .before .before .before .ends-with .ensures ∙ ap (λ t. ends-with t (bytes "@tok")) (token-part (c .before .before .before .before .before .before .before .before .before .before .before .before .before .before .before .before .before .before .before .before .before .pre .0) (c .before .before .before .before .before .before .before .before .before .before .before .before .before .before .before .before .before .before .before .before .before .pre .1) (c .before .before .before .before .before .before .before .before .before .before .before .before .before .before .before .before .at .ensures) (c .before .before .before .before .before .before .before .before .before .before .before .before .before .before .at2 .ensures))) ∙ not-false _ (c .before .before .before .before .before .before .before .before .before .before .before .if1 .left)) .1) (token-asks (c .before .before .before .before .before .before .before .before .before .before .before .before .before .before .before .before .before .before .before .before .before .pre .0) (c .before .before .before .before .before .before .before .before .before .before .before .before .before .before .before .before .before .before .before .before .before .pre .1) (c .before .before .before .before .before .before .before .before .before .before .before .before .before .before .before .before .at .ensures) (c .before .before .before .before .before .before .before .before .before .before .before .before .before .before .at2 .ensures) (sym (c .before .before .before .before .before .before .before .before .before .before .before .before .ends-with .ensures ∙ ap (λ t. ends-with t (bytes "@tok")) (token-part (c .before .before .before .before .before .before .before .before .before .before .before .before .before .before .before .before .before .before .before .before .before .pre .0) (c .before .before .before .before .before .before .before .before .before .before .before .before .before .before .before .before .before .before .before .before .before .pre .1) (c .before .before .before .before .before .before .before .before .before .before .before .before .before .before .before .before .at .ensures) (c .before .before .before .before .before .before .before .before .before .before .before .before .before .before .at2 .ensures))) ∙ not-false _ (c .before .before .before .before .before .before .before .before .before .before .before .if1 .left)) .2) _ _ (c .before .before .before .before .before .before .before .before .before .spell .ensures .0) (c .before .before .before .before .before .before .before .before .before .spell .ensures .1)) (c .before .before .before .before .before .m2 .given .1)) (c .before .before .put-two2 .ensures)
+returns-4 c =
+    let yes = token-ends (c .before .before .before .before .before .before .before .before .before .before .before .before .before .before .before .before .before .before .before .before .before .pre .0) (c .before .before .before .before .before .before .before .before .before .before .before .before .before .before .before .before .before .before .before .before .before .pre .1) (c .before .before .before .before .before .before .before .before .before .before .before .before .before .before .before .before .at .ensures) (c .before .before .before .before .before .before .before .before .before .before .before .before .before .before .at2 .ensures) (c .before .before .before .before .before .before .before .before .before .before .before .before .ends-with .ensures) (not-false _ (c .before .before .before .before .before .before .before .before .before .before .before .if1 .left)) in
+    token-new (c .before .before .before .before .before .before .before .before .before .before .before .before .before .before .before .before .before .before .before .before .before .pre .0) (c .before .before .before .before .before .before .before .before .before .before .before .before .before .before .before .before .before .before .before .before .before .pre .1) (c .before .before .before .before .before .before .before .before .before .before .before .before .before .before .before .before .at .ensures) (c .before .before .before .before .before .before .before .before .before .before .before .before .before .before .at2 .ensures) yes (c .before .before .before .before .before .before .before .before .before .spell .ensures .0) (c .before .before .before .before .before .before .before .before .before .spell .ensures .1) (c .before .before .before .before .before .m2 .given .1) (c .before .before .before .before .before .before .before .before .before .before .before .before .before .before .before .before .before .before .before .before .before .pre .3) (c .before .before .put-two2 .ensures)
 
 returns-5 : tie.Need-returns-5
 unfolding bytes
-returns-5 c = token-full (c .before .before .before .before .before .before .before .before .before .before .before .before .before .before .before .before .pre .0) (c .before .before .before .before .before .before .before .before .before .before .before .before .before .before .before .before .pre .1) (c .before .before .before .before .before .before .before .before .before .before .before .at .ensures) (c .before .before .before .before .before .before .before .before .before .at2 .ensures) (sym (c .before .before .before .before .before .before .before .ends-with .ensures ∙ ap (λ t. ends-with t (bytes "@tok")) (token-part (c .before .before .before .before .before .before .before .before .before .before .before .before .before .before .before .before .pre .0) (c .before .before .before .before .before .before .before .before .before .before .before .before .before .before .before .before .pre .1) (c .before .before .before .before .before .before .before .before .before .before .before .at .ensures) (c .before .before .before .before .before .before .before .before .before .at2 .ensures))) ∙ not-false _ (c .before .before .before .before .before .before .if1 .left)) (c .before .before .before .before .spell .ensures .1) (spelled-full (spell-law (c .before .before .before .before .before .before .before .before .before .before .before .before .before .before .before .before .pre .0) _ _ (token-asks (c .before .before .before .before .before .before .before .before .before .before .before .before .before .before .before .before .pre .0) (c .before .before .before .before .before .before .before .before .before .before .before .before .before .before .before .before .pre .1) (c .before .before .before .before .before .before .before .before .before .before .before .at .ensures) (c .before .before .before .before .before .before .before .before .before .at2 .ensures) (sym (c .before .before .before .before .before .before .before .ends-with .ensures ∙ ap (λ t. ends-with t (bytes "@tok")) (token-part (c .before .before .before .before .before .before .before .before .before .before .before .before .before .before .before .before .pre .0) (c .before .before .before .before .before .before .before .before .before .before .before .before .before .before .before .before .pre .1) (c .before .before .before .before .before .before .before .before .before .before .before .at .ensures) (c .before .before .before .before .before .before .before .before .before .at2 .ensures))) ∙ not-false _ (c .before .before .before .before .before .before .if1 .left)) .1) (token-asks (c .before .before .before .before .before .before .before .before .before .before .before .before .before .before .before .before .pre .0) (c .before .before .before .before .before .before .before .before .before .before .before .before .before .before .before .before .pre .1) (c .before .before .before .before .before .before .before .before .before .before .before .at .ensures) (c .before .before .before .before .before .before .before .before .before .at2 .ensures) (sym (c .before .before .before .before .before .before .before .ends-with .ensures ∙ ap (λ t. ends-with t (bytes "@tok")) (token-part (c .before .before .before .before .before .before .before .before .before .before .before .before .before .before .before .before .pre .0) (c .before .before .before .before .before .before .before .before .before .before .before .before .before .before .before .before .pre .1) (c .before .before .before .before .before .before .before .before .before .before .before .at .ensures) (c .before .before .before .before .before .before .before .before .before .at2 .ensures))) ∙ not-false _ (c .before .before .before .before .before .before .if1 .left)) .2) _ _ (c .before .before .before .before .spell .ensures .0) (c .before .before .before .before .spell .ensures .1)) (c .enum-told .given .1))
+returns-5 c =
+    let yes = token-ends (c .before .before .before .before .before .before .before .before .before .before .before .before .before .before .before .before .pre .0) (c .before .before .before .before .before .before .before .before .before .before .before .before .before .before .before .before .pre .1) (c .before .before .before .before .before .before .before .before .before .before .before .at .ensures) (c .before .before .before .before .before .before .before .before .before .at2 .ensures) (c .before .before .before .before .before .before .before .ends-with .ensures) (not-false _ (c .before .before .before .before .before .before .if1 .left)) in
+    token-full (c .before .before .before .before .before .before .before .before .before .before .before .before .before .before .before .before .pre .0) (c .before .before .before .before .before .before .before .before .before .before .before .before .before .before .before .before .pre .1) (c .before .before .before .before .before .before .before .before .before .before .before .at .ensures) (c .before .before .before .before .before .before .before .before .before .at2 .ensures) yes (c .before .before .before .before .spell .ensures .0) (c .before .before .before .before .spell .ensures .1) (c .enum-told .given .1)
 
 same-length : tie.Need-same-length
 same-length c = search needs

@@ -25,10 +25,10 @@ enum-told : tie.Need-enum-told
 enum-told c = search needs
 
 returns : tie.Need-returns
-returns c = record { walked = c .before .before .before .before .before .before .before .before .before .gather-term .result; answer = ap (finished (c .before .before .before .before .before .before .before .before .before .before .before .before .before .before .before .before .before .args .kind) (c .before .before .before .before .before .before .before .before .before .before .before .before .before .before .before .before .before .args .end) (c .before .before .before .before .before .before .before .before .before .before .before .before .before .before .before .before .before .args .total) (c .before .before .before .before .before .before .before .before .before .before .before .before .before .before .before .before .before .args .mark)) (sym (c .before .n .given .1)); free-names = c .before .before .before .before .before .before .before .before .before .gather-term .ensures .0; slices = c .before .before .before .before .before .before .before .before .before .gather-term .ensures .1 .0 }
+returns c = record { walked = c .before .before .before .before .before .before .before .before .before .gather-term .result; answer = ap (finished (c .before .before .before .before .before .before .before .before .before .before .before .before .before .before .before .before .before .args .kind) (c .before .before .before .before .before .before .before .before .before .before .before .before .before .before .before .before .before .args .end) (c .before .before .before .before .before .before .before .before .before .before .before .before .before .before .before .before .before .args .total) (c .before .before .before .before .before .before .before .before .before .before .before .before .before .before .before .before .before .args .mark)) (sym (c .before .n .given .1)); free-names = c .before .before .before .before .before .before .before .before .before .gather-term .ensures .0; slices = c .before .before .before .before .before .before .before .before .before .gather-term .ensures .1 .0; words-as = c .before .before .before .before .before .before .before .before .before .gather-term .ensures .1 .1 }
 
 returns-2 : tie.Need-returns-2
-returns-2 c = record { walked = c .before .before .before .before .before .before .before .before .gather-term .result; answer = ap (finished (c .before .before .before .before .before .before .before .before .before .before .before .before .before .before .before .before .args .kind) (c .before .before .before .before .before .before .before .before .before .before .before .before .before .before .before .before .args .end) (c .before .before .before .before .before .before .before .before .before .before .before .before .before .before .before .before .args .total) (c .before .before .before .before .before .before .before .before .before .before .before .before .before .before .before .before .args .mark)) (sym (c .enum-told .given .1)); free-names = c .before .before .before .before .before .before .before .before .gather-term .ensures .0; slices = c .before .before .before .before .before .before .before .before .gather-term .ensures .1 .0 }
+returns-2 c = record { walked = c .before .before .before .before .before .before .before .before .gather-term .result; answer = ap (finished (c .before .before .before .before .before .before .before .before .before .before .before .before .before .before .before .before .args .kind) (c .before .before .before .before .before .before .before .before .before .before .before .before .before .before .before .before .args .end) (c .before .before .before .before .before .before .before .before .before .before .before .before .before .before .before .before .args .total) (c .before .before .before .before .before .before .before .before .before .before .before .before .before .before .before .before .args .mark)) (sym (c .enum-told .given .1)); free-names = c .before .before .before .before .before .before .before .before .gather-term .ensures .0; slices = c .before .before .before .before .before .before .before .before .gather-term .ensures .1 .0; words-as = c .before .before .before .before .before .before .before .before .gather-term .ensures .1 .1 }
 
 same-length : tie.Need-same-length
 same-length c = returns c .slices .names-same .same-length

@@ -1,7 +1,9 @@
 -- `summary::summarize_assumption` meets its contract: the choice, what it files, the free names.
 use native.Mathlib.Omega.{arith}
 use mathlib.Core.Path.{refl}
+use Rattle.summary.specs.Facts.{fact-choice}
 use Rattle.summary.proofs.Finishing.{chooses-is, asked-begun, filed-ends, finish-asks, finish-law, over-law}
+use Rattle.summary.proofs.Answering.{promised}
 use borrow.Author.Needs.{needs}
 use Rattle.summary.proofs.summarize_assumption.Statement.{statement}
 use Rattle.summary.proofs.summarize_assumption.Tie as tie
@@ -13,7 +15,7 @@ add-at : tie.Need-add-at
 add-at c = search needs
 
 file-choice-requires : tie.Need-file-choice-requires
-file-choice-requires c κs = (c .before .before .before .before .before .before .before .before .before .before .before .pre .tables, c .before .before .before .summarize-kind .ensures .1, asked-begun (c .before .before .before .before .before .before .before .before .before .before .before .pre))
+file-choice-requires c κs = (c .before .before .before .before .before .before .before .before .before .before .before .pre .tables, c .before .before .before .summarize-kind .ensures .1 .0, asked-begun (c .before .before .before .before .before .before .before .before .before .before .before .pre))
 
 enum-known-kind : tie.Need-enum-known-kind
 enum-known-kind c = search needs
@@ -22,13 +24,15 @@ add-finish : tie.Need-add-finish
 add-finish c = search needs
 
 sub-finish : tie.Need-sub-finish
-sub-finish c = filed-ends (c .before .before .before .before .before .before .before .before .before .before .before .before .before .before .before .before .before .before .before .before .before .before .before .before .pre) (c .before .before .before .before .before .before .before .before .before .before .before .before .before .before .before .before .summarize-kind .ensures .1) (c .before .before .before .before .before .before .before .before .before .before .before .before .before .before .before .before .summarize-kind .ensures .0) (chooses-is (c .before .before .before .before .kind .given .1) (c .before .before .before .before .before .before .before .before .before .before .before .before .file-choice .ensures)) .0
+sub-finish c = filed-ends (c .before .before .before .before .before .before .before .before .before .before .before .before .before .before .before .before .before .before .before .before .before .before .before .before .pre) (c .before .before .before .before .before .before .before .before .before .before .before .before .before .before .before .before .summarize-kind .ensures .0) (chooses-is (c .before .before .before .before .kind .given .1) (c .before .before .before .before .before .before .before .before .before .before .before .before .file-choice .ensures) .0) .0
 
 add-finish-2 : tie.Need-add-finish-2
-add-finish-2 c = omega (arith, c .before .before .before .before .before .before .before .before .before .before .before .before .before .before .before .before .before .before .before .before .before .before .before .before .pre .few-marks, filed-ends (c .before .before .before .before .before .before .before .before .before .before .before .before .before .before .before .before .before .before .before .before .before .before .before .before .pre) (c .before .before .before .before .before .before .before .before .before .before .before .before .before .before .before .before .summarize-kind .ensures .1) (c .before .before .before .before .before .before .before .before .before .before .before .before .before .before .before .before .summarize-kind .ensures .0) (chooses-is (c .before .before .before .before .kind .given .1) (c .before .before .before .before .before .before .before .before .before .before .before .before .file-choice .ensures)) .0, filed-ends (c .before .before .before .before .before .before .before .before .before .before .before .before .before .before .before .before .before .before .before .before .before .before .before .before .pre) (c .before .before .before .before .before .before .before .before .before .before .before .before .before .before .before .before .summarize-kind .ensures .1) (c .before .before .before .before .before .before .before .before .before .before .before .before .before .before .before .before .summarize-kind .ensures .0) (chooses-is (c .before .before .before .before .kind .given .1) (c .before .before .before .before .before .before .before .before .before .before .before .before .file-choice .ensures)) .1)
+add-finish-2 c =
+    let ends = filed-ends (c .before .before .before .before .before .before .before .before .before .before .before .before .before .before .before .before .before .before .before .before .before .before .before .before .pre) (c .before .before .before .before .before .before .before .before .before .before .before .before .before .before .before .before .summarize-kind .ensures .0) (chooses-is (c .before .before .before .before .kind .given .1) (c .before .before .before .before .before .before .before .before .before .before .before .before .file-choice .ensures) .0) in
+    omega (arith, c .before .before .before .before .before .before .before .before .before .before .before .before .before .before .before .before .before .before .before .before .before .before .before .before .pre .few-marks, ends .0, ends .1)
 
 finish-requires : tie.Need-finish-requires
-finish-requires c κs = finish-asks (c .before .before .before .before .before .before .before .before .before .before .before .before .before .before .before .before .before .before .before .before .before .before .before .before .pre) (c .before .before .before .before .before .before .before .before .before .before .before .before .before .before .before .before .summarize-kind .ensures .1) (c .before .before .before .before .before .before .before .before .before .before .before .before .before .before .before .before .summarize-kind .ensures .0) (chooses-is (c .before .before .before .before .kind .given .1) (c .before .before .before .before .before .before .before .before .before .before .before .before .file-choice .ensures)) refl
+finish-requires c κs = finish-asks (c .before .before .before .before .before .before .before .before .before .before .before .before .before .before .before .before .before .before .before .before .before .before .before .before .pre) (c .before .before .before .before .before .before .before .before .before .before .before .before .before .before .before .before .summarize-kind .ensures .0) (chooses-is (c .before .before .before .before .kind .given .1) (c .before .before .before .before .before .before .before .before .before .before .before .before .file-choice .ensures) .0) refl
 
 enum-known-limit : tie.Need-enum-known-limit
 enum-known-limit c = search needs
@@ -43,7 +47,10 @@ same-length-3 : tie.Need-same-length-3
 same-length-3 c = search needs
 
 returns : tie.Need-returns
-returns c = finish-law (c .before .before .before .before .before .before .before .before .before .before .before .before .before .before .before .before .before .before .before .before .before .before .before .before .before .before .before .before .before .before .before .pre) (c .before .before .before .before .before .before .before .before .before .before .before .before .before .before .before .before .before .before .before .before .before .before .before .summarize-kind .ensures .1) (c .before .before .before .before .before .before .before .before .before .before .before .before .before .before .before .before .before .before .before .before .before .before .before .summarize-kind .ensures .0) (chooses-is (c .before .before .before .before .before .before .before .before .before .before .before .kind .given .1) (c .before .before .before .before .before .before .before .before .before .before .before .before .before .before .before .before .before .before .before .file-choice .ensures)) refl (c .before .before .before .before .before .before .finish .ensures)
+unfolding fact-choice
+returns c =
+    let made = chooses-is (c .before .before .before .before .before .before .before .before .before .before .before .kind .given .1) (c .before .before .before .before .before .before .before .before .before .before .before .before .before .before .before .before .before .before .before .file-choice .ensures) in
+    promised (c .before .before .before .before .before .before .before .before .before .before .before .before .before .before .before .before .before .before .before .before .before .before .before .before .before .before .before .before .before .before .before .pre) (finish-law (c .before .before .before .before .before .before .before .before .before .before .before .before .before .before .before .before .before .before .before .before .before .before .before .before .before .before .before .before .before .before .before .pre) (c .before .before .before .before .before .before .before .before .before .before .before .before .before .before .before .before .before .before .before .before .before .before .before .summarize-kind .ensures .0) (made .0) refl (c .before .before .before .before .before .before .finish .ensures) (c .before .before .before .before .before .before .before .before .before .before .before .before .before .before .before .before .before .before .before .before .before .before .before .summarize-kind .ensures .1 .1) (made .1))
 
 same-length-4 : tie.Need-same-length-4
 same-length-4 c = search needs
@@ -55,7 +62,10 @@ same-length-6 : tie.Need-same-length-6
 same-length-6 c = search needs
 
 returns-2 : tie.Need-returns-2
-returns-2 c = over-law (c .before .before .before .before .before .before .before .before .before .before .before .before .before .before .before .before .before .before .before .before .before .pre) (c .before .before .before .before .before .before .before .before .before .before .before .before .before .summarize-kind .ensures .1) (c .before .before .before .before .before .before .before .before .before .before .before .before .before .summarize-kind .ensures .0) (chooses-is (c .before .limit .given .1) (c .before .before .before .before .before .before .before .before .before .file-choice .ensures))
+unfolding fact-choice
+returns-2 c =
+    let made = chooses-is (c .before .limit .given .1) (c .before .before .before .before .before .before .before .before .before .file-choice .ensures) in
+    promised (c .before .before .before .before .before .before .before .before .before .before .before .before .before .before .before .before .before .before .before .before .before .pre) (over-law (c .before .before .before .before .before .before .before .before .before .before .before .before .before .before .before .before .before .before .before .before .before .pre) (c .before .before .before .before .before .before .before .before .before .before .before .before .before .summarize-kind .ensures .0) (made .0) (made .1) (c .before .before .before .before .before .before .before .before .before .before .before .before .before .summarize-kind .ensures .1 .1))
 
 pub summarize-assumption-spec : {M : Type 1} → statement M
 summarize-assumption-spec =

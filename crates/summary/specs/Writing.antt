@@ -1,0 +1,103 @@
+-- Every word of the slices after summarising a fact: its disjuncts filed as its rule chooses, then its free names.
+use Prim.Native.Nat.{ℕ, _+_, _-_}
+use mathlib.Core.Path.{_≡_}
+use mathlib.Core.Bool.{true, cond}
+use mathlib.Core.List.{List, [], _∷_}
+use mathlib.Core.Option.{Option, none, some}
+use lib.ListN.{length}
+use lib.Dec.{ltb}
+use Rattle.model.specs.Lists.{_>>=_}
+use Rattle.model.specs.Names.{bytes, ends-with}
+use Rattle.model.specs.Terms.{Term}
+use Rattle.model.specs.Summaries.{exclude-names, is-empty, triggers-of-term}
+use Rattle.names.specs.Table.{name-of, spell-answer}
+use Rattle.names.specs.declared.Spelled.{Spelled}
+use Rattle.names.specs.declared.Spelled.the-variants as spelled
+use Rattle.terms.specs.Rows.{row-start, row-end, words, terms-of-words}
+use Rattle.gather.specs.Visits.{visit-term, marked-at, put}
+use Rattle.rules.specs.Views.{terms-in}
+use Rattle.rules.specs.declared.Choice.{Choice}
+use Rattle.rules.specs.declared.Choice.the-variants as choice
+use Rattle.triggers.specs.Filings.{Filing, filing, file-list, file-groups, file-parts, empty-visit}
+use Rattle.summary.specs.Facts.{fact-choice, trimmed-found, token-table}
+
+-- the number of a spelled name: a full table has none for it
+unfoldable pub spelled-number : Spelled → Option ℕ
+spelled-number (spelled.Known n) = some n
+spelled-number (spelled.New n) = some n
+spelled-number spelled.Full = none
+
+-- the entries of a token: its own, and that of the name that it trims to; none where the name table is full
+unfoldable pub token-words : List ℕ → List ℕ → ℕ → ℕ → Option (List ℕ)
+token-words file names named n =
+    let trimmed = spelled-number (spell-answer named (trimmed-found file names named n)) in
+    cond (ends-with (name-of file names n) (bytes "@tok"))
+    (trimmed >>= λ m. some ((n + 4096) ∷ (m + 4096) ∷ []))
+    (some ((n + 4096) ∷ []))
+
+-- no more is filed
+unfoldable pub stopped : Filing → Filing
+stopped f = record { names = f .names; rows = f .rows; out = f .out; mark = f .mark; end = f .end; full = true }
+
+-- entries, where there are any and all have room
+unfoldable pub file-words : Filing → Option (List ℕ) → Filing
+file-words f none = stopped f
+file-words f (some ws) =
+    cond (ltb 8192 (f .end + length ws)) (stopped f)
+    (filing (f .names) (f .rows) (put (f .end) ws (f .out)) (f .mark + length ws) (f .end + length ws))
+
+-- a token, by its name's number: the name that it trims to enters the name table
+unfoldable pub file-token : List ℕ → ℕ → Filing → ℕ → Filing
+file-token file named f n =
+    let names = token-table file (f .names) named n in
+    file-words (filing names (f .rows) (f .out) (f .mark) (f .end)) (token-words file (f .names) named n)
+
+module _ (refs : List ℕ) (used many : ℕ) where
+  -- the triggers of a refinement's payload, where they are not empty; that is asked under a mark of its own
+  unfoldable pub file-refinement : List Term → ℕ → Filing → ℕ → Filing
+  file-refinement terms mark f t =
+      let walk = empty-visit refs used many (f .names) (f .rows) t in
+      let asked = filing (f .names) (marked-at 12288 mark (walk .walked) (f .rows)) (f .out) (f .mark) (f .end) in
+      let more = file-groups refs used many asked t in
+      cond (is-empty (triggers-of-term exclude-names terms t)) asked more
+
+  -- what a choice gathers
+  unfoldable pub file-choice : List ℕ → ℕ → ℕ → Filing → Choice → Filing
+  file-choice file named mark f choice.No = f
+  file-choice file named mark f (choice.One t) = file-list refs used many f (t ∷ [])
+  file-choice file named mark f (choice.Two t u) = file-list refs used many (file-list refs used many f (t ∷ [])) (u ∷ [])
+  file-choice file named mark f (choice.Groups t) = file-groups refs used many f t
+  file-choice file named mark f (choice.Refinement t) =
+      file-refinement (terms-in file (f .names) refs (f .rows) used many) mark f t
+  file-choice file named mark f (choice.Token n) = file-token file named f n
+  file-choice file named mark f choice.Nothing = f
+  file-choice file named mark f (choice.Parts t) =
+      file-parts refs used many f (terms-of-words (words refs (row-start (f .rows) t) (row-end (f .rows) used many t)))
+  file-choice file named mark f choice.Drop = f
+  file-choice file named mark f choice.Ambient = f
+
+  -- the free names of a term from use `uses` on
+  unfoldable pub file-uses : ℕ → Filing → ℕ → Filing
+  file-uses uses f t =
+      let walk = visit-term (f .names) refs (f .rows) used many (6144 - uses) t in
+      let more : Filing = record {
+        names = marked-at 8192 (f .mark) (walk .found) (f .names);
+        rows = marked-at 12288 (f .mark) (walk .walked) (f .rows);
+        out = put uses (walk .found) (f .out);
+        mark = f .mark + 1;
+        end = f .end;
+        full = walk .full;
+      } in
+      cond (f .full) f more
+
+  -- a fact, of the number of its name and its term: `filed` entries and `uses` uses stand before its own
+  unfoldable pub file-fact : List ℕ → List ℕ → List ℕ → List ℕ → ℕ → ℕ → ℕ → ℕ → ℕ → ℕ → Filing
+  file-fact file names rows out named name t mark filed uses =
+      let chosen = fact-choice file names refs rows named used many name t in
+      file-uses uses (file-choice file named mark (filing names rows out (mark + 1) (6144 + filed)) chosen) t
+
+-- every word of the slices
+pub record Written (f : Filing) (names′ rows′ out′ : List ℕ) : Type 0 where
+  pub name-words : names′ ≡ f .names
+  pub row-words : rows′ ≡ f .rows
+  pub out-words : out′ ≡ f .out
