@@ -122,12 +122,12 @@ module _ {file names refs rows out names′ rows′ out′ : List ℕ} {named us
     -- the payload of a refinement
     pub choose-refinement : {t : ℕ} → c ≡ choice.Refinement t
         → Sorts names rows out names′ rows′ out′ named mark at (λ name. refinement-kind (terms-of name refs rows used many) t) r
-        → ((name : ℕ → Name) → Named name names named → Sorts-as (file-refinement refs used many (terms-of name refs rows used many) mark (filing names rows out (mark + 1) at) t) names′ rows′ out′ mark at r)
+        → Sorts-as (file-refinement refs used many mark (filing names rows out (mark + 1) at) t) names′ rows′ out′ mark at r
         → Choice-files file names refs rows out names′ rows′ out′ named used many mark at c r
-    unfolding kinded trimmed-table refinement-kind file-choice terms-in
+    unfolding kinded trimmed-table refinement-kind file-choice
     choose-refinement {t} e s w = rw e (
       sorts-chooses (λ terms. refinement-kind terms t) (choice.Refinement t) refl refl (refinement-trimmed (is-empty (triggers-of-term exclude-names (terms-in file names refs rows used many) t)) (triggers-of-term exclude-names (terms-in file names refs rows used many) t)) s,
-      w (name-of file names) (named-of (tables .name-table)),
+      w,
     )
 
     -- the parts of an `and`

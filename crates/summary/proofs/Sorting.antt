@@ -5,6 +5,7 @@ use mathlib.Core.Path.{_≡_, refl, sym, ap, _∙_}
 use mathlib.Core.Bool.{Bool, true, false}
 use mathlib.Core.List.{List, []}
 use lib.ListN.{getD}
+use borrow.Author.Tests.{not-true, not-false}
 use Rattle.model.specs.Lists.{collect, sum}
 use Rattle.model.specs.Names.{Name}
 use Rattle.model.specs.Summaries.{Kinded, Sum-ambient, Sum-triggers, exclude-names, is-empty, triggers-of-term}
@@ -19,7 +20,7 @@ use Rattle.gather.specs.Sets.{Fresh, Same-but, Named, is-excluded}
 use Rattle.gather.specs.Visits.{marked-at}
 use Rattle.gather.proofs.Steps.{same-self, same-then}
 use Rattle.triggers.specs.Entries.{disjuncts-of, disjuncts-of-words, entries, Files, all-sets, no-room as no-sets, Filled, filed-end, Opened}
-use Rattle.triggers.specs.Filings.{filing, file-groups, file-parts, empty-visit, Files-as}
+use Rattle.triggers.specs.Filings.{filing, file-groups, file-parts, ask-empty, Asks-as, Files-as}
 use Rattle.triggers.specs.declared.Filed.{Filed}
 use Rattle.triggers.specs.declared.Filed.the-variants as files
 use Rattle.triggers.proofs.Marked.{named-marked, terms-marked, fresh-later}
@@ -124,14 +125,14 @@ marks-after n s q m = record { names-same = same-then n (m .names-same); rows-sa
 module _ {names rows out names₁ rows₁ out₁ refs : List ℕ} {named used many mark at : ℕ} {b : Bool} (t : ℕ) (table : Rows refs rows used many named)
     (answer : (name : ℕ → Name) → Named name names named → b ≡ is-empty (triggers-of-term exclude-names (terms-of name refs rows used many) t))
     (tables : Same-but 8192 2048 names names₁ × Same-but 12288 4096 rows rows₁ × Fresh names₁ rows₁ (mark + 1))
-    (same : (names₁ ≡ names) × (rows₁ ≡ marked-at 12288 mark (empty-visit refs used many names rows t .walked) rows) × (out₁ ≡ out)) where
+    (same : Asks-as (ask-empty refs used many names rows t) names rows out names₁ rows₁ out₁ mark b) where
   -- a payload that is empty is ambient
   pub refinement-empty : b ≡ true → at ≤ 8192 → Sorts names rows out names₁ rows₁ out₁ named mark at (λ name. refinement-kind (terms-of name refs rows used many) t) (sorted.Kind (asum.Ambient true) at named)
-      × ((name : ℕ → Name) → Named name names named → Sorts-as (file-refinement refs used many (terms-of name refs rows used many) mark (filing names rows out (mark + 1) at) t) names₁ rows₁ out₁ mark at (sorted.Kind (asum.Ambient true) at named))
+      × Sorts-as (file-refinement refs used many mark (filing names rows out (mark + 1) at) t) names₁ rows₁ out₁ mark at (sorted.Kind (asum.Ambient true) at named)
   unfolding refinement-kind Sum-ambient file-refinement
   refinement-empty e low = (
-    rw (same .2) (nothing-sorts (asum.Ambient true) (λ name. refinement-kind (terms-of name refs rows used many) t) (λ name d. rw (sym (answer name d) ∙ e) (refl, refl)) low (tables .0) (tables .1) (tables .2)),
-    λ name d. rw (same .0, same .1, same .2, sym (answer name d) ∙ e) nothing-as,
+    rw (same .out-words) (nothing-sorts (asum.Ambient true) (λ name. refinement-kind (terms-of name refs rows used many) t) (λ name d. rw (sym (answer name d) ∙ e) (refl, refl)) low (tables .0) (tables .1) (tables .2)),
+    rw (same .name-words, same .row-words, same .out-words, not-true (ask-empty refs used many names rows t .full) (sym (same .answer) ∙ e)) nothing-as,
   )
 
   -- another has its triggers
@@ -141,16 +142,16 @@ module _ {names rows out names₁ rows₁ out₁ refs : List ℕ} {named used ma
       → Files-as (file-groups refs used many (filing names₁ rows₁ out₁ (mark + 1) at) t) count names₂ rows₂ out₂ (mark + 1) at f
       → r ≡ sorted-of named f
       → Sorts names rows out names₂ rows₂ out₂ named mark at (λ name. refinement-kind (terms-of name refs rows used many) t) r
-      × ((name : ℕ → Name) → Named name names named → Sorts-as (file-refinement refs used many (terms-of name refs rows used many) mark (filing names rows out (mark + 1) at) t) names₂ rows₂ out₂ mark at r)
+      × Sorts-as (file-refinement refs used many mark (filing names rows out (mark + 1) at) t) names₂ rows₂ out₂ mark at r
   unfolding refinement-kind file-refinement
   refinement-more {f = f} e k w z q = (
     rw q (record {
       kinds = λ name d.
           rw (sym (answer name d) ∙ e)
           (rw (terms-marked name (tables .1) table) at (files-kinds (k name (named-marked (tables .0) (table .few-names) d))));
-      marks = marks-after (tables .0) (tables .1) (same .2) (files-marks named f w);
+      marks = marks-after (tables .0) (tables .1) (same .out-words) (files-marks named f w);
     }),
-    λ name d. rw (sym (answer name d) ∙ e) (files-sorts-as named (rw (same .0, same .1, same .2) at z) q),
+    rw (not-false (ask-empty refs used many names rows t .full) (sym (same .answer) ∙ e)) (files-sorts-as named (rw (same .name-words, same .row-words, same .out-words) at z) q),
   )
 
 -- ---- the parts of an `and`

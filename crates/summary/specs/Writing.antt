@@ -8,17 +8,14 @@ use lib.ListN.{length}
 use lib.Dec.{ltb}
 use Rattle.model.specs.Lists.{_>>=_}
 use Rattle.model.specs.Names.{bytes, ends-with}
-use Rattle.model.specs.Terms.{Term}
-use Rattle.model.specs.Summaries.{exclude-names, is-empty, triggers-of-term}
 use Rattle.names.specs.Table.{name-of, spell-answer}
 use Rattle.names.specs.declared.Spelled.{Spelled}
 use Rattle.names.specs.declared.Spelled.the-variants as spelled
 use Rattle.terms.specs.Rows.{row-start, row-end, words, terms-of-words}
 use Rattle.gather.specs.Visits.{visit-term, marked-at, put}
-use Rattle.rules.specs.Views.{terms-in}
 use Rattle.rules.specs.declared.Choice.{Choice}
 use Rattle.rules.specs.declared.Choice.the-variants as choice
-use Rattle.triggers.specs.Filings.{Filing, filing, file-list, file-groups, file-parts, empty-visit}
+use Rattle.triggers.specs.Filings.{Filing, filing, file-list, file-groups, file-parts, ask-empty}
 use Rattle.summary.specs.Facts.{fact-choice, trimmed-found, token-table}
 
 -- the number of a spelled name: a full table has none for it
@@ -39,7 +36,7 @@ token-words file names named n =
 unfoldable pub stopped : Filing → Filing
 stopped f = record { names = f .names; rows = f .rows; out = f .out; mark = f .mark; end = f .end; full = true }
 
--- entries, where there are any and all have room
+-- these entries, if there are such and all have room; else nothing is written, and filing stops
 unfoldable pub file-words : Filing → Option (List ℕ) → Filing
 file-words f none = stopped f
 file-words f (some ws) =
@@ -54,12 +51,12 @@ file-token file named f n =
 
 module _ (refs : List ℕ) (used many : ℕ) where
   -- the triggers of a refinement's payload, where they are not empty; that is asked under a mark of its own
-  unfoldable pub file-refinement : List Term → ℕ → Filing → ℕ → Filing
-  file-refinement terms mark f t =
-      let walk = empty-visit refs used many (f .names) (f .rows) t in
+  unfoldable pub file-refinement : ℕ → Filing → ℕ → Filing
+  file-refinement mark f t =
+      let walk = ask-empty refs used many (f .names) (f .rows) t in
       let asked = filing (f .names) (marked-at 12288 mark (walk .walked) (f .rows)) (f .out) (f .mark) (f .end) in
       let more = file-groups refs used many asked t in
-      cond (is-empty (triggers-of-term exclude-names terms t)) asked more
+      cond (walk .full) more asked
 
   -- what a choice gathers
   unfoldable pub file-choice : List ℕ → ℕ → ℕ → Filing → Choice → Filing
@@ -67,8 +64,7 @@ module _ (refs : List ℕ) (used many : ℕ) where
   file-choice file named mark f (choice.One t) = file-list refs used many f (t ∷ [])
   file-choice file named mark f (choice.Two t u) = file-list refs used many (file-list refs used many f (t ∷ [])) (u ∷ [])
   file-choice file named mark f (choice.Groups t) = file-groups refs used many f t
-  file-choice file named mark f (choice.Refinement t) =
-      file-refinement (terms-in file (f .names) refs (f .rows) used many) mark f t
+  file-choice file named mark f (choice.Refinement t) = file-refinement mark f t
   file-choice file named mark f (choice.Token n) = file-token file named f n
   file-choice file named mark f choice.Nothing = f
   file-choice file named mark f (choice.Parts t) =
@@ -76,7 +72,7 @@ module _ (refs : List ℕ) (used many : ℕ) where
   file-choice file named mark f choice.Drop = f
   file-choice file named mark f choice.Ambient = f
 
-  -- the free names of a term from use `uses` on
+  -- the free names of a term, from word `uses` of `out` on; nothing once filing has stopped
   unfoldable pub file-uses : ℕ → Filing → ℕ → Filing
   file-uses uses f t =
       let walk = visit-term (f .names) refs (f .rows) used many (6144 - uses) t in

@@ -3,13 +3,12 @@ use model::AsumKind;
 use names::Spelled;
 use rules::Choice;
 use triggers::Filed;
-ghost use Prim.Native.Nat.{ℕ, _+_, _≤_, _<_};
+ghost use Prim.Native.Nat.{_+_, _≤_, _<_};
 ghost use mathlib.Core.Path.{_≡_};
 ghost use lib.ListN.{length};
-ghost use Rattle.model.specs.Names.{Name};
 ghost use Rattle.names.specs.Table.{Table};
 ghost use Rattle.terms.specs.Rows.{row-start, row-end, words, terms-of-words, terms-of, Rows};
-ghost use Rattle.gather.specs.Sets.{Fresh, Named};
+ghost use Rattle.gather.specs.Sets.{Fresh};
 ghost use Rattle.rules.specs.Views.{Tables};
 ghost use Rattle.rules.specs.Choices.{Within};
 ghost use Rattle.triggers.specs.Filings.{filing, file-parts};
@@ -112,7 +111,7 @@ fn file_refinement(
 ) -> Sorted
     requires { ⌜ Rows (now refs) (now rows) used many named × Begun (now names) (now rows) (now out) mark at × (t < many) ⌝ }
     ensures kinds { λ r. ⌜ Sorts (now (names .entry)) (now (rows .entry)) (now (out .entry)) (now (names .exit)) (now (rows .exit)) (now (out .exit)) named mark at (λ name. refinement-kind (terms-of name (now (refs .entry)) (now (rows .entry)) used many) t) r ⌝ }
-    ensures words { λ r. ⌜ ((name : ℕ → Name) → Named name (now (names .entry)) named → Sorts-as (file-refinement (now (refs .entry)) used many (terms-of name (now (refs .entry)) (now (rows .entry)) used many) mark (filing (now (names .entry)) (now (rows .entry)) (now (out .entry)) (mark + 1) at) t) (now (names .exit)) (now (rows .exit)) (now (out .exit)) mark at r) ⌝ }
+    ensures words { λ r. ⌜ Sorts-as (file-refinement (now (refs .entry)) used many mark (filing (now (names .entry)) (now (rows .entry)) (now (out .entry)) (mark + 1) at) t) (now (names .exit)) (now (rows .exit)) (now (out .exit)) mark at r ⌝ }
 {
     if triggers::is_empty(names, refs, rows, out, named, used, many, t, mark, at) {
         return Sorted::Kind(AsumKind::Ambient(true), at, named);

@@ -2,7 +2,7 @@
 use Prim.Native.Nat.{ℕ, zero, suc, _+_, _-_, _%_, _≤_, _<_}
 use native.Mathlib.Omega.{arith}
 use mathlib.Core.Path.{_≡_, refl, sym, ap, ap₂, _∙_}
-use mathlib.Core.Bool.{true, false}
+use mathlib.Core.Bool.{Bool, true, false, not}
 use mathlib.Core.List.{List, [], _∷_, _++_, map, map-append, append-nil}
 use lib.ListN.{length, getD, length-append}
 use Rattle.model.specs.Lists.{collect, fold-left, sum, is-nil}
@@ -17,11 +17,12 @@ use Rattle.gather.specs.Sets.{Same-but, Fresh, Gathers, all-names, no-room, Gat
 use Rattle.gather.specs.Visits.{visit-list, marked-at, Walks-as}
 use Rattle.gather.specs.declared.Walked.{Walked}
 use Rattle.gather.specs.declared.Walked.the-variants as gathered
+use Rattle.gather.proofs.Rendering.{answer-names, answer-full}
 use Rattle.gather.proofs.Steps.{same-self}
 use Rattle.triggers.specs.declared.Filed.{Filed}
 use Rattle.triggers.specs.declared.Filed.the-variants as filed
 use Rattle.triggers.specs.Entries.{entries, Opened}
-use Rattle.triggers.specs.Filings.{Filing, filing, file-list, file-groups, file-parts, empty-visit}
+use Rattle.triggers.specs.Filings.{Filing, filing, file-list, file-groups, file-parts, ask-empty, Asks-as}
 use Rattle.triggers.proofs.Disjuncts.{entries-append}
 use Rattle.triggers.proofs.Marked.{terms-marked, groups-marked, fresh-later, fresh-next, All, patterns, triggers-all, triggers-none, groups-more, groups-fewer}
 use Rattle.triggers.proofs.Words.{after, words-count, filed-group, filed-groups, filed-all, filed-none, filed-part, filed-parts, counted-more, walked-one, names-kept, out-kept}
@@ -262,11 +263,27 @@ module _ {refs rows : List ℕ} {used many named t groups u e : ℕ} (r : Rows r
         ∙ ap (λ g. map (group-names exclude-names (terms-of name refs rows used many)) (groups-of-words (patterns refs rows used many u) g)) one
         ∙ ap (λ ts. group-names exclude-names (terms-of name refs rows used many) ts ∷ []) (sym single-terms)
 
-    -- every word of the slices after gathering them without room
-    pub single-words : {names out names′ rows′ out′ : List ℕ} {mark at : ℕ} {w : Walked} → Gathered names rows out names′ rows′ out′ mark at at w
-        → Walks-as (visit-list names refs rows used many (at - at) (terms-of-words (words refs a e))) names rows out names′ rows′ out′ mark at w
-        → (names′ ≡ names) × (rows′ ≡ marked-at 12288 mark (empty-visit refs used many names rows t .walked) rows) × (out′ ≡ out)
-    single-words {names} {mark = mark} {at} g x = (names-kept g, x .row-words ∙ ap (λ v. marked-at 12288 mark (v .walked) rows) (walked-one names a at all one single-terms), out-kept g)
+    module _ {names out names′ rows′ out′ : List ℕ} {mark at : ℕ} {w : Walked} (g : Gathered names rows out names′ rows′ out′ mark at at w)
+        (x : Walks-as (visit-list names refs rows used many (at - at) (terms-of-words (words refs a e))) names rows out names′ rows′ out′ mark at w) where
+      -- every word of the slices after gathering them without room
+      single-words : (b : Bool) → visit-list names refs rows used many (at - at) (terms-of-words (words refs a e)) .full ≡ b
+          → Asks-as (ask-empty refs used many names rows t) names rows out names′ rows′ out′ mark (not b)
+      single-words b q =
+          let walk = walked-one names a at all one single-terms in
+          record {
+            answer = ap not (sym q ∙ ap (λ v. v .full) walk);
+            name-words = names-kept g;
+            row-words = x .row-words ∙ ap (λ v. marked-at 12288 mark (v .walked) rows) walk;
+            out-words = out-kept g;
+          }
+
+      -- where there is no name
+      pub single-none : {n : ℕ} → w ≡ gathered.Names n → Asks-as (ask-empty refs used many names rows t) names rows out names′ rows′ out′ mark true
+      single-none e = single-words false (answer-names at _ (sym e ∙ x .answer) .0)
+
+      -- and where there is one
+      pub single-some : w ≡ gathered.Full → Asks-as (ask-empty refs used many names rows t) names rows out names′ rows′ out′ mark false
+      single-some e = single-words true (answer-full at _ (sym e ∙ x .answer))
 
     -- a gathered set that has no name is empty, and one that has no room is not
     pub single-empty : {name : ℕ → Name} {at n : ℕ} {out : List ℕ} {f : Walked} → f ≡ gathered.Names n → Gathers name named (group-names exclude-names (terms-of name refs rows used many) (terms-of-words (words refs a e))) at at out f

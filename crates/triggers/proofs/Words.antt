@@ -24,21 +24,21 @@ use Rattle.gather.proofs.Rendering.{answer-names, answer-full}
 use Rattle.triggers.specs.declared.Filed.{Filed}
 use Rattle.triggers.specs.declared.Filed.the-variants as filed
 use Rattle.triggers.specs.Entries.{filed-end, Closes, last, empty, over, Opened}
-use Rattle.triggers.specs.Filings.{Filing, filing, entry-words, file-set, file-list, groups-under, file-groups, file-parts, empty-visit, Files-as, as-sets, as-full}
+use Rattle.triggers.specs.Filings.{Filing, filing, set-words, file-set, file-list, groups-under, file-groups, file-parts, ask-empty, Asks-as, Files-as, as-sets, as-full}
 use Rattle.triggers.proofs.Marked.{All, patterns, groups-here}
 
 -- ---- one set
 
 -- a set with a name has an entry for each
-entry-length : (ns : List ℕ) → 0 < length ns → length (entry-words ns) ≡ length ns
-unfolding entry-words
+entry-length : (ns : List ℕ) → 0 < length ns → length (set-words ns) ≡ length ns
+unfolding set-words
 entry-length [] h = absurd (let z : ⊥ = omega arith in z)
 entry-length (n ∷ []) h = refl
 entry-length (n ∷ m ∷ ns) h = ap suc (entry-length (m ∷ ns) (omega arith))
 
 -- its entries are the numbers, with 4096 added to the last
-entry-put : (ns : List ℕ) (at i : ℕ) (out : List ℕ) → i + 1 ≡ at + length ns → at ≤ i → i < length out → put at (entry-words ns) out ≡ set (put at ns out) i (getD (put at ns out) i 0 + 4096)
-unfolding entry-words put
+entry-put : (ns : List ℕ) (at i : ℕ) (out : List ℕ) → i + 1 ≡ at + length ns → at ≤ i → i < length out → put at (set-words ns) out ≡ set (put at ns out) i (getD (put at ns out) i 0 + 4096)
+unfolding set-words put
 entry-put [] at i out e h l = absurd (let z : ⊥ = omega arith in z)
 entry-put (n ∷ []) at i out e h l =
     let q : at ≡ i = omega arith in
@@ -46,7 +46,7 @@ entry-put (n ∷ []) at i out e h l =
 entry-put (n ∷ m ∷ ns) at i out e h l = entry-put (m ∷ ns) (at + 1) i (set out at n) (omega arith) (omega arith) (rw (length-set out at n) l)
 
 -- a filed set, by whether it has room and by the words that it writes
-set-by : (f : Filing) (v : Visit) {b : Bool} {ws : List ℕ} → (v .full || ltb 8192 (f .end + length (entry-words (v .found)))) ≡ b → cond b (v .found) (entry-words (v .found)) ≡ ws
+set-by : (f : Filing) (v : Visit) {b : Bool} {ws : List ℕ} → (v .full || ltb 8192 (f .end + length (set-words (v .found)))) ≡ b → cond b (v .found) (set-words (v .found)) ≡ ws
     → file-set f v ≡ record {
       names = marked-at 8192 (f .mark) (v .found) (f .names);
       rows = marked-at 12288 (f .mark) (v .walked) (f .rows);
@@ -71,13 +71,13 @@ module _ {names rows out names₁ rows₁ out₁ : List ℕ} {mark at : ℕ} {v 
 
   -- a set that was ended
   pub words-closed : {end : ℕ} {out₂ : List ℕ} {r : Filed} → w ≡ gathered.Names end → end ≤ 8192 → Closes out₁ out₂ at end r → Files-as (file-set (filing names rows out mark at) v) 1 names₁ rows₁ out₂ mark at r
-  unfolding entry-words put
+  unfolding set-words put
   words-closed {end} {out₂} e fits (last some q) =
       let (going, ends) = answer-names at v (sym e ∙ x .answer) in
-      let long : length (entry-words (v .found)) ≡ length (v .found) = entry-length (v .found) (omega arith) in
-      let written : put at (entry-words (v .found)) out ≡ out₂ = entry-put (v .found) at (end - 1) out (omega arith) (omega arith) (omega (arith, h .high)) ∙ sym (q ∙ ap (λ o. set o (end - 1) (getD o (end - 1) 0 + 4096)) (x .out-words)) in
+      let long : length (set-words (v .found)) ≡ length (v .found) = entry-length (v .found) (omega arith) in
+      let written : put at (set-words (v .found)) out ≡ out₂ = entry-put (v .found) at (end - 1) out (omega arith) (omega arith) (omega (arith, h .high)) ∙ sym (q ∙ ap (λ o. set o (end - 1) (getD o (end - 1) 0 + 4096)) (x .out-words)) in
       as-sets {e = end} refl
-      (set-by (filing names rows out mark at) v {b = false} (rw (going, le-ltb 8192 (at + length (entry-words (v .found))) (omega arith))) refl
+      (set-by (filing names rows out mark at) v {b = false} (rw (going, le-ltb 8192 (at + length (set-words (v .found))) (omega arith))) refl
       ∙ filing-as (sym (x .name-words)) (sym (x .row-words)) written (omega arith) (omega arith))
   words-closed {end} {out₂} e fits (empty i l q) = none (v .found) refl
     where
@@ -197,15 +197,21 @@ counted-more rows refs a i t low l is =
 
 -- ---- the walk that finds no name
 
--- a term without one group is not walked
-pub unwalked : (refs : List ℕ) (used many : ℕ) (names rows : List ℕ) (t mark : ℕ) {groups : ℕ} → groups ≡ groups-at rows t → (groups ≡ 1 → ⊥) → rows ≡ marked-at 12288 mark (empty-visit refs used many names rows t .walked) rows
-unfolding empty-visit start-visit marked-at fold-left
-unwalked refs used many names rows t mark {groups} c n = rw (← c, ne-eqb groups 1 n)
+module _ (refs : List ℕ) (used many : ℕ) (names rows out : List ℕ) (t mark : ℕ) {groups : ℕ} (counts : groups ≡ groups-at rows t) where
+  -- without a group the answer is yes
+  pub asked-none : groups ≡ 0 → Asks-as (ask-empty refs used many names rows t) names rows out names rows out mark true
+  unfolding ask-empty marked-at fold-left
+  asked-none z = rw (sym counts ∙ z) (record { answer = refl; name-words = refl; row-words = refl; out-words = refl })
+
+  -- with two or more it is no
+  pub asked-more : (groups ≡ 0 → ⊥) → (groups ≡ 1 → ⊥) → Asks-as (ask-empty refs used many names rows t) names rows out names rows out mark false
+  unfolding ask-empty marked-at fold-left
+  asked-more z n = rw (← counts, ne-eqb groups 1 n, lt-ltb 1 groups (omega arith)) (record { answer = refl; name-words = refl; row-words = refl; out-words = refl })
 
 -- the walk of one group, without room
 pub walked-one : {refs rows : List ℕ} {used many t groups u e : ℕ} (names : List ℕ) (a at : ℕ) → All refs rows used many t groups u e → groups ≡ 1 → terms-of-words (words refs a e) ≡ group-of-words (patterns refs rows used many u) 0
-    → visit-list names refs rows used many (at - at) (terms-of-words (words refs a e)) ≡ empty-visit refs used many names rows t
-unfolding empty-visit concat groups-of-words
+    → visit-list names refs rows used many (at - at) (terms-of-words (words refs a e)) ≡ ask-empty refs used many names rows t
+unfolding ask-empty concat groups-of-words
 walked-one {refs} {rows} {used} {many} {t} {groups} {u} {e} names a at all one is =
     let room : at - at ≡ 0 = omega arith in
     let here : groups-under refs used many rows t ≡ group-of-words (patterns refs rows used many u) 0 ∷ [] = sym (groups-here all) ∙ ap (groups-of-words (patterns refs rows used many u)) one in

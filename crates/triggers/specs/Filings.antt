@@ -1,17 +1,18 @@
 -- Sets of names filed as trigger entries, one after the other: every word of the slices, and where filing stops.
 use Prim.Native.Nat.{ℕ, _+_, _-_}
 use mathlib.Core.Path.{_≡_}
-use mathlib.Core.Bool.{Bool, true, false, cond, _||_}
+use mathlib.Core.Bool.{Bool, true, false, cond, not, _||_}
 use mathlib.Core.List.{List, [], _∷_}
 use lib.ListN.{length}
 use lib.Dec.{eqb, ltb}
 use Rattle.model.specs.Lists.{concat, fold-left}
 use Rattle.terms.specs.Rows.{row-start, row-end, words, groups-of-words, bare-of, groups-at}
-use Rattle.gather.specs.Visits.{Visit, start-visit, visit-list, marked-at, put}
+use Rattle.gather.specs.Visits.{Visit, visit-list, marked-at, put}
 use Rattle.triggers.specs.declared.Filed.{Filed}
 use Rattle.triggers.specs.declared.Filed.the-variants as filed
 
--- how far filing is: the slices, the mark of the next set, the place of the next entry, and whether a set had no room
+-- how far filing is: the slices, the mark of the next set, the place of the next entry, and whether a set had no room; mark
+-- and place say nothing then
 pub record Filing : Type 0 where
   pub names : List ℕ
   pub rows : List ℕ
@@ -25,15 +26,16 @@ abbrev pub filing : List ℕ → List ℕ → List ℕ → ℕ → ℕ → Filin
 filing names rows out mark end = record { names = names; rows = rows; out = out; mark = mark; end = end; full = false }
 
 -- the entries of a set, by the numbers of its names: 4096 is added to the last; an empty set takes one
-unfoldable pub entry-words : List ℕ → List ℕ
-entry-words [] = 6144 ∷ []
-entry-words (n ∷ []) = (n + 4096) ∷ []
-entry-words (n ∷ m ∷ ns) = n ∷ entry-words (m ∷ ns)
+unfoldable pub set-words : List ℕ → List ℕ
+set-words [] = 6144 ∷ []
+set-words (n ∷ []) = (n + 4096) ∷ []
+set-words (n ∷ m ∷ ns) = n ∷ set-words (m ∷ ns)
 
--- the set that a walk found: its marks, and its entries; where they have no room, the numbers that had
+-- the set that a walk found: its marks and its entries; where these have no room, since the walk stopped or an empty set
+-- comes at 8,192, the numbers found stand without an end
 unfoldable pub file-set : Filing → Visit → Filing
 file-set f v =
-    let ended = entry-words (v .found) in
+    let ended = set-words (v .found) in
     let full = v .full || ltb 8192 (f .end + length ended) in
     let written = cond full (v .found) ended in
     record {
@@ -67,11 +69,20 @@ module _ (refs : List ℕ) (used many : ℕ) where
   unfoldable pub file-parts : Filing → List ℕ → Filing
   file-parts f ts = fold-left file-groups f ts
 
-  -- the walk that asks whether a term's one group has a name: without room, so that it stops at the first
-  unfoldable pub empty-visit : List ℕ → List ℕ → ℕ → Visit
-  empty-visit names rows t =
+  -- the walk that asks whether a term's triggers are empty: that of its one group, without room, so that it stops at the first
+  -- name; no group is empty, two and more are not, and nothing is walked
+  unfoldable pub ask-empty : List ℕ → List ℕ → ℕ → Visit
+  ask-empty names rows t =
       let walk = visit-list names refs rows used many 0 (concat (groups-under rows t)) in
-      cond (eqb (groups-at rows t) 1) walk start-visit
+      let unwalked : Visit = record { found = []; walked = []; full = ltb 1 (groups-at rows t) } in
+      cond (eqb (groups-at rows t) 1) walk unwalked
+
+-- the answer and every word of the slices after asking under a mark
+pub record Asks-as (v : Visit) (names rows out names′ rows′ out′ : List ℕ) (mark : ℕ) (r : Bool) : Type 0 where
+  pub answer : r ≡ not (v .full)
+  pub name-words : names′ ≡ names
+  pub row-words : rows′ ≡ marked-at 12288 mark (v .walked) rows
+  pub out-words : out′ ≡ out
 
 -- the answer and every word of the slices after filing so many sets from `at` on, under marks from `mark` on
 pub data Files-as (f : Filing) (count : ℕ) (names′ rows′ out′ : List ℕ) (mark at : ℕ) : Filed → Type 0 where

@@ -8,9 +8,8 @@ ghost use Rattle.model.specs.Names.{Name};
 ghost use Rattle.model.specs.Summaries.{exclude-names, is-empty, free-top-level-names, group-names, triggers-of-term};
 ghost use Rattle.terms.specs.Rows.{row-start, row-end, words, terms-of-words, terms-of, bare-of, groups-at, Rows};
 ghost use Rattle.gather.specs.Sets.{Named, Fresh, Same-but};
-ghost use Rattle.gather.specs.Visits.{marked-at};
 ghost use Rattle.triggers.specs.Entries.{Opened, Files, Filled, Closes};
-ghost use Rattle.triggers.specs.Filings.{filing, file-list, file-groups, file-parts, empty-visit, Files-as};
+ghost use Rattle.triggers.specs.Filings.{filing, file-list, file-groups, file-parts, ask-empty, Asks-as, Files-as};
 
 // What filing disjuncts comes to: how many there are and where their entries end, or that there is no room for them.
 pub enum Filed {
@@ -264,7 +263,7 @@ pub fn triggers_of_list(
     Filed::Sets(count, end)
 }
 
-// Whether a term has no trigger, or one empty set. No entry is filed; one mark is used.
+// Whether a term has no trigger, or one empty set. No entry is filed; at most one mark is used.
 pub fn is_empty(
     names: &mut [u32],
     refs: &[u32],
@@ -280,7 +279,7 @@ pub fn is_empty(
     requires { ⌜ Rows (now refs) (now rows) used many named × Opened (now names) (now rows) (now out) mark at × (t < many) ⌝ }
     ensures answer { λ r. ⌜ ((name : ℕ → Name) → Named name (now (names .entry)) named → r ≡ is-empty (triggers-of-term exclude-names (terms-of name (now (refs .entry)) (now (rows .entry)) used many) t)) ⌝ }
     ensures tables { λ r. ⌜ Same-but 8192 2048 (now (names .entry)) (now (names .exit)) × Same-but 12288 4096 (now (rows .entry)) (now (rows .exit)) × Fresh (now (names .exit)) (now (rows .exit)) (mark + 1) ⌝ }
-    ensures words { λ r. ⌜ (now (names .exit) ≡ now (names .entry)) × (now (rows .exit) ≡ marked-at 12288 mark (empty-visit (now (refs .entry)) used many (now (names .entry)) (now (rows .entry)) t .walked) (now (rows .entry))) × (now (out .exit) ≡ now (out .entry)) ⌝ }
+    ensures words { λ r. ⌜ Asks-as (ask-empty (now (refs .entry)) used many (now (names .entry)) (now (rows .entry)) t) (now (names .entry)) (now (rows .entry)) (now (out .entry)) (now (names .exit)) (now (rows .exit)) (now (out .exit)) mark r ⌝ }
 {
     let p = pattern_groups(rows, used, many, t);
     if p.count == 0 {

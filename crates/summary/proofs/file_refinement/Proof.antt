@@ -16,7 +16,7 @@ add-triggers-of-term : tie.Need-add-triggers-of-term
 add-triggers-of-term c = search needs
 
 triggers-of-term-requires : tie.Need-triggers-of-term-requires
-triggers-of-term-requires c κs = (rows-marked (c .before .before .before .before .before .before .before .before .before .before .is-empty .ensures .1 .0 .1) (c .before .before .before .before .before .before .before .before .before .before .before .before .before .before .before .before .before .before .pre .0), begun-then (c .before .before .before .before .before .before .before .before .before .before .before .before .before .before .before .before .before .before .pre .1) (c .before .before .before .before .before .before .before .before .before .before .is-empty .ensures .1 .0) (c .before .before .before .before .before .before .before .before .before .before .is-empty .ensures .1 .1 .2), c .before .before .before .before .before .before .before .before .before .before .before .before .before .before .before .before .before .before .pre .2)
+triggers-of-term-requires c κs = (rows-marked (c .before .before .before .before .before .before .before .before .before .before .is-empty .ensures .1 .0 .1) (c .before .before .before .before .before .before .before .before .before .before .before .before .before .before .before .before .before .before .pre .0), begun-then (c .before .before .before .before .before .before .before .before .before .before .before .before .before .before .before .before .before .before .pre .1) (c .before .before .before .before .before .before .before .before .before .before .is-empty .ensures .1 .0) (c .before .before .before .before .before .before .before .before .before .before .is-empty .ensures .1 .1 .out-words), c .before .before .before .before .before .before .before .before .before .before .before .before .before .before .before .before .before .before .pre .2)
 
 filed-requires : tie.Need-filed-requires
 filed-requires c κs = search needs
