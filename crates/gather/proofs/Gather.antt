@@ -12,28 +12,8 @@ use Rattle.gather.specs.declared.Walked.the-variants as walks
 use Rattle.terms.specs.Rows.{words, terms-of-words, terms-of, Rows}
 use Rattle.gather.specs.Sets.{row-mark, name-mark, Fresh, Named, ended, Gathers, Gathered}
 use Rattle.gather.specs.Walks.{Free, Among, Closed, Ready, References, Steps, Walks, Listed}
-use Rattle.terms.proofs.Table.{words-elim, words-intro}
+use Rattle.terms.proofs.Table.{rows-named, words-elim, words-intro}
 use Rattle.gather.proofs.Naming.{occurs-named, term-set, list-set, start-listed, steps-gathers}
-
--- a table stays one where there are more names
-pub rows-named : {refs rows : List ℕ} {used many named named′ : ℕ} → named ≤ named′ → named′ ≤ 2048 → Rows refs rows used many named → Rows refs rows used many named′
-rows-named h l r = record {
-  ref-room = r .ref-room;
-  row-room = r .row-room;
-  few-references = r .few-references;
-  few-rows = r .few-rows;
-  few-names = l;
-  in-order = r .in-order;
-  in-use = r .in-use;
-  lower = r .lower;
-  headed = λ t k p. let d = r .headed t k p in omega arith;
-  bodied = r .bodied;
-  labelled = r .labelled;
-  childless = r .childless;
-  single = r .single;
-  grouped = r .grouped;
-  rising = r .rising;
-}
 
 -- no name has a new mark yet
 fresh-name : {names rows : List ℕ} {mark : ℕ} → Fresh names rows mark → (k : ℕ) → k < 2048 → name-mark names k ≡ mark → ⊥

@@ -9,7 +9,7 @@ use mathlib.Core.List.{List, [], _∷_, _++_, map, reverse, reverse-cons, revers
 -- a member's value is a member of the mapped list, and back
 pub use mathlib.Core.List.{Memᴰ·map as map-intro, Memᴰ·of-map as map-elim}
 use lib.Dec.{T}
-use lib.ListN.{length, length-append, getD}
+use lib.ListN.{length, length-append, getD, replicate}
 use Rattle.model.specs.Lists.{any, all, keep, count, concat, collect, fold-left, sum, is-nil}
 
 -- both hold where the conjunction does, and back
@@ -403,3 +403,9 @@ sum-append (n ∷ ns) m = rw (sum-append ns m) (omega arith)
 -- the sum of what a function gives over two lists
 pub sum-map-append : {A : Type 0} (f : A → ℕ) (l m : List A) → sum (map f (l ++ m)) ≡ sum (map f l) + sum (map f m)
 sum-map-append f l m = rw (map-append, sum-append)
+
+-- a list of zeros has zeros everywhere
+pub zero-at : (n i : ℕ) → _≡_ {A = ℕ} (getD (replicate n 0) i 0) 0
+zero-at zero i = refl
+zero-at (suc n) zero = refl
+zero-at (suc n) (suc i) = zero-at n i

@@ -1,7 +1,7 @@
 -- What the functions that look at a row rest on: the words that they read, said of plain lists.
 use Prim.Native.Nat.{ℕ, _+_, _≤_, _<_}
 use native.Mathlib.Omega.{arith}
-use mathlib.Core.Path.{_≡_, sym, ap, _∙_}
+use mathlib.Core.Path.{_≡_, sym, _∙_}
 use mathlib.Core.Bool.{Bool, true, false, cond, _&&_}
 use mathlib.Core.List.{List}
 use lib.ListN.{length, getD}
@@ -11,7 +11,7 @@ use Rattle.model.specs.Names.{Name, starts-with}
 use Rattle.model.proofs.ListLaws.{true-T}
 use Rattle.text.specs.Parts.{part}
 use Rattle.names.specs.Table.{name-of}
-use Rattle.terms.specs.Rows.{row-kind, row-op, row-head, row-start, row-extra, row-end, has-head, bare-of, Rows}
+use Rattle.terms.specs.Rows.{row-kind, row-op, row-head, row-start, row-end, has-head, Rows}
 use Rattle.rules.specs.declared.Argument.the-variants as argument
 use Rattle.rules.specs.declared.Arguments.the-variants as arguments
 use Rattle.rules.specs.Views.{row-count, row-argument, is-call-at, is-head-at, is-op-at, call-one-at, call-two-at, op-two-at}

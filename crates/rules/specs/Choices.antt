@@ -33,17 +33,17 @@ kinded terms name choice.Ambient = some (Sum-ambient false)
 
 -- which rule takes a fact and what it gathers, by the numbers of terms; a token by the number of its row's head
 module _ (terms : List Term) (rows : List ℕ) where
-  -- (1) {left}
+  -- (1) `iff` of two, name starting l_quant_interp: {left}
   unfoldable pub choose-1 : Name → ℕ → Option Choice
   choose-1 name t = do
     (left, right) ← op-args Iff (at exclude-names terms t) >>= two
     when (starts-with name (bytes "l_quant_interp")) (choice.One left)
 
-  -- (2) {whole term}
+  -- (2) name starting assumption_: {whole term}; the term has no triggers here
   unfoldable pub choose-2 : Name → ℕ → Option Choice
   choose-2 name t = when (starts-with name (bytes "assumption_")) (choice.One t)
 
-  -- (3) the payload's triggers, or ambient root
+  -- (3) HasType of two, type a squash or a refinement: the payload's triggers, or ambient root
   unfoldable pub choose-3 : Name → ℕ → Option Choice
   choose-3 name t = do
     (subject, ty) ← call-two "HasType" (at exclude-names terms t)
@@ -53,14 +53,14 @@ module _ (terms : List Term) (rows : List ℕ) where
   unfoldable pub token-choice : ℕ → Choice
   token-choice t = Option·getD (token exclude-names terms t >>= λ n. some (choice.Token (row-head rows t))) choice.Nothing
 
-  -- (4) {token}, and {token less @tok}
+  -- (4) Valid of ApplyTT of __uu__PartialApp and a token: {token}, and {token less @tok}
   unfoldable pub choose-4 : Name → ℕ → Option Choice
   choose-4 name t = do
     applied ← call-one "Valid" (at exclude-names terms t)
     (function, argument) ← call-two "ApplyTT" (at exclude-names terms applied)
     when (holds (same (bytes "__uu__PartialApp")) (head (at exclude-names terms function))) (token-choice argument)
 
-  -- (5) {first}
+  -- (5) Valid, IsTotFun, is-Tm_arrow of one, HasType of two: {first}
   unfoldable pub choose-5 : Name → ℕ → Option Choice
   choose-5 name t = do
     first ←
@@ -69,40 +69,40 @@ module _ (terms : List Term) (rows : List ℕ) where
         (or-else (call-one "IsTotFun" (at exclude-names terms t)) (call-one "is-Tm_arrow" (at exclude-names terms t))))
     some (choice.One first)
 
-  -- (6) {argument of the right's Term_constr_id}
+  -- (6) `eq` of two whose right is Term_constr_id of one: {its argument}
   unfoldable pub choose-6 : Name → ℕ → Option Choice
   choose-6 name t = do
     (left, right) ← op-args Eq (at exclude-names terms t) >>= two
     argument ← call-one "Term_constr_id" (at exclude-names terms right)
     some (choice.One argument)
 
-  -- (7) the triggers of its parts
+  -- (7) `and`: the triggers of its parts
   unfoldable pub choose-7 : Name → ℕ → Option Choice
   choose-7 name t = op-args And (at exclude-names terms t) >>= λ parts. some (choice.Parts t)
 
-  -- (8) {left}
+  -- (8) `eq` of two, name starting equation_: {left}
   unfoldable pub choose-8 : Name → ℕ → Option Choice
   choose-8 name t = do
     (left, right) ← op-args Eq (at exclude-names terms t) >>= two
     when (starts-with name (bytes "equation_")) (choice.One left)
 
-  -- (9) {left's second argument}, or {left}, {right}
+  -- (9) `iff` of two: hasEq on both sides gives {left's second argument}; else {left}, {right}
   unfoldable pub choose-9 : Name → ℕ → Option Choice
   choose-9 name t = do
     (left, right) ← op-args Iff (at exclude-names terms t) >>= two
     or-else (has-eq exclude-names terms left >>= λ l. has-eq exclude-names terms right >>= λ r. some (choice.One l)) (some (choice.Two left right))
 
-  -- (10) {left}, {right}
+  -- (10) `eq` of two: {left}, {right}
   unfoldable pub choose-10 : Name → ℕ → Option Choice
   choose-10 name t = do
     (left, right) ← op-args Eq (at exclude-names terms t) >>= two
     some (choice.Two left right)
 
-  -- (11) drop
+  -- (11) `true`: drop
   unfoldable pub choose-11 : Name → ℕ → Option Choice
   choose-11 name t = op-args TrueOp (at exclude-names terms t) >>= λ ts. some choice.Drop
 
-  -- (12) ambient
+  -- (12) ambient, no root
   unfoldable pub choose-12 : Name → ℕ → Option Choice
   choose-12 name t = some choice.Ambient
 

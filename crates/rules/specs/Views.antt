@@ -2,10 +2,8 @@
 use Prim.Native.Nat.{ℕ, _+_, _-_, _%_}
 use mathlib.Core.Bool.{Bool, cond, _&&_}
 use mathlib.Core.List.{List}
-use mathlib.Core.Option.{Option}
 use lib.ListN.{getD}
 use lib.Dec.{eqb}
-use Rattle.model.specs.Lists.{when}
 use Rattle.names.specs.Table.{Table, name-of}
 use Rattle.model.specs.Terms.{Term}
 use Rattle.terms.specs.Rows.{row-kind, row-op, row-head, row-start, row-end, has-head, terms-of, Rows}

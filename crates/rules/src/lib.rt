@@ -356,7 +356,7 @@ fn rule_2(
     name: usize,
     t: usize,
 ) -> Choice
-    requires { ⌜ Tables (now file) (now names) (now refs) (now rows) named used many × (name < named) × (t < many) × (groups-at (now rows) t ≡ 0) ⌝ }
+    requires { ⌜ Tables (now file) (now names) (now refs) (now rows) named used many × (name < named) × (t < many) ⌝ }
     ensures rule { λ r. ⌜ as-held r ≡ choose-2 (terms-in (now (file .entry)) (now (names .entry)) (now (refs .entry)) (now (rows .entry)) used many) (now (rows .entry)) (name-of (now (file .entry)) (now (names .entry)) name) t ⌝ }
     ensures within { λ r. ⌜ Within named many r ⌝ }
 {

@@ -10,8 +10,8 @@ use Rattle.model.specs.Names.{Name, mem}
 use Rattle.model.specs.Reading.{spell}
 use Rattle.names.specs.Table.{names-of}
 use Rattle.names.proofs.Laws.{names-length}
+use Rattle.terms.proofs.Table.{rows-named}
 use Rattle.gather.specs.Sets.{Same-but}
-use Rattle.gather.proofs.Gather.{rows-named}
 use Rattle.gather.proofs.Walking.{rows-marked}
 use Rattle.summary.specs.declared.Summary.{Summary}
 use Rattle.summary.specs.declared.Summarized.{Summarized}

@@ -8,6 +8,7 @@ use lib.ListN.{length, getD, set, replicate, length-replicate}
 use lib.Seq.{getD-set-other}
 use Rattle.model.specs.Names.{Name}
 use Rattle.model.specs.Terms.{Node}
+use Rattle.model.proofs.ListLaws.{zero-at}
 use Rattle.text.specs.declared.Cursor.{Cursor}
 use Rattle.text.specs.Parts.{Placed}
 use Rattle.text.proofs.Laws.{Onward}
@@ -21,8 +22,8 @@ use Rattle.lines.specs.declared.Added.the-variants as adds
 use Rattle.lines.specs.Additions.{with-row, pushed, push-answer, Pushed, Patterns, Adds}
 use Rattle.lines.proofs.Laws.{added-in, added-full, answer-full}
 use Rattle.lines.proofs.Lines.{pushed-none, pushed-one, patterns-body, patterns-one}
+use Rattle.terms.proofs.Table.{rows-named}
 use Rattle.gather.specs.Sets.{row-mark, name-mark, Fresh}
-use Rattle.gather.proofs.Gather.{rows-named}
 use Rattle.summaries.specs.declared.Counts.{Counts}
 use Rattle.summaries.specs.declared.Fed.{Fed}
 use Rattle.summaries.specs.declared.Fed.the-variants as fed
@@ -262,12 +263,6 @@ goes-on {file} {names′} {refs′} {rows′} {line} {k′} s p = go (rw p at s)
     go (line-fed a) = a
 
 -- ---- zeros
-
--- a list of zeros has zeros everywhere
-zero-at : (n i : ℕ) → _≡_ {A = ℕ} (getD (replicate n 0) i 0) 0
-zero-at zero i = refl
-zero-at (suc n) zero = refl
-zero-at (suc n) (suc i) = zero-at n i
 
 -- a list of enough zeros is long enough for a table
 pub zeros-long : (n : ℕ) → 16384 ≤ n → 16384 ≤ length {A = ℕ} (replicate n 0)

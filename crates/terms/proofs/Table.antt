@@ -474,6 +474,26 @@ module _ (name : ℕ → Name) (refs rows : List ℕ) (used many : ℕ) where
   pub bare-law : {named : ℕ} → Rows refs rows used many named → (t : ℕ) → t < many → term (terms-of name refs rows used many) t .bare ≡ node-of name refs rows used many (bare-of rows t)
   bare-law r t l = rw table-all (bare-table r (suc t) many t (omega arith) l (omega arith))
 
+-- a table stays one where there are more names
+pub rows-named : {refs rows : List ℕ} {used many named named′ : ℕ} → named ≤ named′ → named′ ≤ 2048 → Rows refs rows used many named → Rows refs rows used many named′
+rows-named h l r = record {
+  ref-room = r .ref-room;
+  row-room = r .row-room;
+  few-references = r .few-references;
+  few-rows = r .few-rows;
+  few-names = l;
+  in-order = r .in-order;
+  in-use = r .in-use;
+  lower = r .lower;
+  headed = λ t k p. let d = r .headed t k p in omega arith;
+  bodied = r .bodied;
+  labelled = r .labelled;
+  childless = r .childless;
+  single = r .single;
+  grouped = r .grouped;
+  rising = r .rising;
+}
+
 -- the term under a run of labels is not above the row
 pub bare-low : {refs rows : List ℕ} {used many named : ℕ} → Rows refs rows used many named → (t : ℕ) → t < many → bare-of rows t ≤ t
 bare-low {refs} {rows} {used} {many} r t l = go (suc t) t (omega arith) l

@@ -1,5 +1,6 @@
 -- Trigger entries in a lent slice, up to its word 8,192. An entry is the number of a name, or 2048 for a disjunct that has
--- none; 4096 is added to the last entry of its disjunct.
+-- none; 4096 is added to the last entry of its disjunct. The names of a disjunct stand in the order in which its walk finds
+-- them.
 use Prim.Native.Nat.{ℕ, _+_, _-_, _%_, max, _≤_, _<_}
 use mathlib.Core.Path.{_≡_}
 use mathlib.Core.Bool.{cond}

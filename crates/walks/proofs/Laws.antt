@@ -9,6 +9,7 @@ use lib.ListN.{length, getD, set, replicate, length-replicate, length-set}
 use lib.Seq.{getD-set-other}
 use Rattle.model.specs.Names.{Name}
 use Rattle.model.specs.Terms.{Node}
+use Rattle.model.proofs.ListLaws.{zero-at}
 use Rattle.lines.specs.declared.Added.{Added}
 use Rattle.lines.specs.Additions.{with-row, pushed, Patterns, Adds}
 use Rattle.gather.specs.Sets.{Fresh}
@@ -19,13 +20,7 @@ use Rattle.lines.proofs.Adding.{push-agrees}
 use Rattle.lines.proofs.Lines.{pushed-none, pushed-one, push-last}
 use Rattle.walks.specs.Tables.{Blank, Table}
 
--- a list of zeros has zeros everywhere
-zero-at : (n i : ℕ) → _≡_ {A = ℕ} (getD (replicate n 0) i 0) 0
-zero-at zero i = refl
-zero-at (suc n) zero = refl
-zero-at (suc n) (suc i) = zero-at n i
-
--- and is blank
+-- a list of zeros is blank
 pub zeros-blank : (column n : ℕ) → 16384 ≤ n → Blank column (replicate n 0)
 zeros-blank column n h = record { long = rw (length-replicate {A = ℕ} n 0) h; zeros = λ i l. zero-at n i }
 

@@ -176,7 +176,7 @@ returns c =
     promised s (stop (terms s) (rows s) (fact s) (s .args .t) (all-rules (terms s) (rows s) (fact s) (s .args .t)) (held .result) (held .ensures .0) (c .before .held .ensures) (c .if1 .taken)) (held .ensures .1)
 
 rule-2-requires : tie.Need-rule-2-requires
-rule-2-requires c κs = start-1 c .pre
+rule-2-requires c κs = (start-1 c .pre .0, start-1 c .pre .1, start-1 c .pre .2)
 
 held-requires-2 : tie.Need-held-requires-2
 held-requires-2 c κs = search needs
