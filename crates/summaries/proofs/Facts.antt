@@ -1,7 +1,7 @@
 -- Laws of a fact's line: what summarising it asks, and that its summary leaves the tables and the lists right.
 use Prim.Native.Nat.{ℕ, _+_, _≤_, _<_}
 use native.Mathlib.Omega.{arith}
-use mathlib.Core.Path.{_≡_, refl, ap}
+use mathlib.Core.Path.{_≡_, refl, sym, ap, _∙_}
 use mathlib.Core.Bool.{Bool, true, false, cond}
 use mathlib.Core.List.{List, [], _∷_, _++_}
 use lib.ListN.{length, length-append}
@@ -16,7 +16,8 @@ use Rattle.gather.proofs.Walking.{rows-marked}
 use Rattle.summary.specs.declared.Summary.{Summary}
 use Rattle.summary.specs.declared.Summarized.{Summarized}
 use Rattle.summary.specs.declared.Summarized.the-variants as summarized
-use Rattle.summary.specs.Facts.{Asked, fact-kind, names-then, Summary-of, Summarizes, done}
+use Rattle.summary.specs.Facts.{Asked, fact-kind, names-then, fact-summary, limited, Lists}
+use Rattle.summary.proofs.Answering.{limited-done}
 use Rattle.summaries.specs.declared.Counts.{Counts}
 use Rattle.summaries.specs.declared.Fed.the-variants as fed
 use Rattle.summaries.specs.Fed.{Spelt, Ready, Goes, line-fed}
@@ -68,44 +69,46 @@ asked r room few name term = record {
   room = room;
 }
 
-module _ {file names refs rows names′ rows′ out′ : List ℕ} {named used many name t mark filed uses : ℕ} where
-  -- what summarising a fact says, where it passes no limit
-  pub summarizes-done : {s : Summary} {r : Summarized} → Summarizes file names refs rows named used many name t names′ rows′ out′ mark filed uses r → r ≡ summarized.Done s
-      → Summary-of file names refs rows named used many name t names′ rows′ out′ mark filed uses s
-  summarizes-done {s} d p = go (rw p at d)
-    where
-      go : Summarizes file names refs rows named used many name t names′ rows′ out′ mark filed uses (summarized.Done s)
-          → Summary-of file names refs rows named used many name t names′ rows′ out′ mark filed uses s
-      go (done a) = a
+-- what summarising a fact says, where it passes no limit
+pub record Made (file names refs rows names′ rows′ out′ : List ℕ) (named used many name t mark filed uses : ℕ) (s : Summary) : Type 0 where
+  pub lists : Lists file names refs rows named used many name t names′ rows′ out′ filed uses s
+  pub is : s ≡ fact-summary file names refs rows named used many name t mark filed uses
+  pub few-entries : s .entries ≤ 2048
+  pub few-uses : s .uses ≤ 6144
 
-  module _ {s : Summary} (a : Summary-of file names refs rows named used many name t names′ rows′ out′ mark filed uses s) where
-    -- the entries then are within their limit
-    pub few-filed : s .entries ≤ 2048
-    few-filed = omega (arith, a .entry-count, a .triggers .few)
+module _ {file names refs rows names′ rows′ out′ : List ℕ} {named used many name t mark filed uses : ℕ} {s : Summary} where
+  -- its answer and its lists say that
+  pub made : {r : Summarized} → r ≡ limited (fact-summary file names refs rows named used many name t mark filed uses)
+      → ((x : Summary) → r ≡ summarized.Done x → Lists file names refs rows named used many name t names′ rows′ out′ filed uses x)
+      → r ≡ summarized.Done s → Made file names refs rows names′ rows′ out′ named used many name t mark filed uses s
+  made answer lists p =
+      let (is, n, e, u) = limited-done (fact-summary file names refs rows named used many name t mark filed uses) (sym p ∙ answer) in
+      record { lists = lists s p; is = is; few-entries = e; few-uses = u }
 
-    -- the table has no fewer names then
-    names-more : named ≤ s .named
-    unfolding names-then
-    names-more =
-        omega (
-          arith,
-          names-length file names named,
-          names-length file names′ (s .named),
-          ap length (a .triggers .spelled),
-          fold-more (names-of file names named) (fact-kind file names refs rows named used many name t .trimmed),
-        )
+  -- the table has no fewer names then
+  names-more : Made file names refs rows names′ rows′ out′ named used many name t mark filed uses s → named ≤ s .named
+  unfolding names-then
+  names-more a =
+      omega (
+        arith,
+        names-length file names named,
+        names-length file names′ (s .named),
+        ap length (a .lists .spelled),
+        fold-more (names-of file names named) (fact-kind file names refs rows named used many name t .trimmed),
+      )
 
 -- after a fact the tables are ready for the next line
 pub goes-fact : {file names refs rows names′ rows′ out′ : List ℕ} {k : Counts} {line name t : ℕ} {s : Summary} → Ready file names refs rows k line → Same-but 12288 4096 rows rows′
-    → Summary-of file names refs rows (k .named) (k .used) (k .many) name t names′ rows′ out′ (k .mark) (k .entries) (k .uses) s
+    → Made file names refs rows names′ rows′ out′ (k .named) (k .used) (k .many) name t (k .mark) (k .entries) (k .uses) s
     → Goes file names′ refs rows′ line (fed.On (record { named = s .named; used = k .used; many = k .many; entries = s .entries; uses = s .uses; mark = s .mark }))
+unfolding fact-summary
 goes-fact r same a = line-fed (record {
   tables = record {
-    name-table = a .triggers .table;
-    term-table = rows-marked same (rows-named (names-more a) (a .triggers .table .few) (r .tables .term-table));
-    fresh = a .fresh;
+    name-table = a .lists .table;
+    term-table = rows-marked same (rows-named (names-more a) (a .lists .table .few) (r .tables .term-table));
+    fresh = a .lists .fresh;
   };
-  few-entries = few-filed a;
+  few-entries = a .few-entries;
   few-uses = a .few-uses;
-  few-marks = omega (arith, r .few-marks, a .next-mark, a .entry-count);
+  few-marks = omega (arith, r .few-marks, ap (λ s. s .mark) (a .is), ap (λ s. s .entries) (a .is));
 })

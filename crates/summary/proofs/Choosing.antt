@@ -10,11 +10,11 @@ use Rattle.model.specs.Names.{Name}
 use Rattle.model.specs.Terms.{Term}
 use Rattle.model.specs.Summaries.{Kinded, Sum-drop, Sum-ambient, Sum-triggers, exclude-names, is-empty, free-top-level-names, triggers-of-term, token-triggers}
 use Rattle.model.specs.declared.AsumKind.the-variants as asum
-use Rattle.names.specs.Table.{name-of}
+use Rattle.names.specs.Table.{Table, name-of}
 use Rattle.names.proofs.Laws.{names-length}
 use Rattle.terms.specs.Rows.{row-start, row-end, words, terms-of-words, terms-of}
 use Rattle.terms.proofs.Table.{terms-named}
-use Rattle.gather.specs.Sets.{Named}
+use Rattle.gather.specs.Sets.{Same-but, Named}
 use Rattle.gather.proofs.Steps.{same-self, same-back}
 use Rattle.triggers.specs.Entries.{Files, Filled}
 use Rattle.triggers.specs.Filings.{Filing, filing, file-list, file-groups, file-parts, Files-as}
@@ -24,12 +24,12 @@ use Rattle.rules.specs.Views.{Tables, terms-in}
 use Rattle.rules.specs.Choices.{kinded, Within}
 use Rattle.rules.specs.declared.Choice.{Choice}
 use Rattle.rules.specs.declared.Choice.the-variants as choice
-use Rattle.summary.specs.Facts.{token-table, trimmed-table}
+use Rattle.summary.specs.Facts.{token-table}
 use Rattle.summary.specs.declared.Sorted.{Sorted}
 use Rattle.summary.specs.declared.Sorted.the-variants as sorted
-use Rattle.summary.specs.Steps.{Begun, sorted-of, Kinds, kind-there, no-room, Sorts, Sorts-as, refinement-kind, parts-kind, Comes-to, kind-filed, entries-over, Tokens, Chooses}
+use Rattle.summary.specs.Steps.{Begun, trimmed-table, sorted-of, Kinds, kind-there, no-room, Sorts, Sorts-as, refinement-kind, parts-kind, Comes-to, kind-filed, entries-over, Tokens, Chooses}
 use Rattle.summary.specs.Writing.{file-refinement, file-choice}
-use Rattle.summary.proofs.Token.{token-high}
+use Rattle.summary.proofs.Token.{token-same}
 use Rattle.summary.proofs.Sorting.{named-of, table-marked, files-sorts, nothing-sorts}
 use Rattle.summary.proofs.Writing.{files-sorts-as, nothing-as}
 
@@ -38,6 +38,20 @@ abbrev pub Choice-files : List ℕ → List ℕ → List ℕ → List ℕ → Li
 Choice-files file names refs rows out names′ rows′ out′ named used many mark at c r =
     Chooses file names refs rows out names′ rows′ out′ named used many mark at c r
     × Sorts-as (file-choice refs used many file named mark (filing names rows out (mark + 1) at) c) names′ rows′ out′ mark at r
+
+-- a choice changes no name word from 8,192 on
+pub trimmed-same : {file names : List ℕ} {named : ℕ} → Table file names named → (c : Choice) → Same-but 0 8192 names (trimmed-table file names named c)
+unfolding trimmed-table
+trimmed-same {names = names} table choice.No = same-self 0 8192 names
+trimmed-same {names = names} table (choice.One t) = same-self 0 8192 names
+trimmed-same {names = names} table (choice.Two t u) = same-self 0 8192 names
+trimmed-same {names = names} table (choice.Groups t) = same-self 0 8192 names
+trimmed-same {names = names} table (choice.Refinement t) = same-self 0 8192 names
+trimmed-same table (choice.Token n) = token-same table n
+trimmed-same {names = names} table choice.Nothing = same-self 0 8192 names
+trimmed-same {names = names} table (choice.Parts t) = same-self 0 8192 names
+trimmed-same {names = names} table choice.Drop = same-self 0 8192 names
+trimmed-same {names = names} table choice.Ambient = same-self 0 8192 names
 
 -- rule 3 trims no name off
 refinement-trimmed : (b : Bool) (sets : List (List Name)) → cond b (Sum-ambient true) (Sum-triggers sets) .trimmed ≡ []
@@ -176,7 +190,7 @@ module _ {file names refs rows out : List ℕ} {named used many mark at : ℕ} {
         out-same = s .out-same;
         fresh = λ a e total q. fresh-later mark (mark + 1 + (e - at)) (omega arith) (rw (s .name-words) (record {
           row-marks = b .fresh .row-marks;
-          name-marks = λ k l. rw (token-high (tables .name-table) n (8192 + k) (omega arith)) (b .fresh .name-marks k l);
+          name-marks = λ k l. rw (token-same (tables .name-table) n .same-words (8192 + k) (λ x y. omega arith)) (b .fresh .name-marks k l);
         }));
       };
     },

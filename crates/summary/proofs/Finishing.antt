@@ -11,14 +11,15 @@ use borrow.Author.Tests.{ltb-true}
 use Rattle.model.specs.Names.{Name, from-list}
 use Rattle.model.specs.Summaries.{exclude-names, summarize-kind}
 use Rattle.model.specs.declared.AsumKind.{AsumKind}
-use Rattle.names.specs.Table.{name-of}
+use Rattle.names.specs.Table.{Table, name-of}
+use Rattle.names.proofs.Laws.{names-length}
 use Rattle.names.proofs.Coded.{Kept}
 use Rattle.terms.specs.Rows.{words, terms-of, Rows}
 use Rattle.terms.proofs.Table.{terms-named, words-agree}
 use Rattle.gather.specs.Sets.{Fresh, Same-but, Named, Gathers, all-names, no-room as no-names, ended}
 use Rattle.gather.specs.declared.Walked.{Walked}
 use Rattle.gather.specs.declared.Walked.the-variants as walks
-use Rattle.gather.proofs.Steps.{same-back, same-then}
+use Rattle.gather.proofs.Steps.{same-back, same-then, same-wider}
 use Rattle.gather.proofs.Walking.{rows-marked}
 use Rattle.triggers.specs.Entries.{entry-number, before-first, disjuncts-of-words, disjuncts-of, entries}
 use Rattle.triggers.proofs.Marked.{named-marked, terms-marked, fresh-next}
@@ -29,13 +30,15 @@ use Rattle.rules.specs.declared.Choice.{Choice}
 use Rattle.summary.specs.declared.Limit.{Limit}
 use Rattle.summary.specs.declared.Sorted.{Sorted}
 use Rattle.summary.specs.declared.Sorted.the-variants as sorted
+use Rattle.summary.specs.declared.Summary.{Summary}
 use Rattle.summary.specs.declared.Summarized.{Summarized}
 use Rattle.summary.specs.declared.Summarized.the-variants as summarized
-use Rattle.summary.specs.Facts.{Asked, fact-kind, fact-choice, fact-names, names-then, Triggers-of, Summarizes, done, names-full, entries-full, uses-full, trimmed-table, uses-end, entries-end, Slices}
-use Rattle.summary.specs.Steps.{Begun, sorted-end, Marks, Filed-kind, Comes-to, kind-filed, names-over, entries-over, Sorts-as, Chooses, finished, Finishes}
+use Rattle.summary.specs.Facts.{Asked, fact-kind, fact-choice, fact-names, names-then, fact-summary, limited, Lists, Slices}
+use Rattle.summary.specs.Steps.{Begun, trimmed-table, sorted-end, Marks, Filed-kind, Comes-to, kind-filed, names-over, entries-over, Sorts-as, Chooses, finished, Finishes}
 use Rattle.summary.specs.Writing.{file-choice, file-fact, Written}
 use Rattle.summary.proofs.Sorting.{named-of, named-fewer, table-marked}
-use Rattle.summary.proofs.Choosing.{Choice-files}
+use Rattle.summary.proofs.Choosing.{Choice-files, trimmed-same}
+use Rattle.summary.proofs.Answering.{over-none, done-one, over-names, over-entries, over-uses, within-limits, summary-is}
 use Rattle.summary.proofs.Writing.{kind-written, over-written}
 
 -- ---- names that stay
@@ -89,38 +92,52 @@ chooses-is e c = rw e at c
 pub asked-begun : {file names refs rows out : List ℕ} {named used many name t mark filed uses : ℕ} → Asked file names refs rows out named used many name t mark filed uses → Begun names rows out mark (6144 + filed)
 asked-begun a = record { name-room = a .tables .name-table .room; fresh = a .fresh; few-marks = a .few-marks; low = omega (arith, a .few-entries); room = a .room }
 
+-- the name words past the marks stay
+names-past : {file names names′ : List ℕ} {named : ℕ} → Table file names named → (c : Choice) → Same-but 8192 2048 (trimmed-table file names named c) names′ → Same-but 0 10240 names names′
+names-past table c s = same-then (same-wider 0 10240 (omega arith) (omega arith) (trimmed-same table c)) (same-wider 0 10240 (omega arith) (omega arith) s)
+
+-- the promises of the answer and of the lists
+abbrev pub Answers : List ℕ → List ℕ → List ℕ → List ℕ → ℕ → ℕ → ℕ → ℕ → ℕ → List ℕ → List ℕ → List ℕ → ℕ → ℕ → ℕ → Summarized → Type 0
+Answers file names refs rows named used many name t names′ rows′ out′ mark filed uses r =
+    (r ≡ limited (fact-summary file names refs rows named used many name t mark filed uses))
+    × ((s : Summary) → r ≡ summarized.Done s → Lists file names refs rows named used many name t names′ rows′ out′ filed uses s)
+
 module _ {file names refs rows out names′ rows′ out′ : List ℕ} {named used many name t mark filed uses : ℕ} {chosen : Choice} (asked : Asked file names refs rows out named used many name t mark filed uses)
     (decided : kinded (terms-in file names refs rows used many) (name-of file names) chosen ≡ some (summarize-kind exclude-names (terms-in file names refs rows used many) (name-of file names name) t)) where
   module _ {l : Limit} (chooses : Chooses file names refs rows out names′ rows′ out′ named used many mark (6144 + filed) chosen (sorted.Over l))
       (filed-as : Sorts-as (file-choice refs used many file named mark (filing names rows out (mark + 1) (6144 + filed)) chosen) names′ rows′ out′ mark (6144 + filed) (sorted.Over l)) where
     -- a limit that filing passes
     pub over-law : chosen ≡ fact-choice file names refs rows named used many name t
-        → Summarizes file names refs rows named used many name t names′ rows′ out′ mark filed uses (summarized.Over l)
-        × (Slices file names refs rows out names′ rows′ out′ named used many name t filed uses (summarized.Over l)
-        × Written (file-fact refs used many file names rows out named name t mark filed uses) names′ rows′ out′)
-    unfolding fact-kind names-then uses-end entries-end sorted-end file-fact
-    over-law chose = let (s, w) = go (chooses .kinds _ decided) (chooses .marks) in (s, (w, rw (← chose) (over-written refs used many t uses filed-as)))
+        → (summarized.Over l ≡ limited (fact-summary file names refs rows named used many name t mark filed uses))
+        × (((s : Summary) → summarized.Over l ≡ summarized.Done s → Lists file names refs rows named used many name t names′ rows′ out′ filed uses s)
+        × (Slices names rows out names′ rows′ out′ filed uses × Written (file-fact refs used many file names rows out named name t mark filed uses) names′ rows′ out′))
+    unfolding fact-kind names-then fact-summary sorted-end file-fact
+    over-law chose = (
+      answer (chooses .kinds _ decided),
+      (
+        λ s p. absurd (over-none p),
+        (slices (chooses .kinds _ decided) (chooses .marks), rw (← chose) (over-written refs used many t uses filed-as)),
+      ),
+    )
       where
-        go : {x : Limit} → Comes-to file names names′ out′ named (6144 + filed) (fact-kind file names refs rows named used many name t) (sorted.Over x) → Marks (trimmed-table file names named chosen) rows out names′ rows′ out′ mark (6144 + filed) (sorted.Over x)
-            → Summarizes file names refs rows named used many name t names′ rows′ out′ mark filed uses (summarized.Over x) × Slices file names refs rows out names′ rows′ out′ named used many name t filed uses (summarized.Over x)
-        go (names-over p) m = (
-          names-full p,
-          record {
-            name-words = rw chose at (m .names-same);
-            row-words = m .rows-same;
-            out-length = m .out-same .same-length;
-            out-words = λ i f g. m .out-same .same-words i (λ a b. omega arith);
-          },
-        )
-        go (entries-over p q) m = (
-          entries-full p (omega arith),
-          record {
-            name-words = rw chose at (m .names-same);
-            row-words = m .rows-same;
-            out-length = m .out-same .same-length;
-            out-words = λ i f g. m .out-same .same-words i (λ a b. g a (omega (arith, asked .few-entries)));
-          },
-        )
+        answer : {x : Limit} → Comes-to file names names′ out′ named (6144 + filed) (fact-kind file names refs rows named used many name t) (sorted.Over x) → summarized.Over x ≡ limited (fact-summary file names refs rows named used many name t mark filed uses)
+        answer (names-over p) = over-names (fact-summary file names refs rows named used many name t mark filed uses) p
+        answer (entries-over p q) = over-entries (fact-summary file names refs rows named used many name t mark filed uses) p (omega arith)
+
+        slices : {x : Limit} → Comes-to file names names′ out′ named (6144 + filed) (fact-kind file names refs rows named used many name t) (sorted.Over x) → Marks (trimmed-table file names named chosen) rows out names′ rows′ out′ mark (6144 + filed) (sorted.Over x)
+            → Slices names rows out names′ rows′ out′ filed uses
+        slices (names-over p) m = record {
+          name-words = names-past (asked .tables .name-table) chosen (m .names-same);
+          row-words = m .rows-same;
+          out-length = m .out-same .same-length;
+          out-words = λ i f g. m .out-same .same-words i (λ a b. omega arith);
+        }
+        slices (entries-over p q) m = record {
+          name-words = names-past (asked .tables .name-table) chosen (m .names-same);
+          row-words = m .rows-same;
+          out-length = m .out-same .same-length;
+          out-words = λ i f g. m .out-same .same-words i (λ a b. g a (omega (arith, asked .few-entries)));
+        }
 
   module _ {a : AsumKind} {e total : ℕ} (chooses : Chooses file names refs rows out names′ rows′ out′ named used many mark (6144 + filed) chosen (sorted.Kind a e total)) where
     -- the kind that was filed
@@ -182,74 +199,70 @@ module _ {file names refs rows out names′ rows′ out′ : List ℕ} {named us
           let long : length out′ ≡ length out = chooses .marks .out-same .same-length in
           words-agree out′ out″ (e - (6144 + filed)) (6144 + filed) e refl (omega arith) (omega (arith, s .out-same .same-length)) (λ i l k. s .out-same .same-words i (λ x y. omega arith))
 
-      -- so the disjuncts do
-      kept-triggers : Triggers-of file names refs rows named used many name t names″ out″ filed total
-      unfolding names-then
-      kept-triggers =
-          let k = filed-there in
-          let q : e ≡ 6144 + filed + entries (fact-kind file names refs rows named used many name t .triggers) = k .ends in
-          record {
-            disjuncts = rw (← q, kept-words) (disjuncts-named (name-of file names″) (name-of file names′) (name-marked file (finishes .slices .names-same)) (words out′ (6144 + filed) e) ∙ k .disjuncts);
-            few = omega (arith, k .high);
-            entry-words = rw (← q, kept-words) (k .entry-words);
-            table = kept-table .table;
-            spelled = kept-table .names ∙ k .spelled;
-          }
+      -- the table has the names that there are then
+      named-then : total ≡ length (names-then file names refs rows named used many name t)
+      unfolding names-then fact-kind
+      named-then = sym (names-length file names′ total) ∙ ap length (filed-there .spelled)
 
       -- the words of `out` but the places of the free names and of the entries
-      kept-out : (x : Walked) → Same-but uses (ended 6144 x - uses) out′ out″ → uses ≤ ended 6144 x → (i : ℕ)
-          → (uses ≤ i → i < uses-end uses (finished a e total n x) → ⊥)
-          → (6144 + filed ≤ i → i < 6144 + entries-end filed (entries (fact-kind file names refs rows named used many name t .triggers)) (finished a e total n x) → ⊥)
-          → getD out″ i 0 ≡ getD out i 0
-      unfolding uses-end entries-end ended sorted-end
-      kept-out (walks.Names k) s up i f g =
+      kept-out : (x : Walked) → Same-but uses (ended 6144 x - uses) out′ out″ → ended 6144 x ≤ 6144 → (i : ℕ) → (uses ≤ i → i < 6144 → ⊥) → (6144 + filed ≤ i → i < 8192 → ⊥) → getD out″ i 0 ≡ getD out i 0
+      unfolding sorted-end
+      kept-out x s up i f g =
           let (lo, hi) = filed-ends in
-          s .same-words i (λ p q. f p (omega arith)) ∙ chooses .marks .out-same .same-words i (λ p q. g p (omega arith))
-      kept-out walks.Full s up i f g =
-          let (lo, hi) = filed-ends in
-          let ends = filed-there .ends in
           s .same-words i (λ p q. f p (omega arith)) ∙ chooses .marks .out-same .same-words i (λ p q. g p (omega arith))
 
       -- the slices then
-      kept-slices : chosen ≡ fact-choice file names refs rows named used many name t → Slices file names refs rows out names″ rows″ out″ named used many name t filed uses (finished a e total n (finishes .walked))
-      unfolding fact-kind
-      kept-slices chose =
+      kept-slices : Slices names rows out names″ rows″ out″ filed uses
+      kept-slices =
           let m = chooses .marks in
           let s = finishes .slices in
           record {
-            name-words = rw chose at (same-then (m .names-same) (s .names-same));
+            name-words = names-past (asked .tables .name-table) chosen (same-then (m .names-same) (s .names-same));
             row-words = same-then (m .rows-same) (s .rows-same);
             out-length = s .out-same .same-length ∙ m .out-same .same-length;
-            out-words = kept-out (finishes .walked) (s .out-same) (s .grows);
+            out-words = kept-out (finishes .walked) (s .out-same) (s .fits);
           }
 
-      -- the summary, or that there is no room for the free names
-      kept-summary : (x : Walked) → Gathers (name-of file names″) named (fact-names file names refs rows named used many name t) uses 6144 out″ x
-          → Summarizes file names refs rows named used many name t names″ rows″ out″ mark filed uses (finished a e total n x)
-      kept-summary (walks.Names k) (all-names p q fits small) =
+      -- the summary's lists
+      kept-lists : {k : ℕ} → Gathers (name-of file names″) named (fact-names file names refs rows named used many name t) uses 6144 out″ (walks.Names k)
+          → Lists file names refs rows named used many name t names″ rows″ out″ filed uses (record { kind = a; entries = e - 6144; uses = k; named = total; mark = n + 1 })
+      unfolding names-then
+      kept-lists (all-names p q fits small) =
+          let k = filed-there in
+          let (lo, hi) = filed-ends in
+          let w : 6144 + (e - 6144) ≡ e = omega arith in
+          record {
+            disjuncts = rw (w, kept-words) (disjuncts-named (name-of file names″) (name-of file names′) (name-marked file (finishes .slices .names-same)) (words out′ (6144 + filed) e) ∙ k .disjuncts);
+            entry-words = rw (w, kept-words) (k .entry-words);
+            free-names = p;
+            use-words = small;
+            table = kept-table .table;
+            spelled = kept-table .names ∙ k .spelled;
+            fresh = fresh-next (rw is (chooses .marks .fresh a e total refl)) (finishes .slices);
+          }
+
+      -- the answer and the lists, by whether there is room for the free names
+      kept-answer : (x : Walked) → Gathers (name-of file names″) named (fact-names file names refs rows named used many name t) uses 6144 out″ x → Answers file names refs rows named used many name t names″ rows″ out″ mark filed uses (finished a e total n x)
+      unfolding fact-summary
+      kept-answer (walks.Names k) (all-names p q fits small) =
           let (lo, hi) = filed-ends in
           let ends = filed-there .ends in
-          done {s = record { kind = a; entries = e - 6144; uses = k; named = total; mark = n + 1 }} (record {
-            kind = filed-there .kind;
-            entry-count = omega arith;
-            triggers = kept-triggers;
-            free-names = p;
-            use-count = omega arith;
-            few-uses = fits;
-            use-words = small;
-            next-mark = omega arith;
-            fresh = fresh-next (rw is (chooses .marks .fresh a e total refl)) (finishes .slices);
-          })
-      kept-summary walks.Full (no-names p f) = uses-full {total = total} kept-triggers (omega arith)
+          let s : Summary = record { kind = a; entries = e - 6144; uses = k; named = total; mark = n + 1 } in (
+            within-limits s (filed-there .table .few) (omega arith) fits ∙ ap limited (summary-is s (filed-there .kind) (omega arith) (omega arith) named-then (omega arith)),
+            λ s′ h. rw (← done-one h) (kept-lists (all-names p q fits small)),
+          )
+      kept-answer walks.Full (no-names p f) =
+          let ends = filed-there .ends in
+          let high = filed-there .high in
+          (over-uses (fact-summary file names refs rows named used many name t mark filed uses) (omega (arith, named-then, filed-there .table .few)) (omega arith) (omega arith), λ s h. absurd (over-none h))
 
       -- a fact whose kind was filed
       pub finish-law : chosen ≡ fact-choice file names refs rows named used many name t
           → Sorts-as (file-choice refs used many file named mark (filing names rows out (mark + 1) (6144 + filed)) chosen) names′ rows′ out′ mark (6144 + filed) (sorted.Kind a e total)
-          → Summarizes file names refs rows named used many name t names″ rows″ out″ mark filed uses r
-          × (Slices file names refs rows out names″ rows″ out″ named used many name t filed uses r
-          × Written (file-fact refs used many file names rows out named name t mark filed uses) names″ rows″ out″)
+          → (r ≡ limited (fact-summary file names refs rows named used many name t mark filed uses))
+          × (((s : Summary) → r ≡ summarized.Done s → Lists file names refs rows named used many name t names″ rows″ out″ filed uses s)
+          × (Slices names rows out names″ rows″ out″ filed uses × Written (file-fact refs used many file names rows out named name t mark filed uses) names″ rows″ out″))
       unfolding file-fact
-      finish-law chose filed-as = (
-        rw (finishes .answer) (kept-summary (finishes .walked) gathered-names),
-        (rw (finishes .answer) (kept-slices chose), rw (← chose) (kind-written filed-as is finishes)),
-      )
+      finish-law chose filed-as =
+          let (answer, lists) : Answers file names refs rows named used many name t names″ rows″ out″ mark filed uses r = rw (finishes .answer) (kept-answer (finishes .walked) gathered-names) in
+          (answer, (lists, (kept-slices, rw (← chose) (kind-written filed-as is finishes))))

@@ -2,6 +2,6 @@ pub mod Parts
 pub mod Sorting
 pub mod Token
 pub mod Choosing
-pub mod Finishing
 pub mod Answering
+pub mod Finishing
 pub mod Writing

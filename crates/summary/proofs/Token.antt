@@ -15,7 +15,7 @@ use Rattle.names.specs.declared.Found.the-variants as found
 use Rattle.names.specs.declared.Spelled.{Spelled}
 use Rattle.names.specs.declared.Spelled.the-variants as spelled
 use Rattle.names.proofs.Laws.{found-missing, names-length}
-use Rattle.names.proofs.Entering.{entered-keeps, entered-old, entered-new}
+use Rattle.names.proofs.Entering.{entered-length, entered-keeps, entered-old, entered-new}
 use Rattle.model.specs.Names.{Name, bytes, ends-with, from-list, add, mem}
 use mathlib.Core.Logic.{inl, inr, _⊎_, ⊎-elim}
 use lib.Seq.{take-take, getD-set-same, getD-set-other}
@@ -27,6 +27,7 @@ use Rattle.model.specs.declared.AsumKind.the-variants as asum
 use Rattle.model.proofs.SetLaws.{same-eq}
 use Rattle.names.proofs.Spelling.{Spelling, spell-law, spelled-known, spelled-new, spelled-full}
 use Rattle.terms.specs.Rows.{words}
+use Rattle.terms.proofs.Laws.{below}
 use Rattle.terms.proofs.Table.{words-cons, words-nil}
 use Rattle.gather.specs.Sets.{Same-but}
 use Rattle.gather.specs.Visits.{put}
@@ -37,32 +38,41 @@ use Rattle.summary.specs.declared.Limit.{Limit}
 use Rattle.summary.specs.declared.Limit.the-variants as limit
 use Rattle.summary.specs.declared.Sorted.{Sorted}
 use Rattle.summary.specs.declared.Sorted.the-variants as sorted
-use Rattle.summary.specs.Facts.{token-table}
+use Rattle.summary.specs.Facts.{trimmed-end, trimmed-found, token-table}
 use Rattle.summary.specs.Steps.{sorted-end, Comes-to, kind-filed, names-over, entries-over, Two, both, over, Tokens, Sorts-as, as-kind, as-over}
 use Rattle.summary.specs.Writing.{spelled-number, token-words, stopped, file-words, file-token}
 
 -- spelling a name changes no word from 8,192 on
-spell-high : {file names : List ℕ} {named : ℕ} → Table file names named → (a e i : ℕ) → 8192 ≤ i
-    → getD (spell-table file names named a e (look-up (names-of file names named) (part file a e))) i 0 ≡ getD names i 0
+spell-same : {file names : List ℕ} {named : ℕ} → Table file names named → (a e : ℕ)
+    → Same-but 0 8192 names (spell-table file names named a e (look-up (names-of file names named) (part file a e)))
 unfolding spell-table
-spell-high {file} {names} {named} table a e i h = go (look-up (names-of file names named) (part file a e)) refl
+spell-same {file} {names} {named} table a e = go (look-up (names-of file names named) (part file a e)) refl
   where
-    go : (f : Found) → look-up (names-of file names named) (part file a e) ≡ f → getD (spell-table file names named a e f) i 0 ≡ getD names i 0
-    go (found.At n) q = refl
+    go : (f : Found) → look-up (names-of file names named) (part file a e) ≡ f → Same-but 0 8192 names (spell-table file names named a e f)
+    go (found.At n) q = same-self 0 8192 names
     go (found.Missing rank) q = choose (ltb named 2048) refl
       where
-        choose : (t : Bool) → ltb named 2048 ≡ t → getD (cond t (entered file names named a e rank) names) i 0 ≡ getD names i 0
-        choose true t = let few = ltb-true named 2048 t in entered-keeps file names named a e rank (found-missing table (part file a e) rank q .within) few (table .room) i (λ x. omega arith) (λ x. omega arith) (λ x. omega arith) (inr (omega arith))
-        choose false t = refl
+        choose : (t : Bool) → ltb named 2048 ≡ t → Same-but 0 8192 names (cond t (entered file names named a e rank) names)
+        choose true t =
+            let few = ltb-true named 2048 t in
+            let low = found-missing table (part file a e) rank q .within in
+            record {
+              same-length = entered-length file names named a e rank low few (table .room);
+              same-words = λ i h. ⊎-elim
+                  (λ l. absurd (h (omega arith) l))
+                  (λ (l : 8192 ≤ i). entered-keeps file names named a e rank low few (table .room) i (λ x. omega arith) (λ x. omega arith) (λ x. omega arith) (inr (omega arith)))
+                  (below i 8192);
+            }
+        choose false t = same-self 0 8192 names
 
--- filing a token changes no such word
-pub token-high : {file names : List ℕ} {named : ℕ} → Table file names named → (n i : ℕ) → 8192 ≤ i → getD (token-table file names named n) i 0 ≡ getD names i 0
+-- nor does filing a token
+pub token-same : {file names : List ℕ} {named : ℕ} → Table file names named → (n : ℕ) → Same-but 0 8192 names (token-table file names named n)
 unfolding token-table
-token-high {file} {names} {named} table n i h = go (ends-with (name-of file names n) (bytes "@tok"))
+token-same {file} {names} {named} table n = go (ends-with (name-of file names n) (bytes "@tok"))
   where
-    go : (b : Bool) → getD (cond b (spell-table file names named (getD names n 0) (getD names n 0 + getD names (2048 + n) 0 - 4) (look-up (names-of file names named) (part file (getD names n 0) (getD names n 0 + getD names (2048 + n) 0 - 4)))) names) i 0 ≡ getD names i 0
-    go true = spell-high table (getD names n 0) (getD names n 0 + getD names (2048 + n) 0 - 4) i h
-    go false = refl
+    go : (b : Bool) → Same-but 0 8192 names (cond b (spell-table file names named (getD names n 0) (trimmed-end names n) (trimmed-found file names named n)) names)
+    go true = spell-same table (getD names n 0) (trimmed-end names n)
+    go false = same-self 0 8192 names
 
 -- ---- entries of one name each
 

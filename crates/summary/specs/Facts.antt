@@ -18,7 +18,6 @@ use Rattle.gather.specs.Sets.{Fresh, Same-but}
 use Rattle.rules.specs.Views.{Tables, terms-in}
 use Rattle.rules.specs.Choices.{kind-choice}
 use Rattle.rules.specs.declared.Choice.{Choice}
-use Rattle.rules.specs.declared.Choice.the-variants as choice
 use Rattle.triggers.specs.Entries.{disjuncts-of, entries, Entries}
 use Rattle.summary.specs.declared.Limit.{Limit}
 use Rattle.summary.specs.declared.Limit.the-variants as limit
@@ -54,35 +53,6 @@ module _ (file names refs rows : List ℕ) (named used many name t : ℕ) where
   unfoldable pub names-then : List Name
   names-then = fold-left spell (names-of file names named) (fact-kind .trimmed)
 
-  -- the fact's disjuncts in the slice behind the first `filed` entries, with the names of a table of `total`
-  pub record Triggers-of (names′ out′ : List ℕ) (filed total : ℕ) : Type 0 where
-    pub disjuncts : disjuncts-of (name-of file names′) (words out′ (6144 + filed) (6144 + filed + entries (fact-kind .triggers))) ≡ fact-kind .triggers
-    pub few : filed + entries (fact-kind .triggers) ≤ 2048
-    pub entry-words : Entries total (words out′ (6144 + filed) (6144 + filed + entries (fact-kind .triggers)))
-    pub table : Table file names′ total
-    pub spelled : names-of file names′ total ≡ names-then
-
-  -- a summary and the slices that hold its lists: `filed` entries and `uses` uses were there before
-  pub record Summary-of (names′ rows′ out′ : List ℕ) (mark filed uses : ℕ) (s : Summary) : Type 0 where
-    pub kind : s .kind ≡ fact-kind .kind
-    pub entry-count : s .entries ≡ filed + entries (fact-kind .triggers)
-    pub triggers : Triggers-of names′ out′ filed (s .named)
-    pub free-names : from-list (map (name-of file names′) (words out′ uses (s .uses))) ≡ fact-names
-    pub use-count : s .uses ≡ uses + length fact-names
-    pub few-uses : s .uses ≤ 6144
-    pub use-words : (i : ℕ) → uses ≤ i → i < s .uses → getD out′ i 0 < named
-    pub next-mark : s .mark ≡ mark + 2 + (s .entries - filed)
-    pub fresh : Fresh names′ rows′ (s .mark)
-
-  -- what summarising the fact comes to: its summary, or the first limit that it passes
-  pub data Summarizes (names′ rows′ out′ : List ℕ) (mark filed uses : ℕ) : Summarized → Type 0 where
-    done : {s : Summary} → Summary-of names′ rows′ out′ mark filed uses s → Summarizes names′ rows′ out′ mark filed uses (summarized.Done s)
-    names-full : 2048 < length names-then → Summarizes names′ rows′ out′ mark filed uses (summarized.Over limit.Names)
-    entries-full : length names-then ≤ 2048 → 2048 < filed + entries (fact-kind .triggers)
-        → Summarizes names′ rows′ out′ mark filed uses (summarized.Over limit.Entries)
-    uses-full : {total : ℕ} → Triggers-of names′ out′ filed total → 6144 < uses + length fact-names
-        → Summarizes names′ rows′ out′ mark filed uses (summarized.Over limit.Uses)
-
   -- the fact's summary, were there no limits
   unfoldable pub fact-summary : ℕ → ℕ → ℕ → Summary
   fact-summary mark filed uses =
@@ -94,6 +64,17 @@ module _ (file names refs rows : List ℕ) (named used many name t : ℕ) where
         named = length names-then;
         mark = mark + 2 + more;
       }
+
+  -- the lists of a summary in the slices, behind `filed` entries and `uses` uses: its disjuncts, its free names, the names of
+  -- the table; and all marks are below the next one
+  pub record Lists (names′ rows′ out′ : List ℕ) (filed uses : ℕ) (s : Summary) : Type 0 where
+    pub disjuncts : disjuncts-of (name-of file names′) (words out′ (6144 + filed) (6144 + s .entries)) ≡ fact-kind .triggers
+    pub entry-words : Entries (s .named) (words out′ (6144 + filed) (6144 + s .entries))
+    pub free-names : from-list (map (name-of file names′) (words out′ uses (s .uses))) ≡ fact-names
+    pub use-words : (i : ℕ) → uses ≤ i → i < s .uses → getD out′ i 0 < named
+    pub table : Table file names′ (s .named)
+    pub spelled : names-of file names′ (s .named) ≡ names-then
+    pub fresh : Fresh names′ rows′ (s .mark)
 
 -- a summary, or the first limit that it passes
 unfoldable pub limited : Summary → Summarized
@@ -116,45 +97,10 @@ token-table file names named n =
     let trimmed = spell-table file names named (getD names n 0) (trimmed-end names n) (trimmed-found file names named n) in
     cond (ends-with (name-of file names n) (bytes "@tok")) trimmed names
 
--- the slice of names after a choice: only a token enters a name
-unfoldable pub trimmed-table : List ℕ → List ℕ → ℕ → Choice → List ℕ
-trimmed-table file names named choice.No = names
-trimmed-table file names named (choice.One t) = names
-trimmed-table file names named (choice.Two t u) = names
-trimmed-table file names named (choice.Groups t) = names
-trimmed-table file names named (choice.Refinement t) = names
-trimmed-table file names named (choice.Token n) = token-table file names named n
-trimmed-table file names named choice.Nothing = names
-trimmed-table file names named (choice.Parts t) = names
-trimmed-table file names named choice.Drop = names
-trimmed-table file names named choice.Ambient = names
-
--- where the free names end: at 6,144 where there is no room for all
-unfoldable pub uses-end : ℕ → Summarized → ℕ
-uses-end uses (summarized.Done s) = s .uses
-uses-end uses (summarized.Over limit.Names) = uses
-uses-end uses (summarized.Over limit.Entries) = uses
-uses-end uses (summarized.Over limit.Uses) = 6144
-
--- where the entries end, of which the fact has so many more: at 2,048 where there is no room for all
-unfoldable pub entries-end : ℕ → ℕ → Summarized → ℕ
-entries-end filed more (summarized.Done s) = s .entries
-entries-end filed more (summarized.Over limit.Names) = filed
-entries-end filed more (summarized.Over limit.Entries) = 2048
-entries-end filed more (summarized.Over limit.Uses) = filed + more
-
--- the slices after summarising a fact: in the name table the trimmed token and marks, in the term table marks, in `out` the
--- places of the fact's free names and of its entries
-pub record Slices (file names refs rows out names′ rows′ out′ : List ℕ) (named used many name t filed uses : ℕ) (r : Summarized) : Type 0 where
-  pub name-words : Same-but 8192 2048 (trimmed-table file names named (fact-choice file names refs rows named used many name t)) names′
+-- what of the slices may change: of the names the columns of the table and the marks, of the rows the marks, of `out` the room
+-- for uses and for entries behind those of the facts before
+pub record Slices (names rows out names′ rows′ out′ : List ℕ) (filed uses : ℕ) : Type 0 where
+  pub name-words : Same-but 0 10240 names names′
   pub row-words : Same-but 12288 4096 rows rows′
   pub out-length : length out′ ≡ length out
-  pub out-words : (i : ℕ)
-      → (uses ≤ i → i < uses-end uses r → ⊥)
-      → (6144 + filed ≤ i → i < 6144 + entries-end filed (entries (fact-kind file names refs rows named used many name t .triggers)) r → ⊥)
-      → getD out′ i 0 ≡ getD out i 0
-
--- two slices that are the same from word 16,384 on
-pub record Past (before after : List ℕ) : Type 0 where
-  pub same-length : length after ≡ length before
-  pub same-words : (i : ℕ) → 16384 ≤ i → getD after i 0 ≡ getD before i 0
+  pub out-words : (i : ℕ) → (uses ≤ i → i < 6144 → ⊥) → (6144 + filed ≤ i → i < 8192 → ⊥) → getD out′ i 0 ≡ getD out i 0

@@ -21,6 +21,7 @@ use Rattle.gather.specs.declared.Walked.the-variants as walks
 use Rattle.rules.specs.Views.{terms-in}
 use Rattle.rules.specs.Choices.{kinded}
 use Rattle.rules.specs.declared.Choice.{Choice}
+use Rattle.rules.specs.declared.Choice.the-variants as choice
 use Rattle.triggers.specs.Entries.{disjuncts-of, entries, Entries}
 use Rattle.triggers.specs.Filings.{Filing, filing}
 use Rattle.triggers.specs.declared.Filed.{Filed}
@@ -32,7 +33,7 @@ use Rattle.summary.specs.declared.Sorted.the-variants as sorted
 use Rattle.summary.specs.declared.Summary.{Summary}
 use Rattle.summary.specs.declared.Summarized.{Summarized}
 use Rattle.summary.specs.declared.Summarized.the-variants as summarized
-use Rattle.summary.specs.Facts.{token-table, trimmed-table}
+use Rattle.summary.specs.Facts.{token-table}
 use Rattle.summary.specs.Writing.{file-token}
 
 -- what filing from `at` on asks of the slices
@@ -120,6 +121,19 @@ pub record Tokens (file names out names′ out′ : List ℕ) (named n at : ℕ)
   pub kinds : Comes-to file names names′ out′ named at (token-triggers (name-of file names n)) r
   pub out-same : Same-but at (sorted-end at r - at) out out′
   pub words-as : (rows : List ℕ) (mark : ℕ) → Sorts-as (file-token file named (filing names rows out (mark + 1) at) n) names′ rows out′ mark at r
+
+-- the slice of names after a choice: only a token enters a name
+unfoldable pub trimmed-table : List ℕ → List ℕ → ℕ → Choice → List ℕ
+trimmed-table file names named choice.No = names
+trimmed-table file names named (choice.One t) = names
+trimmed-table file names named (choice.Two t u) = names
+trimmed-table file names named (choice.Groups t) = names
+trimmed-table file names named (choice.Refinement t) = names
+trimmed-table file names named (choice.Token n) = token-table file names named n
+trimmed-table file names named choice.Nothing = names
+trimmed-table file names named (choice.Parts t) = names
+trimmed-table file names named choice.Drop = names
+trimmed-table file names named choice.Ambient = names
 
 -- what filing a choice comes to
 pub record Chooses (file names refs rows out names′ rows′ out′ : List ℕ) (named used many mark at : ℕ) (chosen : Choice) (r : Sorted) : Type 0 where

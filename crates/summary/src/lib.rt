@@ -12,7 +12,7 @@ ghost use Rattle.gather.specs.Sets.{Fresh};
 ghost use Rattle.rules.specs.Views.{Tables};
 ghost use Rattle.rules.specs.Choices.{Within};
 ghost use Rattle.triggers.specs.Filings.{filing, file-parts};
-ghost use Rattle.summary.specs.Facts.{Asked, fact-summary, limited, Summarizes, Slices, Past};
+ghost use Rattle.summary.specs.Facts.{Asked, fact-summary, limited, Lists, Slices};
 ghost use Rattle.summary.specs.Steps.{Begun, Sorts, Sorts-as, Two, Tokens, Chooses, Finishes, sorted-of, refinement-kind, parts-kind};
 ghost use Rattle.summary.specs.Writing.{file-refinement, file-choice, file-fact, Written};
 
@@ -274,11 +274,10 @@ pub fn summarize_assumption(
     uses: usize,
 ) -> Summarized
     requires { ⌜ Asked (now file) (now names) (now refs) (now rows) (now out) named used many name t mark entries uses ⌝ }
-    ensures summary { λ r. ⌜ Summarizes (now (file .entry)) (now (names .entry)) (now (refs .entry)) (now (rows .entry)) named used many name t (now (names .exit)) (now (rows .exit)) (now (out .exit)) mark entries uses r ⌝ }
-    ensures slices { λ r. ⌜ Slices (now (file .entry)) (now (names .entry)) (now (refs .entry)) (now (rows .entry)) (now (out .entry)) (now (names .exit)) (now (rows .exit)) (now (out .exit)) named used many name t entries uses r ⌝ }
-    ensures words { λ r. ⌜ Written (file-fact (now (refs .entry)) used many (now (file .entry)) (now (names .entry)) (now (rows .entry)) (now (out .entry)) named name t mark entries uses) (now (names .exit)) (now (rows .exit)) (now (out .exit)) ⌝ }
     ensures answer { λ r. ⌜ r ≡ limited (fact-summary (now (file .entry)) (now (names .entry)) (now (refs .entry)) (now (rows .entry)) named used many name t mark entries uses) ⌝ }
-    ensures past { λ r. ⌜ Past (now (names .entry)) (now (names .exit)) × Past (now (rows .entry)) (now (rows .exit)) × Past (now (out .entry)) (now (out .exit)) ⌝ }
+    ensures lists { λ r. ⌜ ((s : Summary) → r ≡ Summarized.Done s → Lists (now (file .entry)) (now (names .entry)) (now (refs .entry)) (now (rows .entry)) named used many name t (now (names .exit)) (now (rows .exit)) (now (out .exit)) entries uses s) ⌝ }
+    ensures slices { λ r. ⌜ Slices (now (names .entry)) (now (rows .entry)) (now (out .entry)) (now (names .exit)) (now (rows .exit)) (now (out .exit)) entries uses ⌝ }
+    ensures words { λ r. ⌜ Written (file-fact (now (refs .entry)) used many (now (file .entry)) (now (names .entry)) (now (rows .entry)) (now (out .entry)) named name t mark entries uses) (now (names .exit)) (now (rows .exit)) (now (out .exit)) ⌝ }
 {
     let choice = rules::summarize_kind(file, names, refs, rows, named, used, many, name, t);
     let at = 6144 + entries;

@@ -1,7 +1,7 @@
 -- `summaries::feed_fact` meets its contract.
 use native.Mathlib.Omega.{arith}
 use Rattle.summaries.specs.Fed.{line-refused}
-use Rattle.summaries.proofs.Facts.{asked, summarizes-done, few-filed, goes-fact}
+use Rattle.summaries.proofs.Facts.{asked, made, goes-fact}
 use borrow.Author.Needs.{needs}
 use Rattle.summaries.proofs.feed_fact.Statement.{statement}
 use Rattle.summaries.proofs.feed_fact.Tie as tie
@@ -14,8 +14,9 @@ enum-known-s c = c .match .keys1
 
 put-summary-requires : tie.Need-put-summary-requires
 put-summary-requires c κs =
-    let made = summarizes-done (c .before .before .before .before .before .before .before .before .before .before .before .summarize-assumption .ensures .0) (c .before .before .before .s .given .1) in
-    (made .triggers .table, omega (arith, c .before .before .before .before .before .before .out .given, c .before .before .before .before .before .before .before .before .before .before .before .before .before .before .before .before .before .before .before .before .pre .1), c .before .before .before .before .before .before .before .before .before .before .before .before .before .before .before .before .before .before .before .before .pre .0 .few-entries, few-filed made, made .few-uses)
+    let answer = c .before .before .before .before .before .before .before .before .before .before .before .summarize-assumption .ensures in
+    let fact = made (answer .0) (answer .1 .0) (c .before .before .before .s .given .1) in
+    (fact .lists .table, omega (arith, c .before .before .before .before .before .before .out .given, c .before .before .before .before .before .before .before .before .before .before .before .before .before .before .before .before .before .before .before .before .pre .1), c .before .before .before .before .before .before .before .before .before .before .before .before .before .before .before .before .before .before .before .before .pre .0 .few-entries, fact .few-entries, fact .few-uses)
 
 enum-known-limit : tie.Need-enum-known-limit
 enum-known-limit c = c .match .keys2
@@ -34,8 +35,9 @@ same-length-3 c = search needs
 
 returns : tie.Need-returns
 returns c =
-    let made = summarizes-done (c .before .before .before .before .before .before .before .before .before .before .before .before .summarize-assumption .ensures .0) (c .before .before .before .before .s .given .1) in
-    goes-fact (c .before .before .before .before .before .before .before .before .before .before .before .before .before .before .before .before .before .before .before .before .before .pre .0) (c .before .before .before .before .before .before .before .before .before .before .before .before .summarize-assumption .ensures .1 .0 .row-words) made
+    let answer = c .before .before .before .before .before .before .before .before .before .before .before .before .summarize-assumption .ensures in
+    let fact = made (answer .0) (answer .1 .0) (c .before .before .before .before .s .given .1) in
+    goes-fact (c .before .before .before .before .before .before .before .before .before .before .before .before .before .before .before .before .before .before .before .before .before .pre .0) (c .before .before .before .before .before .before .before .before .before .before .before .before .summarize-assumption .ensures .1 .1 .0 .row-words) fact
 
 same-length-4 : tie.Need-same-length-4
 same-length-4 c = search needs

@@ -3,7 +3,6 @@ use native.Mathlib.Omega.{arith}
 use mathlib.Core.Path.{refl}
 use Rattle.summary.specs.Facts.{fact-choice}
 use Rattle.summary.proofs.Finishing.{chooses-is, asked-begun, filed-ends, finish-asks, finish-law, over-law}
-use Rattle.summary.proofs.Answering.{promised}
 use borrow.Author.Needs.{needs}
 use Rattle.summary.proofs.summarize_assumption.Statement.{statement}
 use Rattle.summary.proofs.summarize_assumption.Tie as tie
@@ -50,7 +49,7 @@ returns : tie.Need-returns
 unfolding fact-choice
 returns c =
     let made = chooses-is (c .before .before .before .before .before .before .before .before .before .before .before .kind .given .1) (c .before .before .before .before .before .before .before .before .before .before .before .before .before .before .before .before .before .before .before .file-choice .ensures) in
-    promised (c .before .before .before .before .before .before .before .before .before .before .before .before .before .before .before .before .before .before .before .before .before .before .before .before .before .before .before .before .before .before .before .pre) (finish-law (c .before .before .before .before .before .before .before .before .before .before .before .before .before .before .before .before .before .before .before .before .before .before .before .before .before .before .before .before .before .before .before .pre) (c .before .before .before .before .before .before .before .before .before .before .before .before .before .before .before .before .before .before .before .before .before .before .before .summarize-kind .ensures .0) (made .0) refl (c .before .before .before .before .before .before .finish .ensures) (c .before .before .before .before .before .before .before .before .before .before .before .before .before .before .before .before .before .before .before .before .before .before .before .summarize-kind .ensures .1 .1) (made .1))
+    finish-law (c .before .before .before .before .before .before .before .before .before .before .before .before .before .before .before .before .before .before .before .before .before .before .before .before .before .before .before .before .before .before .before .pre) (c .before .before .before .before .before .before .before .before .before .before .before .before .before .before .before .before .before .before .before .before .before .before .before .summarize-kind .ensures .0) (made .0) refl (c .before .before .before .before .before .before .finish .ensures) (c .before .before .before .before .before .before .before .before .before .before .before .before .before .before .before .before .before .before .before .before .before .before .before .summarize-kind .ensures .1 .1) (made .1)
 
 same-length-4 : tie.Need-same-length-4
 same-length-4 c = search needs
@@ -65,7 +64,7 @@ returns-2 : tie.Need-returns-2
 unfolding fact-choice
 returns-2 c =
     let made = chooses-is (c .before .limit .given .1) (c .before .before .before .before .before .before .before .before .before .file-choice .ensures) in
-    promised (c .before .before .before .before .before .before .before .before .before .before .before .before .before .before .before .before .before .before .before .before .before .pre) (over-law (c .before .before .before .before .before .before .before .before .before .before .before .before .before .before .before .before .before .before .before .before .before .pre) (c .before .before .before .before .before .before .before .before .before .before .before .before .before .summarize-kind .ensures .0) (made .0) (made .1) (c .before .before .before .before .before .before .before .before .before .before .before .before .before .summarize-kind .ensures .1 .1))
+    over-law (c .before .before .before .before .before .before .before .before .before .before .before .before .before .before .before .before .before .before .before .before .before .pre) (c .before .before .before .before .before .before .before .before .before .before .before .before .before .summarize-kind .ensures .0) (made .0) (made .1) (c .before .before .before .before .before .before .before .before .before .before .before .before .before .summarize-kind .ensures .1 .1)
 
 pub summarize-assumption-spec : {M : Type 1} → statement M
 summarize-assumption-spec =
