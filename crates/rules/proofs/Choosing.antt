@@ -20,7 +20,7 @@ use Rattle.rules.specs.Choices.{kinded, choose-1, choose-2, choose-3, ch
 use Rattle.rules.proofs.Meaning.{apply-tt, one-inside, token-named, two-inside, valid}
 use Rattle.rules.proofs.Counting.{no-groups}
 
--- a value under a test is the value
+-- a value that is there under a test is the value
 when-is : {A : Type 0} (b : Bool) {x y : A} → when b x ≡ some y → x ≡ y
 unfolding when
 when-is true e = cc
@@ -38,61 +38,61 @@ op-names word (Exists body groups) e = cc
 op-names word (Let body us) e = cc
 op-names word (Labeled u) e = cc
 
--- what a choice makes of a fact
+-- the choice makes this of a fact
 record Makes (terms : List Term) (name : ℕ → Name) (c : Choice) (k : Kinded) : Type 0 where
   makes : kinded terms name c ≡ some k
 
--- a rule here and in `model`: neither holds, or the choice makes what the other gives
+-- a rule here and in `model` agree: neither holds, or the choice makes what the other gives
 data Kinds (terms : List Term) (name : ℕ → Name) : Option Choice → Option Kinded → Type 0 where
   neither : Kinds terms name none none
   both : {c : Choice} {k : Kinded} → Makes terms name c k → Kinds terms name (some c) (some k)
 
 module _ {terms : List Term} {name : ℕ → Name} where
-  -- from a value that may be missing, where they agree from each value
+  -- they agree from a value that may be missing, where they agree from each value
   kinds-bind : {A : Type 0} (o : Option A) {f : A → Option Choice} {g : A → Option Kinded} → ((a : A) → o ≡ some a → Kinds terms name (f a) (g a)) → Kinds terms name (o >>= f) (o >>= g)
   kinds-bind none h = neither
   kinds-bind (some a) h = h a refl
 
-  -- under a test
+  -- they agree under one test
   kinds-when : (b : Bool) {c : Choice} {k : Kinded} → Makes terms name c k → Kinds terms name (when b c) (when b k)
   unfolding when
   kinds-when true e = both e
   kinds-when false e = neither
 
-  -- the first of two
+  -- the first of two that is there agrees where both do
   kinds-or-else : {o p : Option Choice} {q r : Option Kinded} → Kinds terms name o q → Kinds terms name p r → Kinds terms name (or-else o p) (or-else q r)
   unfolding or-else
   kinds-or-else neither h = h
   kinds-or-else (both e) h = both e
 
-  -- or else another
+  -- a choice or else another makes what the rule or else the other gives
   kinds-default : {o : Option Choice} {q : Option Kinded} {c : Choice} {k : Kinded} → Kinds terms name o q → Makes terms name c k → Makes terms name (Option·getD o c) (Option·getD q k)
   kinds-default neither h = h
   kinds-default (both e) h = e
 
 module _ (terms : List Term) (rows : List ℕ) (name : ℕ → Name) (fact : Name) (t : ℕ) where
-  -- rule 1
+  -- the two rules 1 agree
   kinds-1 : Kinds terms name (choose-1 terms rows fact t) (rule-1 exclude-names terms fact t)
   unfolding choose-1 rule-1 kinded
   kinds-1 = kinds-bind (op-args Iff (at exclude-names terms t) >>= two) (λ p is. kinds-when (starts-with fact (bytes "l_quant_interp")) (record { makes = refl }))
 
-  -- rule 2, of a term without triggers
+  -- the two rules 2 agree on a term without triggers
   kinds-2 : triggers-of-term exclude-names terms t ≡ [] → Kinds terms name (choose-2 terms rows fact t) (rule-2 exclude-names terms fact t)
   unfolding choose-2 rule-2 kinded is-empty
   kinds-2 e = kinds-when (starts-with fact (bytes "assumption_")) (record { makes = rw e })
 
-  -- rule 3
+  -- the two rules 3 agree
   kinds-3 : Kinds terms name (choose-3 terms rows fact t) (rule-3 exclude-names terms fact t)
   unfolding choose-3 rule-3 kinded
   kinds-3 = kinds-bind (call-two "HasType" (at exclude-names terms t)) (λ p is. kinds-when (is-ambient-refinement exclude-names terms (p .1)) (record { makes = refl }))
 
-  -- a token whose name is that of its row's head
+  -- the choice of a token makes its disjuncts, where its name is that of its row's head
   kinds-token : (x : ℕ) → ((n : Name) → token exclude-names terms x ≡ some n → name (row-head rows x) ≡ n)
       → Makes terms name (token-choice terms rows x) (Option·getD (token exclude-names terms x >>= λ n. some (token-triggers n)) (Sum-triggers []))
   unfolding token-choice kinded
   kinds-token x named = kinds-default (kinds-bind (token exclude-names terms x) (λ n is. both (record { makes = ap (λ m. some (token-triggers m)) (named n is) }))) (record { makes = refl })
 
-  -- rule 4, where the name of the token is that of its row's head
+  -- the two rules 4 agree where the name of the token is that of its row's head
   kinds-4 : ((a f x : ℕ) (n : Name) → call-one "Valid" (at exclude-names terms t) ≡ some a → call-two "ApplyTT" (at exclude-names terms a) ≡ some (f, x)
       → token exclude-names terms x ≡ some n → name (row-head rows x) ≡ n)
       → Kinds terms name (choose-4 terms rows fact t) (rule-4 exclude-names terms fact t)
@@ -102,7 +102,7 @@ module _ (terms : List Term) (rows : List ℕ) (name : ℕ → Name) (fact : Nam
       kinds-bind (call-two "ApplyTT" (at exclude-names terms a)) (λ p is-applied.
       kinds-when (holds (same (bytes "__uu__PartialApp")) (head (at exclude-names terms (p .0)))) (kinds-token (p .1) (λ n. named a (p .0) (p .1) n is-valid is-applied))))
 
-  -- rule 5
+  -- the two rules 5 agree
   kinds-5 : Kinds terms name (choose-5 terms rows fact t) (rule-5 exclude-names terms fact t)
   unfolding choose-5 rule-5 kinded
   kinds-5 =
@@ -112,26 +112,26 @@ module _ (terms : List Term) (rows : List ℕ) (name : ℕ → Name) (fact : Nam
       (or-else (call-one "IsTotFun" (at exclude-names terms t)) (call-one "is-Tm_arrow" (at exclude-names terms t)))))
       (λ first is. both (record { makes = refl }))
 
-  -- rule 6
+  -- the two rules 6 agree
   kinds-6 : Kinds terms name (choose-6 terms rows fact t) (rule-6 exclude-names terms fact t)
   unfolding choose-6 rule-6 kinded
   kinds-6 =
       kinds-bind (op-args Eq (at exclude-names terms t) >>= two) (λ p is.
       kinds-bind (call-one "Term_constr_id" (at exclude-names terms (p .1))) (λ argument is-id. both (record { makes = refl })))
 
-  -- rule 7
+  -- the two rules 7 agree
   kinds-7 : Kinds terms name (choose-7 terms rows fact t) (rule-7 exclude-names terms fact t)
   unfolding choose-7 rule-7 kinded at
   kinds-7 =
       kinds-bind (op-args And (at exclude-names terms t)) (λ parts is.
       both (record { makes = ap (λ ts. some (Sum-triggers (collect (triggers-of-term exclude-names terms) ts))) (op-names And (term terms t .node) is) }))
 
-  -- rule 8
+  -- the two rules 8 agree
   kinds-8 : Kinds terms name (choose-8 terms rows fact t) (rule-8 exclude-names terms fact t)
   unfolding choose-8 rule-8 kinded
   kinds-8 = kinds-bind (op-args Eq (at exclude-names terms t) >>= two) (λ p is. kinds-when (starts-with fact (bytes "equation_")) (record { makes = refl }))
 
-  -- rule 9
+  -- the two rules 9 agree
   kinds-9 : Kinds terms name (choose-9 terms rows fact t) (rule-9 exclude-names terms fact t)
   unfolding choose-9 rule-9 kinded
   kinds-9 =
@@ -140,23 +140,23 @@ module _ (terms : List Term) (rows : List ℕ) (name : ℕ → Name) (fact : Nam
       (kinds-bind (has-eq exclude-names terms (p .0)) (λ l is-left. kinds-bind (has-eq exclude-names terms (p .1)) (λ r is-right. both (record { makes = refl }))))
       (both (record { makes = refl })))
 
-  -- rule 10
+  -- the two rules 10 agree
   kinds-10 : Kinds terms name (choose-10 terms rows fact t) (rule-10 exclude-names terms fact t)
   unfolding choose-10 rule-10 kinded
   kinds-10 = kinds-bind (op-args Eq (at exclude-names terms t) >>= two) (λ p is. both (record { makes = refl }))
 
-  -- rule 11
+  -- the two rules 11 agree
   kinds-11 : Kinds terms name (choose-11 terms rows fact t) (rule-11 exclude-names terms fact t)
   unfolding choose-11 rule-11 kinded
   kinds-11 = kinds-bind (op-args TrueOp (at exclude-names terms t)) (λ ts is. both (record { makes = refl }))
 
-  -- rule 12, the last
+  -- the last choice makes what the last rule gives
   kinds-12 : Makes terms name (first-choice terms rows (choose-12 terms rows ∷ []) fact t) (first-rule exclude-names terms (rule-12 exclude-names terms ∷ []) fact t)
   unfolding first-choice choose-12 first-rule rule-12 kinded
   kinds-12 = record { makes = refl }
 
 module _ {file names refs rows : List ℕ} {named used many t : ℕ} (tables : Tables file names refs rows named used many) (l : t < many) (fact : Name) where
-  -- the choice of a term without triggers
+  -- the first choice for a term without triggers makes what the first rule gives
   chosen : triggers-of-term exclude-names (terms-in file names refs rows used many) t ≡ []
       → Makes (terms-in file names refs rows used many) (name-of file names) (ambient-choice (terms-in file names refs rows used many) rows fact t)
       (maybe-add-ambient exclude-names (terms-in file names refs rows used many) fact t)
