@@ -312,14 +312,14 @@ pub comes-next : {names rows out names₁ rows₁ out₁ names₂ rows₂ out₂
     → Comes names rows out names₂ rows₂ out₂ named mark at u g as-many (after n r)
 comes-next s t u step few long q p i c d = comes-as q p i (comes-then t step few long c d)
 
--- ---- what the functions say of it
+-- ---- the promises of the functions
 
--- of filing, by what is asked of the names
+-- they hold of what filing comes to
 pub posts : {names rows out names₁ rows₁ out₁ : List ℕ} {named mark at count : ℕ} {s : (ℕ → Name) → List (List Name)} {f : Filing} {r : Filed} → Comes names rows out names₁ rows₁ out₁ named mark at s f count r
     → ((name : ℕ → Name) → Named name names named → Files name named (s name) at out₁ r) × (Filled names rows out names₁ rows₁ out₁ mark at r × Files-as f count names₁ rows₁ out₁ mark at r)
 posts c = (c .files, (c .filled, c .filed-as))
 
--- and back
+-- and say what it comes to
 pub comes-of : {names rows out names₁ rows₁ out₁ : List ℕ} {named mark at count : ℕ} {f : Filing} {r : Filed} (s : (ℕ → Name) → List (List Name))
     → ((name : ℕ → Name) → Named name names named → Files name named (s name) at out₁ r) × (Filled names rows out names₁ rows₁ out₁ mark at r × Files-as f count names₁ rows₁ out₁ mark at r)
     → Comes names rows out names₁ rows₁ out₁ named mark at s f count r

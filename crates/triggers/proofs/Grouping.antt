@@ -255,7 +255,7 @@ module _ {refs rows : List ℕ} {used many named t groups u e : ℕ} (r : Rows r
         group-terms r all b (sym last)
 
     -- they are the one trigger
-    pub single-trigger : (name : ℕ → Name) → triggers-of-term exclude-names (terms-of name refs rows used many) t ≡ group-names exclude-names (terms-of name refs rows used many) (terms-of-words (words refs (a) e)) ∷ []
+    pub single-trigger : (name : ℕ → Name) → triggers-of-term exclude-names (terms-of name refs rows used many) t ≡ group-names exclude-names (terms-of name refs rows used many) (terms-of-words (words refs a e)) ∷ []
     unfolding groups-of-words
     single-trigger name =
         sym (triggers-all r l all name)
@@ -269,7 +269,7 @@ module _ {refs rows : List ℕ} {used many named t groups u e : ℕ} (r : Rows r
     single-words {names} {mark = mark} {at} g x = (names-kept g, x .row-words ∙ ap (λ v. marked-at 12288 mark (v .walked) rows) (walked-one names a at all one single-terms), out-kept g)
 
     -- a gathered set that has no name is empty, and one that has no room is not
-    pub single-empty : {name : ℕ → Name} {at n : ℕ} {out : List ℕ} {f : Walked} → f ≡ gathered.Names n → Gathers name named (group-names exclude-names (terms-of name refs rows used many) (terms-of-words (words refs (a) e))) at at out f
+    pub single-empty : {name : ℕ → Name} {at n : ℕ} {out : List ℕ} {f : Walked} → f ≡ gathered.Names n → Gathers name named (group-names exclude-names (terms-of name refs rows used many) (terms-of-words (words refs a e))) at at out f
         → true ≡ is-empty (triggers-of-term exclude-names (terms-of name refs rows used many) t)
     single-empty {name} p g = rw (single-trigger name) (empty-nil _ (none (rw p at g)))
       where
@@ -277,7 +277,7 @@ module _ {refs rows : List ℕ} {used many named t groups u e : ℕ} (r : Rows r
         none (all-names is count fits small) = omega arith
 
     -- the other answer
-    pub single-full : {name : ℕ → Name} {at : ℕ} {out : List ℕ} {f : Walked} → f ≡ gathered.Full → Gathers name named (group-names exclude-names (terms-of name refs rows used many) (terms-of-words (words refs (a) e))) at at out f
+    pub single-full : {name : ℕ → Name} {at : ℕ} {out : List ℕ} {f : Walked} → f ≡ gathered.Full → Gathers name named (group-names exclude-names (terms-of name refs rows used many) (terms-of-words (words refs a e))) at at out f
         → false ≡ is-empty (triggers-of-term exclude-names (terms-of name refs rows used many) t)
     single-full {name} p g = rw (single-trigger name) (empty-some _ (some (rw p at g)))
       where

@@ -211,7 +211,7 @@ walked-one {refs} {rows} {used} {many} {t} {groups} {u} {e} names a at all one i
     let here : groups-under refs used many rows t ≡ group-of-words (patterns refs rows used many u) 0 ∷ [] = sym (groups-here all) ∙ ap (groups-of-words (patterns refs rows used many u)) one in
     rw (groups-all rows t u (all .bare) (all .is-all) ∙ sym (all .counted) ∙ one, here, append-nil (group-of-words (patterns refs rows used many u) 0), room, is)
 
--- names that gathering without room leaves
+-- gathering without room leaves the names
 pub names-kept : {names rows out names′ rows′ out′ : List ℕ} {mark at : ℕ} {r : Walked} → Gathered names rows out names′ rows′ out′ mark at at r → names′ ≡ names
 names-kept {names} {names′ = names′} {out′ = out′} {at = at} {r = r} g =
     ext-getD 0 names′ names (g .names-same .same-length) (λ i l. ⊎-elim
@@ -227,7 +227,7 @@ names-kept {names} {names′ = names′} {out′ = out′} {at = at} {r = r} g =
     (below i 10240))
     (below i 8192))
 
--- and the slice
+-- and it leaves the slice
 pub out-kept : {names rows out names′ rows′ out′ : List ℕ} {mark at : ℕ} {r : Walked} → Gathered names rows out names′ rows′ out′ mark at at r → out′ ≡ out
 out-kept {out = out} {out′ = out′} g =
     let hi = g .fits in
