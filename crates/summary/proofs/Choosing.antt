@@ -89,7 +89,7 @@ module _ {file names refs rows out names′ rows′ out′ : List ℕ} {named us
     marks = rw q (s .marks);
   }
 
-  -- a choice whose sets were filed
+  -- filing sets files the choice that gathers them
   sets-chooses : {g : Filing} {count : ℕ} {f : Filed} (s : List Term → List (List Name)) (c : Choice)
       → kinded (terms-in file names refs rows used many) (name-of file names) c ≡ some (Sum-triggers (s (terms-in file names refs rows used many)))
       → trimmed-table file names named c ≡ names → file-choice refs used many file named mark (filing names rows out (mark + 1) at) c ≡ g

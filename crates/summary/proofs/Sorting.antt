@@ -53,7 +53,7 @@ table-marked table same = table-kept table (same .same-length) (λ i l. same .sa
 
 -- ---- what filing asks
 
--- to file from the mark or a later one on
+-- what began under a mark may be filed under it or a later one
 pub begun-opened : {names rows out : List ℕ} {mark at n : ℕ} → Begun names rows out mark at → mark ≤ n → n ≤ mark + 8192 → Opened names rows out n at
 begun-opened {mark = mark} {n = n} b less few = record { name-room = b .name-room; fresh = fresh-later mark n less (b .fresh); low = b .low; high = omega (arith, b .room); few-marks = omega (arith, b .few-marks) }
 

@@ -157,7 +157,7 @@ module _ {file names : List ℕ} {named n x y : ℕ} (table : Table file names n
   unfolding name-of
   token-part = rw (p, q) refl
 
-  -- whether it ends in @tok, as a test of that part says
+  -- a test of that part says whether it ends in @tok
   pub token-ends : {b v : Bool} → b ≡ ends-with (part file x (x + y)) (bytes "@tok") → b ≡ v → ends-with (name-of file names n) (bytes "@tok") ≡ v
   token-ends e is = rw (← token-part) (sym e ∙ is)
 
@@ -165,7 +165,7 @@ module _ {file names : List ℕ} {named n x y : ℕ} (table : Table file names n
   token-length : length (name-of file names n) ≡ y
   token-length = ap length (sym token-part) ∙ (simp (length-take, length-drop) (omega (arith, token-inside)))
 
-  -- a token that is not filed: only the name that it trims to may be entered
+  -- a token that is not filed writes the words of `file-token`: at most the shorter name, in the name table
   token-stops : {names′ out out′ : List ℕ} {at : ℕ} {w : Limit} (rows : List ℕ) (mark : ℕ) → names′ ≡ token-table file names named n → out′ ≡ out
       → file-words (filing (token-table file names named n) rows out (mark + 1) at) (token-words file names named n) ≡ stopped (filing (token-table file names named n) rows out (mark + 1) at)
       → Sorts-as (file-token file named (filing names rows out (mark + 1) at) n) names′ rows out′ mark at (sorted.Over w)
@@ -222,13 +222,13 @@ module _ {file names : List ℕ} {named n x y : ℕ} (table : Table file names n
         rw e (same-then (same-set at (at + 2 - at) out at (n + 4096) (omega arith) (omega arith)) (same-set at (at + 2 - at) (set out at (n + 4096)) (at + 1) (m + 4096) (omega arith) (omega arith)))
     token-out {out} {at = at} (over past e) = rw e (same-self at (8192 - at) out)
 
-    -- the entries of a token, by what spelling the shorter name answers
+    -- the entries of a token are its own and that of the number which spelling the shorter name answers
     token-entries : {s : Spelled} → s ≡ spell-answer named (look-up (names-of file names named) (part file x (x + y - 4)))
         → token-words file names named n ≡ (spelled-number s >>= λ m. some ((n + 4096) ∷ (m + 4096) ∷ []))
     unfolding token-words
     token-entries e = rw (yes, ← p, ← q, ← e) refl
 
-    -- every word after filing a token and the shorter name
+    -- filing a token and the shorter name writes the words of `file-token`
     token-two-as : {names′ out out′ : List ℕ} {total m at : ℕ} {r : Sorted} → names′ ≡ token-table file names named n → token-words file names named n ≡ some ((n + 4096) ∷ (m + 4096) ∷ []) → Two out out′ total n m at r
         → (rows : List ℕ) (mark : ℕ) → Sorts-as (file-token file named (filing names rows out (mark + 1) at) n) names′ rows out′ mark at r
     unfolding file-token file-words put
@@ -238,15 +238,15 @@ module _ {file names : List ℕ} {named n x y : ℕ} (table : Table file names n
     token-two-as {at = at} w ws (over past e) rows mark = token-stops rows mark w e (rw (ws, lt-ltb 8192 (at + 2) past) refl)
 
     module _ {names′ : List ℕ} {s : Spelled} (answer : s ≡ spell-answer named (look-up (names-of file names named) (part file x (x + y - 4)))) (slice : names′ ≡ spell-table file names named x (x + y - 4) (look-up (names-of file names named) (part file x (x + y - 4)))) where
-      -- what spelling the shorter name says
+      -- spelling the shorter name: what its answer says
       token-spelled : Spelling file names names′ named x (x + y - 4) s
       token-spelled = spell-law table x (x + y - 4) (token-asks .1) (token-asks .2) names′ s answer slice
 
-      -- the number of a known name
+      -- the number of a known name is below 2,048
       pub token-known-small : {m : ℕ} → s ≡ spelled.Known m → m < 2048
       token-known-small e = omega (arith, spelled-known token-spelled e .number, table .few)
 
-      -- the number of a new one
+      -- so is that of a new one
       pub token-new-small : {m : ℕ} → s ≡ spelled.New m → m < 2048
       token-new-small e = let k = spelled-new token-spelled e in omega (arith, k .number, k .few)
 
@@ -304,7 +304,7 @@ module _ {file names : List ℕ} {named n x y : ℕ} (table : Table file names n
     unfolding token-table
     token-kept = rw no refl
 
-    -- its entry
+    -- its entries are one
     token-entry : token-words file names named n ≡ some ((n + 4096) ∷ [])
     unfolding token-words
     token-entry = rw no refl
