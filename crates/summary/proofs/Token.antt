@@ -38,9 +38,8 @@ use Rattle.summary.specs.declared.Limit.{Limit}
 use Rattle.summary.specs.declared.Limit.the-variants as limit
 use Rattle.summary.specs.declared.Sorted.{Sorted}
 use Rattle.summary.specs.declared.Sorted.the-variants as sorted
-use Rattle.summary.specs.Facts.{trimmed-end, trimmed-found, token-table}
 use Rattle.summary.specs.Steps.{sorted-end, Comes-to, kind-filed, names-over, entries-over, Two, both, over, Tokens, Sorts-as, as-kind, as-over}
-use Rattle.summary.specs.Writing.{spelled-number, token-words, stopped, file-words, file-token}
+use Rattle.summary.specs.Writing.{trimmed-end, trimmed-found, token-table, spelled-number, token-words, stopped, file-words, file-token}
 
 -- spelling a name changes no word from 8,192 on
 spell-same : {file names : List ℕ} {named : ℕ} → Table file names named → (a e : ℕ)

@@ -1,18 +1,16 @@
 -- The summary of a fact in the lent slices: its trigger entries from word 6,144 of `out` on, behind those of the facts before
 -- it; its free names from word 0 on, behind theirs.
-use Prim.Native.Nat.{ℕ, _+_, _-_, _≤_, _<_}
+use Prim.Native.Nat.{ℕ, _+_, _≤_, _<_}
 use mathlib.Core.Path.{_≡_}
 use mathlib.Core.Bool.{cond}
 use mathlib.Core.List.{List, map}
 use lib.ListN.{length, getD}
 use lib.Dec.{ltb}
 use Rattle.model.specs.Lists.{fold-left}
-use Rattle.model.specs.Names.{Name, bytes, from-list, ends-with}
+use Rattle.model.specs.Names.{Name, from-list}
 use Rattle.model.specs.Reading.{spell}
 use Rattle.model.specs.Summaries.{Kinded, exclude-names, free-top-level-names, summarize-kind}
-use Rattle.text.specs.Parts.{part}
-use Rattle.names.specs.Table.{Table, name-of, names-of, look-up, spell-table}
-use Rattle.names.specs.declared.Found.{Found}
+use Rattle.names.specs.Table.{Table, name-of, names-of}
 use Rattle.terms.specs.Rows.{words}
 use Rattle.gather.specs.Sets.{Fresh, Same-but}
 use Rattle.rules.specs.Views.{Tables, terms-in}
@@ -82,20 +80,6 @@ limited s =
     cond (ltb 2048 (s .named)) (summarized.Over limit.Names)
     (cond (ltb 2048 (s .entries)) (summarized.Over limit.Entries)
     (cond (ltb 6144 (s .uses)) (summarized.Over limit.Uses) (summarized.Done s)))
-
--- where the name that a token trims to ends in the file
-abbrev pub trimmed-end : List ℕ → ℕ → ℕ
-trimmed-end names n = getD names n 0 + getD names (2048 + n) 0 - 4
-
--- what looking that name up finds
-abbrev pub trimmed-found : List ℕ → List ℕ → ℕ → ℕ → Found
-trimmed-found file names named n = look-up (names-of file names named) (part file (getD names n 0) (trimmed-end names n))
-
--- the slice of names with the name that a token ending in @tok trims to
-unfoldable pub token-table : List ℕ → List ℕ → ℕ → ℕ → List ℕ
-token-table file names named n =
-    let trimmed = spell-table file names named (getD names n 0) (trimmed-end names n) (trimmed-found file names named n) in
-    cond (ends-with (name-of file names n) (bytes "@tok")) trimmed names
 
 -- what of the slices may change: of the names the columns of the table and the marks, of the rows the marks, of `out` the room
 -- for uses and for entries behind those of the facts before

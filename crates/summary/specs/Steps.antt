@@ -33,8 +33,7 @@ use Rattle.summary.specs.declared.Sorted.the-variants as sorted
 use Rattle.summary.specs.declared.Summary.{Summary}
 use Rattle.summary.specs.declared.Summarized.{Summarized}
 use Rattle.summary.specs.declared.Summarized.the-variants as summarized
-use Rattle.summary.specs.Facts.{token-table}
-use Rattle.summary.specs.Writing.{file-token}
+use Rattle.summary.specs.Writing.{token-table, file-token}
 
 -- what filing from `at` on asks of the slices
 pub record Begun (names rows out : List ℕ) (mark at : ℕ) : Type 0 where

@@ -4,11 +4,13 @@ use mathlib.Core.Path.{_≡_}
 use mathlib.Core.Bool.{true, cond}
 use mathlib.Core.List.{List, [], _∷_}
 use mathlib.Core.Option.{Option, none, some}
-use lib.ListN.{length}
+use lib.ListN.{length, getD}
 use lib.Dec.{ltb}
 use Rattle.model.specs.Lists.{_>>=_}
 use Rattle.model.specs.Names.{bytes, ends-with}
-use Rattle.names.specs.Table.{name-of, spell-answer}
+use Rattle.text.specs.Parts.{part}
+use Rattle.names.specs.Table.{name-of, names-of, look-up, spell-answer, spell-table}
+use Rattle.names.specs.declared.Found.{Found}
 use Rattle.names.specs.declared.Spelled.{Spelled}
 use Rattle.names.specs.declared.Spelled.the-variants as spelled
 use Rattle.terms.specs.Rows.{row-start, row-end, words, terms-of-words}
@@ -16,7 +18,21 @@ use Rattle.gather.specs.Visits.{visit-term, marked-at, put}
 use Rattle.rules.specs.declared.Choice.{Choice}
 use Rattle.rules.specs.declared.Choice.the-variants as choice
 use Rattle.triggers.specs.Filings.{Filing, filing, file-list, file-groups, file-parts, ask-empty}
-use Rattle.summary.specs.Facts.{fact-choice, trimmed-found, token-table}
+use Rattle.summary.specs.Facts.{fact-choice}
+
+-- where the name that a token trims to ends in the file
+abbrev pub trimmed-end : List ℕ → ℕ → ℕ
+trimmed-end names n = getD names n 0 + getD names (2048 + n) 0 - 4
+
+-- what looking that name up finds
+abbrev pub trimmed-found : List ℕ → List ℕ → ℕ → ℕ → Found
+trimmed-found file names named n = look-up (names-of file names named) (part file (getD names n 0) (trimmed-end names n))
+
+-- the slice of names with the name that a token ending in @tok trims to
+unfoldable pub token-table : List ℕ → List ℕ → ℕ → ℕ → List ℕ
+token-table file names named n =
+    let trimmed = spell-table file names named (getD names n 0) (trimmed-end names n) (trimmed-found file names named n) in
+    cond (ends-with (name-of file names n) (bytes "@tok")) trimmed names
 
 -- the number of a spelled name: a full table has none for it
 unfoldable pub spelled-number : Spelled → Option ℕ
