@@ -1,17 +1,16 @@
 -- What `gather_term` and `gather_list` rest on: a walk under a new mark.
-use Prim.Native.Nat.{ℕ, _+_, _-_, _%_, _≤_, _<_}
+use Prim.Native.Nat.{ℕ, _-_, _≤_, _<_}
 use native.Mathlib.Omega.{arith}
-use mathlib.Core.Path.{_≡_, refl, sym, ap, _∙_}
+use mathlib.Core.Path.{_≡_, sym}
 use mathlib.Core.Logic.{_↔_}
 use mathlib.Core.List.{List, List·Memᴰ, Memᴰ·cast}
-use lib.ListN.{length, getD}
+use lib.ListN.{length}
 use Rattle.model.specs.Names.{Name}
 use Rattle.model.specs.Summaries.{exclude-names, free-top-level-names, group-names}
 use Rattle.gather.specs.declared.Walked.{Walked}
-use Rattle.gather.specs.declared.Walked.the-variants as walks
 use Rattle.terms.specs.Rows.{words, terms-of-words, terms-of, Rows}
-use Rattle.gather.specs.Sets.{row-mark, name-mark, Fresh, Named, ended, Gathers, Gathered}
-use Rattle.gather.specs.Walks.{Free, Among, Closed, Ready, References, Steps, Walks, Listed}
+use Rattle.gather.specs.Sets.{name-mark, Fresh, Named, ended, Gathers, Gathered}
+use Rattle.gather.specs.Walks.{Free, Among, Ready, References, Steps, Walks, Listed}
 use Rattle.terms.proofs.Table.{rows-named, words-elim, words-intro}
 use Rattle.gather.proofs.Naming.{occurs-named, term-set, list-set, start-listed, steps-gathers}
 

@@ -1,17 +1,17 @@
 -- Adding the head of a term: what each way through `gather_head` comes to.
 use Prim.Native.Nat.{ℕ, _+_, _≤_, _<_}
 use native.Mathlib.Omega.{arith}
-use mathlib.Core.Path.{_≡_, refl, sym, ap, _∙_}
-use mathlib.Core.Bool.{Bool, true, false, true≢false}
+use mathlib.Core.Path.{_≡_, sym, ap, _∙_}
+use mathlib.Core.Bool.{true, false, true≢false}
 use mathlib.Core.List.{List}
-use lib.ListN.{length, getD, set}
-use lib.Dec.{T, eqb, ltb}
+use lib.ListN.{getD, set}
+use lib.Dec.{eqb, ltb}
 use borrow.Author.Tests.{ne-eqb, lt-ltb}
 use Rattle.model.proofs.ListLaws.{T-true, true-T}
 use Rattle.gather.specs.declared.Walked.the-variants as walks
 use Rattle.terms.specs.Rows.{row-kind, row-head, has-head}
 use Rattle.gather.specs.Sets.{is-excluded, name-mark}
-use Rattle.gather.specs.Walks.{Counted, Own, Heads, Steps}
+use Rattle.gather.specs.Walks.{Own, Heads, Steps}
 use Rattle.gather.proofs.Steps.{steps-stay, steps-over, steps-one}
 
 -- a free has a head

@@ -3,24 +3,23 @@ use Prim.Native.Nat.{ℕ, zero, suc, _+_, _-_, _%_, _≤_, _<_}
 use native.Mathlib.Nat.{not-suc-le-zero}
 use native.Mathlib.Omega.{arith}
 use mathlib.Core.Path.{_≡_, refl, sym, ap, _∙_}
-use mathlib.Core.Bool.{Bool, true, false, not}
-use mathlib.Core.Logic.{_↔_, _⊎_, inl, inr, ⊎-elim}
+use mathlib.Core.Logic.{_⊎_, inl, inr, ⊎-elim}
 use mathlib.Core.List.{List, [], _∷_, map, List·Memᴰ, List·Memᴰ·head, List·Memᴰ·tail, List·Memᴰ·cases-cons, List·Memᴰ·not-nil}
 use lib.ListN.{length, getD, length-map}
 use lib.Dec.{T}
-use Rattle.model.specs.Lists.{any, fold-left}
-use Rattle.model.specs.Names.{Name, order, mem, add, add-by, from-list, union, diff}
-use Rattle.model.specs.Terms.{Term, term, references}
+use Rattle.model.specs.Lists.{fold-left}
+use Rattle.model.specs.Names.{Name, mem, add, add-by, from-list, union}
+use Rattle.model.specs.Terms.{term, references}
 use Rattle.model.specs.Summaries.{exclude-names, free-top-level-names, group-names}
 use Rattle.model.specs.declared.Order.{Order}
 use Rattle.model.proofs.ListLaws.{T-false, false-T, map-intro, map-elim}
-use Rattle.model.proofs.SetLaws.{mem-intro, mem-elim, mem-cons, mem-first, mem-later, mem-union, mem-from-list, mem-diff, mem-add, Compared, first, equal as equal-names, second, compared, Ascending, empty, ascending-union, ascending-from-list, ascending-diff, ascending-ext, subset-length}
+use Rattle.model.proofs.SetLaws.{mem-intro, mem-elim, mem-cons, mem-later, mem-union, mem-from-list, mem-diff, Compared, first, equal as equal-names, second, compared, Ascending, empty, ascending-union, ascending-from-list, ascending-diff, ascending-ext, subset-length}
 use Rattle.gather.specs.declared.Walked.{Walked}
 use Rattle.gather.specs.declared.Walked.the-variants as walks
-use Rattle.terms.specs.Rows.{row-kind, row-op, row-head, row-start, row-extra, row-end, words, terms-of-words, op-of-code, node-of, terms-of, Rows, has-head}
-use Rattle.gather.specs.Sets.{is-excluded, row-mark, name-mark, Fresh, Named, Gathers, all-names, no-room, ended, Gathered}
-use Rattle.gather.specs.Walks.{Occurs, own, under, Counted, Free, Among, Closed, Ready, References, Comes, whole, over, Steps, Walks, Listed}
-use Rattle.terms.proofs.Table.{own-names, words-nil, words-cons, words-length, words-elim, words-intro, Place, Inside, Named-by, node-elim, node-intro, own-elim, own-intro, refs-elim, refs-intro, table, entry, table-all, table-term, table-ascending, row-right, kind-small}
+use Rattle.terms.specs.Rows.{row-kind, row-op, row-head, row-start, row-extra, row-end, words, terms-of-words, op-of-code, node-of, terms-of, Rows}
+use Rattle.gather.specs.Sets.{name-mark, Named, Gathers, all-names, no-room, ended}
+use Rattle.gather.specs.Walks.{Occurs, own, under, Free, Among, References, Comes, whole, over, Steps, Listed}
+use Rattle.terms.proofs.Table.{own-names, words-nil, words-cons, words-length, words-elim, words-intro, Inside, node-elim, node-intro, own-elim, own-intro, refs-elim, refs-intro, table, entry, table-all, table-term, table-ascending, row-right, kind-small}
 
 -- ---- the free names of a term
 

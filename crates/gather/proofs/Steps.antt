@@ -9,7 +9,7 @@ use lib.Seq.{getD-set-same, getD-set-other}
 use Rattle.gather.specs.declared.Walked.{Walked}
 use Rattle.gather.specs.declared.Walked.the-variants as walks
 use Rattle.gather.specs.Sets.{Same-but, name-mark, ended}
-use Rattle.terms.proofs.Laws.{equal, below}
+use Rattle.terms.proofs.Laws.{equal}
 use Rattle.gather.specs.Walks.{Listed, Comes, whole, over, Steps}
 
 -- a slice is the same as itself

@@ -11,10 +11,9 @@ use lib.Dec.{T, ltb}
 use borrow.Author.Tests.{ltb-true}
 use Rattle.gather.specs.declared.Walked.{Walked}
 use Rattle.gather.specs.declared.Walked.the-variants as walks
-use Rattle.terms.specs.Rows.{row-kind, row-head, row-start, row-extra, row-end, has-head, has-body, bare-of, Rows}
-use Rattle.gather.specs.Sets.{Same-but, row-mark, name-mark, is-excluded, ended}
+use Rattle.terms.specs.Rows.{row-kind, row-head, row-start, row-extra, row-end, has-body, bare-of, Rows}
+use Rattle.gather.specs.Sets.{Same-but, row-mark, name-mark, ended}
 use Rattle.gather.specs.Walks.{Occurs, own, under, Counted, Own, Free, Among, Heads, Closed, Ready, References, Comes, whole, Steps, Walks}
-use Rattle.terms.proofs.Laws.{bare-label, bare-own}
 use Rattle.terms.proofs.Laws.{equal}
 use Rattle.gather.proofs.Steps.{same-self, same-back, same-then, same-set, steps-stay, steps-kept, steps-as, steps-full, steps-then}
 

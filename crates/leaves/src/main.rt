@@ -13,7 +13,7 @@ use text::FieldStep;
 use text::NumberStep;
 ghost use Prim.Native.Nat.{_≤_, _<_};
 ghost use mathlib.Core.Path.{_≡_};
-ghost use lib.ListN.{length, getD};
+ghost use lib.ListN.{length};
 ghost use Rattle.text.specs.Parts.{Placed};
 ghost use Rattle.names.specs.Table.{Table};
 ghost use Rattle.leaves.specs.Counts.{grown-to};

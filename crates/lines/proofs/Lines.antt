@@ -1,6 +1,5 @@
 -- A term line's references and its row: what each kind asks, and what it adds.
-use Prim.Native.Nat.{ℕ, zero, suc, _+_, _*_, _/_, _%_, _≤_, _<_}
-use native.Mathlib.Nat.{not-suc-le-zero}
+use Prim.Native.Nat.{ℕ, _+_, _*_, _/_, _%_, _≤_, _<_}
 use native.Mathlib.Omega.{arith}
 use mathlib.Core.Path.{_≡_, refl, ap, _∙_}
 use mathlib.Core.Logic.{⊎-elim}
@@ -12,9 +11,9 @@ use Rattle.model.specs.Names.{Name}
 use Rattle.model.specs.Terms.{Node, FreeV, Leaf, Call, App, Forall, Exists, Let, Labeled, add-term}
 use Rattle.model.proofs.ListLaws.{T-or}
 use Rattle.lines.specs.declared.Added.{Added}
-use Rattle.terms.specs.Rows.{row-kind, row-start, row-end, words, terms-of-words, groups-of-words, op-of-code, make-node, terms-of, has-head, has-body, has-groups, bare-of, Rows}
+use Rattle.terms.specs.Rows.{row-start, row-end, words, terms-of-words, groups-of-words, op-of-code, make-node, terms-of, has-head, has-body, has-groups, bare-of, Rows}
 use Rattle.lines.specs.Additions.{row-word, with-row, added, rows-after, pushed, Pushed, Patterns, Adds}
-use Rattle.terms.proofs.Laws.{bare-label, bare-own, equal}
+use Rattle.terms.proofs.Laws.{equal}
 use Rattle.lines.proofs.Laws.{pushed-in, added-in}
 use Rattle.terms.proofs.Table.{words-cons, words-drop, bare-low}
 use Rattle.terms.proofs.Groups.{groups-bodied}

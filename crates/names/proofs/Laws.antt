@@ -16,7 +16,7 @@ use Rattle.model.specs.Names.{Name, order, same, mem, add-by, add}
 use Rattle.model.specs.declared.Order.{Order}
 use Rattle.model.specs.declared.Order.the-variants.{Before, After}
 use Rattle.model.proofs.ListLaws.{T-true, T-false, any-append, count-append}
-use Rattle.model.proofs.SetLaws.{order-flip, order-trans, order-irrefl, Compared, first, equal, second, compared, same-refl, same-eq, mem-cons, mem-first, mem-later, mem-append, add-mem, Ascending, empty, one, more, ascending-tail, ascending-head, ascending-cons, ascending-add, ascending-ext}
+use Rattle.model.proofs.SetLaws.{order-flip, order-trans, order-irrefl, Compared, first, equal, second, compared, same-refl, same-eq, mem-cons, mem-first, mem-later, mem-append, add-mem, Ascending, empty, one, ascending-tail, ascending-head, ascending-cons, ascending-add, ascending-ext}
 use Rattle.text.specs.Parts.{part}
 use Rattle.names.specs.declared.Found.{Found}
 use Rattle.names.specs.declared.Found.the-variants.{At, Missing}

@@ -2,7 +2,7 @@ ghost use Prim.Native.Nat.{ℕ, _+_, _≤_, _<_};
 ghost use mathlib.Core.Path.{_≡_};
 ghost use mathlib.Core.Option.{some};
 ghost use lib.Dec.{T};
-ghost use lib.ListN.{length, getD};
+ghost use lib.ListN.{length};
 ghost use Rattle.model.specs.Names.{starts-with};
 ghost use Rattle.model.specs.Summaries.{exclude-names, is-ambient-refinement, ambient-refinement-payload, has-eq, maybe-add-ambient, summarize-kind};
 ghost use Rattle.names.specs.Table.{Table, name-of};

@@ -9,7 +9,6 @@ use Rattle.model.specs.declared.AsumKind.{AsumKind}
 use Rattle.summary.specs.declared.Limit.{Limit}
 use Rattle.summary.specs.declared.Limit.the-variants as limit
 use Rattle.summary.specs.declared.Summary.{Summary}
-use Rattle.summary.specs.declared.Summarized.{Summarized}
 use Rattle.summary.specs.declared.Summarized.the-variants as summarized
 use Rattle.summary.specs.Facts.{limited}
 

@@ -17,7 +17,6 @@ use Rattle.names.proofs.Coded.{code-excluded, Kept, table-kept}
 use Rattle.terms.specs.Rows.{row-start, row-end, words, terms-of-words, terms-of, Rows}
 use Rattle.terms.proofs.Table.{words-nil}
 use Rattle.gather.specs.Sets.{Fresh, Same-but, Named, is-excluded}
-use Rattle.gather.specs.Visits.{marked-at}
 use Rattle.gather.proofs.Steps.{same-self, same-then}
 use Rattle.triggers.specs.Entries.{disjuncts-of, disjuncts-of-words, entries, Files, all-sets, no-room as no-sets, Filled, filed-end, Opened}
 use Rattle.triggers.specs.Filings.{filing, file-groups, file-parts, ask-empty, Asks-as, Files-as}

@@ -17,7 +17,6 @@ use Rattle.rules.specs.Views.{Tables, terms-in}
 use Rattle.rules.specs.Choices.{kind-choice}
 use Rattle.rules.specs.declared.Choice.{Choice}
 use Rattle.triggers.specs.Entries.{disjuncts-of, entries, Entries}
-use Rattle.summary.specs.declared.Limit.{Limit}
 use Rattle.summary.specs.declared.Limit.the-variants as limit
 use Rattle.summary.specs.declared.Summary.{Summary}
 use Rattle.summary.specs.declared.Summarized.{Summarized}

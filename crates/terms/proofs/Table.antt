@@ -1,21 +1,20 @@
 -- The terms of a table, as `model` has them: what stands in a term, and which names are free in it.
-use Prim.Native.Nat.{ℕ, zero, suc, _+_, _-_, _*_, _/_, _%_, _≤_, _<_}
+use Prim.Native.Nat.{ℕ, zero, suc, _+_, _-_, _/_, _%_, _≤_, _<_}
 use native.Mathlib.Nat.{not-suc-le-zero}
 use native.Mathlib.Omega.{arith}
 use native.Mathlib.Numerals.{add-one}
 use mathlib.Core.Path.{_≡_, refl, sym, ap, ap₂, _∙_}
-use mathlib.Core.Bool.{Bool, true, false}
-use mathlib.Core.Logic.{_↔_, _⊎_, inl, inr, ⊎-elim}
-use mathlib.Core.List.{List, [], _∷_, _++_, map, List·Memᴰ, List·Memᴰ·head, List·Memᴰ·tail, List·Memᴰ·cases-cons, List·Memᴰ·not-nil, List·Memᴰ·append-cases, List·Memᴰ·eq-of-singleton, Memᴰ·append-left, Memᴰ·append-right, append-nil}
-use lib.ListN.{length, take, drop, getD, length-append, length-take, length-drop, drop-of-length-le, List·getD-append, List·getD-eq-default}
+use mathlib.Core.Logic.{_⊎_, inl, inr, ⊎-elim}
+use mathlib.Core.List.{List, [], _∷_, _++_, List·Memᴰ, List·Memᴰ·head, List·Memᴰ·tail, List·Memᴰ·cases-cons, List·Memᴰ·not-nil, List·Memᴰ·append-cases, List·Memᴰ·eq-of-singleton, Memᴰ·append-left, Memᴰ·append-right, append-nil}
+use lib.ListN.{length, drop, getD, length-append, length-take, length-drop, drop-of-length-le, List·getD-append, List·getD-eq-default}
 use lib.Seq.{drop-cons, take-nil, take-suc, getD-at, getD-drop, getD-take}
-use lib.Dec.{T, eqb, ltb, eqb→eq, eqb-refl, lt→ltb}
+use lib.Dec.{T, eqb, eqb→eq, eqb-refl, lt→ltb}
 use Rattle.model.specs.Lists.{any, keep, concat, fold-left}
-use Rattle.model.specs.Names.{Name, mem, add, union}
+use Rattle.model.specs.Names.{Name, mem, union}
 use Rattle.model.specs.Terms.{Node, FreeV, Leaf, Call, App, Forall, Exists, Let, Labeled, Term, term, names-of, free-top-level-names, unlabeled, add-term, references}
 use Rattle.model.specs.declared.Op.{Op}
 use Rattle.model.proofs.ListLaws.{T-or, keep-intro, keep-elim, map-intro, map-elim, concat-append, fold-left-append}
-use Rattle.model.proofs.SetLaws.{mem-add, mem-union, Ascending, empty, one, ascending-add, ascending-union}
+use Rattle.model.proofs.SetLaws.{mem-add, mem-union, Ascending, empty, ascending-add, ascending-union}
 use Rattle.terms.specs.Rows.{row-kind, row-op, row-head, row-start, row-extra, row-end, words, terms-of-words, group-of-words, groups-of-words, op-of-code, make-node, node-of, nodes-below, terms-of, has-head, has-body, has-groups, bare-of, Rows}
 use Rattle.terms.proofs.Laws.{bare-label, bare-own, equal, below}
 

@@ -18,7 +18,7 @@ use Rattle.terms.proofs.Table.{words-nil}
 use Rattle.gather.specs.declared.Walked.{Walked}
 use Rattle.gather.specs.declared.Walked.the-variants as gathered
 use Rattle.gather.specs.Sets.{Gathered, ended}
-use Rattle.gather.specs.Visits.{Visit, start-visit, visit-list, marked-at, put, Walks-as}
+use Rattle.gather.specs.Visits.{Visit, visit-list, marked-at, put, Walks-as}
 use Rattle.gather.proofs.Visiting.{terms-split, terms-more}
 use Rattle.gather.proofs.Rendering.{answer-names, answer-full}
 use Rattle.triggers.specs.declared.Filed.{Filed}

@@ -2,7 +2,6 @@
 use Prim.Native.Nat.{_+_, _-_, _≤_}
 use native.Mathlib.Omega.{arith}
 use mathlib.Core.Path.{_≡_, refl, sym, _∙_}
-use lib.ListN.{length}
 use Rattle.terms.specs.Rows.{words, group-run}
 use Rattle.terms.proofs.Groups.{run-none, run-other, run-more}
 use borrow.Author.Needs.{needs}
