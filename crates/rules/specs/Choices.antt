@@ -1,4 +1,4 @@
--- What a choice among the rules says of a fact's summary.
+-- The choice among the rules: what each makes of a fact, and which is taken.
 use Prim.Native.Nat.{ℕ, _<_}
 use mathlib.Core.Bool.{Bool, true, false, cond}
 use mathlib.Core.List.{List, [], _∷_}
@@ -49,16 +49,16 @@ module _ (terms : List Term) (rows : List ℕ) where
     (subject, ty) ← call-two "HasType" (at exclude-names terms t)
     when (is-ambient-refinement exclude-names terms ty) (choice.Refinement (ambient-refinement-payload exclude-names terms ty))
 
-  -- the token of a partial application; no token, no disjunct
+  -- the token of a partial application, where there is one
   unfoldable pub token-choice : ℕ → Choice
   token-choice t = Option·getD (token exclude-names terms t >>= λ n. some (choice.Token (row-head rows t))) choice.Nothing
 
-  -- (4) Valid of ApplyTT of __uu__PartialApp and a token: {token}, and {token less @tok}
+  -- (4) Valid of ApplyTT of __uu__PartialApp and a token: {token}, and {token less @tok}; no token, no disjunct
   unfoldable pub choose-4 : Name → ℕ → Option Choice
   choose-4 name t = do
     applied ← call-one "Valid" (at exclude-names terms t)
-    (function, argument) ← call-two "ApplyTT" (at exclude-names terms applied)
-    when (holds (same (bytes "__uu__PartialApp")) (head (at exclude-names terms function))) (token-choice argument)
+    (function, second) ← call-two "ApplyTT" (at exclude-names terms applied)
+    when (holds (same (bytes "__uu__PartialApp")) (head (at exclude-names terms function))) (token-choice second)
 
   -- (5) Valid, IsTotFun, is-Tm_arrow of one, HasType of two: {first}
   unfoldable pub choose-5 : Name → ℕ → Option Choice

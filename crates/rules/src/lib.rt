@@ -35,13 +35,13 @@ pub enum Choice {
 }
 
 // An argument, where there is one.
-pub enum Argument {
+enum Argument {
     No,
     Is(usize),
 }
 
 // Two arguments, where there are two.
-pub enum Arguments {
+enum Arguments {
     No,
     Are(usize, usize),
 }

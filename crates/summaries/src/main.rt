@@ -1,7 +1,8 @@
 // Feeds the files of document 01's form on standard input, one after the other, each from its `ask` line on, into the tables,
 // and prints the summary of each fact: `fact,LINE,drop`, `fact,LINE,ambient,0` or `1`, or `fact,LINE,triggers` with its
-// disjuncts; then its free names. Names are in byte order. A line that cannot be fed prints `stop,LINE`, after the limit that
-// it passes if it is a fact's, and the program goes on with the next file.
+// disjuncts; then its free names. Names are in byte order. A line that cannot be fed prints `stop,LINE`, with the limit before
+// it where it is one that the fact's summary passes, and the program goes on with the next file. The form of a line is not
+// checked: another op word counts as `other`, and fields left over and other kinds of lines are passed over.
 use libc::STDIN_FILENO;
 use libc::STDOUT_FILENO;
 use lines::Added;

@@ -22,7 +22,8 @@ use Rattle.summary.specs.declared.Summary.{Summary}
 use Rattle.summary.specs.declared.Summarized.{Summarized}
 use Rattle.summary.specs.declared.Summarized.the-variants as summarized
 
--- what summarising a fact asks: its name and term are of the tables, and the lists so far are within their limits
+-- what summarising a fact asks: its name and term are of the tables, the marks there are below the next one and there are marks
+-- left, the lists so far are within their limits, and `out` has room for them
 pub record Asked (file names refs rows out : List ℕ) (named used many name t mark filed uses : ℕ) : Type 0 where
   pub tables : Tables file names refs rows named used many
   pub fact : name < named

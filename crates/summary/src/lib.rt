@@ -23,14 +23,14 @@ pub enum Limit {
     Uses,
 }
 
-// The kind of a fact, where its trigger entries end, and the names of the table; or the limit passed.
+// The kind of a fact, where its trigger entries end, and how many names the table has; or the limit passed.
 enum Sorted {
     Kind(AsumKind, usize, usize),
     Over(Limit),
 }
 
 // A fact's summary. Its trigger entries and its free names stand in the lent slice: where each of these lists ends, counted
-// from the list's start in the slice; the names in the table, and the next mark.
+// from the list's start in the slice; how many names the table has, and the next mark.
 pub struct Summary {
     pub kind: AsumKind,
     pub entries: usize,

@@ -25,14 +25,14 @@ pub record Filing : Type 0 where
 abbrev pub filing : List ℕ → List ℕ → List ℕ → ℕ → ℕ → Filing
 filing names rows out mark end = record { names = names; rows = rows; out = out; mark = mark; end = end; full = false }
 
--- the entries of a set, by the numbers of its names: 4096 is added to the last; an empty set takes one
+-- the entries of a set, by the numbers of its names: 4096 is added to the last; an empty set takes one, 2048 + 4096
 unfoldable pub set-words : List ℕ → List ℕ
 set-words [] = 6144 ∷ []
 set-words (n ∷ []) = (n + 4096) ∷ []
 set-words (n ∷ m ∷ ns) = n ∷ set-words (m ∷ ns)
 
 -- the set that a walk found: its marks and its entries; where these have no room, since the walk stopped or an empty set
--- comes at 8,192, the numbers found stand without an end
+-- comes at 8,192, the numbers found stand without 4096 on the last
 unfoldable pub file-set : Filing → Visit → Filing
 file-set f v =
     let ended = set-words (v .found) in
@@ -70,7 +70,7 @@ module _ (refs : List ℕ) (used many : ℕ) where
   file-parts f ts = fold-left file-groups f ts
 
   -- the walk that asks whether a term's triggers are empty: that of its one group, without room, so that it stops at the first
-  -- name; no group is empty, two and more are not, and nothing is walked
+  -- name; a term without groups counts as empty, one with two or more does not, and neither is walked
   unfoldable pub ask-empty : List ℕ → List ℕ → ℕ → Visit
   ask-empty names rows t =
       let walk = visit-list names refs rows used many 0 (concat (groups-under rows t)) in
