@@ -13,12 +13,13 @@ use Rattle.gather.specs.declared.Walked.{Walked}
 use Rattle.gather.specs.declared.Walked.the-variants as walks
 use Rattle.terms.specs.Rows.{row-kind, row-head, row-start, row-end, has-head, words, terms-of-words, Rows}
 use Rattle.terms.proofs.Table.{words-nil}
+use Rattle.terms.proofs.Groups.{terms-split, terms-more}
 use Rattle.gather.specs.Sets.{is-excluded, row-mark, name-mark, Fresh, Same-but}
 use Rattle.gather.specs.Visits.{Visit, start-visit, has, find, finish, visit-head, visit, walk-answer, marked-at, put, Walks-as}
 use Rattle.gather.specs.Walks.{Heads, Ready, References, Part, head-part, term-part, list-part, Renders, Follows}
 use Rattle.gather.proofs.Steps.{same-back}
 use Rattle.gather.proofs.Walking.{kind-same, head-same, start-same, end-same, rows-marked}
-use Rattle.gather.proofs.Visiting.{marked-more, marked-same, marked-has, unmarked-has, put-more, fold-full, visit-parts, terms-split, terms-more}
+use Rattle.gather.proofs.Visiting.{marked-more, marked-same, marked-has, unmarked-has, put-more, fold-full, visit-parts}
 
 -- ---- what the slices tell of a walk
 

@@ -5,7 +5,7 @@ use native.Mathlib.Omega.{arith}
 use mathlib.Core.Path.{_≡_, refl, sym, ap, _∙_}
 use mathlib.Core.Bool.{Bool, true, false, cond, _||_, true≢false}
 use mathlib.Core.Logic.{⊎-elim}
-use mathlib.Core.List.{List, [], _∷_, _++_, map, map-append, List·Memᴰ, List·Memᴰ·head, List·Memᴰ·tail}
+use mathlib.Core.List.{List, [], _∷_, _++_, List·Memᴰ, List·Memᴰ·head, List·Memᴰ·tail}
 use lib.ListN.{length, getD, set, length-set}
 use lib.Seq.{getD-set-same, getD-set-other}
 use lib.Dec.{eqb}
@@ -14,8 +14,7 @@ use Rattle.model.specs.Lists.{any, fold-left}
 use Rattle.model.proofs.ListLaws.{T-true, true-T, any-intro, any-elim, map-intro, map-elim, fold-left-append}
 use Rattle.terms.specs.Rows.{row-start, row-end, words, terms-of-words, Rows}
 use Rattle.terms.proofs.Laws.{equal}
-use Rattle.terms.proofs.Table.{words-nil, words-cons, words-elim, words-intro}
-use Rattle.terms.proofs.Groups.{words-split}
+use Rattle.terms.proofs.Table.{words-elim, words-intro}
 use Rattle.gather.specs.Sets.{Same-but}
 use Rattle.gather.specs.Visits.{Visit, has, finish, visit-head, visit, marked-at, put}
 use Rattle.gather.proofs.Steps.{same-self, same-then, same-set}
@@ -153,15 +152,3 @@ module _ (names refs rows : List ℕ) (used many room : ℕ) where
     visit-parts v t l = visit-depth many (suc many) v t l (omega arith) l
 
 -- ---- the words of references, one after the other
-
--- the terms up to a place and those after it
-pub terms-split : (refs : List ℕ) (a b e : ℕ) → a ≤ b → b ≤ e → e ≤ length refs → terms-of-words (words refs a e) ≡ terms-of-words (words refs a b) ++ terms-of-words (words refs b e)
-unfolding terms-of-words
-terms-split refs a b e h k m = ap (map (λ w. w % 4096)) (words-split refs (b - a) a b e refl h k m) ∙ map-append (λ w. w % 4096) (words refs a b) (words refs b e)
-
--- one term more
-pub terms-more : (refs : List ℕ) (a i : ℕ) → a ≤ i → i < length refs → terms-of-words (words refs a (i + 1)) ≡ terms-of-words (words refs a i) ++ (getD refs i 0 % 4096 ∷ [])
-unfolding terms-of-words
-terms-more refs a i h k =
-    terms-split refs a i (i + 1) h (omega arith) (omega arith)
-    ∙ ap (λ w. map (λ w. w % 4096) (words refs a i) ++ map (λ w. w % 4096) w) (words-cons refs i (i + 1) (omega arith) (omega arith) ∙ ap (getD refs i 0 ∷_) (words-nil refs (i + 1) (i + 1) (omega arith)))

@@ -109,10 +109,6 @@ module _ {names names′ refs rows rows′ : List ℕ} {used many named : ℕ} (
   pub free-same : {t k : ℕ} → t < many → Free names refs rows used many t k → Free names′ refs rows′ used many t k
   free-same l f = record { occurs = occurs-same s r l (f .occurs); counts = counted-same n (f .counts) }
 
-  -- and so is one of a list of terms
-  pub among-same : {a e k : ℕ} → References refs used many a e → Among names refs rows used many a e k → Among names′ refs rows′ used many a e k
-  among-same g m = record { place = m .place; low = m .low; high = m .high; free = free-same (g .in-table (m .place) (m .low) (m .high)) (m .free) }
-
 -- ---- walks
 
 -- the references of a row

@@ -16,7 +16,6 @@ use Rattle.terms.specs.Rows.{row-kind, row-op, row-head, row-start, row-extra, 
 use Rattle.lines.specs.Additions.{row-word, with-row, pushed, Pushed, Patterns}
 use Rattle.terms.proofs.Laws.{end-next, end-last, equal, below}
 use Rattle.lines.proofs.Laws.{pushed-in, pushed-full}
-use Rattle.terms.proofs.Table.{words-same, words-snoc}
 
 -- ---- one row more
 
@@ -26,16 +25,6 @@ push-agrees refs used word i h = ⊎-elim
     (λ l. rw (pushed-in refs used word l) (getD-set-other refs used i word 0 (λ e. omega arith)))
     (λ l. rw (pushed-full refs used word l))
     (below used 16384)
-
--- and puts its word behind them
-pub push-holds : (refs : List ℕ) (from used word : ℕ) → 16384 ≤ length refs → from ≤ used → used < 16384 → words (pushed refs used word) from (used + 1) ≡ words refs from used ++ (word ∷ [])
-push-holds refs from used word r h l =
-    let k : used < length refs = omega arith in
-    rw (pushed-in refs used word l)
-    (words-snoc (set refs used word) from used h (rw (length-set refs used word) k)
-    ∙ ap₂ (λ ws w. ws ++ (w ∷ []))
-    (words-same refs (set refs used word) (used - from) from used refl (omega arith) (rw (length-set refs used word) (omega arith)) (λ i b. getD-set-other refs used i word 0 (λ e. omega arith)))
-    (getD-set-same refs used word 0 k))
 
 -- and leaves the slice as long as it was
 pub push-length : (refs : List ℕ) (used word : ℕ) → length (pushed refs used word) ≡ length refs

@@ -16,7 +16,7 @@ use Rattle.terms.specs.Rows.{row-head, groups-at}
 use Rattle.rules.specs.declared.Choice.{Choice}
 use Rattle.rules.specs.declared.Choice.the-variants as choice
 use Rattle.rules.specs.Views.{Tables, terms-in}
-use Rattle.rules.specs.Choices.{kinded, choose-1, choose-2, choose-3, choose-4, choose-5, choose-6, choose-7, choose-8, choose-9, choose-10, choose-11, choose-12, token-choice, first-choice, ambient-choice, kind-choice}
+use Rattle.rules.specs.Choices.{refinement-kind, parts-kind, kinded, choose-1, choose-2, choose-3, choose-4, choose-5, choose-6, choose-7, choose-8, choose-9, choose-10, choose-11, choose-12, token-choice, first-choice, ambient-choice, kind-choice}
 use Rattle.rules.proofs.Meaning.{apply-tt, one-inside, token-named, two-inside, valid}
 use Rattle.rules.proofs.Counting.{no-groups}
 
@@ -83,7 +83,7 @@ module _ (terms : List Term) (rows : List ℕ) (name : ℕ → Name) (fact : Nam
 
   -- the two rules 3 agree
   kinds-3 : Kinds terms name (choose-3 terms rows fact t) (rule-3 exclude-names terms fact t)
-  unfolding choose-3 rule-3 kinded
+  unfolding choose-3 rule-3 kinded refinement-kind
   kinds-3 = kinds-bind (call-two "HasType" (at exclude-names terms t)) (λ p is. kinds-when (is-ambient-refinement exclude-names terms (p .1)) (record { makes = refl }))
 
   -- the choice of a token makes its disjuncts, where its name is that of its row's head
@@ -121,7 +121,7 @@ module _ (terms : List Term) (rows : List ℕ) (name : ℕ → Name) (fact : Nam
 
   -- the two rules 7 agree
   kinds-7 : Kinds terms name (choose-7 terms rows fact t) (rule-7 exclude-names terms fact t)
-  unfolding choose-7 rule-7 kinded at
+  unfolding choose-7 rule-7 kinded parts-kind at
   kinds-7 =
       kinds-bind (op-args And (at exclude-names terms t)) (λ parts is.
       both (record { makes = ap (λ ts. some (Sum-triggers (collect (triggers-of-term exclude-names terms) ts))) (op-names And (term terms t .node) is) }))

@@ -14,6 +14,16 @@ use Rattle.rules.specs.declared.Argument.the-variants as argument
 use Rattle.rules.specs.declared.Choice.{Choice}
 use Rattle.rules.specs.declared.Choice.the-variants as choice
 
+-- what rule 3 makes of a payload
+unfoldable pub refinement-kind : List Term → ℕ → Kinded
+refinement-kind terms t =
+    let triggers = triggers-of-term exclude-names terms t in
+    cond (is-empty triggers) (Sum-ambient true) (Sum-triggers triggers)
+
+-- what rule 7 makes of an `and`
+unfoldable pub parts-kind : List Term → ℕ → Kinded
+parts-kind terms t = Sum-triggers (collect (triggers-of-term exclude-names terms) (references (term terms t .node)))
+
 -- what a choice makes of a fact, over the terms and the names of the numbers; none where the rule does not hold
 unfoldable pub kinded : List Term → (ℕ → Name) → Choice → Option Kinded
 kinded terms name choice.No = none
@@ -21,13 +31,10 @@ kinded terms name (choice.One t) = some (Sum-triggers (free-top-level-names excl
 kinded terms name (choice.Two t u) =
     some (Sum-triggers (free-top-level-names exclude-names terms t ∷ free-top-level-names exclude-names terms u ∷ []))
 kinded terms name (choice.Groups t) = some (Sum-triggers (triggers-of-term exclude-names terms t))
-kinded terms name (choice.Refinement t) =
-    let triggers = triggers-of-term exclude-names terms t in
-    some (cond (is-empty triggers) (Sum-ambient true) (Sum-triggers triggers))
+kinded terms name (choice.Refinement t) = some (refinement-kind terms t)
 kinded terms name (choice.Token n) = some (token-triggers (name n))
 kinded terms name choice.Nothing = some (Sum-triggers [])
-kinded terms name (choice.Parts t) =
-    some (Sum-triggers (collect (triggers-of-term exclude-names terms) (references (term terms t .node))))
+kinded terms name (choice.Parts t) = some (parts-kind terms t)
 kinded terms name choice.Drop = some Sum-drop
 kinded terms name choice.Ambient = some (Sum-ambient false)
 

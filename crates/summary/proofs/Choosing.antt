@@ -21,12 +21,12 @@ use Rattle.triggers.specs.Filings.{Filing, filing, file-list, file-groups, file
 use Rattle.triggers.specs.declared.Filed.{Filed}
 use Rattle.triggers.proofs.Marked.{named-marked, fresh-later}
 use Rattle.rules.specs.Views.{Tables, terms-in}
-use Rattle.rules.specs.Choices.{kinded, Within}
+use Rattle.rules.specs.Choices.{refinement-kind, parts-kind, kinded, Within}
 use Rattle.rules.specs.declared.Choice.{Choice}
 use Rattle.rules.specs.declared.Choice.the-variants as choice
 use Rattle.summary.specs.declared.Sorted.{Sorted}
 use Rattle.summary.specs.declared.Sorted.the-variants as sorted
-use Rattle.summary.specs.Steps.{Begun, trimmed-table, sorted-of, Kinds, kind-there, no-room, Sorts, Sorts-as, refinement-kind, parts-kind, Comes-to, kind-filed, entries-over, Tokens, Chooses}
+use Rattle.summary.specs.Steps.{Begun, trimmed-table, sorted-of, Kinds, kind-there, no-room, Sorts, Sorts-as, Comes-to, kind-filed, entries-over, Tokens, Chooses}
 use Rattle.summary.specs.Writing.{token-table, file-refinement, file-choice}
 use Rattle.summary.proofs.Token.{token-same}
 use Rattle.summary.proofs.Sorting.{named-of, table-marked, files-sorts, nothing-sorts}

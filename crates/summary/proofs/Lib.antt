@@ -1,4 +1,3 @@
-pub mod Parts
 pub mod Sorting
 pub mod Token
 pub mod Choosing

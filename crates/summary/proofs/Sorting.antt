@@ -16,8 +16,10 @@ use Rattle.names.proofs.Laws.{distinct}
 use Rattle.names.proofs.Coded.{code-excluded, Kept, table-kept}
 use Rattle.terms.specs.Rows.{row-start, row-end, words, terms-of-words, terms-of, Rows}
 use Rattle.terms.proofs.Table.{words-nil}
+use Rattle.terms.proofs.References.{row-references}
 use Rattle.gather.specs.Sets.{Fresh, Same-but, Named, is-excluded}
 use Rattle.gather.proofs.Steps.{same-self, same-then}
+use Rattle.rules.specs.Choices.{refinement-kind, parts-kind}
 use Rattle.triggers.specs.Entries.{disjuncts-of, disjuncts-of-words, entries, Files, all-sets, no-room as no-sets, Filled, filed-end, Opened}
 use Rattle.triggers.specs.Filings.{filing, file-groups, file-parts, ask-empty, Asks-as, Files-as}
 use Rattle.triggers.specs.declared.Filed.{Filed}
@@ -27,9 +29,8 @@ use Rattle.triggers.proofs.Disjuncts.{no-entries}
 use Rattle.summary.specs.declared.Limit.{Limit}
 use Rattle.summary.specs.declared.Sorted.{Sorted}
 use Rattle.summary.specs.declared.Sorted.the-variants as sorted
-use Rattle.summary.specs.Steps.{Begun, sorted-of, sorted-end, Marks, Kinds, kind-there, no-room, Sorts, Sorts-as, refinement-kind, parts-kind}
+use Rattle.summary.specs.Steps.{Begun, sorted-of, sorted-end, Marks, Kinds, kind-there, no-room, Sorts, Sorts-as}
 use Rattle.summary.specs.Writing.{file-refinement}
-use Rattle.summary.proofs.Parts.{row-references}
 use Rattle.summary.proofs.Writing.{files-sorts-as, nothing-as}
 
 -- ---- names

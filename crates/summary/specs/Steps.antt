@@ -1,15 +1,14 @@
 -- What the private functions ask and give.
 use Prim.Native.Nat.{ℕ, _+_, _-_, _≤_, _<_}
 use mathlib.Core.Path.{_≡_}
-use mathlib.Core.Bool.{true, cond}
+use mathlib.Core.Bool.{true}
 use mathlib.Core.List.{List}
 use mathlib.Core.Option.{some}
 use lib.ListN.{length, set}
-use Rattle.model.specs.Lists.{collect, fold-left}
+use Rattle.model.specs.Lists.{fold-left}
 use Rattle.model.specs.Names.{Name}
-use Rattle.model.specs.Terms.{Term, term, references}
 use Rattle.model.specs.Reading.{spell}
-use Rattle.model.specs.Summaries.{Kinded, Sum-ambient, Sum-triggers, exclude-names, is-empty, token-triggers, free-top-level-names, triggers-of-term}
+use Rattle.model.specs.Summaries.{Kinded, exclude-names, token-triggers, free-top-level-names}
 use Rattle.model.specs.declared.AsumKind.{AsumKind}
 use Rattle.model.specs.declared.AsumKind.the-variants.{Triggers}
 use Rattle.names.specs.Table.{Table, name-of, names-of}
@@ -78,16 +77,6 @@ pub record Sorts (names rows out names′ rows′ out′ : List ℕ) (named mark
 pub data Sorts-as (f : Filing) (names′ rows′ out′ : List ℕ) (mark at : ℕ) : Sorted → Type 0 where
   as-kind : {a : AsumKind} {e total : ℕ} → f ≡ filing names′ rows′ out′ (mark + 1 + (e - at)) e → Sorts-as f names′ rows′ out′ mark at (sorted.Kind a e total)
   as-over : {l : Limit} → f .full ≡ true → names′ ≡ f .names → rows′ ≡ f .rows → out′ ≡ f .out → Sorts-as f names′ rows′ out′ mark at (sorted.Over l)
-
--- what rule 3 makes of a payload
-unfoldable pub refinement-kind : List Term → ℕ → Kinded
-refinement-kind terms t =
-    let triggers = triggers-of-term exclude-names terms t in
-    cond (is-empty triggers) (Sum-ambient true) (Sum-triggers triggers)
-
--- what rule 7 makes of an `and`
-unfoldable pub parts-kind : List Term → ℕ → Kinded
-parts-kind terms t = Sum-triggers (collect (triggers-of-term exclude-names terms) (references (term terms t .node)))
 
 -- a kind that is filed: its disjuncts, and the table with the name that it trims off
 pub record Filed-kind (file names names′ out′ : List ℕ) (named at : ℕ) (k : Kinded) (a : AsumKind) (e total : ℕ) : Type 0 where

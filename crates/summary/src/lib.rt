@@ -10,10 +10,10 @@ ghost use Rattle.names.specs.Table.{Table};
 ghost use Rattle.terms.specs.Rows.{row-start, row-end, words, terms-of-words, terms-of, Rows};
 ghost use Rattle.gather.specs.Sets.{Fresh};
 ghost use Rattle.rules.specs.Views.{Tables};
-ghost use Rattle.rules.specs.Choices.{Within};
+ghost use Rattle.rules.specs.Choices.{refinement-kind, parts-kind, Within};
 ghost use Rattle.triggers.specs.Filings.{filing, file-parts};
 ghost use Rattle.summary.specs.Facts.{Asked, fact-summary, limited, Lists, Slices};
-ghost use Rattle.summary.specs.Steps.{Begun, Sorts, Sorts-as, Two, Tokens, Chooses, Finishes, sorted-of, refinement-kind, parts-kind};
+ghost use Rattle.summary.specs.Steps.{Begun, Sorts, Sorts-as, Two, Tokens, Chooses, Finishes, sorted-of};
 ghost use Rattle.summary.specs.Writing.{file-refinement, file-choice, file-fact, Written};
 
 // The limits that a fact may pass, in the order in which they are tried: names, trigger entries, name uses.

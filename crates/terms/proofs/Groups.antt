@@ -188,6 +188,18 @@ words-split l zero a b e q h k m =
 words-split l (suc d) a b e q h k m =
     rw (words-cons l a e (omega arith) m, words-cons l a b (omega arith) (omega arith)) (ap (getD l a 0 ∷_) (words-split l d (a + 1) b e (omega arith) (omega arith) k m))
 
+-- the terms up to a place and those after it
+pub terms-split : (refs : List ℕ) (a b e : ℕ) → a ≤ b → b ≤ e → e ≤ length refs → terms-of-words (words refs a e) ≡ terms-of-words (words refs a b) ++ terms-of-words (words refs b e)
+unfolding terms-of-words
+terms-split refs a b e h k m = ap (map (λ w. w % 4096)) (words-split refs (b - a) a b e refl h k m) ∙ map-append (λ w. w % 4096) (words refs a b) (words refs b e)
+
+-- one term more
+pub terms-more : (refs : List ℕ) (a i : ℕ) → a ≤ i → i < length refs → terms-of-words (words refs a (i + 1)) ≡ terms-of-words (words refs a i) ++ (getD refs i 0 % 4096 ∷ [])
+unfolding terms-of-words
+terms-more refs a i h k =
+    terms-split refs a i (i + 1) h (omega arith) (omega arith)
+    ∙ ap (λ w. map (λ w. w % 4096) (words refs a i) ++ map (λ w. w % 4096) w) (words-cons refs i (i + 1) (omega arith) (omega arith) ∙ ap (getD refs i 0 ∷_) (words-nil refs (i + 1) (i + 1) (omega arith)))
+
 -- a quantifier has a body
 pub groups-bodied : (k : ℕ) → T (has-groups k) → T (has-body k)
 unfolding has-groups has-body

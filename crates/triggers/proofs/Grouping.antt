@@ -10,9 +10,9 @@ use Rattle.model.specs.Names.{Name}
 use Rattle.model.specs.Summaries.{exclude-names, group-names, triggers-of-term, is-empty}
 use Rattle.model.proofs.ListLaws.{collect-append}
 use Rattle.terms.specs.Rows.{row-start, row-end, words, terms-of-words, group-of-words, groups-of-words, group-run, terms-of, bare-of, groups-at, Rows}
-use Rattle.terms.proofs.Table.{words-nil, words-snoc, bare-low}
+use Rattle.terms.proofs.Table.{words-nil, bare-low}
 use Rattle.terms.proofs.Laws.{groups-all}
-use Rattle.terms.proofs.Groups.{Before, group-first, group-next, group-place, group-last, words-split}
+use Rattle.terms.proofs.Groups.{Before, group-first, group-next, group-place, group-last, terms-split, terms-more}
 use Rattle.gather.specs.Sets.{Same-but, Fresh, Gathers, all-names, no-room, Gathered}
 use Rattle.gather.specs.Visits.{visit-list, marked-at, Walks-as}
 use Rattle.gather.specs.declared.Walked.{Walked}
@@ -136,15 +136,14 @@ groups-none {refs} {rows} {names} {out} {used} {many} {mark = mark} {at} t r l c
 -- the triggers of the terms up to a place and of the term there
 list-more : {A : Type 0} (f : ℕ → List A) (refs : List ℕ) (a i t : ℕ) → a ≤ i → i < length refs → t ≡ getD refs i 0 % 4096
     → collect f (terms-of-words (words refs a i)) ++ f t ≡ collect f (terms-of-words (words refs a (i + 1)))
-unfolding terms-of-words collect
-list-more f refs a i t h l e = rw (words-snoc refs a i h l, map-append, collect-append, e, append-nil)
+unfolding collect
+list-more f refs a i t h l e = rw (terms-more refs a i h l, collect-append, e, append-nil)
 
 -- the triggers of fewer terms take no more entries
 list-fewer : (f : ℕ → List (List Name)) (refs : List ℕ) (a i e : ℕ) → a ≤ i → i ≤ e → e ≤ length refs → entries (collect f (terms-of-words (words refs a i))) ≤ entries (collect f (terms-of-words (words refs a e)))
-unfolding terms-of-words
 list-fewer f refs a i e h k l =
-    rw (words-split refs (i - a) a i e refl h k l, map-append, collect-append)
-    (omega (arith, entries-append (collect f (map (λ w. w % 4096) (words refs a i))) (collect f (map (λ w. w % 4096) (words refs i e)))))
+    rw (terms-split refs a i e h k l, collect-append)
+    (omega (arith, entries-append (collect f (terms-of-words (words refs a i))) (collect f (terms-of-words (words refs i e)))))
 
 -- no term has no trigger
 list-none : {A : Type 0} (f : ℕ → List A) (refs : List ℕ) (a i : ℕ) → i ≡ a → [] ≡ collect f (terms-of-words (words refs a i))

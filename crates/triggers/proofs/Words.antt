@@ -15,11 +15,11 @@ use Rattle.model.proofs.ListLaws.{fold-left-append, sum-append}
 use Rattle.terms.specs.Rows.{words, terms-of-words, group-of-words, groups-of-words, groups-at}
 use Rattle.terms.proofs.Laws.{below, groups-all}
 use Rattle.terms.proofs.Table.{words-nil}
+use Rattle.terms.proofs.Groups.{terms-split, terms-more}
 use Rattle.gather.specs.declared.Walked.{Walked}
 use Rattle.gather.specs.declared.Walked.the-variants as gathered
 use Rattle.gather.specs.Sets.{Gathered, ended}
 use Rattle.gather.specs.Visits.{Visit, visit-list, marked-at, put, Walks-as}
-use Rattle.gather.proofs.Visiting.{terms-split, terms-more}
 use Rattle.gather.proofs.Rendering.{answer-names, answer-full}
 use Rattle.triggers.specs.declared.Filed.{Filed}
 use Rattle.triggers.specs.declared.Filed.the-variants as filed

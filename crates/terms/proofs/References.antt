@@ -11,15 +11,9 @@ use Rattle.model.specs.Names.{Name}
 use Rattle.model.specs.Terms.{term, references}
 use Rattle.model.specs.declared.Op.{Op}
 use Rattle.model.proofs.ListLaws.{concat-append}
 use Rattle.terms.specs.Rows.{row-kind, row-op, row-head, row-start, row-end, row-extra, words, terms-of-words, group-of-words, groups-of-words, group-run, op-of-code, make-node, node-of, terms-of, has-groups, has-body, Rows}
 use Rattle.terms.proofs.Table.{Right, row-right, term-node, words-nil, words-drop}
-use Rattle.terms.proofs.Groups.{Before, words-split, group-first, group-next, group-place, group-last}
-
--- the terms of words one after the other
-terms-append : (ws vs : List ℕ) → terms-of-words (ws ++ vs) ≡ terms-of-words ws ++ terms-of-words vs
-unfolding terms-of-words
-terms-append [] vs = refl
-terms-append (w ∷ ws) vs = ap (λ l. w % 4096 ∷ l) (terms-append ws vs)
+use Rattle.terms.proofs.Groups.{Before, terms-split, group-first, group-next, group-place, group-last}
 
 module _ {refs rows : List ℕ} {used many named t : ℕ} (r : Rows refs rows used many named) (l : t < many) where
   -- the references are in the slice
@@ -43,8 +37,7 @@ module _ {refs rows : List ℕ} {used many named t : ℕ} (r : Rows refs rows us
               rw (add-one g) at m,
               concat-append (groups-of-words (drop 1 (words refs (row-start rows t) (row-end rows used many t))) g) (group-of-words (drop 1 (words refs (row-start rows t) (row-end rows used many t))) g ∷ [])
                   ∙ ap₂ _++_ e (append-nil _ ∙ sym (group-place r l q b))
-                  ∙ sym (terms-append (words refs (row-start rows t + 1) p) (words refs p n))
-                  ∙ ap terms-of-words (sym (words-split refs (p - (row-start rows t + 1)) (row-start rows t + 1) p n refl x (omega arith) (omega (arith, m .high, fits)))),
+                  ∙ sym (terms-split refs (row-start rows t + 1) p n x (omega arith) (omega (arith, m .high, fits))),
             )
 
     -- the terms of all groups are those of the references after the body
