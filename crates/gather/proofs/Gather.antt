@@ -5,13 +5,15 @@ use mathlib.Core.Path.{_≡_, sym}
 use mathlib.Core.Logic.{_↔_}
 use mathlib.Core.List.{List, List·Memᴰ, Memᴰ·cast}
 use lib.ListN.{length}
+use Rattle.model.specs.Lists.{part}
 use Rattle.model.specs.Names.{Name}
 use Rattle.model.specs.Summaries.{exclude-names, free-top-level-names, group-names}
+use Rattle.model.proofs.PartLaws.{part-elim, part-intro}
 use Rattle.gather.specs.declared.Walked.{Walked}
-use Rattle.terms.specs.Rows.{words, terms-of-words, terms-of, Rows}
+use Rattle.terms.specs.Rows.{terms-of-words, terms-of, Rows}
 use Rattle.gather.specs.Sets.{name-mark, Fresh, Named, ended, Gathers, Gathered}
 use Rattle.gather.specs.Walks.{Free, Among, Ready, References, Steps, Walks, Listed}
-use Rattle.terms.proofs.Table.{rows-named, words-elim, words-intro}
+use Rattle.terms.proofs.Table.{rows-named}
 use Rattle.gather.proofs.Naming.{occurs-named, term-set, list-set, start-listed, steps-gathers}
 
 -- no name has a new mark yet
@@ -20,12 +22,12 @@ fresh-name new k l e = let h = new .name-marks k l in omega arith
 
 -- the names with the mark are those in the slice
 marks-of : {P : ℕ → Type 0} {names out names′ out′ : List ℕ} {mark from room : ℕ} {answer : Walked} → ((k : ℕ) → k < 2048 → name-mark names k ≡ mark → ⊥) → room ≤ length out
-    → Steps P names out names′ out′ mark from room answer → (k : ℕ) → k < 2048 → (name-mark names′ k ≡ mark) ↔ List·Memᴰ k (words out′ from (ended room answer))
+    → Steps P names out names′ out′ mark from room answer → (k : ℕ) → k < 2048 → (name-mark names′ k ≡ mark) ↔ List·Memᴰ k (part out′ from (ended room answer))
 marks-of {names′} {out′} {mark} {from} {room} {answer} fresh high s k l =
     let w : Listed names′ out′ mark from (ended room answer) = s .listed from (omega arith) (start-listed fresh) in
     let fits : ended room answer ≤ length out′ = omega (arith, s .out-same .same-length, s .fits) in (
-      λ e. let (i, (a, b, q)) = w .place k l e in Memᴰ·cast (sym q) (words-intro out′ from (ended room answer) i fits a b),
-      λ m. let p = words-elim {l = out′} {a = from} {e = ended room answer} fits m in rw (p .is) at (w .marked (p .place) (p .low) (p .high)),
+      λ e. let (i, (a, b, q)) = w .place k l e in Memᴰ·cast (sym q) (part-intro out′ from (ended room answer) i fits a b),
+      λ m. let p = part-elim {l = out′} {a = from} {e = ended room answer} fits m in rw (p .is) at (w .marked (p .place) (p .low) (p .high)),
     )
 
 module _ {names refs rows out : List ℕ} {used many named mark from room : ℕ} (r : Rows refs rows used many named) (new : Fresh names rows mark) where
@@ -51,7 +53,7 @@ module _ {names refs rows out : List ℕ} {used many named mark from room : ℕ}
 
     -- a walk of a list gathers its names
     pub gathers-list : {a e : ℕ} → References refs used many a e → Walks (Among names refs rows used many a e) names refs rows out names′ rows′ out′ used many mark from room answer
-        → (name : ℕ → Name) → Named name names named → Gathers name named (group-names exclude-names (terms-of name refs rows used many) (terms-of-words (words refs a e))) from room out′ answer
+        → (name : ℕ → Name) → Named name names named → Gathers name named (group-names exclude-names (terms-of name refs rows used many) (terms-of-words (part refs a e))) from room out′ answer
     gathers-list g w name d =
         steps-gathers names out names′ out′ mark from room named low high (fresh-name new) (λ k f. (occurs-named r (g .in-table (f .place) (f .low) (f .high)) (f .free .occurs), f .free .counts .small)) (d .distinct) (list-set name r d g) (w .steps)
 

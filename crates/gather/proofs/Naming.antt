@@ -7,19 +7,20 @@ use mathlib.Core.Logic.{_⊎_, inl, inr, ⊎-elim}
 use mathlib.Core.List.{List, [], _∷_, map, List·Memᴰ, List·Memᴰ·head, List·Memᴰ·tail, List·Memᴰ·cases-cons, List·Memᴰ·not-nil}
 use lib.ListN.{length, getD, length-map}
 use lib.Dec.{T}
-use Rattle.model.specs.Lists.{fold-left}
+use Rattle.model.specs.Lists.{fold-left, part}
 use Rattle.model.specs.Names.{Name, mem, add, add-by, from-list, union}
 use Rattle.model.specs.Terms.{term, references}
 use Rattle.model.specs.Summaries.{exclude-names, free-top-level-names, group-names}
 use Rattle.model.specs.declared.Order.{Order}
 use Rattle.model.proofs.ListLaws.{T-false, false-T, map-intro, map-elim}
 use Rattle.model.proofs.SetLaws.{mem-intro, mem-elim, mem-cons, mem-later, mem-union, mem-from-list, mem-diff, Compared, first, equal as equal-names, second, compared, Ascending, empty, ascending-union, ascending-from-list, ascending-diff, ascending-ext, subset-length}
+use Rattle.model.proofs.PartLaws.{part-cons, part-elim, part-intro, part-length, part-nil}
 use Rattle.gather.specs.declared.Walked.{Walked}
 use Rattle.gather.specs.declared.Walked.the-variants as walks
-use Rattle.terms.specs.Rows.{row-kind, row-op, row-head, row-start, row-extra, row-end, words, terms-of-words, op-of-code, node-of, terms-of, Rows}
+use Rattle.terms.specs.Rows.{row-kind, row-op, row-head, row-start, row-extra, row-end, terms-of-words, op-of-code, node-of, terms-of, Rows}
 use Rattle.gather.specs.Sets.{name-mark, Named, Gathers, all-names, no-room, ended}
 use Rattle.gather.specs.Walks.{Occurs, own, under, Free, Among, References, Comes, whole, over, Steps, Listed}
-use Rattle.terms.proofs.Table.{own-names, words-nil, words-cons, words-length, words-elim, words-intro, Inside, node-elim, node-intro, own-elim, own-intro, refs-elim, refs-intro, table, entry, table-all, table-term, table-ascending, row-right, kind-small}
+use Rattle.terms.proofs.Table.{own-names, Inside, node-elim, node-intro, own-elim, own-intro, refs-elim, refs-intro, table, entry, table-all, table-term, table-ascending, row-right, kind-small}
 
 -- ---- the free names of a term
 
@@ -34,7 +35,7 @@ module _ {refs rows : List ℕ} {used many named : ℕ} (r : Rows refs rows used
     free-intro : (n : ℕ) {t k : ℕ} → t < n → n ≤ many → Occurs refs rows used many t k → T (mem (name k) (term (table name refs rows used many n) t .names))
     unfolding entry node-of
     free-intro n h l (own {t} p e) = rw (table-term name refs rows used many n t h) (node-intro (table name refs rows used many t) (node-of name refs rows used many t)
-        (inl (rw (← e) (own-intro (row-kind rows t) (op-of-code (row-op rows t)) (name (row-head rows t)) (words refs (row-start rows t) (row-end rows used many t)) (row-extra rows t) p))))
+        (inl (rw (← e) (own-intro (row-kind rows t) (op-of-code (row-op rows t)) (name (row-head rows t)) (part refs (row-start rows t) (row-end rows used many t)) (row-extra rows t) p))))
     free-intro n h l (under {t} i a b o) =
         let room = r .ref-room in
         let few = r .few-references in
@@ -44,7 +45,7 @@ module _ {refs rows : List ℕ} {used many named : ℕ} (r : Rows refs rows used
         rw (table-term name refs rows used many n t h) (node-intro (table name refs rows used many t) (node-of name refs rows used many t)
         (inr (record {
           which = getD refs i 0 % 4096;
-          among = refs-intro (row-kind rows t) (op-of-code (row-op rows t)) (name (row-head rows t)) (words refs (row-start rows t) (row-end rows used many t)) (row-extra rows t) (row-right name refs rows used many r t m) (words-intro refs (row-start rows t) (row-end rows used many t) i (omega arith) a b);
+          among = refs-intro (row-kind rows t) (op-of-code (row-op rows t)) (name (row-head rows t)) (part refs (row-start rows t) (row-end rows used many t)) (row-extra rows t) (row-right name refs rows used many r t m) (part-intro refs (row-start rows t) (row-end rows used many t) i (omega arith) a b);
           free = free-intro t d (omega arith) o;
         })))
 
@@ -63,7 +64,7 @@ module _ {refs rows : List ℕ} {used many named : ℕ} (r : Rows refs rows used
         (node-elim (table name refs rows used many t) (node-of name refs rows used many t) (rw (table-term name refs rows used many n t l) at m))
       where
         here : List·Memᴰ x (own-names (node-of name refs rows used many t)) → Numbered t x
-        here q = let (p, e) = own-elim (row-kind rows t) (op-of-code (row-op rows t)) (name (row-head rows t)) (words refs (row-start rows t) (row-end rows used many t)) (row-extra rows t) (kind-small rows t) q in
+        here q = let (p, e) = own-elim (row-kind rows t) (op-of-code (row-op rows t)) (name (row-head rows t)) (part refs (row-start rows t) (row-end rows used many t)) (row-extra rows t) (kind-small rows t) q in
             record { number = row-head rows t; occurs = own {t = t} p refl; is = e }
 
         there : ((u : ℕ) → u < t → T (mem x (term (table name refs rows used many t) u .names)) → Numbered u x) → Inside (table name refs rows used many t) (references (node-of name refs rows used many t)) x → Numbered t x
@@ -72,8 +73,8 @@ module _ {refs rows : List ℕ} {used many named : ℕ} (r : Rows refs rows used
             let few = r .few-references in
             let v : t < many = omega arith in
             let most = r .in-use t v in
-            let q = refs-elim (row-kind rows t) (op-of-code (row-op rows t)) (name (row-head rows t)) (words refs (row-start rows t) (row-end rows used many t)) (row-extra rows t) (row-right name refs rows used many r t v) (p .among) in
-            let w = words-elim {l = refs} {a = row-start rows t} {e = row-end rows used many t} (omega arith) (q .among) in
+            let q = refs-elim (row-kind rows t) (op-of-code (row-op rows t)) (name (row-head rows t)) (part refs (row-start rows t) (row-end rows used many t)) (row-extra rows t) (row-right name refs rows used many r t v) (p .among) in
+            let w = part-elim {l = refs} {a = row-start rows t} {e = row-end rows used many t} (omega arith) (q .among) in
             let e : p .which ≡ getD refs (w .place) 0 % 4096 = q .is ∙ ap (_% 4096) (sym (w .is)) in
             let d = r .lower t (w .place) v (w .low) (w .high) in
             let z = go (getD refs (w .place) 0 % 4096) d (rw e at (p .free)) in
@@ -135,7 +136,7 @@ module _ (f : ℕ → List Name) where
 
 module _ {names refs rows : List ℕ} {used many named : ℕ} (name : ℕ → Name) (r : Rows refs rows used many named) (d : Named name names named) where
   -- the names that the terms of a list of references count
-  pub list-set : {a e : ℕ} → References refs used many a e → Set-of name (Among names refs rows used many a e) (group-names exclude-names (terms-of name refs rows used many) (terms-of-words (words refs a e)))
+  pub list-set : {a e : ℕ} → References refs used many a e → Set-of name (Among names refs rows used many a e) (group-names exclude-names (terms-of name refs rows used many) (terms-of-words (part refs a e)))
   unfolding group-names terms-of-words
   list-set {a} {e} g =
       let room = r .ref-room in
@@ -143,10 +144,10 @@ module _ {names refs rows : List ℕ} {used many named : ℕ} (name : ℕ → Na
       let most = g .in-use in
       let fits : e ≤ length refs = omega arith in
       record {
-        is-set = unions-ascending free [] (map (λ w. w % 4096) (words refs a e)) empty ascending;
-        into = λ k m. unions-intro free [] (map (λ w. w % 4096) (words refs a e)) (name k)
-            (inr (getD refs (m .place) 0 % 4096, (map-intro (λ w. w % 4096) (words-intro refs a e (m .place) fits (m .low) (m .high)), term-set name r d (getD refs (m .place) 0 % 4096) (g .in-table (m .place) (m .low) (m .high)) .into k (m .free))));
-        from = λ x h. ⊎-elim (λ k. absurd (none x k)) (λ (t, (m, k)). found fits x t m k) (unions-elim free [] (map (λ w. w % 4096) (words refs a e)) x h);
+        is-set = unions-ascending free [] (map (λ w. w % 4096) (part refs a e)) empty ascending;
+        into = λ k m. unions-intro free [] (map (λ w. w % 4096) (part refs a e)) (name k)
+            (inr (getD refs (m .place) 0 % 4096, (map-intro (λ w. w % 4096) (part-intro refs a e (m .place) fits (m .low) (m .high)), term-set name r d (getD refs (m .place) 0 % 4096) (g .in-table (m .place) (m .low) (m .high)) .into k (m .free))));
+        from = λ x h. ⊎-elim (λ k. absurd (none x k)) (λ (t, (m, k)). found fits x t m k) (unions-elim free [] (map (λ w. w % 4096) (part refs a e)) x h);
       }
     where
       free : ℕ → List Name
@@ -158,10 +159,10 @@ module _ {names refs rows : List ℕ} {used many named : ℕ} (name : ℕ → Na
       none : (x : Name) → T (mem x []) → ⊥
       none x k = List·Memᴰ·not-nil (mem-elim k)
 
-      found : e ≤ length refs → (x : Name) (t : ℕ) → List·Memᴰ t (map (λ w. w % 4096) (words refs a e)) → T (mem x (free t)) → (k : ℕ) × (Among names refs rows used many a e k × (x ≡ name k))
+      found : e ≤ length refs → (x : Name) (t : ℕ) → List·Memᴰ t (map (λ w. w % 4096) (part refs a e)) → T (mem x (free t)) → (k : ℕ) × (Among names refs rows used many a e k × (x ≡ name k))
       found fits x t m k =
-          let (w, n, q) = map-elim (λ w. w % 4096) (words refs a e) m in
-          let p = words-elim {l = refs} {a = a} {e = e} fits n in
+          let (w, n, q) = map-elim (λ w. w % 4096) (part refs a e) m in
+          let p = part-elim {l = refs} {a = a} {e = e} fits n in
           let u : t ≡ getD refs (p .place) 0 % 4096 = sym q ∙ ap (_% 4096) (sym (p .is)) in
           let (i, (f, v)) = term-set name r d (getD refs (p .place) 0 % 4096) (g .in-table (p .place) (p .low) (p .high)) .from x (rw u at k) in
           (i, (record { place = p .place; low = p .low; high = p .high; free = f }, v))
@@ -192,21 +193,21 @@ apart-length (more {n} {ns} h a) = add-length n (from-list ns) (λ t. h (mem-fro
 
 module _ (name : ℕ → Name) where
   -- a name of some words' is that of one of them
-  map-place : (out : List ℕ) (a e : ℕ) {x : Name} → e ≤ length out → T (mem x (map name (words out a e))) → (i : ℕ) × ((a ≤ i) × (i < e) × (x ≡ name (getD out i 0)))
+  map-place : (out : List ℕ) (a e : ℕ) {x : Name} → e ≤ length out → T (mem x (map name (part out a e))) → (i : ℕ) × ((a ≤ i) × (i < e) × (x ≡ name (getD out i 0)))
   map-place out a e h m =
-      let (k, n, q) = map-elim name (words out a e) (mem-elim m) in
-      let p = words-elim {l = out} {a = a} {e = e} h n in
+      let (k, n, q) = map-elim name (part out a e) (mem-elim m) in
+      let p = part-elim {l = out} {a = a} {e = e} h n in
       (p .place, (p .low, p .high, sym q ∙ ap name (sym (p .is))))
 
   -- the name of a word at a place is one of the words' names
-  place-map : (out : List ℕ) (a e i : ℕ) → e ≤ length out → a ≤ i → i < e → T (mem (name (getD out i 0)) (map name (words out a e)))
-  place-map out a e i h l k = mem-intro (map-intro name (words-intro out a e i h l k))
+  place-map : (out : List ℕ) (a e i : ℕ) → e ≤ length out → a ≤ i → i < e → T (mem (name (getD out i 0)) (map name (part out a e)))
+  place-map out a e i h l k = mem-intro (map-intro name (part-intro out a e i h l k))
 
   -- words whose names are all different
-  words-apart : (out : List ℕ) (d a e : ℕ) → e - a ≡ d → e ≤ length out → ((i j : ℕ) → a ≤ i → i < j → j < e → name (getD out i 0) ≡ name (getD out j 0) → ⊥) → Apart (map name (words out a e))
-  words-apart out zero a e q h u = rw (words-nil out a e (omega arith)) none
+  words-apart : (out : List ℕ) (d a e : ℕ) → e - a ≡ d → e ≤ length out → ((i j : ℕ) → a ≤ i → i < j → j < e → name (getD out i 0) ≡ name (getD out j 0) → ⊥) → Apart (map name (part out a e))
+  words-apart out zero a e q h u = rw (part-nil out a e (omega arith)) none
   words-apart out (suc d) a e q h u =
-      rw (words-cons out a e (omega arith) h)
+      rw (part-cons out a e (omega arith) h)
       (more (λ t. let (i, (l, k, v)) = map-place out (a + 1) e h t in u a i (omega arith) (omega arith) k v)
       (words-apart out d (a + 1) e (omega arith) h (λ i j l k b v. u i j (omega arith) k b v)))
 
@@ -228,38 +229,38 @@ module _ {P : ℕ → Type 0} (names out names′ out′ : List ℕ) (mark from 
     listed-in i a b = ⊎-elim (λ e. absurd (fresh (getD out′ i 0) (w .small i a b) e)) (λ p. p) (sound (getD out′ i 0) (w .small i a b) (w .marked i a b))
 
     -- the names in the slice are all different
-    listed-apart : Apart (map name (words out′ from n))
+    listed-apart : Apart (map name (part out′ from n))
     listed-apart = words-apart name out′ (n - from) from n refl fits
         (λ i j a b c e. w .once i j a b c (distinct (getD out′ i 0) (getD out′ j 0) (small _ (listed-in i a (omega arith)) .0) (small _ (listed-in j (omega arith) c) .0) e))
 
     -- how many names are in the slice
-    listed-length : from ≤ n → length (map name (words out′ from n)) ≡ n - from
-    listed-length l = length-map (words out′ from n) name ∙ words-length out′ from n fits
+    listed-length : from ≤ n → length (map name (part out′ from n)) ≡ n - from
+    listed-length l = length-map (part out′ from n) name ∙ part-length out′ from n fits
 
     -- all names are in the slice
     gathers-all : from ≤ n → n ≤ room → ((k : ℕ) → P k → name-mark names′ k ≡ mark) → Gathers name named set from room out′ (walks.Names n)
     gathers-all l b all = all-names same (rw (← same) (omega (arith, apart-length listed-apart, listed-length l))) b (λ i a c. small _ (listed-in i a c) .0)
       where
-        same : from-list (map name (words out′ from n)) ≡ set
-        same = ascending-ext (ascending-from-list (map name (words out′ from n))) (s .is-set)
-            (λ x t. let (i, (a, c, e)) = map-place name out′ from n fits (mem-from-list x (map name (words out′ from n)) .0 t) in rw e (s .into (getD out′ i 0) (listed-in i a c)))
+        same : from-list (map name (part out′ from n)) ≡ set
+        same = ascending-ext (ascending-from-list (map name (part out′ from n))) (s .is-set)
+            (λ x t. let (i, (a, c, e)) = map-place name out′ from n fits (mem-from-list x (map name (part out′ from n)) .0 t) in rw e (s .into (getD out′ i 0) (listed-in i a c)))
             (λ x t. let (k, (p, e)) = s .from x t in let (i, (a, c, q)) = w .place k (small k p .1) (all k p) in
-            mem-from-list x (map name (words out′ from n)) .1 (rw (e, ← q) (place-map name out′ from n i fits a c)))
+            mem-from-list x (map name (part out′ from n)) .1 (rw (e, ← q) (place-map name out′ from n i fits a c)))
 
     -- a name of the set is not in the slice, which is full
     gathers-over : from ≤ n → room ≡ n → {k : ℕ} → P k → (name-mark names′ k ≡ mark → ⊥) → Gathers name named set from room out′ walks.Full
     gathers-over l q {k} p new = no-room
-        (omega (arith, apart-length longer, listed-length l, subset-length (ascending-from-list (name k ∷ map name (words out′ from n))) (s .is-set) within))
+        (omega (arith, apart-length longer, listed-length l, subset-length (ascending-from-list (name k ∷ map name (part out′ from n))) (s .is-set) within))
         (λ i a c. let m = listed-in i a (omega arith) in (small _ m .0, s .into (getD out′ i 0) m))
       where
-        longer : Apart (name k ∷ map name (words out′ from n))
+        longer : Apart (name k ∷ map name (part out′ from n))
         longer = more (λ t. let (i, (a, c, e)) = map-place name out′ from n fits t in
             new (rw (distinct k (getD out′ i 0) (small k p .0) (small _ (listed-in i a c) .0) e) (w .marked i a c))) listed-apart
 
-        within : (x : Name) → T (mem x (from-list (name k ∷ map name (words out′ from n)))) → T (mem x set)
+        within : (x : Name) → T (mem x (from-list (name k ∷ map name (part out′ from n)))) → T (mem x set)
         within x t = ⊎-elim (λ e. rw e (s .into k p))
             (λ m. let (i, (a, c, e)) = map-place name out′ from n fits m in rw e (s .into (getD out′ i 0) (listed-in i a c)))
-            (mem-cons x (name k) (map name (words out′ from n)) .0 (mem-from-list x (name k ∷ map name (words out′ from n)) .0 t))
+            (mem-cons x (name k) (map name (part out′ from n)) .0 (mem-from-list x (name k ∷ map name (part out′ from n)) .0 t))
 
   -- what a walk of the set's names comes to
   pub steps-gathers : {r : Walked} → Steps P names out names′ out′ mark from room r → Gathers name named set from room out′ r

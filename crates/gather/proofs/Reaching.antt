@@ -8,9 +8,9 @@ use mathlib.Core.Logic.{_↔_, ⊎-elim}
 use mathlib.Core.List.{List, [], _∷_, _++_, List·Memᴰ, List·Memᴰ·head, List·Memᴰ·tail, List·Memᴰ·cases-cons, List·Memᴰ·not-nil, List·Memᴰ·append-cases, List·Memᴰ·eq-of-singleton, Memᴰ·append-left, Memᴰ·append-right}
 use lib.ListN.{length, getD}
 use lib.Dec.{ltb}
-use Rattle.model.specs.Lists.{fold-left}
+use Rattle.model.specs.Lists.{fold-left, part}
 use Rattle.model.proofs.ListLaws.{cond-case, fold-left-case}
-use Rattle.terms.specs.Rows.{row-kind, row-head, row-start, row-end, has-head, words, terms-of-words, Rows}
+use Rattle.terms.specs.Rows.{row-kind, row-head, row-start, row-end, has-head, terms-of-words, Rows}
 use Rattle.gather.specs.Sets.{is-excluded}
 use Rattle.gather.specs.Visits.{Visit, start-visit, has, find, finish, visit-head, visit, visit-term, visit-list}
 use Rattle.gather.specs.Walks.{Reached, itself, below}
@@ -39,7 +39,7 @@ module _ (names : List ℕ) {refs rows : List ℕ} {used many named : ℕ} (room
     unfolding visit
     only-visit zero v t l q p = p
     only-visit (suc depth) v t l q p = cond-case Only (v .full || has (v .walked) t) p (only-finish t _ (q t (itself refl))
-        (fold-left-case Only (visit names refs rows used many room depth) (terms-of-words (words refs (row-start rows t) (row-end rows used many t)))
+        (fold-left-case Only (visit names refs rows used many room depth) (terms-of-words (part refs (row-start rows t) (row-end rows used many t)))
         (λ w s m o. let d = lower-in r l m in let (i, (a, b, e)) = term-place refs (row-start rows t) (row-end rows used many t) (row-fits r l) m in only-visit depth w s (omega arith) (λ u z. q u (below {t = t} i a b (rw e z))) o)
         (rw (head-walked names refs rows used many room v t) p)))
 
@@ -55,7 +55,7 @@ module _ (names : List ℕ) {refs rows : List ℕ} {used many named : ℕ} (room
     all : (s : ℕ) → List·Memᴰ s ts → List·Memᴰ s (w .walked)
 
   -- a term is finished after the terms that it names
-  done-finish : {t : ℕ} {v first w : Visit} → t < many → v .full ≡ false → first .walked ≡ v .walked → Done (terms-of-words (words refs (row-start rows t) (row-end rows used many t))) first w
+  done-finish : {t : ℕ} {v first w : Visit} → t < many → v .full ≡ false → first .walked ≡ v .walked → Done (terms-of-words (part refs (row-start rows t) (row-end rows used many t))) first w
       → Done (t ∷ []) v (record { found = w .found; walked = w .walked ++ (t ∷ []); full = false })
   done-finish {t} {w} l g q d = record {
     going = g;
@@ -96,7 +96,7 @@ module _ (names : List ℕ) {refs rows : List ℕ} {used many named : ℕ} (room
     where
       -- the terms that it names
       ts : List ℕ
-      ts = terms-of-words (words refs (row-start rows t) (row-end rows used many t))
+      ts = terms-of-words (part refs (row-start rows t) (row-end rows used many t))
 
       -- the walk after its head
       first : Visit

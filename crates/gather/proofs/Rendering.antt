@@ -7,12 +7,12 @@ use mathlib.Core.Logic.{⊎-elim}
 use mathlib.Core.List.{List, [], _∷_, _++_, List·Memᴰ·append-cases, List·Memᴰ·eq-of-singleton, List·Memᴰ·not-nil}
 use lib.ListN.{length, getD, set, length-append}
 use borrow.Author.Tests.{lt-ltb, le-ltb}
-use Rattle.model.specs.Lists.{fold-left}
+use Rattle.model.specs.Lists.{fold-left, part}
 use Rattle.model.proofs.ListLaws.{true-T, fold-left-append}
+use Rattle.model.proofs.PartLaws.{part-nil}
 use Rattle.gather.specs.declared.Walked.{Walked}
 use Rattle.gather.specs.declared.Walked.the-variants as walks
-use Rattle.terms.specs.Rows.{row-kind, row-head, row-start, row-end, has-head, words, terms-of-words, Rows}
-use Rattle.terms.proofs.Table.{words-nil}
+use Rattle.terms.specs.Rows.{row-kind, row-head, row-start, row-end, has-head, terms-of-words, Rows}
 use Rattle.terms.proofs.Groups.{terms-split, terms-more}
 use Rattle.gather.specs.Sets.{is-excluded, row-mark, name-mark, Fresh, Same-but}
 use Rattle.gather.specs.Visits.{Visit, start-visit, has, find, finish, visit-head, visit, walk-answer, marked-at, put, Walks-as}
@@ -273,7 +273,7 @@ module _ {names refs rows out : List ℕ} {used many mark count room t : ℕ} (h
     follows = λ {names₀} {rows₀} {out₀} {from} {v} w.
         let y = x .follows w in
         let u : Visit = head-part t names₀ rows₀ (room - from) v in
-        rw (fold-full names₀ refs rows₀ used many (room - from) many u (terms-of-words (words refs (row-start rows t) (row-end rows used many t))) (answer-full from u (y .walk .answer))) y;
+        rw (fold-full names₀ refs rows₀ used many (room - from) many u (terms-of-words (part refs (row-start rows t) (row-end rows used many t))) (answer-full from u (y .walk .answer))) y;
   })
 
 -- ---- a list
@@ -281,7 +281,7 @@ module _ {names refs rows out : List ℕ} {used many mark count room t : ℕ} (h
 -- no term
 pub follow-nil : (refs : List ℕ) (used many a : ℕ) {names rows out : List ℕ} {mark count room : ℕ} → Follows (list-part refs used many a a) names rows out names rows out mark count room (walks.Names count)
 unfolding list-part terms-of-words fold-left
-follow-nil refs used many a = record { follows = λ w. rw (words-nil refs a a (omega arith)) w }
+follow-nil refs used many a = record { follows = λ w. rw (part-nil refs a a (omega arith)) w }
 
 module _ {names refs rows out : List ℕ} {used many mark count room a e i : ℕ} (h : Ready names refs rows out used many mark count room) (g : References refs used many a e) (low : a ≤ i) (high : i < e) where
   -- the list is in the slice
@@ -296,7 +296,7 @@ module _ {names refs rows out : List ℕ} {used many mark count room a e i : ℕ
   follow-next is x y = record {
     follows = λ {names₀} {rows₀} {out₀} {from} {v} w.
         let long = fits in
-        rw (terms-more refs a i low (omega arith), fold-left-append (visit names₀ refs rows₀ used many (room - from) many) v (terms-of-words (words refs a i)) (getD refs i 0 % 4096 ∷ []), ← is) (follows-then x y .follows w);
+        rw (terms-more refs a i low (omega arith), fold-left-append (visit names₀ refs rows₀ used many (room - from) many) v (terms-of-words (part refs a i)) (getD refs i 0 % 4096 ∷ []), ← is) (follows-then x y .follows w);
   }
 
   -- where there is no room for the terms up to a place there is none for the list's
@@ -306,11 +306,11 @@ module _ {names refs rows out : List ℕ} {used many mark count room a e i : ℕ
   follow-stop x = record {
     follows = λ {names₀} {rows₀} {out₀} {from} {v} w.
         let y = x .follows w in
-        let u : Visit = fold-left (visit names₀ refs rows₀ used many (room - from) many) v (terms-of-words (words refs a (i + 1))) in
+        let u : Visit = fold-left (visit names₀ refs rows₀ used many (room - from) many) v (terms-of-words (part refs a (i + 1))) in
         rw (
           terms-split refs a (i + 1) e (omega arith) (omega arith) fits,
-          fold-left-append (visit names₀ refs rows₀ used many (room - from) many) v (terms-of-words (words refs a (i + 1))) (terms-of-words (words refs (i + 1) e)),
-          fold-full names₀ refs rows₀ used many (room - from) many u (terms-of-words (words refs (i + 1) e)) (answer-full from u (y .walk .answer)),
+          fold-left-append (visit names₀ refs rows₀ used many (room - from) many) v (terms-of-words (part refs a (i + 1))) (terms-of-words (part refs (i + 1) e)),
+          fold-full names₀ refs rows₀ used many (room - from) many u (terms-of-words (part refs (i + 1) e)) (answer-full from u (y .walk .answer)),
         ) y;
   }
 

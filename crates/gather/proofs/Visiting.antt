@@ -10,11 +10,11 @@ use lib.ListN.{length, getD, set, length-set}
 use lib.Seq.{getD-set-same, getD-set-other}
 use lib.Dec.{eqb}
 use borrow.Author.Tests.{eqb-true, eq-eqb}
-use Rattle.model.specs.Lists.{any, fold-left}
+use Rattle.model.specs.Lists.{any, fold-left, part}
 use Rattle.model.proofs.ListLaws.{T-true, true-T, any-intro, any-elim, map-intro, map-elim, fold-left-append}
-use Rattle.terms.specs.Rows.{row-start, row-end, words, terms-of-words, Rows}
+use Rattle.model.proofs.PartLaws.{part-elim, part-intro}
+use Rattle.terms.specs.Rows.{row-start, row-end, terms-of-words, Rows}
 use Rattle.terms.proofs.Laws.{equal}
-use Rattle.terms.proofs.Table.{words-elim, words-intro}
 use Rattle.gather.specs.Sets.{Same-but}
 use Rattle.gather.specs.Visits.{Visit, has, finish, visit-head, visit, marked-at, put}
 use Rattle.gather.proofs.Steps.{same-self, same-then, same-set}
@@ -101,17 +101,17 @@ fold-cong f g [] h a = refl
 fold-cong f g (n ∷ l) h a = rw (h a n (List·Memᴰ·head refl)) (fold-cong f g l (λ b m i. h b m (List·Memᴰ·tail i)) (g a n))
 
 -- a term that references name stands at one of them
-pub term-place : (refs : List ℕ) (a e : ℕ) {u : ℕ} → e ≤ length refs → List·Memᴰ u (terms-of-words (words refs a e)) → (i : ℕ) × ((a ≤ i) × (i < e) × (getD refs i 0 % 4096 ≡ u))
+pub term-place : (refs : List ℕ) (a e : ℕ) {u : ℕ} → e ≤ length refs → List·Memᴰ u (terms-of-words (part refs a e)) → (i : ℕ) × ((a ≤ i) × (i < e) × (getD refs i 0 % 4096 ≡ u))
 unfolding terms-of-words
 term-place refs a e h m =
-    let (w, n, q) = map-elim (λ w. w % 4096) (words refs a e) m in
-    let p = words-elim {l = refs} {a = a} {e = e} h n in
+    let (w, n, q) = map-elim (λ w. w % 4096) (part refs a e) m in
+    let p = part-elim {l = refs} {a = a} {e = e} h n in
     (p .place, (p .low, p .high, ap (_% 4096) (p .is) ∙ q))
 
 -- the term at a reference is one that they name
-pub place-term : (refs : List ℕ) (a e i : ℕ) → e ≤ length refs → a ≤ i → i < e → List·Memᴰ (getD refs i 0 % 4096) (terms-of-words (words refs a e))
+pub place-term : (refs : List ℕ) (a e i : ℕ) → e ≤ length refs → a ≤ i → i < e → List·Memᴰ (getD refs i 0 % 4096) (terms-of-words (part refs a e))
 unfolding terms-of-words
-place-term refs a e i h l k = map-intro (λ w. w % 4096) (words-intro refs a e i h l k)
+place-term refs a e i h l k = map-intro (λ w. w % 4096) (part-intro refs a e i h l k)
 
 module _ {refs rows : List ℕ} {used many named : ℕ} (r : Rows refs rows used many named) {t : ℕ} (l : t < many) where
   -- the references of a row are in the slice
@@ -119,7 +119,7 @@ module _ {refs rows : List ℕ} {used many named : ℕ} (r : Rows refs rows used
   row-fits = omega (arith, r .ref-room, r .few-references, r .in-use t l)
 
   -- a term that a row names is a lower one
-  pub lower-in : {u : ℕ} → List·Memᴰ u (terms-of-words (words refs (row-start rows t) (row-end rows used many t))) → u < t
+  pub lower-in : {u : ℕ} → List·Memᴰ u (terms-of-words (part refs (row-start rows t) (row-end rows used many t))) → u < t
   lower-in m = let (i, (a, b, q)) = term-place refs (row-start rows t) (row-end rows used many t) row-fits m in rw (← q) (r .lower t i l a b)
 
 module _ (names refs rows : List ℕ) (used many room : ℕ) where
@@ -142,12 +142,12 @@ module _ (names refs rows : List ℕ) (used many room : ℕ) where
     visit-depth zero m v t h k l = absurd (not-suc-le-zero h)
     visit-depth (suc n) zero v t h k l = absurd (not-suc-le-zero k)
     visit-depth (suc n) (suc m) v t h k l =
-        ap (λ w. cond (v .full || has (v .walked) t) v (finish t w)) (fold-cong (visit names refs rows used many room n) (visit names refs rows used many room m) (terms-of-words (words refs (row-start rows t) (row-end rows used many t)))
+        ap (λ w. cond (v .full || has (v .walked) t) v (finish t w)) (fold-cong (visit names refs rows used many room n) (visit names refs rows used many room m) (terms-of-words (part refs (row-start rows t) (row-end rows used many t)))
         (λ w u i. let d = lower-in r l i in visit-depth n m w u (omega arith) (omega arith) (omega arith)) (visit-head names refs rows used many room v t))
 
     -- the walk of a term by its parts, all at one depth
     pub visit-parts : (v : Visit) (t : ℕ) → t < many → visit names refs rows used many room many v t
-        ≡ cond (v .full || has (v .walked) t) v (finish t (fold-left (visit names refs rows used many room many) (visit-head names refs rows used many room v t) (terms-of-words (words refs (row-start rows t) (row-end rows used many t)))))
+        ≡ cond (v .full || has (v .walked) t) v (finish t (fold-left (visit names refs rows used many room many) (visit-head names refs rows used many room v t) (terms-of-words (part refs (row-start rows t) (row-end rows used many t)))))
     unfolding visit
     visit-parts v t l = visit-depth many (suc many) v t l (omega arith) l
 

@@ -6,9 +6,9 @@ use mathlib.Core.Logic.{_↔_, _⊎_}
 use mathlib.Core.List.{List, map, List·Memᴰ}
 use lib.ListN.{length, getD}
 use lib.Dec.{T, ltb}
+use Rattle.model.specs.Lists.{part}
 use Rattle.model.specs.Names.{Name, from-list, mem}
 use Rattle.model.specs.Summaries.{exclude-names}
-use Rattle.terms.specs.Rows.{words}
 use Rattle.gather.specs.declared.Walked.{Walked}
 use Rattle.gather.specs.declared.Walked.the-variants as walks
 
@@ -48,7 +48,7 @@ ended room walks.Full = room
 -- names, each once and each below `named`, or numbers of some of its names and that there are more than fit
 pub data Gathers (name : ℕ → Name) (named : ℕ) (set : List Name) (at room : ℕ) (out : List ℕ) : Walked → Type 0 where
   all-names : {n : ℕ}
-      → from-list (map name (words out at n)) ≡ set → length set + at ≡ n → n ≤ room
+      → from-list (map name (part out at n)) ≡ set → length set + at ≡ n → n ≤ room
       → ((i : ℕ) → at ≤ i → i < n → getD out i 0 < named)
       → Gathers name named set at room out (walks.Names n)
   no-room : room < length set + at
@@ -66,4 +66,4 @@ pub record Gathered (names rows out names′ rows′ out′ : List ℕ) (mark at
   pub small : (i : ℕ) → at ≤ i → i < ended room r → getD out′ i 0 < 2048
   pub name-marks : (k : ℕ) → k < 2048 → (name-mark names′ k ≡ mark) ⊎ (name-mark names′ k ≡ name-mark names k)
   pub row-marks : (t : ℕ) → t < 4096 → (row-mark rows′ t ≡ mark) ⊎ (row-mark rows′ t ≡ row-mark rows t)
-  pub marks : (k : ℕ) → k < 2048 → (name-mark names′ k ≡ mark) ↔ List·Memᴰ k (words out′ at (ended room r))
+  pub marks : (k : ℕ) → k < 2048 → (name-mark names′ k ≡ mark) ↔ List·Memᴰ k (part out′ at (ended room r))

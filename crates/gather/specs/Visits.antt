@@ -5,8 +5,8 @@ use mathlib.Core.Bool.{Bool, true, false, cond, not, _&&_, _||_}
 use mathlib.Core.List.{List, [], _∷_, _++_}
 use lib.ListN.{length, getD, set}
 use lib.Dec.{eqb, ltb}
-use Rattle.model.specs.Lists.{any, fold-left}
-use Rattle.terms.specs.Rows.{row-kind, row-head, row-start, row-end, has-head, words, terms-of-words}
+use Rattle.model.specs.Lists.{any, fold-left, part}
+use Rattle.terms.specs.Rows.{row-kind, row-head, row-start, row-end, has-head, terms-of-words}
 use Rattle.gather.specs.Sets.{is-excluded}
 use Rattle.gather.specs.declared.Walked.{Walked}
 use Rattle.gather.specs.declared.Walked.the-variants as walks
@@ -49,7 +49,7 @@ module _ (names refs rows : List ℕ) (used many room : ℕ) where
   unfoldable pub visit : ℕ → Visit → ℕ → Visit
   visit zero v t = v
   visit (suc depth) v t =
-      let below = fold-left (visit depth) (visit-head v t) (terms-of-words (words refs (row-start rows t) (row-end rows used many t))) in
+      let below = fold-left (visit depth) (visit-head v t) (terms-of-words (part refs (row-start rows t) (row-end rows used many t))) in
       cond (v .full || has (v .walked) t) v (finish t below)
 
   -- the walk of a term

@@ -6,10 +6,10 @@ use mathlib.Core.Logic.{_⊎_}
 use mathlib.Core.List.{List, [], List·Memᴰ}
 use lib.ListN.{length, getD}
 use lib.Dec.{T}
-use Rattle.model.specs.Lists.{fold-left}
+use Rattle.model.specs.Lists.{fold-left, part}
 use Rattle.gather.specs.declared.Walked.{Walked}
 use Rattle.gather.specs.declared.Walked.the-variants as walks
-use Rattle.terms.specs.Rows.{row-kind, row-head, row-start, row-end, has-head, words, terms-of-words, Rows}
+use Rattle.terms.specs.Rows.{row-kind, row-head, row-start, row-end, has-head, terms-of-words, Rows}
 use Rattle.gather.specs.Sets.{is-excluded, Fresh, Same-but, row-mark, name-mark, ended}
 use Rattle.gather.specs.Visits.{Visit, visit-head, visit, Walks-as}
 
@@ -119,7 +119,7 @@ term-part refs used many t names rows room v = visit names refs rows used many r
 
 -- the terms that the references from a up to e name
 unfoldable pub list-part : List ℕ → ℕ → ℕ → ℕ → ℕ → Part
-list-part refs used many a e names rows room v = fold-left (visit names refs rows used many room many) v (terms-of-words (words refs a e))
+list-part refs used many a e names rows room v = fold-left (visit names refs rows used many room many) v (terms-of-words (part refs a e))
 
 -- the slices are those of a walk under a new mark, and its numbers are those of names and of rows
 pub record Renders (v : Visit) (names rows out names′ rows′ out′ : List ℕ) (mark from : ℕ) (r : Walked) : Type 0 where

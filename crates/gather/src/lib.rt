@@ -1,9 +1,10 @@
 ghost use Prim.Native.Nat.{ℕ, _-_, _%_, _≤_, _<_};
 ghost use mathlib.Core.Path.{_≡_};
 ghost use lib.ListN.{length, getD};
+ghost use Rattle.model.specs.Lists.{part};
 ghost use Rattle.model.specs.Names.{Name};
 ghost use Rattle.model.specs.Summaries.{exclude-names, free-top-level-names, group-names};
-ghost use Rattle.terms.specs.Rows.{has-head, words, terms-of-words, terms-of, Rows};
+ghost use Rattle.terms.specs.Rows.{has-head, terms-of-words, terms-of, Rows};
 ghost use Rattle.gather.specs.Sets.{is-excluded, Fresh, Named, Gathers, Gathered};
 ghost use Rattle.gather.specs.Visits.{visit-term, visit-list, Walks-as};
 ghost use Rattle.gather.specs.Walks.{Own, Free, Among, Heads, Ready, References, Steps, Walks, head-part, term-part, list-part, Follows};
@@ -170,9 +171,9 @@ pub fn gather_list(
     room: usize,
 ) -> Walked
     requires { ⌜ Rows (now refs) (now rows) used many named × (16384 ≤ length (now names)) × (a ≤ e) × (e ≤ used) × ((i : ℕ) → a ≤ i → i < e → getD (now refs) i 0 % 4096 < many) × Fresh (now names) (now rows) mark × (from ≤ room) × (room ≤ length (now out)) ⌝ }
-    ensures set { λ r. ⌜ ((name : ℕ → Name) → Named name (now (names .entry)) named → Gathers name named (group-names exclude-names (terms-of name (now (refs .entry)) (now (rows .entry)) used many) (terms-of-words (words (now (refs .entry)) a e))) from room (now (out .exit)) r) ⌝ }
+    ensures set { λ r. ⌜ ((name : ℕ → Name) → Named name (now (names .entry)) named → Gathers name named (group-names exclude-names (terms-of name (now (refs .entry)) (now (rows .entry)) used many) (terms-of-words (part (now (refs .entry)) a e))) from room (now (out .exit)) r) ⌝ }
     ensures slices { λ r. ⌜ Gathered (now (names .entry)) (now (rows .entry)) (now (out .entry)) (now (names .exit)) (now (rows .exit)) (now (out .exit)) mark from room r ⌝ }
-    ensures walk { λ r. ⌜ Walks-as (visit-list (now (names .entry)) (now (refs .entry)) (now (rows .entry)) used many (room - from) (terms-of-words (words (now (refs .entry)) a e))) (now (names .entry)) (now (rows .entry)) (now (out .entry)) (now (names .exit)) (now (rows .exit)) (now (out .exit)) mark from r ⌝ }
+    ensures walk { λ r. ⌜ Walks-as (visit-list (now (names .entry)) (now (refs .entry)) (now (rows .entry)) used many (room - from) (terms-of-words (part (now (refs .entry)) a e))) (now (names .entry)) (now (rows .entry)) (now (out .entry)) (now (names .exit)) (now (rows .exit)) (now (out .exit)) mark from r ⌝ }
 {
     walk_list(names, refs, rows, out, used, many, a, e, mark, from, room)
 }

@@ -3,7 +3,7 @@ use Prim.Native.Nat.{ℕ, _≤_}
 use mathlib.Core.Path.{_≡_}
 use mathlib.Core.List.{List}
 use lib.ListN.{length}
-use Rattle.text.specs.Parts.{part}
+use Rattle.model.specs.Lists.{part}
 use Rattle.names.specs.declared.Spelled.{Spelled}
 use Rattle.names.specs.Table.{Table, names-of, look-up, spell-answer, spell-table}
 use Rattle.names.proofs.Spelling.{Spelling, known, new, full, spell-law}

@@ -8,11 +8,11 @@ use mathlib.Core.List.{List, [], _∷_, _++_}
 use lib.ListN.{length, getD, set, length-set}
 use lib.Seq.{getD-set-same, getD-set-other}
 use lib.Dec.{T}
-use Rattle.model.specs.Lists.{fold-left}
+use Rattle.model.specs.Lists.{fold-left, part}
 use Rattle.model.specs.Names.{Name}
 use Rattle.model.specs.Terms.{add-term}
 use Rattle.model.proofs.ListLaws.{fold-left-append}
-use Rattle.terms.specs.Rows.{row-kind, row-op, row-head, row-start, row-extra, row-end, words, op-of-code, make-node, node-of, nodes-below, terms-of, has-head, has-body, has-groups, bare-of, Rows}
+use Rattle.terms.specs.Rows.{row-kind, row-op, row-head, row-start, row-extra, row-end, op-of-code, make-node, node-of, nodes-below, terms-of, has-head, has-body, has-groups, bare-of, Rows}
 use Rattle.lines.specs.Additions.{row-word, with-row, pushed, Pushed, Patterns}
 use Rattle.terms.proofs.Laws.{end-next, end-last, equal, below}
 use Rattle.lines.proofs.Laws.{pushed-in, pushed-full}
@@ -223,7 +223,7 @@ module _ {refs rows : List ℕ} {start used many named kind op head extra : ℕ}
     node-old t l = rw (kind-old t l, op-old t l, head-old t l, start-old t l, end-old t l, extra-old t l)
 
     -- the new row's node
-    node-new : node-of name refs rows′ used (many + 1) many ≡ make-node kind (op-of-code op) (name head) (words refs start used) extra
+    node-new : node-of name refs rows′ used (many + 1) many ≡ make-node kind (op-of-code op) (name head) (part refs start used) extra
     unfolding node-of
     node-new = rw (kind-new, op-new, head-new, start-new, end-new, extra-new)
 
@@ -239,7 +239,7 @@ module _ {refs rows : List ℕ} {start used many named kind op head extra : ℕ}
     nodes-last m = refl
 
     -- its nodes are the old ones and the new one
-    nodes-added-here : nodes-below name refs rows′ used (many + 1) (many + 1) ≡ nodes-below name refs rows start many many ++ (make-node kind (op-of-code op) (name head) (words refs start used) extra ∷ [])
+    nodes-added-here : nodes-below name refs rows′ used (many + 1) (many + 1) ≡ nodes-below name refs rows start many many ++ (make-node kind (op-of-code op) (name head) (part refs start used) extra ∷ [])
     nodes-added-here = ap (nodes-below name refs rows′ used (many + 1)) (add-one many) ∙ nodes-last (many + 1) ∙ ap₂ (λ ns m. ns ++ (m ∷ [])) (nodes-old many (omega arith)) node-new
 
   -- the table with one row more is a table
@@ -248,11 +248,11 @@ module _ {refs rows : List ℕ} {start used many named kind op head extra : ℕ}
   row-added = row-added-here
 
   -- its nodes are the old ones and the new one
-  pub nodes-added : (name : ℕ → Name) → nodes-below name refs (with-row rows many (row-word kind op head) start extra) used (many + 1) (many + 1) ≡ nodes-below name refs rows start many many ++ (make-node kind (op-of-code op) (name head) (words refs start used) extra ∷ [])
+  pub nodes-added : (name : ℕ → Name) → nodes-below name refs (with-row rows many (row-word kind op head) start extra) used (many + 1) (many + 1) ≡ nodes-below name refs rows start many many ++ (make-node kind (op-of-code op) (name head) (part refs start used) extra ∷ [])
   unfolding rows′
   nodes-added = nodes-added-here
 
   -- its terms are the old ones with the new node's
-  pub terms-added : (name : ℕ → Name) → terms-of name refs (with-row rows many (row-word kind op head) start extra) used (many + 1) ≡ add-term (terms-of name refs rows start many) (make-node kind (op-of-code op) (name head) (words refs start used) extra)
+  pub terms-added : (name : ℕ → Name) → terms-of name refs (with-row rows many (row-word kind op head) start extra) used (many + 1) ≡ add-term (terms-of name refs rows start many) (make-node kind (op-of-code op) (name head) (part refs start used) extra)
   unfolding terms-of fold-left
-  terms-added name = ap (fold-left add-term []) (nodes-added name) ∙ fold-left-append add-term [] (nodes-below name refs rows start many many) (make-node kind (op-of-code op) (name head) (words refs start used) extra ∷ [])
+  terms-added name = ap (fold-left add-term []) (nodes-added name) ∙ fold-left-append add-term [] (nodes-below name refs rows start many many) (make-node kind (op-of-code op) (name head) (part refs start used) extra ∷ [])

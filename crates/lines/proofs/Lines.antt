@@ -7,15 +7,17 @@ use mathlib.Core.List.{List}
 use lib.ListN.{length, getD}
 use lib.Seq.{getD-set-same}
 use lib.Dec.{T, eqb, eqb→eq, ltb→lt}
+use Rattle.model.specs.Lists.{part}
 use Rattle.model.specs.Names.{Name}
 use Rattle.model.specs.Terms.{Node, FreeV, Leaf, Call, App, Forall, Exists, Let, Labeled, add-term}
 use Rattle.model.proofs.ListLaws.{T-or}
+use Rattle.model.proofs.PartLaws.{part-cons, part-drop}
 use Rattle.lines.specs.declared.Added.{Added}
-use Rattle.terms.specs.Rows.{row-start, row-end, words, terms-of-words, groups-of-words, op-of-code, make-node, terms-of, has-head, has-body, has-groups, bare-of, Rows}
+use Rattle.terms.specs.Rows.{row-start, row-end, terms-of-words, groups-of-words, op-of-code, make-node, terms-of, has-head, has-body, has-groups, bare-of, Rows}
 use Rattle.lines.specs.Additions.{row-word, with-row, added, rows-after, pushed, Pushed, Patterns, Adds}
 use Rattle.terms.proofs.Laws.{equal}
 use Rattle.lines.proofs.Laws.{pushed-in, added-in}
-use Rattle.terms.proofs.Table.{words-cons, words-drop, bare-low}
+use Rattle.terms.proofs.Table.{bare-low}
 use Rattle.terms.proofs.Groups.{groups-bodied}
 use Rattle.lines.proofs.Adding.{push-agrees, push-length, New-row, row-added, terms-added}
 
@@ -98,7 +100,7 @@ Row-written rows rows′ many word start extra r = (r ≡ added many) × (rows�
 -- a row that is right for its kind adds its node
 adds-row : {refs rows rows′ : List ℕ} {start used many named kind op head extra : ℕ} {node : (ℕ → Name) → Node} {r : Added}
     → (many < 4096 → New-row refs rows start used many named kind op head extra)
-    → ((name : ℕ → Name) → make-node kind (op-of-code op) (name head) (words refs start used) extra ≡ node name)
+    → ((name : ℕ → Name) → make-node kind (op-of-code op) (name head) (part refs start used) extra ≡ node name)
     → Row-written rows rows′ many (row-word kind op head) start extra r → Adds refs rows rows′ start used many named (row-word kind op head) extra node r
 adds-row {refs} {rows} {rows′} {start} {used} {many} {named} {kind} {op} {head} {extra} new is (a, b) = record {
   answer = a;
@@ -153,8 +155,8 @@ module _ {refs rows : List ℕ} {start used many named kind : ℕ} (p : Pushed r
   }
 
 -- the first reference
-first : {refs rows : List ℕ} {start used many named : ℕ} → Pushed refs rows start used many named → start < used → getD (words refs start used) 0 0 ≡ getD refs start 0
-first {refs} {start = start} {used} p h = ap (λ l. getD l 0 0) (words-cons refs start used h (omega (arith, p .table .ref-room, p .few-references)))
+first : {refs rows : List ℕ} {start used many named : ℕ} → Pushed refs rows start used many named → start < used → getD (part refs start used) 0 0 ≡ getD refs start 0
+first {refs} {start = start} {used} p h = ap (λ l. getD l 0 0) (part-cons refs start used h (omega (arith, p .table .ref-room, p .few-references)))
 
 -- a `free`
 pub adds-free : {refs rows rows′ : List ℕ} {used many named : ℕ} {r : Added} (head : ℕ) → Rows refs rows used many named → head < named
@@ -171,33 +173,33 @@ adds-leaf t = adds-row (no-body (pushed-none t) (omega arith) (omega arith) (λ 
 module _ {refs rows rows′ : List ℕ} {start used many named : ℕ} {r : Added} (p : Pushed refs rows start used many named) where
   -- a `call`
   pub adds-call : (head : ℕ) → head < named → Row-written rows rows′ many (row-word 2 4 head) start 0 r
-      → Adds refs rows rows′ start used many named (row-word 2 4 head) 0 (λ name. Call (name head) (terms-of-words (words refs start used))) r
+      → Adds refs rows rows′ start used many named (row-word 2 4 head) 0 (λ name. Call (name head) (terms-of-words (part refs start used))) r
   unfolding make-node
   adds-call head h = adds-row (no-body p (omega arith) (omega arith) (λ k. h) (λ k. absurd (omega arith))) (λ name. refl)
 
   -- an `op`
   pub adds-op : (op : ℕ) → op < 5 → Row-written rows rows′ many (row-word 3 op 0) start 0 r
-      → Adds refs rows rows′ start used many named (row-word 3 op 0) 0 (λ name. App (op-of-code op) (terms-of-words (words refs start used))) r
+      → Adds refs rows rows′ start used many named (row-word 3 op 0) 0 (λ name. App (op-of-code op) (terms-of-words (part refs start used))) r
   unfolding make-node has-head
   adds-op op h = adds-row (no-body p (omega arith) (omega arith) (λ k. absurd k) (λ k. absurd (omega arith))) (λ name. refl)
 
   -- an `all`
   pub adds-all : {groups : ℕ} → Patterns refs start used groups → Row-written rows rows′ many (row-word 4 4 0) start groups r
-      → Adds refs rows rows′ start used many named (row-word 4 4 0) groups (λ name. Forall (getD refs start 0 % 4096) (groups-of-words (words refs (start + 1) used) groups)) r
+      → Adds refs rows rows′ start used many named (row-word 4 4 0) groups (λ name. Forall (getD refs start 0 % 4096) (groups-of-words (part refs (start + 1) used) groups)) r
   unfolding make-node
-  adds-all q = adds-row (with-body p (omega arith) (omega arith) (q .bodied) (λ k. absurd (omega arith)) (λ k. q)) (λ name. rw (first p (q .bodied), words-drop))
+  adds-all q = adds-row (with-body p (omega arith) (omega arith) (q .bodied) (λ k. absurd (omega arith)) (λ k. q)) (λ name. rw (first p (q .bodied), part-drop))
 
   -- a `some`
   pub adds-some : {groups : ℕ} → Patterns refs start used groups → Row-written rows rows′ many (row-word 5 4 0) start groups r
-      → Adds refs rows rows′ start used many named (row-word 5 4 0) groups (λ name. Exists (getD refs start 0 % 4096) (groups-of-words (words refs (start + 1) used) groups)) r
+      → Adds refs rows rows′ start used many named (row-word 5 4 0) groups (λ name. Exists (getD refs start 0 % 4096) (groups-of-words (part refs (start + 1) used) groups)) r
   unfolding make-node
-  adds-some q = adds-row (with-body p (omega arith) (omega arith) (q .bodied) (λ k. absurd (omega arith)) (λ k. q)) (λ name. rw (first p (q .bodied), words-drop))
+  adds-some q = adds-row (with-body p (omega arith) (omega arith) (q .bodied) (λ k. absurd (omega arith)) (λ k. q)) (λ name. rw (first p (q .bodied), part-drop))
 
   -- a `let`
   pub adds-let : start < used → Row-written rows rows′ many (row-word 6 4 0) start 0 r
-      → Adds refs rows rows′ start used many named (row-word 6 4 0) 0 (λ name. Let (getD refs start 0 % 4096) (terms-of-words (words refs (start + 1) used))) r
+      → Adds refs rows rows′ start used many named (row-word 6 4 0) 0 (λ name. Let (getD refs start 0 % 4096) (terms-of-words (part refs (start + 1) used))) r
   unfolding make-node has-groups
-  adds-let q = adds-row (with-body p (omega arith) (omega arith) q (λ k. absurd (omega arith)) (λ k. absurd k)) (λ name. rw (first p q, words-drop))
+  adds-let q = adds-row (with-body p (omega arith) (omega arith) q (λ k. absurd (omega arith)) (λ k. absurd k)) (λ name. rw (first p q, part-drop))
 
 module _ {refs rows : List ℕ} {start many named t under : ℕ} (p : Pushed refs rows start (start + 1) many named) (a : t ≡ getD refs start 0 % 4096) (b : under ≡ bare-of rows t) where
   -- what a `label` has under its run of labels is a term of the table

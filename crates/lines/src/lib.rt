@@ -1,8 +1,9 @@
 ghost use Prim.Native.Nat.{_+_, _*_, _%_, _≤_, _<_};
 ghost use mathlib.Core.Path.{_≡_};
 ghost use lib.ListN.{length, getD};
+ghost use Rattle.model.specs.Lists.{part};
 ghost use Rattle.model.specs.Terms.{FreeV, Leaf, Call, App, Forall, Exists, Let, Labeled};
-ghost use Rattle.terms.specs.Rows.{words, terms-of-words, groups-of-words, op-of-code, bare-of, Rows};
+ghost use Rattle.terms.specs.Rows.{terms-of-words, groups-of-words, op-of-code, bare-of, Rows};
 ghost use Rattle.lines.specs.Additions.{row-word, added, rows-after, pushed, push-answer, Pushed, Patterns, Adds};
 
 // What adding a row or a reference comes to.
@@ -81,7 +82,7 @@ pub fn add_call(
     head: usize,
 ) -> Added
     requires { ⌜ Pushed (now refs) (now rows) start used many named × (head < named) ⌝ }
-    ensures { λ r. ⌜ Adds (now (refs .entry)) (now (rows .entry)) (now (rows .exit)) start used many named (row-word 2 4 head) 0 (λ name. Call (name head) (terms-of-words (words (now (refs .entry)) start used))) r ⌝ }
+    ensures { λ r. ⌜ Adds (now (refs .entry)) (now (rows .entry)) (now (rows .exit)) start used many named (row-word 2 4 head) 0 (λ name. Call (name head) (terms-of-words (part (now (refs .entry)) start used))) r ⌝ }
 {
     add_row(rows, many, 2, 4, head, start, 0)
 }
@@ -97,7 +98,7 @@ pub fn add_op(
     op: usize,
 ) -> Added
     requires { ⌜ Pushed (now refs) (now rows) start used many named × (op < 5) ⌝ }
-    ensures { λ r. ⌜ Adds (now (refs .entry)) (now (rows .entry)) (now (rows .exit)) start used many named (row-word 3 op 0) 0 (λ name. App (op-of-code op) (terms-of-words (words (now (refs .entry)) start used))) r ⌝ }
+    ensures { λ r. ⌜ Adds (now (refs .entry)) (now (rows .entry)) (now (rows .exit)) start used many named (row-word 3 op 0) 0 (λ name. App (op-of-code op) (terms-of-words (part (now (refs .entry)) start used))) r ⌝ }
 {
     add_row(rows, many, 3, op, 0, start, 0)
 }
@@ -113,7 +114,7 @@ pub fn add_all(
     groups: usize,
 ) -> Added
     requires { ⌜ Pushed (now refs) (now rows) start used many named × Patterns (now refs) start used groups × (groups < 65536) ⌝ }
-    ensures { λ r. ⌜ Adds (now (refs .entry)) (now (rows .entry)) (now (rows .exit)) start used many named (row-word 4 4 0) groups (λ name. Forall (getD (now (refs .entry)) start 0 % 4096) (groups-of-words (words (now (refs .entry)) (start + 1) used) groups)) r ⌝ }
+    ensures { λ r. ⌜ Adds (now (refs .entry)) (now (rows .entry)) (now (rows .exit)) start used many named (row-word 4 4 0) groups (λ name. Forall (getD (now (refs .entry)) start 0 % 4096) (groups-of-words (part (now (refs .entry)) (start + 1) used) groups)) r ⌝ }
 {
     add_row(rows, many, 4, 4, 0, start, groups)
 }
@@ -129,7 +130,7 @@ pub fn add_some(
     groups: usize,
 ) -> Added
     requires { ⌜ Pushed (now refs) (now rows) start used many named × Patterns (now refs) start used groups × (groups < 65536) ⌝ }
-    ensures { λ r. ⌜ Adds (now (refs .entry)) (now (rows .entry)) (now (rows .exit)) start used many named (row-word 5 4 0) groups (λ name. Exists (getD (now (refs .entry)) start 0 % 4096) (groups-of-words (words (now (refs .entry)) (start + 1) used) groups)) r ⌝ }
+    ensures { λ r. ⌜ Adds (now (refs .entry)) (now (rows .entry)) (now (rows .exit)) start used many named (row-word 5 4 0) groups (λ name. Exists (getD (now (refs .entry)) start 0 % 4096) (groups-of-words (part (now (refs .entry)) (start + 1) used) groups)) r ⌝ }
 {
     add_row(rows, many, 5, 4, 0, start, groups)
 }
@@ -144,7 +145,7 @@ pub fn add_let(
     named: usize,
 ) -> Added
     requires { ⌜ Pushed (now refs) (now rows) start used many named × (start < used) ⌝ }
-    ensures { λ r. ⌜ Adds (now (refs .entry)) (now (rows .entry)) (now (rows .exit)) start used many named (row-word 6 4 0) 0 (λ name. Let (getD (now (refs .entry)) start 0 % 4096) (terms-of-words (words (now (refs .entry)) (start + 1) used))) r ⌝ }
+    ensures { λ r. ⌜ Adds (now (refs .entry)) (now (rows .entry)) (now (rows .exit)) start used many named (row-word 6 4 0) 0 (λ name. Let (getD (now (refs .entry)) start 0 % 4096) (terms-of-words (part (now (refs .entry)) (start + 1) used))) r ⌝ }
 {
     add_row(rows, many, 6, 4, 0, start, 0)
 }

@@ -1,4 +1,5 @@
 pub mod ListLaws
+pub mod PartLaws
 pub mod SetLaws
 pub mod ResultLaws
 mod Printing

@@ -1,8 +1,9 @@
 -- List functions that the definitions share.
-use Prim.Native.Nat.{ℕ, _+_}
+use Prim.Native.Nat.{ℕ, _+_, _-_}
 use mathlib.Core.Bool.{Bool, true, false, cond, _&&_, _||_}
 use mathlib.Core.List.{List, [], _∷_, _++_}
 use mathlib.Core.Option.{Option, none, some}
+use lib.ListN.{take, drop}
 
 module _ {A : Type 0} where
   -- whether the test holds of some element
@@ -34,6 +35,10 @@ module _ {A : Type 0} where
   unfoldable pub is-nil : List A → Bool
   is-nil [] = true
   is-nil (x ∷ xs) = false
+
+-- the numbers of a list from one place up to another
+abbrev pub part : List ℕ → ℕ → ℕ → List ℕ
+part l a e = take (e - a) (drop a l)
 
 -- the sum of the numbers
 unfoldable pub sum : List ℕ → ℕ

@@ -48,6 +48,10 @@ fitting room (refusal-at r place) = refusal-at r place
 fitting room (list lines seen turns) =
     cond (leb (length lines) room) (list lines seen turns) (refusal-at refusal.Room (length lines))
 
+-- the bytes that a file may have
+abbrev pub most-bytes : ℕ
+most-bytes = 65535
+
 -- the words of a working slice that a call uses
 unfoldable pub working-words : ℕ
 working-words = 16384
@@ -57,7 +61,7 @@ unfoldable pub outcome : List ℕ → List ℕ → ℕ → Outcome
 outcome file works room =
     let answered = fitting room (of-reading (read-file exclude-names file)) in
     cond (any (λ n. ltb n working-words) works) (refusal-at refusal.Working 0)
-    (cond (ltb 65535 (length file)) (refusal-at refusal.Size 0) answered)
+    (cond (ltb most-bytes (length file)) (refusal-at refusal.Size 0) answered)
 
 -- the answer's fields: a refused one has every count 0
 unfoldable pub answer : Outcome → Answer

@@ -334,15 +334,34 @@ uses-of Sum-retain = 0
 unfoldable pub spell : List Name → Name → List Name
 spell names name = cond (mem name names) names (names ++ (name ∷ []))
 
+-- the limits of document 01, by what is counted
+abbrev pub most-names : ℕ
+most-names = 2048
+
+abbrev pub most-terms : ℕ
+most-terms = 4096
+
+abbrev pub most-references : ℕ
+most-references = 16384
+
+abbrev pub most-records : ℕ
+most-records = 1024
+
+abbrev pub most-entries : ℕ
+most-entries = 2048
+
+abbrev pub most-uses : ℕ
+most-uses = 6144
+
 -- each limit but the file's bytes: what is counted, how much of it may be, and the refusal
 unfoldable pub limits : State → List (ℕ × ℕ × Refusal)
 limits s =
-    (length (s .names), 2048, refusal.Limit)
-    ∷ (length (s .terms), 4096, refusal.Limit)
-    ∷ (s .references, 16384, refusal.Limit)
-    ∷ (length (s .decls) + length (s .roots), 1024, refusal.Limit)
-    ∷ (s .entries, 2048, refusal.Limit)
-    ∷ (s .uses, 6144, refusal.Limit)
+    (length (s .names), most-names, refusal.Limit)
+    ∷ (length (s .terms), most-terms, refusal.Limit)
+    ∷ (s .references, most-references, refusal.Limit)
+    ∷ (length (s .decls) + length (s .roots), most-records, refusal.Limit)
+    ∷ (s .entries, most-entries, refusal.Limit)
+    ∷ (s .uses, most-uses, refusal.Limit)
     ∷ []
 
 -- the value where no limit is passed, else the refusal of the first that is

@@ -66,3 +66,35 @@ pub enum Order {
     Same,
     After,
 }
+
+// The limits of document 01: the bytes of a file, and what its lines may hold of each sort.
+pub const MOST_BYTES: usize = 65535;
+
+pub const MOST_NAMES: usize = 2048;
+
+pub const MOST_TERMS: usize = 4096;
+
+pub const MOST_REFERENCES: usize = 16384;
+
+pub const MOST_RECORDS: usize = 1024;
+
+pub const MOST_ENTRIES: usize = 2048;
+
+pub const MOST_USES: usize = 6144;
+
+// The words of a working slice that a call uses.
+pub const WORKING_WORDS: usize = 16384;
+
+// How much of the tables the lines read so far fill: names, references, terms, records, trigger entries, name uses; the next
+// mark; and the ask.
+pub struct Counts {
+    pub named: usize,
+    pub used: usize,
+    pub many: usize,
+    pub records: usize,
+    pub entries: usize,
+    pub uses: usize,
+    pub mark: usize,
+    pub query: usize,
+    pub options: usize,
+}

@@ -128,10 +128,10 @@ code-bound n = ⊎-elim (λ z. omega arith) (λ (l, r). omega (arith, known-leng
 -- ---- a table whose first four columns stay
 
 -- a slice with the same words below 8192: its table, its names, and the name of each number are those of the first
-pub record Kept (file w w′ : List ℕ) (many : ℕ) : Type 0 where
-  pub table : Table file w′ many
-  pub names : names-of file w′ many ≡ names-of file w many
-  pub name : (n : ℕ) → n < many → name-of file w′ n ≡ name-of file w n
+pub record Kept (file w w′ : List ℕ) (named : ℕ) : Type 0 where
+  pub table : Table file w′ named
+  pub names : names-of file w′ named ≡ names-of file w named
+  pub name : (n : ℕ) → n < named → name-of file w′ n ≡ name-of file w n
 
 module _ (file w w′ : List ℕ) (words : (i : ℕ) → i < 8192 → getD w′ i 0 ≡ getD w i 0) where
   -- the name of a number stays
@@ -146,12 +146,12 @@ module _ (file w w′ : List ℕ) (words : (i : ℕ) → i < 8192 → getD w′ 
   names-stay (suc k) h = rw (names-stay k (omega arith), name-stays k (omega arith))
 
 -- a slice as long, with the same words below 8192, is a table of the same names
-pub table-kept : {file w w′ : List ℕ} {many : ℕ} → Table file w many → length w′ ≡ length w → ((i : ℕ) → i < 8192 → getD w′ i 0 ≡ getD w i 0)
-    → Kept file w w′ many
-table-kept {file} {w} {w′} {many} table size words =
+pub table-kept : {file w w′ : List ℕ} {named : ℕ} → Table file w named → length w′ ≡ length w → ((i : ℕ) → i < 8192 → getD w′ i 0 ≡ getD w i 0)
+    → Kept file w w′ named
+table-kept {file} {w} {w′} {named} table size words =
     let few = table .few in
-    let rank : (r : ℕ) → r < many → getD w′ (4096 + r) 0 ≡ getD w (4096 + r) 0 = λ r h. words (4096 + r) (omega arith) in
-    let name : (n : ℕ) → n < many → name-of file w′ n ≡ name-of file w n = λ n h. name-stays file w w′ words n (omega arith) in
+    let rank : (r : ℕ) → r < named → getD w′ (4096 + r) 0 ≡ getD w (4096 + r) 0 = λ r h. words (4096 + r) (omega arith) in
+    let name : (n : ℕ) → n < named → name-of file w′ n ≡ name-of file w n = λ n h. name-stays file w w′ words n (omega arith) in
     record {
       table = record {
         room = rw size (table .room);
@@ -165,6 +165,6 @@ table-kept {file} {w} {w′} {many} table size words =
             (table .ascending r q h l);
         codes = λ n h. rw (words (6144 + n) (omega arith), name n h) (table .codes n h);
       };
-      names = names-stay file w w′ words many few;
+      names = names-stay file w w′ words named few;
       name = name;
     }

@@ -5,11 +5,12 @@ use mathlib.Core.Bool.{true, false}
 use mathlib.Core.List.{List, [], _∷_}
 use lib.ListN.{length}
 use borrow.Author.Tests.{lt-leb}
+use Rattle.model.specs.Lists.{part}
 use Rattle.model.specs.Lines.{Field}
 use Rattle.model.specs.Names.{Name, same}
 use Rattle.model.specs.Reading.{ok, next}
 use Rattle.text.specs.declared.Cursor.{Cursor}
-use Rattle.text.specs.Parts.{part, mark-at, fields-left, field-result}
+use Rattle.text.specs.Parts.{mark-at, fields-left, field-result}
 use Rattle.text.proofs.Laws.{field-some, field-law}
 use Rattle.names.specs.Known.{code-from}
 

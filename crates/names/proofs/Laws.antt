@@ -11,13 +11,12 @@ use mathlib.Core.Option.{none, some}
 use lib.ListN.{length, getD, length-append}
 use lib.Dec.{T, not-T, ltb}
 use borrow.Author.Tests.{ltb-true, ltb-false}
-use Rattle.model.specs.Lists.{any, count}
+use Rattle.model.specs.Lists.{any, count, part}
 use Rattle.model.specs.Names.{Name, order, same, mem, add-by, add}
 use Rattle.model.specs.declared.Order.{Order}
 use Rattle.model.specs.declared.Order.the-variants.{Before, After}
 use Rattle.model.proofs.ListLaws.{T-true, T-false, any-append, count-append}
 use Rattle.model.proofs.SetLaws.{order-flip, order-trans, order-irrefl, Compared, first, equal, second, compared, same-refl, same-eq, mem-cons, mem-first, mem-later, mem-append, add-mem, Ascending, empty, one, ascending-tail, ascending-head, ascending-cons, ascending-add, ascending-ext}
-use Rattle.text.specs.Parts.{part}
 use Rattle.names.specs.declared.Found.{Found}
 use Rattle.names.specs.declared.Found.the-variants.{At, Missing}
 use Rattle.names.specs.Table.{name-of, ranked, names-of, Table, place-from, is-before, rank-among, found-or, look-up}
@@ -58,7 +57,7 @@ unfoldable pub listed : (ℕ → Name) → ℕ → List Name
 listed f zero = []
 listed f (suc k) = listed f k ++ (f k ∷ [])
 
--- there are as many as asked for
+-- there are as named as asked for
 pub listed-length : (f : ℕ → Name) (k : ℕ) → length (listed f k) ≡ k
 unfolding listed
 listed-length f zero = refl
@@ -118,7 +117,7 @@ count-cons test n l = go (test n) (count test l)
     go true r = refl
     go false r = omega arith
 
--- values of which the test holds up to one, and from there on fails, count as many as that one
+-- values of which the test holds up to one, and from there on fails, count as named as that one
 pub listed-count : (test : Name → Bool) (f : ℕ → Name) (low k : ℕ) → low ≤ k
     → ((n : ℕ) → n < low → test (f n) ≡ true)
     → ((n : ℕ) → low ≤ n → n < k → test (f n) ≡ false)
@@ -255,10 +254,10 @@ sought f (suc k) name up = go (sought f k name (λ r q h l. up r q h (omega arit
 -- ---- a table of names
 
 -- the names are the names of the numbers
-names-listed : (file w : List ℕ) (many : ℕ) → names-of file w many ≡ listed (name-of file w) many
+names-listed : (file w : List ℕ) (named : ℕ) → names-of file w named ≡ listed (name-of file w) named
 unfolding names-of listed
 names-listed file w zero = refl
-names-listed file w (suc many) = rw (names-listed file w many)
+names-listed file w (suc named) = rw (names-listed file w named)
 
 -- the name at a rank
 abbrev pub name-at : List ℕ → List ℕ → ℕ → Name
@@ -266,19 +265,19 @@ name-at file w r = name-of file w (ranked w r)
 
 -- the names in the order of the index
 unfoldable pub index-names : List ℕ → List ℕ → ℕ → List Name
-index-names file w many = listed (name-at file w) many
+index-names file w named = listed (name-at file w) named
 
--- there are as many names as numbers
-pub names-length : (file w : List ℕ) (many : ℕ) → length (names-of file w many) ≡ many
-names-length file w many = rw (names-listed file w many) (listed-length (name-of file w) many)
+-- there are as named names as numbers
+pub names-length : (file w : List ℕ) (named : ℕ) → length (names-of file w named) ≡ named
+names-length file w named = rw (names-listed file w named) (listed-length (name-of file w) named)
 
 -- the name of a number is among the names
-pub names-intro : (file w : List ℕ) (many n : ℕ) → n < many → T (mem (name-of file w n) (names-of file w many))
-names-intro file w many n h = rw (names-listed file w many) (listed-intro (name-of file w) many n h)
+pub names-intro : (file w : List ℕ) (named n : ℕ) → n < named → T (mem (name-of file w n) (names-of file w named))
+names-intro file w named n h = rw (names-listed file w named) (listed-intro (name-of file w) named n h)
 
 -- what is among the names is the name of a number
-pub names-elim : (file w : List ℕ) (many : ℕ) (name : Name) → T (mem name (names-of file w many)) → (n : ℕ) × (n < many) × (name ≡ name-of file w n)
-names-elim file w many name t = listed-elim (name-of file w) many name (rw (names-listed file w many) at t)
+pub names-elim : (file w : List ℕ) (named : ℕ) (name : Name) → T (mem name (names-of file w named)) → (n : ℕ) × (n < named) × (name ≡ name-of file w n)
+names-elim file w named name t = listed-elim (name-of file w) named name (rw (names-listed file w named) at t)
 
 -- the part of the file that a row says is the name of its number
 pub name-row : (file w : List ℕ) (n start size : ℕ) → start ≡ getD w n 0 → size ≡ getD w (2048 + n) 0
@@ -297,15 +296,15 @@ pub met : (file w : List ℕ) (m n : ℕ) (name : Name) (r o : Order) → n ≡ 
 met file w m n name r o p q t = rw (← p) (sym q ∙ t)
 
 -- a name that a table lacks: the names at the ranks below one stand before it, and the others after it
-pub record Lacks (file w : List ℕ) (many : ℕ) (name : Name) (rank : ℕ) : Type 0 where
-  pub within : rank ≤ many
+pub record Lacks (file w : List ℕ) (named : ℕ) (name : Name) (rank : ℕ) : Type 0 where
+  pub within : rank ≤ named
   pub below : (q : ℕ) → q < rank → order (name-at file w q) name ≡ Before
-  pub above : (q : ℕ) → rank ≤ q → q < many → order (name-at file w q) name ≡ After
-  pub absent : T (mem name (names-of file w many)) → ⊥
+  pub above : (q : ℕ) → rank ≤ q → q < named → order (name-at file w q) name ≡ After
+  pub absent : T (mem name (names-of file w named)) → ⊥
 
-module _ {file w : List ℕ} {many : ℕ} (table : Table file w many) where
+module _ {file w : List ℕ} {named : ℕ} (table : Table file w named) where
   -- two ranks with one number are one
-  same-rank : (r q : ℕ) → r < many → q < many → name-at file w r ≡ name-at file w q → r ≡ q
+  same-rank : (r q : ℕ) → r < named → q < named → name-at file w r ≡ name-at file w q → r ≡ q
   same-rank r q h l e = go (stands r q)
     where
       go : Stands r q → r ≡ q
@@ -314,37 +313,37 @@ module _ {file w : List ℕ} {many : ℕ} (table : Table file w many) where
       go (over k) = absurd (order-irrefl (table .ascending q r k h) (sym e))
 
   -- two numbers with one name are one
-  pub distinct : (n m : ℕ) → n < many → m < many → name-of file w n ≡ name-of file w m → n ≡ m
+  pub distinct : (n m : ℕ) → n < named → m < named → name-of file w n ≡ name-of file w m → n ≡ m
   distinct n m h l e =
       let (r, k, d) = table .each n h in
       let (q, i, c) = table .each m l in
       sym d ∙ ap (ranked w) (same-rank r q k i (rw (d, c) e)) ∙ c
 
   -- no name comes twice
-  apart : (n m : ℕ) → n < m → m < many → name-of file w n ≡ name-of file w m → ⊥
+  apart : (n m : ℕ) → n < m → m < named → name-of file w n ≡ name-of file w m → ⊥
   apart n m h l e = omega (arith, distinct n m (omega arith) l e)
 
   -- the names in the order of the index are a set
-  pub index-ascending : Ascending (index-names file w many)
+  pub index-ascending : Ascending (index-names file w named)
   unfolding index-names
-  index-ascending = listed-ascending (name-at file w) many (table .ascending)
+  index-ascending = listed-ascending (name-at file w) named (table .ascending)
 
   -- with the members of the names
-  pub index-members : (name : Name) → T (mem name (names-of file w many)) ↔ T (mem name (index-names file w many))
+  pub index-members : (name : Name) → T (mem name (names-of file w named)) ↔ T (mem name (index-names file w named))
   unfolding index-names
   index-members name = (
-    λ t. let (n, h, e) = names-elim file w many name t in let (r, l, d) = table .each n h in rw (e, ← d) (listed-intro (name-at file w) many r l),
-    λ t. let (r, h, e) = listed-elim (name-at file w) many name t in rw e (names-intro file w many (ranked w r) (table .numbers r h)),
+    λ t. let (n, h, e) = names-elim file w named name t in let (r, l, d) = table .each n h in rw (e, ← d) (listed-intro (name-at file w) named r l),
+    λ t. let (r, h, e) = listed-elim (name-at file w) named name t in rw e (names-intro file w named (ranked w r) (table .numbers r h)),
   )
 
   -- where a rank's name stands before a name, those of the lower ranks do
-  pub all-before : (m : ℕ) (name : Name) → m < many → order (name-at file w m) name ≡ Before
+  pub all-before : (m : ℕ) (name : Name) → m < named → order (name-at file w m) name ≡ Before
       → (q : ℕ) → q < m + 1 → order (name-at file w q) name ≡ Before
   all-before m name h p q l =
       ⊎-elim (λ e. rw e p) (λ k. order-trans (name-at file w q) (name-at file w m) name (table .ascending q m k h) p) (last-or m (omega arith))
 
   -- where a rank's name stands after a name, those of the higher ranks do
-  pub all-after : (m : ℕ) (name : Name) → order (name-at file w m) name ≡ After → (q : ℕ) → m ≤ q → q < many → order (name-at file w q) name ≡ After
+  pub all-after : (m : ℕ) (name : Name) → order (name-at file w m) name ≡ After → (q : ℕ) → m ≤ q → q < named → order (name-at file w q) name ≡ After
   all-after m name p q l k =
       ⊎-elim
       (λ e. rw (← e) p)
@@ -354,17 +353,17 @@ module _ {file w : List ℕ} {many : ℕ} (table : Table file w many) where
       (eq-or-lt-of-le l)
 
   -- a name that stands at a rank is found there
-  pub look-up-at : (r : ℕ) (name : Name) → r < many → name-at file w r ≡ name → look-up (names-of file w many) name ≡ At (ranked w r)
+  pub look-up-at : (r : ℕ) (name : Name) → r < named → name-at file w r ≡ name → look-up (names-of file w named) name ≡ At (ranked w r)
   unfolding look-up found-or
-  look-up-at r name h e = rw (← e, names-listed file w many, listed-place (name-of file w) many (ranked w r) apart (table .numbers r h))
+  look-up-at r name h e = rw (← e, names-listed file w named, listed-place (name-of file w) named (ranked w r) apart (table .numbers r h))
 
   -- a name that no rank has is not among the names
   not-among : (low : ℕ) (name : Name)
       → ((q : ℕ) → q < low → order (name-at file w q) name ≡ Before)
-      → ((q : ℕ) → low ≤ q → q < many → order (name-at file w q) name ≡ After)
-      → T (mem name (names-of file w many)) → ⊥
+      → ((q : ℕ) → low ≤ q → q < named → order (name-at file w q) name ≡ After)
+      → T (mem name (names-of file w named)) → ⊥
   not-among low name b a t =
-      let (n, h, e) = names-elim file w many name t in
+      let (n, h, e) = names-elim file w named name t in
       let (r, l, d) = table .each n h in
       let same : name-at file w r ≡ name = ap (name-of file w) d ∙ sym e in
       ⊎-elim
@@ -373,22 +372,22 @@ module _ {file w : List ℕ} {many : ℕ} (table : Table file w many) where
       (below-or low r)
 
   -- a name before which each rank below one stands, and after which each other, is missing there
-  pub look-up-missing : (low : ℕ) (name : Name) → low ≤ many → ((q : ℕ) → q < low → order (name-at file w q) name ≡ Before)
-      → ((q : ℕ) → low ≤ q → q < many → order (name-at file w q) name ≡ After) → look-up (names-of file w many) name ≡ Missing low
+  pub look-up-missing : (low : ℕ) (name : Name) → low ≤ named → ((q : ℕ) → q < low → order (name-at file w q) name ≡ Before)
+      → ((q : ℕ) → low ≤ q → q < named → order (name-at file w q) name ≡ After) → look-up (names-of file w named) name ≡ Missing low
   unfolding look-up found-or rank-among is-before index-names
   look-up-missing low name h b a =
       let test : Name → Bool = λ m. is-before (order m name) in
-      let n : count test (names-of file w many) ≡ low =
-      ap (count test) (names-listed file w many)
-      ∙ listed-recount test (name-of file w) (name-at file w) many apart index-ascending (λ m. rw (names-listed file w many) at (index-members m))
-      ∙ listed-count test (name-at file w) low many h (λ q l. rw (b q l)) (λ q l k. rw (a q l k)) in
-      rw (place-none 0 (names-of file w many) name (not-among low name b a), n)
+      let n : count test (names-of file w named) ≡ low =
+      ap (count test) (names-listed file w named)
+      ∙ listed-recount test (name-of file w) (name-at file w) named apart index-ascending (λ m. rw (names-listed file w named) at (index-members m))
+      ∙ listed-count test (name-at file w) low named h (λ q l. rw (b q l)) (λ q l k. rw (a q l k)) in
+      rw (place-none 0 (names-of file w named) name (not-among low name b a), n)
 
   -- a name that is found has that number
-  pub found-at : (name : Name) (n : ℕ) → look-up (names-of file w many) name ≡ At n → (n < many) × (name-of file w n ≡ name)
-  found-at name n h = go (sought (name-at file w) many name (table .ascending))
+  pub found-at : (name : Name) (n : ℕ) → look-up (names-of file w named) name ≡ At n → (n < named) × (name-of file w n ≡ name)
+  found-at name n h = go (sought (name-at file w) named name (table .ascending))
     where
-      go : Sought (name-at file w) many name → (n < many) × (name-of file w n ≡ name)
+      go : Sought (name-at file w) named name → (n < named) × (name-of file w n ≡ name)
       go (here r l e) =
           let a = look-up-at r name l e in
           let d : ranked w r ≡ n = cc in
@@ -399,10 +398,10 @@ module _ {file w : List ℕ} {many : ℕ} (table : Table file w many) where
           absurd (omega arith)
 
   -- a name that is missing belongs at that rank
-  pub found-missing : (name : Name) (rank : ℕ) → look-up (names-of file w many) name ≡ Missing rank → Lacks file w many name rank
-  found-missing name rank h = go (sought (name-at file w) many name (table .ascending))
+  pub found-missing : (name : Name) (rank : ℕ) → look-up (names-of file w named) name ≡ Missing rank → Lacks file w named name rank
+  found-missing name rank h = go (sought (name-at file w) named name (table .ascending))
     where
-      go : Sought (name-at file w) many name → Lacks file w many name rank
+      go : Sought (name-at file w) named name → Lacks file w named name rank
       go (here r l e) =
           let a = look-up-at r name l e in
           let z : _≡_ {A = ℕ} 0 1 = cc in
@@ -410,11 +409,11 @@ module _ {file w : List ℕ} {many : ℕ} (table : Table file w many) where
       go (between low l b a) =
           let m = look-up-missing low name l b a in
           let d : low ≡ rank = cc in
-          let lacks : Lacks file w many name low = record { within = l; below = b; above = a; absent = not-among low name b a } in
+          let lacks : Lacks file w named name low = record { within = l; below = b; above = a; absent = not-among low name b a } in
           rw d at lacks
 
   -- the rank that is answered is at most the count
-  pub missing-within : (name : Name) (rank : ℕ) (x : Found) → x ≡ look-up (names-of file w many) name → x ≡ Missing rank → rank ≤ many
+  pub missing-within : (name : Name) (rank : ℕ) (x : Found) → x ≡ look-up (names-of file w named) name → x ≡ Missing rank → rank ≤ named
   missing-within name rank x p q = found-missing name rank (sym p ∙ q) .within
 
 -- a slice with room, and no names

@@ -6,11 +6,10 @@ use mathlib.Core.Bool.{Bool, true, false, cond}
 use mathlib.Core.List.{List, [], _∷_, _++_}
 use mathlib.Core.Option.{Option, none, some}
 use lib.ListN.{length, take, drop, getD, set}
-use Rattle.model.specs.Lists.{count}
+use Rattle.model.specs.Lists.{count, part}
 use Rattle.model.specs.Names.{Name, order, same}
 use Rattle.model.specs.declared.Order.{Order}
 use Rattle.model.specs.declared.Order.the-variants.{Before, Same, After}
-use Rattle.text.specs.Parts.{part}
 use Rattle.names.specs.Known.{head-code}
 use lib.Dec.{ltb}
 use Rattle.names.specs.declared.Found.{Found}
@@ -26,25 +25,25 @@ name-of file w n = part file (getD w n 0) (getD w n 0 + getD w (2048 + n) 0)
 abbrev pub ranked : List ℕ → ℕ → ℕ
 ranked w r = getD w (4096 + r) 0
 
--- the names of a table with `many` names, by number
+-- the names of a table with `named` names, by number
 unfoldable pub names-of : List ℕ → List ℕ → ℕ → List Name
 names-of file w zero = []
-names-of file w (suc many) = names-of file w many ++ (name-of file w many ∷ [])
+names-of file w (suc named) = names-of file w named ++ (name-of file w named ∷ [])
 
--- a table of `many` names of the file
-pub record Table (file w : List ℕ) (many : ℕ) : Type 0 where
+-- a table of `named` names of the file
+pub record Table (file w : List ℕ) (named : ℕ) : Type 0 where
   pub room : 16384 ≤ length w
   pub short : length file ≤ 65535
-  pub few : many ≤ 2048
+  pub few : named ≤ 2048
   -- each row is a part of the file
-  pub inside : (n : ℕ) → n < many → getD w n 0 + getD w (2048 + n) 0 ≤ length file
+  pub inside : (n : ℕ) → n < named → getD w n 0 + getD w (2048 + n) 0 ≤ length file
   -- the index lists numbers, each of them, and their names in ascending order
-  pub numbers : (r : ℕ) → r < many → ranked w r < many
-  pub each : (n : ℕ) → n < many → (r : ℕ) × (r < many) × (ranked w r ≡ n)
-  pub ascending : (r q : ℕ) → r < q → q < many
+  pub numbers : (r : ℕ) → r < named → ranked w r < named
+  pub each : (n : ℕ) → n < named → (r : ℕ) × (r < named) × (ranked w r ≡ n)
+  pub ascending : (r q : ℕ) → r < q → q < named
       → order (name-of file w (ranked w r)) (name-of file w (ranked w q)) ≡ Before
   -- the head codes
-  pub codes : (n : ℕ) → n < many → getD w (6144 + n) 0 ≡ head-code (name-of file w n)
+  pub codes : (n : ℕ) → n < named → getD w (6144 + n) 0 ≡ head-code (name-of file w n)
 
 -- the place of the first equal name in a list that starts at place n
 unfoldable pub place-from : ℕ → List Name → Name → Option ℕ
@@ -57,7 +56,7 @@ is-before Before = true
 is-before Same = false
 is-before After = false
 
--- where a name belongs in byte order: how many names stand before it
+-- where a name belongs in byte order: how named names stand before it
 unfoldable pub rank-among : List Name → Name → ℕ
 rank-among names name = count (λ m. is-before (order m name)) names
 
@@ -70,24 +69,24 @@ found-or (some n) rank = found.At n
 unfoldable pub look-up : List Name → Name → Found
 look-up names name = found-or (place-from 0 names name) (rank-among names name)
 
--- the slice with the number `many` put into the index at a rank, the later ranks moved up by one
+-- the slice with the number `named` put into the index at a rank, the later ranks moved up by one
 unfoldable pub index-with : List ℕ → ℕ → ℕ → List ℕ
-index-with w many rank =
+index-with w named rank =
     take (4096 + rank) w
-    ++ (many ∷ take (many - rank) (drop (4096 + rank) w))
-    ++ drop (4096 + many + 1) w
+    ++ (named ∷ take (named - rank) (drop (4096 + rank) w))
+    ++ drop (4096 + named + 1) w
 
 -- the slice with one name more: its row, its head code, its place in the index; nothing else changes
 unfoldable pub entered : List ℕ → List ℕ → ℕ → ℕ → ℕ → ℕ → List ℕ
-entered file w many a e rank =
-    set (set (set (index-with w many rank) many a) (2048 + many) (e - a)) (6144 + many) (head-code (part file a e))
+entered file w named a e rank =
+    set (set (set (index-with w named rank) named a) (2048 + named) (e - a)) (6144 + named) (head-code (part file a e))
 
 -- what spelling a name comes to, by what the look-up found: at 2,048 names the table is full
 unfoldable pub spell-answer : ℕ → Found → Spelled
-spell-answer many (found.At n) = spelled.Known n
-spell-answer many (found.Missing rank) = cond (ltb many 2048) (spelled.New many) spelled.Full
+spell-answer named (found.At n) = spelled.Known n
+spell-answer named (found.Missing rank) = cond (ltb named 2048) (spelled.New named) spelled.Full
 
 -- the slice then: only a new name changes it, and a full table changes nothing
 unfoldable pub spell-table : List ℕ → List ℕ → ℕ → ℕ → ℕ → Found → List ℕ
-spell-table file w many a e (found.At n) = w
-spell-table file w many a e (found.Missing rank) = cond (ltb many 2048) (entered file w many a e rank) w
+spell-table file w named a e (found.At n) = w
+spell-table file w named a e (found.Missing rank) = cond (ltb named 2048) (entered file w named a e rank) w

@@ -2,8 +2,8 @@ use model::Order;
 ghost use Prim.Native.Nat.{_+_, _≤_, _<_};
 ghost use mathlib.Core.Path.{_≡_};
 ghost use lib.ListN.{length, getD};
+ghost use Rattle.model.specs.Lists.{part};
 ghost use Rattle.model.specs.Names.{order};
-ghost use Rattle.text.specs.Parts.{part};
 ghost use Rattle.names.specs.Known.{head-code};
 ghost use Rattle.names.specs.Table.{Table, name-of, names-of, look-up, index-with, spell-answer, spell-table};
 
@@ -54,12 +54,12 @@ fn compare(file: &[u8], w: &[u32], n: usize, a: usize, e: usize) -> Order
 }
 
 // The number of the name from `a` up to `e`, or the rank where it belongs: a binary search in the byte-order index.
-pub fn look_up(file: &[u8], w: &[u32], many: usize, a: usize, e: usize) -> Found
-    requires { ⌜ Table (now file) (now w) many × (a ≤ e) × (e ≤ length (now file)) ⌝ }
-    ensures { λ r. ⌜ r ≡ look-up (names-of (now (file .entry)) (now (w .entry)) many) (part (now (file .entry)) a e) ⌝ }
+pub fn look_up(file: &[u8], w: &[u32], named: usize, a: usize, e: usize) -> Found
+    requires { ⌜ Table (now file) (now w) named × (a ≤ e) × (e ≤ length (now file)) ⌝ }
+    ensures { λ r. ⌜ r ≡ look-up (names-of (now (file .entry)) (now (w .entry)) named) (part (now (file .entry)) a e) ⌝ }
 {
     let mut low: usize = 0;
-    let mut high = many;
+    let mut high = named;
     while low < high {
         let middle = low + (high - low) / 2;
         let n = words::at(w, 4096 + middle);
@@ -78,50 +78,50 @@ pub fn look_up(file: &[u8], w: &[u32], many: usize, a: usize, e: usize) -> Found
     Found::Missing(low)
 }
 
-// Spells the name from `a` up to `e`: a new one takes the number `many`, unless the table is full.
-pub fn spell(file: &[u8], w: &mut [u32], many: usize, a: usize, e: usize) -> Spelled
-    requires { ⌜ Table (now file) (now w) many × (a ≤ e) × (e ≤ length (now file)) ⌝ }
-    ensures answer { λ r. ⌜ r ≡ spell-answer many (look-up (names-of (now (file .entry)) (now (w .entry)) many) (part (now (file .entry)) a e)) ⌝ }
-    ensures table { λ r. ⌜ now (w .exit) ≡ spell-table (now (file .entry)) (now (w .entry)) many a e (look-up (names-of (now (file .entry)) (now (w .entry)) many) (part (now (file .entry)) a e)) ⌝ }
+// Spells the name from `a` up to `e`: a new one takes the number `named`, unless the table is full.
+pub fn spell(file: &[u8], w: &mut [u32], named: usize, a: usize, e: usize) -> Spelled
+    requires { ⌜ Table (now file) (now w) named × (a ≤ e) × (e ≤ length (now file)) ⌝ }
+    ensures answer { λ r. ⌜ r ≡ spell-answer named (look-up (names-of (now (file .entry)) (now (w .entry)) named) (part (now (file .entry)) a e)) ⌝ }
+    ensures table { λ r. ⌜ now (w .exit) ≡ spell-table (now (file .entry)) (now (w .entry)) named a e (look-up (names-of (now (file .entry)) (now (w .entry)) named) (part (now (file .entry)) a e)) ⌝ }
 {
-    match look_up(file, w, many, a, e) {
+    match look_up(file, w, named, a, e) {
         Found::At(n) => Spelled::Known(n),
-        Found::Missing(rank) => enter(file, w, many, a, e, rank),
+        Found::Missing(rank) => enter(file, w, named, a, e, rank),
     }
 }
 
-// Enters the name from `a` up to `e`, which belongs at a rank: it takes the number `many`, unless the table is full.
-fn enter(file: &[u8], w: &mut [u32], many: usize, a: usize, e: usize, rank: usize) -> Spelled
-    requires { ⌜ Table (now file) (now w) many × (a ≤ e) × (e ≤ length (now file)) × (rank ≤ many) ⌝ }
-    ensures answer { λ r. ⌜ r ≡ spell-answer many (Found.Missing rank) ⌝ }
-    ensures table { λ r. ⌜ now (w .exit) ≡ spell-table (now (file .entry)) (now (w .entry)) many a e (Found.Missing rank) ⌝ }
+// Enters the name from `a` up to `e`, which belongs at a rank: it takes the number `named`, unless the table is full.
+fn enter(file: &[u8], w: &mut [u32], named: usize, a: usize, e: usize, rank: usize) -> Spelled
+    requires { ⌜ Table (now file) (now w) named × (a ≤ e) × (e ≤ length (now file)) × (rank ≤ named) ⌝ }
+    ensures answer { λ r. ⌜ r ≡ spell-answer named (Found.Missing rank) ⌝ }
+    ensures table { λ r. ⌜ now (w .exit) ≡ spell-table (now (file .entry)) (now (w .entry)) named a e (Found.Missing rank) ⌝ }
 {
-    if 2048 <= many {
+    if model::MOST_NAMES <= named {
         return Spelled::Full;
     }
-    put_index(w, many, rank);
-    w[many] = a as u32;
-    w[2048 + many] = (e - a) as u32;
-    w[6144 + many] = head_code(file, a, e);
-    Spelled::New(many)
+    put_index(w, named, rank);
+    w[named] = a as u32;
+    w[2048 + named] = (e - a) as u32;
+    w[6144 + named] = head_code(file, a, e);
+    Spelled::New(named)
 }
 
-// Puts the number `many` into the byte-order index at a rank, the later ranks moved up by one.
-fn put_index(w: &mut [u32], many: usize, rank: usize)
-    requires { ⌜ (rank ≤ many) × (many < 2048) × (16384 ≤ length (now w)) ⌝ }
-    ensures { λ r. ⌜ now (w .exit) ≡ index-with (now (w .entry)) many rank ⌝ }
+// Puts the number `named` into the byte-order index at a rank, the later ranks moved up by one.
+fn put_index(w: &mut [u32], named: usize, rank: usize)
+    requires { ⌜ (rank ≤ named) × (named < 2048) × (16384 ≤ length (now w)) ⌝ }
+    ensures { λ r. ⌜ now (w .exit) ≡ index-with (now (w .entry)) named rank ⌝ }
 {
-    let mut i = many;
+    let mut i = named;
     while rank < i {
         w[4096 + i] = w[4096 + i - 1];
         i -= 1;
     }
-    w[4096 + rank] = many as u32;
+    w[4096 + rank] = named as u32;
 }
 
 // The part of the file that holds a name's bytes.
-pub fn name_part<'a>(file: &'a [u8], w: &[u32], many: usize, n: usize) -> &'a [u8]
-    requires { ⌜ Table (now file) (now w) many × (n < many) ⌝ }
+pub fn name_part<'a>(file: &'a [u8], w: &[u32], named: usize, n: usize) -> &'a [u8]
+    requires { ⌜ Table (now file) (now w) named × (n < named) ⌝ }
     ensures { λ r. ⌜ now r ≡ name-of (now (file .entry)) (now (w .entry)) n ⌝ }
 {
     let start = words::at(w, n);

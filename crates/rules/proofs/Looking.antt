@@ -7,9 +7,9 @@ use mathlib.Core.List.{List}
 use lib.ListN.{length, getD}
 use lib.Dec.{T, eqb}
 use borrow.Author.Tests.{eq-eqb, ne-eqb}
+use Rattle.model.specs.Lists.{part}
 use Rattle.model.specs.Names.{Name, starts-with}
 use Rattle.model.proofs.ListLaws.{true-T}
-use Rattle.text.specs.Parts.{part}
 use Rattle.names.specs.Table.{name-of}
 use Rattle.terms.specs.Rows.{row-kind, row-op, row-head, row-start, row-end, has-head, Rows}
 use Rattle.rules.specs.declared.Argument.the-variants as argument

@@ -10,7 +10,7 @@ use mathlib.Core.List.{List, [], map}
 use lib.ListN.{length, getD}
 use lib.Dec.{T, eqb, eqb→eq}
 use borrow.Author.Tests.{eq-eqb, ne-eqb, eqb-true}
-use Rattle.model.specs.Lists.{holds, or-else, when, is-nil, _>>=_}
+use Rattle.model.specs.Lists.{holds, or-else, when, is-nil, _>>=_, part}
 use Rattle.model.specs.Names.{Name, bytes, same}
 use Rattle.model.specs.Terms.{term}
 use Rattle.model.specs.Summaries.{common-names, exclude-names, token, at, free-of, call-of, op-of, op-number, one, two, op-args, call-args, call-one, call-two, head}
@@ -18,12 +18,13 @@ use Rattle.model.specs.declared.Op.{Op}
 use Rattle.model.specs.declared.Op.the-variants.{TrueOp, Iff, Eq, And}
 use Rattle.model.proofs.ListLaws.{T-ext, true-T}
 use Rattle.model.proofs.SetLaws.{same-refl, same-eq, same-sym}
+use Rattle.model.proofs.PartLaws.{part-cons, part-nil}
 use Rattle.names.specs.Known.{known-names, head-code}
 use Rattle.names.specs.Table.{name-of}
 use Rattle.names.proofs.Coded.{code-exact}
-use Rattle.terms.specs.Rows.{row-kind, row-op, row-head, row-start, row-end, words, terms-of-words, op-of-code, make-node, node-of, has-head, Rows}
+use Rattle.terms.specs.Rows.{row-kind, row-op, row-head, row-start, row-end, terms-of-words, op-of-code, make-node, node-of, has-head, Rows}
 use Rattle.terms.proofs.Laws.{equal}
-use Rattle.terms.proofs.Table.{words-cons, words-nil, term-node}
+use Rattle.terms.proofs.Table.{term-node}
 use Rattle.rules.specs.declared.Argument.{Argument}
 use Rattle.rules.specs.declared.Argument.the-variants as argument
 use Rattle.rules.specs.declared.Arguments.{Arguments}
@@ -156,30 +157,30 @@ op-code (suc (suc (suc (suc n)))) o h = ne-eqb 4 o (λ e. omega arith) ∙ sym (
 -- ---- lists of one and two
 
 -- the one term of words
-one-words : (l : List ℕ) (a e : ℕ) → e ≤ length l → one (terms-of-words (words l a e)) ≡ cond (eqb (e - a) 1) (some (getD l (a + 0) 0 % 4096)) none
+one-words : (l : List ℕ) (a e : ℕ) → e ≤ length l → one (terms-of-words (part l a e)) ≡ cond (eqb (e - a) 1) (some (getD l (a + 0) 0 % 4096)) none
 unfolding one terms-of-words
 one-words l a e h = go (e - a) refl
   where
-    go : (d : ℕ) → e - a ≡ d → one (terms-of-words (words l a e)) ≡ cond (eqb d 1) (some (getD l (a + 0) 0 % 4096)) none
-    go zero q = rw (words-nil l a e (omega arith))
+    go : (d : ℕ) → e - a ≡ d → one (terms-of-words (part l a e)) ≡ cond (eqb d 1) (some (getD l (a + 0) 0 % 4096)) none
+    go zero q = rw (part-nil l a e (omega arith))
     go (suc zero) q =
         let z : a + 0 ≡ a = omega arith in
-        rw (words-cons l a e (omega arith) h, words-nil l (a + 1) e (omega arith), z)
-    go (suc (suc d)) q = rw (words-cons l a e (omega arith) h, words-cons l (a + 1) e (omega arith) h, ne-eqb (suc (suc d)) 1 (λ f. omega arith))
+        rw (part-cons l a e (omega arith) h, part-nil l (a + 1) e (omega arith), z)
+    go (suc (suc d)) q = rw (part-cons l a e (omega arith) h, part-cons l (a + 1) e (omega arith) h, ne-eqb (suc (suc d)) 1 (λ f. omega arith))
 
 -- the two terms of words
 two-words : (l : List ℕ) (a e : ℕ) → e ≤ length l
-    → two (terms-of-words (words l a e)) ≡ cond (eqb (e - a) 2) (some (getD l (a + 0) 0 % 4096, getD l (a + 1) 0 % 4096)) none
+    → two (terms-of-words (part l a e)) ≡ cond (eqb (e - a) 2) (some (getD l (a + 0) 0 % 4096, getD l (a + 1) 0 % 4096)) none
 unfolding two terms-of-words
 two-words l a e h = go (e - a) refl
   where
-    go : (d : ℕ) → e - a ≡ d → two (terms-of-words (words l a e)) ≡ cond (eqb d 2) (some (getD l (a + 0) 0 % 4096, getD l (a + 1) 0 % 4096)) none
-    go zero q = rw (words-nil l a e (omega arith))
-    go (suc zero) q = rw (words-cons l a e (omega arith) h, words-nil l (a + 1) e (omega arith))
+    go : (d : ℕ) → e - a ≡ d → two (terms-of-words (part l a e)) ≡ cond (eqb d 2) (some (getD l (a + 0) 0 % 4096, getD l (a + 1) 0 % 4096)) none
+    go zero q = rw (part-nil l a e (omega arith))
+    go (suc zero) q = rw (part-cons l a e (omega arith) h, part-nil l (a + 1) e (omega arith))
     go (suc (suc zero)) q =
         let z : a + 0 ≡ a = omega arith in
-        rw (words-cons l a e (omega arith) h, words-cons l (a + 1) e (omega arith) h, words-nil l (a + 1 + 1) e (omega arith), z)
-    go (suc (suc (suc d))) q = rw (words-cons l a e (omega arith) h, words-cons l (a + 1) e (omega arith) h, words-cons l (a + 1 + 1) e (omega arith) h, ne-eqb (suc (suc (suc d))) 2 (λ f. omega arith))
+        rw (part-cons l a e (omega arith) h, part-cons l (a + 1) e (omega arith) h, part-nil l (a + 1 + 1) e (omega arith), z)
+    go (suc (suc (suc d))) q = rw (part-cons l a e (omega arith) h, part-cons l (a + 1) e (omega arith) h, part-cons l (a + 1 + 1) e (omega arith) h, ne-eqb (suc (suc (suc d))) 2 (λ f. omega arith))
 
 -- two arguments that may be missing
 unfoldable pub as-pair : Arguments → Option (ℕ × ℕ)
@@ -340,12 +341,12 @@ module _ {file names refs rows : List ℕ} {named used many t : ℕ} (tables : T
       ∙ sym (ap (holds (same (bytes k))) head-law ∙ holds-when (same (bytes k)) (has-head (row-kind rows t)) (name-of file names (row-head rows t)))
 
   -- the arguments of a call of a known name
-  pub call-law : {k : String} {code : ℕ} → Known k code → call-args k (term (terms-in file names refs rows used many) t .node) ≡ when (is-call-at names rows t code) (terms-of-words (words refs (row-start rows t) (row-end rows used many t)))
+  pub call-law : {k : String} {code : ℕ} → Known k code → call-args k (term (terms-in file names refs rows used many) t .node) ≡ when (is-call-at names rows t code) (terms-of-words (part refs (row-start rows t) (row-end rows used many t)))
   unfolding node-of is-call-at
   call-law {k} {code} known =
       ap (call-args k) line
       ∙ call-node k (row-kind rows t) _ (name-of file names (row-head rows t)) _ _
-      ∙ ap (λ b. when b (terms-of-words (words refs (row-start rows t) (row-end rows used many t))))
+      ∙ ap (λ b. when b (terms-of-words (part refs (row-start rows t) (row-end rows used many t))))
       (sym (and-same (eqb (row-kind rows t) 2) _ _ (λ h. ap (λ n. eqb n code) (code-of (true-T (call-headed (row-kind rows t) (eqb-true (row-kind rows t) 2 h)))) ∙ code-same known (name-of file names (row-head rows t)))))
 
   -- whether a term is a call of a known name
@@ -371,12 +372,12 @@ module _ {file names refs rows : List ℕ} {named used many t : ℕ} (tables : T
       ∙ ap (λ ts. ts >>= two) (sym (call-law known))
 
   -- the arguments of an `op` of a known word
-  pub op-law : (word : Op) → op-number word < 4 → op-args word (term (terms-in file names refs rows used many) t .node) ≡ when (is-op-at rows t (op-number word)) (terms-of-words (words refs (row-start rows t) (row-end rows used many t)))
+  pub op-law : (word : Op) → op-number word < 4 → op-args word (term (terms-in file names refs rows used many) t .node) ≡ when (is-op-at rows t (op-number word)) (terms-of-words (part refs (row-start rows t) (row-end rows used many t)))
   unfolding node-of is-op-at
   op-law word h =
       ap (op-args word) line
       ∙ op-node word (row-kind rows t) (op-of-code (row-op rows t)) _ _ _
-      ∙ ap (λ b. when (eqb (row-kind rows t) 3 && b) (terms-of-words (words refs (row-start rows t) (row-end rows used many t)))) (op-code (row-op rows t) (op-number word) h)
+      ∙ ap (λ b. when (eqb (row-kind rows t) 3 && b) (terms-of-words (part refs (row-start rows t) (row-end rows used many t)))) (op-code (row-op rows t) (op-number word) h)
 
   -- the arguments of an `op` of a known word with two
   pub op-two-law : (word : Op) → op-number word < 4 → as-pair (op-two-at refs rows used many t (op-number word)) ≡ (op-args word (term (terms-in file names refs rows used many) t .node) >>= two)
@@ -438,7 +439,7 @@ module _ {file names refs rows : List ℕ} {named used many t : ℕ} (tables : T
 
   -- an `op` of the word
   pub op-found : {word : Op} {op : ℕ} → Word word op → is-op-at rows t op ≡ true
-      → op-args word (term (terms-in file names refs rows used many) t .node) ≡ some (terms-of-words (words refs (row-start rows t) (row-end rows used many t)))
+      → op-args word (term (terms-in file names refs rows used many) t .node) ≡ some (terms-of-words (part refs (row-start rows t) (row-end rows used many t)))
   unfolding when
   op-found {word} w e = op-law word (w .small) ∙ rw (w .is, e)
 
@@ -466,12 +467,12 @@ module _ {file names refs rows : List ℕ} {named used many t : ℕ} (tables : T
   -- so is a call of none
   pub token-call : {n : ℕ} → row-kind rows t ≡ 2 → row-count rows used many t ≡ 0 → n ≡ row-head rows t → token exclude-names (terms-in file names refs rows used many) t ≡ some (name-of file names n)
   unfolding token at node-of make-node free-of call-of or-else row-count terms-of-words is-nil when
-  token-call e g f = rw (line, e, f, words-nil refs (row-start rows t) (row-end rows used many t) (omega arith))
+  token-call e g f = rw (line, e, f, part-nil refs (row-start rows t) (row-end rows used many t) (omega arith))
 
   -- a call of some is none
   pub token-more : row-kind rows t ≡ 2 → (row-count rows used many t ≡ 0 → ⊥) → token exclude-names (terms-in file names refs rows used many) t ≡ none
   unfolding token at node-of make-node free-of call-of or-else row-count terms-of-words is-nil when
-  token-more e g = rw (line, e, words-cons refs (row-start rows t) (row-end rows used many t) (omega arith) (row-fits (tables .term-table) l))
+  token-more e g = rw (line, e, part-cons refs (row-start rows t) (row-end rows used many t) (omega arith) (row-fits (tables .term-table) l))
 
   -- nor is any other term
   pub token-other : (row-kind rows t ≡ 0 → ⊥) → (row-kind rows t ≡ 2 → ⊥) → token exclude-names (terms-in file names refs rows used many) t ≡ none

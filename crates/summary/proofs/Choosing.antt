@@ -5,14 +5,14 @@ use mathlib.Core.Path.{_≡_, refl}
 use mathlib.Core.Bool.{Bool, true, false, cond}
 use mathlib.Core.List.{List, [], _∷_}
 use mathlib.Core.Option.{some}
-use Rattle.model.specs.Lists.{fold-left}
+use Rattle.model.specs.Lists.{fold-left, part}
 use Rattle.model.specs.Names.{Name}
 use Rattle.model.specs.Terms.{Term}
 use Rattle.model.specs.Summaries.{Kinded, Sum-drop, Sum-ambient, Sum-triggers, exclude-names, is-empty, free-top-level-names, triggers-of-term, token-triggers}
 use Rattle.model.specs.declared.AsumKind.the-variants as asum
 use Rattle.names.specs.Table.{Table, name-of}
 use Rattle.names.proofs.Laws.{names-length}
-use Rattle.terms.specs.Rows.{row-start, row-end, words, terms-of-words, terms-of}
+use Rattle.terms.specs.Rows.{row-start, row-end, terms-of-words, terms-of}
 use Rattle.terms.proofs.Table.{terms-named}
 use Rattle.gather.specs.Sets.{Same-but, Named}
 use Rattle.gather.proofs.Steps.{same-self, same-back}
@@ -146,7 +146,7 @@ module _ {file names refs rows out names′ rows′ out′ : List ℕ} {named us
     -- the parts of an `and`
     pub choose-parts : {t : ℕ} → c ≡ choice.Parts t
         → Sorts names rows out names′ rows′ out′ named mark at (λ name. parts-kind (terms-of name refs rows used many) t) r
-        → Sorts-as (file-parts refs used many (filing names rows out (mark + 1) at) (terms-of-words (words refs (row-start rows t) (row-end rows used many t)))) names′ rows′ out′ mark at r
+        → Sorts-as (file-parts refs used many (filing names rows out (mark + 1) at) (terms-of-words (part refs (row-start rows t) (row-end rows used many t)))) names′ rows′ out′ mark at r
         → Choice-files file names refs rows out names′ rows′ out′ named used many mark at c r
     unfolding kinded trimmed-table parts-kind Sum-triggers file-choice
     choose-parts {t} e s w = rw e (sorts-chooses (λ terms. parts-kind terms t) (choice.Parts t) refl refl refl s, w)

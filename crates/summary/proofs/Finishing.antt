@@ -8,14 +8,16 @@ use mathlib.Core.Option.{some}
 use lib.ListN.{length, getD}
 use lib.Dec.{ltb}
 use borrow.Author.Tests.{ltb-true}
+use Rattle.model.specs.Lists.{part}
 use Rattle.model.specs.Names.{Name, from-list}
 use Rattle.model.specs.Summaries.{exclude-names, summarize-kind}
 use Rattle.model.specs.declared.AsumKind.{AsumKind}
+use Rattle.model.proofs.PartLaws.{part-agree}
 use Rattle.names.specs.Table.{Table, name-of}
 use Rattle.names.proofs.Laws.{names-length}
 use Rattle.names.proofs.Coded.{Kept}
-use Rattle.terms.specs.Rows.{words, terms-of, Rows}
-use Rattle.terms.proofs.Table.{terms-named, words-agree}
+use Rattle.terms.specs.Rows.{terms-of, Rows}
+use Rattle.terms.proofs.Table.{terms-named}
 use Rattle.gather.specs.Sets.{Fresh, Same-but, Named, Gathers, all-names, no-room as no-names, ended}
 use Rattle.gather.specs.declared.Walked.{Walked}
 use Rattle.gather.specs.declared.Walked.the-variants as walks
@@ -189,7 +191,7 @@ module _ {file names refs rows out names′ rows′ out′ : List ℕ} {named us
       gathered-names = rw kept-terms at (finishes .free-names (name-of file names″) kept-named)
 
       -- the entries stay
-      kept-words : words out″ (6144 + filed) e ≡ words out′ (6144 + filed) e
+      kept-words : part out″ (6144 + filed) e ≡ part out′ (6144 + filed) e
       kept-words =
           let (lo, hi) = filed-ends in
           let s = finishes .slices in
@@ -197,7 +199,7 @@ module _ {file names refs rows out names′ rows′ out′ : List ℕ} {named us
           let grows = s .grows in
           let room = asked .room in
           let long : length out′ ≡ length out = chooses .marks .out-same .same-length in
-          words-agree out′ out″ (e - (6144 + filed)) (6144 + filed) e refl (omega arith) (omega (arith, s .out-same .same-length)) (λ i l k. s .out-same .same-words i (λ x y. omega arith))
+          part-agree out′ out″ (e - (6144 + filed)) (6144 + filed) e refl (omega arith) (omega (arith, s .out-same .same-length)) (λ i l k. s .out-same .same-words i (λ x y. omega arith))
 
       -- the table has the names that there are then
       named-then : total ≡ length (names-then file names refs rows named used many name t)
@@ -232,7 +234,7 @@ module _ {file names refs rows out names′ rows′ out′ : List ℕ} {named us
           let (lo, hi) = filed-ends in
           let w : 6144 + (e - 6144) ≡ e = omega arith in
           record {
-            disjuncts = rw (w, kept-words) (disjuncts-named (name-of file names″) (name-of file names′) (name-marked file (finishes .slices .names-same)) (words out′ (6144 + filed) e) ∙ k .disjuncts);
+            disjuncts = rw (w, kept-words) (disjuncts-named (name-of file names″) (name-of file names′) (name-marked file (finishes .slices .names-same)) (part out′ (6144 + filed) e) ∙ k .disjuncts);
             entry-words = rw (w, kept-words) (k .entry-words);
             free-names = p;
             use-words = small;

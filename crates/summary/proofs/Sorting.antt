@@ -6,16 +6,16 @@ use mathlib.Core.Bool.{Bool, true, false}
 use mathlib.Core.List.{List, []}
 use lib.ListN.{getD}
 use borrow.Author.Tests.{not-true, not-false}
-use Rattle.model.specs.Lists.{collect, sum}
+use Rattle.model.specs.Lists.{collect, sum, part}
 use Rattle.model.specs.Names.{Name}
 use Rattle.model.specs.Summaries.{Kinded, Sum-ambient, Sum-triggers, exclude-names, is-empty, triggers-of-term}
 use Rattle.model.specs.declared.AsumKind.{AsumKind}
 use Rattle.model.specs.declared.AsumKind.the-variants as asum
+use Rattle.model.proofs.PartLaws.{part-nil}
 use Rattle.names.specs.Table.{Table, name-of}
 use Rattle.names.proofs.Laws.{distinct}
 use Rattle.names.proofs.Coded.{code-excluded, Kept, table-kept}
-use Rattle.terms.specs.Rows.{row-start, row-end, words, terms-of-words, terms-of, Rows}
-use Rattle.terms.proofs.Table.{words-nil}
+use Rattle.terms.specs.Rows.{row-start, row-end, terms-of-words, terms-of, Rows}
 use Rattle.terms.proofs.References.{row-references}
 use Rattle.gather.specs.Sets.{Fresh, Same-but, Named, is-excluded}
 use Rattle.gather.proofs.Steps.{same-self, same-then}
@@ -103,10 +103,10 @@ pub nothing-sorts : {names rows out names′ rows′ : List ℕ} {named mark at 
 unfolding sorted-end disjuncts-of disjuncts-of-words entries sum
 nothing-sorts {out = out} {named = named} {mark} {at} a k e low n s f = record {
   kinds = λ name d. kind-there {e = at} (e name d .0)
-      (rw (words-nil out at at (omega arith), e name d .1) refl)
+      (rw (part-nil out at at (omega arith), e name d .1) refl)
       (rw (e name d .1) (omega arith))
       low
-      (rw (words-nil out at at (omega arith)) (no-entries named));
+      (rw (part-nil out at at (omega arith)) (no-entries named));
   marks = record {
     names-same = n;
     rows-same = s;
@@ -159,17 +159,17 @@ module _ {names rows out names₁ rows₁ out₁ refs : List ℕ} {named used ma
 -- the triggers of the terms that a row names
 pub parts-sorts : {names rows out names′ rows′ out′ refs : List ℕ} {named used many mark at a e count : ℕ} {f : Filed} {r : Sorted} (t : ℕ) → Rows refs rows used many named → t < many
     → a ≡ row-start rows t → e ≡ row-end rows used many t
-    → ((name : ℕ → Name) → Named name names named → Files name named (collect (triggers-of-term exclude-names (terms-of name refs rows used many)) (terms-of-words (words refs a e))) at out′ f)
+    → ((name : ℕ → Name) → Named name names named → Files name named (collect (triggers-of-term exclude-names (terms-of name refs rows used many)) (terms-of-words (part refs a e))) at out′ f)
     → Filled names rows out names′ rows′ out′ (mark + 1) at f
-    → Files-as (file-parts refs used many (filing names rows out (mark + 1) at) (terms-of-words (words refs a e))) count names′ rows′ out′ (mark + 1) at f
+    → Files-as (file-parts refs used many (filing names rows out (mark + 1) at) (terms-of-words (part refs a e))) count names′ rows′ out′ (mark + 1) at f
     → r ≡ sorted-of named f
     → Sorts names rows out names′ rows′ out′ named mark at (λ name. parts-kind (terms-of name refs rows used many) t) r
-    × Sorts-as (file-parts refs used many (filing names rows out (mark + 1) at) (terms-of-words (words refs (row-start rows t) (row-end rows used many t)))) names′ rows′ out′ mark at r
+    × Sorts-as (file-parts refs used many (filing names rows out (mark + 1) at) (terms-of-words (part refs (row-start rows t) (row-end rows used many t)))) names′ rows′ out′ mark at r
 unfolding parts-kind
 parts-sorts {rows = rows} {refs = refs} {named} {used} {many} {a = a} {e} t table l p q k w x z = (
   sorts-as
       (λ name d. ap (λ ts. Sum-triggers (collect (triggers-of-term exclude-names (terms-of name refs rows used many)) ts)) (rw (p, q) (sym (row-references table l name))))
-      (files-sorts (λ name. collect (triggers-of-term exclude-names (terms-of name refs rows used many)) (terms-of-words (words refs a e))) k w z),
+      (files-sorts (λ name. collect (triggers-of-term exclude-names (terms-of name refs rows used many)) (terms-of-words (part refs a e))) k w z),
   files-sorts-as named (rw (p, q) at x) z,
 )
 

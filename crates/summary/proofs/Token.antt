@@ -8,7 +8,6 @@ use mathlib.Core.Option.{none, some}
 use lib.ListN.{length, getD, take, drop, set, length-take, length-drop, length-set, length-append}
 use lib.Dec.{ltb, not-T}
 use borrow.Author.Tests.{ltb-true, le-ltb, lt-ltb}
-use Rattle.text.specs.Parts.{part}
 use Rattle.names.specs.Table.{Table, name-of, names-of, look-up, spell-answer, spell-table, entered}
 use Rattle.names.specs.declared.Found.{Found}
 use Rattle.names.specs.declared.Found.the-variants as found
@@ -19,16 +18,15 @@ use Rattle.names.proofs.Entering.{entered-length, entered-keeps, entered-old, e
 use Rattle.model.specs.Names.{Name, bytes, ends-with, from-list, add, mem}
 use mathlib.Core.Logic.{inl, inr, _⊎_, ⊎-elim}
 use lib.Seq.{take-take, getD-set-same, getD-set-other}
-use Rattle.model.specs.Lists.{fold-left, sum, _>>=_}
+use Rattle.model.specs.Lists.{fold-left, sum, _>>=_, part}
 use Rattle.model.proofs.ListLaws.{cond-false}
 use Rattle.model.specs.Reading.{spell}
 use Rattle.model.specs.Summaries.{Sum-triggers, token-triggers}
 use Rattle.model.specs.declared.AsumKind.the-variants as asum
 use Rattle.model.proofs.SetLaws.{same-eq}
+use Rattle.model.proofs.PartLaws.{part-cons, part-nil, part-one, part-two}
 use Rattle.names.proofs.Spelling.{Spelling, spell-law, spelled-known, spelled-new, spelled-full}
-use Rattle.terms.specs.Rows.{words}
 use Rattle.terms.proofs.Laws.{below}
-use Rattle.terms.proofs.Table.{words-cons, words-nil}
 use Rattle.gather.specs.Sets.{Same-but}
 use Rattle.gather.specs.Visits.{put}
 use Rattle.gather.proofs.Steps.{same-self, same-set, same-then}
@@ -108,24 +106,6 @@ entries-are-two named n m h l few = record {
   closed = λ i e. let z : i ≡ 1 = omega arith in rw z (omega arith);
 }
 
--- one entry in a slice
-words-one : (out : List ℕ) (at v : ℕ) → at < length out → words (set out at v) at (at + 1) ≡ v ∷ []
-words-one out at v h =
-    words-cons (set out at v) at (at + 1) (omega arith) (rw (length-set out at v) (omega arith))
-    ∙ rw (getD-set-same out at v 0 h, words-nil (set out at v) (at + 1) (at + 1) (omega arith)) refl
-
--- two entries in a slice
-words-two : (out : List ℕ) (at v w : ℕ) → at + 1 < length out → words (set (set out at v) (at + 1) w) at (at + 2) ≡ v ∷ w ∷ []
-words-two out at v w h =
-    let l : length (set (set out at v) (at + 1) w) ≡ length out = length-set (set out at v) (at + 1) w ∙ length-set out at v in
-    words-cons (set (set out at v) (at + 1) w) at (at + 2) (omega arith) (omega arith)
-    ∙ rw (
-      getD-set-other (set out at v) (at + 1) at w 0 (λ e. omega arith),
-      getD-set-same out at v 0 (omega arith),
-      words-cons (set (set out at v) (at + 1) w) (at + 1) (at + 2) (omega arith) (omega arith),
-      getD-set-same (set out at v) (at + 1) w 0 (rw (length-set out at v) h),
-    ) (ap (λ ws. v ∷ w ∷ ws) (words-nil (set (set out at v) (at + 1) w) (at + 1 + 1) (at + 2) (omega arith)))
-
 -- ---- the name that a token trims to
 
 -- a name that ends in @tok has four bytes or more
@@ -201,10 +181,10 @@ module _ {file names : List ℕ} {named n x y : ℕ} (table : Table file names n
         rw (token-yes (name-of file names n) yes)
         (kind-filed {e = at + 2} {total = total} (record {
           kind = refl;
-          disjuncts = rw (e, words-two out at (n + 4096) (m + 4096) (omega arith), sets-two (name-of file names′) n m (omega arith) (omega arith), same n l, is, token-short) refl;
+          disjuncts = rw (e, part-two out at (n + 4096) (m + 4096) (omega arith), sets-two (name-of file names′) n m (omega arith) (omega arith), same n l, is, token-short) refl;
           ends = refl;
           high = fits;
-          entry-words = rw (e, words-two out at (n + 4096) (m + 4096) (omega arith)) (entries-are-two total n m (omega arith) k few);
+          entry-words = rw (e, part-two out at (n + 4096) (m + 4096) (omega arith)) (entries-are-two total n m (omega arith) k few);
           table = table′;
           spelled = rw (← token-short) spelled;
           more = more;
@@ -256,7 +236,7 @@ module _ {file names : List ℕ} {named n x y : ℕ} (table : Table file names n
           let k = spelled-known token-spelled e in
           record {
             name-words = token-slice slice;
-            kinds = rw (k .kept) (token-two table (k .names) (omega arith) (λ i h. refl) (k .named) (k .number) room two);
+            kinds = rw (k .kept) (token-two table (k .names) (omega arith) (λ i h. refl) (k .is) (k .number) room two);
             out-same = token-out two;
             words-as = token-two-as (token-slice slice) (token-entries answer ∙ rw e refl) two;
           }
@@ -318,10 +298,10 @@ module _ {file names : List ℕ} {named n x y : ℕ} (table : Table file names n
           kinds = rw (token-no (name-of file names n) no)
               (kind-filed {e = at + 1} {total = named} (record {
                 kind = refl;
-                disjuncts = rw (words-one out at (n + 4096) (omega arith), sets-one (name-of file names) n (omega arith)) refl;
+                disjuncts = rw (part-one out at (n + 4096) (omega arith), sets-one (name-of file names) n (omega arith)) refl;
                 ends = refl;
                 high = omega arith;
-                entry-words = rw (words-one out at (n + 4096) (omega arith)) (entries-are-one named n l few);
+                entry-words = rw (part-one out at (n + 4096) (omega arith)) (entries-are-one named n l few);
                 table = table;
                 spelled = refl;
                 more = omega arith;

@@ -6,12 +6,11 @@ use mathlib.Core.Bool.{cond}
 use mathlib.Core.List.{List, map}
 use lib.ListN.{length, getD}
 use lib.Dec.{ltb}
-use Rattle.model.specs.Lists.{fold-left}
+use Rattle.model.specs.Lists.{fold-left, part}
 use Rattle.model.specs.Names.{Name, from-list}
 use Rattle.model.specs.Reading.{spell}
 use Rattle.model.specs.Summaries.{Kinded, exclude-names, free-top-level-names, summarize-kind}
 use Rattle.names.specs.Table.{Table, name-of, names-of}
-use Rattle.terms.specs.Rows.{words}
 use Rattle.gather.specs.Sets.{Fresh, Same-but}
 use Rattle.rules.specs.Views.{Tables, terms-in}
 use Rattle.rules.specs.Choices.{kind-choice}
@@ -66,9 +65,9 @@ module _ (file names refs rows : List ℕ) (named used many name t : ℕ) where
   -- the lists of a summary in the slices, behind `filed` entries and `uses` uses: its disjuncts, its free names, the names of
   -- the table; and all marks are below the next one
   pub record Lists (names′ rows′ out′ : List ℕ) (filed uses : ℕ) (s : Summary) : Type 0 where
-    pub disjuncts : disjuncts-of (name-of file names′) (words out′ (6144 + filed) (6144 + s .entries)) ≡ fact-kind .triggers
-    pub entry-words : Entries (s .named) (words out′ (6144 + filed) (6144 + s .entries))
-    pub free-names : from-list (map (name-of file names′) (words out′ uses (s .uses))) ≡ fact-names
+    pub disjuncts : disjuncts-of (name-of file names′) (part out′ (6144 + filed) (6144 + s .entries)) ≡ fact-kind .triggers
+    pub entry-words : Entries (s .named) (part out′ (6144 + filed) (6144 + s .entries))
+    pub free-names : from-list (map (name-of file names′) (part out′ uses (s .uses))) ≡ fact-names
     pub use-words : (i : ℕ) → uses ≤ i → i < s .uses → getD out′ i 0 < named
     pub table : Table file names′ (s .named)
     pub spelled : names-of file names′ (s .named) ≡ names-then

@@ -5,14 +5,14 @@ use mathlib.Core.Bool.{true}
 use mathlib.Core.List.{List}
 use mathlib.Core.Option.{some}
 use lib.ListN.{length, set}
-use Rattle.model.specs.Lists.{fold-left}
+use Rattle.model.specs.Lists.{fold-left, part}
 use Rattle.model.specs.Names.{Name}
 use Rattle.model.specs.Reading.{spell}
 use Rattle.model.specs.Summaries.{Kinded, exclude-names, token-triggers, free-top-level-names}
 use Rattle.model.specs.declared.AsumKind.{AsumKind}
 use Rattle.model.specs.declared.AsumKind.the-variants.{Triggers}
 use Rattle.names.specs.Table.{Table, name-of, names-of}
-use Rattle.terms.specs.Rows.{words, terms-of}
+use Rattle.terms.specs.Rows.{terms-of}
 use Rattle.gather.specs.Sets.{Fresh, Same-but, Named, Gathers, Gathered}
 use Rattle.gather.specs.Visits.{visit-term, Walks-as}
 use Rattle.gather.specs.declared.Walked.{Walked}
@@ -63,8 +63,8 @@ pub record Marks (names rows out names′ rows′ out′ : List ℕ) (mark at : 
 -- what filing a kind whose disjuncts hold names of the table comes to
 pub data Kinds (name : ℕ → Name) (named : ℕ) (k : Kinded) (at : ℕ) (out′ : List ℕ) : Sorted → Type 0 where
   kind-there : {a : AsumKind} {e : ℕ}
-      → a ≡ k .kind → disjuncts-of name (words out′ at e) ≡ k .triggers → e ≡ at + entries (k .triggers) → e ≤ 8192
-      → Entries named (words out′ at e)
+      → a ≡ k .kind → disjuncts-of name (part out′ at e) ≡ k .triggers → e ≡ at + entries (k .triggers) → e ≤ 8192
+      → Entries named (part out′ at e)
       → Kinds name named k at out′ (sorted.Kind a e named)
   no-room : 8192 < at + entries (k .triggers) → Kinds name named k at out′ (sorted.Over limit.Entries)
 
@@ -81,10 +81,10 @@ pub data Sorts-as (f : Filing) (names′ rows′ out′ : List ℕ) (mark at : �
 -- a kind that is filed: its disjuncts, and the table with the name that it trims off
 pub record Filed-kind (file names names′ out′ : List ℕ) (named at : ℕ) (k : Kinded) (a : AsumKind) (e total : ℕ) : Type 0 where
   pub kind : a ≡ k .kind
-  pub disjuncts : disjuncts-of (name-of file names′) (words out′ at e) ≡ k .triggers
+  pub disjuncts : disjuncts-of (name-of file names′) (part out′ at e) ≡ k .triggers
   pub ends : e ≡ at + entries (k .triggers)
   pub high : e ≤ 8192
-  pub entry-words : Entries total (words out′ at e)
+  pub entry-words : Entries total (part out′ at e)
   pub table : Table file names′ total
   pub spelled : names-of file names′ total ≡ fold-left spell (names-of file names named) (k .trimmed)
   pub more : named ≤ total

@@ -6,14 +6,13 @@ use mathlib.Core.List.{List, [], _∷_}
 use mathlib.Core.Option.{Option, none, some}
 use lib.ListN.{length, getD}
 use lib.Dec.{ltb}
-use Rattle.model.specs.Lists.{_>>=_}
+use Rattle.model.specs.Lists.{_>>=_, part}
 use Rattle.model.specs.Names.{bytes, ends-with}
-use Rattle.text.specs.Parts.{part}
 use Rattle.names.specs.Table.{name-of, names-of, look-up, spell-answer, spell-table}
 use Rattle.names.specs.declared.Found.{Found}
 use Rattle.names.specs.declared.Spelled.{Spelled}
 use Rattle.names.specs.declared.Spelled.the-variants as spelled
-use Rattle.terms.specs.Rows.{row-start, row-end, words, terms-of-words}
+use Rattle.terms.specs.Rows.{row-start, row-end, terms-of-words}
 use Rattle.gather.specs.Visits.{visit-term, marked-at, put}
 use Rattle.rules.specs.declared.Choice.{Choice}
 use Rattle.rules.specs.declared.Choice.the-variants as choice
@@ -84,7 +83,7 @@ module _ (refs : List ℕ) (used many : ℕ) where
   file-choice file named mark f (choice.Token n) = file-token file named f n
   file-choice file named mark f choice.Nothing = f
   file-choice file named mark f (choice.Parts t) =
-      file-parts refs used many f (terms-of-words (words refs (row-start (f .rows) t) (row-end (f .rows) used many t)))
+      file-parts refs used many f (terms-of-words (part refs (row-start (f .rows) t) (row-end (f .rows) used many t)))
   file-choice file named mark f choice.Drop = f
   file-choice file named mark f choice.Ambient = f
 

@@ -6,8 +6,9 @@ use triggers::Filed;
 ghost use Prim.Native.Nat.{_+_, _≤_, _<_};
 ghost use mathlib.Core.Path.{_≡_};
 ghost use lib.ListN.{length};
+ghost use Rattle.model.specs.Lists.{part};
 ghost use Rattle.names.specs.Table.{Table};
-ghost use Rattle.terms.specs.Rows.{row-start, row-end, words, terms-of-words, terms-of, Rows};
+ghost use Rattle.terms.specs.Rows.{row-start, row-end, terms-of-words, terms-of, Rows};
 ghost use Rattle.gather.specs.Sets.{Fresh};
 ghost use Rattle.rules.specs.Views.{Tables};
 ghost use Rattle.rules.specs.Choices.{refinement-kind, parts-kind, Within};
@@ -137,7 +138,7 @@ fn file_parts(
 ) -> Sorted
     requires { ⌜ Rows (now refs) (now rows) used many named × Begun (now names) (now rows) (now out) mark at × (t < many) ⌝ }
     ensures kinds { λ r. ⌜ Sorts (now (names .entry)) (now (rows .entry)) (now (out .entry)) (now (names .exit)) (now (rows .exit)) (now (out .exit)) named mark at (λ name. parts-kind (terms-of name (now (refs .entry)) (now (rows .entry)) used many) t) r ⌝ }
-    ensures words { λ r. ⌜ Sorts-as (file-parts (now (refs .entry)) used many (filing (now (names .entry)) (now (rows .entry)) (now (out .entry)) (mark + 1) at) (terms-of-words (words (now (refs .entry)) (row-start (now (rows .entry)) t) (row-end (now (rows .entry)) used many t)))) (now (names .exit)) (now (rows .exit)) (now (out .exit)) mark at r ⌝ }
+    ensures words { λ r. ⌜ Sorts-as (file-parts (now (refs .entry)) used many (filing (now (names .entry)) (now (rows .entry)) (now (out .entry)) (mark + 1) at) (terms-of-words (part (now (refs .entry)) (row-start (now (rows .entry)) t) (row-end (now (rows .entry)) used many t)))) (now (names .exit)) (now (rows .exit)) (now (out .exit)) mark at r ⌝ }
 {
     let a = terms::start(rows, t);
     let e = terms::end(rows, used, many, t);

@@ -12,14 +12,15 @@ use lib.ListN.{length, drop, getD, length-append, List·getD-append}
 use lib.Seq.{ext-getD, getD-at}
 use lib.Dec.{T, eqb, eqb→eq}
 use borrow.Author.Tests.{eq-eqb, ne-eqb}
-use Rattle.model.specs.Lists.{keep, concat, when}
+use Rattle.model.specs.Lists.{keep, concat, when, part}
 use Rattle.model.specs.Names.{Name}
 use Rattle.model.specs.Summaries.{exclude-names, groups-of, group-names, triggers-of-term}
 use Rattle.model.specs.declared.Op.{Op}
 use Rattle.model.proofs.ListLaws.{T-or, keep-append, keep-all, keep-none}
-use Rattle.terms.specs.Rows.{row-kind, row-start, row-extra, row-end, words, terms-of-words, group-of-words, groups-of-words, group-run, make-node, node-of, terms-of, has-body, has-groups, bare-of, groups-at, Rows}
+use Rattle.model.proofs.PartLaws.{part-cons, part-drop, part-elim, part-nil, part-split}
+use Rattle.terms.specs.Rows.{row-kind, row-start, row-extra, row-end, terms-of-words, group-of-words, groups-of-words, group-run, make-node, node-of, terms-of, has-body, has-groups, bare-of, groups-at, Rows}
 use Rattle.terms.proofs.Laws.{equal, below}
-use Rattle.terms.proofs.Table.{words-nil, words-cons, words-elim, words-drop, bare-law}
+use Rattle.terms.proofs.Table.{bare-law}
 
 -- the words of groups, the first of which has the number g
 unfoldable pub group-words : ℕ → List (List ℕ) → List ℕ
@@ -134,22 +135,22 @@ group-words-rise gs g s i l = rw (add-one i) (go gs g s i (omega arith))
 -- ---- the places of a group's references
 
 -- no word: no run
-pub run-none : (refs : List ℕ) (g a e : ℕ) → e ≤ a → group-run g (words refs a e) ≡ 0
+pub run-none : (refs : List ℕ) (g a e : ℕ) → e ≤ a → group-run g (part refs a e) ≡ 0
 unfolding group-run
-run-none refs g a e h = rw (words-nil refs a e h)
+run-none refs g a e h = rw (part-nil refs a e h)
 
 -- a word of another group ends the run
-pub run-other : (refs : List ℕ) (g a e : ℕ) → a < e → e ≤ length refs → (getD refs a 0 / 4096 ≡ g → ⊥) → group-run g (words refs a e) ≡ 0
+pub run-other : (refs : List ℕ) (g a e : ℕ) → a < e → e ≤ length refs → (getD refs a 0 / 4096 ≡ g → ⊥) → group-run g (part refs a e) ≡ 0
 unfolding group-run
-run-other refs g a e h k n = rw (words-cons refs a e h k, ne-eqb (getD refs a 0 / 4096) g n)
+run-other refs g a e h k n = rw (part-cons refs a e h k, ne-eqb (getD refs a 0 / 4096) g n)
 
 -- a word of the group makes the run one longer
-run-one : (refs : List ℕ) (g a e : ℕ) → a < e → e ≤ length refs → getD refs a 0 / 4096 ≡ g → group-run g (words refs a e) ≡ 1 + group-run g (words refs (a + 1) e)
+run-one : (refs : List ℕ) (g a e : ℕ) → a < e → e ≤ length refs → getD refs a 0 / 4096 ≡ g → group-run g (part refs a e) ≡ 1 + group-run g (part refs (a + 1) e)
 unfolding group-run
-run-one refs g a e h k q = rw (words-cons refs a e h k, eq-eqb (getD refs a 0 / 4096) g q)
+run-one refs g a e h k q = rw (part-cons refs a e h k, eq-eqb (getD refs a 0 / 4096) g q)
 
 -- the run ends where that of the next word ends
-pub run-more : (refs : List ℕ) (g a e : ℕ) → a < e → e ≤ length refs → getD refs a 0 / 4096 ≡ g → a + group-run g (words refs a e) ≡ a + 1 + group-run g (words refs (a + 1) e)
+pub run-more : (refs : List ℕ) (g a e : ℕ) → a < e → e ≤ length refs → getD refs a 0 / 4096 ≡ g → a + group-run g (part refs a e) ≡ a + 1 + group-run g (part refs (a + 1) e)
 run-more refs g a e h k q = omega (arith, run-one refs g a e h k q)
 
 -- the places from p up to q are those of a run of a group
@@ -160,16 +161,16 @@ record Run (refs : List ℕ) (g p e q : ℕ) : Type 0 where
   ends : q < e → getD refs q 0 / 4096 ≡ g → ⊥
 
 -- a run is as long as it is counted
-run-is : (refs : List ℕ) (g d p e : ℕ) → e - p ≡ d → p ≤ e → e ≤ length refs → Run refs g p e (p + group-run g (words refs p e))
+run-is : (refs : List ℕ) (g d p e : ℕ) → e - p ≡ d → p ≤ e → e ≤ length refs → Run refs g p e (p + group-run g (part refs p e))
 run-is refs g zero p e q h k =
-    let z : p + group-run g (words refs p e) ≡ p = omega (arith, run-none refs g p e (omega arith)) in
+    let z : p + group-run g (part refs p e) ≡ p = omega (arith, run-none refs g p e (omega arith)) in
     rw z (record { low = omega arith; high = h; same = λ i a b. omega arith; ends = λ l. let c : ⊥ = omega arith in absurd c })
 run-is refs g (suc d) p e q h k = go (run-is refs g d (p + 1) e (omega arith) (omega arith) k) (equal (getD refs p 0 / 4096) g)
   where
     more : p < e
     more = omega arith
 
-    go : Run refs g (p + 1) e (p + 1 + group-run g (words refs (p + 1) e)) → (getD refs p 0 / 4096 ≡ g) ⊎ (getD refs p 0 / 4096 ≡ g → ⊥) → Run refs g p e (p + group-run g (words refs p e))
+    go : Run refs g (p + 1) e (p + 1 + group-run g (part refs (p + 1) e)) → (getD refs p 0 / 4096 ≡ g) ⊎ (getD refs p 0 / 4096 ≡ g → ⊥) → Run refs g p e (p + group-run g (part refs p e))
     go r (inl w) = rw (run-more refs g p e more k w) (record {
       low = omega (arith, r .low);
       high = r .high;
@@ -177,28 +178,20 @@ run-is refs g (suc d) p e q h k = go (run-is refs g d (p + 1) e (omega arith) (o
       ends = r .ends;
     })
     go r (inr w) =
-        let z : p + group-run g (words refs p e) ≡ p = omega (arith, run-other refs g p e more k w) in
+        let z : p + group-run g (part refs p e) ≡ p = omega (arith, run-other refs g p e more k w) in
         rw z (record { low = omega arith; high = h; same = λ i a b. omega arith; ends = λ l. w })
 
--- words up to a place and from it on
-pub words-split : (l : List ℕ) (d a b e : ℕ) → b - a ≡ d → a ≤ b → b ≤ e → e ≤ length l → words l a e ≡ words l a b ++ words l b e
-words-split l zero a b e q h k m =
-    let z : a ≡ b = omega arith in
-    rw (z, words-nil l b b (omega arith))
-words-split l (suc d) a b e q h k m =
-    rw (words-cons l a e (omega arith) m, words-cons l a b (omega arith) (omega arith)) (ap (getD l a 0 ∷_) (words-split l d (a + 1) b e (omega arith) (omega arith) k m))
-
 -- the terms up to a place and those after it
-pub terms-split : (refs : List ℕ) (a b e : ℕ) → a ≤ b → b ≤ e → e ≤ length refs → terms-of-words (words refs a e) ≡ terms-of-words (words refs a b) ++ terms-of-words (words refs b e)
+pub terms-split : (refs : List ℕ) (a b e : ℕ) → a ≤ b → b ≤ e → e ≤ length refs → terms-of-words (part refs a e) ≡ terms-of-words (part refs a b) ++ terms-of-words (part refs b e)
 unfolding terms-of-words
-terms-split refs a b e h k m = ap (map (λ w. w % 4096)) (words-split refs (b - a) a b e refl h k m) ∙ map-append (λ w. w % 4096) (words refs a b) (words refs b e)
+terms-split refs a b e h k m = ap (map (λ w. w % 4096)) (part-split refs (b - a) a b e refl h k m) ∙ map-append (λ w. w % 4096) (part refs a b) (part refs b e)
 
 -- one term more
-pub terms-more : (refs : List ℕ) (a i : ℕ) → a ≤ i → i < length refs → terms-of-words (words refs a (i + 1)) ≡ terms-of-words (words refs a i) ++ (getD refs i 0 % 4096 ∷ [])
+pub terms-more : (refs : List ℕ) (a i : ℕ) → a ≤ i → i < length refs → terms-of-words (part refs a (i + 1)) ≡ terms-of-words (part refs a i) ++ (getD refs i 0 % 4096 ∷ [])
 unfolding terms-of-words
 terms-more refs a i h k =
     terms-split refs a i (i + 1) h (omega arith) (omega arith)
-    ∙ ap (λ w. map (λ w. w % 4096) (words refs a i) ++ map (λ w. w % 4096) w) (words-cons refs i (i + 1) (omega arith) (omega arith) ∙ ap (getD refs i 0 ∷_) (words-nil refs (i + 1) (i + 1) (omega arith)))
+    ∙ ap (λ w. map (λ w. w % 4096) (part refs a i) ++ map (λ w. w % 4096) w) (part-cons refs i (i + 1) (omega arith) (omega arith) ∙ ap (getD refs i 0 ∷_) (part-nil refs (i + 1) (i + 1) (omega arith)))
 
 -- a quantifier has a body
 pub groups-bodied : (k : ℕ) → T (has-groups k) → T (has-body k)
@@ -234,7 +227,7 @@ module _ {refs rows : List ℕ} {used many named t : ℕ} (r : Rows refs rows us
 
   module _ {g p : ℕ} (b : Before refs (row-start rows t + 1) (row-end rows used many t) g p) where
     -- the run of the group from there on
-    run-here : Run refs g p (row-end rows used many t) (p + group-run g (words refs p (row-end rows used many t)))
+    run-here : Run refs g p (row-end rows used many t) (p + group-run g (part refs p (row-end rows used many t)))
     run-here = run-is refs g (row-end rows used many t - p) p (row-end rows used many t) refl (b .high) end-fits
 
     -- after a run stand the references of the next group
@@ -254,30 +247,30 @@ module _ {refs rows : List ℕ} {used many named t : ℕ} (r : Rows refs rows us
         }
 
     -- after the group's references stand those of the next group
-    pub group-next : Before refs (row-start rows t + 1) (row-end rows used many t) (g + 1) (p + group-run g (words refs p (row-end rows used many t)))
+    pub group-next : Before refs (row-start rows t + 1) (row-end rows used many t) (g + 1) (p + group-run g (part refs p (row-end rows used many t)))
     group-next = run-next run-here
 
     -- words of another group are not kept
-    none : (a n : ℕ) → n ≤ row-end rows used many t → ((i : ℕ) → a ≤ i → i < n → getD refs i 0 / 4096 ≡ g → ⊥) → keep (λ w. eqb (w / 4096) g) (words refs a n) ≡ []
-    none a n h d = keep-none (λ w. eqb (w / 4096) g) (words refs a n) (λ w m.
-        let x = words-elim {l = refs} {a = a} {e = n} (omega (arith, end-fits)) m in
+    none : (a n : ℕ) → n ≤ row-end rows used many t → ((i : ℕ) → a ≤ i → i < n → getD refs i 0 / 4096 ≡ g → ⊥) → keep (λ w. eqb (w / 4096) g) (part refs a n) ≡ []
+    none a n h d = keep-none (λ w. eqb (w / 4096) g) (part refs a n) (λ w m.
+        let x = part-elim {l = refs} {a = a} {e = n} (omega (arith, end-fits)) m in
         rw (← (x .is), ne-eqb (getD refs (x .place) 0 / 4096) g (d (x .place) (x .low) (x .high))) tt)
 
     -- words of the group are
-    all : (a n : ℕ) → n ≤ row-end rows used many t → ((i : ℕ) → a ≤ i → i < n → getD refs i 0 / 4096 ≡ g) → keep (λ w. eqb (w / 4096) g) (words refs a n) ≡ words refs a n
-    all a n h d = keep-all (λ w. eqb (w / 4096) g) (words refs a n) (λ w m.
-        let x = words-elim {l = refs} {a = a} {e = n} (omega (arith, end-fits)) m in
+    all : (a n : ℕ) → n ≤ row-end rows used many t → ((i : ℕ) → a ≤ i → i < n → getD refs i 0 / 4096 ≡ g) → keep (λ w. eqb (w / 4096) g) (part refs a n) ≡ part refs a n
+    all a n h d = keep-all (λ w. eqb (w / 4096) g) (part refs a n) (λ w m.
+        let x = part-elim {l = refs} {a = a} {e = n} (omega (arith, end-fits)) m in
         rw (← (x .is), eq-eqb (getD refs (x .place) 0 / 4096) g (d (x .place) (x .low) (x .high))) tt)
 
     -- the terms of the group are those of its references
-    pub group-place : terms-of-words (words refs p (p + group-run g (words refs p (row-end rows used many t)))) ≡ group-of-words (drop 1 (words refs (row-start rows t) (row-end rows used many t))) g
+    pub group-place : terms-of-words (part refs p (p + group-run g (part refs p (row-end rows used many t)))) ≡ group-of-words (drop 1 (part refs (row-start rows t) (row-end rows used many t))) g
     unfolding group-of-words
-    group-place = rw (words-drop refs (row-start rows t) (row-end rows used many t)) (ap terms-of-words (go run-here))
+    group-place = rw (part-drop refs (row-start rows t) (row-end rows used many t) 1) (ap terms-of-words (go run-here))
       where
-        go : {n : ℕ} → Run refs g p (row-end rows used many t) n → words refs p n ≡ keep (λ w. eqb (w / 4096) g) (words refs (row-start rows t + 1) (row-end rows used many t))
+        go : {n : ℕ} → Run refs g p (row-end rows used many t) n → part refs p n ≡ keep (λ w. eqb (w / 4096) g) (part refs (row-start rows t + 1) (row-end rows used many t))
         go {n} u = rw (
-          words-split refs (p - (row-start rows t + 1)) (row-start rows t + 1) p (row-end rows used many t) refl (b .low) (b .high) end-fits,
-          words-split refs (n - p) p n (row-end rows used many t) refl (u .low) (u .high) end-fits,
+          part-split refs (p - (row-start rows t + 1)) (row-start rows t + 1) p (row-end rows used many t) refl (b .low) (b .high) end-fits,
+          part-split refs (n - p) p n (row-end rows used many t) refl (u .low) (u .high) end-fits,
           keep-append,
           keep-append,
           none (row-start rows t + 1) p (b .high) (λ i c d e. omega (arith, b .lower i c d)),
@@ -317,7 +310,7 @@ module _ {refs rows : List ℕ} {used many named : ℕ} (table : Rows refs rows 
   -- the triggers of a term: one name set for each group of the `all` under its labels
   pub groups-count : {t : ℕ} → t < many → triggers-of-term exclude-names (terms-of name refs rows used many) t
       ≡ map (group-names exclude-names (terms-of name refs rows used many))
-      (groups-of-words (words refs (row-start rows (bare-of rows t) + 1) (row-end rows used many (bare-of rows t))) (groups-at rows t))
+      (groups-of-words (part refs (row-start rows (bare-of rows t) + 1) (row-end rows used many (bare-of rows t))) (groups-at rows t))
   unfolding triggers-of-term node-of groups-at
   groups-count {t} l =
       let u = bare-of rows t in
@@ -325,4 +318,4 @@ module _ {refs rows : List ℕ} {used many named : ℕ} (table : Rows refs rows 
       (ap (λ node. Option·getD (groups-of node) []) (bare-law name refs rows used many table t l)
       ∙ ap (λ gs. Option·getD gs []) (groups-node (row-kind rows u) _ _ _ _)
       ∙ groups-when (eqb (row-kind rows u) 4) _ (row-extra rows u)
-      ∙ ap (λ ws. groups-of-words ws (groups-at rows t)) (words-drop refs (row-start rows u) (row-end rows used many u)))
+      ∙ ap (λ ws. groups-of-words ws (groups-at rows t)) (part-drop refs (row-start rows u) (row-end rows used many u) 1))

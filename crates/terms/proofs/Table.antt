@@ -9,60 +9,15 @@ use mathlib.Core.List.{List, [], _∷_, _++_, List·Memᴰ, List·Memᴰ·head, 
 use lib.ListN.{length, drop, getD, length-append, length-take, length-drop, drop-of-length-le, List·getD-append, List·getD-eq-default}
 use lib.Seq.{drop-cons, take-nil, take-suc, getD-at, getD-drop, getD-take}
 use lib.Dec.{T, eqb, eqb→eq, eqb-refl, lt→ltb}
-use Rattle.model.specs.Lists.{any, keep, concat, fold-left}
+use Rattle.model.specs.Lists.{any, keep, concat, fold-left, part}
 use Rattle.model.specs.Names.{Name, mem, union}
 use Rattle.model.specs.Terms.{Node, FreeV, Leaf, Call, App, Forall, Exists, Let, Labeled, Term, term, names-of, free-top-level-names, unlabeled, add-term, references}
 use Rattle.model.specs.declared.Op.{Op}
 use Rattle.model.proofs.ListLaws.{T-or, keep-intro, keep-elim, map-intro, map-elim, concat-append, fold-left-append}
 use Rattle.model.proofs.SetLaws.{mem-add, mem-union, Ascending, empty, ascending-add, ascending-union}
-use Rattle.terms.specs.Rows.{row-kind, row-op, row-head, row-start, row-extra, row-end, words, terms-of-words, group-of-words, groups-of-words, op-of-code, make-node, node-of, nodes-below, terms-of, has-head, has-body, has-groups, bare-of, Rows}
+use Rattle.model.proofs.PartLaws.{part-cons, part-drop, part-elim, part-length, part-nil}
+use Rattle.terms.specs.Rows.{row-kind, row-op, row-head, row-start, row-extra, row-end, terms-of-words, group-of-words, groups-of-words, op-of-code, make-node, node-of, nodes-below, terms-of, has-head, has-body, has-groups, bare-of, Rows}
 use Rattle.terms.proofs.Laws.{bare-label, bare-own, equal, below}
-
--- ---- words
-
--- words that are not over begin with the word at their start
-pub words-cons : (l : List ℕ) (a e : ℕ) → a < e → e ≤ length l → words l a e ≡ getD l a 0 ∷ words l (a + 1) e
-words-cons l a e h k =
-    let n : e - a ≡ suc (e - (a + 1)) = omega arith in
-    rw (n, drop-cons l a 0 (omega arith), add-one a)
-
--- words that are over are none
-pub words-nil : (l : List ℕ) (a e : ℕ) → e ≤ a → words l a e ≡ []
-words-nil l a e h =
-    let n : e - a ≡ 0 = omega arith in
-    rw n
-
--- how many words there are
-pub words-length : (l : List ℕ) (a e : ℕ) → e ≤ length l → length (words l a e) ≡ e - a
-words-length l a e k = rw (length-take, length-drop) (omega arith)
-
--- a place of the words
-pub record Place (l : List ℕ) (a e k : ℕ) : Type 0 where
-  pub place : ℕ
-  pub low : a ≤ place
-  pub high : place < e
-  pub is : getD l place 0 ≡ k
-
--- a word has a place
-pub words-elim : {l : List ℕ} {a e k : ℕ} → e ≤ length l → List·Memᴰ k (words l a e) → Place l a e k
-words-elim {l} {a} {e} h m = go (e - a) a e refl h m
-  where
-    go : (d a e : ℕ) {k : ℕ} → e - a ≡ d → e ≤ length l → List·Memᴰ k (words l a e) → Place l a e k
-    go zero a e q h m = absurd (List·Memᴰ·not-nil (rw (words-nil l a e (omega arith)) at m))
-    go (suc d) a e q h m = ⊎-elim
-        (λ f. record { place = a; low = omega arith; high = omega arith; is = sym f })
-        (λ n. let p = go d (a + 1) e (omega arith) h n in let x = p .low in record { place = p .place; low = omega arith; high = p .high; is = p .is })
-        (List·Memᴰ·cases-cons (rw (words-cons l a e (omega arith) h) at m))
-
--- the word at a place is one of them
-pub words-intro : (l : List ℕ) (a e i : ℕ) → e ≤ length l → a ≤ i → i < e → List·Memᴰ (getD l i 0) (words l a e)
-words-intro l a e i h = go (i - a) a refl
-  where
-    go : (d a : ℕ) → i - a ≡ d → a ≤ i → i < e → List·Memᴰ (getD l i 0) (words l a e)
-    go zero a q x y =
-        let f : i ≡ a = omega arith in
-        rw (words-cons l a e (omega arith) h) (List·Memᴰ·head (ap (λ n. getD l n 0) f))
-    go (suc d) a q x y = rw (words-cons l a e (omega arith) h) (List·Memᴰ·tail (go d (a + 1) (omega arith) (omega arith) y))
 
 -- ---- groups
 
@@ -322,19 +277,6 @@ single-length a e h = omega arith
 le-add-one : {m n : ℕ} → m ≤ n → m ≤ n + 1
 le-add-one h = omega arith
 
--- the words after the first
-pub words-drop : (l : List ℕ) (a e : ℕ) → drop 1 (words l a e) ≡ words l (a + 1) e
-words-drop l a e = go (e - a) refl
-  where
-    go : (d : ℕ) → e - a ≡ d → drop 1 (words l a e) ≡ words l (a + 1) e
-    go zero q = rw (words-nil l a e (omega arith), words-nil l (a + 1) e (omega arith))
-    go (suc d) q = ⊎-elim
-        (λ (h : a < length l).
-        let n : e - (a + 1) ≡ d = omega arith in
-        rw (q, n, drop-cons l a 0 h, add-one a))
-        (λ h. rw (drop-of-length-le l {i = a} h, drop-of-length-le l {i = a + 1} (le-add-one h), take-nil, take-nil))
-        (below a (length l))
-
 -- the node under a label
 unlabeled-label : (terms : List Term) (kind : ℕ) (op : Op) (name : Name) (ws : List ℕ) (g : ℕ) → kind ≡ 7 → unlabeled terms (make-node kind op name ws g) ≡ term terms (getD ws 0 0 % 4096) .bare
 unfolding unlabeled make-node
@@ -421,7 +363,7 @@ module _ (name : ℕ → Name) (refs rows : List ℕ) (used many : ℕ) where
           (below t n)
 
   -- a row has a node of its kind's form
-  pub row-right : {named : ℕ} → Rows refs rows used many named → (t : ℕ) → t < many → Right (row-kind rows t) (words refs (row-start rows t) (row-end rows used many t)) (row-extra rows t)
+  pub row-right : {named : ℕ} → Rows refs rows used many named → (t : ℕ) → t < many → Right (row-kind rows t) (part refs (row-start rows t) (row-end rows used many t)) (row-extra rows t)
   row-right r t l =
       let room = r .ref-room in
       let few = r .few-references in
@@ -429,22 +371,22 @@ module _ (name : ℕ → Name) (refs rows : List ℕ) (used many : ℕ) where
       let fits : row-end rows used many t ≤ length refs = omega arith in
       record {
         small = kind-small rows t;
-        childless = λ h. words-nil refs (row-start rows t) (row-end rows used many t) (omega (arith, r .childless t l h));
-        bodied = λ h. (getD refs (row-start rows t) 0, words refs (row-start rows t + 1) (row-end rows used many t), words-cons refs (row-start rows t) (row-end rows used many t) (r .bodied t l h) fits);
-        single = λ h. words-length refs (row-start rows t) (row-end rows used many t) fits ∙ single-length (row-start rows t) (row-end rows used many t) (r .single t l h);
+        childless = λ h. part-nil refs (row-start rows t) (row-end rows used many t) (omega (arith, r .childless t l h));
+        bodied = λ h. (getD refs (row-start rows t) 0, part refs (row-start rows t + 1) (row-end rows used many t), part-cons refs (row-start rows t) (row-end rows used many t) (r .bodied t l h) fits);
+        single = λ h. part-length refs (row-start rows t) (row-end rows used many t) fits ∙ single-length (row-start rows t) (row-end rows used many t) (r .single t l h);
         grouped = λ h w m.
-            let p = words-elim fits (rw (words-drop refs (row-start rows t) (row-end rows used many t)) at m) in
+            let p = part-elim fits (rw (part-drop refs (row-start rows t) (row-end rows used many t) 1) at m) in
             let low = p .low in
             rw (← (p .is)) (r .grouped t (p .place) l h (omega arith) (p .high));
       }
 
   -- the first reference word of a row with a body
-  pub first-word : {named : ℕ} → Rows refs rows used many named → (t : ℕ) → t < many → row-start rows t < row-end rows used many t → getD (words refs (row-start rows t) (row-end rows used many t)) 0 0 ≡ getD refs (row-start rows t) 0
+  pub first-word : {named : ℕ} → Rows refs rows used many named → (t : ℕ) → t < many → row-start rows t < row-end rows used many t → getD (part refs (row-start rows t) (row-end rows used many t)) 0 0 ≡ getD refs (row-start rows t) 0
   first-word r t l h =
       let room = r .ref-room in
       let few = r .few-references in
       let most = r .in-use t l in
-      rw (words-cons refs (row-start rows t) (row-end rows used many t) h (omega arith))
+      rw (part-cons refs (row-start rows t) (row-end rows used many t) h (omega arith))
 
   -- the node of a term of the table is that of its row
   pub term-node : (t : ℕ) → t < many → term (terms-of name refs rows used many) t .node ≡ node-of name refs rows used many t
@@ -506,33 +448,6 @@ bare-low {refs} {rows} {used} {many} r t l = go (suc t) t (omega arith) l
         (λ (e : row-kind rows t ≡ 7 → ⊥). omega (arith, bare-own rows t e))
         (equal (row-kind rows t) 7)
 
--- words of lists that agree from their start up to their end are the same
-pub words-agree : (l m : List ℕ) (d a e : ℕ) → e - a ≡ d → e ≤ length l → e ≤ length m → ((i : ℕ) → a ≤ i → i < e → getD m i 0 ≡ getD l i 0) → words m a e ≡ words l a e
-words-agree l m zero a e q x y h = rw (words-nil m a e (omega arith), words-nil l a e (omega arith))
-words-agree l m (suc d) a e q x y h =
-    words-cons m a e (omega arith) y
-    ∙ ap₂ _∷_ (h a (omega arith) (omega arith)) (words-agree l m d (a + 1) e (omega arith) x y (λ i k b. h i (omega arith) b))
-    ∙ sym (words-cons l a e (omega arith) x)
-
--- words of lists that agree up to their end are the same
-pub words-same : (l m : List ℕ) (d a e : ℕ) → e - a ≡ d → e ≤ length l → e ≤ length m → ((i : ℕ) → i < e → getD m i 0 ≡ getD l i 0) → words m a e ≡ words l a e
-words-same l m d a e q x y h = words-agree l m d a e q x y (λ i k b. h i b)
-
--- a word by its place
-pub words-at : (l : List ℕ) (a e i : ℕ) → a ≤ i → i < e → getD (words l a e) (i - a) 0 ≡ getD l i 0
-words-at l a e i h k =
-    let n : i - a < e - a = omega arith in
-    let q : a + (i - a) ≡ i = omega arith in
-    rw (getD-take (e - a) (drop a l) (i - a) 0 n, getD-drop a l (i - a) 0, q)
-
--- words with one more at their end
-pub words-snoc : (l : List ℕ) (a e : ℕ) → a ≤ e → e < length l → words l a (e + 1) ≡ words l a e ++ (getD l e 0 ∷ [])
-words-snoc l a e h k =
-    let n : e + 1 - a ≡ suc (e - a) = omega arith in
-    let i : a + (e - a) ≡ e = omega arith in
-    let j : e - a < length (drop a l) = rw (length-drop a l) (omega arith) in
-    rw (n, take-suc (drop a l) (e - a) 0 j, getD-drop a l (e - a) 0, i)
-
 -- lent slices are a table of no rows
 pub empty-rows : (refs rows : List ℕ) (named : ℕ) → 16384 ≤ length refs → 16384 ≤ length rows → named ≤ 2048 → Rows refs rows 0 0 named
 empty-rows refs rows named a b c = record {
@@ -574,4 +489,4 @@ terms-named {refs} {rows} {used} {many} name name′ same r = ap (fold-left add-
     go : (n : ℕ) → n ≤ many → nodes-below name refs rows used many n ≡ nodes-below name′ refs rows used many n
     go zero l = refl
     go (suc n) l = ap₂ (λ ns m. ns ++ (m ∷ [])) (go n (omega arith))
-        (node-name (row-kind rows n) (op-of-code (row-op rows n)) (name (row-head rows n)) (name′ (row-head rows n)) (words refs (row-start rows n) (row-end rows used many n)) (row-extra rows n) (λ h. same (row-head rows n) (r .headed n (omega arith) h)))
+        (node-name (row-kind rows n) (op-of-code (row-op rows n)) (name (row-head rows n)) (name′ (row-head rows n)) (part refs (row-start rows n) (row-end rows used many n)) (row-extra rows n) (λ h. same (row-head rows n) (r .headed n (omega arith) h)))

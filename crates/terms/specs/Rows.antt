@@ -7,7 +7,7 @@ use mathlib.Core.Bool.{Bool, cond, _||_}
 use mathlib.Core.List.{List, [], _∷_, _++_, map}
 use lib.ListN.{length, take, drop, getD}
 use lib.Dec.{T, eqb, ltb}
-use Rattle.model.specs.Lists.{keep, fold-left}
+use Rattle.model.specs.Lists.{keep, fold-left, part}
 use Rattle.model.specs.Names.{Name}
 use Rattle.model.specs.Terms.{Node, FreeV, Leaf, Call, App, Forall, Exists, Let, Labeled, Term, add-term}
 use Rattle.model.specs.declared.Op.{Op}
@@ -36,10 +36,6 @@ row-extra rows t = getD rows (8192 + t) 0
 -- where the references of a row end, in a table of `many` rows and `used` references
 unfoldable pub row-end : List ℕ → ℕ → ℕ → ℕ → ℕ
 row-end rows used many t = cond (ltb (t + 1) many) (row-start rows (t + 1)) used
-
--- the words of the references from one place up to another
-abbrev pub words : List ℕ → ℕ → ℕ → List ℕ
-words refs a e = take (e - a) (drop a refs)
 
 -- the terms that reference words name
 unfoldable pub terms-of-words : List ℕ → List ℕ
@@ -82,7 +78,7 @@ make-node (suc (suc (suc (suc (suc (suc (suc k))))))) op name ws g = Labeled (ge
 unfoldable pub node-of : (ℕ → Name) → List ℕ → List ℕ → ℕ → ℕ → ℕ → Node
 node-of name refs rows used many t =
     make-node (row-kind rows t) (op-of-code (row-op rows t)) (name (row-head rows t))
-    (words refs (row-start rows t) (row-end rows used many t)) (row-extra rows t)
+    (part refs (row-start rows t) (row-end rows used many t)) (row-extra rows t)
 
 -- the nodes before the t-th, of a table of `many` rows
 unfoldable pub nodes-below : (ℕ → Name) → List ℕ → List ℕ → ℕ → ℕ → ℕ → List Node

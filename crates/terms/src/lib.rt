@@ -1,7 +1,8 @@
 ghost use Prim.Native.Nat.{_+_, _/_, _%_, _≤_, _<_};
 ghost use mathlib.Core.Path.{_≡_};
 ghost use lib.ListN.{length, getD};
-ghost use Rattle.terms.specs.Rows.{row-kind, row-op, row-head, row-start, row-extra, row-end, words, bare-of, groups-at, group-run};
+ghost use Rattle.model.specs.Lists.{part};
+ghost use Rattle.terms.specs.Rows.{row-kind, row-op, row-head, row-start, row-extra, row-end, bare-of, groups-at, group-run};
 
 // The kind of a row: free 0, leaf 1, call 2, op 3, all 4, some 5, let 6, label 7.
 pub fn kind(rows: &[u32], t: usize) -> usize
@@ -96,7 +97,7 @@ pub fn group(refs: &[u32], i: usize) -> usize
 // The first place from `a` up to `e` whose reference is not of the group, or `e`.
 pub fn group_end(refs: &[u32], a: usize, e: usize, g: usize) -> usize
     requires { ⌜ (a ≤ e) × (e ≤ length (now refs)) ⌝ }
-    ensures { λ r. ⌜ r ≡ a + group-run g (words (now (refs .entry)) a e) ⌝ }
+    ensures { λ r. ⌜ r ≡ a + group-run g (part (now (refs .entry)) a e) ⌝ }
 {
     let mut i = a;
     while i < e {

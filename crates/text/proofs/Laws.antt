@@ -11,7 +11,7 @@ use lib.ListN.{length, take, drop, getD, length-take, length-drop, drop-of-lengt
 use lib.Seq.{drop-cons, take-nil, take-all, take-length, take-take, drop-drop}
 use lib.Dec.{leb, ltb, eqb, isLe, isEq}
 use borrow.Author.Tests.{eq-eqb, ne-eqb, le-leb, lt-leb, lt-ltb, le-ltb, ltb-true, leb-true, leb-false}
-use Rattle.model.specs.Lists.{all, when, _>>=_}
+use Rattle.model.specs.Lists.{all, when, _>>=_, part}
 use Rattle.model.specs.Names.{Name, order, by-byte, same, is-same, starts-with, ends-with}
 use Rattle.model.specs.Lines.{Line, lines, line-cons, Field, fields, field-cons, is-name-byte, is-name, is-digit, decimal, number}
 use Rattle.model.specs.Reading.{Result, ok, refused, need, name-field, number-field, term-field, next, _>>=_ as _>>=ᴿ_}
@@ -19,50 +19,20 @@ use Rattle.model.specs.declared.Order.{Order}
 use Rattle.model.specs.declared.Order.the-variants.{Before, Same, After}
 use Rattle.model.specs.declared.Refusal.{Refusal}
 use Rattle.model.specs.declared.Refusal.the-variants as refusal
+use Rattle.model.proofs.PartLaws.{part-all, part-cons, part-drop, part-length, part-nil, part-rest, part-take}
 use Rattle.text.specs.declared.Cursor.{Cursor}
 use Rattle.text.specs.declared.Decimal.the-variants as answer
 use Rattle.text.specs.declared.FieldStep.{FieldStep}
 use Rattle.text.specs.declared.FieldStep.the-variants as field
 use Rattle.text.specs.declared.NumberStep.{NumberStep}
 use Rattle.text.specs.declared.NumberStep.the-variants as numbered
-use Rattle.text.specs.Parts.{part, before, mark-at, as-decimal, Placed, fields-left, field-at, as-name, name-at, at-most, as-number, number-at, as-term, term-at, field-result, number-result}
+use Rattle.text.specs.Parts.{before, mark-at, as-decimal, Placed, fields-left, field-at, as-name, name-at, at-most, as-number, number-at, as-term, term-at, field-result, number-result}
 
 -- ---- parts
 
 -- the part from 0 more on is the part
 part-start : (s : List ℕ) (a e : ℕ) → part s (a + 0) e ≡ part s a e
 part-start s a e = rw (add-zero a)
-
--- the part from the start to the end is the list
-pub part-all : (s : List ℕ) → part s 0 (length s) ≡ s
-part-all s = rw (sub-zero (length s), take-length s)
-
--- the part from a position to the end is the rest of the list
-pub part-rest : (s : List ℕ) (at : ℕ) → part s at (length s) ≡ drop at s
-part-rest s at = take-all (length s - at) (drop at s) (rw length-drop (omega arith))
-
--- the length of a part
-pub part-length : (s : List ℕ) (a e : ℕ) → e ≤ length s → length (part s a e) ≡ e - a
-part-length s a e k = rw (length-take, length-drop) (omega arith)
-
--- what is left of a list's first m elements after the first n
-drop-take : (n m : ℕ) (l : List ℕ) → drop n (take m l) ≡ take (m - n) (drop n l)
-drop-take zero m l = rw (sub-zero m)
-drop-take (suc n) zero l = rw (zero-sub (suc n))
-drop-take (suc n) (suc m) [] = rw (take-nil (suc m - suc n))
-drop-take (suc n) (suc m) (x ∷ xs) = rw (suc-sub-suc m n, drop-take n m xs)
-
--- the first k bytes of a part
-pub part-take : (s : List ℕ) (a e k : ℕ) → a + k ≤ e → take k (part s a e) ≡ part s a (a + k)
-part-take s a e k h =
-    let n : a + k - a ≡ k = omega arith in
-    rw (n, take-take k (e - a) (drop a s) (omega arith))
-
--- a part without its first k bytes
-pub part-drop : (s : List ℕ) (a e k : ℕ) → drop k (part s a e) ≡ part s (a + k) e
-part-drop s a e k =
-    let n : e - a - k ≡ e - (a + k) = omega arith in
-    rw (drop-take, n, drop-drop)
 
 -- ---- the fields of a list
 
@@ -160,44 +130,38 @@ decimal-none (some n) h = cc
 -- ---- a part from i up to e with bytes left: what the byte at i says
 
 module _ (s : List ℕ) (i e : ℕ) (h : i < e) (k : e ≤ length s) where
-  -- the part begins with the byte
-  pub part-cons : part s i e ≡ getD s i 0 ∷ part s (i + 1) e
-  part-cons =
-      let n : e - i ≡ suc (e - (i + 1)) = omega arith in
-      rw (n, drop-cons s i 0 (omega arith), add-one i)
-
   -- the byte is the mark: it is found
   pub mark-here : (mark : ℕ) → getD s i 0 ≡ mark → mark-at mark s i e ≡ i
   unfolding mark-at before
-  mark-here mark b = rw (part-cons, eq-eqb (getD s i 0) mark b) (omega arith)
+  mark-here mark b = rw (part-cons s i e h k, eq-eqb (getD s i 0) mark b) (omega arith)
 
   -- the byte is not the mark: the search goes on
   pub mark-on : (mark : ℕ) → (getD s i 0 ≡ mark → ⊥) → mark-at mark s i e ≡ mark-at mark s (i + 1) e
   unfolding mark-at before
-  mark-on mark b = rw (part-cons, ne-eqb (getD s i 0) mark b) (omega arith)
+  mark-on mark b = rw (part-cons s i e h k, ne-eqb (getD s i 0) mark b) (omega arith)
 
   -- the byte is a comma: one field more than after it
   pub count-comma : getD s i 0 ≡ 0x2c → length (fields (part s i e)) ≡ 1 + length (fields (part s (i + 1) e))
-  count-comma b = rw (part-cons, fields-cons (getD s i 0) (part s (i + 1) e), eq-eqb (getD s i 0) 0x2c b)
+  count-comma b = rw (part-cons s i e h k, fields-cons (getD s i 0) (part s (i + 1) e), eq-eqb (getD s i 0) 0x2c b)
 
   -- the byte is no comma: as many fields as after it
   pub count-on : (getD s i 0 ≡ 0x2c → ⊥) → length (fields (part s i e)) ≡ length (fields (part s (i + 1) e))
-  count-on b = rw (part-cons, fields-cons (getD s i 0) (part s (i + 1) e), ne-eqb (getD s i 0) 0x2c b) (omega arith)
+  count-on b = rw (part-cons s i e h k, fields-cons (getD s i 0) (part s (i + 1) e), ne-eqb (getD s i 0) 0x2c b) (omega arith)
 
   -- the byte fails the test: the part does
   pub all-bad : (test : ℕ → Bool) → test (getD s i 0) ≡ false → all test (part s i e) ≡ false
   unfolding all
-  all-bad test b = rw (part-cons, b)
+  all-bad test b = rw (part-cons s i e h k, b)
 
   -- the byte passes the test: the others decide
   pub all-on : (test : ℕ → Bool) → test (getD s i 0) ≡ true → all test (part s i e) ≡ all test (part s (i + 1) e)
   unfolding all
-  all-on test b = rw (part-cons, b)
+  all-on test b = rw (part-cons s i e h k, b)
 
   -- the byte is `0`: the part is a number if nothing follows
   number-zero : getD s i 0 ≡ 0x30 → number (part s i e) ≡ when (leb (e - (i + 1)) 0) 0
   unfolding number
-  number-zero b = rw (part-cons, eq-eqb (getD s i 0) 0x30 b, part-length s (i + 1) e k)
+  number-zero b = rw (part-cons s i e h k, eq-eqb (getD s i 0) 0x30 b, part-length s (i + 1) e k)
 
   -- `0` alone is the number 0
   pub number-alone : getD s i 0 ≡ 0x30 → e - i ≡ 1 → number (part s i e) ≡ some 0
@@ -212,57 +176,51 @@ module _ (s : List ℕ) (i e : ℕ) (h : i < e) (k : e ≤ length s) where
   -- the byte is not `0`: the part is the number that its digits make
   pub number-digits : (getD s i 0 ≡ 0x30 → ⊥) → number (part s i e) ≡ valued 0 (part s i e)
   unfolding number valued
-  number-digits b = rw (part-cons, ne-eqb (getD s i 0) 0x30 b)
+  number-digits b = rw (part-cons s i e h k, ne-eqb (getD s i 0) 0x30 b)
 
   -- the byte is a digit: it goes into the value
   pub valued-on : (n : ℕ) → is-digit (getD s i 0) ≡ true
       → valued n (part s i e) ≡ valued (n * 10 + (getD s i 0 - 0x30)) (part s (i + 1) e)
   unfolding valued decimal
-  valued-on n d = rw (part-cons, d)
+  valued-on n d = rw (part-cons s i e h k, d)
 
   -- the byte is no digit: no number
   pub valued-bad : (n : ℕ) → is-digit (getD s i 0) ≡ false → valued n (part s i e) ≡ none
   unfolding valued decimal
-  valued-bad n d = rw (part-cons, d)
+  valued-bad n d = rw (part-cons s i e h k, d)
 
 -- ---- a part from i up to e with no byte left
 
 module _ (s : List ℕ) (i e : ℕ) (h : e ≤ i) where
-  -- the part is empty
-  pub part-nil : part s i e ≡ []
-  part-nil =
-      let n : e - i ≡ 0 = omega arith in
-      rw n
-
   -- the search for a mark is at its end
   pub mark-end : (mark : ℕ) → i ≤ e → mark-at mark s i e ≡ e
   unfolding mark-at before
-  mark-end mark k = rw part-nil (omega arith)
+  mark-end mark k = rw (part-nil s i e h) (omega arith)
 
   -- one field is left, the empty one
   pub count-end : length (fields (part s i e)) ≡ 1
   unfolding fields
-  count-end = rw part-nil
+  count-end = rw (part-nil s i e h)
 
   -- the part is no name
   pub name-empty : is-name (part s i e) ≡ false
   unfolding is-name
-  name-empty = rw part-nil
+  name-empty = rw (part-nil s i e h)
 
   -- every byte passes a test
   pub all-end : (test : ℕ → Bool) → all test (part s i e) ≡ true
   unfolding all
-  all-end test = rw part-nil
+  all-end test = rw (part-nil s i e h)
 
   -- the part is no number
   pub number-empty : number (part s i e) ≡ none
   unfolding number
-  number-empty = rw part-nil
+  number-empty = rw (part-nil s i e h)
 
   -- the number is the value so far
   pub valued-end : (n : ℕ) → n ≤ 65535 → valued n (part s i e) ≡ some n
   unfolding valued decimal when
-  valued-end n k = rw (part-nil, le-leb n 65535 k)
+  valued-end n k = rw (part-nil s i e h, le-leb n 65535 k)
 
 -- ---- a name's length
 

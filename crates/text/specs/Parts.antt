@@ -5,6 +5,7 @@ use mathlib.Core.List.{List, [], _∷_}
 use mathlib.Core.Option.{Option, none, some}
 use lib.ListN.{length, take, drop}
 use lib.Dec.{leb, ltb, eqb}
+use Rattle.model.specs.Lists.{part}
 use Rattle.model.specs.Lines.{Field, fields, is-name, number}
 use Rattle.model.specs.Reading.{Result, ok, refused}
 use Rattle.model.specs.declared.Refusal.{Refusal}
@@ -16,10 +17,6 @@ use Rattle.text.specs.declared.FieldStep.{FieldStep}
 use Rattle.text.specs.declared.FieldStep.the-variants as field
 use Rattle.text.specs.declared.NumberStep.{NumberStep}
 use Rattle.text.specs.declared.NumberStep.the-variants as numbered
-
--- the bytes of a file from position a up to e
-abbrev pub part : List ℕ → ℕ → ℕ → List ℕ
-part s a e = take (e - a) (drop a s)
 
 -- how many bytes stand before the first mark, or in all
 unfoldable pub before : ℕ → List ℕ → ℕ

@@ -3,9 +3,10 @@ use model::Refusal;
 ghost use Prim.Native.Nat.{_≤_};
 ghost use mathlib.Core.Path.{_≡_};
 ghost use lib.ListN.{length};
+ghost use Rattle.model.specs.Lists.{part};
 ghost use Rattle.model.specs.Names.{order, same, starts-with, ends-with};
 ghost use Rattle.model.specs.Lines.{fields, is-name, number};
-ghost use Rattle.text.specs.Parts.{part, mark-at, as-decimal, Placed, field-at, name-at, number-at, term-at};
+ghost use Rattle.text.specs.Parts.{mark-at, as-decimal, Placed, field-at, name-at, number-at, term-at};
 
 // A place in a line: the next field starts at `at`, and the line's bytes end before `end`. Past `end` no field is left.
 pub struct Cursor {

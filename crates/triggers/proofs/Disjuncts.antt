@@ -7,11 +7,10 @@ use mathlib.Core.List.{List, [], _∷_, _++_, map, map-append, append-nil, List�
 use lib.ListN.{length, getD, set, length-append, length-set}
 use lib.Seq.{getD-append-add, getD-set-same, getD-set-other}
 use borrow.Author.Tests.{lt-ltb, le-ltb}
-use Rattle.model.specs.Lists.{sum}
+use Rattle.model.specs.Lists.{sum, part}
 use Rattle.model.specs.Names.{Name, from-list}
-use Rattle.terms.specs.Rows.{words}
+use Rattle.model.proofs.PartLaws.{part-at, part-elim, part-last, part-length, part-nil, part-same, part-snoc}
 use Rattle.terms.proofs.Laws.{equal, below}
-use Rattle.terms.proofs.Table.{words-nil, words-length, words-elim, words-at, words-same, words-snoc}
 use Rattle.triggers.specs.Entries.{entry-number, before-first, disjuncts-of-words, disjuncts-of, entries, Entries}
 
 -- the last word of a list, if it has one, ends its disjunct
@@ -80,12 +79,6 @@ block-words (n ∷ ns) l h s =
 
 -- ---- a disjunct in a slice
 
--- the places up to the one before the end, and that one
-words-last : (l : List ℕ) (a e : ℕ) → a < e → e ≤ length l → words l a e ≡ words l a (e - 1) ++ (getD l (e - 1) 0 ∷ [])
-words-last l a e h k =
-    let q : e - 1 + 1 ≡ e = omega arith in
-    rw q at (words-snoc l a (e - 1) (omega arith) (omega arith))
-
 module _ (out : List ℕ) (at end named : ℕ) (few : named ≤ 2048) (long : end ≤ length out) (small : (i : ℕ) → at ≤ i → i < end → getD out i 0 < named) where
   -- the slice with the last entry marked
   abbrev marked : List ℕ
@@ -105,27 +98,27 @@ module _ (out : List ℕ) (at end named : ℕ) (few : named ≤ 2048) (long : en
     marked-other i n = getD-set-other out (end - 1) i (getD out (end - 1) 0 + 4096) 0 n
 
     -- the entries are one disjunct, of the names that stood there
-    pub block-sets : (name : ℕ → Name) → disjuncts-of name (words marked at end) ≡ from-list (map name (words out at end)) ∷ []
+    pub block-sets : (name : ℕ → Name) → disjuncts-of name (part marked at end) ≡ from-list (map name (part out at end)) ∷ []
     unfolding disjuncts-of
     block-sets name =
-        let same : words marked at (end - 1) ≡ words out at (end - 1) = words-same out marked (end - 1 - at) at (end - 1) refl (omega arith) (omega (arith, marked-long)) (λ i l. marked-other i (λ e. omega arith)) in
+        let same : part marked at (end - 1) ≡ part out at (end - 1) = part-same out marked (end - 1 - at) at (end - 1) refl (omega arith) (omega (arith, marked-long)) (λ i l. marked-other i (λ e. omega arith)) in
         ap (map (λ ns. from-list (map name ns)))
-        (ap disjuncts-of-words (words-last marked at end some marked-long ∙ ap₂ (λ ws w. ws ++ (w ∷ [])) same marked-last)
-        ∙ block-words (words out at (end - 1)) (getD out (end - 1) 0) (omega (arith, small (end - 1) (omega arith) (omega arith)))
+        (ap disjuncts-of-words (part-last marked at end some marked-long ∙ ap₂ (λ ws w. ws ++ (w ∷ [])) same marked-last)
+        ∙ block-words (part out at (end - 1)) (getD out (end - 1) 0) (omega (arith, small (end - 1) (omega arith) (omega arith)))
         (λ n m.
-        let p = words-elim {l = out} {a = at} {e = end - 1} (omega arith) m in
+        let p = part-elim {l = out} {a = at} {e = end - 1} (omega arith) m in
         let hi = p .high in
         rw (← (p .is)) (omega (arith, small (p .place) (p .low) (omega arith))))
-        ∙ ap (_∷ []) (sym (words-last out at end some long)))
+        ∙ ap (_∷ []) (sym (part-last out at end some long)))
 
     -- they are entries
-    pub block-entries : Entries named (words marked at end)
+    pub block-entries : Entries named (part marked at end)
     block-entries = record {
-      small = λ w m. low w (words-elim {l = marked} {a = at} {e = end} marked-long m .place) (words-elim {l = marked} {a = at} {e = end} marked-long m .low) (words-elim {l = marked} {a = at} {e = end} marked-long m .high) (words-elim {l = marked} {a = at} {e = end} marked-long m .is);
-      flagged = λ w m. high w (words-elim {l = marked} {a = at} {e = end} marked-long m .place) (words-elim {l = marked} {a = at} {e = end} marked-long m .low) (words-elim {l = marked} {a = at} {e = end} marked-long m .high) (words-elim {l = marked} {a = at} {e = end} marked-long m .is);
+      small = λ w m. low w (part-elim {l = marked} {a = at} {e = end} marked-long m .place) (part-elim {l = marked} {a = at} {e = end} marked-long m .low) (part-elim {l = marked} {a = at} {e = end} marked-long m .high) (part-elim {l = marked} {a = at} {e = end} marked-long m .is);
+      flagged = λ w m. high w (part-elim {l = marked} {a = at} {e = end} marked-long m .place) (part-elim {l = marked} {a = at} {e = end} marked-long m .low) (part-elim {l = marked} {a = at} {e = end} marked-long m .high) (part-elim {l = marked} {a = at} {e = end} marked-long m .is);
       closed = λ i e.
-          let q : i ≡ end - 1 - at = omega (arith, words-length marked at end marked-long) in
-          rw (q, words-at marked at end (end - 1) (omega arith) (omega arith), marked-last) (omega arith);
+          let q : i ≡ end - 1 - at = omega (arith, part-length marked at end marked-long) in
+          rw (q, part-at marked at end (end - 1) (omega arith) (omega arith), marked-last) (omega arith);
     }
       where
         low : (w i : ℕ) → at ≤ i → i < end → getD marked i 0 ≡ w → (w % 4096 < named) ⊎ (w % 4096 ≡ 2048)
@@ -141,18 +134,18 @@ module _ (out : List ℕ) (at end named : ℕ) (few : named ≤ 2048) (long : en
             (equal i (end - 1))
 
 -- the word of an empty disjunct
-empty-words : (out : List ℕ) (at : ℕ) → at < length out → words (set out at 6144) at (at + 1) ≡ 6144 ∷ []
+empty-words : (out : List ℕ) (at : ℕ) → at < length out → part (set out at 6144) at (at + 1) ≡ 6144 ∷ []
 empty-words out at h =
-    words-snoc (set out at 6144) at at (omega arith) (rw (length-set out at 6144) h)
-    ∙ ap₂ (λ ws w. ws ++ (w ∷ [])) (words-nil (set out at 6144) at at (omega arith)) (getD-set-same out at 6144 0 h)
+    part-snoc (set out at 6144) at at (omega arith) (rw (length-set out at 6144) h)
+    ∙ ap₂ (λ ws w. ws ++ (w ∷ [])) (part-nil (set out at 6144) at at (omega arith)) (getD-set-same out at 6144 0 h)
 
 -- is one disjunct without names
-pub empty-sets : (name : ℕ → Name) (out : List ℕ) (at : ℕ) → at < length out → disjuncts-of name (words (set out at 6144) at (at + 1)) ≡ from-list (map name []) ∷ []
+pub empty-sets : (name : ℕ → Name) (out : List ℕ) (at : ℕ) → at < length out → disjuncts-of name (part (set out at 6144) at (at + 1)) ≡ from-list (map name []) ∷ []
 unfolding disjuncts-of disjuncts-of-words entry-number
 empty-sets name out at h = rw (empty-words out at h)
 
 -- and an entry
-pub empty-entries : (named : ℕ) (out : List ℕ) (at : ℕ) → at < length out → Entries named (words (set out at 6144) at (at + 1))
+pub empty-entries : (named : ℕ) (out : List ℕ) (at : ℕ) → at < length out → Entries named (part (set out at 6144) at (at + 1))
 empty-entries named out at h = rw (empty-words out at h) (record {
   small = λ w m. inr (one w m);
   flagged = λ w m. few w m;

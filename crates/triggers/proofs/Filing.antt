@@ -5,12 +5,11 @@ use mathlib.Core.Path.{_≡_, refl, sym, ap, ap₂, _∙_}
 use mathlib.Core.Bool.{true}
 use mathlib.Core.List.{List, [], _∷_, _++_, map}
 use lib.ListN.{length, getD, set, length-append}
-use Rattle.model.specs.Lists.{sum}
+use Rattle.model.specs.Lists.{sum, part}
 use Rattle.model.specs.Names.{Name, from-list}
 use Rattle.model.specs.Summaries.{exclude-names, free-top-level-names, group-names}
-use Rattle.terms.specs.Rows.{words, terms-of-words, terms-of, Rows}
-use Rattle.terms.proofs.Table.{words-nil, words-same}
-use Rattle.terms.proofs.Groups.{words-split}
+use Rattle.model.proofs.PartLaws.{part-nil, part-same, part-split}
+use Rattle.terms.specs.Rows.{terms-of-words, terms-of, Rows}
 use Rattle.gather.specs.Sets.{Same-but, Fresh, Named, Gathers, all-names, no-room as no-names, Gathered, ended}
 use Rattle.gather.specs.declared.Walked.{Walked}
 use Rattle.gather.specs.declared.Walked.the-variants as gathered
@@ -38,7 +37,7 @@ term-set refs rows used many t name = free-top-level-names exclude-names (terms-
 
 -- those of the terms that the references from a up to e name
 abbrev pub list-set : List ℕ → List ℕ → ℕ → ℕ → ℕ → ℕ → (ℕ → Name) → List Name
-list-set refs rows used many a e name = group-names exclude-names (terms-of name refs rows used many) (terms-of-words (words refs a e))
+list-set refs rows used many a e name = group-names exclude-names (terms-of name refs rows used many) (terms-of-words (part refs a e))
 
 -- where the entries of an answer end
 answer-end : {n m e k : ℕ} → filed.Sets n e ≡ filed.Sets m k → e ≡ k
@@ -58,7 +57,7 @@ files-one : {name : ℕ → Name} {named at end : ℕ} {s : List Name} {out out�
 files-one {name} {named} {at} {end} {s} {out} few long (all-names is count fits small) (last some q) =
     rw q (all-sets (block-sets out at end named few (omega arith) small some name ∙ ap (_∷ []) is) refl (omega (arith, entries-one s)) fits (block-entries out at end named few (omega arith) small some))
 files-one {name} {named} {at} {end} {s} {out} few long (all-names is count fits small) (empty e l q) =
-    rw q (all-sets (empty-sets name out at (omega arith) ∙ ap (_∷ []) (ap (λ ws. from-list (map name ws)) (sym (words-nil out at end (omega arith))) ∙ is)) refl (omega (arith, entries-one s)) (omega arith) (empty-entries named out at (omega arith)))
+    rw q (all-sets (empty-sets name out at (omega arith) ∙ ap (_∷ []) (ap (λ ws. from-list (map name ws)) (sym (part-nil out at end (omega arith))) ∙ is)) refl (omega (arith, entries-one s)) (omega arith) (empty-entries named out at (omega arith)))
 files-one {at} {s} few long (all-names is count fits small) (over e l q) = no-room (omega (arith, entries-one s))
 
 -- a set without room has none as a disjunct
@@ -181,9 +180,9 @@ unfolding after
 files-then {name} {at = at} {m = m} {s} {t} {out} {out′} long (all-sets a b c d f) same (all-sets {e = e} a′ b′ c′ d′ f′) =
     let more = entries-append s t in
     let l : length out′ ≡ length out = same .same-length in
-    let kept : words out′ at m ≡ words out at m = words-same out out′ (m - at) at m refl (omega arith) (omega arith) (λ i h. same .same-words i (λ x y. omega arith)) in
-    let whole : words out′ at e ≡ words out at m ++ words out′ m e = words-split out′ (m - at) at m e refl (omega arith) (omega arith) (omega arith) ∙ ap (_++ words out′ m e) kept in
-    all-sets (ap (disjuncts-of name) whole ∙ sets-append name (words out at m) (words out′ m e) f ∙ ap₂ _++_ a a′) (ap₂ _+_ b b′ ∙ sym (length-append s t)) (omega arith) d′ (rw whole (entries-then (words out at m) (words out′ m e) f f′))
+    let kept : part out′ at m ≡ part out at m = part-same out out′ (m - at) at m refl (omega arith) (omega arith) (λ i h. same .same-words i (λ x y. omega arith)) in
+    let whole : part out′ at e ≡ part out at m ++ part out′ m e = part-split out′ (m - at) at m e refl (omega arith) (omega arith) (omega arith) ∙ ap (_++ part out′ m e) kept in
+    all-sets (ap (disjuncts-of name) whole ∙ sets-append name (part out at m) (part out′ m e) f ∙ ap₂ _++_ a a′) (ap₂ _+_ b b′ ∙ sym (length-append s t)) (omega arith) d′ (rw whole (entries-then (part out at m) (part out′ m e) f f′))
 files-then {s = s} {t = t} long (all-sets a b c d f) same (no-room p) = no-room (omega (arith, entries-append s t))
 
 -- where the entries of a later answer end
@@ -257,7 +256,7 @@ module _ {names rows out names₁ rows₁ out₁ : List ℕ} {named mark at coun
 -- no disjunct is filed
 files-none : (name : ℕ → Name) (named at : ℕ) (out : List ℕ) → at ≤ 8192 → Files name named [] at out (filed.Sets 0 at)
 unfolding disjuncts-of disjuncts-of-words entries sum
-files-none name named at out h = all-sets {n = 0} {e = at} (rw (words-nil out at at (omega arith))) refl (omega arith) h (rw (words-nil out at at (omega arith)) (no-entries named))
+files-none name named at out h = all-sets {n = 0} {e = at} (rw (part-nil out at at (omega arith))) refl (omega arith) h (rw (part-nil out at at (omega arith)) (no-entries named))
 
 -- no disjunct comes to none
 pub comes-none : {names rows out : List ℕ} {named mark at : ℕ} → Opened names rows out mark at → Comes names rows out names rows out named mark at (λ name. []) (filing names rows out mark at) 0 (filed.Sets 0 at)

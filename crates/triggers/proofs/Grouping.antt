@@ -5,12 +5,13 @@ use mathlib.Core.Path.{_≡_, refl, sym, ap, ap₂, _∙_}
 use mathlib.Core.Bool.{Bool, true, false, not}
 use mathlib.Core.List.{List, [], _∷_, _++_, map, map-append, append-nil}
 use lib.ListN.{length, getD, length-append}
-use Rattle.model.specs.Lists.{collect, fold-left, sum, is-nil}
+use Rattle.model.specs.Lists.{collect, fold-left, sum, is-nil, part}
 use Rattle.model.specs.Names.{Name}
 use Rattle.model.specs.Summaries.{exclude-names, group-names, triggers-of-term, is-empty}
 use Rattle.model.proofs.ListLaws.{collect-append}
-use Rattle.terms.specs.Rows.{row-start, row-end, words, terms-of-words, group-of-words, groups-of-words, group-run, terms-of, bare-of, groups-at, Rows}
-use Rattle.terms.proofs.Table.{words-nil, bare-low}
+use Rattle.model.proofs.PartLaws.{part-nil}
+use Rattle.terms.specs.Rows.{row-start, row-end, terms-of-words, group-of-words, groups-of-words, group-run, terms-of, bare-of, groups-at, Rows}
+use Rattle.terms.proofs.Table.{bare-low}
 use Rattle.terms.proofs.Laws.{groups-all}
 use Rattle.terms.proofs.Groups.{Before, group-first, group-next, group-place, group-last, terms-split, terms-more}
 use Rattle.gather.specs.Sets.{Same-but, Fresh, Gathers, all-names, no-room, Gathered}
@@ -59,10 +60,10 @@ module _ {refs rows : List ℕ} {used many named t groups u e : ℕ} (r : Rows r
   groups-last : {g p : ℕ} → g ≡ groups → Before refs (row-start rows u + 1) (row-end rows used many u) g p → p ≡ e
   groups-last q b = group-last r (all .lower) (all .quantifier) (rw (q ∙ all .counted) at b) ∙ sym (all .ends)
 
-  module _ {g a b : ℕ} (before : Before refs (row-start rows u + 1) (row-end rows used many u) g a) (run : b ≡ a + group-run g (words refs a e)) where
+  module _ {g a b : ℕ} (before : Before refs (row-start rows u + 1) (row-end rows used many u) g a) (run : b ≡ a + group-run g (part refs a e)) where
     -- the end of the group's references
-    run-is : b ≡ a + group-run g (words refs a (row-end rows used many u))
-    run-is = run ∙ ap (λ k. a + group-run g (words refs a k)) (all .ends)
+    run-is : b ≡ a + group-run g (part refs a (row-end rows used many u))
+    run-is = run ∙ ap (λ k. a + group-run g (part refs a k)) (all .ends)
 
     -- after the group stand the references of the next
     pub groups-next : Before refs (row-start rows u + 1) (row-end rows used many u) (g + 1) b
@@ -77,15 +78,15 @@ module _ {refs rows : List ℕ} {used many named t groups u e : ℕ} (r : Rows r
         (omega arith, omega (arith, r .in-use u few), λ i x y. omega (arith, r .lower u i few (omega arith) (omega arith)))
 
     -- the terms of the group
-    group-terms : terms-of-words (words refs a b) ≡ group-of-words (patterns refs rows used many u) g
+    group-terms : terms-of-words (part refs a b) ≡ group-of-words (patterns refs rows used many u) g
     group-terms = rw run-is (group-place r (all .lower) (all .quantifier) before)
 
     -- the group filed after those before it
     pub groups-then : {names out names₁ rows₁ out₁ names₂ rows₂ out₂ : List ℕ} {mark at end : ℕ} {f : Filed} → 8192 ≤ length out
         → Comes names rows out names₁ rows₁ out₁ named mark at (λ name. map (names-of name) (groups-of-words (patterns refs rows used many u) g)) (fold-left (file-list refs used many) (filing names rows out mark at) (groups-of-words (patterns refs rows used many u) g)) g (filed.Sets g end)
-        → Comes names₁ rows₁ out₁ names₂ rows₂ out₂ named (mark + (end - at)) end (λ name. group-names exclude-names (terms-of name refs rows₁ used many) (terms-of-words (words refs a b)) ∷ []) (file-list refs used many (filing names₁ rows₁ out₁ (mark + (end - at)) end) (terms-of-words (words refs a b))) 1 f
+        → Comes names₁ rows₁ out₁ names₂ rows₂ out₂ named (mark + (end - at)) end (λ name. group-names exclude-names (terms-of name refs rows₁ used many) (terms-of-words (part refs a b)) ∷ []) (file-list refs used many (filing names₁ rows₁ out₁ (mark + (end - at)) end) (terms-of-words (part refs a b))) 1 f
         → Comes names rows out names₂ rows₂ out₂ named mark at (λ name. map (names-of name) (groups-of-words (patterns refs rows used many u) (g + 1))) (fold-left (file-list refs used many) (filing names rows out mark at) (groups-of-words (patterns refs rows used many u) (g + 1))) (g + 1) (after g f)
-    groups-then {names} {out} {mark = mark} {at} long c d = comes-next _ _ _ (λ f. file-list refs used many f (terms-of-words (words refs a b))) (r .few-names) long
+    groups-then {names} {out} {mark = mark} {at} long c d = comes-next _ _ _ (λ f. file-list refs used many f (terms-of-words (part refs a b))) (r .few-names) long
         (λ name.
         ap (λ x. map (names-of name) (groups-of-words (patterns refs rows used many u) g) ++ (x ∷ [])) (ap₂ (group-names exclude-names) (terms-marked name (c .filled .rows-same) r) group-terms)
         ∙ groups-more (names-of name) (patterns refs rows used many u) g)
@@ -135,44 +136,44 @@ groups-none {refs} {rows} {names} {out} {used} {many} {mark = mark} {at} t r l c
 
 -- the triggers of the terms up to a place and of the term there
 list-more : {A : Type 0} (f : ℕ → List A) (refs : List ℕ) (a i t : ℕ) → a ≤ i → i < length refs → t ≡ getD refs i 0 % 4096
-    → collect f (terms-of-words (words refs a i)) ++ f t ≡ collect f (terms-of-words (words refs a (i + 1)))
+    → collect f (terms-of-words (part refs a i)) ++ f t ≡ collect f (terms-of-words (part refs a (i + 1)))
 unfolding collect
 list-more f refs a i t h l e = rw (terms-more refs a i h l, collect-append, e, append-nil)
 
 -- the triggers of fewer terms take no more entries
-list-fewer : (f : ℕ → List (List Name)) (refs : List ℕ) (a i e : ℕ) → a ≤ i → i ≤ e → e ≤ length refs → entries (collect f (terms-of-words (words refs a i))) ≤ entries (collect f (terms-of-words (words refs a e)))
+list-fewer : (f : ℕ → List (List Name)) (refs : List ℕ) (a i e : ℕ) → a ≤ i → i ≤ e → e ≤ length refs → entries (collect f (terms-of-words (part refs a i))) ≤ entries (collect f (terms-of-words (part refs a e)))
 list-fewer f refs a i e h k l =
     rw (terms-split refs a i e h k l, collect-append)
-    (omega (arith, entries-append (collect f (terms-of-words (words refs a i))) (collect f (terms-of-words (words refs i e)))))
+    (omega (arith, entries-append (collect f (terms-of-words (part refs a i))) (collect f (terms-of-words (part refs i e)))))
 
 -- no term has no trigger
-list-none : {A : Type 0} (f : ℕ → List A) (refs : List ℕ) (a i : ℕ) → i ≡ a → [] ≡ collect f (terms-of-words (words refs a i))
+list-none : {A : Type 0} (f : ℕ → List A) (refs : List ℕ) (a i : ℕ) → i ≡ a → [] ≡ collect f (terms-of-words (part refs a i))
 unfolding terms-of-words collect
-list-none f refs a i q = rw (words-nil refs a i (omega arith))
+list-none f refs a i q = rw (part-nil refs a i (omega arith))
 
 -- the triggers of the terms that the references from a up to e name, by the names of the numbers
 abbrev pub list-sets : List ℕ → List ℕ → ℕ → ℕ → ℕ → ℕ → (ℕ → Name) → List (List Name)
-list-sets refs rows used many a e name = collect (triggers-of-term exclude-names (terms-of name refs rows used many)) (terms-of-words (words refs a e))
+list-sets refs rows used many a e name = collect (triggers-of-term exclude-names (terms-of name refs rows used many)) (terms-of-words (part refs a e))
 
 -- how many there are
 abbrev pub list-count : List ℕ → List ℕ → ℕ → ℕ → ℕ
-list-count refs rows a e = sum (map (groups-at rows) (terms-of-words (words refs a e)))
+list-count refs rows a e = sum (map (groups-at rows) (terms-of-words (part refs a e)))
 
 module _ {refs rows names out : List ℕ} {used many named mark at a e : ℕ} (r : Rows refs rows used many named) (h : Opened names rows out mark at) (in-use : e ≤ used) where
   -- no term files nothing
-  pub list-start : {i : ℕ} → i ≡ a → Comes names rows out names rows out named mark at (list-sets refs rows used many a i) (file-parts refs used many (filing names rows out mark at) (terms-of-words (words refs a i))) (list-count refs rows a i) (filed.Sets 0 at)
+  pub list-start : {i : ℕ} → i ≡ a → Comes names rows out names rows out named mark at (list-sets refs rows used many a i) (file-parts refs used many (filing names rows out mark at) (terms-of-words (part refs a i))) (list-count refs rows a i) (filed.Sets 0 at)
   unfolding file-parts terms-of-words fold-left sum
-  list-start {i} q = comes-as (λ name. list-none (triggers-of-term exclude-names (terms-of name refs rows used many)) refs a i q) (rw (words-nil refs a i (omega arith))) (rw (words-nil refs a i (omega arith))) (comes-none h)
+  list-start {i} q = comes-as (λ name. list-none (triggers-of-term exclude-names (terms-of name refs rows used many)) refs a i q) (rw (part-nil refs a i (omega arith))) (rw (part-nil refs a i (omega arith))) (comes-none h)
 
   module _ {names₁ rows₁ out₁ names₂ rows₂ out₂ : List ℕ} {count end i t : ℕ} {f : Filed} (low : a ≤ i) (high : i < e) (is : t ≡ getD refs i 0 % 4096) (lower : t < many)
-      (c : Comes names rows out names₁ rows₁ out₁ named mark at (list-sets refs rows used many a i) (file-parts refs used many (filing names rows out mark at) (terms-of-words (words refs a i))) (list-count refs rows a i) (filed.Sets count end))
+      (c : Comes names rows out names₁ rows₁ out₁ named mark at (list-sets refs rows used many a i) (file-parts refs used many (filing names rows out mark at) (terms-of-words (part refs a i))) (list-count refs rows a i) (filed.Sets count end))
       (d : Comes names₁ rows₁ out₁ names₂ rows₂ out₂ named (mark + (end - at)) end (λ name. triggers-of-term exclude-names (terms-of name refs rows₁ used many) t) (file-groups refs used many (filing names₁ rows₁ out₁ (mark + (end - at)) end) t) (groups-at rows₁ t) f) where
     -- the references are in the slice
     list-fits : i < length refs
     list-fits = omega (arith, r .few-references, r .ref-room)
 
     -- the term's after those before it
-    list-then : Comes names rows out names₂ rows₂ out₂ named mark at (list-sets refs rows used many a (i + 1)) (file-parts refs used many (filing names rows out mark at) (terms-of-words (words refs a (i + 1)))) (list-count refs rows a (i + 1)) (after count f)
+    list-then : Comes names rows out names₂ rows₂ out₂ named mark at (list-sets refs rows used many a (i + 1)) (file-parts refs used many (filing names rows out mark at) (terms-of-words (part refs a (i + 1)))) (list-count refs rows a (i + 1)) (after count f)
     list-then = comes-next _ _ _ (λ f. file-groups refs used many f t) (r .few-names) (h .high)
         (λ name.
         ap (λ ts. list-sets refs rows used many a i name ++ triggers-of-term exclude-names ts t) (terms-marked name (c .filled .rows-same) r)
@@ -181,20 +182,20 @@ module _ {refs rows names out : List ℕ} {used many named mark at a e : ℕ} (r
         (ap (λ n. list-count refs rows a i + n) (groups-marked (c .filled .rows-same) r t lower) ∙ counted-more rows refs a i t low list-fits is) c d
 
     -- where there is no room for them there is none for all
-    pub list-full : f ≡ filed.Full → Comes names rows out names₂ rows₂ out₂ named mark at (list-sets refs rows used many a e) (file-parts refs used many (filing names rows out mark at) (terms-of-words (words refs a e))) (list-count refs rows a e) filed.Full
+    pub list-full : f ≡ filed.Full → Comes names rows out names₂ rows₂ out₂ named mark at (list-sets refs rows used many a e) (file-parts refs used many (filing names rows out mark at) (terms-of-words (part refs a e))) (list-count refs rows a e) filed.Full
     list-full q = comes-more
         (λ name. list-fewer (triggers-of-term exclude-names (terms-of name refs rows used many)) refs a (i + 1) e (omega arith) (omega arith) (omega (arith, r .few-references, r .ref-room)))
         (filed-parts refs used many (filing names rows out mark at) a (i + 1) (omega arith) e (omega arith) (omega (arith, r .few-references, r .ref-room)))
         (comes-is (after-full count q) list-then)
 
     -- the triggers up to the next place
-    pub list-next : {k m : ℕ} → f ≡ filed.Sets k m → Comes names rows out names₂ rows₂ out₂ named mark at (list-sets refs rows used many a (i + 1)) (file-parts refs used many (filing names rows out mark at) (terms-of-words (words refs a (i + 1)))) (list-count refs rows a (i + 1)) (filed.Sets (count + k) m)
+    pub list-next : {k m : ℕ} → f ≡ filed.Sets k m → Comes names rows out names₂ rows₂ out₂ named mark at (list-sets refs rows used many a (i + 1)) (file-parts refs used many (filing names rows out mark at) (terms-of-words (part refs a (i + 1)))) (list-count refs rows a (i + 1)) (filed.Sets (count + k) m)
     list-next {k} {m} q = comes-is (after-sets count k m (count + k) q refl) list-then
 
   -- the triggers up to the end
   pub list-done : {names₁ rows₁ out₁ : List ℕ} {i : ℕ} {f : Filed} → a ≤ i → i ≤ e → e ≤ i
-      → Comes names rows out names₁ rows₁ out₁ named mark at (list-sets refs rows used many a i) (file-parts refs used many (filing names rows out mark at) (terms-of-words (words refs a i))) (list-count refs rows a i) f
-      → Comes names rows out names₁ rows₁ out₁ named mark at (list-sets refs rows used many a e) (file-parts refs used many (filing names rows out mark at) (terms-of-words (words refs a e))) (list-count refs rows a e) f
+      → Comes names rows out names₁ rows₁ out₁ named mark at (list-sets refs rows used many a i) (file-parts refs used many (filing names rows out mark at) (terms-of-words (part refs a i))) (list-count refs rows a i) f
+      → Comes names rows out names₁ rows₁ out₁ named mark at (list-sets refs rows used many a e) (file-parts refs used many (filing names rows out mark at) (terms-of-words (part refs a e))) (list-count refs rows a e) f
   list-done {i = i} k x y c =
       let q : i ≡ e = omega arith in
       rw q at c
@@ -248,14 +249,14 @@ module _ {refs rows : List ℕ} {used many named t groups u e : ℕ} (r : Rows r
         (groups-asks r all b .0, omega (arith, all .ends, r .in-use u few), λ i x y. omega (arith, all .ends, r .lower u i few (omega arith) (omega (arith, all .ends))))
 
     -- they are the terms of the group
-    single-terms : terms-of-words (words refs a e) ≡ group-of-words (patterns refs rows used many u) 0
+    single-terms : terms-of-words (part refs a e) ≡ group-of-words (patterns refs rows used many u) 0
     single-terms =
         let b = groups-first r all starts in
-        let last : a + group-run 0 (words refs a e) ≡ e = groups-last r all (sym one) (groups-next r all b refl) in
+        let last : a + group-run 0 (part refs a e) ≡ e = groups-last r all (sym one) (groups-next r all b refl) in
         group-terms r all b (sym last)
 
     -- they are the one trigger
-    pub single-trigger : (name : ℕ → Name) → triggers-of-term exclude-names (terms-of name refs rows used many) t ≡ group-names exclude-names (terms-of name refs rows used many) (terms-of-words (words refs a e)) ∷ []
+    pub single-trigger : (name : ℕ → Name) → triggers-of-term exclude-names (terms-of name refs rows used many) t ≡ group-names exclude-names (terms-of name refs rows used many) (terms-of-words (part refs a e)) ∷ []
     unfolding groups-of-words
     single-trigger name =
         sym (triggers-all r l all name)
@@ -263,9 +264,9 @@ module _ {refs rows : List ℕ} {used many named t groups u e : ℕ} (r : Rows r
         ∙ ap (λ ts. group-names exclude-names (terms-of name refs rows used many) ts ∷ []) (sym single-terms)
 
     module _ {names out names′ rows′ out′ : List ℕ} {mark at : ℕ} {w : Walked} (g : Gathered names rows out names′ rows′ out′ mark at at w)
-        (x : Walks-as (visit-list names refs rows used many (at - at) (terms-of-words (words refs a e))) names rows out names′ rows′ out′ mark at w) where
+        (x : Walks-as (visit-list names refs rows used many (at - at) (terms-of-words (part refs a e))) names rows out names′ rows′ out′ mark at w) where
       -- every word of the slices after gathering them without room
-      single-words : (b : Bool) → visit-list names refs rows used many (at - at) (terms-of-words (words refs a e)) .full ≡ b
+      single-words : (b : Bool) → visit-list names refs rows used many (at - at) (terms-of-words (part refs a e)) .full ≡ b
           → Asks-as (ask-empty refs used many names rows t) names rows out names′ rows′ out′ mark (not b)
       single-words b q =
           let walk = walked-one names a at all one single-terms in
@@ -285,7 +286,7 @@ module _ {refs rows : List ℕ} {used many named t groups u e : ℕ} (r : Rows r
       single-some e = single-words true (answer-full at _ (sym e ∙ x .answer))
 
     -- a gathered set that has no name is empty, and one that has no room is not
-    pub single-empty : {name : ℕ → Name} {at n : ℕ} {out : List ℕ} {f : Walked} → f ≡ gathered.Names n → Gathers name named (group-names exclude-names (terms-of name refs rows used many) (terms-of-words (words refs a e))) at at out f
+    pub single-empty : {name : ℕ → Name} {at n : ℕ} {out : List ℕ} {f : Walked} → f ≡ gathered.Names n → Gathers name named (group-names exclude-names (terms-of name refs rows used many) (terms-of-words (part refs a e))) at at out f
         → true ≡ is-empty (triggers-of-term exclude-names (terms-of name refs rows used many) t)
     single-empty {name} p g = rw (single-trigger name) (empty-nil _ (none (rw p at g)))
       where
@@ -293,7 +294,7 @@ module _ {refs rows : List ℕ} {used many named t groups u e : ℕ} (r : Rows r
         none (all-names is count fits small) = omega arith
 
     -- the other answer
-    pub single-full : {name : ℕ → Name} {at : ℕ} {out : List ℕ} {f : Walked} → f ≡ gathered.Full → Gathers name named (group-names exclude-names (terms-of name refs rows used many) (terms-of-words (words refs a e))) at at out f
+    pub single-full : {name : ℕ → Name} {at : ℕ} {out : List ℕ} {f : Walked} → f ≡ gathered.Full → Gathers name named (group-names exclude-names (terms-of name refs rows used many) (terms-of-words (part refs a e))) at at out f
         → false ≡ is-empty (triggers-of-term exclude-names (terms-of name refs rows used many) t)
     single-full {name} p g = rw (single-trigger name) (empty-some _ (some (rw p at g)))
       where

@@ -7,13 +7,14 @@ use mathlib.Core.Logic.{⊎-elim}
 use mathlib.Core.List.{List, [], _∷_, _++_, map, map-append}
 use lib.ListN.{drop}
 use lib.Dec.{T}
-use Rattle.model.specs.Lists.{fold-left}
+use Rattle.model.specs.Lists.{fold-left, part}
 use Rattle.model.specs.Names.{Name}
 use Rattle.model.specs.Terms.{add-term}
 use Rattle.model.specs.Summaries.{exclude-names, group-names, triggers-of-term}
-use Rattle.terms.specs.Rows.{row-kind, row-op, row-head, row-start, row-extra, row-end, words, group-of-words, groups-of-words, node-of, nodes-below, terms-of, has-groups, bare-of, groups-at, Rows}
+use Rattle.model.proofs.PartLaws.{part-drop}
+use Rattle.terms.specs.Rows.{row-kind, row-op, row-head, row-start, row-extra, row-end, group-of-words, groups-of-words, node-of, nodes-below, terms-of, has-groups, bare-of, groups-at, Rows}
 use Rattle.terms.proofs.Laws.{equal, below, groups-all, groups-other}
-use Rattle.terms.proofs.Table.{bare-low, words-drop}
+use Rattle.terms.proofs.Table.{bare-low}
 use Rattle.terms.proofs.Groups.{groups-count}
 use Rattle.gather.specs.Sets.{Named, Fresh, Same-but, Gathered}
 use Rattle.gather.specs.declared.Walked.{Walked}
@@ -75,7 +76,7 @@ pub record All (refs rows : List ℕ) (used many t groups u e : ℕ) : Type 0 wh
 
 -- the reference words of its patterns
 abbrev pub patterns : List ℕ → List ℕ → ℕ → ℕ → ℕ → List ℕ
-patterns refs rows used many u = drop 1 (words refs (row-start rows u) (row-end rows used many u))
+patterns refs rows used many u = drop 1 (part refs (row-start rows u) (row-end rows used many u))
 
 module _ {refs rows : List ℕ} {used many named t groups : ℕ} (r : Rows refs rows used many named) (l : t < many) (counts : groups ≡ groups-at rows t) where
   -- a term with groups is an `all`
@@ -96,13 +97,13 @@ module _ {refs rows : List ℕ} {used many named t groups : ℕ} (r : Rows refs 
   -- a term without groups has no trigger
   pub triggers-none : groups ≡ 0 → (name : ℕ → Name) → triggers-of-term exclude-names (terms-of name refs rows used many) t ≡ []
   unfolding groups-of-words
-  triggers-none z name = groups-count r name l ∙ ap (λ g. map (group-names exclude-names (terms-of name refs rows used many)) (groups-of-words (words refs (row-start rows (bare-of rows t) + 1) (row-end rows used many (bare-of rows t))) g)) (sym counts ∙ z)
+  triggers-none z name = groups-count r name l ∙ ap (λ g. map (group-names exclude-names (terms-of name refs rows used many)) (groups-of-words (part refs (row-start rows (bare-of rows t) + 1) (row-end rows used many (bare-of rows t))) g)) (sym counts ∙ z)
 
 -- the groups of a term with groups
 pub groups-here : {refs rows : List ℕ} {used many t groups u e : ℕ} → All refs rows used many t groups u e → groups-of-words (patterns refs rows used many u) groups ≡ groups-under refs used many rows t
 unfolding groups-under
 groups-here {refs} {rows} {used} {many} {t} {groups} {u} a = ap₂ groups-of-words
-    (words-drop refs (row-start rows u) (row-end rows used many u) ∙ ap (λ v. words refs (row-start rows v + 1) (row-end rows used many v)) (a .bare))
+    (part-drop refs (row-start rows u) (row-end rows used many u) 1 ∙ ap (λ v. part refs (row-start rows v + 1) (row-end rows used many v)) (a .bare))
     (a .counted ∙ sym (groups-all rows t u (a .bare) (a .is-all)))
 
 -- the triggers of a term with groups

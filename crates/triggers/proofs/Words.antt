@@ -10,11 +10,11 @@ use lib.ListN.{length, getD, set, length-set}
 use lib.Seq.{ext-getD, getD-set-same, set-set}
 use lib.Dec.{ltb}
 use borrow.Author.Tests.{lt-ltb, le-ltb, ne-eqb}
-use Rattle.model.specs.Lists.{concat, fold-left, sum}
+use Rattle.model.specs.Lists.{concat, fold-left, sum, part}
 use Rattle.model.proofs.ListLaws.{fold-left-append, sum-append}
-use Rattle.terms.specs.Rows.{words, terms-of-words, group-of-words, groups-of-words, groups-at}
+use Rattle.model.proofs.PartLaws.{part-nil}
+use Rattle.terms.specs.Rows.{terms-of-words, group-of-words, groups-of-words, groups-at}
 use Rattle.terms.proofs.Laws.{below, groups-all}
-use Rattle.terms.proofs.Table.{words-nil}
 use Rattle.terms.proofs.Groups.{terms-split, terms-more}
 use Rattle.gather.specs.declared.Walked.{Walked}
 use Rattle.gather.specs.declared.Walked.the-variants as gathered
@@ -175,24 +175,24 @@ module _ (refs : List ℕ) (used many : ℕ) where
     module _ (a i : ℕ) (low : a ≤ i) where
       -- one term more
       pub filed-part : (t : ℕ) → i < length refs → t ≡ getD refs i 0 % 4096
-          → file-groups refs used many (file-parts refs used many f (terms-of-words (words refs a i))) t ≡ file-parts refs used many f (terms-of-words (words refs a (i + 1)))
+          → file-groups refs used many (file-parts refs used many f (terms-of-words (part refs a i))) t ≡ file-parts refs used many f (terms-of-words (part refs a (i + 1)))
       unfolding file-parts fold-left
-      filed-part t l is = rw (terms-more refs a i low l, fold-left-append (file-groups refs used many) f (terms-of-words (words refs a i)) (getD refs i 0 % 4096 ∷ []), is)
+      filed-part t l is = rw (terms-more refs a i low l, fold-left-append (file-groups refs used many) f (terms-of-words (part refs a i)) (getD refs i 0 % 4096 ∷ []), is)
 
       -- after a term without room none is filed
-      pub filed-parts : (e : ℕ) → i ≤ e → e ≤ length refs → file-parts refs used many f (terms-of-words (words refs a i)) .full ≡ true
-          → file-parts refs used many f (terms-of-words (words refs a e)) ≡ file-parts refs used many f (terms-of-words (words refs a i))
+      pub filed-parts : (e : ℕ) → i ≤ e → e ≤ length refs → file-parts refs used many f (terms-of-words (part refs a i)) .full ≡ true
+          → file-parts refs used many f (terms-of-words (part refs a e)) ≡ file-parts refs used many f (terms-of-words (part refs a i))
       unfolding file-parts
       filed-parts e k l x =
-          rw (terms-split refs a i e low k l, fold-left-append (file-groups refs used many) f (terms-of-words (words refs a i)) (terms-of-words (words refs i e)))
-          (fold-stays (file-groups refs used many) groups-stay (fold-left (file-groups refs used many) f (terms-of-words (words refs a i))) (terms-of-words (words refs i e)) x)
+          rw (terms-split refs a i e low k l, fold-left-append (file-groups refs used many) f (terms-of-words (part refs a i)) (terms-of-words (part refs i e)))
+          (fold-stays (file-groups refs used many) groups-stay (fold-left (file-groups refs used many) f (terms-of-words (part refs a i))) (terms-of-words (part refs i e)) x)
 
 -- the groups of the terms up to a place and of the term there
 pub counted-more : (rows refs : List ℕ) (a i t : ℕ) → a ≤ i → i < length refs → t ≡ getD refs i 0 % 4096
-    → sum (map (groups-at rows) (terms-of-words (words refs a i))) + groups-at rows t ≡ sum (map (groups-at rows) (terms-of-words (words refs a (i + 1))))
+    → sum (map (groups-at rows) (terms-of-words (part refs a i))) + groups-at rows t ≡ sum (map (groups-at rows) (terms-of-words (part refs a (i + 1))))
 unfolding sum
 counted-more rows refs a i t low l is =
-    rw (terms-more refs a i low l, map-append (groups-at rows) (terms-of-words (words refs a i)) (getD refs i 0 % 4096 ∷ []), sum-append (map (groups-at rows) (terms-of-words (words refs a i))) (groups-at rows (getD refs i 0 % 4096) ∷ []), is)
+    rw (terms-more refs a i low l, map-append (groups-at rows) (terms-of-words (part refs a i)) (getD refs i 0 % 4096 ∷ []), sum-append (map (groups-at rows) (terms-of-words (part refs a i))) (groups-at rows (getD refs i 0 % 4096) ∷ []), is)
     (omega arith)
 
 -- ---- the walk that finds no name
@@ -209,8 +209,8 @@ module _ (refs : List ℕ) (used many : ℕ) (names rows out : List ℕ) (t mark
   asked-more z n = rw (← counts, ne-eqb groups 1 n, lt-ltb 1 groups (omega arith)) (record { answer = refl; name-words = refl; row-words = refl; out-words = refl })
 
 -- the walk of one group, without room
-pub walked-one : {refs rows : List ℕ} {used many t groups u e : ℕ} (names : List ℕ) (a at : ℕ) → All refs rows used many t groups u e → groups ≡ 1 → terms-of-words (words refs a e) ≡ group-of-words (patterns refs rows used many u) 0
-    → visit-list names refs rows used many (at - at) (terms-of-words (words refs a e)) ≡ ask-empty refs used many names rows t
+pub walked-one : {refs rows : List ℕ} {used many t groups u e : ℕ} (names : List ℕ) (a at : ℕ) → All refs rows used many t groups u e → groups ≡ 1 → terms-of-words (part refs a e) ≡ group-of-words (patterns refs rows used many u) 0
+    → visit-list names refs rows used many (at - at) (terms-of-words (part refs a e)) ≡ ask-empty refs used many names rows t
 unfolding ask-empty concat groups-of-words
 walked-one {refs} {rows} {used} {many} {t} {groups} {u} {e} names a at all one is =
     let room : at - at ≡ 0 = omega arith in
@@ -226,7 +226,7 @@ names-kept {names} {names′ = names′} {out′ = out′} {at = at} {r = r} g =
     (λ (k : i < 10240).
     let q : 8192 + (i - 8192) ≡ i = omega arith in
     rw (← q) (⊎-elim
-    (λ e. absurd (List·Memᴰ·not-nil (rw (words-nil out′ at (ended at r) (g .fits)) at (g .marks (i - 8192) (omega arith) .0 e))))
+    (λ e. absurd (List·Memᴰ·not-nil (rw (part-nil out′ at (ended at r) (g .fits)) at (g .marks (i - 8192) (omega arith) .0 e))))
     (λ e. e)
     (g .name-marks (i - 8192) (omega arith))))
     (λ (k : 10240 ≤ i). g .names-same .same-words i (λ a b. omega arith))

@@ -8,9 +8,8 @@ use mathlib.Core.Logic.{_⊎_}
 use mathlib.Core.List.{List, [], _∷_, _++_, map, List·Memᴰ}
 use lib.ListN.{length, getD, set}
 use lib.Dec.{ltb}
-use Rattle.model.specs.Lists.{sum}
+use Rattle.model.specs.Lists.{sum, part}
 use Rattle.model.specs.Names.{Name, from-list}
-use Rattle.terms.specs.Rows.{words}
 use Rattle.gather.specs.Sets.{Same-but, Fresh}
 use Rattle.triggers.specs.declared.Filed.{Filed}
 use Rattle.triggers.specs.declared.Filed.the-variants as filed
@@ -54,8 +53,8 @@ filed-end filed.Full = 8192
 -- more than fit
 pub data Files (name : ℕ → Name) (named : ℕ) (sets : List (List Name)) (at : ℕ) (out : List ℕ) : Filed → Type 0 where
   all-sets : {n e : ℕ}
-      → disjuncts-of name (words out at e) ≡ sets → n ≡ length sets → e ≡ at + entries sets → e ≤ 8192
-      → Entries named (words out at e)
+      → disjuncts-of name (part out at e) ≡ sets → n ≡ length sets → e ≡ at + entries sets → e ≤ 8192
+      → Entries named (part out at e)
       → Files name named sets at out (filed.Sets n e)
   no-room : 8192 < at + entries sets → Files name named sets at out filed.Full
 

@@ -5,8 +5,8 @@ use mathlib.Core.Bool.{Bool, true, false, cond, not, _||_}
 use mathlib.Core.List.{List, [], _∷_}
 use lib.ListN.{length}
 use lib.Dec.{eqb, ltb}
-use Rattle.model.specs.Lists.{concat, fold-left}
-use Rattle.terms.specs.Rows.{row-start, row-end, words, groups-of-words, bare-of, groups-at}
+use Rattle.model.specs.Lists.{concat, fold-left, part}
+use Rattle.terms.specs.Rows.{row-start, row-end, groups-of-words, bare-of, groups-at}
 use Rattle.gather.specs.Visits.{Visit, visit-list, marked-at, put}
 use Rattle.triggers.specs.declared.Filed.{Filed}
 use Rattle.triggers.specs.declared.Filed.the-variants as filed
@@ -59,7 +59,7 @@ module _ (refs : List ℕ) (used many : ℕ) where
   unfoldable pub groups-under : List ℕ → ℕ → List (List ℕ)
   groups-under rows t =
       let u = bare-of rows t in
-      groups-of-words (words refs (row-start rows u + 1) (row-end rows used many u)) (groups-at rows t)
+      groups-of-words (part refs (row-start rows u + 1) (row-end rows used many u)) (groups-at rows t)
 
   -- the triggers of a term: a set for each group
   unfoldable pub file-groups : Filing → ℕ → Filing

@@ -3,10 +3,10 @@ ghost use Prim.Native.Nat.{ℕ, _+_, _-_, _%_, _≤_, _<_};
 ghost use mathlib.Core.Path.{_≡_};
 ghost use mathlib.Core.List.{[], _∷_, map};
 ghost use lib.ListN.{length, getD};
-ghost use Rattle.model.specs.Lists.{collect, sum};
+ghost use Rattle.model.specs.Lists.{collect, sum, part};
 ghost use Rattle.model.specs.Names.{Name};
 ghost use Rattle.model.specs.Summaries.{exclude-names, is-empty, free-top-level-names, group-names, triggers-of-term};
-ghost use Rattle.terms.specs.Rows.{row-start, row-end, words, terms-of-words, terms-of, bare-of, groups-at, Rows};
+ghost use Rattle.terms.specs.Rows.{row-start, row-end, terms-of-words, terms-of, bare-of, groups-at, Rows};
 ghost use Rattle.gather.specs.Sets.{Named, Fresh, Same-but};
 ghost use Rattle.triggers.specs.Entries.{Opened, Files, Filled, Closes};
 ghost use Rattle.triggers.specs.Filings.{filing, file-list, file-groups, file-parts, ask-empty, Asks-as, Files-as};
@@ -49,9 +49,9 @@ fn file_list(
     at: usize,
 ) -> Filed
     requires { ⌜ Rows (now refs) (now rows) used many named × Opened (now names) (now rows) (now out) mark at × (a ≤ e) × (e ≤ used) × ((i : ℕ) → a ≤ i → i < e → getD (now refs) i 0 % 4096 < many) ⌝ }
-    ensures sets { λ r. ⌜ ((name : ℕ → Name) → Named name (now (names .entry)) named → Files name named (group-names exclude-names (terms-of name (now (refs .entry)) (now (rows .entry)) used many) (terms-of-words (words (now (refs .entry)) a e)) ∷ []) at (now (out .exit)) r) ⌝ }
+    ensures sets { λ r. ⌜ ((name : ℕ → Name) → Named name (now (names .entry)) named → Files name named (group-names exclude-names (terms-of name (now (refs .entry)) (now (rows .entry)) used many) (terms-of-words (part (now (refs .entry)) a e)) ∷ []) at (now (out .exit)) r) ⌝ }
     ensures slices { λ r. ⌜ Filled (now (names .entry)) (now (rows .entry)) (now (out .entry)) (now (names .exit)) (now (rows .exit)) (now (out .exit)) mark at r ⌝ }
-    ensures words { λ r. ⌜ Files-as (file-list (now (refs .entry)) used many (filing (now (names .entry)) (now (rows .entry)) (now (out .entry)) mark at) (terms-of-words (words (now (refs .entry)) a e))) 1 (now (names .exit)) (now (rows .exit)) (now (out .exit)) mark at r ⌝ }
+    ensures words { λ r. ⌜ Files-as (file-list (now (refs .entry)) used many (filing (now (names .entry)) (now (rows .entry)) (now (out .entry)) mark at) (terms-of-words (part (now (refs .entry)) a e))) 1 (now (names .exit)) (now (rows .exit)) (now (out .exit)) mark at r ⌝ }
 {
     let Walked::Names(end) = gather::gather_list(
         names,
@@ -233,9 +233,9 @@ pub fn triggers_of_list(
     at: usize,
 ) -> Filed
     requires { ⌜ Rows (now refs) (now rows) used many named × Opened (now names) (now rows) (now out) mark at × (a ≤ e) × (e ≤ used) × ((i : ℕ) → a ≤ i → i < e → getD (now refs) i 0 % 4096 < many) ⌝ }
-    ensures sets { λ r. ⌜ ((name : ℕ → Name) → Named name (now (names .entry)) named → Files name named (collect (triggers-of-term exclude-names (terms-of name (now (refs .entry)) (now (rows .entry)) used many)) (terms-of-words (words (now (refs .entry)) a e))) at (now (out .exit)) r) ⌝ }
+    ensures sets { λ r. ⌜ ((name : ℕ → Name) → Named name (now (names .entry)) named → Files name named (collect (triggers-of-term exclude-names (terms-of name (now (refs .entry)) (now (rows .entry)) used many)) (terms-of-words (part (now (refs .entry)) a e))) at (now (out .exit)) r) ⌝ }
     ensures slices { λ r. ⌜ Filled (now (names .entry)) (now (rows .entry)) (now (out .entry)) (now (names .exit)) (now (rows .exit)) (now (out .exit)) mark at r ⌝ }
-    ensures words { λ r. ⌜ Files-as (file-parts (now (refs .entry)) used many (filing (now (names .entry)) (now (rows .entry)) (now (out .entry)) mark at) (terms-of-words (words (now (refs .entry)) a e))) (sum (map (groups-at (now (rows .entry))) (terms-of-words (words (now (refs .entry)) a e)))) (now (names .exit)) (now (rows .exit)) (now (out .exit)) mark at r ⌝ }
+    ensures words { λ r. ⌜ Files-as (file-parts (now (refs .entry)) used many (filing (now (names .entry)) (now (rows .entry)) (now (out .entry)) mark at) (terms-of-words (part (now (refs .entry)) a e))) (sum (map (groups-at (now (rows .entry))) (terms-of-words (part (now (refs .entry)) a e)))) (now (names .exit)) (now (rows .exit)) (now (out .exit)) mark at r ⌝ }
 {
     let mut end = at;
     let mut count = 0;

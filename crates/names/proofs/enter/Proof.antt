@@ -11,7 +11,7 @@ use Rattle.names.proofs.enter.Tie as tie
 returns : tie.Need-returns
 returns c =
     let a = c .before .before .before .args in
-    let full = missing-full (a .file .now) (a .w .now) (a .many) (a .a) (a .e) (a .rank) (omega arith) in
+    let full = missing-full (a .file .now) (a .w .now) (a .named) (a .a) (a .e) (a .rank) (omega arith) in
     (sym (full .0), sym (full .1))
 
 put-index-requires : tie.Need-put-index-requires
@@ -59,7 +59,7 @@ same-length c = simp length-set (omega arith)
 returns-2 : tie.Need-returns-2
 returns-2 c =
     let a = c .before .before .before .before .before .before .before .before .args in
-    let new = missing-new (a .file .now) (a .w .now) (a .many) (a .a) (a .e) (a .rank) (omega arith) in
+    let new = missing-new (a .file .now) (a .w .now) (a .named) (a .a) (a .e) (a .rank) (omega arith) in
     (sym (new .0), entered-row _ _ _ _ _ _ _ _ (c .before .before .before .put-index .ensures) (c .head-code .ensures) ∙ sym (new .1))
 
 pub enter-spec : {M : Type 1} → statement M

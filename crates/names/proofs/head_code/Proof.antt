@@ -4,12 +4,13 @@ use mathlib.Core.Path.{_≡_, refl, sym, _∙_}
 use lib.ListN.{length}
 use Rattle.model.specs.Names.{bytes}
 use Rattle.model.specs.Lines.{fields, field-cons}
-use Rattle.text.specs.Parts.{part, fields-left}
+use Rattle.text.specs.Parts.{fields-left}
 use Rattle.text.proofs.Laws.{mark-from, mark-to}
 use Rattle.model.specs.Summaries.{common-names}
 use Rattle.names.specs.Known.{head-code, code-from, known-names}
 use Rattle.names.proofs.Codes.{code-here, code-on, code-end}
 use native.Mathlib.Omega.{arith}
+use Rattle.model.specs.Lists.{part}
 use Rattle.names.proofs.head_code.Statement.{statement}
 use Rattle.names.proofs.head_code.Tie as tie
 

@@ -4,22 +4,22 @@ use mathlib.Core.Path.{_≡_, sym, ap, _∙_}
 use Rattle.model.specs.Names.{order}
 use Rattle.model.specs.declared.Order.the-variants.{Before, After}
 use Rattle.model.proofs.SetLaws.{order-same}
-use Rattle.text.specs.Parts.{part}
 use Rattle.names.specs.declared.Found.the-variants.{At}
 use Rattle.names.proofs.Laws.{name-at, met, all-before, all-after, look-up-at, look-up-missing}
 use native.Mathlib.Omega.{arith}
+use Rattle.model.specs.Lists.{part}
 use Rattle.names.proofs.look_up.Statement.{statement}
 use Rattle.names.proofs.look_up.Tie as tie
 
 abbrev Inv-loop : tie.InvT-loop
-Inv-loop file w many a e low₀ high₀ low high =
+Inv-loop file w named a e low₀ high₀ low high =
     (low ≤ high)
-    × (high ≤ many)
+    × (high ≤ named)
     × ((q : ℕ) → q < low → order (name-at file w q) (part file a e) ≡ Before)
-    × ((q : ℕ) → high ≤ q → q < many → order (name-at file w q) (part file a e) ≡ After)
+    × ((q : ℕ) → high ≤ q → q < named → order (name-at file w q) (part file a e) ≡ After)
 
 abbrev μ-loop : tie.MeasureT-loop
-μ-loop file w many a e low₀ high₀ low high = high - low
+μ-loop file w named a e low₀ high₀ low high = high - low
 
 loop-holds : tie.Need-loop-holds Inv-loop μ-loop
 loop-holds c = (omega arith, omega arith, λ q h. absurd (omega arith), λ q h l. absurd (omega arith))
@@ -42,7 +42,7 @@ compare-requires c κs =
     let middle = now .low + (now .high - now .low) / 2 in
     let table = c .before .before .before .before .before .pre .0 in
     let n = c .at .result in
-    let known : n < c .before .before .before .before .before .args .many = rw (c .at .ensures) (table .numbers middle (omega arith)) in
+    let known : n < c .before .before .before .before .before .args .named = rw (c .at .ensures) (table .numbers middle (omega arith)) in
     (omega (arith, table .room, table .few), table .inside n known, c .before .before .before .before .before .pre .1, c .before .before .before .before .before .pre .2)
 
 enum-told : tie.Need-enum-told Inv-loop μ-loop

@@ -7,13 +7,13 @@ use Rattle.names.proofs.put_index.Statement.{statement}
 use Rattle.names.proofs.put_index.Tie as tie
 
 abbrev Inv-loop : tie.InvT-loop
-Inv-loop w₀ many rank i₀ w i = (rank ≤ i) × (i ≤ many) × Shifted w₀ w many i
+Inv-loop w₀ named rank i₀ w i = (rank ≤ i) × (i ≤ named) × Shifted w₀ w named i
 
 abbrev μ-loop : tie.MeasureT-loop
-μ-loop w₀ many rank i₀ w i = i
+μ-loop w₀ named rank i₀ w i = i
 
 loop-holds : tie.Need-loop-holds Inv-loop μ-loop
-loop-holds c = (c .pre .0, omega arith, shift-start (c .args .w .now) (c .args .many))
+loop-holds c = (c .pre .0, omega arith, shift-start (c .args .w .now) (c .args .named))
 
 add-w : tie.Need-add-w Inv-loop μ-loop
 add-w c = omega arith

@@ -2,14 +2,15 @@
 use Prim.Native.Nat.{_+_, _-_, _≤_}
 use native.Mathlib.Omega.{arith}
 use mathlib.Core.Path.{_≡_, refl, sym, _∙_}
-use Rattle.terms.specs.Rows.{words, group-run}
+use Rattle.terms.specs.Rows.{group-run}
 use Rattle.terms.proofs.Groups.{run-none, run-other, run-more}
 use borrow.Author.Needs.{needs}
+use Rattle.model.specs.Lists.{part}
 use Rattle.terms.proofs.group_end.Statement.{statement}
 use Rattle.terms.proofs.group_end.Tie as tie
 
 abbrev Inv-loop : tie.InvT-loop
-Inv-loop refs a e g i₀ i = (a ≤ i) × (i ≤ e) × (a + group-run g (words refs a e) ≡ i + group-run g (words refs i e))
+Inv-loop refs a e g i₀ i = (a ≤ i) × (i ≤ e) × (a + group-run g (part refs a e) ≡ i + group-run g (part refs i e))
 
 abbrev μ-loop : tie.MeasureT-loop
 μ-loop refs a e g i₀ i = e - i

@@ -4,8 +4,8 @@ use mathlib.Core.Path.{_≡_, refl}
 use mathlib.Core.Logic.{⊎-elim}
 use native.Mathlib.Omega.{arith}
 use lib.ListN.{length}
+use Rattle.model.specs.Lists.{part}
 use Rattle.model.specs.Lines.{fields}
-use Rattle.text.specs.Parts.{part}
 use Rattle.text.proofs.Laws.{count-comma, count-on, count-end}
 use Rattle.text.proofs.count_fields.Statement.{statement}
 use Rattle.text.proofs.count_fields.Tie as tie

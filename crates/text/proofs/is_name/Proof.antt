@@ -2,9 +2,8 @@
 use Prim.Native.Nat.{_≤_, _-_}
 use mathlib.Core.Path.{_≡_, sym, _∙_}
 use native.Mathlib.Omega.{arith}
-use Rattle.model.specs.Lists.{all}
+use Rattle.model.specs.Lists.{all, part}
 use Rattle.model.specs.Lines.{is-name, is-name-byte}
-use Rattle.text.specs.Parts.{part}
 use Rattle.text.proofs.Laws.{name-empty, name-long, name-bytes, all-bad, all-on, all-end, byte-low, byte-high, byte-comma, byte-good}
 use Rattle.text.proofs.is_name.Statement.{statement}
 use Rattle.text.proofs.is_name.Tie as tie

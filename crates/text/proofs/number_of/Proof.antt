@@ -2,8 +2,9 @@
 use Prim.Native.Nat.{_≤_, _-_}
 use mathlib.Core.Path.{_≡_, sym, ap, _∙_}
 use native.Mathlib.Omega.{arith}
+use Rattle.model.specs.Lists.{part}
 use Rattle.model.specs.Lines.{number}
-use Rattle.text.specs.Parts.{part, as-decimal}
+use Rattle.text.specs.Parts.{as-decimal}
 use Rattle.text.proofs.Laws.{number-empty, number-alone, number-leading, number-digits, valued, valued-on, valued-bad, valued-large, valued-end, digit-low, digit-high, digit-good}
 use Rattle.text.proofs.number_of.Statement.{statement}
 use Rattle.text.proofs.number_of.Tie as tie

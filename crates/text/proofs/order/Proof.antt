@@ -2,8 +2,8 @@
 use Prim.Native.Nat.{_≤_, _+_, _-_}
 use mathlib.Core.Path.{_≡_, sym, _∙_}
 use native.Mathlib.Omega.{arith}
+use Rattle.model.specs.Lists.{part}
 use Rattle.model.specs.Names
-use Rattle.text.specs.Parts.{part}
 use Rattle.text.proofs.Laws.{order-start, order-before, order-after, order-same, order-less, order-more, order-on}
 use Rattle.text.proofs.order.Statement.{statement}
 use Rattle.text.proofs.order.Tie as tie

@@ -3,8 +3,8 @@ use Prim.Native.Nat.{_≤_, _+_, _-_}
 use mathlib.Core.Path.{_≡_, refl, sym, _∙_}
 use native.Mathlib.Omega.{arith}
 use lib.ListN.{length}
+use Rattle.model.specs.Lists.{part}
 use Rattle.model.specs.Names.{same}
-use Rattle.text.specs.Parts.{part}
 use Rattle.text.proofs.Laws.{same-start, same-sized, same-differ, same-on, same-end}
 use Rattle.text.proofs.same_text.Statement.{statement}
 use Rattle.text.proofs.same_text.Tie as tie

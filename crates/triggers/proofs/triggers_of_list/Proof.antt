@@ -2,7 +2,8 @@
 use Prim.Native.Nat.{_-_, _≤_}
 use native.Mathlib.Omega.{arith}
 use mathlib.Core.Path.{refl}
-use Rattle.terms.specs.Rows.{words, terms-of-words}
+use Rattle.model.specs.Lists.{part}
+use Rattle.terms.specs.Rows.{terms-of-words}
 use Rattle.gather.proofs.Walking.{rows-marked}
 use Rattle.triggers.specs.declared.Filed.the-variants as filed
 use Rattle.triggers.specs.Filings.{filing, file-parts}
@@ -15,7 +16,7 @@ abbrev Inv-loop : tie.InvT-loop
 Inv-loop names₀ refs rows₀ out₀ named used many a e mark at end₀ count₀ i₀ names rows out end count i =
     (a ≤ i)
     × (i ≤ e)
-    × Comes names₀ rows₀ out₀ names rows out named mark at (list-sets refs rows₀ used many a i) (file-parts refs used many (filing names₀ rows₀ out₀ mark at) (terms-of-words (words refs a i))) (list-count refs rows₀ a i) (filed.Sets count end)
+    × Comes names₀ rows₀ out₀ names rows out named mark at (list-sets refs rows₀ used many a i) (file-parts refs used many (filing names₀ rows₀ out₀ mark at) (terms-of-words (part refs a i))) (list-count refs rows₀ a i) (filed.Sets count end)
 
 abbrev μ-loop : tie.MeasureT-loop
 μ-loop names₀ refs rows₀ out₀ named used many a e mark at end₀ count₀ i₀ names rows out end count i = e - i
