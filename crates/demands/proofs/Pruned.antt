@@ -11,13 +11,14 @@ use Rattle.model.specs.Lists.{any, keep, collect, fold-left, to-list}
 use Rattle.model.specs.Names.{Name, same, mem, add}
 use Rattle.model.specs.Summaries.{Fact}
 use Rattle.model.specs.Reading.{Ask, no-ambients, pretyping-axioms, prune-decls, Root, Decl, Summary, Sum-assume, Sum-definefun, Sum-declfun, Sum-retain, taken-by}
-use Rattle.model.specs.Pruning.{Map, try-find, Passumption, Pdef, PruningState, init, add-summaries, passumption, passumption-of-root, include-found, include-name, decls-and-defs, prune}
+use Rattle.model.specs.Pruning.{Map, try-find, Passumption, Pdef, PruningState, Ctxt, init, add-summaries, passumption, passumption-of-root, scan, include-found, include-name, decls-and-defs, prune}
 use Rattle.model.specs.Rounds.{facts, definitions, declarations, goal-roots, Run}
 use Rattle.model.specs.Kept.{reached-facts, ambients, kept-facts, kept-names, kept-decls, kept}
 use Rattle.model.proofs.ListLaws.{branch, collect-append, collect-intro, collect-elim, collect-cong, collect-one, collect-map, map-collect, fold-left-collect, keep-intro, keep-elim, map-intro, map-elim}
 use Rattle.model.proofs.SetLaws.{keep-no-name, mem-intro, mem-elim, mem-add}
 use Rattle.demands.specs.Accepted.{Distinct, none as no-more, one-more, Well-formed}
 use Rattle.demands.specs.Demand2.{Same-lines}
+use Rattle.demands.specs.FileOrder.{line-of}
 use Rattle.demands.proofs.Distinct.{distinct-map-keep, distinct-collect, keep-one-name}
 use Rattle.demands.proofs.Facts.{names-distinct}
 use Rattle.demands.proofs.ListedLaws.{ambients-elim}
@@ -159,13 +160,6 @@ same-lines defs kept names to-kept from-kept lines-once test ds b passes finds f
     inc : Including defs (free-in kept) [] (fold-left (include-name defs) ([], []) (free-in kept) .0) (found-in defs kept)
     inc = included defs (free-in kept) lines-once
 
--- the line that an assume, fun or def stands on
-unfoldable pub line-of : Summary → List ℕ
-line-of (Sum-assume f) = f .line ∷ []
-line-of (Sum-definefun d) = d .line ∷ []
-line-of (Sum-declfun d) = d .line ∷ []
-line-of Sum-retain = []
-
 -- definitions stand on distinct lines
 distinct-definitions : (decls : List Summary) → Distinct (collect line-of decls) → Distinct (map (λ d. d .line) (definitions decls))
 unfolding collect line-of definitions
@@ -243,7 +237,11 @@ option-append false l m = refl
 
 module _ (a : Ask) {roots : List Root} (decls : List Summary) (w : Well-formed decls roots) where
   -- the list of `prune`: the lines of the kept facts, of definitions, of declarations
-  pub pruned-list : {end : Run} → Scanned (add-summaries (no-ambients a) decls init) (pretyping-axioms a) (first-roots a roots (add-summaries (no-ambients a) decls init .extra-roots)) (record { p = add-summaries (no-ambients a) decls init; reached = [] }) (suc (length (add-summaries (no-ambients a) decls init .trigger-to-assumption))) end
+  pub pruned-list : {start end : Run}
+      → let p = add-summaries (no-ambients a) decls init in
+      let ds = first-roots a roots (p .extra-roots) in
+      let c : Ctxt = record { p = p; reached = [] } in
+      Scanned p (facts decls) (pretyping-axioms a) ds c (scan (pretyping-axioms a) (suc (length (p .trigger-to-assumption))) ds c) start end
       → prune (no-ambients a) (pretyping-axioms a) (prune-decls a) (add-summaries (no-ambients a) decls init) (goal-roots a roots)
       ≡ map (λ f. f .line) (kept-facts a (facts decls) (end .reached)) ++ (pruned-lines (λ d. not (d .pd-is-declfun)) a decls roots (end .reached) ++ pruned-lines (λ d. d .pd-is-declfun) a decls roots (end .reached))
   unfolding prune

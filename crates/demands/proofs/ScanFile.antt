@@ -10,15 +10,15 @@ use Rattle.model.specs.Lists.{any, keep, collect}
 use Rattle.model.specs.Names.{Name, same, mem, from-list}
 use Rattle.model.specs.Summaries.{Fact}
 use Rattle.model.specs.Reading.{Ask, no-ambients, pretyping-axioms, Root, Summary}
-use Rattle.model.specs.Pruning.{Passumption, init, passumption-of-root, add-summaries}
-use Rattle.model.specs.Rounds.{facts, macros, filed, is-ambient-root, goal-roots, ambient-roots, first-scanned, run}
-use Rattle.model.proofs.ListLaws.{T-ext, any-append, collect-append, collect-intro, collect-elim, collect-map, keep-intro, keep-elim, keep-all}
+use Rattle.model.specs.Pruning.{Passumption, Ctxt, init, passumption-of-root, add-summaries, scan}
+use Rattle.model.specs.Rounds.{facts, macros, filed, is-ambient-root, goal-roots, ambient-roots, first-scanned, run, visits}
+use Rattle.model.proofs.ListLaws.{T-ext, any-append, collect-append, collect-intro, collect-elim, collect-map, keep-intro, keep-elim, keep-all, keep-none, count-keep}
 use Rattle.model.proofs.SetLaws.{mem-intro, mem-elim, empty}
 use Rattle.demands.specs.Accepted.{Well-formed}
 use Rattle.demands.specs.Fuel.{Ends}
 use Rattle.demands.proofs.Facts.{fact-by-name}
 use Rattle.demands.proofs.FuelLaws.{first-run}
-use Rattle.demands.proofs.Filed.{finds-triggers, waits-elim, waits-intro, finds-macro, extra-root-elim, extra-root-intro, bound-keys}
+use Rattle.demands.proofs.Filed.{finds-triggers, waits-elim, waits-intro, waits-count, finds-macro, extra-root-elim, extra-root-intro, bound-keys}
 use Rattle.demands.proofs.ScanSteps.{Laws, left-of}
 use Rattle.demands.proofs.ScanRounds.{free-in, fact-free, free-fact, Together, Scanned, scans-run}
 
@@ -27,6 +27,11 @@ left-all : (ts : List (List Name)) → left-of (λ n. mem n []) ts ≡ ts
 unfolding mem any
 left-all [] = refl
 left-all (d ∷ ts) = ap₂ _∷_ (keep-all (λ n. true) d (λ n m. tt)) (left-all ts)
+
+-- with nothing met, no entry is visited
+pub none-visited : (fs : List Fact) → visits [] fs ≡ 0
+unfolding visits
+none-visited fs = count-keep (λ n. mem n []) (filed fs) ∙ ap length (keep-none (λ n. mem n []) (filed fs) (λ n i. unfold mem any in tt))
 
 -- what `prune` scans first
 abbrev pub first-roots : Ask → List Root → List Passumption → List Passumption
@@ -44,6 +49,7 @@ module _ {roots : List Root} (decls : List Summary) (w : Well-formed decls roots
       record {
         waits = λ n m. waits-elim decls w b n m;
         waits-for = λ n m i. waits-intro decls w b n m i;
+        waiting-count = waits-count decls w b;
         opens = finds-macro decls w b;
         one-fact = fact-by-name w;
       }
@@ -98,5 +104,8 @@ module _ (a : Ask) {roots : List Root} (decls : List Summary) (w : Well-formed d
   -- so the scan ends for its own reason, with what the run reaches
   pub scanned-file : Ends a (macros decls) (facts decls) first-run (first-scanned a (facts decls) roots) (run a decls roots)
       → run a decls roots .rounds ≤ suc (length (from-list (filed (facts decls))))
-      → Scanned (add-summaries (no-ambients a) decls init) (pretyping-axioms a) (first-roots a roots (add-summaries (no-ambients a) decls init .extra-roots)) (record { p = add-summaries (no-ambients a) decls init; reached = [] }) (suc (length (add-summaries (no-ambients a) decls init .trigger-to-assumption))) (run a decls roots)
+      → let p = add-summaries (no-ambients a) decls init in
+      let ds = first-roots a roots (p .extra-roots) in
+      let c : Ctxt = record { p = p; reached = [] } in
+      Scanned p (facts decls) (pretyping-axioms a) ds c (scan (pretyping-axioms a) (suc (length (p .trigger-to-assumption))) ds c) first-run (run a decls roots)
   scanned-file e h = scans-run (filed-laws decls w (no-ambients a)) (suc (length (add-summaries (no-ambients a) decls init .trigger-to-assumption))) e (omega (arith, bound-keys decls w (no-ambients a))) start-together

@@ -6,17 +6,17 @@ use mathlib.Core.Logic.{_⊎_, inl, inr, ⊎-elim}
 use mathlib.Core.Bool.{Bool, true, false, cond, not, _&&_, _||_}
 use mathlib.Core.List.{List, [], _∷_, map, List·Memᴰ, List·Memᴰ·head, List·Memᴰ·tail, List·Memᴰ·cases-cons, List·Memᴰ·not-nil, Memᴰ·cast}
 use lib.Dec.{T, T-not}
-use Rattle.model.specs.Lists.{keep, collect, fold-left, is-nil}
+use Rattle.model.specs.Lists.{keep, count, collect, fold-left, is-nil}
 use Rattle.model.specs.Names.{Name, mem, add, union}
 use Rattle.model.specs.Summaries.{Fact}
 use Rattle.model.specs.Reading.{Ask, pretyping-axioms}
 use Rattle.model.specs.Pruning.{Map, try-find, Passumption, PruningState, passumption, should-retain-assumption, Ctxt, already-reached, reached-assumption, macro-expand, new-syms, reach, pending, to-scan, scan}
-use Rattle.model.specs.Rounds.{met-from, lies-within, triggers-in, retainable, Run, met-after, triggered, fresh, after-round, next-scanned}
+use Rattle.model.specs.Rounds.{met-from, filed, lies-within, triggers-in, retainable, Run, met-after, triggered, fresh, after-round, next-scanned, visits}
 use Rattle.model.proofs.ListLaws.{branch, T-and, T-or, T-dec, T-ext, cond-true, cond-false, is-nil-elim, mem-not-nil, not-nil-mem, collect-intro, collect-elim, keep-intro, keep-elim, map-intro, map-elim}
 use Rattle.model.proofs.SetLaws.{mem-intro, mem-elim, mem-from-list, mem-add, mem-union, union-mem, Ascending, ascending-add, ascending-union, ascending-ext}
-use Rattle.demands.specs.Fuel.{Scans, Ends}
+use Rattle.demands.specs.Fuel.{calls-in, Scans, Ends}
 use Rattle.demands.proofs.Filing.{waiting}
-use Rattle.demands.proofs.ScanSteps.{Laws, Inv, Round, same-name, pending-round}
+use Rattle.demands.proofs.ScanSteps.{Laws, Inv, Round, same-name, pending-round, calls-round}
 use Rattle.demands.proofs.MetLaws.{opened, met-intro, met-elim}
 
 -- the names free in what is scanned
@@ -177,12 +177,22 @@ unfolding passumption
 free-fact f n m = mem-elim (mem-from-list n (f .free-names) .0 (mem-intro m))
 
 module _ {P : PruningState} {ms : Map (List Name)} {fs : List Fact} (laws : Laws P ms fs) (a : Ask) {ds : List Passumption} {c : Ctxt} {r : Run} {scanned : List Name} (s : Together P fs ds c r scanned) where
+  -- the symbols of the entry and the names met are the names met at the round's end
+  met-then : _≡_ {A = Name → Bool} (λ n. mem n (new-syms ds c) || mem n (r .met)) (λ n. mem n (met-after ms r scanned))
+  unfolding met-after
+  met-then =
+      fun-ext (λ n. ap (λ (b : Bool). b || mem n (r .met)) (symbols ms ds c scanned (λ n. ap (λ (m : Map (List Name)). try-find m n) (s .inv .macs) ∙ laws .opens n) (s .scans) n)
+      ∙ sym (union-mem n (met-from ms scanned) (r .met)))
+
   -- what an entry triggers are the facts that the round triggers
   in-round : Round P fs (r .reached) (λ n. mem n (r .met)) (λ n. mem n (met-after ms r scanned)) (pending ds c .0) (pending ds c .1)
-  unfolding pending met-after
-  in-round = subst (λ (m : Name → Bool). Round P fs (r .reached) (λ n. mem n (r .met)) m (pending ds c .0) (pending ds c .1))
-      (fun-ext (λ n. ap (λ (b : Bool). b || mem n (r .met)) (symbols ms ds c scanned (λ n. ap (λ (m : Map (List Name)). try-find m n) (s .inv .macs) ∙ laws .opens n) (s .scans) n) ∙ sym (union-mem n (met-from ms scanned) (r .met))))
-      (pending-round laws (new-syms ds c) c (s .inv))
+  unfolding pending
+  in-round = subst (λ (m : Name → Bool). Round P fs (r .reached) (λ n. mem n (r .met)) m (pending ds c .0) (pending ds c .1)) met-then (pending-round laws (new-syms ds c) c (s .inv))
+
+  -- the calls of the entry are the visits of the round
+  visits-then : calls-in ds c + visits (r .met) fs ≡ visits (met-after ms r scanned) fs
+  unfolding visits
+  visits-then = calls-round laws (new-syms ds c) c (s .inv) ∙ ap (λ (m : Name → Bool). count m (filed fs)) met-then
 
   -- what the entry triggers is a fact that the round triggers
   triggered-elim : (x : Passumption) → List·Memᴰ x (pending ds c .0) → (f : Fact) × List·Memᴰ f (triggered ms fs r scanned) × (x ≡ passumption f)
@@ -244,20 +254,15 @@ unfolding after-round
 more-rounds (Ends.last t) = omega arith
 more-rounds (Ends.more t e) = omega (arith, more-rounds e)
 
--- the scan ends for its own reason, with what the run reaches
-pub record Scanned (P : PruningState) (pretyping : Bool) (ds : List Passumption) (c : Ctxt) (fuel : ℕ) (end : Run) : Type 0 where
-  pub ends : Scans pretyping ds c (scan pretyping fuel ds c)
-  pub reaches : scan pretyping fuel ds c .reached ≡ end .reached
-  pub finds : scan pretyping fuel ds c .p .assumption-name-map ≡ P .assumption-name-map
-
--- a scan that comes to a state that ends for its own reason with what the run reaches
-scanned-as : {P : PruningState} {pretyping : Bool} {ds : List Passumption} {c : Ctxt} {fuel : ℕ} {end : Run} (x : Ctxt) → scan pretyping fuel ds c ≡ x → Scans pretyping ds c x → x .reached ≡ end .reached → x .p .assumption-name-map ≡ P .assumption-name-map → Scanned P pretyping ds c fuel end
-scanned-as {pretyping} {ds} {c} x e t r f =
-    record {
-      ends = subst (λ (y : Ctxt). Scans pretyping ds c y) (sym e) t;
-      reaches = ap (λ (y : Ctxt). y .reached) e ∙ r;
-      finds = ap (λ (y : Ctxt). y .p .assumption-name-map) e ∙ f;
-    }
+-- the scan ends for its own reason, with what the run reaches, after as many entries and calls as the run adds rounds and visits
+pub record Scanned (P : PruningState) (fs : List Fact) (pretyping : Bool) (ds : List Passumption) (c x : Ctxt) (r end : Run) : Type 0 where
+  pub entered : ℕ
+  pub called : ℕ
+  pub ends : Scans pretyping ds c x entered called
+  pub enters : r .rounds + entered ≡ end .rounds
+  pub visited : visits (r .met) fs + called ≡ visits (end .met) fs
+  pub reaches : x .reached ≡ end .reached
+  pub finds : x .p .assumption-name-map ≡ P .assumption-name-map
 
 module _ (pretyping : Bool) (fuel : ℕ) (ds : List Passumption) (c : Ctxt) where
   -- the scan stops where nothing is triggered
@@ -277,14 +282,31 @@ nothing-reached a ms fs r scanned t = rw (is-nil-elim (triggered ms fs r scanned
 
 -- a scan and rounds that start together end together, if the fuel is at least the rounds that are left
 pub scans-run : {P : PruningState} {a : Ask} {ms : Map (List Name)} {fs : List Fact} (laws : Laws P ms fs) {r end : Run} {scanned : List Name} (fuel : ℕ) → Ends a ms fs r scanned end → end .rounds ≤ r .rounds + fuel
-    → {ds : List Passumption} {c : Ctxt} → Together P fs ds c r scanned → Scanned P (pretyping-axioms a) ds c fuel end
+    → {ds : List Passumption} {c : Ctxt} → Together P fs ds c r scanned → Scanned P fs (pretyping-axioms a) ds c (scan (pretyping-axioms a) fuel ds c) r end
 unfolding after-round
 scans-run laws zero e h s = absurd (omega (arith, more-rounds e))
 scans-run {P} {a} {ms} {fs} laws (suc fuel) (Ends.last {r} {scanned} t) h {ds} {c} s =
     let stop : T (is-nil (pending ds c .0)) = rw (both-nil laws a s) t in
-    scanned-as (pending ds c .1) (scan-stops (pretyping-axioms a) fuel ds c stop) (Scans.done stop)
-    (in-round laws a s .inv .kept ∙ sym (nothing-reached a ms fs r scanned t)) (in-round laws a s .inv .names)
+    rw (scan-stops (pretyping-axioms a) fuel ds c stop)
+    (record {
+      entered = 1;
+      called = calls-in ds c;
+      ends = Scans.done stop;
+      enters = refl;
+      visited = omega (arith, visits-then laws a s);
+      reaches = in-round laws a s .inv .kept ∙ sym (nothing-reached a ms fs r scanned t);
+      finds = in-round laws a s .inv .names;
+    })
 scans-run {P} {a} {ms} {fs} laws (suc fuel) (Ends.more {r} {end} {scanned} t e) h {ds} {c} s =
     let on : T (not (is-nil (pending ds c .0))) = rw (both-nil laws a s) t in
     let rest = scans-run laws fuel e (omega arith) (next-together laws a s) in
-    scanned-as (scan (pretyping-axioms a) fuel (to-scan (pretyping-axioms a) ds c .0) (to-scan (pretyping-axioms a) ds c .1)) (scan-goes-on (pretyping-axioms a) fuel ds c on) (Scans.more on (rest .ends)) (rest .reaches) (rest .finds)
+    rw (scan-goes-on (pretyping-axioms a) fuel ds c on)
+    (record {
+      entered = 1 + rest .entered;
+      called = calls-in ds c + rest .called;
+      ends = Scans.more on (rest .ends);
+      enters = omega (arith, rest .enters);
+      visited = omega (arith, visits-then laws a s, rest .visited);
+      reaches = rest .reaches;
+      finds = rest .finds;
+    })

@@ -1,17 +1,21 @@
 -- One entry of `scan`: its symbols, one after the other, trigger the facts that a round triggers.
+use Prim.Native.Nat.{_+_}
+use native.Mathlib.Omega.{arith}
 use mathlib.Core.Path.{_≡_, refl, sym, _∙_, ap, ap₂, subst, fun-ext}
 use mathlib.Core.Logic.{_⊎_, inl, inr, ⊎-elim}
 use mathlib.Core.Bool.{Bool, true, false, cond, not, _&&_, _||_, or-self-left}
 use mathlib.Core.List.{List, [], _∷_, map, List·Memᴰ, List·Memᴰ·head, List·Memᴰ·tail, List·Memᴰ·cases-cons, List·Memᴰ·not-nil, Memᴰ·cast}
 use mathlib.Core.Option.{Option, none, some, Option·getD}
 use lib.Dec.{T, T-not}
-use Rattle.model.specs.Lists.{any, all, keep, concat, fold-left, is-nil}
+use lib.ListN.{length}
+use Rattle.model.specs.Lists.{any, all, keep, count, concat, fold-left, is-nil}
 use Rattle.model.specs.Names.{Name, same, mem, remove}
 use Rattle.model.specs.Summaries.{Fact}
 use Rattle.model.specs.Pruning.{Map, try-find, map-add, Passumption, PruningState, passumption, with-trigger-to-assumption, with-assumption-to-triggers, trigger-reached, remove-trigger, remove-trigger-for-assumption, Ctxt, mark-trigger-reached, find-assumptions-waiting-on-trigger, remove-trigger-for, trigger-assumption, trigger-pending, trigger-pending-assumptions}
-use Rattle.model.specs.Rounds.{listed}
-use Rattle.model.proofs.ListLaws.{branch, keep-not, nil-keep-not, T-and, T-or, T-dec, true-T, T-ext, cond-true, cond-false, any-intro, any-elim, all-intro, all-elim, keep-cong, is-nil-elim, concat-intro}
+use Rattle.model.specs.Rounds.{listed, filed}
+use Rattle.model.proofs.ListLaws.{branch, keep-not, nil-keep-not, T-and, T-or, T-dec, true-T, T-ext, cond-true, cond-false, any-intro, any-elim, all-intro, all-elim, keep-cong, count-or, is-nil-elim, concat-intro}
 use Rattle.model.proofs.SetLaws.{same-eq, eq-same, same-refl, same-sym, mem-intro, mem-elim}
+use Rattle.demands.specs.Fuel.{calls}
 use Rattle.demands.proofs.MapLaws.{try-find-head, try-find-tail, try-find-remove}
 use Rattle.demands.proofs.Filing.{waiting}
 
@@ -19,6 +23,7 @@ use Rattle.demands.proofs.Filing.{waiting}
 pub record Laws (P : PruningState) (ms : Map (List Name)) (fs : List Fact) : Type 0 where
   pub waits : (n : Name) {a : Passumption} → List·Memᴰ a (waiting P n) → (f : Fact) × List·Memᴰ f fs × List·Memᴰ n (listed f) × (a ≡ passumption f)
   pub waits-for : (n : Name) {f : Fact} → List·Memᴰ f fs → List·Memᴰ n (listed f) → List·Memᴰ (passumption f) (waiting P n)
+  pub waiting-count : (n : Name) → length (waiting P n) ≡ count (same n) (filed fs)
   pub opens : (n : Name) → try-find (P .macro-freenames) n ≡ try-find ms n
   pub one-fact : {f g : Fact} → List·Memᴰ f fs → List·Memᴰ g fs → f .name ≡ g .name → f ≡ g
 
@@ -263,6 +268,18 @@ unmarked lid c e n = ⊎-elim
     (λ t. sym (cond-false (same lid n) [] (waiting (c .p) n) t))
     (T-dec (same lid n))
 
+-- a symbol that is met and then others
+first-or-later : (lid : Name) (lids : List Name) (met : Name → Bool)
+    → _≡_ {A = Name → Bool} (λ n. mem n lids || with-name lid met n) (λ n. mem n (lid ∷ lids) || met n)
+unfolding mem any
+first-or-later lid lids met = fun-ext (λ n. rearranged (mem n lids) (same lid n) (met n) ∙ ap (λ (b : Bool). (b || mem n lids) || met n) (same-sym lid n))
+  where
+    rearranged : (a b d : Bool) → (a || (b || d)) ≡ ((b || a) || d)
+    rearranged true true d = refl
+    rearranged true false d = refl
+    rearranged false true d = refl
+    rearranged false false d = refl
+
 module _ {P : PruningState} {ms : Map (List Name)} {fs : List Fact} (laws : Laws P ms fs) {reached : List Name} {before : Name → Bool} where
   -- a symbol not met before is met at the end of its turn
   unmet-step : {met : Name → Bool} {acc : List Passumption} {c : Ctxt} (lid : Name) → Round P fs reached before met acc c → T (not (met lid)) → T (not (before lid)) → waiting (c .p) lid ≡ waiting P lid
@@ -293,30 +310,48 @@ module _ {P : PruningState} {ms : Map (List Name)} {fs : List Fact} (laws : Laws
   pending-all [] acc c r = r
   pending-all {met} (lid ∷ lids) acc c r =
       subst (λ (m : Name → Bool). Round P fs reached before m (fold-left trigger-pending (acc, c) (lid ∷ lids) .0) (fold-left trigger-pending (acc, c) (lid ∷ lids) .1))
-      (fun-ext (λ n. rearranged (mem n lids) (same lid n) (met n) ∙ ap (λ (b : Bool). (b || mem n lids) || met n) (same-sym lid n)))
+      (first-or-later lid lids met)
       (pending-all lids (trigger-pending (acc, c) lid .0) (trigger-pending (acc, c) lid .1) (pending-step lid r))
-    where
-      rearranged : (a b d : Bool) → (a || (b || d)) ≡ ((b || a) || d)
-      rearranged true true d = refl
-      rearranged true false d = refl
-      rearranged false true d = refl
-      rearranged false false d = refl
 
-  -- an entry of `scan` triggers the facts that its symbols hit
-  pub pending-round : (lids : List Name) (c : Ctxt) → Inv P fs reached before c
-      → Round P fs reached before (λ n. mem n lids || before n) (trigger-pending-assumptions lids c .0) (trigger-pending-assumptions lids c .1)
-  unfolding trigger-pending-assumptions
-  pending-round lids c i =
-      pending-all lids [] c
-      (record {
+  -- nothing is triggered at the start of an entry
+  round-start : {c : Ctxt} → Inv P fs reached before c → Round P fs reached before before [] c
+  round-start i =
+      record {
         inv = i;
         since = λ n t. t;
         sound = λ m. absurd (List·Memᴰ·not-nil m);
         complete = λ {f} m h. absurd (unhit f h);
-      })
+      }
     where
       unhit : (f : Fact) → T (hits before before f) → ⊥
       unhit f h =
           let (n, k, u) = any-elim (λ n. before n && not (before n)) (listed f) (T-and (any (λ n. before n && not (before n)) (listed f)) (any (all before) (f .triggers)) .0 h .0) in
           let (u₁, u₂) = T-and (before n) (not (before n)) .0 u in
           T-not (before n) u₂ u₁
+
+  -- an entry of `scan` triggers the facts that its symbols hit
+  pub pending-round : (lids : List Name) (c : Ctxt) → Inv P fs reached before c
+      → Round P fs reached before (λ n. mem n lids || before n) (trigger-pending-assumptions lids c .0) (trigger-pending-assumptions lids c .1)
+  unfolding trigger-pending-assumptions
+  pending-round lids c i = pending-all lids [] c (round-start i)
+
+  -- a symbol makes as many calls as there are entries of it, if it was not met
+  calls-step : {met : Name → Bool} {acc : List Passumption} {c : Ctxt} (lid : Name) → Round P fs reached before met acc c
+      → length (waiting (c .p) lid) + count met (filed fs) ≡ count (with-name lid met) (filed fs)
+  calls-step {met} {acc} {c} lid r = ⊎-elim
+      (λ t. rw (r .inv .waits lid, cond-true (met lid) [] (waiting P lid) t, with-name-met lid met t) (omega arith))
+      (λ t. rw (r .inv .waits lid, cond-false (met lid) [] (waiting P lid) t, laws .waiting-count lid) (sym (count-or (same lid) met (filed fs) (λ n e. subst (λ (x : Name). T (not (met x))) (same-eq e) t))))
+      (T-dec (met lid))
+
+  -- symbols make as many calls as there are entries of those that were not met
+  calls-all : {met : Name → Bool} (lids : List Name) (acc : List Passumption) (c : Ctxt) → Round P fs reached before met acc c
+      → calls lids (acc, c) + count met (filed fs) ≡ count (λ n. mem n lids || met n) (filed fs)
+  unfolding calls find-assumptions-waiting-on-trigger mem any
+  calls-all [] acc c r = omega arith
+  calls-all {met} (lid ∷ lids) acc c r =
+      let further = calls-all lids (trigger-pending (acc, c) lid .0) (trigger-pending (acc, c) lid .1) (pending-step lid r) in
+      omega (arith, further, calls-step lid r, ap (λ (m : Name → Bool). count m (filed fs)) (first-or-later lid lids met))
+
+  -- an entry of `scan` makes as many calls as there are entries of the symbols that it meets
+  pub calls-round : (lids : List Name) (c : Ctxt) → Inv P fs reached before c → calls lids ([], c) + count before (filed fs) ≡ count (λ n. mem n lids || before n) (filed fs)
+  calls-round lids c i = calls-all lids [] c (round-start i)
