@@ -80,7 +80,7 @@ is-before Before = true
 is-before Same = false
 is-before After = false
 
--- where a name belongs in byte order: how named names stand before it
+-- where a name belongs in byte order: how many names stand before it
 unfoldable pub rank-among : List Name → Name → ℕ
 rank-among names name = count (λ m. is-before (order m name)) names
 
