@@ -4,13 +4,18 @@
 //! definitions and declarations that come with them. [`filter`] is the whole call; [`summaries`] says how each fact is
 //! triggered. Both answer with the refusals of document 01.
 
+pub mod case;
+pub mod edges;
 mod fields;
+pub mod generate;
 pub mod limits;
 mod names;
 mod prune;
+pub mod random;
 mod reader;
 mod rules;
 mod terms;
+pub mod text;
 
 use std::fmt;
 
@@ -68,11 +73,25 @@ fn text(name: &[u8]) -> &str {
 /// Lengths of working slices that are long enough.
 pub const LONG_ENOUGH: [usize; 6] = [limits::WORK_WORDS; 6];
 
+/// The order inside the definitions and inside the declarations, which document 01 leaves open.
+#[derive(Clone, Copy, Debug, PartialEq, Eq)]
+pub enum Order {
+    /// As Pruning.fst has it: the one met last first.
+    Source,
+    /// By line.
+    Line,
+}
+
 /// Filters a file.
 ///
 /// `works` are the lengths of the six working slices in words, `room` that of the result slice. Only the lengths
-/// matter: this version keeps its tables elsewhere.
+/// matter: this version keeps its tables elsewhere. Definitions and declarations come in the order of the source.
 pub fn filter(file: &[u8], works: [usize; 6], room: usize) -> Outcome<'_> {
+    filter_in(Order::Source, file, works, room)
+}
+
+/// Filters a file, with definitions and declarations in the order given.
+pub fn filter_in(order: Order, file: &[u8], works: [usize; 6], room: usize) -> Outcome<'_> {
     if works.iter().any(|&words| words < limits::WORK_WORDS) {
         return Outcome::Refused { number: 7, place: 0 };
     }
@@ -80,7 +99,7 @@ pub fn filter(file: &[u8], works: [usize; 6], room: usize) -> Outcome<'_> {
         Ok(background) => background,
         Err(refusal) => return refusal.into(),
     };
-    let kept = prune::prune(&background);
+    let kept = prune::prune(&background, order);
     if kept.records.len() > room {
         return Outcome::Refused { number: 8, place: kept.records.len() as u32 };
     }

@@ -5,6 +5,7 @@ use std::collections::{HashMap, HashSet};
 use crate::names::{NameId, NameSet};
 use crate::reader::{Background, Fact};
 use crate::rules::Kind;
+use crate::Order;
 
 /// The macros that stand at the start, each with the name that it opens to.
 const BOX_MACROS: [(&[u8], &[u8]); 5] = [
@@ -23,7 +24,7 @@ pub struct Kept {
 }
 
 /// The answer to the query of a file.
-pub fn prune(background: &Background) -> Kept {
+pub fn prune(background: &Background, order: Order) -> Kept {
     let Background { names, facts, no_ambients, .. } = background;
     let roots: Vec<&NameSet> =
         background.roots.iter().filter(|root| root.query == background.query).map(|root| &root.free).collect();
@@ -41,13 +42,17 @@ pub fn prune(background: &Background) -> Kept {
     let mut records: Vec<(u32, NameId)> = kept.iter().map(|fact| (fact.line, fact.name)).collect();
     if background.prune_decls {
         let free = kept.iter().map(|fact| &fact.free).chain(roots);
-        records.extend(declarations(background, free));
+        records.extend(declarations(background, free, order));
     }
     Kept { records, visits: scan.visits, rounds: scan.rounds }
 }
 
-/// The defs and then the funs named in some sets, each of the two with the one met last first.
-fn declarations<'s>(background: &Background, free: impl Iterator<Item = &'s NameSet>) -> Vec<(u32, NameId)> {
+/// The defs and then the funs named in some sets.
+fn declarations<'s>(
+    background: &Background,
+    free: impl Iterator<Item = &'s NameSet>,
+    order: Order,
+) -> Vec<(u32, NameId)> {
     let mut seen = HashSet::new();
     let (mut defs, mut funs) = (Vec::new(), Vec::new());
     for set in free {
@@ -60,7 +65,14 @@ fn declarations<'s>(background: &Background, free: impl Iterator<Item = &'s Name
             }
         }
     }
-    defs.into_iter().rev().chain(funs.into_iter().rev()).collect()
+    for group in [&mut defs, &mut funs] {
+        match order {
+            Order::Source => group.reverse(),
+            Order::Line => group.sort_unstable(),
+        }
+    }
+    defs.append(&mut funs);
+    defs
 }
 
 /// One disjunct of one fact that waits on a name.

@@ -81,6 +81,11 @@ fn check_folder(folder: &Path) {
 }
 
 #[test]
+fn cases_beside_the_tests() {
+    check_folder(Path::new(env!("CARGO_MANIFEST_DIR")).join("cases").as_path());
+}
+
+#[test]
 fn cases_of_the_environment() {
     match std::env::var_os("WIMPLEJADE_CASES") {
         Some(folder) => check_folder(Path::new(&folder)),
