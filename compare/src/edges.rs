@@ -88,7 +88,13 @@ pub fn add_bytes(text: &mut Text, total: usize) {
     const LONGEST: usize = "retain,\n".len() + limits::NAME_BYTES;
     while text.len() < total {
         let left = total - text.len();
-        let line = if left > 2 * LONGEST { LONGEST } else if left > LONGEST { left / 2 } else { left };
+        let line = if left > 2 * LONGEST {
+            LONGEST
+        } else if left > LONGEST {
+            left / 2
+        } else {
+            left
+        };
         text.line(format!("retain,{}", "p".repeat(line - "retain,\n".len())));
     }
 }

@@ -635,3 +635,43 @@ fn lent(random: &mut Random) -> Case {
     };
     Case::new("lent", file).with_works(works).with_room(room)
 }
+
+#[cfg(test)]
+mod tests {
+    use super::*;
+    use crate::{filter_in, Order};
+
+    #[test]
+    fn a_seed_gives_the_same_cases() {
+        assert!(cases(5, 40).eq(cases(5, 40)));
+        assert!(cases(5, 40).ne(cases(6, 40)));
+    }
+
+    #[test]
+    fn every_answer_is_generated() {
+        let mut numbers = HashSet::new();
+        for case in cases(1, 1_500) {
+            match filter(&case.file, case.works, case.room) {
+                Outcome::Refused { number, .. } => numbers.insert(number),
+                Outcome::Kept { .. } => numbers.insert(0),
+            };
+        }
+        assert_eq!(numbers, (0..=9).collect());
+    }
+
+    #[test]
+    fn formed_files_are_refused_for_limits_only() {
+        let mut random = Random::new(2);
+        let mut kept_in_other_order = 0;
+        for _ in 0..300 {
+            let file = formed(&mut random);
+            let answer = filter(&file, LONG_ENOUGH, limits::RECORDS);
+            if let Outcome::Refused { number, .. } = answer {
+                assert_eq!(number, 6);
+            } else if answer != filter_in(Order::Line, &file, LONG_ENOUGH, limits::RECORDS) {
+                kept_in_other_order += 1;
+            }
+        }
+        assert!(kept_in_other_order > 20, "{kept_in_other_order}");
+    }
+}

@@ -14,6 +14,8 @@ mod prune;
 pub mod random;
 mod reader;
 mod rules;
+#[cfg(test)]
+mod source;
 mod terms;
 pub mod text;
 
@@ -116,7 +118,9 @@ pub fn filter_file(file: &[u8]) -> Outcome<'_> {
 #[derive(Clone, Debug, PartialEq, Eq)]
 pub enum Trigger<'a> {
     Drop,
-    Ambient { root: bool },
+    Ambient {
+        root: bool,
+    },
     /// The names of each disjunct in byte order.
     Names(Vec<Vec<&'a [u8]>>),
 }

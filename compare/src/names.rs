@@ -8,17 +8,8 @@ use crate::limits;
 pub type NameId = usize;
 
 /// Names that never count as free.
-const EXCLUDED: [&[u8]; 9] = [
-    b"SFuel",
-    b"ZFuel",
-    b"HasType",
-    b"HasTypeZ",
-    b"HasTypeFuel",
-    b"Valid",
-    b"ApplyTT",
-    b"ApplyTF",
-    b"Prims.lex_t",
-];
+const EXCLUDED: [&[u8]; 9] =
+    [b"SFuel", b"ZFuel", b"HasType", b"HasTypeZ", b"HasTypeFuel", b"Valid", b"ApplyTT", b"ApplyTF", b"Prims.lex_t"];
 
 /// Every name met so far. The bytes stay where they are in the file.
 #[derive(Default)]

@@ -37,13 +37,7 @@ impl Kind {
 /// The kind of a fact, or `None` if its disjuncts count more than `room` entries.
 ///
 /// A trimmed token is added to the names.
-pub fn summarize<'a>(
-    name: &[u8],
-    fact: TermId,
-    terms: &Terms,
-    names: &mut Names<'a>,
-    room: usize,
-) -> Option<Kind> {
+pub fn summarize<'a>(name: &[u8], fact: TermId, terms: &Terms, names: &mut Names<'a>, room: usize) -> Option<Kind> {
     let triggers = terms.triggers(fact);
     if !triggers.is_empty() {
         return Kind::triggers(triggers, room);
@@ -75,9 +69,7 @@ pub fn summarize<'a>(
                 None => Kind::triggers([free(inner)], room),
             },
             // 5: heads too common to be triggers.
-            (b"HasType", &[first, _]) | (b"IsTotFun" | b"is-Tm_arrow", &[first]) => {
-                Kind::triggers([free(first)], room)
-            }
+            (b"HasType", &[first, _]) | (b"IsTotFun" | b"is-Tm_arrow", &[first]) => Kind::triggers([free(first)], room),
             _ => Some(Kind::Ambient { root: false }),
         },
         Term::Op(Op::Eq, parts) if parts.len() == 2 => {
