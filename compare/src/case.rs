@@ -5,6 +5,7 @@
 use std::io::{self, Write};
 
 use crate::limits;
+use crate::reader;
 use crate::{filter_in, Order, LONG_ENOUGH};
 
 /// A file and the lengths of the slices lent for it.
@@ -51,6 +52,40 @@ impl Case {
     }
 }
 
+/// The most names of a file that is worth probing.
+const PROBED_NAMES: usize = 16;
+
+/// An accepted file once more for each of its names, with a root that has that name alone, and with roots for all names
+/// but that one. This shows each name of each disjunct in the answers. The file's own roots are of other queries.
+///
+/// There are none for a file with very many names, or without facts.
+pub fn probes(case: &Case) -> Vec<Case> {
+    let Ok(background) = reader::read(&case.file) else { return Vec::new() };
+    let count = background.names.len();
+    let query = (0..=limits::QUERY).rev().find(|query| background.roots.iter().all(|root| root.query != *query));
+    let (Some(query), 1..=PROBED_NAMES, false) = (query, count, background.facts.is_empty()) else {
+        return Vec::new();
+    };
+    let first_line = case.file.iter().position(|&byte| byte == b'\n').map_or(0, |end| end + 1);
+    let mut lines = format!("ask,{query},{}\n", background.options()).into_bytes();
+    lines.extend_from_slice(&case.file[first_line..]);
+
+    // The empty name, which a token can leave, can't be spelled.
+    let names: Vec<&[u8]> = (0..count).map(|id| background.names.bytes(id)).filter(|name| !name.is_empty()).collect();
+    let probe = |sort: &str, index: usize, probed: &mut dyn Iterator<Item = &&[u8]>| {
+        let mut file = lines.clone();
+        for (number, name) in probed.enumerate() {
+            file.extend_from_slice(b"free,");
+            file.extend_from_slice(name);
+            file.extend_from_slice(format!("\nroot,{query},probe,{}\n", background.terms.len() + number).as_bytes());
+        }
+        Case::new(format!("{}-{sort}-{index}", case.name), file)
+    };
+    let one = |index: usize| probe("with", index, &mut names[index..=index].iter());
+    let others = |index: usize| probe("without", index, &mut names[..index].iter().chain(&names[index + 1..]));
+    (0..names.len()).map(one).chain((0..names.len()).map(others)).collect()
+}
+
 /// The cases of a container, or `None` if it is not of that form.
 pub fn read_all(mut bytes: &[u8]) -> Option<Vec<Case>> {
     let mut cases = Vec::new();
@@ -86,6 +121,23 @@ mod tests {
         assert_eq!(read_all(&bytes).as_deref(), Some(&cases[..]));
         bytes.pop();
         assert_eq!(read_all(&bytes), None);
+    }
+
+    #[test]
+    fn probes_tell_disjuncts_apart() {
+        let answers = |disjuncts: &str| -> Vec<String> {
+            let file = format!("ask,7,0\nfree,p\nfree,q\nleaf\nall,2,{disjuncts}\nassume,a,0,3\nroot,7,r,1\n");
+            probes(&Case::new("x", file.into_bytes())).iter().map(|probe| probe.answer(Order::Source)).collect()
+        };
+        let both = answers("1,2,0,1");
+        assert_eq!(both.len(), 8);
+        assert_eq!(both[0], "case,x-with-0\nsum,0,1,1\nslices,ok\n");
+        assert_eq!(both[4], "case,x-without-0\nsum,0,1,1\nslices,ok\n");
+        assert_eq!(both[6], "case,x-without-2\nkept,6,a\nsum,1,2,2\nslices,ok\n");
+        for other in ["2,1,0,1,1", "1,1,0", "2,0,2,0,1", "1,0", "0"] {
+            assert_ne!(answers(other), both, "{other}");
+        }
+        assert!(probes(&Case::new("refused", b"ask".to_vec())).is_empty());
     }
 
     #[test]

@@ -428,6 +428,14 @@ fn entries(edges: &mut Vec<Edge>) {
     ] {
         add_line(edges, format!("entries-full-{name}"), number, &groups, line);
     }
+    let mut two = text.clone();
+    let half = add_empty_groups(&mut two, 1_024);
+    two.op("true", &[]);
+    two.assume("a", 1, half);
+    two.assume("b", 0, half);
+    add_line(edges, "entries-two-facts-empty-drop", 0, &two, "assume,c,0,2");
+    add_line(edges, "entries-two-facts-empty-next", 6, &two, "assume,assumption_c,0,2");
+
     for (parts, number) in [(32, 0), (33, 6)] {
         let mut text = text.clone();
         let all = add_empty_groups(&mut text, 32);

@@ -251,14 +251,24 @@ impl<'r> Grower<'r> {
                     }
                 };
                 let ty = match self.random.below(4) {
-                    0 => self.named("Tm_refine_7"),
+                    0 => {
+                        let name = self.random.pick(&["Tm_refine_7", "Tm_refine", "Prims.squash"]);
+                        self.named(name)
+                    }
                     1 => self.text.call("Tm_refine_7", &[payload]),
                     _ => self.call_ending("Prims.squash", 2, payload),
                 };
                 ("", self.call_ending("HasType", 2, ty))
             }
             4 => {
-                let marker = if self.random.chance(80) { self.named("__uu__PartialApp") } else { self.term() };
+                let marker = match self.random.below(5) {
+                    0 => self.term(),
+                    1 => {
+                        let parts = self.terms(2);
+                        self.text.call("__uu__PartialApp", &parts)
+                    }
+                    _ => self.named("__uu__PartialApp"),
+                };
                 let token = if self.random.chance(80) { self.name_term() } else { self.term() };
                 let mut parts = self.about(2);
                 if let [first, second, ..] = parts.as_mut_slice() {

@@ -49,6 +49,13 @@ pub struct Background<'a> {
     pub roots: Vec<Root>,
 }
 
+impl Background<'_> {
+    /// The options number.
+    pub fn options(&self) -> u32 {
+        u32::from(self.no_ambients) + 2 * u32::from(self.pretyping_axioms) + 4 * u32::from(self.prune_decls)
+    }
+}
+
 /// Reads a file, or says which line is refused.
 pub fn read(file: &[u8]) -> Result<Background<'_>, Refusal> {
     if file.len() > limits::BYTES {

@@ -1,7 +1,7 @@
 //! The container of cases for the program `cases`.
 //!
-//! `cases build DIR OUT_STDIN OUT_STDOUT` builds the container from every `.in` of a folder and from the edges of
-//! document 01, and beside it what the program prints. `cases answer` reads a container from standard input and prints
+//! `cases build DIR OUT_STDIN OUT_STDOUT` builds the container from every `.in` of a folder, from probes of these files
+//! and from the edges of document 01, and beside it what the program prints. `cases answer` reads a container from standard input and prints
 //! the same. With `--by-line` at the end, definitions and declarations come by line.
 
 use std::fs;
@@ -40,6 +40,8 @@ fn main() -> ExitCode {
 
 fn build(folder: &str, input: &str, output: &str, order: Order) -> io::Result<()> {
     let mut cases = folder_cases(Path::new(folder))?;
+    let probes: Vec<Case> = cases.iter().flat_map(case::probes).collect();
+    cases.extend(probes);
     cases.extend(edges::edges().into_iter().map(|edge| edge.case));
 
     let (mut stdin, mut stdout) = (Vec::new(), String::new());
