@@ -562,8 +562,8 @@ pub fn near_a_limit(random: &mut Random) -> Vec<u8> {
                 for _ in 0..95 {
                     text.root(random.below(3) as u32, "r", wide);
                 }
-                for index in 0..60 - less {
-                    text.def(format!("d{index}"), 0);
+                for _ in 0..64 - less {
+                    text.root(random.below(3) as u32, "s", 0);
                 }
             }
         }
