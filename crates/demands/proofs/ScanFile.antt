@@ -107,5 +107,6 @@ module _ (a : Ask) {roots : List Root} (decls : List Summary) (w : Well-formed d
       → let p = add-summaries (no-ambients a) decls init in
       let ds = first-roots a roots (p .extra-roots) in
       let c : Ctxt = record { p = p; reached = [] } in
-      Scanned p (facts decls) (pretyping-axioms a) ds c (scan (pretyping-axioms a) (suc (length (p .trigger-to-assumption))) ds c) first-run (run a decls roots)
+      Scanned p (facts decls) (pretyping-axioms a) ds c (scan (pretyping-axioms a) (suc (length (p .trigger-to-assumption))) ds c)
+      first-run (run a decls roots)
   scanned-file e h = scans-run (filed-laws decls w (no-ambients a)) (suc (length (add-summaries (no-ambients a) decls init .trigger-to-assumption))) e (omega (arith, bound-keys decls w (no-ambients a))) start-together

@@ -211,7 +211,8 @@ module _ {A : Type 0} where
   count-or p q (x ∷ l) h = rw (count-or p q l h) (go (p x) (q x) (h x))
     where
       go : (a b : Bool) → (T a → T (not b))
-          → cond (a || b) (1 + (count p l + count q l)) (count p l + count q l) ≡ cond a (1 + count p l) (count p l) + cond b (1 + count q l) (count q l)
+          → cond (a || b) (1 + (count p l + count q l)) (count p l + count q l)
+          ≡ cond a (1 + count p l) (count p l) + cond b (1 + count q l) (count q l)
       go true true e = absurd (e tt)
       go true false e = omega arith
       go false true e = omega arith
