@@ -18,7 +18,8 @@ use Rattle.model.specs.declared.AsumKind.{AsumKind}
 use Rattle.model.specs.declared.AsumKind.the-variants.{Drop, Ambient, Triggers}
 use Rattle.model.proofs.ListLaws.{collect-intro, collect-elim, collect-reverse-intro, collect-reverse-elim, collect-reverse-length, collect-reverse, count-append, concat-intro, concat-elim, map-reverse, reverse-intro, reverse-elim}
 use Rattle.model.proofs.SetLaws.{same-eq, same-refl, same-sym, mem-intro, mem-elim, mem-from-list, ascending-from-list, subset-length, sets-again, from-list-length}
-use Rattle.demands.specs.Accepted.{Distinct, Well-formed, Counts-disjuncts}
+use Rattle.demands.specs.Accepted.{Distinct}
+use Rattle.demands.specs.WellFormed.{Well-formed, Counts-disjuncts}
 use Rattle.demands.proofs.Distinct.{distinct-collect}
 use Rattle.demands.proofs.MapLaws.{Functional, try-find-intro, try-find-elim, try-find-same, try-find-append}
 use Rattle.demands.proofs.Filing.{on-kind, waiting, entries-of, keys, filed-names, filed-defs, filed-macros, filed-triggers, filed-ambients, filed-roots, filed-waiting, filed-keys}
