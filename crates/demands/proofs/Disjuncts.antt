@@ -11,7 +11,7 @@ use Rattle.model.specs.Terms.{Term, term}
 use Rattle.model.specs.Summaries.{Kinded, Sum-drop, Sum-ambient, Sum-triggers, groups-of, token-triggers, is-empty, op-args, call-one, call-two, two, head, free-top-level-names, group-names, triggers-of-term, at, is-ambient-refinement, ambient-refinement-payload, token, has-eq, rule-1, rule-2, rule-3, rule-4, rule-5, rule-6, rule-7, rule-8, rule-9, rule-10, rule-11, rule-12, first-rule, maybe-add-ambient, summarize-kind}
 use Rattle.model.specs.declared.Op.the-variants.{TrueOp, Iff, Eq, And}
 use Rattle.model.proofs.ListLaws.{cond-case, collect-elim, map-elim}
-use Rattle.demands.specs.Accepted.{Counts-disjuncts}
+use Rattle.demands.specs.WellFormed.{Counts-disjuncts}
 
 -- the law holds of all that disjuncts are made of, each beside the names that its fact trims off a token
 pub record Parts (law : List Name → List Name → Type 0) (exclude : List Name) (terms : List Term) : Type 0 where

@@ -9,7 +9,7 @@ use lib.Seq.{take-at, drop-at}
 use Rattle.model.specs.Outcome.{Outcome, refusal-at, list, refusal-number, working-words, result-after, is-working, work-after}
 use Rattle.model.specs.declared.Refusal.{Refusal}
 use Rattle.model.specs.declared.Refusal.the-variants as refusal
-use Rattle.demands.specs.Demand1.{Result-slice, Cleared, Slices-exact}
+use Rattle.demands.specs.Slices.{Result-slice, Cleared, Slices-exact}
 
 -- general law: a list of n elements in place of the first n of another leaves its length
 front-length : {A : Type 0} (l m : List A) (n : ℕ) → length l ≡ n → n ≤ length m → length (l ++ drop n m) ≡ length m
