@@ -31,7 +31,6 @@ use Rattle.demands.proofs.SaidLines.{reached, Said-in, Said-by, said-li
 
 -- the test of the working slices holds exactly where one is too short
 short-test : (works : List ℕ) → T (any (λ n. ltb n working-words) works) ↔ Short-slice works
-unfolding working-words
 short-test works = (
   λ t. let (n, i, u) = any-elim (λ n. ltb n 16384) works t in (n, i, ltb→lt n 16384 u),
   λ p. any-intro (λ n. ltb n 16384) (p .1) (lt→ltb (p .0) 16384 (p .2)),

@@ -48,7 +48,7 @@ other-working refusal.Size h = refl
 
 -- any other call sets the first words of a working slice to zero
 work-cleared : (o : Outcome) (work : List ℕ) → 16384 ≤ length work → ((place : ℕ) → o ≡ refusal-at refusal.Working place → ⊥) → Cleared work (work-after o work)
-unfolding work-after working-words
+unfolding work-after
 work-cleared (refusal-at r place) work h other = rw (other-working r (λ e. other place (rw e))) (zeros-clear work h)
 work-cleared (list given seen turns) work h other = zeros-clear work h
 
