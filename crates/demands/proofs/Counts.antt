@@ -7,7 +7,7 @@ use lib.ListN.{length}
 use Rattle.model.specs.Lists.{sum}
 use Rattle.model.specs.Names.{Name}
 use Rattle.model.specs.Lines.{Line, fields}
-use Rattle.model.specs.Summaries.{exclude-names, Fact}
+use Rattle.model.specs.Summaries.{exclude-names, Fact, entries}
 use Rattle.model.specs.Reading.{Content, Decl, Summary, Sum-assume, Sum-definefun, Sum-declfun, Sum-retain, State, start, entries-of, uses-of, spelled, trimmed, add-line}
 use Rattle.model.specs.Rounds.{facts, definitions}
 use Rattle.demands.specs.Demand1.{Reached-line, Says, state-with, Counted, Names-added, Counts-exact}
@@ -17,7 +17,7 @@ use Rattle.demands.proofs.StateLaws.{spelled-exact, State-laws, laws-st
 
 -- the trigger entries of the records are those of the facts
 entries-facts : (decls : List Summary) → sum (map entries-of decls) ≡ sum (map (λ (f : Fact). sum (map (λ (d : List Name). max 1 (length d)) (f .triggers))) (facts decls))
-unfolding sum entries-of facts
+unfolding sum entries-of entries facts
 entries-facts [] = refl
 entries-facts (Sum-assume f ∷ decls) = rw (entries-facts decls)
 entries-facts (Sum-definefun d ∷ decls) = omega (arith, entries-facts decls)

@@ -17,7 +17,7 @@ use Rattle.demands.specs.Accepted.{Counts-disjuncts}
 pub record Parts (law : List Name → List Name → Type 0) (exclude : List Name) (terms : List Term) : Type 0 where
   pub of-term : (t : ℕ) → law [] (free-top-level-names exclude terms t)
   pub of-group : (ts : List ℕ) → law [] (group-names exclude terms ts)
-  pub of-token : (t : ℕ) (n : Name) → token exclude terms t ≡ some n → (trimmed : List Name) → law trimmed (n ∷ [])
+  pub of-token : (t : ℕ) (n : Name) → token terms t ≡ some n → (trimmed : List Name) → law trimmed (n ∷ [])
   pub of-trimmed : (n : Name) → law (n ∷ []) (n ∷ [])
 
 -- the law holds of every disjunct, and the kind tells how many disjuncts there are
@@ -108,7 +108,7 @@ module _ (law : List Name → List Name → Type 0) where
     -- what rule 1 gives is lawful
     lawful-1 : (name : Name) (t : ℕ) → Lawful-option law (rule-1 exclude terms name t)
     unfolding rule-1
-    lawful-1 name t = lawful-bind (op-args Iff (at exclude terms t) >>= two) (λ p is. lawful-when (starts-with name (bytes "l_quant_interp")) (of-one (p .0)))
+    lawful-1 name t = lawful-bind (op-args Iff (at terms t) >>= two) (λ p is. lawful-when (starts-with name (bytes "l_quant_interp")) (of-one (p .0)))
 
     -- what rule 2 gives is lawful
     lawful-2 : (name : Name) (t : ℕ) → Lawful-option law (rule-2 exclude terms name t)
@@ -121,20 +121,20 @@ module _ (law : List Name → List Name → Type 0) where
     lawful-3 : (name : Name) (t : ℕ) → Lawful-option law (rule-3 exclude terms name t)
     unfolding rule-3
     lawful-3 name t =
-        lawful-bind (call-two "HasType" (at exclude terms t)) (λ p is.
-        let payload = ambient-refinement-payload exclude terms (p .1) in
-        lawful-when (is-ambient-refinement exclude terms (p .1))
+        lawful-bind (call-two "HasType" (at terms t)) (λ p is.
+        let payload = ambient-refinement-payload terms (p .1) in
+        lawful-when (is-ambient-refinement terms (p .1))
         (cond-case (Lawful law) (is-empty (triggers-of-term exclude terms payload)) (lawful-ambient true) (lawful-triggers _ (each-of-term payload))))
 
     -- what rule 4 gives is lawful
     lawful-4 : (name : Name) (t : ℕ) → Lawful-option law (rule-4 exclude terms name t)
     unfolding rule-4
     lawful-4 name t =
-        lawful-bind (call-one "Valid" (at exclude terms t)) (λ applied is-valid.
-        lawful-bind (call-two "ApplyTT" (at exclude terms applied)) (λ p is-applied.
-        lawful-when (holds (same (bytes "__uu__PartialApp")) (head (at exclude terms (p .0))))
+        lawful-bind (call-one "Valid" (at terms t)) (λ applied is-valid.
+        lawful-bind (call-two "ApplyTT" (at terms applied)) (λ p is-applied.
+        lawful-when (holds (same (bytes "__uu__PartialApp")) (head (at terms (p .0))))
         (lawful-default
-        (lawful-bind (token exclude terms (p .1)) (λ n is. gives (lawful-token n (parts .of-token (p .1) n is) (parts .of-trimmed))))
+        (lawful-bind (token terms (p .1)) (λ n is. gives (lawful-token n (parts .of-token (p .1) n is) (parts .of-trimmed))))
         (lawful-triggers [] (λ d i. absurd (List·Memᴰ·not-nil i))))))
 
     -- what rule 5 gives is lawful
@@ -142,48 +142,48 @@ module _ (law : List Name → List Name → Type 0) where
     unfolding rule-5
     lawful-5 name t =
         lawful-bind
-        (or-else (call-one "Valid" (at exclude terms t))
-        (or-else (call-two "HasType" (at exclude terms t) >>= λ (subject, ty). some subject)
-        (or-else (call-one "IsTotFun" (at exclude terms t)) (call-one "is-Tm_arrow" (at exclude terms t)))))
+        (or-else (call-one "Valid" (at terms t))
+        (or-else (call-two "HasType" (at terms t) >>= λ (subject, ty). some subject)
+        (or-else (call-one "IsTotFun" (at terms t)) (call-one "is-Tm_arrow" (at terms t)))))
         (λ first is. gives (of-one first))
 
     -- what rule 6 gives is lawful
     lawful-6 : (name : Name) (t : ℕ) → Lawful-option law (rule-6 exclude terms name t)
     unfolding rule-6
     lawful-6 name t =
-        lawful-bind (op-args Eq (at exclude terms t) >>= two) (λ p is.
-        lawful-bind (call-one "Term_constr_id" (at exclude terms (p .1))) (λ argument is-id. gives (of-one argument)))
+        lawful-bind (op-args Eq (at terms t) >>= two) (λ p is.
+        lawful-bind (call-one "Term_constr_id" (at terms (p .1))) (λ argument is-id. gives (of-one argument)))
 
     -- what rule 7 gives is lawful
     lawful-7 : (name : Name) (t : ℕ) → Lawful-option law (rule-7 exclude terms name t)
     unfolding rule-7
     lawful-7 name t =
-        lawful-bind (op-args And (at exclude terms t)) (λ parts is.
+        lawful-bind (op-args And (at terms t)) (λ parts is.
         gives (lawful-triggers _ (λ d i. let (part, j, k) = collect-elim (triggers-of-term exclude terms) parts i in each-of-term part d k)))
 
     -- what rule 8 gives is lawful
     lawful-8 : (name : Name) (t : ℕ) → Lawful-option law (rule-8 exclude terms name t)
     unfolding rule-8
-    lawful-8 name t = lawful-bind (op-args Eq (at exclude terms t) >>= two) (λ p is. lawful-when (starts-with name (bytes "equation_")) (of-one (p .0)))
+    lawful-8 name t = lawful-bind (op-args Eq (at terms t) >>= two) (λ p is. lawful-when (starts-with name (bytes "equation_")) (of-one (p .0)))
 
     -- what rule 9 gives is lawful
     lawful-9 : (name : Name) (t : ℕ) → Lawful-option law (rule-9 exclude terms name t)
     unfolding rule-9
     lawful-9 name t =
-        lawful-bind (op-args Iff (at exclude terms t) >>= two) (λ p is.
+        lawful-bind (op-args Iff (at terms t) >>= two) (λ p is.
         lawful-or-else
-        (lawful-bind (has-eq exclude terms (p .0)) (λ l is-left. lawful-bind (has-eq exclude terms (p .1)) (λ r is-right. gives (of-one l))))
+        (lawful-bind (has-eq terms (p .0)) (λ l is-left. lawful-bind (has-eq terms (p .1)) (λ r is-right. gives (of-one l))))
         (gives (of-two (p .0) (p .1))))
 
     -- what rule 10 gives is lawful
     lawful-10 : (name : Name) (t : ℕ) → Lawful-option law (rule-10 exclude terms name t)
     unfolding rule-10
-    lawful-10 name t = lawful-bind (op-args Eq (at exclude terms t) >>= two) (λ p is. gives (of-two (p .0) (p .1)))
+    lawful-10 name t = lawful-bind (op-args Eq (at terms t) >>= two) (λ p is. gives (of-two (p .0) (p .1)))
 
     -- what rule 11 gives is lawful
     lawful-11 : (name : Name) (t : ℕ) → Lawful-option law (rule-11 exclude terms name t)
     unfolding rule-11
-    lawful-11 name t = lawful-bind (op-args TrueOp (at exclude terms t)) (λ ts is. gives lawful-drop)
+    lawful-11 name t = lawful-bind (op-args TrueOp (at terms t)) (λ ts is. gives lawful-drop)
 
     -- what rule 12 gives is lawful
     lawful-12 : (name : Name) (t : ℕ) → Lawful-option law (rule-12 exclude terms name t)

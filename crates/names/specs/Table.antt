@@ -2,7 +2,7 @@
 -- its length (1), its head code (3); by rank in byte order: the number (2). The other columns are others' concern.
 use Prim.Native.Nat.{ℕ, zero, suc, _+_, _-_, _≤_, _<_}
 use mathlib.Core.Path.{_≡_}
-use mathlib.Core.Bool.{Bool, true, false, cond}
+use mathlib.Core.Bool.{Bool, true, false, cond, _&&_}
 use mathlib.Core.List.{List, [], _∷_, _++_}
 use mathlib.Core.Option.{Option, none, some}
 use lib.ListN.{length, take, drop, getD, set}
@@ -49,6 +49,10 @@ pub record Table (file w : List ℕ) (named : ℕ) : Type 0 where
 unfoldable pub place-from : ℕ → List Name → Name → Option ℕ
 place-from n [] name = none
 place-from n (m ∷ ms) name = let other = place-from (n + 1) ms name in cond (same m name) (some n) other
+
+-- whether a name is excluded: its head code is one of those of `exclude_names`, 1 to 9
+unfoldable pub is-excluded : List ℕ → ℕ → Bool
+is-excluded w n = ltb 0 (getD w (6144 + n) 0) && ltb (getD w (6144 + n) 0) 10
 
 -- whether the order is that of a name before another
 unfoldable pub is-before : Order → Bool

@@ -5,7 +5,7 @@ ghost use lib.ListN.{length, getD};
 ghost use Rattle.model.specs.Lists.{part};
 ghost use Rattle.model.specs.Names.{order};
 ghost use Rattle.names.specs.Known.{head-code};
-ghost use Rattle.names.specs.Table.{Table, name-of, names-of, look-up, index-with, spell-answer, spell-table};
+ghost use Rattle.names.specs.Table.{Table, is-excluded, name-of, names-of, look-up, index-with, spell-answer, spell-table};
 
 // What a look-up finds: the name's number, or the rank where the name belongs in byte order.
 pub enum Found {
@@ -127,4 +127,16 @@ pub fn name_part<'a>(file: &'a [u8], w: &[u32], named: usize, n: usize) -> &'a [
     let start = words::at(w, n);
     let len = words::at(w, 2048 + n);
     &file[start..start + len]
+}
+
+// Whether a name is excluded: nothing else reads what says so.
+pub fn is_excluded(w: &[u32], n: usize) -> bool
+    requires { ⌜ (n < 2048) × (16384 ≤ length (now w)) ⌝ }
+    ensures { λ r. ⌜ r ≡ is-excluded (now (w .entry)) n ⌝ }
+{
+    let code = words::at(w, 6144 + n);
+    if code == 0 {
+        return false;
+    }
+    code < 10
 }

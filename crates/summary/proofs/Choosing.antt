@@ -14,8 +14,9 @@ use Rattle.names.specs.Table.{Table, name-of}
 use Rattle.names.proofs.Laws.{names-length}
 use Rattle.terms.specs.Rows.{row-start, row-end, terms-of-words, terms-of}
 use Rattle.terms.proofs.Table.{terms-named}
-use Rattle.gather.specs.Sets.{Same-but, Named}
-use Rattle.gather.proofs.Steps.{same-self, same-back}
+use Rattle.words.specs.Slices.{Same-but}
+use Rattle.gather.specs.Sets.{Named}
+use Rattle.words.proofs.Slices.{same-self, same-back}
 use Rattle.triggers.specs.Entries.{Files, Filled}
 use Rattle.triggers.specs.Filings.{Filing, filing, file-list, file-groups, file-parts, Files-as}
 use Rattle.triggers.specs.declared.Filed.{Filed}

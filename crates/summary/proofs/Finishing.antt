@@ -10,7 +10,7 @@ use lib.Dec.{ltb}
 use borrow.Author.Tests.{ltb-true}
 use Rattle.model.specs.Lists.{part}
 use Rattle.model.specs.Names.{Name, from-list}
-use Rattle.model.specs.Summaries.{exclude-names, summarize-kind}
+use Rattle.model.specs.Summaries.{exclude-names, summarize-kind, entries}
 use Rattle.model.specs.declared.AsumKind.{AsumKind}
 use Rattle.model.proofs.PartLaws.{part-agree}
 use Rattle.names.specs.Table.{Table, name-of}
@@ -18,12 +18,13 @@ use Rattle.names.proofs.Laws.{names-length}
 use Rattle.names.proofs.Coded.{Kept}
 use Rattle.terms.specs.Rows.{terms-of, Rows}
 use Rattle.terms.proofs.Table.{terms-named}
-use Rattle.gather.specs.Sets.{Fresh, Same-but, Named, Gathers, all-names, no-room as no-names, ended}
+use Rattle.words.specs.Slices.{Same-but}
+use Rattle.gather.specs.Sets.{Fresh, Named, Gathers, all-names, no-room as no-names, ended}
 use Rattle.gather.specs.declared.Walked.{Walked}
 use Rattle.gather.specs.declared.Walked.the-variants as walks
-use Rattle.gather.proofs.Steps.{same-back, same-then, same-wider}
+use Rattle.words.proofs.Slices.{same-back, same-then, same-wider}
 use Rattle.gather.proofs.Walking.{rows-marked}
-use Rattle.triggers.specs.Entries.{entry-number, before-first, disjuncts-of-words, disjuncts-of, entries}
+use Rattle.triggers.specs.Entries.{entry-number, before-first, disjuncts-of-words, disjuncts-of}
 use Rattle.triggers.proofs.Marked.{named-marked, terms-marked, fresh-next}
 use Rattle.triggers.specs.Filings.{filing}
 use Rattle.rules.specs.Views.{terms-in}

@@ -8,7 +8,7 @@ use lib.ListN.{getD}
 use borrow.Author.Tests.{not-true, not-false}
 use Rattle.model.specs.Lists.{collect, sum, part}
 use Rattle.model.specs.Names.{Name}
-use Rattle.model.specs.Summaries.{Kinded, Sum-ambient, Sum-triggers, exclude-names, is-empty, triggers-of-term}
+use Rattle.model.specs.Summaries.{Kinded, Sum-ambient, Sum-triggers, exclude-names, is-empty, triggers-of-term, entries}
 use Rattle.model.specs.declared.AsumKind.{AsumKind}
 use Rattle.model.specs.declared.AsumKind.the-variants as asum
 use Rattle.model.proofs.PartLaws.{part-nil}
@@ -17,10 +17,11 @@ use Rattle.names.proofs.Laws.{distinct}
 use Rattle.names.proofs.Coded.{code-excluded, Kept, table-kept}
 use Rattle.terms.specs.Rows.{row-start, row-end, terms-of-words, terms-of, Rows}
 use Rattle.terms.proofs.References.{row-references}
-use Rattle.gather.specs.Sets.{Fresh, Same-but, Named, is-excluded}
-use Rattle.gather.proofs.Steps.{same-self, same-then}
+use Rattle.words.specs.Slices.{Same-but}
+use Rattle.gather.specs.Sets.{Fresh, Named, is-excluded}
+use Rattle.words.proofs.Slices.{same-self, same-then}
 use Rattle.rules.specs.Choices.{refinement-kind, parts-kind}
-use Rattle.triggers.specs.Entries.{disjuncts-of, disjuncts-of-words, entries, Files, all-sets, no-room as no-sets, Filled, filed-end, Opened}
+use Rattle.triggers.specs.Entries.{disjuncts-of, disjuncts-of-words, Files, all-sets, no-room as no-sets, Filled, filed-end, Opened}
 use Rattle.triggers.specs.Filings.{filing, file-groups, file-parts, ask-empty, Asks-as, Files-as}
 use Rattle.triggers.specs.declared.Filed.{Filed}
 use Rattle.triggers.specs.declared.Filed.the-variants as files

@@ -21,16 +21,16 @@ use lib.Seq.{take-take, getD-set-same, getD-set-other}
 use Rattle.model.specs.Lists.{fold-left, sum, _>>=_, part}
 use Rattle.model.proofs.ListLaws.{cond-false}
 use Rattle.model.specs.Reading.{spell}
-use Rattle.model.specs.Summaries.{Sum-triggers, token-triggers}
+use Rattle.model.specs.Summaries.{Sum-triggers, token-triggers, entries}
 use Rattle.model.specs.declared.AsumKind.the-variants as asum
 use Rattle.model.proofs.SetLaws.{same-eq}
 use Rattle.model.proofs.PartLaws.{part-cons, part-nil, part-one, part-two}
 use Rattle.names.proofs.Spelling.{Spelling, spell-law, spelled-known, spelled-new, spelled-full}
 use Rattle.terms.proofs.Laws.{below}
-use Rattle.gather.specs.Sets.{Same-but}
+use Rattle.words.specs.Slices.{Same-but}
 use Rattle.gather.specs.Visits.{put}
-use Rattle.gather.proofs.Steps.{same-self, same-set, same-then}
-use Rattle.triggers.specs.Entries.{entry-number, disjuncts-of-words, disjuncts-of, entries, Entries}
+use Rattle.words.proofs.Slices.{same-self, same-set, same-then}
+use Rattle.triggers.specs.Entries.{entry-number, disjuncts-of-words, disjuncts-of, Entries}
 use Rattle.triggers.specs.Filings.{filing}
 use Rattle.summary.specs.declared.Limit.{Limit}
 use Rattle.summary.specs.declared.Limit.the-variants as limit

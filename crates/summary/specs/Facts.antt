@@ -9,13 +9,14 @@ use lib.Dec.{ltb}
 use Rattle.model.specs.Lists.{fold-left, part}
 use Rattle.model.specs.Names.{Name, from-list}
 use Rattle.model.specs.Reading.{spell}
-use Rattle.model.specs.Summaries.{Kinded, exclude-names, free-top-level-names, summarize-kind}
+use Rattle.model.specs.Summaries.{Kinded, exclude-names, free-top-level-names, summarize-kind, entries}
 use Rattle.names.specs.Table.{Table, name-of, names-of}
-use Rattle.gather.specs.Sets.{Fresh, Same-but}
+use Rattle.words.specs.Slices.{Same-but}
+use Rattle.gather.specs.Sets.{Fresh}
 use Rattle.rules.specs.Views.{Tables, terms-in}
 use Rattle.rules.specs.Choices.{kind-choice}
 use Rattle.rules.specs.declared.Choice.{Choice}
-use Rattle.triggers.specs.Entries.{disjuncts-of, entries, Entries}
+use Rattle.triggers.specs.Entries.{disjuncts-of, Entries}
 use Rattle.summary.specs.declared.Limit.the-variants as limit
 use Rattle.summary.specs.declared.Summary.{Summary}
 use Rattle.summary.specs.declared.Summarized.{Summarized}

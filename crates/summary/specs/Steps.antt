@@ -8,12 +8,13 @@ use lib.ListN.{length, set}
 use Rattle.model.specs.Lists.{fold-left, part}
 use Rattle.model.specs.Names.{Name}
 use Rattle.model.specs.Reading.{spell}
-use Rattle.model.specs.Summaries.{Kinded, exclude-names, token-triggers, free-top-level-names}
+use Rattle.model.specs.Summaries.{Kinded, exclude-names, token-triggers, free-top-level-names, entries}
 use Rattle.model.specs.declared.AsumKind.{AsumKind}
 use Rattle.model.specs.declared.AsumKind.the-variants.{Triggers}
 use Rattle.names.specs.Table.{Table, name-of, names-of}
 use Rattle.terms.specs.Rows.{terms-of}
-use Rattle.gather.specs.Sets.{Fresh, Same-but, Named, Gathers, Gathered}
+use Rattle.words.specs.Slices.{Same-but}
+use Rattle.gather.specs.Sets.{Fresh, Named, Gathers, Gathered}
 use Rattle.gather.specs.Visits.{visit-term, Walks-as}
 use Rattle.gather.specs.declared.Walked.{Walked}
 use Rattle.gather.specs.declared.Walked.the-variants as walks
@@ -21,7 +22,7 @@ use Rattle.rules.specs.Views.{terms-in}
 use Rattle.rules.specs.Choices.{kinded}
 use Rattle.rules.specs.declared.Choice.{Choice}
 use Rattle.rules.specs.declared.Choice.the-variants as choice
-use Rattle.triggers.specs.Entries.{disjuncts-of, entries, Entries}
+use Rattle.triggers.specs.Entries.{disjuncts-of, Entries}
 use Rattle.triggers.specs.Filings.{Filing, filing}
 use Rattle.triggers.specs.declared.Filed.{Filed}
 use Rattle.triggers.specs.declared.Filed.the-variants as files

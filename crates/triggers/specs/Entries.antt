@@ -1,16 +1,18 @@
 -- Trigger entries in a lent slice, up to its word 8,192. An entry is the number of a name, or 2048 for a disjunct that has
 -- none; 4096 is added to the last entry of its disjunct. The names of a disjunct stand in the order in which its walk finds
 -- them.
-use Prim.Native.Nat.{ℕ, _+_, _-_, _%_, max, _≤_, _<_}
+use Prim.Native.Nat.{ℕ, _+_, _-_, _%_, _≤_, _<_}
 use mathlib.Core.Path.{_≡_}
 use mathlib.Core.Bool.{cond}
 use mathlib.Core.Logic.{_⊎_}
 use mathlib.Core.List.{List, [], _∷_, _++_, map, List·Memᴰ}
 use lib.ListN.{length, getD, set}
 use lib.Dec.{ltb}
-use Rattle.model.specs.Lists.{sum, part}
+use Rattle.model.specs.Lists.{part}
 use Rattle.model.specs.Names.{Name, from-list}
-use Rattle.gather.specs.Sets.{Same-but, Fresh}
+use Rattle.model.specs.Summaries.{entries}
+use Rattle.words.specs.Slices.{Same-but}
+use Rattle.gather.specs.Sets.{Fresh}
 use Rattle.triggers.specs.declared.Filed.{Filed}
 use Rattle.triggers.specs.declared.Filed.the-variants as filed
 
@@ -33,10 +35,6 @@ disjuncts-of-words (w ∷ ws) =
 -- the disjuncts that entries hold: a set of names each
 unfoldable pub disjuncts-of : (ℕ → Name) → List ℕ → List (List Name)
 disjuncts-of name ws = map (λ ns. from-list (map name ns)) (disjuncts-of-words ws)
-
--- how many entries disjuncts take: one for each name, one for an empty disjunct
-unfoldable pub entries : List (List Name) → ℕ
-entries sets = sum (map (λ names. max 1 (length names)) sets)
 
 -- entries whose names are among `named` names, and whose last ends its disjunct
 pub record Entries (named : ℕ) (ws : List ℕ) : Type 0 where

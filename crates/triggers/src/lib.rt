@@ -1,13 +1,14 @@
 use gather::Walked;
 ghost use Prim.Native.Nat.{ℕ, _+_, _-_, _%_, _≤_, _<_};
 ghost use mathlib.Core.Path.{_≡_};
-ghost use mathlib.Core.List.{[], _∷_, map};
+ghost use mathlib.Core.List.{List, [], _∷_, map};
 ghost use lib.ListN.{length, getD};
 ghost use Rattle.model.specs.Lists.{collect, sum, part};
 ghost use Rattle.model.specs.Names.{Name};
-ghost use Rattle.model.specs.Summaries.{exclude-names, is-empty, free-top-level-names, group-names, triggers-of-term};
+ghost use Rattle.model.specs.Summaries.{is-empty, free-top-level-names, group-names, triggers-of-term};
 ghost use Rattle.terms.specs.Rows.{row-start, row-end, terms-of-words, terms-of, bare-of, groups-at, Rows};
-ghost use Rattle.gather.specs.Sets.{Named, Fresh, Same-but};
+ghost use Rattle.words.specs.Slices.{Same-but};
+ghost use Rattle.gather.specs.Sets.{Named, Fresh};
 ghost use Rattle.triggers.specs.Entries.{Opened, Files, Filled, Closes};
 ghost use Rattle.triggers.specs.Filings.{filing, file-list, file-groups, file-parts, ask-empty, Asks-as, Files-as};
 
@@ -49,7 +50,7 @@ fn file_list(
     at: usize,
 ) -> Filed
     requires { ⌜ Rows (now refs) (now rows) used many named × Opened (now names) (now rows) (now out) mark at × (a ≤ e) × (e ≤ used) × ((i : ℕ) → a ≤ i → i < e → getD (now refs) i 0 % 4096 < many) ⌝ }
-    ensures sets { λ r. ⌜ ((name : ℕ → Name) → Named name (now (names .entry)) named → Files name named (group-names exclude-names (terms-of name (now (refs .entry)) (now (rows .entry)) used many) (terms-of-words (part (now (refs .entry)) a e)) ∷ []) at (now (out .exit)) r) ⌝ }
+    ensures sets { λ r. ⌜ ((exclude : List Name) (name : ℕ → Name) → Named exclude name (now (names .entry)) named → Files name named (group-names exclude (terms-of name (now (refs .entry)) (now (rows .entry)) used many) (terms-of-words (part (now (refs .entry)) a e)) ∷ []) at (now (out .exit)) r) ⌝ }
     ensures slices { λ r. ⌜ Filled (now (names .entry)) (now (rows .entry)) (now (out .entry)) (now (names .exit)) (now (rows .exit)) (now (out .exit)) mark at r ⌝ }
     ensures words { λ r. ⌜ Files-as (file-list (now (refs .entry)) used many (filing (now (names .entry)) (now (rows .entry)) (now (out .entry)) mark at) (terms-of-words (part (now (refs .entry)) a e))) 1 (now (names .exit)) (now (rows .exit)) (now (out .exit)) mark at r ⌝ }
 {
@@ -86,7 +87,7 @@ pub fn file_term(
     at: usize,
 ) -> Filed
     requires { ⌜ Rows (now refs) (now rows) used many named × Opened (now names) (now rows) (now out) mark at × (t < many) ⌝ }
-    ensures sets { λ r. ⌜ ((name : ℕ → Name) → Named name (now (names .entry)) named → Files name named (free-top-level-names exclude-names (terms-of name (now (refs .entry)) (now (rows .entry)) used many) t ∷ []) at (now (out .exit)) r) ⌝ }
+    ensures sets { λ r. ⌜ ((exclude : List Name) (name : ℕ → Name) → Named exclude name (now (names .entry)) named → Files name named (free-top-level-names exclude (terms-of name (now (refs .entry)) (now (rows .entry)) used many) t ∷ []) at (now (out .exit)) r) ⌝ }
     ensures slices { λ r. ⌜ Filled (now (names .entry)) (now (rows .entry)) (now (out .entry)) (now (names .exit)) (now (rows .exit)) (now (out .exit)) mark at r ⌝ }
     ensures words { λ r. ⌜ Files-as (file-list (now (refs .entry)) used many (filing (now (names .entry)) (now (rows .entry)) (now (out .entry)) mark at) (t ∷ [])) 1 (now (names .exit)) (now (rows .exit)) (now (out .exit)) mark at r ⌝ }
 {
@@ -123,7 +124,7 @@ pub fn file_terms(
     at: usize,
 ) -> Filed
     requires { ⌜ Rows (now refs) (now rows) used many named × Opened (now names) (now rows) (now out) mark at × (t < many) × (u < many) ⌝ }
-    ensures sets { λ r. ⌜ ((name : ℕ → Name) → Named name (now (names .entry)) named → Files name named (free-top-level-names exclude-names (terms-of name (now (refs .entry)) (now (rows .entry)) used many) t ∷ free-top-level-names exclude-names (terms-of name (now (refs .entry)) (now (rows .entry)) used many) u ∷ []) at (now (out .exit)) r) ⌝ }
+    ensures sets { λ r. ⌜ ((exclude : List Name) (name : ℕ → Name) → Named exclude name (now (names .entry)) named → Files name named (free-top-level-names exclude (terms-of name (now (refs .entry)) (now (rows .entry)) used many) t ∷ free-top-level-names exclude (terms-of name (now (refs .entry)) (now (rows .entry)) used many) u ∷ []) at (now (out .exit)) r) ⌝ }
     ensures slices { λ r. ⌜ Filled (now (names .entry)) (now (rows .entry)) (now (out .entry)) (now (names .exit)) (now (rows .exit)) (now (out .exit)) mark at r ⌝ }
     ensures words { λ r. ⌜ Files-as (file-list (now (refs .entry)) used many (file-list (now (refs .entry)) used many (filing (now (names .entry)) (now (rows .entry)) (now (out .entry)) mark at) (t ∷ [])) (u ∷ [])) 2 (now (names .exit)) (now (rows .exit)) (now (out .exit)) mark at r ⌝ }
 {
@@ -181,7 +182,7 @@ pub fn triggers_of_term(
     at: usize,
 ) -> Filed
     requires { ⌜ Rows (now refs) (now rows) used many named × Opened (now names) (now rows) (now out) mark at × (t < many) ⌝ }
-    ensures sets { λ r. ⌜ ((name : ℕ → Name) → Named name (now (names .entry)) named → Files name named (triggers-of-term exclude-names (terms-of name (now (refs .entry)) (now (rows .entry)) used many) t) at (now (out .exit)) r) ⌝ }
+    ensures sets { λ r. ⌜ ((exclude : List Name) (name : ℕ → Name) → Named exclude name (now (names .entry)) named → Files name named (triggers-of-term exclude (terms-of name (now (refs .entry)) (now (rows .entry)) used many) t) at (now (out .exit)) r) ⌝ }
     ensures slices { λ r. ⌜ Filled (now (names .entry)) (now (rows .entry)) (now (out .entry)) (now (names .exit)) (now (rows .exit)) (now (out .exit)) mark at r ⌝ }
     ensures words { λ r. ⌜ Files-as (file-groups (now (refs .entry)) used many (filing (now (names .entry)) (now (rows .entry)) (now (out .entry)) mark at) t) (groups-at (now (rows .entry)) t) (now (names .exit)) (now (rows .exit)) (now (out .exit)) mark at r ⌝ }
 {
@@ -233,7 +234,7 @@ pub fn triggers_of_list(
     at: usize,
 ) -> Filed
     requires { ⌜ Rows (now refs) (now rows) used many named × Opened (now names) (now rows) (now out) mark at × (a ≤ e) × (e ≤ used) × ((i : ℕ) → a ≤ i → i < e → getD (now refs) i 0 % 4096 < many) ⌝ }
-    ensures sets { λ r. ⌜ ((name : ℕ → Name) → Named name (now (names .entry)) named → Files name named (collect (triggers-of-term exclude-names (terms-of name (now (refs .entry)) (now (rows .entry)) used many)) (terms-of-words (part (now (refs .entry)) a e))) at (now (out .exit)) r) ⌝ }
+    ensures sets { λ r. ⌜ ((exclude : List Name) (name : ℕ → Name) → Named exclude name (now (names .entry)) named → Files name named (collect (triggers-of-term exclude (terms-of name (now (refs .entry)) (now (rows .entry)) used many)) (terms-of-words (part (now (refs .entry)) a e))) at (now (out .exit)) r) ⌝ }
     ensures slices { λ r. ⌜ Filled (now (names .entry)) (now (rows .entry)) (now (out .entry)) (now (names .exit)) (now (rows .exit)) (now (out .exit)) mark at r ⌝ }
     ensures words { λ r. ⌜ Files-as (file-parts (now (refs .entry)) used many (filing (now (names .entry)) (now (rows .entry)) (now (out .entry)) mark at) (terms-of-words (part (now (refs .entry)) a e))) (sum (map (groups-at (now (rows .entry))) (terms-of-words (part (now (refs .entry)) a e)))) (now (names .exit)) (now (rows .exit)) (now (out .exit)) mark at r ⌝ }
 {
@@ -277,7 +278,7 @@ pub fn is_empty(
     at: usize,
 ) -> bool
     requires { ⌜ Rows (now refs) (now rows) used many named × Opened (now names) (now rows) (now out) mark at × (t < many) ⌝ }
-    ensures answer { λ r. ⌜ ((name : ℕ → Name) → Named name (now (names .entry)) named → r ≡ is-empty (triggers-of-term exclude-names (terms-of name (now (refs .entry)) (now (rows .entry)) used many) t)) ⌝ }
+    ensures answer { λ r. ⌜ ((exclude : List Name) (name : ℕ → Name) → Named exclude name (now (names .entry)) named → r ≡ is-empty (triggers-of-term exclude (terms-of name (now (refs .entry)) (now (rows .entry)) used many) t)) ⌝ }
     ensures tables { λ r. ⌜ Same-but 8192 2048 (now (names .entry)) (now (names .exit)) × Same-but 12288 4096 (now (rows .entry)) (now (rows .exit)) × Fresh (now (names .exit)) (now (rows .exit)) (mark + 1) ⌝ }
     ensures words { λ r. ⌜ Asks-as (ask-empty (now (refs .entry)) used many (now (names .entry)) (now (rows .entry)) t) (now (names .entry)) (now (rows .entry)) (now (out .entry)) (now (names .exit)) (now (rows .exit)) (now (out .exit)) mark r ⌝ }
 {
