@@ -270,10 +270,10 @@ module _ {ls : List Line} {n : ℕ} (l : Reached-line ls n) where
       record {
         taken = k;
         takes = takes;
-        earlier-place = w .place;
-        earlier = reached (w .at);
-        earlier-content = w .content;
-        earlier-says = record { ended = w .ended; parsed = w .parsed };
+        earlier-place = w .said .place;
+        earlier = reached (w .said .at);
+        earlier-content = w .said .content;
+        earlier-says = record { ended = w .said .ended; parsed = w .said .parsed };
         earlier-takes = w .lawful;
       }
 

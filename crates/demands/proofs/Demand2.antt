@@ -1,5 +1,6 @@
 -- Demand 2: "the kept list and its order equal what Pruning.fst computes, read as definitions over lists".
 use Prim.Native.Nat.{ℕ}
+use native.Mathlib.Omega.{arith}
 use mathlib.Core.Path.{_≡_, sym, _∙_}
 use mathlib.Core.Logic.{⊎-elim}
 use mathlib.Core.Bool.{Bool, true, false, cond, not}
@@ -7,7 +8,7 @@ use mathlib.Core.List.{List, [], map, List·Memᴰ, List·Memᴰ·not-nil, List�
 use Rattle.model.specs.Names.{Name, mem}
 use Rattle.model.specs.Summaries.{exclude-names, Fact}
 use Rattle.model.specs.Reading.{prune-decls, Decl, State}
-use Rattle.model.specs.Rounds.{facts, definitions, declarations, run}
+use Rattle.model.specs.Rounds.{facts, definitions, declarations, run, visits}
 use Rattle.model.specs.Kept.{kept-facts, kept-names, kept-decls}
 use Rattle.model.proofs.ListLaws.{keep-elim, map-elim}
 use Rattle.demands.specs.Demand2.{fact-lines, decl-lines, Scan-ends, Kept-is-pruned, Kept-once}
@@ -16,14 +17,17 @@ use Rattle.demands.proofs.Distinct.{distinct-append, distinct-to-map}
 use Rattle.demands.proofs.ListedLaws.{kept-facts-elim, kept-facts-once}
 use Rattle.demands.proofs.WellFormed.{accepted-well-formed}
 use Rattle.demands.proofs.Demand3.{rounds-exact, rounds-bound}
-use Rattle.demands.proofs.ScanFile.{scanned-file}
+use Rattle.demands.proofs.ScanFile.{none-visited, scanned-file}
 use Rattle.demands.proofs.RecordLines.{read-file-lines, fact-by-line, fact-or-definition, fact-or-declaration, definition-or-declaration}
 use Rattle.demands.proofs.Pruned.{pruned-lines, pruned-list, same-definitions, same-declarations, kept-parts}
 
--- the fuel of `scan` never runs out
+-- the fuel of `scan` never runs out; it is entered once a round, and calls `remove_trigger_for` once a visit
 pub scan-ends : Scan-ends
 scan-ends file s e =
-    scanned-file (s .goal) (s .decls) (accepted-well-formed file s e) (rounds-exact file s e) (rounds-bound file s e) .ends
+    let scanned = scanned-file (s .goal) (s .decls) (accepted-well-formed file s e) (rounds-exact file s e) (rounds-bound file s e) in
+    let rounds : run-of s .rounds ≡ scanned .entered = omega (arith, scanned .enters) in
+    let seen : visits (run-of s .met) (facts (s .decls)) ≡ scanned .called = omega (arith, scanned .visited, none-visited (facts (s .decls))) in
+    rw (rounds, seen) (scanned .ends)
 
 -- the list of Pruning.fst is the kept list
 pub kept-is-pruned : Kept-is-pruned

@@ -1,13 +1,13 @@
 -- What the filed state of well-formed records finds: the laws that the scan and `prune` rest on.
-use Prim.Native.Nat.{_≤_}
+use Prim.Native.Nat.{ℕ, _+_, _≤_}
 use native.Mathlib.Omega.{arith}
 use mathlib.Core.Path.{_≡_, refl, sym, _∙_, ap}
 use mathlib.Core.Bool.{Bool, true, false, cond}
-use mathlib.Core.List.{List, [], _∷_, _++_, map, reverse, append-nil, List·Memᴰ, List·Memᴰ·head, List·Memᴰ·not-nil, List·Memᴰ·eq-of-singleton, Memᴰ·cast}
+use mathlib.Core.List.{List, [], _∷_, _++_, map, reverse, append-nil, List·Memᴰ, List·Memᴰ·head, List·Memᴰ·tail, List·Memᴰ·not-nil, List·Memᴰ·eq-of-singleton, Memᴰ·cast}
 use mathlib.Core.Option.{some}
 use lib.Dec.{T}
-use lib.ListN.{length, length-map}
-use Rattle.model.specs.Lists.{keep, concat, collect}
+use lib.ListN.{length, length-append, length-map}
+use Rattle.model.specs.Lists.{keep, count, concat, collect}
 use Rattle.model.specs.Names.{Name, same, mem, from-list}
 use Rattle.model.specs.Summaries.{Fact}
 use Rattle.model.specs.Kept.{ambients}
@@ -16,8 +16,8 @@ use Rattle.model.specs.Pruning.{Map, try-find, Passumption, Pdef, init, init-ma
 use Rattle.model.specs.Rounds.{facts, definitions, declarations, macros, listed, filed, is-ambient, is-ambient-root}
 use Rattle.model.specs.declared.AsumKind.{AsumKind}
 use Rattle.model.specs.declared.AsumKind.the-variants.{Drop, Ambient, Triggers}
-use Rattle.model.proofs.ListLaws.{collect-intro, collect-elim, collect-reverse-intro, collect-reverse-elim, collect-reverse, concat-intro, concat-elim, map-reverse, reverse-intro, reverse-elim}
-use Rattle.model.proofs.SetLaws.{same-eq, same-refl, mem-intro, mem-elim, mem-from-list, ascending-from-list, subset-length, sets-again, from-list-length}
+use Rattle.model.proofs.ListLaws.{collect-intro, collect-elim, collect-reverse-intro, collect-reverse-elim, collect-reverse-length, collect-reverse, count-append, concat-intro, concat-elim, map-reverse, reverse-intro, reverse-elim}
+use Rattle.model.proofs.SetLaws.{same-eq, same-refl, same-sym, mem-intro, mem-elim, mem-from-list, ascending-from-list, subset-length, sets-again, from-list-length}
 use Rattle.demands.specs.Accepted.{Distinct, Well-formed, Counts-disjuncts}
 use Rattle.demands.proofs.Distinct.{distinct-collect}
 use Rattle.demands.proofs.MapLaws.{Functional, try-find-intro, try-find-elim, try-find-same, try-find-append}
@@ -177,6 +177,44 @@ waiting-of-elim n (Sum-definefun d) i m = absurd (List·Memᴰ·not-nil m)
 waiting-of-elim n (Sum-declfun d) i m = absurd (List·Memᴰ·not-nil m)
 waiting-of-elim n Sum-retain i m = absurd (List·Memᴰ·not-nil m)
 
+module _ {X : Type 0} (n : Name) (x : X) where
+  -- an element for each occurrence of the name
+  names-length : (d : List Name) → length (collect (λ t. cond (same t n) (x ∷ []) []) d) ≡ count (same n) d
+  unfolding collect count
+  names-length [] = refl
+  names-length (t ∷ d) = rw (same-sym t n) (go (same n t) _ (names-length d))
+    where
+      go : (b : Bool) (l : List X) {k : ℕ} → length l ≡ k → length (cond b (x ∷ []) [] ++ l) ≡ cond b (1 + k) k
+      go true l e = omega (arith, e)
+      go false l e = e
+
+  -- an element for each entry of the name
+  entries-length : (ts : List (List Name)) → length (collect (λ d. collect (λ t. cond (same t n) (x ∷ []) []) (reverse d)) ts) ≡ count (same n) (concat ts)
+  unfolding collect concat count
+  entries-length [] = refl
+  entries-length (d ∷ ts) =
+      rw (length-append, count-append (same n) d)
+      (omega (arith, collect-reverse-length (λ t. cond (same t n) (x ∷ []) []) d, names-length d, entries-length ts))
+
+  -- the same in the order of filing, of a fact of any kind
+  kind-length : (k : AsumKind) (ts : List (List Name)) → Counts-disjuncts k ts → length (on-kind nothing (entries-of (λ t. cond (same t n) (x ∷ []) []) ts) k) ≡ count (same n) (concat ts)
+  unfolding concat count
+  kind-length Drop ts e = rw e
+  kind-length (Ambient r) ts e = rw e
+  kind-length (Triggers m) ts e = collect-reverse-length (λ d. collect (λ t. cond (same t n) (x ∷ []) []) (reverse d)) ts ∙ entries-length ts
+
+-- as many facts wait on a name as there are entries of it
+waiting-length : (n : Name) (decls : List Summary) → ((f : Fact) → List·Memᴰ f (facts decls) → Counts-disjuncts (f .kind) (f .triggers))
+    → length (collect (waiting-of n) decls) ≡ count (same n) (filed (facts decls))
+unfolding waiting-of collect filed listed facts count
+waiting-length n [] h = refl
+waiting-length n (Sum-assume f ∷ decls) h =
+    rw (length-append, count-append (same n) (concat (f .triggers)))
+    (omega (arith, kind-length n (passumption f) (f .kind) (f .triggers) (h f (List·Memᴰ·head refl)), waiting-length n decls (λ g i. h g (List·Memᴰ·tail i))))
+waiting-length n (Sum-definefun d ∷ decls) h = waiting-length n decls h
+waiting-length n (Sum-declfun d ∷ decls) h = waiting-length n decls h
+waiting-length n (Sum-retain ∷ decls) h = waiting-length n decls h
+
 -- what an ambient fact adds, if only a root adds it: the fact is an ambient root
 ambient-elim : {A : Type 0} {x y : A} (k : AsumKind) → List·Memᴰ y (on-kind (λ r. cond r (x ∷ []) []) [] k) → T (is-ambient-root k) × (y ≡ x)
 unfolding is-ambient-root
@@ -250,6 +288,13 @@ module _ {roots : List Root} (decls : List Summary) (w : Well-formed decls roots
       rw (filed-waiting, append-nil)
       (collect-reverse-intro (waiting-of n) decls
       (collect-intro (waiting-of n) (fact-summary decls m) (triggers-intro (f .kind) (f .triggers) (w .good-facts f m .disjunct-count) i (entries-intro (λ t. cond (same t n) (passumption f ∷ []) []) (f .triggers) i (itself-cond (same n n) (passumption f) (same-refl n))))))
+
+  -- as many facts wait on a name as there are entries of it
+  pub waits-count : (b : Bool) (n : Name) → length (waiting (add-summaries b decls init) n) ≡ count (same n) (filed (facts decls))
+  unfolding waiting-of
+  waits-count b n =
+      rw (filed-waiting, append-nil)
+      (collect-reverse-length (waiting-of n) decls ∙ waiting-length n decls (λ f i. w .good-facts f i .disjunct-count))
 
   -- the state's macros are those of the file
   pub finds-macro : (b : Bool) (n : Name) → try-find (add-summaries b decls init .macro-freenames) n ≡ try-find (macros decls) n

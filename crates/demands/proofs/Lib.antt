@@ -13,6 +13,7 @@ pub mod ReadingLaws
 pub mod TermNames
 pub mod Disjuncts
 pub mod TermNumbers
+pub mod LineFields
 pub mod WellFormed
 pub mod StateLaws
 pub mod Counts
@@ -20,7 +21,8 @@ pub mod Queries
 pub mod Refusals
 pub mod SaidLines
 pub mod Demand1
-pub mod FactSummaries
+pub mod RecordLines
+pub mod FileOrder
 pub mod Slices
 pub mod MapLaws
 pub mod Filing
@@ -29,5 +31,4 @@ pub mod ScanSteps
 pub mod ScanRounds
 pub mod ScanFile
 pub mod Pruned
-pub mod RecordLines
 pub mod Demand2

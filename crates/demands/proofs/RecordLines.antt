@@ -1,21 +1,23 @@
--- No two records of an accepted file stand on one line.
+-- The lines of the records of an accepted file ascend, so no two records stand on one line.
 use Prim.Native.Nat.{ℕ, _+_, _<_}
 use native.Mathlib.Omega.{arith}
 use mathlib.Core.Path.{_≡_, refl}
 use mathlib.Core.Logic.{_⊎_, inl, inr, ⊎-elim}
-use mathlib.Core.List.{List, [], _∷_, _++_, append-nil, List·Memᴰ, List·Memᴰ·head, List·Memᴰ·not-nil, List·Memᴰ·append-cases, List·Memᴰ·eq-of-singleton}
+use mathlib.Core.List.{List, [], _∷_, _++_, map, map-append, append-nil, List·Memᴰ, List·Memᴰ·head, List·Memᴰ·tail, List·Memᴰ·cases-cons, List·Memᴰ·not-nil, List·Memᴰ·append-cases, List·Memᴰ·eq-of-singleton}
+use lib.ListN.{length}
 use Rattle.model.specs.Lists.{collect}
 use Rattle.model.specs.Names.{Name}
+use Rattle.model.specs.Lines.{lines}
 use Rattle.model.specs.Terms.{Term}
 use Rattle.model.specs.Summaries.{Fact, summarize-assumption}
-use Rattle.model.specs.Reading.{Content, ask, term, assume, fun, def, retain, root, Decl, Summary, Sum-assume, Sum-definefun, Sum-declfun, State, start, read, summarize-decl, add-line, read-file}
+use Rattle.model.specs.Reading.{Content, ask, term, assume, fun, def, retain, root, Decl, Summary, Sum-assume, Sum-definefun, Sum-declfun, Root, State, start, read, summarize-decl, root-of, add-line, read-file}
 use Rattle.model.specs.Rounds.{facts, definitions, declarations}
 use Rattle.model.proofs.ListLaws.{collect-append}
 use Rattle.demands.specs.Accepted.{Distinct, none as no-more, one-more}
-use Rattle.demands.proofs.Distinct.{distinct-append, distinct-collect}
+use Rattle.demands.specs.FileOrder.{line-of, Rising, none, one, more}
+use Rattle.demands.proofs.Distinct.{distinct-collect}
 use Rattle.demands.proofs.Records.{fact-summary, definition-summary, declaration-summary}
 use Rattle.demands.proofs.ReadingLaws.{line-read, kept-by-file}
-use Rattle.demands.proofs.Pruned.{line-of}
 
 -- the records of the n-th line stand on it
 line-n : (exclude : List Name) (terms : List Term) (n : ℕ) (c : Content) → (collect line-of (summarize-decl exclude terms n c) ≡ []) ⊎ (collect line-of (summarize-decl exclude terms n c) ≡ n ∷ [])
@@ -28,33 +30,91 @@ line-n exclude terms n (def name t) = inr refl
 line-n exclude terms n (retain names) = inl refl
 line-n exclude terms n (root q name t) = inl refl
 
--- before the n-th line: the records stand on distinct lines below n
+-- the root that the n-th line is stands on it
+root-n : (exclude : List Name) (terms : List Term) (n : ℕ) (c : Content)
+    → (map (λ (r : Root). r .line) (root-of exclude terms n c) ≡ []) ⊎ (map (λ (r : Root). r .line) (root-of exclude terms n c) ≡ n ∷ [])
+unfolding root-of
+root-n exclude terms n (ask q options) = inl refl
+root-n exclude terms n (term node) = inl refl
+root-n exclude terms n (assume name flag t) = inl refl
+root-n exclude terms n (fun name) = inl refl
+root-n exclude terms n (def name t) = inl refl
+root-n exclude terms n (retain names) = inl refl
+root-n exclude terms n (root q name t) = inr refl
+
+-- a number above all of ascending ones stands at their end
+rising-end : {l : List ℕ} {n : ℕ} → Rising l → ((k : ℕ) → List·Memᴰ k l → k < n) → Rising (l ++ (n ∷ []))
+rising-end none below = one
+rising-end (one {n}) below = more (below n (List·Memᴰ·head refl)) one
+rising-end (more h r) below = more h (rising-end r (λ k i. below k (List·Memᴰ·tail i)))
+
+-- the first of ascending numbers is below the others
+rising-head : {n : ℕ} {l : List ℕ} → Rising (n ∷ l) → (k : ℕ) → List·Memᴰ k l → n < k
+rising-head one k i = absurd (List·Memᴰ·not-nil i)
+rising-head (more {m} h r) k i = ⊎-elim (λ (e : k ≡ m). omega arith) (λ j. omega (arith, rising-head r k j)) (List·Memᴰ·cases-cons i)
+
+-- ascending numbers are distinct
+rising-distinct : {l : List ℕ} → Rising l → Distinct l
+rising-distinct none = no-more
+rising-distinct one = one-more List·Memᴰ·not-nil no-more
+rising-distinct (more {n} h r) = one-more (λ i. let z = rising-head (more h r) n i in omega arith) (rising-distinct r)
+
+-- before the n-th line: records stand on ascending lines below n
 record Lines-below (n : ℕ) (l : List ℕ) : Type 0 where
-  once : Distinct l
+  rising : Rising l
   below : (k : ℕ) → List·Memᴰ k l → k < n
 
--- with a record on the n-th line, or none, they stand on distinct lines below n + 1
+-- with a record on the n-th line, or none, they stand on ascending lines below n + 1
 lines-step : (n : ℕ) (l m : List ℕ) → Lines-below n l → (m ≡ []) ⊎ (m ≡ n ∷ []) → Lines-below (n + 1) (l ++ m)
-lines-step n l m i (inl e) = rw (e, append-nil) (record { once = i .once; below = λ k j. omega (arith, i .below k j) })
+lines-step n l m i (inl e) = rw (e, append-nil) (record { rising = i .rising; below = λ k j. omega (arith, i .below k j) })
 lines-step n l m i (inr e) =
     rw e
     (record {
-      once = distinct-append (i .once) (one-more List·Memᴰ·not-nil no-more) (λ k h j. let p : k ≡ n = List·Memᴰ·eq-of-singleton j in omega (arith, i .below k h));
+      rising = rising-end (i .rising) (i .below);
       below = λ k j. ⊎-elim (λ h. omega (arith, i .below k h)) (λ h. let p : k ≡ n = List·Memᴰ·eq-of-singleton h in omega arith) (List·Memᴰ·append-cases l j);
     })
 
--- after the n-th line the records stand on distinct lines below n + 1
-lines-line : (exclude : List Name) (n : ℕ) (s : State) (c : Content) → Lines-below n (collect line-of (s .decls)) → Lines-below (n + 1) (collect line-of (add-line exclude n s c .decls))
-unfolding add-line
-lines-line exclude n s c i = rw collect-append (lines-step n (collect line-of (s .decls)) (collect line-of (summarize-decl exclude (s .terms) n c)) i (line-n exclude (s .terms) n c))
+-- both the records and the roots do
+record Placed (n : ℕ) (s : State) : Type 0 where
+  decls : Lines-below n (collect line-of (s .decls))
+  roots : Lines-below n (map (λ (r : Root). r .line) (s .roots))
 
--- a file that is read has its records on distinct lines
-pub read-file-lines : (exclude : List Name) (file : List ℕ) (s : State) → read-file exclude file ≡ read s → Distinct (collect line-of (s .decls))
+-- they do before line 1
+placed-start : Placed 1 start
 unfolding start collect
-read-file-lines exclude file s e =
-    kept-by-file exclude (λ n s. Lines-below n (collect line-of (s .decls)))
-    (λ n s s′ line r i. let l = line-read exclude n s line s′ r in rw (l .after) (lines-line exclude n s (l .content) i))
-    file s e (record { once = no-more; below = λ k m. absurd (List·Memᴰ·not-nil m) }) .once
+placed-start = record { decls = nowhere; roots = nowhere }
+  where
+    nowhere : Lines-below 1 []
+    nowhere = record { rising = none; below = λ k m. absurd (List·Memᴰ·not-nil m) }
+
+-- they do after the n-th line, if before it
+placed-line : (exclude : List Name) (n : ℕ) (s : State) (c : Content) → Placed n s → Placed (n + 1) (add-line exclude n s c)
+unfolding add-line
+placed-line exclude n s c i =
+    record {
+      decls = rw collect-append (lines-step n (collect line-of (s .decls)) (collect line-of (summarize-decl exclude (s .terms) n c)) (i .decls) (line-n exclude (s .terms) n c));
+      roots = rw map-append (lines-step n (map (λ r. r .line) (s .roots)) (map (λ r. r .line) (root-of exclude (s .terms) n c)) (i .roots) (root-n exclude (s .terms) n c));
+    }
+
+module _ (exclude : List Name) (file : List ℕ) (s : State) (e : read-file exclude file ≡ read s) where
+  -- so they do in a file that is read
+  placed-file : Placed (1 + length (lines file)) s
+  placed-file =
+      kept-by-file exclude Placed
+      (λ n s s′ line r i. let l = line-read exclude n s line s′ r in rw (l .after) (placed-line exclude n s (l .content) i))
+      file s e placed-start
+
+  -- the lines of its records ascend
+  pub records-rise : Rising (collect line-of (s .decls))
+  records-rise = placed-file .decls .rising
+
+  -- the lines of its roots ascend
+  pub roots-rise : Rising (map (λ (r : Root). r .line) (s .roots))
+  roots-rise = placed-file .roots .rising
+
+  -- no two of its records stand on one line
+  pub read-file-lines : Distinct (collect line-of (s .decls))
+  read-file-lines = rising-distinct records-rise
 
 module _ (decls : List Summary) (once : Distinct (collect line-of decls)) where
   -- two records on one line are one record

@@ -18,14 +18,30 @@ use Rattle.demands.proofs.Refusals.{Reaches, reaches-first, reaches-lat
 unfoldable pub reached : {ls : List Line} {n : ℕ} → Reaches exclude-names 1 start ls n → Reached-line ls n
 reached l = let place = l .place in record { before = l .before; line = l .line; after = l .after; is-line = l .is-line; place = omega arith; state = l .state; reading = l .reading }
 
--- a line among these, read from a state on, that says something of which the law holds
-pub record Said-in (law : ℕ → State → Content → Type 0) (n : ℕ) (s : State) (ls : List Line) : Type 0 where
+-- a line among these, read from a state on, and what it says
+pub record Said-from (n : ℕ) (s : State) (ls : List Line) : Type 0 where
   pub place : ℕ
   pub at : Reaches exclude-names n s ls place
   pub content : Content
   pub ended : T (at .line .ended)
   pub parsed : parse place (length (at .state .terms)) (fields (at .line .bytes)) ≡ ok content
-  pub lawful : law place (at .state) content
+
+-- the first of some lines, if it is read
+unfoldable pub said-first : (n : ℕ) (s u : State) (line : Line) (ls : List Line) → Line-read exclude-names n s line u → Said-from n s (line ∷ ls)
+unfolding reaches-first
+said-first n s u line ls l =
+    record { place = n; at = reaches-first exclude-names n s line ls; content = l .content; ended = l .ended; parsed = l .parsed }
+
+-- a line after the first, if that is read
+unfoldable pub said-later : (n : ℕ) (s u : State) (line : Line) {ls : List Line} → read-line exclude-names n s line ≡ ok u → Said-from (n + 1) u ls → Said-from n s (line ∷ ls)
+unfolding reaches-later
+said-later n s u line r w =
+    record { place = w .place; at = reaches-later exclude-names n s u line r (w .at); content = w .content; ended = w .ended; parsed = w .parsed }
+
+-- a line among these that says something of which the law holds
+pub record Said-in (law : ℕ → State → Content → Type 0) (n : ℕ) (s : State) (ls : List Line) : Type 0 where
+  pub said : Said-from n s ls
+  pub lawful : law (said .place) (said .at .state) (said .content)
 
 -- what holds of a state after a line exactly where it does before or the line says something of which the law holds
 abbrev pub Said-by : (State → Type 0) → (ℕ → State → Content → Type 0) → Type 0
@@ -34,20 +50,18 @@ Said-by holds law = (n : ℕ) (s : State) (c : Content) → holds (add-line excl
 module _ {holds : State → Type 0} {law : ℕ → State → Content → Type 0} (by : Said-by holds law) where
   -- what holds after some lines held before them or one of them says so
   pub said-lines : (ls : List Line) (n : ℕ) (s t : State) → read-lines exclude-names n s ls ≡ read t → holds t → holds s ⊎ Said-in law n s ls
-  unfolding reaches-first reaches-later
+  unfolding said-first said-later
   said-lines [] n s t e h = inl (rw (none-read exclude-names n s t e) h)
   said-lines (line ∷ ls) n s t e h =
       let (u, r, others) = lines-read exclude-names n s line ls t e in
       let l = line-read exclude-names n s line u r in
-      ⊎-elim (λ j. ⊎-elim inl (λ said. inr (here u l said)) (by n s (l .content) .0 (rw (l .after) at j))) (λ w. inr (there u r w)) (said-lines ls (n + 1) u t others h)
+      ⊎-elim (λ j. ⊎-elim inl (λ k. inr (here u l k)) (by n s (l .content) .0 (rw (l .after) at j))) (λ w. inr (there u r w)) (said-lines ls (n + 1) u t others h)
     where
       here : (u : State) (l : Line-read exclude-names n s line u) → law n s (l .content) → Said-in law n s (line ∷ ls)
-      here u l said =
-          record { place = n; at = reaches-first exclude-names n s line ls; content = l .content; ended = l .ended; parsed = l .parsed; lawful = said }
+      here u l k = record { said = said-first n s u line ls l; lawful = k }
 
       there : (u : State) → read-line exclude-names n s line ≡ ok u → Said-in law (n + 1) u ls → Said-in law n s (line ∷ ls)
-      there u r w =
-          record { place = w .place; at = reaches-later exclude-names n s u line r (w .at); content = w .content; ended = w .ended; parsed = w .parsed; lawful = w .lawful }
+      there u r w = record { said = said-later n s u line r (w .said); lawful = w .lawful }
 
   -- what holds before some lines holds after them
   pub said-on : (ls : List Line) (n : ℕ) (s t : State) → read-lines exclude-names n s ls ≡ read t → holds s → holds t

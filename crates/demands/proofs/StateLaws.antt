@@ -7,7 +7,7 @@ use mathlib.Core.Bool.{not, _||_}
 use mathlib.Core.List.{List, [], _∷_, _++_, map, append-nil, append-assoc, List·Memᴰ, List·Memᴰ·head, List·Memᴰ·not-nil, List·Memᴰ·append-cases, List·Memᴰ·eq-of-singleton}
 use mathlib.Core.Option.{some, Option·none-ne-some, Option·some-injective}
 use lib.Dec.{T, T-not}
-use lib.ListN.{length, length-append}
+use lib.ListN.{length}
 use Rattle.model.specs.Lists.{collect, fold-left, sum, when, or-else, is-nil, _>>=_}
 use Rattle.model.specs.Names.{Name, same, mem}
 use Rattle.model.specs.Lines.{Line}
@@ -287,29 +287,18 @@ lower-line terms (def name t) w h = h
 lower-line terms (retain ns) w h = h
 lower-line terms (root q name t) w h = h
 
--- what is counted towards the limits is what the table and the records hold
+-- what is counted towards the limits is what the records hold
 pub record Counts (s : State) : Type 0 where
-  pub references : s .references ≡ sum (map (λ (t : Term). length (references (t .node))) (s .terms))
   pub entries : s .entries ≡ sum (map entries-of (s .decls))
   pub uses : s .uses ≡ sum (map uses-of (s .decls)) + sum (map (λ (r : Root). length (r .free-names)) (s .roots))
 
--- the references of the table with term lines more are those before and those of the lines
-references-more : (terms : List Term) (ns : List Node)
-    → sum (map (λ (t : Term). length (references (t .node))) (fold-left add-term terms ns)) ≡ sum (map (λ (t : Term). length (references (t .node))) terms) + length (collect references ns)
-unfolding fold-left collect add-term sum
-references-more terms [] = omega arith
-references-more terms (node ∷ ns) =
-    references-more (add-term terms node) ns
-    ∙ rw (sum-map-append (λ (t : Term). length (references (t .node))) terms, length-append (references node) (collect references ns)) (omega arith)
-
--- the counts are those of the table and the records after a line, if before
+-- the counts are those of the records after a line, if before
 counts-line : (exclude : List Name) (n : ℕ) (s : State) (c : Content) → Counts s → Counts (add-line exclude n s c)
 unfolding add-line
 counts-line exclude n s c h =
     let decls = summarize-decl exclude (s .terms) n c in
     let roots = root-of exclude (s .terms) n c in
     record {
-      references = omega (arith, h .references, references-more (s .terms) (nodes c));
       entries = omega (arith, h .entries, sum-map-append entries-of (s .decls) decls);
       uses = omega (arith, h .uses, sum-map-append uses-of (s .decls) decls, sum-map-append (λ (r : Root). length (r .free-names)) (s .roots) roots);
     }
@@ -336,7 +325,7 @@ laws-start =
       numbered-once = none;
       numbered = record { terms = λ t i. absurd (List·Memᴰ·not-nil i); records = λ x i. absurd (List·Memᴰ·not-nil i); roots = λ r i. absurd (List·Memᴰ·not-nil i) };
       lower = λ t. record { node = λ u i. absurd (List·Memᴰ·not-nil i); bare = λ u i. absurd (List·Memᴰ·not-nil i) };
-      counts = record { references = refl; entries = refl; uses = omega arith };
+      counts = record { entries = refl; uses = omega arith };
     }
 
 -- every line that names terms of the table keeps the laws, whether it passes 5 and the limits or not

@@ -43,18 +43,18 @@ append-below : {count : ℕ} (ts : List ℕ) {us : List ℕ} → Below count ts 
 append-below ts h k u i = ⊎-elim (h u) (k u) (List·Memᴰ·append-cases ts i)
 
 -- the law holds of the value of a result that has one
-data Gives {A : Type 0} (law : A → Type 0) : Result A → Type 0 where
+pub data Gives {A : Type 0} (law : A → Type 0) : Result A → Type 0 where
   value : {a : A} → law a → Gives law (ok a)
   no-value : {r : Refusal} → Gives law (refused r)
 
 module _ {A : Type 0} where
   -- a result gives a value of which nothing is said
-  any-value : (r : Result A) → Gives (λ a. Unit {0}) r
+  pub any-value : (r : Result A) → Gives (λ a. Unit {0}) r
   any-value (ok a) = value tt
   any-value (refused r) = no-value
 
   -- the law holds of the value that is given
-  given : {law : A → Type 0} {r : Result A} {a : A} → Gives law r → r ≡ ok a → law a
+  pub given : {law : A → Type 0} {r : Result A} {a : A} → Gives law r → r ≡ ok a → law a
   given {law} (value h) e = subst law (ok-eq e) h
   given no-value e = absurd (not-ok e)
 
@@ -76,7 +76,7 @@ module _ {A : Type 0} where
     gives-end a h (f ∷ fs) = no-value
 
 -- what a step gives from each value of the one before
-gives-bind : {A B : Type 0} {law : A → Type 0} {law′ : B → Type 0} {r : Result A} {f : A → Result B}
+pub gives-bind : {A B : Type 0} {law : A → Type 0} {law′ : B → Type 0} {r : Result A} {f : A → Result B}
     → Gives law r → ((a : A) → law a → Gives law′ (f a)) → Gives law′ (r >>= f)
 gives-bind (value {a} h) k = k a h
 gives-bind no-value k = no-value

@@ -1,23 +1,21 @@
 -- Demand 1, of the answer of a call: "with a list or with one of the nine refusals of document 01 and its place, each under
 -- its condition there and never otherwise".
-use Prim.Native.Nat.{ℕ, _+_, _≤_, _<_, max}
+use Prim.Native.Nat.{ℕ, _+_, _≤_, _<_}
 use mathlib.Core.Path.{_≡_}
 use mathlib.Core.Logic.{_↔_, _⊎_}
-use mathlib.Core.Bool.{Bool, not, _||_}
-use mathlib.Core.List.{List, [], _∷_, _++_, map, List·Memᴰ}
+use mathlib.Core.Bool.{Bool, not}
+use mathlib.Core.List.{List, [], _∷_, _++_, List·Memᴰ}
 use lib.Dec.{T}
 use lib.ListN.{length, take, drop, replicate}
-use Rattle.model.specs.Lists.{sum}
-use Rattle.model.specs.Names.{Name, mem}
+use Rattle.model.specs.Names.{Name}
 use Rattle.model.specs.Lines.{Line, lines, fields}
-use Rattle.model.specs.Terms.{Term, references}
-use Rattle.model.specs.Summaries.{exclude-names, Fact}
-use Rattle.model.specs.Reading.{Content, assume, fun, def, ok, refused, Decl, Root, spelled, trimmed, State, start, read, parse, add-line, read-line, read-lines}
-use Rattle.model.specs.Rounds.{facts, definitions, visits}
+use Rattle.model.specs.Summaries.{exclude-names}
+use Rattle.model.specs.Reading.{Content, assume, fun, def, ok, refused, State, start, read, parse, add-line, read-line, read-lines}
+use Rattle.model.specs.Rounds.{facts, visits}
 use Rattle.model.specs.Outcome.{Outcome, refusal-at, list, outcome, result-after, work-after}
 use Rattle.model.specs.declared.Refusal.{Refusal}
 use Rattle.model.specs.declared.Refusal.the-variants as refusal
-use Rattle.demands.specs.Accepted.{Accepted, Distinct}
+use Rattle.demands.specs.Accepted.{Accepted}
 use Rattle.demands.specs.Demand2.{kept-list}
 use Rattle.demands.specs.Demand3.{run-of}
 use Rattle.demands.specs.LineForm.{Faulty-line}
@@ -158,34 +156,6 @@ Refusal-6 =
     ↔ (Lines-judged file works
     × ((l : Reached-line (lines file) n) × (c : Content) × Says l c × (Repeats l c → ⊥)
     × Past-limit (add-line exclude-names n (l .state) c)))
-
--- the state after a line that parses, whether it passes a limit or not
-abbrev pub state-with : {ls : List Line} {n : ℕ} → Reached-line ls n → Content → State
-state-with {n = n} l c = add-line exclude-names n (l .state) c
-
--- the counts are those of document 01: "term references in term lines", "trigger entries (fact, disjunct, name) .., where an
--- empty disjunct counts as one", "name uses (free names summed over assume, def and root lines)"
-pub record Counted (s : State) : Type 0 where
-  pub term-references : s .references ≡ sum (map (λ (t : Term). length (references (t .node))) (s .terms))
-  pub trigger-entries : s .entries
-      ≡ sum (map (λ (f : Fact). sum (map (λ (d : List Name). max 1 (length d)) (f .triggers))) (facts (s .decls)))
-  pub name-uses : s .uses
-      ≡ sum (map (λ (f : Fact). length (f .free-names)) (facts (s .decls)))
-      + (sum (map (λ (d : Decl). length (d .free-names)) (definitions (s .decls)))
-      + sum (map (λ (r : Root). length (r .free-names)) (s .roots)))
-  -- "names the file spells, plus trimmed tokens .. distinct"
-  pub names-once : Distinct (s .names)
-
--- what a line adds to the names: those that it spells, and the token that rule 4 trims
-abbrev pub Names-added : {ls : List Line} {n : ℕ} → Reached-line ls n → Content → Type 0
-Names-added l c =
-    (k : Name) → mem k (state-with l c .names)
-    ≡ (mem k (l .state .names) || mem k (spelled c ++ trimmed exclude-names (l .state .terms) c))
-
-abbrev pub Counts-exact : Type 0
-Counts-exact =
-    (file : List ℕ) (n : ℕ) (l : Reached-line (lines file) n) (c : Content) → Says l c
-    → Counted (state-with l c) × Names-added l c
 
 -- "A refusal writes nothing to the result slice", and an "accepted call writes kept line numbers from the start of the result
 -- slice and nothing beyond"

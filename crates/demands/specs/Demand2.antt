@@ -8,7 +8,7 @@ use Prim.Native.Nat.{suc}
 use Rattle.model.specs.Summaries.{Fact}
 use Rattle.model.specs.Reading.{no-ambients, pretyping-axioms, prune-decls, Decl, State}
 use Rattle.model.specs.Pruning.{Ctxt, Passumption, PruningState, init, add-summaries, passumption-of-root, prune, scan}
-use Rattle.model.specs.Rounds.{facts, definitions, declarations, goal-roots, run}
+use Rattle.model.specs.Rounds.{facts, definitions, declarations, goal-roots, run, visits}
 use Rattle.model.specs.Kept.{kept, kept-facts, kept-names, kept-decls}
 use Rattle.demands.specs.Accepted.{Accepted, Distinct}
 use Rattle.demands.specs.Fuel.{Scans}
@@ -27,13 +27,15 @@ scan-roots s =
 abbrev pub scan-start : State → Ctxt
 scan-start s = record { p = filed-state s; reached = [] }
 
--- "fuel never runs out": the scan of `prune` is that of Pruning.fst
+-- "fuel never runs out": the scan of `prune` is that of Pruning.fst; it is entered as often as there are rounds, and it calls
+-- `remove_trigger_for` as often as there are visits
 abbrev pub Scan-ends : Type 0
 Scan-ends =
     (file : List ℕ) (s : State) → Accepted file s
-    → Scans (pretyping-axioms (s .goal)) (scan-roots s) (scan-start s)
-    (scan (pretyping-axioms (s .goal)) (suc (length (filed-state s .trigger-to-assumption)))
-    (scan-roots s) (scan-start s))
+    → let r = run (s .goal) (s .decls) (s .roots) in
+    Scans (pretyping-axioms (s .goal)) (scan-roots s) (scan-start s)
+    (scan (pretyping-axioms (s .goal)) (suc (length (filed-state s .trigger-to-assumption))) (scan-roots s) (scan-start s))
+    (r .rounds) (visits (r .met) (facts (s .decls)))
 
 -- the list of Pruning.fst
 abbrev pub pruned : State → List ℕ

@@ -5,4 +5,5 @@ pub mod Demand3
 pub mod Queries
 pub mod LineForm
 pub mod Demand1
-pub mod FactSummaries
+pub mod FileOrder
+pub mod Counts

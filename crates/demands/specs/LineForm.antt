@@ -1,12 +1,13 @@
 -- Demand 1, the refusals 1 to 4: what document 01 says that each field of a line must be, and which refusal a line gets.
 use Prim.Native.Nat.{ℕ, zero, suc, _+_, _≤_}
 use mathlib.Core.Path.{_≡_}
-use mathlib.Core.Bool.{cond}
+use mathlib.Core.Bool.{Bool, true, false, cond}
 use mathlib.Core.List.{List, [], _∷_, _++_}
 use mathlib.Core.Logic.{_↔_, _≢_}
 use mathlib.Core.Option.{Option, none, some, Option·getD}
 use lib.Dec.{leb, ltb}
 use lib.ListN.{length}
+use Rattle.model.specs.Lists.{holds}
 use Rattle.model.specs.Names.{bytes}
 use Rattle.model.specs.Lines.{Field, is-name, number}
 use Rattle.model.specs.Reading.{refused, word, op-words, kinds, fixed-count, content, parse}
@@ -98,6 +99,32 @@ unfoldable pub sort-due : Due → Option Sort
 sort-due (must s) = some s
 sort-due (may s) = some s
 sort-due nothing = none
+
+-- whether a field has to be a name
+unfoldable pub is-a-name : Sort → Bool
+is-a-name a-name = true
+is-a-name (a-number limit) = false
+is-a-name a-term = false
+is-a-name an-op-word = false
+
+-- whether a field has to be the number of a term
+unfoldable pub is-a-term : Sort → Bool
+is-a-term a-name = false
+is-a-term (a-number limit) = false
+is-a-term a-term = true
+is-a-term an-op-word = false
+
+-- those of the fields that are of such a sort, in order, where `ahead` says what stands next after some of them
+unfoldable pub fields-due : (Sort → Bool) → (List Field → Due) → List Field → List Field
+fields-due of-sort ahead [] = []
+fields-due of-sort ahead (f ∷ fs) =
+    let more = fields-due of-sort (λ gs. ahead (f ∷ gs)) fs in
+    cond (holds of-sort (sort-due (ahead []))) (f ∷ more) more
+
+-- the fields of a line that are of such a sort, by the kind that its first field says
+unfoldable pub fields-of : (Sort → Bool) → List Field → List Field
+fields-of of-sort [] = []
+fields-of of-sort (f ∷ fs) = elim (word kinds f) [ none ↦ [] | some k ↦ fields-due of-sort (due k) fs ]
 
 -- why the rest of a line's fields is refused, the fields before it being what they have to be: the first fault counts
 pub data Faulty (k : LineKind) (count : ℕ) : List Field → List Field → Refusal → Type 0 where

@@ -14,7 +14,7 @@ use Rattle.gather.specs.declared.Walked.the-variants as walks
 use Rattle.terms.specs.Rows.{row-kind, row-head, row-start, row-extra, row-end, has-body, bare-of, Rows}
 use Rattle.words.specs.Slices.{Same-but}
 use Rattle.names.specs.Table.{is-excluded}
-use Rattle.names.proofs.Coded.{excluded-kept}
+use Rattle.names.proofs.Excluded.{excluded-kept}
 use Rattle.gather.specs.Sets.{row-mark, name-mark, ended}
 use Rattle.gather.specs.Walks.{Occurs, own, under, Counted, Own, Free, Among, Heads, Closed, Ready, References, Comes, whole, Steps, Walks}
 use Rattle.terms.proofs.Laws.{equal}

@@ -1,10 +1,12 @@
-ghost use Prim.Native.Nat.{_+_, _*_, _%_, _≤_, _<_};
+ghost use Prim.Native.Nat.{_+_, _*_, _≤_, _<_};
 ghost use mathlib.Core.Path.{_≡_};
 ghost use lib.ListN.{length, getD};
 ghost use Rattle.model.specs.Lists.{part};
 ghost use Rattle.model.specs.Terms.{FreeV, Leaf, Call, App, Forall, Exists, Let, Labeled};
-ghost use Rattle.terms.specs.Rows.{terms-of-words, groups-of-words, op-of-code, bare-of, Rows};
-ghost use Rattle.lines.specs.Additions.{row-word, added, rows-after, pushed, push-answer, Pushed, Patterns, Adds};
+ghost use Rattle.model.specs.Reading.{most-names, most-terms, most-references};
+ghost use Rattle.model.specs.Outcome.{working-words};
+ghost use Rattle.terms.specs.Rows.{term-of, free-kind, leaf-kind, call-kind, op-kind, all-kind, some-kind, let-kind, label-kind, terms-of-words, groups-of-words, op-of-code, bare-of, Rows};
+ghost use Rattle.lines.specs.Additions.{no-word, row-word, added, rows-after, pushed, push-answer, Pushed, Patterns, Adds};
 
 // What adding a row or a reference comes to.
 pub enum Added {
@@ -12,16 +14,19 @@ pub enum Added {
     Full,
 }
 
+// The op word of a row that is no `op`.
+const NO_WORD: usize = 4;
+
 // Pushes a reference to a term, in a group of its quantifier; the references so far are `used`. Full references stay.
 pub fn push(refs: &mut [u32], used: usize, term: usize, group: usize) -> Added
-    requires { ⌜ (16384 ≤ length (now refs)) × (term < 4096) × (group < 65536) ⌝ }
+    requires { ⌜ (working-words ≤ length (now refs)) × (term < most-terms) × (group < 65536) ⌝ }
     ensures answer { λ r. ⌜ r ≡ push-answer used ⌝ }
     ensures refs { λ r. ⌜ now (refs .exit) ≡ pushed (now (refs .entry)) used (term + 4096 * group) ⌝ }
 {
-    if 16384 <= used {
+    if model::MOST_REFERENCES <= used {
         return Added::Full;
     }
-    refs[used] = (term + 4096 * group) as u32;
+    refs[used] = (term + terms::GROUP * group) as u32;
     Added::Done
 }
 
@@ -35,16 +40,16 @@ fn add_row(
     start: usize,
     extra: usize,
 ) -> Added
-    requires { ⌜ (16384 ≤ length (now rows)) × (kind < 8) × (op < 8) × (head < 2048) × (start ≤ 16384) × (extra < 65536) ⌝ }
+    requires { ⌜ (working-words ≤ length (now rows)) × (kind < 8) × (op < 8) × (head < most-names) × (start ≤ most-references) × (extra < 65536) ⌝ }
     ensures answer { λ r. ⌜ r ≡ added many ⌝ }
     ensures rows { λ r. ⌜ now (rows .exit) ≡ rows-after (now (rows .entry)) many (row-word kind op head) start extra ⌝ }
 {
-    if 4096 <= many {
+    if model::MOST_TERMS <= many {
         return Added::Full;
     }
     rows[many] = (kind + 8 * (op + 8 * head)) as u32;
-    rows[4096 + many] = start as u32;
-    rows[8192 + many] = extra as u32;
+    rows[terms::START + many] = start as u32;
+    rows[terms::EXTRA + many] = extra as u32;
     Added::Done
 }
 
@@ -58,17 +63,17 @@ pub fn add_free(
     head: usize,
 ) -> Added
     requires { ⌜ Rows (now refs) (now rows) used many named × (head < named) ⌝ }
-    ensures { λ r. ⌜ Adds (now (refs .entry)) (now (rows .entry)) (now (rows .exit)) used used many named (row-word 0 4 head) 0 (λ name. FreeV (name head)) r ⌝ }
+    ensures { λ r. ⌜ Adds (now (refs .entry)) (now (rows .entry)) (now (rows .exit)) used used many named (row-word free-kind no-word head) 0 (λ name. FreeV (name head)) r ⌝ }
 {
-    add_row(rows, many, 0, 4, head, used, 0)
+    add_row(rows, many, terms::FREE, NO_WORD, head, used, 0)
 }
 
 // Adds a `leaf`.
 pub fn add_leaf(refs: &[u32], rows: &mut [u32], used: usize, many: usize, named: usize) -> Added
     requires { ⌜ Rows (now refs) (now rows) used many named ⌝ }
-    ensures { λ r. ⌜ Adds (now (refs .entry)) (now (rows .entry)) (now (rows .exit)) used used many named (row-word 1 4 0) 0 (λ name. Leaf) r ⌝ }
+    ensures { λ r. ⌜ Adds (now (refs .entry)) (now (rows .entry)) (now (rows .exit)) used used many named (row-word leaf-kind no-word 0) 0 (λ name. Leaf) r ⌝ }
 {
-    add_row(rows, many, 1, 4, 0, used, 0)
+    add_row(rows, many, terms::LEAF, NO_WORD, 0, used, 0)
 }
 
 // Adds a `call` of a name, with the references from `start` up to `used`.
@@ -82,9 +87,9 @@ pub fn add_call(
     head: usize,
 ) -> Added
     requires { ⌜ Pushed (now refs) (now rows) start used many named × (head < named) ⌝ }
-    ensures { λ r. ⌜ Adds (now (refs .entry)) (now (rows .entry)) (now (rows .exit)) start used many named (row-word 2 4 head) 0 (λ name. Call (name head) (terms-of-words (part (now (refs .entry)) start used))) r ⌝ }
+    ensures { λ r. ⌜ Adds (now (refs .entry)) (now (rows .entry)) (now (rows .exit)) start used many named (row-word call-kind no-word head) 0 (λ name. Call (name head) (terms-of-words (part (now (refs .entry)) start used))) r ⌝ }
 {
-    add_row(rows, many, 2, 4, head, start, 0)
+    add_row(rows, many, terms::CALL, NO_WORD, head, start, 0)
 }
 
 // Adds an `op` of an op word.
@@ -98,9 +103,9 @@ pub fn add_op(
     op: usize,
 ) -> Added
     requires { ⌜ Pushed (now refs) (now rows) start used many named × (op < 5) ⌝ }
-    ensures { λ r. ⌜ Adds (now (refs .entry)) (now (rows .entry)) (now (rows .exit)) start used many named (row-word 3 op 0) 0 (λ name. App (op-of-code op) (terms-of-words (part (now (refs .entry)) start used))) r ⌝ }
+    ensures { λ r. ⌜ Adds (now (refs .entry)) (now (rows .entry)) (now (rows .exit)) start used many named (row-word op-kind op 0) 0 (λ name. App (op-of-code op) (terms-of-words (part (now (refs .entry)) start used))) r ⌝ }
 {
-    add_row(rows, many, 3, op, 0, start, 0)
+    add_row(rows, many, terms::OP, op, 0, start, 0)
 }
 
 // Adds an `all` with so many groups: its body, then the terms of the groups.
@@ -114,9 +119,9 @@ pub fn add_all(
     groups: usize,
 ) -> Added
     requires { ⌜ Pushed (now refs) (now rows) start used many named × Patterns (now refs) start used groups × (groups < 65536) ⌝ }
-    ensures { λ r. ⌜ Adds (now (refs .entry)) (now (rows .entry)) (now (rows .exit)) start used many named (row-word 4 4 0) groups (λ name. Forall (getD (now (refs .entry)) start 0 % 4096) (groups-of-words (part (now (refs .entry)) (start + 1) used) groups)) r ⌝ }
+    ensures { λ r. ⌜ Adds (now (refs .entry)) (now (rows .entry)) (now (rows .exit)) start used many named (row-word all-kind no-word 0) groups (λ name. Forall (term-of (getD (now (refs .entry)) start 0)) (groups-of-words (part (now (refs .entry)) (start + 1) used) groups)) r ⌝ }
 {
-    add_row(rows, many, 4, 4, 0, start, groups)
+    add_row(rows, many, terms::ALL, NO_WORD, 0, start, groups)
 }
 
 // Adds a `some` with so many groups.
@@ -130,9 +135,9 @@ pub fn add_some(
     groups: usize,
 ) -> Added
     requires { ⌜ Pushed (now refs) (now rows) start used many named × Patterns (now refs) start used groups × (groups < 65536) ⌝ }
-    ensures { λ r. ⌜ Adds (now (refs .entry)) (now (rows .entry)) (now (rows .exit)) start used many named (row-word 5 4 0) groups (λ name. Exists (getD (now (refs .entry)) start 0 % 4096) (groups-of-words (part (now (refs .entry)) (start + 1) used) groups)) r ⌝ }
+    ensures { λ r. ⌜ Adds (now (refs .entry)) (now (rows .entry)) (now (rows .exit)) start used many named (row-word some-kind no-word 0) groups (λ name. Exists (term-of (getD (now (refs .entry)) start 0)) (groups-of-words (part (now (refs .entry)) (start + 1) used) groups)) r ⌝ }
 {
-    add_row(rows, many, 5, 4, 0, start, groups)
+    add_row(rows, many, terms::SOME, NO_WORD, 0, start, groups)
 }
 
 // Adds a `let`: its body, then the terms that it binds.
@@ -145,16 +150,16 @@ pub fn add_let(
     named: usize,
 ) -> Added
     requires { ⌜ Pushed (now refs) (now rows) start used many named × (start < used) ⌝ }
-    ensures { λ r. ⌜ Adds (now (refs .entry)) (now (rows .entry)) (now (rows .exit)) start used many named (row-word 6 4 0) 0 (λ name. Let (getD (now (refs .entry)) start 0 % 4096) (terms-of-words (part (now (refs .entry)) (start + 1) used))) r ⌝ }
+    ensures { λ r. ⌜ Adds (now (refs .entry)) (now (rows .entry)) (now (rows .exit)) start used many named (row-word let-kind no-word 0) 0 (λ name. Let (term-of (getD (now (refs .entry)) start 0)) (terms-of-words (part (now (refs .entry)) (start + 1) used))) r ⌝ }
 {
-    add_row(rows, many, 6, 4, 0, start, 0)
+    add_row(rows, many, terms::LET, NO_WORD, 0, start, 0)
 }
 
 // Adds a `label` of a term; the row has the term under the run of labels.
 pub fn add_label(refs: &[u32], rows: &mut [u32], start: usize, many: usize, named: usize) -> Added
     requires { ⌜ Pushed (now refs) (now rows) start (start + 1) many named ⌝ }
-    ensures { λ r. ⌜ Adds (now (refs .entry)) (now (rows .entry)) (now (rows .exit)) start (start + 1) many named (row-word 7 4 0) (bare-of (now (rows .entry)) (getD (now (refs .entry)) start 0 % 4096)) (λ name. Labeled (getD (now (refs .entry)) start 0 % 4096)) r ⌝ }
+    ensures { λ r. ⌜ Adds (now (refs .entry)) (now (rows .entry)) (now (rows .exit)) start (start + 1) many named (row-word label-kind no-word 0) (bare-of (now (rows .entry)) (term-of (getD (now (refs .entry)) start 0))) (λ name. Labeled (term-of (getD (now (refs .entry)) start 0))) r ⌝ }
 {
     let under = terms::bare(rows, terms::reference(refs, start));
-    add_row(rows, many, 7, 4, 0, start, under)
+    add_row(rows, many, terms::LABEL, NO_WORD, 0, start, under)
 }

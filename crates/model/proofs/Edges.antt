@@ -1,13 +1,15 @@
 -- Edges of document 01 and readings that F1 to F10 do not reach, shown in the same way; and the slices at exit.
 use Prim.Native.Nat.{ℕ}
 use mathlib.Core.Path.{_≡_, refl}
-use mathlib.Core.Bool.{Bool, true, _&&_}
+use mathlib.Core.Bool.{Bool, true}
 use mathlib.Core.List.{List, [], _∷_, _++_}
 use lib.ListN.{replicate}
 use Prim.Native.String.{String}
 use Rattle.model.specs.Lists.{collect}
 use Rattle.model.specs.Names.{bytes, same}
-use Rattle.model.specs.Outcome.{outcome, result-after, work-after}
+use Rattle.model.specs.Summaries.{exclude-names}
+use Rattle.model.specs.Reading.{Result, ok, refused, Sum-retain, State, read-line}
+use Rattle.model.specs.Outcome.{refusal-number, outcome, result-after, work-after}
 use Rattle.model.proofs.Printing.{Case, passes, All-pass, file-of, same-lines, show-outcome}
 
 -- an `iff` named l_quant_interp triggers on its left
@@ -223,6 +225,39 @@ entries :
     × (answered (empty-disjuncts ("fun,a" ∷ []) (groups-of-none (bytes "2049") 2049)) six 1024 (bytes "refused,5,5") ≡ true)
 unfolding passes answered six empty-disjuncts groups-of-none
 entries = (refl, refl, refl)
+
+-- the state after so many `retain` lines that spell so many names
+retained : ℕ → ℕ → State
+retained lines names =
+    record {
+      goal = record { query = 0; options = 0 };
+      terms = [];
+      names = replicate names (bytes "n");
+      decls = replicate lines Sum-retain;
+      roots = [];
+      references = 0;
+      entries = 0;
+      uses = 0;
+    }
+
+-- the number of the refusal, 0 where there is none
+refusal-of : Result State → ℕ
+refusal-of (ok s) = 0
+refusal-of (refused r) = refusal-number r
+
+-- what the next line, of this text, is refused with
+next-line : State → String → ℕ
+next-line s text = refusal-of (read-line exclude-names 2000 s (record { bytes = bytes text; ended = true }))
+
+-- 6: 1,024 record lines pass, the next does not, where all are `retain` lines
+retain-lines : (next-line (retained 1023 0) "retain" ≡ 0) × (next-line (retained 1024 0) "retain" ≡ 6)
+unfolding passes retained refusal-of next-line
+retain-lines = (refl, refl)
+
+-- 6: 2,048 names pass, the next does not, where a `retain` line spells the last
+retain-names : (next-line (retained 1 2046) "retain,a,b" ≡ 0) × (next-line (retained 1 2046) "retain,a,b,c" ≡ 6)
+unfolding passes retained refusal-of next-line
+retain-names = (refl, refl)
 
 -- refusals 7, 9, 1, 8 and their order, and what the slices hold at exit
 slices :

@@ -204,6 +204,19 @@ module _ {A : Type 0} where
   pub count-append : (test : A → Bool) (l m : List A) → count test (l ++ m) ≡ count test l + count test m
   count-append test l m = simp (count-keep, keep-append, length-append)
 
+  -- how many elements one of two tests holds of, where no two hold of one
+  pub count-or : (p q : A → Bool) (l : List A) → ((x : A) → T (p x) → T (not (q x))) → count (λ x. p x || q x) l ≡ count p l + count q l
+  unfolding count
+  count-or p q [] h = omega arith
+  count-or p q (x ∷ l) h = rw (count-or p q l h) (go (p x) (q x) (h x))
+    where
+      go : (a b : Bool) → (T a → T (not b))
+          → cond (a || b) (1 + (count p l + count q l)) (count p l + count q l) ≡ cond a (1 + count p l) (count p l) + cond b (1 + count q l) (count q l)
+      go true true e = absurd (e tt)
+      go true false e = omega arith
+      go false true e = omega arith
+      go false false e = refl
+
   -- the test holds in two lists where it does in one of them
   pub any-append : (test : A → Bool) (l m : List A) → any test (l ++ m) ≡ (any test l || any test m)
   unfolding any
@@ -338,6 +351,13 @@ module _ {A B : Type 0} where
   -- and back
   pub collect-reverse-intro : (f : A → List B) (l : List A) {y : B} → List·Memᴰ y (collect f l) → List·Memᴰ y (collect f (reverse l))
   collect-reverse-intro f l m = let (x, n, o) = collect-elim f l m in collect-intro f (reverse-intro n) o
+
+  -- what is collected is as much the other way round
+  pub collect-reverse-length : (f : A → List B) (l : List A) → length (collect f (reverse l)) ≡ length (collect f l)
+  unfolding collect
+  collect-reverse-length f [] = refl
+  collect-reverse-length f (x ∷ l) =
+      rw (reverse-cons, collect-append, append-nil, length-append) (omega (arith, collect-reverse-length f l, length-append (f x) (collect f l)))
 
   -- where each list is the same both ways round, to collect from a list the other way round is to turn round what is collected
   pub collect-reverse : (f : A → List B) → ((x : A) → reverse (f x) ≡ f x) → (l : List A) → collect f (reverse l) ≡ reverse (collect f l)

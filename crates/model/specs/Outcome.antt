@@ -53,7 +53,7 @@ abbrev pub most-bytes : ℕ
 most-bytes = 65535
 
 -- the words of a working slice that a call uses
-unfoldable pub working-words : ℕ
+abbrev pub working-words : ℕ
 working-words = 16384
 
 -- the call, from the file's bytes, the lengths of the six working slices and of the result slice: 7, 9, lines, 8

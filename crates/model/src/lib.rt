@@ -98,3 +98,9 @@ pub struct Counts {
     pub query: usize,
     pub options: usize,
 }
+
+// What a line comes to: the counts then, or its refusal.
+pub enum Step {
+    On(Counts),
+    Refused(Refusal),
+}

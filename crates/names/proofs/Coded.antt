@@ -14,7 +14,7 @@ use Rattle.model.specs.Summaries.{common-names, exclude-names}
 use Rattle.model.proofs.ListLaws.{T-true, T-false, true-T}
 use Rattle.model.proofs.SetLaws.{same-refl, same-eq, mem-first, mem-later, from-list-mem}
 use Rattle.names.specs.Known.{known-names, code-from, head-code}
-use Rattle.names.specs.Table.{name-of, names-of, is-excluded, Table}
+use Rattle.names.specs.Table.{name-of, names-of, Table}
 
 -- ---- codes
 
@@ -119,29 +119,6 @@ unfolding exclude-names head-code known-names common-names
 code-excluded n =
     let names = map bytes known-names in
     from-list-mem n (take 9 names) ∙ code-first 1 (take 9 names) (drop 9 names) n (omega arith)
-
--- no head code: not excluded
-pub excluded-none : (w : List ℕ) (n : ℕ) → getD w (6144 + n) 0 ≡ 0 → is-excluded w n ≡ false
-unfolding is-excluded
-excluded-none w n h = rw h
-
--- a head code below 10 is that of an excluded name
-pub excluded-low : (w : List ℕ) (n : ℕ) → (getD w (6144 + n) 0 ≡ 0 → ⊥) → is-excluded w n ≡ ltb (getD w (6144 + n) 0) 10
-unfolding is-excluded
-excluded-low w n h =
-    let p : 0 < getD w (6144 + n) 0 = omega arith in
-    rw (lt-ltb 0 (getD w (6144 + n) 0) p)
-
--- the names of a table that are excluded are those of `exclude_names`
-pub excluded-exact : {file w : List ℕ} {named : ℕ} → Table file w named → (n : ℕ) → n < named
-    → is-excluded w n ≡ mem (name-of file w n) exclude-names
-unfolding is-excluded
-excluded-exact {file} {w} table n h = rw (table .codes n h) (sym (code-excluded (name-of file w n)))
-
--- a slice with the same words below 8192 tells the same
-pub excluded-kept : (w w′ : List ℕ) → ((i : ℕ) → i < 8192 → getD w′ i 0 ≡ getD w i 0) → (n : ℕ) → n < 2048 → is-excluded w′ n ≡ is-excluded w n
-unfolding is-excluded
-excluded-kept w w′ words n h = rw (words (6144 + n) (omega arith))
 
 -- no head code is above 25
 pub code-bound : (n : Name) → head-code n ≤ 25

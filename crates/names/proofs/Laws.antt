@@ -1,14 +1,15 @@
 -- Laws of a table of names, said of plain lists: its names by number and by rank, and what a look-up answers.
 use Prim.Native.Nat.{ℕ, zero, suc, _+_, _≤_, _<_, zero-le}
 use native.Mathlib.Numerals.{one-add}
-use native.Mathlib.Nat.{zero-add, add-zero, add-assoc, eq-or-lt-of-le}
+use native.Mathlib.Nat.{zero-add, add-zero, add-assoc, eq-or-lt-of-le, not-suc-le-zero}
 use native.Mathlib.Omega.{arith}
 use mathlib.Core.Path.{_≡_, refl, sym, ap, _∙_}
 use mathlib.Core.Logic.{_⊎_, inl, inr, ⊎-elim, _↔_}
 use mathlib.Core.Bool.{Bool, true, false, cond, or-false, or-comm}
 use mathlib.Core.List.{List, [], _∷_, _++_}
 use mathlib.Core.Option.{none, some}
-use lib.ListN.{length, getD, length-append}
+use lib.ListN.{length, getD, length-append, List·getD-append}
+use lib.Seq.{getD-at}
 use lib.Dec.{T, not-T, ltb}
 use borrow.Author.Tests.{ltb-true, ltb-false}
 use Rattle.model.specs.Lists.{any, count, part}
@@ -57,7 +58,7 @@ unfoldable pub listed : (ℕ → Name) → ℕ → List Name
 listed f zero = []
 listed f (suc k) = listed f k ++ (f k ∷ [])
 
--- there are as named as asked for
+-- there are as many as asked for
 pub listed-length : (f : ℕ → Name) (k : ℕ) → length (listed f k) ≡ k
 unfolding listed
 listed-length f zero = refl
@@ -117,7 +118,7 @@ count-cons test n l = go (test n) (count test l)
     go true r = refl
     go false r = omega arith
 
--- values of which the test holds up to one, and from there on fails, count as named as that one
+-- values of which the test holds up to one, and from there on fails, count as many as that one
 pub listed-count : (test : Name → Bool) (f : ℕ → Name) (low k : ℕ) → low ≤ k
     → ((n : ℕ) → n < low → test (f n) ≡ true)
     → ((n : ℕ) → low ≤ n → n < k → test (f n) ≡ false)
@@ -267,9 +268,20 @@ name-at file w r = name-of file w (ranked w r)
 unfoldable pub index-names : List ℕ → List ℕ → ℕ → List Name
 index-names file w named = listed (name-at file w) named
 
--- there are as named names as numbers
+-- there are as many names as numbers
 pub names-length : (file w : List ℕ) (named : ℕ) → length (names-of file w named) ≡ named
 names-length file w named = rw (names-listed file w named) (listed-length (name-of file w) named)
+
+-- a number is the place of its name
+pub names-at : (file w : List ℕ) (named n : ℕ) → n < named → getD (names-of file w named) n [] ≡ name-of file w n
+unfolding names-of
+names-at file w zero n h = absurd (not-suc-le-zero h)
+names-at file w (suc k) n h = ⊎-elim
+    (λ (e : n ≡ k). rw e (getD-at (names-of file w k) (name-of file w k) [] [] k (names-length file w k)))
+    (λ (l : n < k).
+    List·getD-append (names-of file w k) (name-of file w k ∷ []) [] n (rw (names-length file w k) l)
+    ∙ names-at file w k n l)
+    (last-or k h)
 
 -- the name of a number is among the names
 pub names-intro : (file w : List ℕ) (named n : ℕ) → n < named → T (mem (name-of file w n) (names-of file w named))

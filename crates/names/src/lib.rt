@@ -1,11 +1,13 @@
 use model::Order;
 ghost use Prim.Native.Nat.{_+_, _≤_, _<_};
 ghost use mathlib.Core.Path.{_≡_};
-ghost use lib.ListN.{length, getD};
+ghost use lib.ListN.{length};
 ghost use Rattle.model.specs.Lists.{part};
 ghost use Rattle.model.specs.Names.{order};
+ghost use Rattle.model.specs.Reading.{most-names};
+ghost use Rattle.model.specs.Outcome.{working-words};
 ghost use Rattle.names.specs.Known.{head-code};
-ghost use Rattle.names.specs.Table.{Table, is-excluded, name-of, names-of, look-up, index-with, spell-answer, spell-table};
+ghost use Rattle.names.specs.Table.{length-column, name-start, name-length, Table, is-excluded, name-of, names-of, look-up, index-with, spell-answer, spell-table};
 
 // What a look-up finds: the name's number, or the rank where the name belongs in byte order.
 pub enum Found {
@@ -19,6 +21,14 @@ pub enum Spelled {
     New(usize),
     Full,
 }
+
+// The columns of the name table, by their first word. By number: where the name starts in the file (from word 0), its length,
+// its head code. By rank in byte order: the number.
+pub const LENGTH: usize = 2048;
+
+pub const INDEX: usize = 4096;
+
+pub const CODE: usize = 6144;
 
 // The known names in the order of their codes.
 const KNOWN: [u8; 249] =
@@ -45,11 +55,11 @@ pub fn head_code(file: &[u8], a: usize, e: usize) -> u32
 
 // The order of the name of a number and of the part from `a` up to `e`.
 fn compare(file: &[u8], w: &[u32], n: usize, a: usize, e: usize) -> Order
-    requires { ⌜ (2048 + n < length (now w)) × (getD (now w) n 0 + getD (now w) (2048 + n) 0 ≤ length (now file)) × (a ≤ e) × (e ≤ length (now file)) ⌝ }
+    requires { ⌜ (length-column + n < length (now w)) × (name-start (now w) n + name-length (now w) n ≤ length (now file)) × (a ≤ e) × (e ≤ length (now file)) ⌝ }
     ensures { λ r. ⌜ r ≡ order (name-of (now (file .entry)) (now (w .entry)) n) (part (now (file .entry)) a e) ⌝ }
 {
     let from = words::at(w, n);
-    let size = words::at(w, 2048 + n);
+    let size = words::at(w, LENGTH + n);
     text::order(file, from, from + size, a, e)
 }
 
@@ -62,7 +72,7 @@ pub fn look_up(file: &[u8], w: &[u32], named: usize, a: usize, e: usize) -> Foun
     let mut high = named;
     while low < high {
         let middle = low + (high - low) / 2;
-        let n = words::at(w, 4096 + middle);
+        let n = words::at(w, INDEX + middle);
         match compare(file, w, n, a, e) {
             Order::Before => {
                 low = middle + 1;
@@ -101,22 +111,22 @@ fn enter(file: &[u8], w: &mut [u32], named: usize, a: usize, e: usize, rank: usi
     }
     put_index(w, named, rank);
     w[named] = a as u32;
-    w[2048 + named] = (e - a) as u32;
-    w[6144 + named] = head_code(file, a, e);
+    w[LENGTH + named] = (e - a) as u32;
+    w[CODE + named] = head_code(file, a, e);
     Spelled::New(named)
 }
 
 // Puts the number `named` into the byte-order index at a rank, the later ranks moved up by one.
 fn put_index(w: &mut [u32], named: usize, rank: usize)
-    requires { ⌜ (rank ≤ named) × (named < 2048) × (16384 ≤ length (now w)) ⌝ }
+    requires { ⌜ (rank ≤ named) × (named < most-names) × (working-words ≤ length (now w)) ⌝ }
     ensures { λ r. ⌜ now (w .exit) ≡ index-with (now (w .entry)) named rank ⌝ }
 {
     let mut i = named;
     while rank < i {
-        w[4096 + i] = w[4096 + i - 1];
+        w[INDEX + i] = w[INDEX + i - 1];
         i -= 1;
     }
-    w[4096 + rank] = named as u32;
+    w[INDEX + rank] = named as u32;
 }
 
 // The part of the file that holds a name's bytes.
@@ -125,16 +135,16 @@ pub fn name_part<'a>(file: &'a [u8], w: &[u32], named: usize, n: usize) -> &'a [
     ensures { λ r. ⌜ now r ≡ name-of (now (file .entry)) (now (w .entry)) n ⌝ }
 {
     let start = words::at(w, n);
-    let len = words::at(w, 2048 + n);
+    let len = words::at(w, LENGTH + n);
     &file[start..start + len]
 }
 
 // Whether a name is excluded: nothing else reads what says so.
 pub fn is_excluded(w: &[u32], n: usize) -> bool
-    requires { ⌜ (n < 2048) × (16384 ≤ length (now w)) ⌝ }
+    requires { ⌜ (n < most-names) × (working-words ≤ length (now w)) ⌝ }
     ensures { λ r. ⌜ r ≡ is-excluded (now (w .entry)) n ⌝ }
 {
-    let code = words::at(w, 6144 + n);
+    let code = words::at(w, CODE + n);
     if code == 0 {
         return false;
     }

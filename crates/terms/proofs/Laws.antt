@@ -6,7 +6,7 @@ use mathlib.Core.Logic.{_⊎_, inl, inr}
 use mathlib.Core.List.{List}
 use lib.Dec.{eqb, ltb}
 use borrow.Author.Tests.{eq-eqb, ne-eqb, lt-ltb, le-ltb, eqb-true, eqb-false, ltb-true, ltb-false}
-use Rattle.terms.specs.Rows.{row-kind, row-start, row-extra, row-end, bare-of, groups-at}
+use Rattle.terms.specs.Rows.{row-kind, row-start, row-extra, row-end, bare-of, groups-at, has-head}
 
 -- two numbers are equal or not
 pub equal : (m n : ℕ) → (m ≡ n) ⊎ (m ≡ n → ⊥)
@@ -55,3 +55,13 @@ groups-all rows t u e h = rw (← e, eq-eqb (row-kind rows u) 4 h)
 pub groups-other : (rows : List ℕ) (t u : ℕ) → u ≡ bare-of rows t → (row-kind rows u ≡ 4 → ⊥) → groups-at rows t ≡ 0
 unfolding groups-at
 groups-other rows t u e h = rw (← e, ne-eqb (row-kind rows u) 4 h)
+
+-- a `free` has a head
+pub head-free : (kind : ℕ) → kind ≡ 0 → has-head kind ≡ true
+unfolding has-head
+head-free kind h = rw h
+
+-- else a call alone has
+pub head-call : (kind : ℕ) → (kind ≡ 0 → ⊥) → has-head kind ≡ eqb kind 2
+unfolding has-head
+head-call kind h = rw (ne-eqb kind 0 h)

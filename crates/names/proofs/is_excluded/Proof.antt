@@ -2,7 +2,7 @@
 use mathlib.Core.Path.{sym, ap, _∙_}
 use lib.Dec.{ltb}
 use borrow.Author.Needs.{needs}
-use Rattle.names.proofs.Coded.{excluded-none, excluded-low}
+use Rattle.names.proofs.Excluded.{excluded-none, excluded-low}
 use Rattle.names.proofs.is_excluded.Statement.{statement}
 use Rattle.names.proofs.is_excluded.Tie as tie
 

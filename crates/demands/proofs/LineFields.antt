@@ -1,0 +1,261 @@
+-- The fields of an accepted line by their sorts: the names that it spells, the terms that it names, and which lines count
+-- as term lines and as record lines.
+use Prim.Native.Nat.{ℕ, zero, suc, _+_}
+use Prim.Native.String.{String}
+use native.Mathlib.Nat.{zero-add}
+use native.Mathlib.Omega.{arith}
+use mathlib.Core.Path.{_≡_, refl, sym, _∙_, ap}
+use mathlib.Core.Bool.{Bool, true, false, cond}
+use mathlib.Core.List.{List, [], _∷_, append-nil}
+use mathlib.Core.Option.{some, Option·none-ne-some, Option·some-injective}
+use lib.Dec.{eqb}
+use lib.ListN.{length, getD, length-append}
+use Rattle.model.specs.Lists.{any, concat, collect, holds}
+use Rattle.model.specs.Names.{Name, bytes, by-byte, order, is-same, same}
+use Rattle.model.specs.Lines.{Field, is-name}
+use Rattle.model.specs.Terms.{Node, FreeV, Leaf, Forall, Exists, Labeled, Term, references}
+use Rattle.model.specs.Reading.{Result, ok, refused, _>>=_, need, name-field, number-field, term-field, op-words, word, kinds, next, many, rest, end, groups, Content, ask, term, assume, fun, def, root, quantifier, content, parse, nodes, spelled-by, spelled, summarize-decl, root-of}
+use Rattle.model.specs.declared.LineKind.{LineKind}
+use Rattle.model.specs.declared.LineKind.the-variants as kind
+use Rattle.model.specs.declared.Refusal.the-variants as refusal
+use Rattle.model.proofs.ListLaws.{true-T}
+use Rattle.model.proofs.SetLaws.{same-eq}
+use Rattle.model.proofs.ResultLaws.{cond-ok, ok-eq}
+use Rattle.demands.specs.LineForm.{Sort, a-name, a-term, nothing, may, value, group-due, quantifier-due, in-order, then-terms, due, sort-due, is-a-name, is-a-term, fields-due, fields-of}
+use Rattle.demands.specs.Counts.{term-words, record-words, is-word}
+use Rattle.demands.proofs.ReadingLaws.{parse-ok}
+use Rattle.demands.proofs.TermNumbers.{Gives, value as gives-value, no-value, any-value, given, gives-bind}
+use Rattle.demands.proofs.LineWalk.{number-value}
+
+-- where nothing is due no field is of any sort
+none-due : (of-sort : Sort → Bool) (fs : List Field) → fields-due of-sort (λ gs. nothing) fs ≡ []
+unfolding fields-due sort-due holds
+none-due of-sort [] = refl
+none-due of-sort (f ∷ fs) = none-due of-sort fs
+
+-- where fields of one sort may stand, all are of that sort
+all-due : (of-sort : Sort → Bool) (s : Sort) (fs : List Field) → fields-due of-sort (λ gs. may s) fs ≡ cond (of-sort s) fs []
+unfolding fields-due sort-due holds
+all-due of-sort s [] = go (of-sort s)
+  where
+    go : (b : Bool) → _≡_ {A = List Field} [] (cond b [] [])
+    go true = refl
+    go false = refl
+all-due of-sort s (f ∷ fs) = rw (all-due of-sort s fs) (go (of-sort s))
+  where
+    go : (b : Bool) → cond b (f ∷ cond b fs []) (cond b fs []) ≡ cond b (f ∷ fs) []
+    go true = refl
+    go false = refl
+
+-- no name is due in pattern groups
+no-name-due : (fs : List Field) (left g : ℕ) → fields-due is-a-name (λ gs. group-due gs left g) fs ≡ []
+unfolding fields-due group-due sort-due holds is-a-name
+no-name-due [] left g = refl
+no-name-due (f ∷ fs) zero zero = none-due is-a-name fs
+no-name-due (f ∷ fs) zero (suc g) = no-name-due fs (value f) g
+no-name-due (f ∷ fs) (suc left) g = no-name-due fs left g
+
+-- how many terms are due in pattern groups
+abbrev terms-due : ℕ → ℕ → List Field → ℕ
+terms-due left g fs = length (fields-due is-a-term (λ gs. group-due gs left g) fs)
+
+-- what `next` and what reads on give, by the field that is read
+gives-field : {A B : Type 0} {judge : Field → Result A} {good : Field → A → Type 0} (law : List Field → B → Type 0)
+    → ((f : Field) → Gives (good f) (judge f)) → (on : A × List Field → Result B)
+    → ((f : Field) (a : A) → good f a → (fs : List Field) → Gives (law (f ∷ fs)) (on (a, fs)))
+    → (fs : List Field) → Gives (law fs) (next judge fs >>= on)
+unfolding next
+gives-field law judged on below [] = no-value
+gives-field {A} {judge} {good} law judged on below (f ∷ fs) = go (judged f)
+  where
+    go : {r : Result A} → Gives (good f) r → Gives (law (f ∷ fs)) (r >>= (λ a. ok (a, fs)) >>= on)
+    go (gives-value {a} h) = below f a h fs
+    go no-value = no-value
+
+-- what `end` gives, where no field is left
+gives-ended : {A : Type 0} (law : List Field → A → Type 0) (a : A) → law [] a → (fs : List Field) → Gives (law fs) (end a fs)
+unfolding end
+gives-ended law a h [] = gives-value h
+gives-ended law a h (f ∷ fs) = no-value
+
+-- the same of a law of the value alone
+gives-stop : {A : Type 0} {law : A → Type 0} (a : A) (fs : List Field) → (fs ≡ [] → law a) → Gives law (end a fs)
+unfolding end
+gives-stop a [] h = gives-value (h refl)
+gives-stop a (f ∷ fs) h = no-value
+
+-- a law that follows from having a value holds of the value
+gives-by : {A : Type 0} {law : A → Type 0} (r : Result A) → ((a : A) → r ≡ ok a → law a) → Gives law r
+gives-by (ok a) h = gives-value (h a refl)
+gives-by (refused x) h = no-value
+
+-- a field that is a name is that name
+gives-name : (f : Field) → Gives (λ n. f ≡ n) (name-field f)
+unfolding name-field
+gives-name f = gives-by (name-field f) (λ n e. ok-eq (cond-ok (is-name f) (ok f) refusal.Name e .1))
+
+-- a field that is a number is its value
+gives-number : (limit : ℕ) (f : Field) → Gives (λ n. value f ≡ n) (number-field limit f)
+gives-number limit f = gives-by (number-field limit f) (λ n e. number-value limit f e)
+
+-- the fields that are left are as many as their values
+gives-as-many : {A : Type 0} (judge : Field → Result A) (fs : List Field) → Gives (λ xs. length fs ≡ length xs) (rest judge fs)
+unfolding rest
+gives-as-many judge [] = gives-value refl
+gives-as-many judge (f ∷ fs) = gives-bind (any-value (judge f)) (λ a u. gives-bind (gives-as-many judge fs) (λ xs h. gives-value (ap suc h)))
+
+-- names that are left are these names
+gives-names : (fs : List Field) → Gives (λ ns. fs ≡ ns) (rest name-field fs)
+unfolding rest
+gives-names [] = gives-value refl
+gives-names (f ∷ fs) = gives-bind (gives-name f) (λ n e. gives-bind (gives-names fs) (λ ns h. gives-value (rw (e, h))))
+
+module _ (count : ℕ) where
+  -- the terms of a group that lacks n are the first that are due
+  gives-many : (g n : ℕ) (fs : List Field) → Gives (λ p. terms-due n g fs ≡ length (p .0) + terms-due 0 g (p .1)) (many n (term-field count) fs)
+  unfolding many fields-due group-due sort-due holds is-a-term
+  gives-many g zero fs = gives-value (sym (zero-add (terms-due 0 g fs)))
+  gives-many g (suc n) fs =
+      gives-field (λ fs p. terms-due (suc n) g fs ≡ length (p .0) + terms-due 0 g (p .1)) (λ f. any-value (term-field count f)) _
+      (λ f t u fs₁. gives-bind (gives-many g n fs₁) (λ p h. gives-value (omega (arith, h)))) fs
+
+  -- the terms of g groups are the first that are due
+  gives-groups : (g : ℕ) (fs : List Field) → Gives (λ p. terms-due 0 g fs ≡ length (concat (p .0)) + terms-due 0 0 (p .1)) (groups count g fs)
+  unfolding groups concat fields-due group-due sort-due holds is-a-term
+  gives-groups zero fs = gives-value (sym (zero-add (terms-due 0 0 fs)))
+  gives-groups (suc g) fs =
+      gives-field (λ fs p. terms-due 0 (suc g) fs ≡ length (concat (p .0)) + terms-due 0 0 (p .1)) (gives-number 65535) _
+      (λ f n e fs₁. gives-bind (gives-many g n fs₁) (λ p h. gives-bind (gives-groups g (p .1)) (λ q k.
+      gives-value (ap (λ n. terms-due n g fs₁) e ∙ rw length-append (omega (arith, h, k)))))) fs
+
+-- a law of each word and what it stands for
+abbrev All-words : {A : Type 0} → (Field → A → Type 0) → List (String × A) → Type 0
+All-words P [] = Unit {0}
+All-words P ((w, a) ∷ ws) = P (bytes w) a × All-words P ws
+
+-- the law holds of a field that is one of the words
+word-case : {A : Type 0} (P : Field → A → Type 0) (ws : List (String × A)) → All-words P ws → (f : Field) {a : A} → word ws f ≡ some a → P f a
+unfolding word
+word-case P [] h f e = absurd (Option·none-ne-some _ e)
+word-case P ((w, b) ∷ ws) h f {a} e = go (same f (bytes w)) refl (word-case P ws (h .1) f) e
+  where
+    go : (t : Bool) → same f (bytes w) ≡ t → (word ws f ≡ some a → P f a) → cond t (some b) (word ws f) ≡ some a → P f a
+    go true s later e = rw (same-eq (true-T s), ← (Option·some-injective b a e)) (h .0)
+    go false s later e = later e
+
+-- what a line says, by whether it counts as a term line or as a record line, by its names and by the terms that it names
+pub record Formed (is-term is-record : Bool) (named terms : List Field) (c : Content) : Type 0 where
+  pub names : named ≡ spelled c
+  pub term-lines : length (nodes c) ≡ cond is-term 1 0
+  pub term-references : length (collect references (nodes c)) ≡ cond is-term (length terms) 0
+  pub record-lines : (exclude : List Name) (terms : List Term) (n : ℕ)
+      → length (summarize-decl exclude terms n c) + length (root-of exclude terms n c) ≡ cond is-record 1 0
+
+-- the same of the fields of a line of a kind
+abbrev Formed-as : Bool → Bool → LineKind → List Field → Content → Type 0
+Formed-as is-term is-record k fs c = Formed is-term is-record (fields-due is-a-name (due k) fs) (fields-due is-a-term (due k) fs) c
+
+-- a term line
+term-formed : {named terms : List Field} {node : Node} → named ≡ spelled-by node → length terms ≡ length (references node)
+    → Formed true false named terms (term node)
+unfolding spelled nodes collect summarize-decl root-of
+term-formed {node} e h =
+    record { names = e; term-lines = refl; term-references = rw append-nil (sym h); record-lines = λ exclude terms n. refl }
+
+-- a line that is no term line
+other-formed : {is-record : Bool} {named terms : List Field} {c : Content} → nodes c ≡ []
+    → ((exclude : List Name) (terms : List Term) (n : ℕ) → length (summarize-decl exclude terms n c) + length (root-of exclude terms n c) ≡ cond is-record 1 0)
+    → named ≡ spelled c → Formed false is-record named terms c
+unfolding collect
+other-formed e h names = record { names = names; term-lines = rw e; term-references = rw e; record-lines = h }
+
+-- an `all` or a `some`, by its fields
+quantifier-made : (k : LineKind) → due k ≡ quantifier-due → (node : Node) (body g : ℕ) (gs : List (List ℕ)) → spelled-by node ≡ [] → references node ≡ body ∷ concat gs
+    → (f f₁ : Field) (fs after : List Field) → value f₁ ≡ g → terms-due 0 g fs ≡ length (concat gs) + terms-due 0 0 after → after ≡ []
+    → Formed-as true false k (f ∷ f₁ ∷ fs) (term node)
+unfolding quantifier-due fields-due sort-due holds is-a-name is-a-term group-due
+quantifier-made k e node body g gs spells names f f₁ fs after v w left =
+    term-formed (rw (e, spells) (no-name-due fs 0 (value f₁))) (rw (e, v, names) (ap suc (w ∙ rw left (omega arith))))
+
+module _ (count : ℕ) where
+  -- an `all` or a `some`
+  quantifier-formed : (k : LineKind) → due k ≡ quantifier-due → (make : ℕ → List (List ℕ) → Node)
+      → ((body : ℕ) (gs : List (List ℕ)) → (spelled-by (make body gs) ≡ []) × (references (make body gs) ≡ body ∷ concat gs))
+      → (fs : List Field) → Gives (Formed-as true false k fs) (quantifier make count fs)
+  unfolding quantifier
+  quantifier-formed k e make h =
+      gives-field _ (λ f. any-value (term-field count f)) _ (λ f body u.
+      gives-field _ (gives-number 65535) _ (λ f₁ g v fs₂.
+      gives-bind (gives-groups count g fs₂) (λ p w. gives-stop (term (make body (p .0))) (p .1)
+      (quantifier-made k e (make body (p .0)) body g (p .0) (h body (p .0) .0) (h body (p .0) .1) f f₁ fs₂ (p .1) v w))))
+
+  -- a line of each kind
+  kind-formed : All-words (λ f k. (fs : List Field) → Gives (Formed-as (is-word term-words f) (is-word record-words f) k fs) (content k count fs)) kinds
+  unfolding kinds is-word term-words record-words any same order by-byte is-same bytes
+      content due in-order then-terms fields-due sort-due holds is-a-name is-a-term
+      spelled spelled-by references nodes collect summarize-decl root-of
+  kind-formed = (
+    gives-field _ (λ f. any-value (number-field 255 f)) _ (λ f q u. gives-field _ (λ g. any-value (number-field 7 g)) _ (λ g o v.
+        gives-ended _ (ask q o) (other-formed refl (λ exclude terms n. refl) refl))),
+    (
+      gives-field _ gives-name _ (λ f name e. gives-ended _ (term (FreeV name)) (term-formed (rw e) refl)),
+      (
+        gives-ended _ (term Leaf) (term-formed refl refl),
+        (
+          gives-field _ gives-name _ (λ f name e fs. gives-bind (gives-as-many (term-field count) fs) (λ ts h.
+              gives-value (term-formed (rw (e, all-due is-a-name a-term fs)) (rw (all-due is-a-term a-term fs) h)))),
+          (
+            gives-field _ (λ f. any-value (need refusal.Form (word op-words f))) _ (λ f w u fs. gives-bind (gives-as-many (term-field count) fs) (λ ts h.
+                gives-value (term-formed (all-due is-a-name a-term fs) (rw (all-due is-a-term a-term fs) h)))),
+            (
+              quantifier-formed kind.All refl Forall (λ body gs. (refl, refl)),
+              (
+                quantifier-formed kind.Some refl Exists (λ body gs. (refl, refl)),
+                (
+                  gives-field _ (λ f. any-value (term-field count f)) _ (λ f body u fs. gives-bind (gives-as-many (term-field count) fs) (λ ts h.
+                      gives-value (term-formed (all-due is-a-name a-term fs) (rw (all-due is-a-term a-term fs) (ap suc h))))),
+                  (
+                    gives-field _ (λ f. any-value (term-field count f)) _ (λ f t u. gives-ended _ (term (Labeled t)) (term-formed refl refl)),
+                    (
+                      gives-field _ gives-name _ (λ f name e. gives-field _ (λ g. any-value (number-field 1 g)) _ (λ g flag u. gives-field _ (λ h. any-value (term-field count h)) _ (λ h t v.
+                          gives-ended _ (assume name (eqb flag 1) t) (other-formed refl (λ exclude terms n. refl) (rw e))))),
+                      (
+                        gives-field _ gives-name _ (λ f name e. gives-ended _ (fun name) (other-formed refl (λ exclude terms n. refl) (rw e))),
+                        (
+                          gives-field _ gives-name _ (λ f name e. gives-field _ (λ g. any-value (term-field count g)) _ (λ g t u.
+                              gives-ended _ (def name t) (other-formed refl (λ exclude terms n. refl) (rw e)))),
+                          (
+                            λ fs. gives-bind (gives-names fs) (λ names e. gives-value (other-formed refl (λ exclude terms n. refl) (all-due is-a-name a-name fs ∙ e))),
+                            (
+                              gives-field _ (λ f. any-value (number-field 255 f)) _ (λ f q u. gives-field _ gives-name _ (λ g name e. gives-field _ (λ h. any-value (term-field count h)) _ (λ h t v.
+                                  gives-ended _ (root q name t) (other-formed refl (λ exclude terms n. refl) (rw e))))),
+                              tt,
+                            ),
+                          ),
+                        ),
+                      ),
+                    ),
+                  ),
+                ),
+              ),
+            ),
+          ),
+        ),
+      ),
+    ),
+  )
+
+-- the fields of a line of a known kind
+fields-known : (of-sort : Sort → Bool) (f : Field) (fs : List Field) {k : LineKind} → word kinds f ≡ some k → fields-of of-sort (f ∷ fs) ≡ fields-due of-sort (due k) fs
+unfolding fields-of
+fields-known of-sort f fs e = rw (e, fields-of)
+
+-- an accepted line says what its fields are
+pub line-fields : (n count : ℕ) (fs : List Field) {c : Content} → parse n count fs ≡ ok c
+    → Formed (is-word term-words (getD fs 0 [])) (is-word record-words (getD fs 0 [])) (fields-of is-a-name fs) (fields-of is-a-term fs) c
+line-fields n count fs e =
+    let p = parse-ok n count fs e in
+    let made = word-case (λ f k. (fs : List Field) → Gives (Formed-as (is-word term-words f) (is-word record-words f) k fs) (content k count fs))
+    kinds (kind-formed count) (p .kind-word) (p .known) (p .others) in
+    rw (p .split, fields-known is-a-name (p .kind-word) (p .others) (p .known), fields-known is-a-term (p .kind-word) (p .others) (p .known))
+    (given made (p .says))

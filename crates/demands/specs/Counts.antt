@@ -1,0 +1,81 @@
+-- Demand 1, the counts behind refusal 6: what is counted at a line is what document 01 says, of the bytes of the lines.
+use Prim.Native.Nat.{ℕ, _+_, max}
+use Prim.Native.String.{String}
+use mathlib.Core.Path.{_≡_}
+use mathlib.Core.Bool.{Bool, _||_}
+use mathlib.Core.List.{List, [], _∷_, _++_, map}
+use lib.ListN.{length, getD}
+use Rattle.model.specs.Lists.{any, keep, count, sum}
+use Rattle.model.specs.Names.{Name, bytes, same, mem}
+use Rattle.model.specs.Lines.{Line, lines, Field, fields}
+use Rattle.model.specs.Summaries.{exclude-names, Fact, summarize-kind}
+use Rattle.model.specs.Reading.{Content, Decl, Root, State, add-line}
+use Rattle.model.specs.Rounds.{facts, definitions}
+use Rattle.demands.specs.Accepted.{Distinct}
+use Rattle.demands.specs.LineForm.{is-a-name, is-a-term, fields-of}
+use Rattle.demands.specs.Demand1.{Reached-line, Says}
+use Rattle.demands.specs.FileOrder.{of-record}
+
+-- the state after a line that parses, whether it passes a limit or not
+abbrev pub state-with : {ls : List Line} {n : ℕ} → Reached-line ls n → Content → State
+state-with {n = n} l c = add-line exclude-names n (l .state) c
+
+-- the lines up to one that is reached, it included
+abbrev pub lines-to : {ls : List Line} {n : ℕ} → Reached-line ls n → List Line
+lines-to l = l .before ++ (l .line ∷ [])
+
+-- "Term lines", by their first field
+unfoldable pub term-words : List String
+term-words = "free" ∷ "leaf" ∷ "call" ∷ "op" ∷ "all" ∷ "some" ∷ "let" ∷ "label" ∷ []
+
+-- "Record lines"
+unfoldable pub record-words : List String
+record-words = "assume" ∷ "fun" ∷ "def" ∷ "retain" ∷ "root" ∷ []
+
+-- whether a field is one of the words
+unfoldable pub is-word : List String → Field → Bool
+is-word words f = any (λ w. same f (bytes w)) words
+
+-- whether the first field of a line is one of the words
+unfoldable pub begins : List String → Line → Bool
+begins words line = is-word words (getD (fields (line .bytes)) 0 [])
+
+-- the term references of a line
+unfoldable pub term-fields : Line → List Field
+term-fields line = fields-of is-a-term (fields (line .bytes))
+
+-- the names that a line spells
+unfoldable pub name-fields : Line → List Name
+name-fields line = fields-of is-a-name (fields (line .bytes))
+
+-- the counts after these lines are those of document 01: "term lines", "term references in term lines", "record lines",
+-- "trigger entries (fact, disjunct, name) .., where an empty disjunct counts as one", "name uses (free names summed over
+-- assume, def and root lines)"
+pub record Counted (read-so-far : List Line) (s : State) : Type 0 where
+  pub term-lines : length (s .terms) ≡ count (begins term-words) read-so-far
+  pub term-references : s .references
+      ≡ sum (map (λ line. length (term-fields line)) (keep (begins term-words) read-so-far))
+  pub record-lines : length (s .decls) + length (s .roots) ≡ count (begins record-words) read-so-far
+  pub trigger-entries : s .entries
+      ≡ sum (map (λ (f : Fact). sum (map (λ (d : List Name). max 1 (length d)) (f .triggers))) (facts (s .decls)))
+  pub name-uses : s .uses
+      ≡ sum (map (λ (f : Fact). length (f .free-names)) (facts (s .decls)))
+      + (sum (map (λ (d : Decl). length (d .free-names)) (definitions (s .decls)))
+      + sum (map (λ (r : Root). length (r .free-names)) (s .roots)))
+  -- "names the file spells, plus trimmed tokens .. distinct"
+  pub names-once : Distinct (s .names)
+
+-- the token that rule 4 trims, of an assume line
+abbrev pub token-trimmed : {ls : List Line} {n : ℕ} → Reached-line ls n → Content → List Name
+token-trimmed l =
+    of-record (λ name flag t. summarize-kind exclude-names (l .state .terms) name t .trimmed) (λ name. []) (λ name t. []) (λ q name t. [])
+
+-- what a line adds to the names: those that it spells, and the token that rule 4 trims
+abbrev pub Names-added : {ls : List Line} {n : ℕ} → Reached-line ls n → Content → Type 0
+Names-added l c =
+    (k : Name) → mem k (state-with l c .names) ≡ (mem k (l .state .names) || mem k (name-fields (l .line) ++ token-trimmed l c))
+
+abbrev pub Counts-exact : Type 0
+Counts-exact =
+    (file : List ℕ) (n : ℕ) (l : Reached-line (lines file) n) (c : Content) → Says l c
+    → Counted (lines-to l) (state-with l c) × Names-added l c
