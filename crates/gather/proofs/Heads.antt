@@ -1,12 +1,9 @@
 -- Adding the head of a term: what each way through `gather_head` comes to.
 use Prim.Native.Nat.{ℕ, _+_, _≤_, _<_}
-use native.Mathlib.Omega.{arith}
 use mathlib.Core.Path.{_≡_, sym, ap, _∙_}
 use mathlib.Core.Bool.{true, false, true≢false}
 use mathlib.Core.List.{List}
-use lib.ListN.{getD, set}
-use lib.Dec.{eqb, ltb}
-use borrow.Author.Tests.{ne-eqb, lt-ltb}
+use lib.ListN.{set}
 use Rattle.model.proofs.ListLaws.{T-true, true-T}
 use Rattle.gather.specs.declared.Walked.the-variants as walks
 use Rattle.terms.specs.Rows.{row-kind, row-head, has-head}
@@ -14,16 +11,6 @@ use Rattle.names.specs.Table.{is-excluded}
 use Rattle.gather.specs.Sets.{name-mark}
 use Rattle.gather.specs.Walks.{Own, Heads, Steps}
 use Rattle.gather.proofs.Steps.{steps-stay, steps-over, steps-one}
-
--- a free has a head
-pub head-free : (kind : ℕ) → kind ≡ 0 → has-head kind ≡ true
-unfolding has-head
-head-free kind h = rw h
-
--- else a call alone has
-pub head-call : (kind : ℕ) → (kind ≡ 0 → ⊥) → has-head kind ≡ eqb kind 2
-unfolding has-head
-head-call kind h = rw (ne-eqb kind 0 h)
 
 module _ {names rows out : List ℕ} {t count room : ℕ} (h : Heads names rows out t count room) (mark : ℕ) where
   -- the row has no head

@@ -3,7 +3,7 @@ use Prim.Native.Nat.{ℕ, zero, suc, _+_}
 use mathlib.Core.Path.{_≡_}
 use mathlib.Core.Bool.{Bool, true, false, cond, not, _&&_, _||_}
 use mathlib.Core.List.{List, [], _∷_, _++_}
-use lib.ListN.{length, getD, set}
+use lib.ListN.{length, set}
 use lib.Dec.{eqb, ltb}
 use Rattle.model.specs.Lists.{any, fold-left, part}
 use Rattle.terms.specs.Rows.{row-kind, row-head, row-start, row-end, has-head, terms-of-words}

@@ -1,5 +1,5 @@
 -- What a walk over the terms comes to, in numbers of names.
-use Prim.Native.Nat.{ℕ, _+_, _-_, _%_, _≤_, _<_}
+use Prim.Native.Nat.{ℕ, _-_, _≤_, _<_}
 use mathlib.Core.Path.{_≡_}
 use mathlib.Core.Bool.{false}
 use mathlib.Core.Logic.{_⊎_}
@@ -8,9 +8,10 @@ use lib.ListN.{length, getD}
 use lib.Dec.{T}
 use Rattle.model.specs.Lists.{fold-left, part}
 use Rattle.model.specs.Reading.{most-names, most-terms}
+use Rattle.model.specs.Outcome.{working-words}
 use Rattle.gather.specs.declared.Walked.{Walked}
 use Rattle.gather.specs.declared.Walked.the-variants as walks
-use Rattle.terms.specs.Rows.{row-kind, row-head, row-start, row-end, has-head, terms-of-words, Rows}
+use Rattle.terms.specs.Rows.{term-of, row-kind, row-head, row-start, row-end, has-head, terms-of-words, Rows}
 use Rattle.words.specs.Slices.{Same-but}
 use Rattle.names.specs.Table.{is-excluded}
 use Rattle.gather.specs.Sets.{name-mark-column, row-mark-column, Fresh, row-mark, name-mark, ended}
@@ -20,13 +21,13 @@ use Rattle.gather.specs.Visits.{Visit, visit-head, visit, Walks-as}
 pub data Occurs (refs rows : List ℕ) (used many : ℕ) : ℕ → ℕ → Type 0 where
   own : {t k : ℕ} → T (has-head (row-kind rows t)) → row-head rows t ≡ k → Occurs refs rows used many t k
   under : {t k : ℕ} (i : ℕ) → row-start rows t ≤ i → i < row-end rows used many t
-      → Occurs refs rows used many (getD refs i 0 % 4096) k → Occurs refs rows used many t k
+      → Occurs refs rows used many (term-of (getD refs i 0)) k → Occurs refs rows used many t k
 
 -- term u is reached from term t: it is t, or reached from a term that t names
 pub data Reached (refs rows : List ℕ) (used many : ℕ) : ℕ → ℕ → Type 0 where
   itself : {t u : ℕ} → t ≡ u → Reached refs rows used many t u
   below : {t u : ℕ} (i : ℕ) → row-start rows t ≤ i → i < row-end rows used many t
-      → Reached refs rows used many (getD refs i 0 % 4096) u → Reached refs rows used many t u
+      → Reached refs rows used many (term-of (getD refs i 0)) u → Reached refs rows used many t u
 
 -- whether a name counts: it is not excluded
 pub record Counted (names : List ℕ) (k : ℕ) : Type 0 where
@@ -49,12 +50,12 @@ pub record Among (names refs rows : List ℕ) (used many a e k : ℕ) : Type 0 w
   pub place : ℕ
   pub low : a ≤ place
   pub high : place < e
-  pub free : Free names refs rows used many (getD refs place 0 % 4096) k
+  pub free : Free names refs rows used many (term-of (getD refs place 0)) k
 
 -- what adding a head asks
 pub record Heads (names rows out : List ℕ) (t count room : ℕ) : Type 0 where
-  pub name-room : 16384 ≤ length names
-  pub row-room : 16384 ≤ length rows
+  pub name-room : working-words ≤ length names
+  pub row-room : working-words ≤ length rows
   pub is-row : t < most-terms
   pub head-small : T (has-head (row-kind rows t)) → row-head rows t < most-names
   pub low : count ≤ room
@@ -67,7 +68,7 @@ pub record Closed (names refs rows : List ℕ) (used many mark : ℕ) : Type 0 w
 -- what a walk asks of the slices
 pub record Ready (names refs rows out : List ℕ) (used many mark count room : ℕ) : Type 0 where
   pub table : Rows refs rows used many most-names
-  pub name-room : 16384 ≤ length names
+  pub name-room : working-words ≤ length names
   pub closed : Closed names refs rows used many mark
   pub low : count ≤ room
   pub high : room ≤ length out
@@ -76,7 +77,7 @@ pub record Ready (names refs rows out : List ℕ) (used many mark count room : �
 pub record References (refs : List ℕ) (used many a e : ℕ) : Type 0 where
   pub in-order : a ≤ e
   pub in-use : e ≤ used
-  pub in-table : (i : ℕ) → a ≤ i → i < e → getD refs i 0 % 4096 < many
+  pub in-table : (i : ℕ) → a ≤ i → i < e → term-of (getD refs i 0) < many
 
 -- the names with the mark are those in `out` from a place up to n, each once
 pub record Listed (names out : List ℕ) (mark from n : ℕ) : Type 0 where

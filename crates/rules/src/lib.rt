@@ -1,9 +1,10 @@
 ghost use Prim.Native.Nat.{ℕ, _+_, _≤_, _<_};
 ghost use mathlib.Core.Path.{_≡_};
-ghost use mathlib.Core.Option.{some};
 ghost use lib.Dec.{T};
 ghost use lib.ListN.{length};
 ghost use Rattle.model.specs.Names.{starts-with};
+ghost use Rattle.model.specs.Reading.{most-names, most-terms};
+ghost use Rattle.model.specs.Outcome.{working-words};
 ghost use Rattle.model.specs.Summaries.{is-ambient-refinement, ambient-refinement-payload, has-eq, maybe-add-ambient, summarize-kind};
 ghost use Rattle.names.specs.Table.{Table, name-of};
 ghost use Rattle.terms.specs.Rows.{row-kind, row-head, row-start, row-end, has-head, groups-at, Rows};
@@ -80,7 +81,7 @@ const AND: usize = 3;
 
 // How many references a row has.
 fn count(rows: &[u32], used: usize, many: usize, t: usize) -> usize
-    requires { ⌜ (16384 ≤ length (now rows)) × (t < many) × (many ≤ 4096) × (row-start (now rows) t ≤ row-end (now rows) used many t) ⌝ }
+    requires { ⌜ (working-words ≤ length (now rows)) × (t < many) × (many ≤ most-terms) × (row-start (now rows) t ≤ row-end (now rows) used many t) ⌝ }
     ensures { λ r. ⌜ r ≡ row-count (now (rows .entry)) used many t ⌝ }
 {
     terms::end(rows, used, many, t) - terms::start(rows, t)
@@ -88,7 +89,7 @@ fn count(rows: &[u32], used: usize, many: usize, t: usize) -> usize
 
 // The i-th term that a row names.
 fn nth(refs: &[u32], rows: &[u32], t: usize, i: usize) -> usize
-    requires { ⌜ (16384 ≤ length (now rows)) × (t < 4096) × (row-start (now rows) t + i < length (now refs)) × (i ≤ 1) ⌝ }
+    requires { ⌜ (working-words ≤ length (now rows)) × (t < most-terms) × (row-start (now rows) t + i < length (now refs)) × (i ≤ 1) ⌝ }
     ensures { λ r. ⌜ r ≡ row-argument (now (refs .entry)) (now (rows .entry)) t i ⌝ }
 {
     let a = terms::start(rows, t);
@@ -97,46 +98,34 @@ fn nth(refs: &[u32], rows: &[u32], t: usize, i: usize) -> usize
 
 // Whether a row is a call of the name with this head code.
 fn is_call(names: &[u32], rows: &[u32], t: usize, code: usize) -> bool
-    requires { ⌜ (16384 ≤ length (now names)) × (16384 ≤ length (now rows)) × (t < 4096) × (T (has-head (row-kind (now rows) t)) → row-head (now rows) t < 2048) ⌝ }
+    requires { ⌜ (working-words ≤ length (now names)) × (working-words ≤ length (now rows)) × (t < most-terms) × (T (has-head (row-kind (now rows) t)) → row-head (now rows) t < most-names) ⌝ }
     ensures { λ r. ⌜ r ≡ is-call-at (now (names .entry)) (now (rows .entry)) t code ⌝ }
 {
-    if terms::kind(rows, t) != 2 {
+    if terms::kind(rows, t) != terms::CALL {
         return false;
     }
     let n = terms::head(rows, t);
-    words::at(names, 6144 + n) == code
+    words::at(names, names::CODE + n) == code
 }
 
 // Whether a row is a `free` or a call of the name with this head code.
 fn is_head(names: &[u32], rows: &[u32], t: usize, code: usize) -> bool
-    requires { ⌜ (16384 ≤ length (now names)) × (16384 ≤ length (now rows)) × (t < 4096) × (T (has-head (row-kind (now rows) t)) → row-head (now rows) t < 2048) ⌝ }
+    requires { ⌜ (working-words ≤ length (now names)) × (working-words ≤ length (now rows)) × (t < most-terms) × (T (has-head (row-kind (now rows) t)) → row-head (now rows) t < most-names) ⌝ }
     ensures { λ r. ⌜ r ≡ is-head-at (now (names .entry)) (now (rows .entry)) t code ⌝ }
 {
-    if !has_head(rows, t) {
+    if !terms::has_head(rows, t) {
         return false;
     }
     let n = terms::head(rows, t);
-    words::at(names, 6144 + n) == code
-}
-
-// Whether a row is a `free` or a call.
-fn has_head(rows: &[u32], t: usize) -> bool
-    requires { ⌜ (16384 ≤ length (now rows)) × (t < 4096) ⌝ }
-    ensures { λ r. ⌜ r ≡ has-head (row-kind (now (rows .entry)) t) ⌝ }
-{
-    let kind = terms::kind(rows, t);
-    if kind == 0 {
-        return true;
-    }
-    kind == 2
+    words::at(names, names::CODE + n) == code
 }
 
 // Whether a row is an `op` of the word with this number.
 fn is_op(rows: &[u32], t: usize, op: usize) -> bool
-    requires { ⌜ (16384 ≤ length (now rows)) × (t < 4096) ⌝ }
+    requires { ⌜ (working-words ≤ length (now rows)) × (t < most-terms) ⌝ }
     ensures { λ r. ⌜ r ≡ is-op-at (now (rows .entry)) t op ⌝ }
 {
-    if terms::kind(rows, t) != 3 {
+    if terms::kind(rows, t) != terms::OP {
         return false;
     }
     terms::op(rows, t) == op
@@ -153,7 +142,7 @@ fn call_one(
     t: usize,
     code: usize,
 ) -> Argument
-    requires { ⌜ Rows (now refs) (now rows) used many named × (16384 ≤ length (now names)) × (t < many) ⌝ }
+    requires { ⌜ Rows (now refs) (now rows) used many named × (working-words ≤ length (now names)) × (t < many) ⌝ }
     ensures { λ r. ⌜ r ≡ call-one-at (now (names .entry)) (now (refs .entry)) (now (rows .entry)) used many t code ⌝ }
 {
     if !is_call(names, rows, t, code) {
@@ -176,7 +165,7 @@ fn call_two(
     t: usize,
     code: usize,
 ) -> Arguments
-    requires { ⌜ Rows (now refs) (now rows) used many named × (16384 ≤ length (now names)) × (t < many) ⌝ }
+    requires { ⌜ Rows (now refs) (now rows) used many named × (working-words ≤ length (now names)) × (t < many) ⌝ }
     ensures { λ r. ⌜ r ≡ call-two-at (now (names .entry)) (now (refs .entry)) (now (rows .entry)) used many t code ⌝ }
 {
     if !is_call(names, rows, t, code) {
@@ -221,7 +210,7 @@ fn name_starts(file: &[u8], names: &[u32], named: usize, n: usize, prefix: &[u8]
     ensures { λ r. ⌜ r ≡ starts-with (name-of (now (file .entry)) (now (names .entry)) n) (now (prefix .entry)) ⌝ }
 {
     let a = words::at(names, n);
-    let e = a + words::at(names, 2048 + n);
+    let e = a + words::at(names, names::LENGTH + n);
     text::starts_with(file, a, e, prefix)
 }
 
@@ -242,7 +231,7 @@ fn is_ambient_refinement(
     if is_call(names, rows, ty, SQUASH) {
         return true;
     }
-    if !has_head(rows, ty) {
+    if !terms::has_head(rows, ty) {
         return false;
     }
     let n = terms::head(rows, ty);
