@@ -9,6 +9,7 @@ use lib.ListN.{getD}
 use lib.Dec.{ltb}
 use borrow.Author.Tests.{lt-ltb, ltb-true}
 use Rattle.model.specs.Lists.{part}
+use Rattle.model.specs.Names.{Name}
 use Rattle.model.specs.Summaries.{exclude-names}
 use Rattle.names.specs.Table.{name-code, name-of, names-of, look-up, is-excluded, Excludes, entered, spell-table, Table}
 use Rattle.names.specs.declared.Found.{Found}
@@ -33,6 +34,10 @@ excluded-low w n h =
 pub excluded-exact : {file w : List ℕ} {named : ℕ} → Table file w named → Excludes exclude-names file w named
 unfolding is-excluded
 excluded-exact {file} {w} table n h = rw (table .codes n h) (sym (code-excluded (name-of file w n)))
+
+-- there is such a list
+pub excludes-some : {file w : List ℕ} {named : ℕ} → Table file w named → (exclude : List Name) × Excludes exclude file w named
+excludes-some table = (exclude-names, excluded-exact table)
 
 -- a slice with the same words below 8192 tells the same
 pub excluded-kept : (w w′ : List ℕ) → ((i : ℕ) → i < 8192 → getD w′ i 0 ≡ getD w i 0) → (n : ℕ) → n < 2048 → is-excluded w′ n ≡ is-excluded w n

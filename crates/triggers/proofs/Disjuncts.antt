@@ -193,3 +193,8 @@ entries-append (x ∷ s) t = omega (arith, entries-append s t)
 pub entries-one : (s : List Name) → entries (s ∷ []) ≡ max 1 (length s)
 unfolding entries sum
 entries-one s = omega arith
+
+-- each disjunct takes an entry or more
+pub entries-many : (sets : List (List Name)) → length sets ≤ entries sets
+entries-many [] = omega arith
+entries-many (s ∷ sets) = omega (arith, entries-many sets, entries-append (s ∷ []) sets, entries-one s)
