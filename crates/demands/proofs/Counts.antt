@@ -9,7 +9,7 @@ use Rattle.model.specs.Lists.{keep, count, sum, fold-left}
 use Rattle.model.specs.Names.{Name}
 use Rattle.model.specs.Lines.{Line, fields}
 use Rattle.model.specs.Terms.{Node, Term, add-term, references}
-use Rattle.model.specs.Summaries.{exclude-names, Fact}
+use Rattle.model.specs.Summaries.{exclude-names, Fact, entries}
 use Rattle.model.specs.Reading.{Content, ask, term, assume, fun, def, retain, root, ok, Decl, Summary, Sum-assume, Sum-definefun, Sum-declfun, Sum-retain, State, start, read, entries-of, uses-of, nodes, spelled, trimmed, summarize-decl, root-of, parse, add-line, read-lines}
 use Rattle.model.specs.Rounds.{facts, definitions}
 use Rattle.model.proofs.ListLaws.{keep-append, count-append, sum-map-append}
@@ -22,7 +22,7 @@ use Rattle.demands.proofs.StateLaws.{spelled-exact, State-laws, laws-st
 
 -- the trigger entries of the records are those of the facts
 entries-facts : (decls : List Summary) → sum (map entries-of decls) ≡ sum (map (λ (f : Fact). sum (map (λ (d : List Name). max 1 (length d)) (f .triggers))) (facts decls))
-unfolding sum entries-of facts
+unfolding sum entries-of entries facts
 entries-facts [] = refl
 entries-facts (Sum-assume f ∷ decls) = rw (entries-facts decls)
 entries-facts (Sum-definefun d ∷ decls) = omega (arith, entries-facts decls)

@@ -157,9 +157,9 @@ module _ {names : List Name} {terms : List Term} (numbered : (t : Term) → List
     group-within = group-law (within-law names) terms (λ t i. numbered t i .free) exclude
 
     -- the token of a partial application is numbered
-    token-within : (t : ℕ) (n : Name) → token exclude terms t ≡ some n → T (mem n names)
+    token-within : (t : ℕ) (n : Name) → token terms t ≡ some n → T (mem n names)
     unfolding token at term-of spelled-by
-    token-within t n e = getD-case (λ x. Within (spelled-by (x .node)) names) terms t _ (λ x i. numbered x i .spells) (within-nil names) n (token-spelled n (at exclude terms t) e)
+    token-within t n e = getD-case (λ x. Within (spelled-by (x .node)) names) terms t _ (λ x i. numbered x i .spells) (within-nil names) n (token-spelled n (at terms t) e)
 
     -- what disjuncts are made of is numbered, or trimmed off a token
     parts-within : Parts (λ trimmed d. Within d (names ++ trimmed)) exclude terms

@@ -1,5 +1,5 @@
 -- What `gather_term` and `gather_list` rest on: a walk under a new mark.
-use Prim.Native.Nat.{ℕ, _-_, _≤_, _<_}
+use Prim.Native.Nat.{ℕ, _≤_, _<_}
 use native.Mathlib.Omega.{arith}
 use mathlib.Core.Path.{_≡_, sym}
 use mathlib.Core.Logic.{_↔_}
@@ -7,7 +7,7 @@ use mathlib.Core.List.{List, List·Memᴰ, Memᴰ·cast}
 use lib.ListN.{length}
 use Rattle.model.specs.Lists.{part}
 use Rattle.model.specs.Names.{Name}
-use Rattle.model.specs.Summaries.{exclude-names, free-top-level-names, group-names}
+use Rattle.model.specs.Summaries.{free-top-level-names, group-names}
 use Rattle.model.proofs.PartLaws.{part-elim, part-intro}
 use Rattle.gather.specs.declared.Walked.{Walked}
 use Rattle.terms.specs.Rows.{terms-of-words, terms-of, Rows}
@@ -47,14 +47,14 @@ module _ {names refs rows out : List ℕ} {used many named mark from room : ℕ}
   module _ {names′ rows′ out′ : List ℕ} {answer : Walked} (low : from ≤ room) (high : room ≤ length out) where
     -- a walk of a term gathers its names
     pub gathers-term : {t : ℕ} → t < many → Walks (Free names refs rows used many t) names refs rows out names′ rows′ out′ used many mark from room answer
-        → (name : ℕ → Name) → Named name names named → Gathers name named (free-top-level-names exclude-names (terms-of name refs rows used many) t) from room out′ answer
-    gathers-term {t} l w name d =
+        → (exclude : List Name) (name : ℕ → Name) → Named exclude name names named → Gathers name named (free-top-level-names exclude (terms-of name refs rows used many) t) from room out′ answer
+    gathers-term {t} l w exclude name d =
         steps-gathers names out names′ out′ mark from room named low high (fresh-name new) (λ k f. (occurs-named r l (f .occurs), f .counts .small)) (d .distinct) (term-set name r d t l) (w .steps)
 
     -- a walk of a list gathers its names
     pub gathers-list : {a e : ℕ} → References refs used many a e → Walks (Among names refs rows used many a e) names refs rows out names′ rows′ out′ used many mark from room answer
-        → (name : ℕ → Name) → Named name names named → Gathers name named (group-names exclude-names (terms-of name refs rows used many) (terms-of-words (part refs a e))) from room out′ answer
-    gathers-list g w name d =
+        → (exclude : List Name) (name : ℕ → Name) → Named exclude name names named → Gathers name named (group-names exclude (terms-of name refs rows used many) (terms-of-words (part refs a e))) from room out′ answer
+    gathers-list g w exclude name d =
         steps-gathers names out names′ out′ mark from room named low high (fresh-name new) (λ k f. (occurs-named r (g .in-table (f .place) (f .low) (f .high)) (f .free .occurs), f .free .counts .small)) (d .distinct) (list-set name r d g) (w .steps)
 
     -- what a walk leaves in the slices

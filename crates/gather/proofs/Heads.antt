@@ -1,40 +1,16 @@
 -- Adding the head of a term: what each way through `gather_head` comes to.
 use Prim.Native.Nat.{ℕ, _+_, _≤_, _<_}
-use native.Mathlib.Omega.{arith}
 use mathlib.Core.Path.{_≡_, sym, ap, _∙_}
 use mathlib.Core.Bool.{true, false, true≢false}
 use mathlib.Core.List.{List}
-use lib.ListN.{getD, set}
-use lib.Dec.{eqb, ltb}
-use borrow.Author.Tests.{ne-eqb, lt-ltb}
+use lib.ListN.{set}
 use Rattle.model.proofs.ListLaws.{T-true, true-T}
 use Rattle.gather.specs.declared.Walked.the-variants as walks
 use Rattle.terms.specs.Rows.{row-kind, row-head, has-head}
-use Rattle.gather.specs.Sets.{is-excluded, name-mark}
+use Rattle.names.specs.Table.{is-excluded}
+use Rattle.gather.specs.Sets.{name-mark}
 use Rattle.gather.specs.Walks.{Own, Heads, Steps}
 use Rattle.gather.proofs.Steps.{steps-stay, steps-over, steps-one}
-
--- a free has a head
-pub head-free : (kind : ℕ) → kind ≡ 0 → has-head kind ≡ true
-unfolding has-head
-head-free kind h = rw h
-
--- else a call alone has
-pub head-call : (kind : ℕ) → (kind ≡ 0 → ⊥) → has-head kind ≡ eqb kind 2
-unfolding has-head
-head-call kind h = rw (ne-eqb kind 0 h)
-
--- no code: not excluded
-pub excluded-none : (code : ℕ) → code ≡ 0 → is-excluded code ≡ false
-unfolding is-excluded
-excluded-none code h = rw h
-
--- a code below 10 is that of an excluded name
-pub excluded-low : (code : ℕ) → (code ≡ 0 → ⊥) → is-excluded code ≡ ltb code 10
-unfolding is-excluded
-excluded-low code h =
-    let p : 0 < code = omega arith in
-    rw (lt-ltb 0 code p)
 
 module _ {names rows out : List ℕ} {t count room : ℕ} (h : Heads names rows out t count room) (mark : ℕ) where
   -- the row has no head
@@ -43,10 +19,10 @@ module _ {names rows out : List ℕ} {t count room : ℕ} (h : Heads names rows 
 
   module _ (n : ℕ) (is : n ≡ row-head rows t) where
     -- the head does not count
-    pub head-excluded : is-excluded (getD names (6144 + n) 0) ≡ true → Steps (Own names rows t) names out names out mark count room (walks.Names count)
+    pub head-excluded : is-excluded names n ≡ true → Steps (Own names rows t) names out names out mark count room (walks.Names count)
     head-excluded e = steps-stay (h .low) (λ k p.
         let f : n ≡ k = is ∙ p .is in
-        absurd (true≢false (sym e ∙ ap (λ m. is-excluded (getD names (6144 + m) 0)) f ∙ p .counts .counted)))
+        absurd (true≢false (sym e ∙ ap (is-excluded names) f ∙ p .counts .counted)))
 
     -- the head is there already
     pub head-there : name-mark names n ≡ mark → Steps (Own names rows t) names out names out mark count room (walks.Names count)
@@ -54,7 +30,7 @@ module _ {names rows out : List ℕ} {t count room : ℕ} (h : Heads names rows 
         let f : n ≡ k = is ∙ p .is in
         rw (← f) e)
 
-    module _ (has : has-head (row-kind rows t) ≡ true) (counted : is-excluded (getD names (6144 + n) 0) ≡ false) (new : name-mark names n ≡ mark → ⊥) where
+    module _ (has : has-head (row-kind rows t) ≡ true) (counted : is-excluded names n ≡ false) (new : name-mark names n ≡ mark → ⊥) where
       -- the head is the number of a name
       head-small : n < 2048
       head-small = rw is (h .head-small (true-T has))

@@ -10,7 +10,7 @@ use lib.Dec.{T}
 use Rattle.model.specs.Lists.{fold-left, part}
 use Rattle.model.specs.Names.{Name, mem, add, add-by, from-list, union}
 use Rattle.model.specs.Terms.{term, references}
-use Rattle.model.specs.Summaries.{exclude-names, free-top-level-names, group-names}
+use Rattle.model.specs.Summaries.{free-top-level-names, group-names}
 use Rattle.model.specs.declared.Order.{Order}
 use Rattle.model.proofs.ListLaws.{T-false, false-T, map-intro, map-elim}
 use Rattle.model.proofs.SetLaws.{mem-intro, mem-elim, mem-cons, mem-later, mem-union, mem-from-list, mem-diff, Compared, first, equal as equal-names, second, compared, Ascending, empty, ascending-union, ascending-from-list, ascending-diff, ascending-ext, subset-length}
@@ -88,26 +88,26 @@ pub record Set-of (name : ℕ → Name) (P : ℕ → Type 0) (set : List Name) :
   pub into : (k : ℕ) → P k → T (mem (name k) set)
   pub from : (x : Name) → T (mem x set) → (k : ℕ) × (P k × (x ≡ name k))
 
-module _ {names refs rows : List ℕ} {used many named : ℕ} (name : ℕ → Name) (r : Rows refs rows used many named) (d : Named name names named) where
+module _ {names refs rows : List ℕ} {used many named : ℕ} {exclude : List Name} (name : ℕ → Name) (r : Rows refs rows used many named) (d : Named exclude name names named) where
   -- the names that a term counts
-  pub term-set : (t : ℕ) → t < many → Set-of name (Free names refs rows used many t) (free-top-level-names exclude-names (terms-of name refs rows used many) t)
+  pub term-set : (t : ℕ) → t < many → Set-of name (Free names refs rows used many t) (free-top-level-names exclude (terms-of name refs rows used many) t)
   unfolding free-top-level-names
   term-set t l = rw (table-all name refs rows used many) (record {
-    is-set = ascending-diff exclude-names (table-ascending name refs rows used many many t);
-    into = λ k f. mem-diff (name k) (term (table name refs rows used many many) t .names) exclude-names .1
+    is-set = ascending-diff exclude (table-ascending name refs rows used many many t);
+    into = λ k f. mem-diff (name k) (term (table name refs rows used many many) t .names) exclude .1
         (free-intro r name many l (omega arith) (f .occurs), false-T (sym (d .excluded k (occurs-named r l (f .occurs))) ∙ f .counts .counted));
     from = λ x m.
-        let (a, b) = mem-diff x (term (table name refs rows used many many) t .names) exclude-names .0 m in
+        let (a, b) = mem-diff x (term (table name refs rows used many many) t .names) exclude .0 m in
         let z = free-elim r name (suc t) many t (omega arith) l (omega arith) a in
         let s = occurs-named r l (z .occurs) in
         let few = r .few-names in
-        (z .number, (record { occurs = z .occurs; counts = record { small = omega arith; counted = d .excluded (z .number) s ∙ T-false (mem (name (z .number)) exclude-names) (rw (z .is) at b) } }, z .is));
+        (z .number, (record { occurs = z .occurs; counts = record { small = omega arith; counted = d .excluded (z .number) s ∙ T-false (mem (name (z .number)) exclude) (rw (z .is) at b) } }, z .is));
   })
 
 -- the names that a term counts are a set
-free-ascending : (name : ℕ → Name) (refs rows : List ℕ) (used many t : ℕ) → Ascending (free-top-level-names exclude-names (terms-of name refs rows used many) t)
+free-ascending : (exclude : List Name) (name : ℕ → Name) (refs rows : List ℕ) (used many t : ℕ) → Ascending (free-top-level-names exclude (terms-of name refs rows used many) t)
 unfolding free-top-level-names
-free-ascending name refs rows used many t = rw (table-all name refs rows used many) (ascending-diff exclude-names (table-ascending name refs rows used many many t))
+free-ascending exclude name refs rows used many t = rw (table-all name refs rows used many) (ascending-diff exclude (table-ascending name refs rows used many many t))
 
 module _ (f : ℕ → List Name) where
   -- a name of the union is one of the first set or of one of the others
@@ -134,9 +134,9 @@ module _ (f : ℕ → List Name) where
   unions-ascending acc [] a h = a
   unions-ascending acc (t ∷ ts) a h = unions-ascending (union acc (f t)) ts (ascending-union acc (h t)) h
 
-module _ {names refs rows : List ℕ} {used many named : ℕ} (name : ℕ → Name) (r : Rows refs rows used many named) (d : Named name names named) where
+module _ {names refs rows : List ℕ} {used many named : ℕ} {exclude : List Name} (name : ℕ → Name) (r : Rows refs rows used many named) (d : Named exclude name names named) where
   -- the names that the terms of a list of references count
-  pub list-set : {a e : ℕ} → References refs used many a e → Set-of name (Among names refs rows used many a e) (group-names exclude-names (terms-of name refs rows used many) (terms-of-words (part refs a e)))
+  pub list-set : {a e : ℕ} → References refs used many a e → Set-of name (Among names refs rows used many a e) (group-names exclude (terms-of name refs rows used many) (terms-of-words (part refs a e)))
   unfolding group-names terms-of-words
   list-set {a} {e} g =
       let room = r .ref-room in
@@ -151,10 +151,10 @@ module _ {names refs rows : List ℕ} {used many named : ℕ} (name : ℕ → Na
       }
     where
       free : ℕ → List Name
-      free = free-top-level-names exclude-names (terms-of name refs rows used many)
+      free = free-top-level-names exclude (terms-of name refs rows used many)
 
       ascending : (t : ℕ) → Ascending (free t)
-      ascending t = free-ascending name refs rows used many t
+      ascending t = free-ascending exclude name refs rows used many t
 
       none : (x : Name) → T (mem x []) → ⊥
       none x k = List·Memᴰ·not-nil (mem-elim k)

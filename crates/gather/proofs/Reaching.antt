@@ -11,7 +11,7 @@ use lib.Dec.{ltb}
 use Rattle.model.specs.Lists.{fold-left, part}
 use Rattle.model.proofs.ListLaws.{cond-case, fold-left-case}
 use Rattle.terms.specs.Rows.{row-kind, row-head, row-start, row-end, has-head, terms-of-words, Rows}
-use Rattle.gather.specs.Sets.{is-excluded}
+use Rattle.names.specs.Table.{is-excluded}
 use Rattle.gather.specs.Visits.{Visit, start-visit, has, find, finish, visit-head, visit, visit-term, visit-list}
 use Rattle.gather.specs.Walks.{Reached, itself, below}
 use Rattle.gather.proofs.Visiting.{has-in, term-place, place-term, row-fits, lower-in}
@@ -20,7 +20,7 @@ use Rattle.gather.proofs.Visiting.{has-in, term-place, place-term, row-
 head-walked : (names refs rows : List ℕ) (used many room : ℕ) (v : Visit) (t : ℕ) → visit-head names refs rows used many room v t .walked ≡ v .walked
 unfolding visit-head find
 head-walked names refs rows used many room v t =
-    cond-case (λ (w : Visit). w .walked ≡ v .walked) ((has-head (row-kind rows t) && not (is-excluded (getD names (6144 + row-head rows t) 0))) && not (has (v .found) (row-head rows t)))
+    cond-case (λ (w : Visit). w .walked ≡ v .walked) ((has-head (row-kind rows t) && not (is-excluded names (row-head rows t))) && not (has (v .found) (row-head rows t)))
     (cond-case (λ (w : Visit). w .walked ≡ v .walked) (ltb (length (v .found)) room) refl refl) refl
 
 module _ (names : List ℕ) {refs rows : List ℕ} {used many named : ℕ} (room : ℕ) (r : Rows refs rows used many named) where

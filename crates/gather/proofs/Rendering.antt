@@ -14,11 +14,13 @@ use Rattle.gather.specs.declared.Walked.{Walked}
 use Rattle.gather.specs.declared.Walked.the-variants as walks
 use Rattle.terms.specs.Rows.{row-kind, row-head, row-start, row-end, has-head, terms-of-words, Rows}
 use Rattle.terms.proofs.Groups.{terms-split, terms-more}
-use Rattle.gather.specs.Sets.{is-excluded, row-mark, name-mark, Fresh, Same-but}
+use Rattle.words.specs.Slices.{Same-but}
+use Rattle.names.specs.Table.{is-excluded}
+use Rattle.gather.specs.Sets.{row-mark, name-mark, Fresh}
 use Rattle.gather.specs.Visits.{Visit, start-visit, has, find, finish, visit-head, visit, walk-answer, marked-at, put, Walks-as}
 use Rattle.gather.specs.Walks.{Heads, Ready, References, Part, head-part, term-part, list-part, Renders, Follows}
-use Rattle.gather.proofs.Steps.{same-back}
-use Rattle.gather.proofs.Walking.{kind-same, head-same, start-same, end-same, rows-marked}
+use Rattle.words.proofs.Slices.{same-back}
+use Rattle.gather.proofs.Walking.{excluded-same, kind-same, head-same, start-same, end-same, rows-marked}
 use Rattle.gather.proofs.Visiting.{marked-more, marked-same, marked-has, unmarked-has, put-more, fold-full, visit-parts}
 
 -- ---- what the slices tell of a walk
@@ -69,7 +71,7 @@ module _ {v : Visit} {names rows out names′ rows′ out′ : List ℕ} {mark f
 -- ---- the head of a term
 
 -- the walk of a head by its tests
-head-by : (names rows : List ℕ) (room : ℕ) (v : Visit) (t n : ℕ) {a b c : Bool} → n ≡ row-head rows t → has-head (row-kind rows t) ≡ a → is-excluded (getD names (6144 + n) 0) ≡ b → has (v .found) n ≡ c
+head-by : (names rows : List ℕ) (room : ℕ) (v : Visit) (t n : ℕ) {a b c : Bool} → n ≡ row-head rows t → has-head (row-kind rows t) ≡ a → is-excluded names n ≡ b → has (v .found) n ≡ c
     → head-part t names rows room v ≡ cond ((a && not b) && not c) (find room v n) v
 unfolding head-part visit-head
 head-by names rows room v t n i p q s = rw (← i, p, q, s)
@@ -100,17 +102,17 @@ module _ {names rows out : List ℕ} {t count room : ℕ} (h : Heads names rows 
 
     -- the walk of the head by what the slices tell of it
     head-told : {names₀ rows₀ out₀ : List ℕ} {from : ℕ} {v : Visit} {b c : Bool} → Renders v names₀ rows₀ out₀ names rows out mark from (walks.Names count)
-        → is-excluded (getD names (6144 + n) 0) ≡ b → has (v .found) n ≡ c → head-part t names₀ rows₀ (room - from) v ≡ cond (not b && not c) (find (room - from) v n) v
+        → is-excluded names n ≡ b → has (v .found) n ≡ c → head-part t names₀ rows₀ (room - from) v ≡ cond (not b && not c) (find (room - from) v n) v
     head-told {names₀} {rows₀} {from} {v} w p q =
         let s = small in
         head-by names₀ rows₀ (room - from) v t n (is ∙ head-same (rows-as w) t (h .is-row)) (ap has-head (sym (kind-same (rows-as w) t (h .is-row))) ∙ headed)
-        (ap is-excluded (sym (names-as w .same-words (6144 + n) (λ a b. omega arith))) ∙ p) q
+        (sym (excluded-same (names-as w) n s) ∙ p) q
 
     -- the head does not count
-    pub follow-excluded : is-excluded (getD names (6144 + n) 0) ≡ true → Follows (head-part t) names rows out names rows out mark count room (walks.Names count)
+    pub follow-excluded : is-excluded names n ≡ true → Follows (head-part t) names rows out names rows out mark count room (walks.Names count)
     follow-excluded e = record { follows = λ w. rw (head-told w e refl) w }
 
-    module _ (counted : is-excluded (getD names (6144 + n) 0) ≡ false) where
+    module _ (counted : is-excluded names n ≡ false) where
       -- the head is there already
       pub follow-found : name-mark names n ≡ mark → Follows (head-part t) names rows out names rows out mark count room (walks.Names count)
       follow-found e = record { follows = λ w. rw (head-told w counted (found-true w n small e)) w }

@@ -1,5 +1,5 @@
 -- The walk as it is defined: marks of a column, a term's walk by its parts, and lists of terms.
-use Prim.Native.Nat.{ℕ, zero, suc, _+_, _-_, _%_, _≤_, _<_}
+use Prim.Native.Nat.{ℕ, zero, suc, _+_, _%_, _≤_, _<_}
 use native.Mathlib.Nat.{not-suc-le-zero}
 use native.Mathlib.Omega.{arith}
 use mathlib.Core.Path.{_≡_, refl, sym, ap, _∙_}
@@ -15,9 +15,9 @@ use Rattle.model.proofs.ListLaws.{T-true, true-T, any-intro, any-elim, map-intr
 use Rattle.model.proofs.PartLaws.{part-elim, part-intro}
 use Rattle.terms.specs.Rows.{row-start, row-end, terms-of-words, Rows}
 use Rattle.terms.proofs.Laws.{equal}
-use Rattle.gather.specs.Sets.{Same-but}
+use Rattle.words.specs.Slices.{Same-but}
 use Rattle.gather.specs.Visits.{Visit, has, finish, visit-head, visit, marked-at, put}
-use Rattle.gather.proofs.Steps.{same-self, same-then, same-set}
+use Rattle.words.proofs.Slices.{same-self, same-then, same-set}
 
 -- ---- numbers of a list
 

@@ -12,10 +12,14 @@ use borrow.Author.Tests.{ltb-true}
 use Rattle.gather.specs.declared.Walked.{Walked}
 use Rattle.gather.specs.declared.Walked.the-variants as walks
 use Rattle.terms.specs.Rows.{row-kind, row-head, row-start, row-extra, row-end, has-body, bare-of, Rows}
-use Rattle.gather.specs.Sets.{Same-but, row-mark, name-mark, ended}
+use Rattle.words.specs.Slices.{Same-but}
+use Rattle.names.specs.Table.{is-excluded}
+use Rattle.names.proofs.Excluded.{excluded-kept}
+use Rattle.gather.specs.Sets.{row-mark, name-mark, ended}
 use Rattle.gather.specs.Walks.{Occurs, own, under, Counted, Own, Free, Among, Heads, Closed, Ready, References, Comes, whole, Steps, Walks}
 use Rattle.terms.proofs.Laws.{equal}
-use Rattle.gather.proofs.Steps.{same-self, same-back, same-then, same-set, steps-stay, steps-kept, steps-as, steps-full, steps-then}
+use Rattle.words.proofs.Slices.{same-self, same-back, same-then, same-set}
+use Rattle.gather.proofs.Steps.{steps-stay, steps-kept, steps-as, steps-full, steps-then}
 
 -- ---- a change of marks
 
@@ -98,11 +102,13 @@ module _ {refs rows rows′ : List ℕ} {used many named : ℕ} where
       let d = r .lower t i l a b in
       under {t = t} i (rw (start-same s t (omega arith)) a) (rw (end-same s used many t few l) b) (occurs-same s r (omega arith) o)
 
+-- whether a name is excluded stays with other marks
+pub excluded-same : {names names′ : List ℕ} → Same-but 8192 2048 names names′ → (n : ℕ) → n < 2048 → is-excluded names′ n ≡ is-excluded names n
+excluded-same {names} {names′} s = excluded-kept names names′ (λ i h. s .same-words i (λ a b. omega arith))
+
 -- a name that counts does so with other marks too
 pub counted-same : {names names′ : List ℕ} {k : ℕ} → Same-but 8192 2048 names names′ → Counted names k → Counted names′ k
-counted-same {k} s c =
-    let l = c .small in
-    record { small = c .small; counted = rw (s .same-words (6144 + k) (λ a b. omega arith)) (c .counted) }
+counted-same {k} s c = record { small = c .small; counted = excluded-same s k (c .small) ∙ c .counted }
 
 module _ {names names′ refs rows rows′ : List ℕ} {used many named : ℕ} (n : Same-but 8192 2048 names names′) (s : Same-but 12288 4096 rows rows′) (r : Rows refs rows used many named) where
   -- a free name is free with other marks too

@@ -1,43 +1,42 @@
 -- Sets of names gathered from the terms of a table: marks, and what the slices hold then.
 use Prim.Native.Nat.{ℕ, _+_, _-_, _≤_, _<_}
 use mathlib.Core.Path.{_≡_}
-use mathlib.Core.Bool.{Bool, _&&_}
 use mathlib.Core.Logic.{_↔_, _⊎_}
 use mathlib.Core.List.{List, map, List·Memᴰ}
 use lib.ListN.{length, getD}
-use lib.Dec.{T, ltb}
+use lib.Dec.{T}
 use Rattle.model.specs.Lists.{part}
 use Rattle.model.specs.Names.{Name, from-list, mem}
-use Rattle.model.specs.Summaries.{exclude-names}
+use Rattle.model.specs.Reading.{most-names, most-terms}
+use Rattle.words.specs.Slices.{Same-but}
+use Rattle.names.specs.Table.{is-excluded}
 use Rattle.gather.specs.declared.Walked.{Walked}
 use Rattle.gather.specs.declared.Walked.the-variants as walks
 
--- the mark of a row; marks are column 3 of the rows and column 4 of the names
+-- the columns of marks, by their first word: by name, and by row
+abbrev pub name-mark-column : ℕ
+name-mark-column = 8192
+
+abbrev pub row-mark-column : ℕ
+row-mark-column = 12288
+
+-- the mark of a row
 abbrev pub row-mark : List ℕ → ℕ → ℕ
-row-mark rows t = getD rows (12288 + t) 0
+row-mark rows t = getD rows (row-mark-column + t) 0
 
 -- the mark of a name
 abbrev pub name-mark : List ℕ → ℕ → ℕ
-name-mark names n = getD names (8192 + n) 0
+name-mark names n = getD names (name-mark-column + n) 0
 
 -- every mark of the two tables is below this one
 pub record Fresh (names rows : List ℕ) (mark : ℕ) : Type 0 where
-  pub row-marks : (t : ℕ) → t < 4096 → row-mark rows t < mark
-  pub name-marks : (n : ℕ) → n < 2048 → name-mark names n < mark
+  pub row-marks : (t : ℕ) → t < most-terms → row-mark rows t < mark
+  pub name-marks : (n : ℕ) → n < most-names → name-mark names n < mark
 
--- two slices that differ at most in a column of so many words from a place on
-pub record Same-but (column size : ℕ) (before after : List ℕ) : Type 0 where
-  pub same-length : length after ≡ length before
-  pub same-words : (i : ℕ) → (column ≤ i → i < column + size → ⊥) → getD after i 0 ≡ getD before i 0
-
--- whether a head code is that of one of `exclude_names`
-unfoldable pub is-excluded : ℕ → Bool
-is-excluded code = ltb 0 code && ltb code 10
-
--- names for the numbers of a name table: no two alike, and the head codes (column 3) tell those of `exclude_names`
-pub record Named (name : ℕ → Name) (names : List ℕ) (named : ℕ) : Type 0 where
+-- names for the numbers of a name table: no two alike, and those that the table says are excluded are those of a list
+pub record Named (exclude : List Name) (name : ℕ → Name) (names : List ℕ) (named : ℕ) : Type 0 where
   pub distinct : (m n : ℕ) → m < named → n < named → name m ≡ name n → m ≡ n
-  pub excluded : (n : ℕ) → n < named → is-excluded (getD names (6144 + n) 0) ≡ mem (name n) exclude-names
+  pub excluded : (n : ℕ) → n < named → is-excluded names n ≡ mem (name n) exclude
 
 -- where the names end after gathering: at the room's end where there is no room for all
 unfoldable pub ended : ℕ → Walked → ℕ
@@ -58,12 +57,12 @@ pub data Gathers (name : ℕ → Name) (named : ℕ) (set : List Name) (at room 
 -- the slices after gathering: in the tables only marks change, each to the set's or not at all; in `out` only the places of
 -- the numbers, within the room; the names with the set's mark are those in `out`
 pub record Gathered (names rows out names′ rows′ out′ : List ℕ) (mark at room : ℕ) (r : Walked) : Type 0 where
-  pub names-same : Same-but 8192 2048 names names′
-  pub rows-same : Same-but 12288 4096 rows rows′
+  pub names-same : Same-but name-mark-column most-names names names′
+  pub rows-same : Same-but row-mark-column most-terms rows rows′
   pub out-same : Same-but at (ended room r - at) out out′
   pub grows : at ≤ ended room r
   pub fits : ended room r ≤ room
-  pub small : (i : ℕ) → at ≤ i → i < ended room r → getD out′ i 0 < 2048
-  pub name-marks : (k : ℕ) → k < 2048 → (name-mark names′ k ≡ mark) ⊎ (name-mark names′ k ≡ name-mark names k)
-  pub row-marks : (t : ℕ) → t < 4096 → (row-mark rows′ t ≡ mark) ⊎ (row-mark rows′ t ≡ row-mark rows t)
-  pub marks : (k : ℕ) → k < 2048 → (name-mark names′ k ≡ mark) ↔ List·Memᴰ k (part out′ at (ended room r))
+  pub small : (i : ℕ) → at ≤ i → i < ended room r → getD out′ i 0 < most-names
+  pub name-marks : (k : ℕ) → k < most-names → (name-mark names′ k ≡ mark) ⊎ (name-mark names′ k ≡ name-mark names k)
+  pub row-marks : (t : ℕ) → t < most-terms → (row-mark rows′ t ≡ mark) ⊎ (row-mark rows′ t ≡ row-mark rows t)
+  pub marks : (k : ℕ) → k < most-names → (name-mark names′ k ≡ mark) ↔ List·Memᴰ k (part out′ at (ended room r))

@@ -3,11 +3,12 @@ use Prim.Native.Nat.{ℕ, zero, suc, _+_}
 use mathlib.Core.Path.{_≡_}
 use mathlib.Core.Bool.{Bool, true, false, cond, not, _&&_, _||_}
 use mathlib.Core.List.{List, [], _∷_, _++_}
-use lib.ListN.{length, getD, set}
+use lib.ListN.{length, set}
 use lib.Dec.{eqb, ltb}
 use Rattle.model.specs.Lists.{any, fold-left, part}
 use Rattle.terms.specs.Rows.{row-kind, row-head, row-start, row-end, has-head, terms-of-words}
-use Rattle.gather.specs.Sets.{is-excluded}
+use Rattle.names.specs.Table.{is-excluded}
+use Rattle.gather.specs.Sets.{name-mark-column, row-mark-column}
 use Rattle.gather.specs.declared.Walked.{Walked}
 use Rattle.gather.specs.declared.Walked.the-variants as walks
 
@@ -42,7 +43,7 @@ module _ (names refs rows : List ℕ) (used many room : ℕ) where
   unfoldable pub visit-head : Visit → ℕ → Visit
   visit-head v t =
       let n = row-head rows t in
-      let counts = has-head (row-kind rows t) && not (is-excluded (getD names (6144 + n) 0)) in
+      let counts = has-head (row-kind rows t) && not (is-excluded names n) in
       cond (counts && not (has (v .found) n)) (find room v n) v
 
   -- a term below `depth`: its head, then the terms that it names; a term walked before is not walked again
@@ -76,6 +77,6 @@ put at (n ∷ ns) slice = put (at + 1) ns (set slice at n)
 -- the answer and every word of the slices after a walk
 pub record Walks-as (v : Visit) (names rows out names′ rows′ out′ : List ℕ) (mark at : ℕ) (r : Walked) : Type 0 where
   pub answer : r ≡ walk-answer at v
-  pub name-words : names′ ≡ marked-at 8192 mark (v .found) names
-  pub row-words : rows′ ≡ marked-at 12288 mark (v .walked) rows
+  pub name-words : names′ ≡ marked-at name-mark-column mark (v .found) names
+  pub row-words : rows′ ≡ marked-at row-mark-column mark (v .walked) rows
   pub out-words : out′ ≡ put at (v .found) out

@@ -1,38 +1,24 @@
-ghost use Prim.Native.Nat.{ℕ, _-_, _%_, _≤_, _<_};
-ghost use mathlib.Core.Path.{_≡_};
+ghost use Prim.Native.Nat.{ℕ, _-_, _≤_, _<_};
+ghost use mathlib.Core.List.{List};
 ghost use lib.ListN.{length, getD};
 ghost use Rattle.model.specs.Lists.{part};
 ghost use Rattle.model.specs.Names.{Name};
-ghost use Rattle.model.specs.Summaries.{exclude-names, free-top-level-names, group-names};
-ghost use Rattle.terms.specs.Rows.{has-head, terms-of-words, terms-of, Rows};
-ghost use Rattle.gather.specs.Sets.{is-excluded, Fresh, Named, Gathers, Gathered};
+ghost use Rattle.model.specs.Outcome.{working-words};
+ghost use Rattle.model.specs.Summaries.{free-top-level-names, group-names};
+ghost use Rattle.terms.specs.Rows.{term-of, terms-of-words, terms-of, Rows};
+ghost use Rattle.gather.specs.Sets.{Fresh, Named, Gathers, Gathered};
 ghost use Rattle.gather.specs.Visits.{visit-term, visit-list, Walks-as};
 ghost use Rattle.gather.specs.Walks.{Own, Free, Among, Heads, Ready, References, Steps, Walks, head-part, term-part, list-part, Follows};
+
+// The columns of marks, by their first word: by name, and by row.
+pub const NAME_MARK: usize = 8192;
+
+pub const ROW_MARK: usize = 12288;
 
 // What gathering names comes to: where the names end in the slice, or that there is no room for them.
 pub enum Walked {
     Names(usize),
     Full,
-}
-
-// Whether rows of this kind have a head name.
-fn has_head(kind: usize) -> bool
-    ensures { λ r. ⌜ r ≡ has-head kind ⌝ }
-{
-    if kind == 0 {
-        return true;
-    }
-    kind == 2
-}
-
-// Whether the head code is that of one of `exclude_names`.
-fn excluded(code: usize) -> bool
-    ensures { λ r. ⌜ r ≡ is-excluded code ⌝ }
-{
-    if code == 0 {
-        return false;
-    }
-    code < 10
 }
 
 // Adds the head name of a term, unless it has none, the name is excluded, or it is there already.
@@ -49,21 +35,21 @@ fn gather_head(
     ensures set { λ r. ⌜ Steps (Own (now (names .entry)) (now (rows .entry)) t) (now (names .entry)) (now (out .entry)) (now (names .exit)) (now (out .exit)) mark count room r ⌝ }
     ensures walk { λ r. ⌜ Follows (head-part t) (now (names .entry)) (now (rows .entry)) (now (out .entry)) (now (names .exit)) (now (rows .entry)) (now (out .exit)) mark count room r ⌝ }
 {
-    if !has_head(terms::kind(rows, t)) {
+    if !terms::has_head(rows, t) {
         return Walked::Names(count);
     }
     let n = terms::head(rows, t);
-    if excluded(words::at(names, 6144 + n)) {
+    if names::is_excluded(names, n) {
         return Walked::Names(count);
     }
-    if words::at(names, 8192 + n) == mark as usize {
+    if words::at(names, NAME_MARK + n) == mark as usize {
         return Walked::Names(count);
     }
     if room <= count {
         return Walked::Full;
     }
     out[count] = n as u32;
-    names[8192 + n] = mark;
+    names[NAME_MARK + n] = mark;
     Walked::Names(count + 1)
 }
 
@@ -85,7 +71,7 @@ fn walk_term(
     ensures set { λ r. ⌜ Walks (Free (now (names .entry)) (now (refs .entry)) (now (rows .entry)) used many t) (now (names .entry)) (now (refs .entry)) (now (rows .entry)) (now (out .entry)) (now (names .exit)) (now (rows .exit)) (now (out .exit)) used many mark count room r ⌝ }
     ensures walk { λ r. ⌜ Follows (term-part (now (refs .entry)) used many t) (now (names .entry)) (now (rows .entry)) (now (out .entry)) (now (names .exit)) (now (rows .exit)) (now (out .exit)) mark count room r ⌝ }
 {
-    if words::at(rows, 12288 + t) == mark as usize {
+    if words::at(rows, ROW_MARK + t) == mark as usize {
         return Walked::Names(count);
     }
     let Walked::Names(own) = gather_head(names, rows, out, t, mark, count, room) else {
@@ -97,7 +83,7 @@ fn walk_term(
     else {
         return Walked::Full;
     };
-    rows[12288 + t] = mark;
+    rows[ROW_MARK + t] = mark;
     Walked::Names(n)
 }
 
@@ -147,8 +133,8 @@ pub fn gather_term(
     from: usize,
     room: usize,
 ) -> Walked
-    requires { ⌜ Rows (now refs) (now rows) used many named × (16384 ≤ length (now names)) × (t < many) × Fresh (now names) (now rows) mark × (from ≤ room) × (room ≤ length (now out)) ⌝ }
-    ensures set { λ r. ⌜ ((name : ℕ → Name) → Named name (now (names .entry)) named → Gathers name named (free-top-level-names exclude-names (terms-of name (now (refs .entry)) (now (rows .entry)) used many) t) from room (now (out .exit)) r) ⌝ }
+    requires { ⌜ Rows (now refs) (now rows) used many named × (working-words ≤ length (now names)) × (t < many) × Fresh (now names) (now rows) mark × (from ≤ room) × (room ≤ length (now out)) ⌝ }
+    ensures set { λ r. ⌜ ((exclude : List Name) (name : ℕ → Name) → Named exclude name (now (names .entry)) named → Gathers name named (free-top-level-names exclude (terms-of name (now (refs .entry)) (now (rows .entry)) used many) t) from room (now (out .exit)) r) ⌝ }
     ensures slices { λ r. ⌜ Gathered (now (names .entry)) (now (rows .entry)) (now (out .entry)) (now (names .exit)) (now (rows .exit)) (now (out .exit)) mark from room r ⌝ }
     ensures walk { λ r. ⌜ Walks-as (visit-term (now (names .entry)) (now (refs .entry)) (now (rows .entry)) used many (room - from) t) (now (names .entry)) (now (rows .entry)) (now (out .entry)) (now (names .exit)) (now (rows .exit)) (now (out .exit)) mark from r ⌝ }
 {
@@ -170,8 +156,8 @@ pub fn gather_list(
     from: usize,
     room: usize,
 ) -> Walked
-    requires { ⌜ Rows (now refs) (now rows) used many named × (16384 ≤ length (now names)) × (a ≤ e) × (e ≤ used) × ((i : ℕ) → a ≤ i → i < e → getD (now refs) i 0 % 4096 < many) × Fresh (now names) (now rows) mark × (from ≤ room) × (room ≤ length (now out)) ⌝ }
-    ensures set { λ r. ⌜ ((name : ℕ → Name) → Named name (now (names .entry)) named → Gathers name named (group-names exclude-names (terms-of name (now (refs .entry)) (now (rows .entry)) used many) (terms-of-words (part (now (refs .entry)) a e))) from room (now (out .exit)) r) ⌝ }
+    requires { ⌜ Rows (now refs) (now rows) used many named × (working-words ≤ length (now names)) × (a ≤ e) × (e ≤ used) × ((i : ℕ) → a ≤ i → i < e → term-of (getD (now refs) i 0) < many) × Fresh (now names) (now rows) mark × (from ≤ room) × (room ≤ length (now out)) ⌝ }
+    ensures set { λ r. ⌜ ((exclude : List Name) (name : ℕ → Name) → Named exclude name (now (names .entry)) named → Gathers name named (group-names exclude (terms-of name (now (refs .entry)) (now (rows .entry)) used many) (terms-of-words (part (now (refs .entry)) a e))) from room (now (out .exit)) r) ⌝ }
     ensures slices { λ r. ⌜ Gathered (now (names .entry)) (now (rows .entry)) (now (out .entry)) (now (names .exit)) (now (rows .exit)) (now (out .exit)) mark from room r ⌝ }
     ensures walk { λ r. ⌜ Walks-as (visit-list (now (names .entry)) (now (refs .entry)) (now (rows .entry)) used many (room - from) (terms-of-words (part (now (refs .entry)) a e))) (now (names .entry)) (now (rows .entry)) (now (out .entry)) (now (names .exit)) (now (rows .exit)) (now (out .exit)) mark from r ⌝ }
 {

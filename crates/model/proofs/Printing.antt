@@ -135,7 +135,7 @@ unfolding digits show between comma set show-kind show-fact name-at show-outcome
     Terms.references Summaries.common-names Summaries.exclude-names Summaries.Sum-drop Summaries.Sum-ambient Summaries.Sum-triggers
     Summaries.free-of Summaries.call-of Summaries.op-of Summaries.groups-of Summaries.op-number Summaries.one
     Summaries.two Summaries.op-args Summaries.call-args Summaries.call-one Summaries.call-two Summaries.head
-    Summaries.is-empty Summaries.token-triggers Summaries.free-top-level-names Summaries.group-names
+    Summaries.is-empty Summaries.entries Summaries.token-triggers Summaries.free-top-level-names Summaries.group-names
     Summaries.triggers-of-term Summaries.at Summaries.is-ambient-refinement Summaries.ambient-refinement-payload
     Summaries.rule-1 Summaries.rule-2 Summaries.rule-3 Summaries.token Summaries.rule-4 Summaries.rule-5
     Summaries.rule-6 Summaries.rule-7 Summaries.rule-8 Summaries.has-eq Summaries.rule-9 Summaries.rule-10

@@ -1,5 +1,5 @@
 -- Reading a file, line after line: document 01, "The file" and "Who can cause a refusal", the refusals 1 to 6.
-use Prim.Native.Nat.{ℕ, zero, suc, _+_, _/_, _%_, max}
+use Prim.Native.Nat.{ℕ, zero, suc, _+_, _/_, _%_}
 use Prim.Native.String.{String}
 use mathlib.Core.Bool.{Bool, cond, not, Bool·beq}
 use mathlib.Core.List.{List, [], _∷_, _++_, map}
@@ -10,7 +10,7 @@ use Rattle.model.specs.Lists.{any, sum, collect, fold-left, holds}
 use Rattle.model.specs.Names.{Name, bytes, same, mem}
 use Rattle.model.specs.Lines.{Line, lines, Field, fields, is-name, number}
 use Rattle.model.specs.Terms.{Node, FreeV, Leaf, Call, App, Forall, Exists, Let, Labeled, Term, add-term, references}
-use Rattle.model.specs.Summaries.{Fact, free-top-level-names, summarize-kind, summarize-assumption}
+use Rattle.model.specs.Summaries.{Fact, entries, free-top-level-names, summarize-kind, summarize-assumption}
 use Rattle.model.specs.declared.LineKind.{LineKind}
 use Rattle.model.specs.declared.LineKind.the-variants as kind
 use Rattle.model.specs.declared.Op.{Op}
@@ -318,7 +318,7 @@ taken-by Sum-retain = []
 
 -- the trigger entries of a record towards their limit: an empty disjunct counts as one
 unfoldable pub entries-of : Summary → ℕ
-entries-of (Sum-assume f) = sum (map (λ names. max 1 (length names)) (f .triggers))
+entries-of (Sum-assume f) = entries (f .triggers)
 entries-of (Sum-definefun d) = 0
 entries-of (Sum-declfun d) = 0
 entries-of Sum-retain = 0

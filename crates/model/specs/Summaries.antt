@@ -1,12 +1,12 @@
 -- Summaries of facts: document 01's modules 2 to 5, with the names of Pruning.fst.
-use Prim.Native.Nat.{ℕ, _-_}
+use Prim.Native.Nat.{ℕ, _-_, max}
 use Prim.Native.String.{String}
 use mathlib.Core.Bool.{Bool, true, false, cond, _||_}
 use mathlib.Core.List.{List, [], _∷_, map}
 use mathlib.Core.Option.{Option, none, some, Option·getD}
 use lib.ListN.{length, take}
 use lib.Dec.{eqb}
-use Rattle.model.specs.Lists.{collect, fold-left, holds, is-nil, or-else, when, _>>=_}
+use Rattle.model.specs.Lists.{collect, fold-left, holds, is-nil, or-else, sum, when, _>>=_}
 use Rattle.model.specs.Names.{Name, bytes, same, union, diff, from-list, starts-with, ends-with}
 use Rattle.model.specs.Terms.{Node, FreeV, Leaf, Call, App, Forall, Exists, Let, Labeled, Term, term}
 use Rattle.model.specs.declared.Op.{Op}
@@ -49,6 +49,10 @@ Sum-ambient is-root = record { kind = Ambient is-root; triggers = []; trimmed = 
 -- `Sum_triggers`
 unfoldable pub Sum-triggers : List (List Name) → Kinded
 Sum-triggers ts = record { kind = Triggers (length ts); triggers = ts; trimmed = [] }
+
+-- how many trigger entries disjuncts take: one for each name, one for an empty disjunct
+unfoldable pub entries : List (List Name) → ℕ
+entries sets = sum (map (λ names. max 1 (length names)) sets)
 
 -- `assumption_summary` of a fact, with the line of its record
 pub record Fact : Type 0 where
@@ -158,19 +162,7 @@ token-triggers token =
     (record { kind = Triggers 2; triggers = (token ∷ []) ∷ (short ∷ []) ∷ []; trimmed = short ∷ [] })
     (Sum-triggers ((token ∷ []) ∷ []))
 
-module _ (exclude : List Name) (terms : List Term) where
-  -- `free_top_level_names` of Pruning.fst, of a term's number
-  unfoldable pub free-top-level-names : ℕ → List Name
-  free-top-level-names t = diff (term terms t .names) exclude
-
-  -- the names of one pattern group
-  unfoldable pub group-names : List ℕ → List Name
-  group-names ts = fold-left (λ out t. union out (free-top-level-names t)) [] ts
-
-  -- `triggers_of_term`: for an `all`, through labels, one name set a group
-  unfoldable pub triggers-of-term : ℕ → List (List Name)
-  triggers-of-term t = map group-names (Option·getD (groups-of (term terms t .bare)) [])
-
+module _ (terms : List Term) where
   -- the line of a term
   unfoldable pub at : ℕ → Node
   at t = term terms t .node
@@ -185,10 +177,39 @@ module _ (exclude : List Name) (terms : List Term) where
   unfoldable pub ambient-refinement-payload : ℕ → ℕ
   ambient-refinement-payload ty = Option·getD (call-two "Prims.squash" (at ty) >>= λ (a, t). some t) ty
 
+  -- the token of a partial application: a `free`, or a call of none
+  unfoldable pub token : ℕ → Option Name
+  token t =
+      or-else (free-of (at t)) (call-of (at t) >>= λ (name, ts). when (is-nil ts) name)
+
+  -- the second argument of the hasEq of two in a Valid of one
+  unfoldable pub has-eq : ℕ → Option ℕ
+  has-eq t = do
+    valid ← call-one "Valid" (at t)
+    (universe, ty) ← call-two "Prims.hasEq" (at valid)
+    some ty
+
+  -- the pattern groups of the `all` under a term's labels
+  abbrev pub pattern-groups : ℕ → List (List ℕ)
+  pattern-groups t = Option·getD (groups-of (term terms t .bare)) []
+
+module _ (exclude : List Name) (terms : List Term) where
+  -- `free_top_level_names` of Pruning.fst, of a term's number
+  unfoldable pub free-top-level-names : ℕ → List Name
+  free-top-level-names t = diff (term terms t .names) exclude
+
+  -- the names of one pattern group
+  unfoldable pub group-names : List ℕ → List Name
+  group-names ts = fold-left (λ out t. union out (free-top-level-names t)) [] ts
+
+  -- `triggers_of_term`: for an `all`, through labels, one name set a group
+  unfoldable pub triggers-of-term : ℕ → List (List Name)
+  triggers-of-term t = map group-names (pattern-groups terms t)
+
   -- (1) `iff` of two, fact name starting l_quant_interp: {left}
   unfoldable pub rule-1 : Name → ℕ → Option Kinded
   rule-1 name t = do
-    (left, right) ← op-args Iff (at t) >>= two
+    (left, right) ← op-args Iff (at terms t) >>= two
     when (starts-with name (bytes "l_quant_interp")) (Sum-triggers (free-top-level-names left ∷ []))
 
   -- (2) name starting assumption_: {whole term}, the term's triggers being empty here
@@ -201,74 +222,62 @@ module _ (exclude : List Name) (terms : List Term) where
   -- (3) HasType of two, type a squash or a refinement: triggers of the payload; if none, or one empty set, ambient root
   unfoldable pub rule-3 : Name → ℕ → Option Kinded
   rule-3 name t = do
-    (subject, ty) ← call-two "HasType" (at t)
-    let triggers = triggers-of-term (ambient-refinement-payload ty)
-    when (is-ambient-refinement ty) (cond (is-empty triggers) (Sum-ambient true) (Sum-triggers triggers))
-
-  -- the token of a partial application: a `free`, or a call of none
-  unfoldable pub token : ℕ → Option Name
-  token t =
-      or-else (free-of (at t)) (call-of (at t) >>= λ (name, ts). when (is-nil ts) name)
+    (subject, ty) ← call-two "HasType" (at terms t)
+    let triggers = triggers-of-term (ambient-refinement-payload terms ty)
+    when (is-ambient-refinement terms ty) (cond (is-empty triggers) (Sum-ambient true) (Sum-triggers triggers))
 
   -- (4) Valid of ApplyTT of __uu__PartialApp, a `free` or a call, and a token: {token}, and {token less @tok}; no token, no disjunct
   unfoldable pub rule-4 : Name → ℕ → Option Kinded
   rule-4 name t = do
-    applied ← call-one "Valid" (at t)
-    (function, argument) ← call-two "ApplyTT" (at applied)
-    when (holds (same (bytes "__uu__PartialApp")) (head (at function)))
-        (Option·getD (token argument >>= λ n. some (token-triggers n)) (Sum-triggers []))
+    applied ← call-one "Valid" (at terms t)
+    (function, argument) ← call-two "ApplyTT" (at terms applied)
+    when (holds (same (bytes "__uu__PartialApp")) (head (at terms function)))
+        (Option·getD (token terms argument >>= λ n. some (token-triggers n)) (Sum-triggers []))
 
   -- (5) Valid, IsTotFun, is-Tm_arrow of one, HasType of two: {first}
   unfoldable pub rule-5 : Name → ℕ → Option Kinded
   rule-5 name t = do
     first ←
-        or-else (call-one "Valid" (at t))
-        (or-else (call-two "HasType" (at t) >>= λ (subject, ty). some subject)
-        (or-else (call-one "IsTotFun" (at t)) (call-one "is-Tm_arrow" (at t))))
+        or-else (call-one "Valid" (at terms t))
+        (or-else (call-two "HasType" (at terms t) >>= λ (subject, ty). some subject)
+        (or-else (call-one "IsTotFun" (at terms t)) (call-one "is-Tm_arrow" (at terms t))))
     some (Sum-triggers (free-top-level-names first ∷ []))
 
   -- (6) `eq` of two whose right is Term_constr_id of one: {its argument}
   unfoldable pub rule-6 : Name → ℕ → Option Kinded
   rule-6 name t = do
-    (left, right) ← op-args Eq (at t) >>= two
-    argument ← call-one "Term_constr_id" (at right)
+    (left, right) ← op-args Eq (at terms t) >>= two
+    argument ← call-one "Term_constr_id" (at terms right)
     some (Sum-triggers (free-top-level-names argument ∷ []))
 
   -- (7) `and`: all triggers of its parts
   unfoldable pub rule-7 : Name → ℕ → Option Kinded
   rule-7 name t = do
-    parts ← op-args And (at t)
+    parts ← op-args And (at terms t)
     some (Sum-triggers (collect triggers-of-term parts))
 
   -- (8) `eq` of two, name starting equation_: {left}
   unfoldable pub rule-8 : Name → ℕ → Option Kinded
   rule-8 name t = do
-    (left, right) ← op-args Eq (at t) >>= two
+    (left, right) ← op-args Eq (at terms t) >>= two
     when (starts-with name (bytes "equation_")) (Sum-triggers (free-top-level-names left ∷ []))
-
-  -- the second argument of the hasEq of two in a Valid of one
-  unfoldable pub has-eq : ℕ → Option ℕ
-  has-eq t = do
-    valid ← call-one "Valid" (at t)
-    (universe, ty) ← call-two "Prims.hasEq" (at valid)
-    some ty
 
   -- (9) `iff` of two: hasEq on both sides gives {left's second argument}; else {left}, {right}
   unfoldable pub rule-9 : Name → ℕ → Option Kinded
   rule-9 name t = do
-    (left, right) ← op-args Iff (at t) >>= two
-    or-else (has-eq left >>= λ l. has-eq right >>= λ r. some (Sum-triggers (free-top-level-names l ∷ [])))
+    (left, right) ← op-args Iff (at terms t) >>= two
+    or-else (has-eq terms left >>= λ l. has-eq terms right >>= λ r. some (Sum-triggers (free-top-level-names l ∷ [])))
         (some (Sum-triggers (free-top-level-names left ∷ free-top-level-names right ∷ [])))
 
   -- (10) `eq` of two: {left}, {right}
   unfoldable pub rule-10 : Name → ℕ → Option Kinded
   rule-10 name t = do
-    (left, right) ← op-args Eq (at t) >>= two
+    (left, right) ← op-args Eq (at terms t) >>= two
     some (Sum-triggers (free-top-level-names left ∷ free-top-level-names right ∷ []))
 
   -- (11) `true`: drop
   unfoldable pub rule-11 : Name → ℕ → Option Kinded
-  rule-11 name t = op-args TrueOp (at t) >>= λ ts. some Sum-drop
+  rule-11 name t = op-args TrueOp (at terms t) >>= λ ts. some Sum-drop
 
   -- (12) ambient, no root
   unfoldable pub rule-12 : Name → ℕ → Option Kinded

@@ -2,12 +2,12 @@
 -- its length, its head code; by rank in byte order: the number. The other columns are others' concern.
 use Prim.Native.Nat.{ℕ, zero, suc, _+_, _-_, _≤_, _<_}
 use mathlib.Core.Path.{_≡_}
-use mathlib.Core.Bool.{Bool, true, false, cond}
+use mathlib.Core.Bool.{Bool, true, false, cond, _&&_}
 use mathlib.Core.List.{List, [], _∷_, _++_}
 use mathlib.Core.Option.{Option, none, some}
 use lib.ListN.{length, take, drop, getD, set}
 use Rattle.model.specs.Lists.{count, part}
-use Rattle.model.specs.Names.{Name, order, same}
+use Rattle.model.specs.Names.{Name, order, same, mem}
 use Rattle.model.specs.declared.Order.{Order}
 use Rattle.model.specs.declared.Order.the-variants.{Before, Same, After}
 use Rattle.model.specs.Reading.{most-names}
@@ -73,6 +73,14 @@ pub record Table (file w : List ℕ) (named : ℕ) : Type 0 where
 unfoldable pub place-from : ℕ → List Name → Name → Option ℕ
 place-from n [] name = none
 place-from n (m ∷ ms) name = let other = place-from (n + 1) ms name in cond (same m name) (some n) other
+
+-- whether a name is excluded: its head code is one of those of `exclude_names`, 1 to 9
+unfoldable pub is-excluded : List ℕ → ℕ → Bool
+is-excluded w n = ltb 0 (name-code w n) && ltb (name-code w n) 10
+
+-- the excluded names of a table are those of a list
+abbrev pub Excludes : List Name → List ℕ → List ℕ → ℕ → Type 0
+Excludes exclude file w named = (n : ℕ) → n < named → is-excluded w n ≡ mem (name-of file w n) exclude
 
 -- whether the order is that of a name before another
 unfoldable pub is-before : Order → Bool

@@ -7,7 +7,7 @@ ghost use Rattle.model.specs.Names.{order};
 ghost use Rattle.model.specs.Reading.{most-names};
 ghost use Rattle.model.specs.Outcome.{working-words};
 ghost use Rattle.names.specs.Known.{head-code};
-ghost use Rattle.names.specs.Table.{length-column, name-start, name-length, Table, name-of, names-of, look-up, index-with, spell-answer, spell-table};
+ghost use Rattle.names.specs.Table.{length-column, name-start, name-length, Table, is-excluded, name-of, names-of, look-up, index-with, spell-answer, spell-table};
 
 // What a look-up finds: the name's number, or the rank where the name belongs in byte order.
 pub enum Found {
@@ -137,4 +137,16 @@ pub fn name_part<'a>(file: &'a [u8], w: &[u32], named: usize, n: usize) -> &'a [
     let start = words::at(w, n);
     let len = words::at(w, LENGTH + n);
     &file[start..start + len]
+}
+
+// Whether a name is excluded: nothing else reads what says so.
+pub fn is_excluded(w: &[u32], n: usize) -> bool
+    requires { ⌜ (n < most-names) × (working-words ≤ length (now w)) ⌝ }
+    ensures { λ r. ⌜ r ≡ is-excluded (now (w .entry)) n ⌝ }
+{
+    let code = words::at(w, CODE + n);
+    if code == 0 {
+        return false;
+    }
+    code < 10
 }

@@ -3,12 +3,12 @@ use Prim.Native.Nat.{ℕ, _<_}
 use mathlib.Core.Path.{_≡_, refl, ap}
 use mathlib.Core.Bool.{Bool, true, false, cond}
 use mathlib.Core.Option.{Option, none, some, Option·getD}
-use mathlib.Core.List.{List, [], _∷_}
+use mathlib.Core.List.{List, [], _∷_, map}
 use lib.Dec.{eqb}
 use Rattle.model.specs.Lists.{collect, holds, is-nil, or-else, when, _>>=_}
 use Rattle.model.specs.Names.{Name, bytes, same, starts-with}
 use Rattle.model.specs.Terms.{Node, FreeV, Leaf, Call, App, Forall, Exists, Let, Labeled, Term, term, references}
-use Rattle.model.specs.Summaries.{Kinded, Sum-triggers, exclude-names, two, op-of, op-number, op-args, call-one, call-two, head, is-empty, token, token-triggers, at, triggers-of-term, is-ambient-refinement, has-eq, rule-1, rule-2, rule-3, rule-4, rule-5, rule-6, rule-7, rule-8, rule-9, rule-10, rule-11, rule-12, first-rule, maybe-add-ambient, summarize-kind}
+use Rattle.model.specs.Summaries.{Kinded, Sum-triggers, two, op-of, op-number, op-args, call-one, call-two, head, is-empty, token, token-triggers, at, pattern-groups, group-names, triggers-of-term, is-ambient-refinement, has-eq, rule-1, rule-2, rule-3, rule-4, rule-5, rule-6, rule-7, rule-8, rule-9, rule-10, rule-11, rule-12, first-rule, maybe-add-ambient, summarize-kind}
 use Rattle.model.specs.declared.Op.{Op}
 use Rattle.model.specs.declared.Op.the-variants.{TrueOp, Iff, Eq, And}
 use Rattle.names.specs.Table.{name-of}
@@ -39,158 +39,162 @@ op-names word (Let body us) e = cc
 op-names word (Labeled u) e = cc
 
 -- the choice makes this of a fact
-record Makes (terms : List Term) (name : ℕ → Name) (c : Choice) (k : Kinded) : Type 0 where
-  makes : kinded terms name c ≡ some k
+record Makes (exclude : List Name) (terms : List Term) (name : ℕ → Name) (c : Choice) (k : Kinded) : Type 0 where
+  makes : kinded exclude terms name c ≡ k
 
 -- a rule here and in `model` agree: neither holds, or the choice makes what the other gives
-data Kinds (terms : List Term) (name : ℕ → Name) : Option Choice → Option Kinded → Type 0 where
-  neither : Kinds terms name none none
-  both : {c : Choice} {k : Kinded} → Makes terms name c k → Kinds terms name (some c) (some k)
+data Kinds (exclude : List Name) (terms : List Term) (name : ℕ → Name) : Option Choice → Option Kinded → Type 0 where
+  neither : Kinds exclude terms name none none
+  both : {c : Choice} {k : Kinded} → Makes exclude terms name c k → Kinds exclude terms name (some c) (some k)
 
-module _ {terms : List Term} {name : ℕ → Name} where
+module _ {exclude : List Name} {terms : List Term} {name : ℕ → Name} where
   -- they agree from a value that may be missing, where they agree from each value
-  kinds-bind : {A : Type 0} (o : Option A) {f : A → Option Choice} {g : A → Option Kinded} → ((a : A) → o ≡ some a → Kinds terms name (f a) (g a)) → Kinds terms name (o >>= f) (o >>= g)
+  kinds-bind : {A : Type 0} (o : Option A) {f : A → Option Choice} {g : A → Option Kinded} → ((a : A) → o ≡ some a → Kinds exclude terms name (f a) (g a)) → Kinds exclude terms name (o >>= f) (o >>= g)
   kinds-bind none h = neither
   kinds-bind (some a) h = h a refl
 
   -- they agree under one test
-  kinds-when : (b : Bool) {c : Choice} {k : Kinded} → Makes terms name c k → Kinds terms name (when b c) (when b k)
+  kinds-when : (b : Bool) {c : Choice} {k : Kinded} → Makes exclude terms name c k → Kinds exclude terms name (when b c) (when b k)
   unfolding when
   kinds-when true e = both e
   kinds-when false e = neither
 
   -- the first of two that is there agrees where both do
-  kinds-or-else : {o p : Option Choice} {q r : Option Kinded} → Kinds terms name o q → Kinds terms name p r → Kinds terms name (or-else o p) (or-else q r)
+  kinds-or-else : {o p : Option Choice} {q r : Option Kinded} → Kinds exclude terms name o q → Kinds exclude terms name p r → Kinds exclude terms name (or-else o p) (or-else q r)
   unfolding or-else
   kinds-or-else neither h = h
   kinds-or-else (both e) h = both e
 
   -- a choice or else another makes what the rule or else the other gives
-  kinds-default : {o : Option Choice} {q : Option Kinded} {c : Choice} {k : Kinded} → Kinds terms name o q → Makes terms name c k → Makes terms name (Option·getD o c) (Option·getD q k)
+  kinds-default : {o : Option Choice} {q : Option Kinded} {c : Choice} {k : Kinded} → Kinds exclude terms name o q → Makes exclude terms name c k → Makes exclude terms name (Option·getD o c) (Option·getD q k)
   kinds-default neither h = h
   kinds-default (both e) h = e
 
-module _ (terms : List Term) (rows : List ℕ) (name : ℕ → Name) (fact : Name) (t : ℕ) where
+module _ (exclude : List Name) (terms : List Term) (rows : List ℕ) (name : ℕ → Name) (fact : Name) (t : ℕ) where
   -- the two rules 1 agree
-  kinds-1 : Kinds terms name (choose-1 terms rows fact t) (rule-1 exclude-names terms fact t)
+  kinds-1 : Kinds exclude terms name (choose-1 terms rows fact t) (rule-1 exclude terms fact t)
   unfolding choose-1 rule-1 kinded
-  kinds-1 = kinds-bind (op-args Iff (at exclude-names terms t) >>= two) (λ p is. kinds-when (starts-with fact (bytes "l_quant_interp")) (record { makes = refl }))
+  kinds-1 = kinds-bind (op-args Iff (at terms t) >>= two) (λ p is. kinds-when (starts-with fact (bytes "l_quant_interp")) (record { makes = refl }))
 
   -- the two rules 2 agree on a term without triggers
-  kinds-2 : triggers-of-term exclude-names terms t ≡ [] → Kinds terms name (choose-2 terms rows fact t) (rule-2 exclude-names terms fact t)
+  kinds-2 : triggers-of-term exclude terms t ≡ [] → Kinds exclude terms name (choose-2 terms rows fact t) (rule-2 exclude terms fact t)
   unfolding choose-2 rule-2 kinded is-empty
   kinds-2 e = kinds-when (starts-with fact (bytes "assumption_")) (record { makes = rw e })
 
   -- the two rules 3 agree
-  kinds-3 : Kinds terms name (choose-3 terms rows fact t) (rule-3 exclude-names terms fact t)
+  kinds-3 : Kinds exclude terms name (choose-3 terms rows fact t) (rule-3 exclude terms fact t)
   unfolding choose-3 rule-3 kinded refinement-kind
-  kinds-3 = kinds-bind (call-two "HasType" (at exclude-names terms t)) (λ p is. kinds-when (is-ambient-refinement exclude-names terms (p .1)) (record { makes = refl }))
+  kinds-3 = kinds-bind (call-two "HasType" (at terms t)) (λ p is. kinds-when (is-ambient-refinement terms (p .1)) (record { makes = refl }))
 
   -- the choice of a token makes its disjuncts, where its name is that of its row's head
-  kinds-token : (x : ℕ) → ((n : Name) → token exclude-names terms x ≡ some n → name (row-head rows x) ≡ n)
-      → Makes terms name (token-choice terms rows x) (Option·getD (token exclude-names terms x >>= λ n. some (token-triggers n)) (Sum-triggers []))
+  kinds-token : (x : ℕ) → ((n : Name) → token terms x ≡ some n → name (row-head rows x) ≡ n)
+      → Makes exclude terms name (token-choice terms rows x) (Option·getD (token terms x >>= λ n. some (token-triggers n)) (Sum-triggers []))
   unfolding token-choice kinded
-  kinds-token x named = kinds-default (kinds-bind (token exclude-names terms x) (λ n is. both (record { makes = ap (λ m. some (token-triggers m)) (named n is) }))) (record { makes = refl })
+  kinds-token x named = kinds-default (kinds-bind (token terms x) (λ n is. both (record { makes = ap token-triggers (named n is) }))) (record { makes = refl })
 
   -- the two rules 4 agree where the name of the token is that of its row's head
-  kinds-4 : ((a f x : ℕ) (n : Name) → call-one "Valid" (at exclude-names terms t) ≡ some a → call-two "ApplyTT" (at exclude-names terms a) ≡ some (f, x)
-      → token exclude-names terms x ≡ some n → name (row-head rows x) ≡ n)
-      → Kinds terms name (choose-4 terms rows fact t) (rule-4 exclude-names terms fact t)
+  kinds-4 : ((a f x : ℕ) (n : Name) → call-one "Valid" (at terms t) ≡ some a → call-two "ApplyTT" (at terms a) ≡ some (f, x)
+      → token terms x ≡ some n → name (row-head rows x) ≡ n)
+      → Kinds exclude terms name (choose-4 terms rows fact t) (rule-4 exclude terms fact t)
   unfolding choose-4 rule-4
   kinds-4 named =
-      kinds-bind (call-one "Valid" (at exclude-names terms t)) (λ a is-valid.
-      kinds-bind (call-two "ApplyTT" (at exclude-names terms a)) (λ p is-applied.
-      kinds-when (holds (same (bytes "__uu__PartialApp")) (head (at exclude-names terms (p .0)))) (kinds-token (p .1) (λ n. named a (p .0) (p .1) n is-valid is-applied))))
+      kinds-bind (call-one "Valid" (at terms t)) (λ a is-valid.
+      kinds-bind (call-two "ApplyTT" (at terms a)) (λ p is-applied.
+      kinds-when (holds (same (bytes "__uu__PartialApp")) (head (at terms (p .0)))) (kinds-token (p .1) (λ n. named a (p .0) (p .1) n is-valid is-applied))))
 
   -- the two rules 5 agree
-  kinds-5 : Kinds terms name (choose-5 terms rows fact t) (rule-5 exclude-names terms fact t)
+  kinds-5 : Kinds exclude terms name (choose-5 terms rows fact t) (rule-5 exclude terms fact t)
   unfolding choose-5 rule-5 kinded
   kinds-5 =
       kinds-bind
-      (or-else (call-one "Valid" (at exclude-names terms t))
-      (or-else (call-two "HasType" (at exclude-names terms t) >>= λ (subject, ty). some subject)
-      (or-else (call-one "IsTotFun" (at exclude-names terms t)) (call-one "is-Tm_arrow" (at exclude-names terms t)))))
+      (or-else (call-one "Valid" (at terms t))
+      (or-else (call-two "HasType" (at terms t) >>= λ (subject, ty). some subject)
+      (or-else (call-one "IsTotFun" (at terms t)) (call-one "is-Tm_arrow" (at terms t)))))
       (λ first is. both (record { makes = refl }))
 
   -- the two rules 6 agree
-  kinds-6 : Kinds terms name (choose-6 terms rows fact t) (rule-6 exclude-names terms fact t)
+  kinds-6 : Kinds exclude terms name (choose-6 terms rows fact t) (rule-6 exclude terms fact t)
   unfolding choose-6 rule-6 kinded
   kinds-6 =
-      kinds-bind (op-args Eq (at exclude-names terms t) >>= two) (λ p is.
-      kinds-bind (call-one "Term_constr_id" (at exclude-names terms (p .1))) (λ argument is-id. both (record { makes = refl })))
+      kinds-bind (op-args Eq (at terms t) >>= two) (λ p is.
+      kinds-bind (call-one "Term_constr_id" (at terms (p .1))) (λ argument is-id. both (record { makes = refl })))
 
   -- the two rules 7 agree
-  kinds-7 : Kinds terms name (choose-7 terms rows fact t) (rule-7 exclude-names terms fact t)
+  kinds-7 : Kinds exclude terms name (choose-7 terms rows fact t) (rule-7 exclude terms fact t)
   unfolding choose-7 rule-7 kinded parts-kind at
   kinds-7 =
-      kinds-bind (op-args And (at exclude-names terms t)) (λ parts is.
-      both (record { makes = ap (λ ts. some (Sum-triggers (collect (triggers-of-term exclude-names terms) ts))) (op-names And (term terms t .node) is) }))
+      kinds-bind (op-args And (at terms t)) (λ parts is.
+      both (record { makes = ap (λ ts. Sum-triggers (collect (triggers-of-term exclude terms) ts)) (op-names And (term terms t .node) is) }))
 
   -- the two rules 8 agree
-  kinds-8 : Kinds terms name (choose-8 terms rows fact t) (rule-8 exclude-names terms fact t)
+  kinds-8 : Kinds exclude terms name (choose-8 terms rows fact t) (rule-8 exclude terms fact t)
   unfolding choose-8 rule-8 kinded
-  kinds-8 = kinds-bind (op-args Eq (at exclude-names terms t) >>= two) (λ p is. kinds-when (starts-with fact (bytes "equation_")) (record { makes = refl }))
+  kinds-8 = kinds-bind (op-args Eq (at terms t) >>= two) (λ p is. kinds-when (starts-with fact (bytes "equation_")) (record { makes = refl }))
 
   -- the two rules 9 agree
-  kinds-9 : Kinds terms name (choose-9 terms rows fact t) (rule-9 exclude-names terms fact t)
+  kinds-9 : Kinds exclude terms name (choose-9 terms rows fact t) (rule-9 exclude terms fact t)
   unfolding choose-9 rule-9 kinded
   kinds-9 =
-      kinds-bind (op-args Iff (at exclude-names terms t) >>= two) (λ p is.
+      kinds-bind (op-args Iff (at terms t) >>= two) (λ p is.
       kinds-or-else
-      (kinds-bind (has-eq exclude-names terms (p .0)) (λ l is-left. kinds-bind (has-eq exclude-names terms (p .1)) (λ r is-right. both (record { makes = refl }))))
+      (kinds-bind (has-eq terms (p .0)) (λ l is-left. kinds-bind (has-eq terms (p .1)) (λ r is-right. both (record { makes = refl }))))
       (both (record { makes = refl })))
 
   -- the two rules 10 agree
-  kinds-10 : Kinds terms name (choose-10 terms rows fact t) (rule-10 exclude-names terms fact t)
+  kinds-10 : Kinds exclude terms name (choose-10 terms rows fact t) (rule-10 exclude terms fact t)
   unfolding choose-10 rule-10 kinded
-  kinds-10 = kinds-bind (op-args Eq (at exclude-names terms t) >>= two) (λ p is. both (record { makes = refl }))
+  kinds-10 = kinds-bind (op-args Eq (at terms t) >>= two) (λ p is. both (record { makes = refl }))
 
   -- the two rules 11 agree
-  kinds-11 : Kinds terms name (choose-11 terms rows fact t) (rule-11 exclude-names terms fact t)
+  kinds-11 : Kinds exclude terms name (choose-11 terms rows fact t) (rule-11 exclude terms fact t)
   unfolding choose-11 rule-11 kinded
-  kinds-11 = kinds-bind (op-args TrueOp (at exclude-names terms t)) (λ ts is. both (record { makes = refl }))
+  kinds-11 = kinds-bind (op-args TrueOp (at terms t)) (λ ts is. both (record { makes = refl }))
 
   -- the last choice makes what the last rule gives
-  kinds-12 : Makes terms name (first-choice terms rows (choose-12 terms rows ∷ []) fact t) (first-rule exclude-names terms (rule-12 exclude-names terms ∷ []) fact t)
+  kinds-12 : Makes exclude terms name (first-choice terms rows (choose-12 terms rows ∷ []) fact t) (first-rule exclude terms (rule-12 exclude terms ∷ []) fact t)
   unfolding first-choice choose-12 first-rule rule-12 kinded
   kinds-12 = record { makes = refl }
 
 module _ {file names refs rows : List ℕ} {named used many t : ℕ} (tables : Tables file names refs rows named used many) (l : t < many) (fact : Name) where
-  -- the first choice for a term without triggers makes what the first rule gives
-  chosen : triggers-of-term exclude-names (terms-in file names refs rows used many) t ≡ []
-      → Makes (terms-in file names refs rows used many) (name-of file names) (ambient-choice (terms-in file names refs rows used many) rows fact t)
-      (maybe-add-ambient exclude-names (terms-in file names refs rows used many) fact t)
-  unfolding ambient-choice first-choice maybe-add-ambient first-rule at
-  chosen e =
-      let terms = terms-in file names refs rows used many in
+  -- the terms of the tables
+  abbrev terms : List Term
+  terms = terms-in file names refs rows used many
+
+  -- the first choice for a term without groups makes what the first rule gives
+  chosen : pattern-groups terms t ≡ [] → (exclude : List Name)
+      → Makes exclude terms (name-of file names) (ambient-choice terms rows fact t) (maybe-add-ambient exclude terms fact t)
+  unfolding ambient-choice first-choice maybe-add-ambient first-rule at triggers-of-term
+  chosen e exclude =
       let name = name-of file names in
-      kinds-default (kinds-1 terms rows name fact t)
-      (kinds-default (kinds-2 terms rows name fact t e)
-      (kinds-default (kinds-3 terms rows name fact t)
+      let none : triggers-of-term exclude terms t ≡ [] = ap (map (group-names exclude terms)) e in
+      kinds-default (kinds-1 exclude terms rows name fact t)
+      (kinds-default (kinds-2 exclude terms rows name fact t none)
+      (kinds-default (kinds-3 exclude terms rows name fact t)
       (kinds-default
-      (kinds-4 terms rows name fact t (λ a f x n is-valid is-applied is. token-named tables (two-inside tables (one-inside tables l valid is-valid) apply-tt is-applied .1) is))
-      (kinds-default (kinds-5 terms rows name fact t)
-      (kinds-default (kinds-6 terms rows name fact t)
-      (kinds-default (kinds-7 terms rows name fact t)
-      (kinds-default (kinds-8 terms rows name fact t)
-      (kinds-default (kinds-9 terms rows name fact t)
-      (kinds-default (kinds-10 terms rows name fact t)
-      (kinds-default (kinds-11 terms rows name fact t)
-      (kinds-12 terms rows name fact t)))))))))))
+      (kinds-4 exclude terms rows name fact t (λ a f x n is-valid is-applied is.
+      token-named tables (two-inside tables (one-inside tables l valid is-valid) apply-tt is-applied .1) is))
+      (kinds-default (kinds-5 exclude terms rows name fact t)
+      (kinds-default (kinds-6 exclude terms rows name fact t)
+      (kinds-default (kinds-7 exclude terms rows name fact t)
+      (kinds-default (kinds-8 exclude terms rows name fact t)
+      (kinds-default (kinds-9 exclude terms rows name fact t)
+      (kinds-default (kinds-10 exclude terms rows name fact t)
+      (kinds-default (kinds-11 exclude terms rows name fact t)
+      (kinds-12 exclude terms rows name fact t)))))))))))
 
   -- what the twelve rules choose for a term without groups makes of the fact what `maybe_add_ambient` does
-  pub ambient-kinded : groups-at rows t ≡ 0 → {c : Choice} → c ≡ ambient-choice (terms-in file names refs rows used many) rows fact t
-      → kinded (terms-in file names refs rows used many) (name-of file names) c ≡ some (maybe-add-ambient exclude-names (terms-in file names refs rows used many) fact t)
-  ambient-kinded e f = rw f (chosen (no-groups tables l e) .makes)
+  pub ambient-kinded : groups-at rows t ≡ 0 → {c : Choice} → c ≡ ambient-choice terms rows fact t → (exclude : List Name)
+      → kinded exclude terms (name-of file names) c ≡ maybe-add-ambient exclude terms fact t
+  ambient-kinded e f exclude = rw f (chosen (no-groups tables l e) exclude .makes)
 
-  -- the choice by the triggers makes of the fact what `summarize_kind` does
-  pub kind-kinded : {c : Choice} → c ≡ kind-choice (terms-in file names refs rows used many) rows fact t
-      → kinded (terms-in file names refs rows used many) (name-of file names) c ≡ some (summarize-kind exclude-names (terms-in file names refs rows used many) fact t)
-  unfolding kind-choice summarize-kind is-nil kinded
-  kind-kinded f = rw f (go (triggers-of-term exclude-names (terms-in file names refs rows used many) t) refl)
+  -- the choice by the groups makes of the fact what `summarize_kind` does
+  pub kind-kinded : {c : Choice} → c ≡ kind-choice terms rows fact t → (exclude : List Name)
+      → kinded exclude terms (name-of file names) c ≡ summarize-kind exclude terms fact t
+  unfolding kind-choice summarize-kind is-nil kinded triggers-of-term
+  kind-kinded f exclude = rw f (go (pattern-groups terms t) refl)
     where
-      go : (ts : List (List Name)) → triggers-of-term exclude-names (terms-in file names refs rows used many) t ≡ ts
-          → kinded (terms-in file names refs rows used many) (name-of file names) (cond (is-nil ts) (ambient-choice (terms-in file names refs rows used many) rows fact t) (choice.Groups t))
-          ≡ some (cond (is-nil ts) (maybe-add-ambient exclude-names (terms-in file names refs rows used many) fact t) (Sum-triggers ts))
-      go [] e = chosen e .makes
-      go (x ∷ xs) e = ap (λ ts. some (Sum-triggers ts)) e
+      go : (gs : List (List ℕ)) → pattern-groups terms t ≡ gs
+          → kinded exclude terms (name-of file names) (cond (is-nil gs) (ambient-choice terms rows fact t) (choice.Groups t))
+          ≡ cond (is-nil (map (group-names exclude terms) gs)) (maybe-add-ambient exclude terms fact t) (Sum-triggers (map (group-names exclude terms) gs))
+      go [] e = chosen e exclude .makes
+      go (x ∷ xs) e = ap (λ gs. Sum-triggers (map (group-names exclude terms) gs)) e

@@ -3,12 +3,12 @@ use Prim.Native.Nat.{ℕ, zero, suc, _≤_, _<_}
 use native.Mathlib.Omega.{arith}
 use mathlib.Core.Path.{_≡_, refl, sym, ap, _∙_}
 use mathlib.Core.Bool.{false}
-use mathlib.Core.List.{List, [], _∷_, _++_, map}
+use mathlib.Core.List.{List, [], _∷_, _++_}
 use lib.ListN.{length}
 use lib.Dec.{eqb}
 use borrow.Author.Tests.{eq-eqb, ne-eqb}
 use Rattle.model.specs.Lists.{is-nil}
-use Rattle.model.specs.Summaries.{exclude-names, triggers-of-term}
+use Rattle.model.specs.Summaries.{pattern-groups}
 use Rattle.model.proofs.ListLaws.{true-T, is-nil-elim}
 use Rattle.names.specs.Table.{name-of}
 use Rattle.terms.specs.Rows.{groups-of-words, bare-of, groups-at, Rows}
@@ -26,23 +26,23 @@ module _ {refs rows : List ℕ} {used many named : ℕ} (table : Rows refs rows 
 -- ---- how many groups
 
 -- a list with one element more is not empty
-more-not-nil : {A B : Type 0} (f : A → B) (xs : List A) (x : A) → is-nil (map f (xs ++ (x ∷ []))) ≡ false
+more-not-nil : {A : Type 0} (xs : List A) (x : A) → is-nil (xs ++ (x ∷ [])) ≡ false
 unfolding is-nil
-more-not-nil f [] x = refl
-more-not-nil f (y ∷ xs) x = refl
+more-not-nil [] x = refl
+more-not-nil (y ∷ xs) x = refl
 
 -- as many groups as asked for: none where none are
-groups-nil : {B : Type 0} (f : List ℕ → B) (ws : List ℕ) (g : ℕ) → is-nil (map f (groups-of-words ws g)) ≡ eqb g 0
+groups-nil : (ws : List ℕ) (g : ℕ) → is-nil (groups-of-words ws g) ≡ eqb g 0
 unfolding is-nil groups-of-words
-groups-nil f ws zero = refl
-groups-nil f ws (suc g) = more-not-nil f (groups-of-words ws g) _ ∙ sym (ne-eqb (suc g) 0 (λ e. omega arith))
+groups-nil ws zero = refl
+groups-nil ws (suc g) = more-not-nil (groups-of-words ws g) _ ∙ sym (ne-eqb (suc g) 0 (λ e. omega arith))
 
 module _ {file names refs rows : List ℕ} {named used many t : ℕ} (tables : Tables file names refs rows named used many) (l : t < many) where
-  -- a term has no triggers if there is no group
-  pub triggers-nil : is-nil (triggers-of-term exclude-names (terms-in file names refs rows used many) t) ≡ eqb (groups-at rows t) 0
+  -- whether there is no group
+  pub groups-none : is-nil (pattern-groups (terms-in file names refs rows used many) t) ≡ eqb (groups-at rows t) 0
   unfolding terms-in
-  triggers-nil = ap is-nil (groups-count (tables .term-table) (name-of file names) l) ∙ groups-nil _ _ (groups-at rows t)
+  groups-none = ap is-nil (groups-count (tables .term-table) (name-of file names) l) ∙ groups-nil _ (groups-at rows t)
 
-  -- without a group there is no trigger
-  pub no-groups : groups-at rows t ≡ 0 → triggers-of-term exclude-names (terms-in file names refs rows used many) t ≡ []
-  no-groups e = is-nil-elim _ (true-T (triggers-nil ∙ eq-eqb (groups-at rows t) 0 e))
+  -- without groups there is none
+  pub no-groups : groups-at rows t ≡ 0 → pattern-groups (terms-in file names refs rows used many) t ≡ []
+  no-groups e = is-nil-elim _ (true-T (groups-none ∙ eq-eqb (groups-at rows t) 0 e))

@@ -18,16 +18,6 @@ use Rattle.rules.specs.Views.{row-count, row-argument, is-call-at, is-he
 
 -- ---- one row
 
--- a `free` has a head
-pub head-free : (kind : ℕ) → kind ≡ 0 → has-head kind ≡ true
-unfolding has-head
-head-free kind h = rw h
-
--- else a call alone has
-pub head-call : (kind : ℕ) → (kind ≡ 0 → ⊥) → has-head kind ≡ eqb kind 2
-unfolding has-head
-head-call kind h = rw (ne-eqb kind 0 h)
-
 -- a call's head is small
 pub call-small : (rows : List ℕ) (t : ℕ) {k n : ℕ} → (T (has-head (row-kind rows t)) → row-head rows t < 2048) → k ≡ row-kind rows t → k ≡ 2 → n ≡ row-head rows t → n < 2048
 unfolding has-head

@@ -13,7 +13,7 @@ use borrow.Author.Tests.{eq-eqb, ne-eqb, eqb-true}
 use Rattle.model.specs.Lists.{holds, or-else, when, is-nil, _>>=_, part}
 use Rattle.model.specs.Names.{Name, bytes, same}
 use Rattle.model.specs.Terms.{term}
-use Rattle.model.specs.Summaries.{common-names, exclude-names, token, at, free-of, call-of, op-of, op-number, one, two, op-args, call-args, call-one, call-two, head}
+use Rattle.model.specs.Summaries.{common-names, token, at, free-of, call-of, op-of, op-number, one, two, op-args, call-args, call-one, call-two, head}
 use Rattle.model.specs.declared.Op.{Op}
 use Rattle.model.specs.declared.Op.the-variants.{TrueOp, Iff, Eq, And}
 use Rattle.model.proofs.ListLaws.{T-ext, true-T}
@@ -460,27 +460,27 @@ module _ {file names refs rows : List ℕ} {named used many t : ℕ} (tables : T
   -- ---- tokens
 
   -- a `free` is a token
-  pub token-free : {n : ℕ} → row-kind rows t ≡ 0 → n ≡ row-head rows t → token exclude-names (terms-in file names refs rows used many) t ≡ some (name-of file names n)
+  pub token-free : {n : ℕ} → row-kind rows t ≡ 0 → n ≡ row-head rows t → token (terms-in file names refs rows used many) t ≡ some (name-of file names n)
   unfolding token at node-of make-node free-of call-of or-else
   token-free e f = rw (line, e, f)
 
   -- so is a call of none
-  pub token-call : {n : ℕ} → row-kind rows t ≡ 2 → row-count rows used many t ≡ 0 → n ≡ row-head rows t → token exclude-names (terms-in file names refs rows used many) t ≡ some (name-of file names n)
+  pub token-call : {n : ℕ} → row-kind rows t ≡ 2 → row-count rows used many t ≡ 0 → n ≡ row-head rows t → token (terms-in file names refs rows used many) t ≡ some (name-of file names n)
   unfolding token at node-of make-node free-of call-of or-else row-count terms-of-words is-nil when
   token-call e g f = rw (line, e, f, part-nil refs (row-start rows t) (row-end rows used many t) (omega arith))
 
   -- a call of some is none
-  pub token-more : row-kind rows t ≡ 2 → (row-count rows used many t ≡ 0 → ⊥) → token exclude-names (terms-in file names refs rows used many) t ≡ none
+  pub token-more : row-kind rows t ≡ 2 → (row-count rows used many t ≡ 0 → ⊥) → token (terms-in file names refs rows used many) t ≡ none
   unfolding token at node-of make-node free-of call-of or-else row-count terms-of-words is-nil when
   token-more e g = rw (line, e, part-cons refs (row-start rows t) (row-end rows used many t) (omega arith) (row-fits (tables .term-table) l))
 
   -- nor is any other term
-  pub token-other : (row-kind rows t ≡ 0 → ⊥) → (row-kind rows t ≡ 2 → ⊥) → token exclude-names (terms-in file names refs rows used many) t ≡ none
+  pub token-other : (row-kind rows t ≡ 0 → ⊥) → (row-kind rows t ≡ 2 → ⊥) → token (terms-in file names refs rows used many) t ≡ none
   unfolding token at node-of
   token-other e f = rw line (other-node (row-kind rows t) _ _ _ _ e f)
 
   -- the name of a token is that of its row's head
-  pub token-named : {n : Name} → token exclude-names (terms-in file names refs rows used many) t ≡ some n → name-of file names (row-head rows t) ≡ n
+  pub token-named : {n : Name} → token (terms-in file names refs rows used many) t ≡ some n → name-of file names (row-head rows t) ≡ n
   token-named h = ⊎-elim
       (λ e. cc (token-free e refl))
       (λ e. ⊎-elim

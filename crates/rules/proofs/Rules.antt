@@ -1,5 +1,6 @@
 -- The twelve rules: what each chooses by what its term's line is, and the first that holds.
 use Prim.Native.Nat.{ℕ}
+use native.Mathlib.Omega.{arith}
 use mathlib.Core.Path.{_≡_, refl, sym, ap, _∙_}
 use mathlib.Core.Bool.{Bool, true, false}
 use mathlib.Core.Option.{Option, none, some, Option·getD}
@@ -7,14 +8,26 @@ use mathlib.Core.List.{List, [], _∷_}
 use Rattle.model.specs.Lists.{holds, is-nil, or-else, when, _>>=_}
 use Rattle.model.specs.Names.{Name, bytes, same, starts-with}
 use Rattle.model.specs.Terms.{Term, term}
-use Rattle.model.specs.Summaries.{exclude-names, two, op-args, call-args, call-one, call-two, head, token, at, triggers-of-term, is-ambient-refinement, ambient-refinement-payload, has-eq}
+use Rattle.model.specs.Summaries.{two, op-args, call-args, call-one, call-two, head, token, at, pattern-groups, is-ambient-refinement, ambient-refinement-payload, has-eq}
 use Rattle.model.specs.declared.Op.the-variants.{TrueOp, Iff, Eq, And}
 use Rattle.terms.specs.Rows.{row-head}
 use Rattle.rules.specs.declared.Choice.{Choice}
 use Rattle.rules.specs.declared.Choice.the-variants as choice
+use Rattle.rules.specs.declared.Tried.{Tried}
+use Rattle.rules.specs.declared.Tried.the-variants as tried
 use Rattle.rules.specs.declared.Argument.{Argument}
 use Rattle.rules.specs.declared.Argument.the-variants as argument
-use Rattle.rules.specs.Choices.{choose-1, choose-2, choose-3, choose-4, choose-5, choose-6, choose-7, choose-8, choose-9, choose-10, choose-11, choose-12, token-choice, first-choice, ambient-choice, kind-choice, is-held, as-held, as-option}
+use Rattle.rules.specs.Choices.{Within, Tries, holds-not, chooses, choose-1, choose-2, choose-3, choose-4, choose-5, choose-6, choose-7, choose-8, choose-9, choose-10, choose-11, choose-12, token-choice, first-choice, ambient-choice, kind-choice, as-option}
+
+-- the answer that a rule does not hold
+pub tries-no : {o : Option Choice} {named many : ℕ} {r : Tried} → Tries o named many r → r ≡ tried.No → o ≡ none
+tries-no (holds-not e) f = e
+tries-no (chooses e w) f = cc
+
+-- the answer that it holds
+pub tries-yes : {o : Option Choice} {named many : ℕ} {r : Tried} {c : Choice} → Tries o named many r → r ≡ tried.Yes c → (o ≡ some c) × Within named many c
+tries-yes (holds-not e) f = let z : _≡_ {A = ℕ} 0 1 = cc in let n : ⊥ = omega arith in absurd n
+tries-yes {c} (chooses {c = d} e w) f = let same : d ≡ c = cc in (e ∙ ap some same, rw same at w)
 
 -- the rules that are left choose what becomes of a fact
 pub record Left (terms : List Term) (rows : List ℕ) (fact : Name) (t : ℕ) (rules : List (Name → ℕ → Option Choice)) : Type 0 where
@@ -38,15 +51,6 @@ module _ (terms : List Term) (rows : List ℕ) where
       ∷ choose-12 terms rows
       ∷ []
 
-  -- a token's choice holds, also where there is no token
-  token-held : (x : ℕ) → as-held (token-choice terms rows x) ≡ some (token-choice terms rows x)
-  unfolding token-choice as-held is-held when
-  token-held x = go (token exclude-names terms x)
-    where
-      go : (o : Option Name) → as-held (Option·getD (o >>= λ n. some (choice.Token (row-head rows x))) choice.Nothing) ≡ some (Option·getD (o >>= λ n. some (choice.Token (row-head rows x))) choice.Nothing)
-      go none = refl
-      go (some n) = refl
-
 module _ (terms : List Term) (rows : List ℕ) (fact : Name) (t : ℕ) where
   -- ---- whether a rule holds
 
@@ -56,16 +60,16 @@ module _ (terms : List Term) (rows : List ℕ) (fact : Name) (t : ℕ) where
   all-rules = record { left = refl }
 
   -- a rule that does not hold leaves the fact to the rules after it
-  pub after : {rule : Name → ℕ → Option Choice} {rules : List (Name → ℕ → Option Choice)} → Left terms rows fact t (rule ∷ rules)
-      → (c : Choice) → as-held c ≡ rule fact t → {held : Bool} → held ≡ is-held c → held ≡ false → Left terms rows fact t rules
-  unfolding first-choice as-held when
-  after {rules} w c e h f = record { left = w .left ∙ ap (λ o. Option·getD o (first-choice terms rows rules fact t)) (sym e ∙ ap (λ b. when b c) (sym h ∙ f)) }
+  pub after : {rule : Name → ℕ → Option Choice} {rules : List (Name → ℕ → Option Choice)} → Left terms rows fact t (rule ∷ rules) → rule fact t ≡ none
+      → Left terms rows fact t rules
+  unfolding first-choice
+  after {rules} w e = record { left = w .left ∙ ap (λ o. Option·getD o (first-choice terms rows rules fact t)) e }
 
   -- the first that holds is the choice
   pub stop : {rule : Name → ℕ → Option Choice} {rules : List (Name → ℕ → Option Choice)} → Left terms rows fact t (rule ∷ rules)
-      → (c : Choice) → as-held c ≡ rule fact t → {held : Bool} → held ≡ is-held c → held ≡ true → c ≡ ambient-choice terms rows fact t
-  unfolding first-choice as-held when
-  stop {rules} w c e h f = sym (w .left ∙ ap (λ o. Option·getD o (first-choice terms rows rules fact t)) (sym e ∙ ap (λ b. when b c) (sym h ∙ f)))
+      → {c : Choice} → rule fact t ≡ some c → c ≡ ambient-choice terms rows fact t
+  unfolding first-choice
+  stop {rules} w e = sym (w .left ∙ ap (λ o. Option·getD o (first-choice terms rows rules fact t)) e)
 
   -- the last rule holds of every fact
   pub last-rule : Left terms rows fact t (choose-12 terms rows ∷ []) → choice.Ambient ≡ ambient-choice terms rows fact t
@@ -73,277 +77,277 @@ module _ (terms : List Term) (rows : List ℕ) (fact : Name) (t : ℕ) where
   last-rule w = sym (w .left)
 
   -- the choice of a fact with triggers is these
-  pub kind-groups : is-nil (triggers-of-term exclude-names terms t) ≡ false → choice.Groups t ≡ kind-choice terms rows fact t
+  pub kind-groups : is-nil (pattern-groups terms t) ≡ false → choice.Groups t ≡ kind-choice terms rows fact t
   unfolding kind-choice
   kind-groups e = rw e
 
   -- that of a fact without is what the rules choose
-  pub kind-rules : {c : Choice} → is-nil (triggers-of-term exclude-names terms t) ≡ true → c ≡ ambient-choice terms rows fact t → c ≡ kind-choice terms rows fact t
+  pub kind-rules : {c : Choice} → is-nil (pattern-groups terms t) ≡ true → c ≡ ambient-choice terms rows fact t → c ≡ kind-choice terms rows fact t
   unfolding kind-choice
   kind-rules e f = f ∙ sym (rw e)
 
   -- ---- rule 1
 
   -- no `iff` of two
-  pub rule-1-other : (op-args Iff (term terms t .node) >>= two) ≡ none → as-held choice.No ≡ choose-1 terms rows fact t
-  unfolding as-held is-held when choose-1 at
+  pub rule-1-other : (op-args Iff (term terms t .node) >>= two) ≡ none → choose-1 terms rows fact t ≡ none
+  unfolding when choose-1 at
   rule-1-other e = rw e
 
   -- another name
   pub rule-1-name : {l r : ℕ} → (op-args Iff (term terms t .node) >>= two) ≡ some (l, r) → {b : Bool} → b ≡ starts-with fact (bytes "l_quant_interp") → b ≡ false
-      → as-held choice.No ≡ choose-1 terms rows fact t
-  unfolding as-held is-held when choose-1 at
+      → choose-1 terms rows fact t ≡ none
+  unfolding when choose-1 at
   rule-1-name e b f = rw (e, sym b ∙ f)
 
   -- it holds
   pub rule-1-holds : {l r : ℕ} → (op-args Iff (term terms t .node) >>= two) ≡ some (l, r) → {b : Bool} → b ≡ starts-with fact (bytes "l_quant_interp") → b ≡ true
-      → as-held (choice.One l) ≡ choose-1 terms rows fact t
-  unfolding as-held is-held when choose-1 at
+      → choose-1 terms rows fact t ≡ some (choice.One l)
+  unfolding when choose-1 at
   rule-1-holds e b f = rw (e, sym b ∙ f)
 
   -- ---- rule 2
 
   -- another name
-  pub rule-2-name : {b : Bool} → b ≡ starts-with fact (bytes "assumption_") → b ≡ false → as-held choice.No ≡ choose-2 terms rows fact t
-  unfolding as-held is-held when choose-2
+  pub rule-2-name : {b : Bool} → b ≡ starts-with fact (bytes "assumption_") → b ≡ false → choose-2 terms rows fact t ≡ none
+  unfolding when choose-2
   rule-2-name b f = rw (sym b ∙ f)
 
   -- it holds
-  pub rule-2-holds : {b : Bool} → b ≡ starts-with fact (bytes "assumption_") → b ≡ true → as-held (choice.One t) ≡ choose-2 terms rows fact t
-  unfolding as-held is-held when choose-2
+  pub rule-2-holds : {b : Bool} → b ≡ starts-with fact (bytes "assumption_") → b ≡ true → choose-2 terms rows fact t ≡ some (choice.One t)
+  unfolding when choose-2
   rule-2-holds b f = rw (sym b ∙ f)
 
   -- ---- rule 3
 
   -- no HasType of two
-  pub rule-3-other : call-two "HasType" (term terms t .node) ≡ none → as-held choice.No ≡ choose-3 terms rows fact t
-  unfolding as-held is-held when choose-3 at
+  pub rule-3-other : call-two "HasType" (term terms t .node) ≡ none → choose-3 terms rows fact t ≡ none
+  unfolding when choose-3 at
   rule-3-other e = rw e
 
   -- another type
-  pub rule-3-type : {s ty : ℕ} → call-two "HasType" (term terms t .node) ≡ some (s, ty) → {b : Bool} → b ≡ is-ambient-refinement exclude-names terms ty → b ≡ false
-      → as-held choice.No ≡ choose-3 terms rows fact t
-  unfolding as-held is-held when choose-3 at
+  pub rule-3-type : {s ty : ℕ} → call-two "HasType" (term terms t .node) ≡ some (s, ty) → {b : Bool} → b ≡ is-ambient-refinement terms ty → b ≡ false
+      → choose-3 terms rows fact t ≡ none
+  unfolding when choose-3 at
   rule-3-type e b f = rw (e, sym b ∙ f)
 
   -- it holds
-  pub rule-3-holds : {s ty p : ℕ} → call-two "HasType" (term terms t .node) ≡ some (s, ty) → {b : Bool} → b ≡ is-ambient-refinement exclude-names terms ty → b ≡ true
-      → p ≡ ambient-refinement-payload exclude-names terms ty → as-held (choice.Refinement p) ≡ choose-3 terms rows fact t
-  unfolding as-held is-held when choose-3 at
+  pub rule-3-holds : {s ty p : ℕ} → call-two "HasType" (term terms t .node) ≡ some (s, ty) → {b : Bool} → b ≡ is-ambient-refinement terms ty → b ≡ true
+      → p ≡ ambient-refinement-payload terms ty → choose-3 terms rows fact t ≡ some (choice.Refinement p)
+  unfolding when choose-3 at
   rule-3-holds e b f p = rw (e, sym b ∙ f, p)
 
   -- ---- rule 4
 
   -- no Valid of one
-  pub rule-4-other : call-one "Valid" (term terms t .node) ≡ none → as-held choice.No ≡ choose-4 terms rows fact t
-  unfolding as-held is-held when choose-4 at
+  pub rule-4-other : call-one "Valid" (term terms t .node) ≡ none → choose-4 terms rows fact t ≡ none
+  unfolding when choose-4 at
   rule-4-other e = rw e
 
   -- no ApplyTT of two in it
   pub rule-4-applied : {a : ℕ} → call-one "Valid" (term terms t .node) ≡ some a → call-two "ApplyTT" (term terms a .node) ≡ none
-      → as-held choice.No ≡ choose-4 terms rows fact t
-  unfolding as-held is-held when choose-4 at
+      → choose-4 terms rows fact t ≡ none
+  unfolding when choose-4 at
   rule-4-applied e f = rw (e, f)
 
   -- of another function
   pub rule-4-function : {a f x : ℕ} → call-one "Valid" (term terms t .node) ≡ some a → call-two "ApplyTT" (term terms a .node) ≡ some (f, x)
-      → holds (same (bytes "__uu__PartialApp")) (head (term terms f .node)) ≡ false → as-held choice.No ≡ choose-4 terms rows fact t
-  unfolding as-held is-held when choose-4 at
+      → holds (same (bytes "__uu__PartialApp")) (head (term terms f .node)) ≡ false → choose-4 terms rows fact t ≡ none
+  unfolding when choose-4 at
   rule-4-function e f g = rw (e, f, g)
 
   -- it holds
   pub rule-4-holds : {a f x : ℕ} {c : Choice} → call-one "Valid" (term terms t .node) ≡ some a → call-two "ApplyTT" (term terms a .node) ≡ some (f, x)
-      → holds (same (bytes "__uu__PartialApp")) (head (term terms f .node)) ≡ true → c ≡ token-choice terms rows x → as-held c ≡ choose-4 terms rows fact t
+      → holds (same (bytes "__uu__PartialApp")) (head (term terms f .node)) ≡ true → c ≡ token-choice terms rows x → choose-4 terms rows fact t ≡ some c
   unfolding choose-4 at when
-  rule-4-holds {x} e f g k = ap as-held k ∙ token-held terms rows x ∙ sym (rw (e, f, g))
+  rule-4-holds e f g k = rw (e, f, g) (ap some (sym k))
 
   -- ---- rule 5
 
   -- a Valid of one
-  pub rule-5-valid : {a : ℕ} → call-one "Valid" (term terms t .node) ≡ some a → as-held (choice.One a) ≡ choose-5 terms rows fact t
-  unfolding as-held is-held when choose-5 at or-else
+  pub rule-5-valid : {a : ℕ} → call-one "Valid" (term terms t .node) ≡ some a → choose-5 terms rows fact t ≡ some (choice.One a)
+  unfolding when choose-5 at or-else
   rule-5-valid e = rw e
 
   -- a HasType of two
   pub rule-5-type : {a b : ℕ} → call-one "Valid" (term terms t .node) ≡ none → call-two "HasType" (term terms t .node) ≡ some (a, b)
-      → as-held (choice.One a) ≡ choose-5 terms rows fact t
-  unfolding as-held is-held when choose-5 at or-else
+      → choose-5 terms rows fact t ≡ some (choice.One a)
+  unfolding when choose-5 at or-else
   rule-5-type e f = rw (e, f)
 
   -- an IsTotFun of one
   pub rule-5-function : {a : ℕ} → call-one "Valid" (term terms t .node) ≡ none → call-two "HasType" (term terms t .node) ≡ none
-      → call-one "IsTotFun" (term terms t .node) ≡ some a → as-held (choice.One a) ≡ choose-5 terms rows fact t
-  unfolding as-held is-held when choose-5 at or-else
+      → call-one "IsTotFun" (term terms t .node) ≡ some a → choose-5 terms rows fact t ≡ some (choice.One a)
+  unfolding when choose-5 at or-else
   rule-5-function e f g = rw (e, f, g)
 
   -- an is-Tm_arrow of one
   pub rule-5-arrow : {a : ℕ} → call-one "Valid" (term terms t .node) ≡ none → call-two "HasType" (term terms t .node) ≡ none
       → call-one "IsTotFun" (term terms t .node) ≡ none → call-one "is-Tm_arrow" (term terms t .node) ≡ some a
-      → as-held (choice.One a) ≡ choose-5 terms rows fact t
-  unfolding as-held is-held when choose-5 at or-else
+      → choose-5 terms rows fact t ≡ some (choice.One a)
+  unfolding when choose-5 at or-else
   rule-5-arrow e f g h = rw (e, f, g, h)
 
   -- none of these
   pub rule-5-other : call-one "Valid" (term terms t .node) ≡ none → call-two "HasType" (term terms t .node) ≡ none
       → call-one "IsTotFun" (term terms t .node) ≡ none → call-one "is-Tm_arrow" (term terms t .node) ≡ none
-      → as-held choice.No ≡ choose-5 terms rows fact t
-  unfolding as-held is-held when choose-5 at or-else
+      → choose-5 terms rows fact t ≡ none
+  unfolding when choose-5 at or-else
   rule-5-other e f g h = rw (e, f, g, h)
 
   -- ---- rule 6
 
   -- no `eq` of two
-  pub rule-6-other : (op-args Eq (term terms t .node) >>= two) ≡ none → as-held choice.No ≡ choose-6 terms rows fact t
-  unfolding as-held is-held when choose-6 at
+  pub rule-6-other : (op-args Eq (term terms t .node) >>= two) ≡ none → choose-6 terms rows fact t ≡ none
+  unfolding when choose-6 at
   rule-6-other e = rw e
 
   -- another right
   pub rule-6-right : {l r : ℕ} → (op-args Eq (term terms t .node) >>= two) ≡ some (l, r) → call-one "Term_constr_id" (term terms r .node) ≡ none
-      → as-held choice.No ≡ choose-6 terms rows fact t
-  unfolding as-held is-held when choose-6 at
+      → choose-6 terms rows fact t ≡ none
+  unfolding when choose-6 at
   rule-6-right e f = rw (e, f)
 
   -- it holds
   pub rule-6-holds : {l r a : ℕ} → (op-args Eq (term terms t .node) >>= two) ≡ some (l, r) → call-one "Term_constr_id" (term terms r .node) ≡ some a
-      → as-held (choice.One a) ≡ choose-6 terms rows fact t
-  unfolding as-held is-held when choose-6 at
+      → choose-6 terms rows fact t ≡ some (choice.One a)
+  unfolding when choose-6 at
   rule-6-holds e f = rw (e, f)
 
   -- ---- rule 7
 
   -- no `and`
-  pub rule-7-other : op-args And (term terms t .node) ≡ none → as-held choice.No ≡ choose-7 terms rows fact t
-  unfolding as-held is-held when choose-7 at
+  pub rule-7-other : op-args And (term terms t .node) ≡ none → choose-7 terms rows fact t ≡ none
+  unfolding when choose-7 at
   rule-7-other e = rw e
 
   -- it holds
-  pub rule-7-holds : {ts : List ℕ} → op-args And (term terms t .node) ≡ some ts → as-held (choice.Parts t) ≡ choose-7 terms rows fact t
-  unfolding as-held is-held when choose-7 at
+  pub rule-7-holds : {ts : List ℕ} → op-args And (term terms t .node) ≡ some ts → choose-7 terms rows fact t ≡ some (choice.Parts t)
+  unfolding when choose-7 at
   rule-7-holds e = rw e
 
   -- ---- rule 8
 
   -- no `eq` of two
-  pub rule-8-other : (op-args Eq (term terms t .node) >>= two) ≡ none → as-held choice.No ≡ choose-8 terms rows fact t
-  unfolding as-held is-held when choose-8 at
+  pub rule-8-other : (op-args Eq (term terms t .node) >>= two) ≡ none → choose-8 terms rows fact t ≡ none
+  unfolding when choose-8 at
   rule-8-other e = rw e
 
   -- another name
   pub rule-8-name : {l r : ℕ} → (op-args Eq (term terms t .node) >>= two) ≡ some (l, r) → {b : Bool} → b ≡ starts-with fact (bytes "equation_") → b ≡ false
-      → as-held choice.No ≡ choose-8 terms rows fact t
-  unfolding as-held is-held when choose-8 at
+      → choose-8 terms rows fact t ≡ none
+  unfolding when choose-8 at
   rule-8-name e b f = rw (e, sym b ∙ f)
 
   -- it holds
   pub rule-8-holds : {l r : ℕ} → (op-args Eq (term terms t .node) >>= two) ≡ some (l, r) → {b : Bool} → b ≡ starts-with fact (bytes "equation_") → b ≡ true
-      → as-held (choice.One l) ≡ choose-8 terms rows fact t
-  unfolding as-held is-held when choose-8 at
+      → choose-8 terms rows fact t ≡ some (choice.One l)
+  unfolding when choose-8 at
   rule-8-holds e b f = rw (e, sym b ∙ f)
 
   -- ---- rule 9
 
   -- no `iff` of two
-  pub rule-9-other : (op-args Iff (term terms t .node) >>= two) ≡ none → as-held choice.No ≡ choose-9 terms rows fact t
-  unfolding as-held is-held when choose-9 at
+  pub rule-9-other : (op-args Iff (term terms t .node) >>= two) ≡ none → choose-9 terms rows fact t ≡ none
+  unfolding when choose-9 at
   rule-9-other e = rw e
 
   -- no hasEq on the left
-  pub rule-9-left : {l r : ℕ} {x : Argument} → (op-args Iff (term terms t .node) >>= two) ≡ some (l, r) → as-option x ≡ has-eq exclude-names terms l → x ≡ argument.No
-      → as-held (choice.Two l r) ≡ choose-9 terms rows fact t
-  unfolding as-held is-held when choose-9 at or-else as-option
+  pub rule-9-left : {l r : ℕ} {x : Argument} → (op-args Iff (term terms t .node) >>= two) ≡ some (l, r) → as-option x ≡ has-eq terms l → x ≡ argument.No
+      → choose-9 terms rows fact t ≡ some (choice.Two l r)
+  unfolding when choose-9 at or-else as-option
   rule-9-left e x f = rw (e, sym x ∙ ap as-option f)
 
   -- none on the right
-  pub rule-9-right : {l r a : ℕ} {x y : Argument} → (op-args Iff (term terms t .node) >>= two) ≡ some (l, r) → as-option x ≡ has-eq exclude-names terms l → x ≡ argument.Is a
-      → as-option y ≡ has-eq exclude-names terms r → y ≡ argument.No → as-held (choice.Two l r) ≡ choose-9 terms rows fact t
-  unfolding as-held is-held when choose-9 at or-else as-option
+  pub rule-9-right : {l r a : ℕ} {x y : Argument} → (op-args Iff (term terms t .node) >>= two) ≡ some (l, r) → as-option x ≡ has-eq terms l → x ≡ argument.Is a
+      → as-option y ≡ has-eq terms r → y ≡ argument.No → choose-9 terms rows fact t ≡ some (choice.Two l r)
+  unfolding when choose-9 at or-else as-option
   rule-9-right e x f y g = rw (e, sym x ∙ ap as-option f, sym y ∙ ap as-option g)
 
   -- both
-  pub rule-9-both : {l r a b : ℕ} {x y : Argument} → (op-args Iff (term terms t .node) >>= two) ≡ some (l, r) → as-option x ≡ has-eq exclude-names terms l → x ≡ argument.Is a
-      → as-option y ≡ has-eq exclude-names terms r → y ≡ argument.Is b → as-held (choice.One a) ≡ choose-9 terms rows fact t
-  unfolding as-held is-held when choose-9 at or-else as-option
+  pub rule-9-both : {l r a b : ℕ} {x y : Argument} → (op-args Iff (term terms t .node) >>= two) ≡ some (l, r) → as-option x ≡ has-eq terms l → x ≡ argument.Is a
+      → as-option y ≡ has-eq terms r → y ≡ argument.Is b → choose-9 terms rows fact t ≡ some (choice.One a)
+  unfolding when choose-9 at or-else as-option
   rule-9-both e x f y g = rw (e, sym x ∙ ap as-option f, sym y ∙ ap as-option g)
 
   -- ---- rule 10
 
   -- no `eq` of two
-  pub rule-10-other : (op-args Eq (term terms t .node) >>= two) ≡ none → as-held choice.No ≡ choose-10 terms rows fact t
-  unfolding as-held is-held when choose-10 at
+  pub rule-10-other : (op-args Eq (term terms t .node) >>= two) ≡ none → choose-10 terms rows fact t ≡ none
+  unfolding when choose-10 at
   rule-10-other e = rw e
 
   -- it holds
-  pub rule-10-holds : {l r : ℕ} → (op-args Eq (term terms t .node) >>= two) ≡ some (l, r) → as-held (choice.Two l r) ≡ choose-10 terms rows fact t
-  unfolding as-held is-held when choose-10 at
+  pub rule-10-holds : {l r : ℕ} → (op-args Eq (term terms t .node) >>= two) ≡ some (l, r) → choose-10 terms rows fact t ≡ some (choice.Two l r)
+  unfolding when choose-10 at
   rule-10-holds e = rw e
 
   -- ---- rule 11
 
   -- no `true`
-  pub rule-11-other : op-args TrueOp (term terms t .node) ≡ none → as-held choice.No ≡ choose-11 terms rows fact t
-  unfolding as-held is-held when choose-11 at
+  pub rule-11-other : op-args TrueOp (term terms t .node) ≡ none → choose-11 terms rows fact t ≡ none
+  unfolding when choose-11 at
   rule-11-other e = rw e
 
   -- it holds
-  pub rule-11-holds : {ts : List ℕ} → op-args TrueOp (term terms t .node) ≡ some ts → as-held choice.Drop ≡ choose-11 terms rows fact t
-  unfolding as-held is-held when choose-11 at
+  pub rule-11-holds : {ts : List ℕ} → op-args TrueOp (term terms t .node) ≡ some ts → choose-11 terms rows fact t ≡ some choice.Drop
+  unfolding when choose-11 at
   rule-11-holds e = rw e
 
 module _ (terms : List Term) (t : ℕ) where
   -- ---- refinements
 
   -- a squash is a refinement
-  pub refinement-squash : holds (λ ts. true) (call-args "Prims.squash" (term terms t .node)) ≡ true → true ≡ is-ambient-refinement exclude-names terms t
+  pub refinement-squash : holds (λ ts. true) (call-args "Prims.squash" (term terms t .node)) ≡ true → true ≡ is-ambient-refinement terms t
   unfolding is-ambient-refinement at
   refinement-squash e = rw e
 
   -- without a head there is none
-  pub refinement-none : holds (λ ts. true) (call-args "Prims.squash" (term terms t .node)) ≡ false → head (term terms t .node) ≡ none → false ≡ is-ambient-refinement exclude-names terms t
+  pub refinement-none : holds (λ ts. true) (call-args "Prims.squash" (term terms t .node)) ≡ false → head (term terms t .node) ≡ none → false ≡ is-ambient-refinement terms t
   unfolding is-ambient-refinement at holds
   refinement-none e f = rw (e, f)
 
   -- else the head's name says
   pub refinement-head : {n : Name} {b : Bool} → holds (λ ts. true) (call-args "Prims.squash" (term terms t .node)) ≡ false → head (term terms t .node) ≡ some n
-      → b ≡ starts-with n (bytes "Tm_refine_") → b ≡ is-ambient-refinement exclude-names terms t
+      → b ≡ starts-with n (bytes "Tm_refine_") → b ≡ is-ambient-refinement terms t
   unfolding is-ambient-refinement at holds
   refinement-head e f b = rw (e, f) b
 
   -- no squash of two: the type itself
-  pub payload-own : call-two "Prims.squash" (term terms t .node) ≡ none → t ≡ ambient-refinement-payload exclude-names terms t
+  pub payload-own : call-two "Prims.squash" (term terms t .node) ≡ none → t ≡ ambient-refinement-payload terms t
   unfolding ambient-refinement-payload at
   payload-own e = rw e
 
   -- a squash of two: its second argument
-  pub payload-squash : {a p : ℕ} → call-two "Prims.squash" (term terms t .node) ≡ some (a, p) → p ≡ ambient-refinement-payload exclude-names terms t
+  pub payload-squash : {a p : ℕ} → call-two "Prims.squash" (term terms t .node) ≡ some (a, p) → p ≡ ambient-refinement-payload terms t
   unfolding ambient-refinement-payload at
   payload-squash e = rw e
 
   -- ---- hasEq
 
   -- no Valid of one
-  pub has-eq-other : call-one "Valid" (term terms t .node) ≡ none → as-option argument.No ≡ has-eq exclude-names terms t
+  pub has-eq-other : call-one "Valid" (term terms t .node) ≡ none → as-option argument.No ≡ has-eq terms t
   unfolding has-eq at as-option
   has-eq-other e = rw e
 
   -- no hasEq of two in it
-  pub has-eq-valid : {v : ℕ} → call-one "Valid" (term terms t .node) ≡ some v → call-two "Prims.hasEq" (term terms v .node) ≡ none → as-option argument.No ≡ has-eq exclude-names terms t
+  pub has-eq-valid : {v : ℕ} → call-one "Valid" (term terms t .node) ≡ some v → call-two "Prims.hasEq" (term terms v .node) ≡ none → as-option argument.No ≡ has-eq terms t
   unfolding has-eq at as-option
   has-eq-valid e f = rw (e, f)
 
   -- its second argument
   pub has-eq-is : {v a b : ℕ} → call-one "Valid" (term terms t .node) ≡ some v → call-two "Prims.hasEq" (term terms v .node) ≡ some (a, b)
-      → as-option (argument.Is b) ≡ has-eq exclude-names terms t
+      → as-option (argument.Is b) ≡ has-eq terms t
   unfolding has-eq at as-option
   has-eq-is e f = rw (e, f)
 
   -- ---- tokens
 
   -- a token
-  pub token-is : (rows : List ℕ) {n : ℕ} {name : Name} → token exclude-names terms t ≡ some name → n ≡ row-head rows t → choice.Token n ≡ token-choice terms rows t
+  pub token-is : (rows : List ℕ) {n : ℕ} {name : Name} → token terms t ≡ some name → n ≡ row-head rows t → choice.Token n ≡ token-choice terms rows t
   unfolding token-choice
   token-is rows e f = rw (e, f)
 
   -- no token
-  pub token-not : (rows : List ℕ) → token exclude-names terms t ≡ none → choice.Nothing ≡ token-choice terms rows t
+  pub token-not : (rows : List ℕ) → token terms t ≡ none → choice.Nothing ≡ token-choice terms rows t
   unfolding token-choice
   token-not rows e = rw e

@@ -1,19 +1,18 @@
 ghost use Prim.Native.Nat.{ℕ, _+_, _≤_, _<_};
 ghost use mathlib.Core.Path.{_≡_};
-ghost use mathlib.Core.Option.{some};
 ghost use lib.Dec.{T};
 ghost use lib.ListN.{length};
 ghost use Rattle.model.specs.Names.{starts-with};
-ghost use Rattle.model.specs.Summaries.{exclude-names, is-ambient-refinement, ambient-refinement-payload, has-eq, maybe-add-ambient, summarize-kind};
+ghost use Rattle.model.specs.Reading.{most-names, most-terms};
+ghost use Rattle.model.specs.Outcome.{working-words};
+ghost use Rattle.model.specs.Summaries.{is-ambient-refinement, ambient-refinement-payload, has-eq, maybe-add-ambient, summarize-kind};
 ghost use Rattle.names.specs.Table.{Table, name-of};
 ghost use Rattle.terms.specs.Rows.{row-kind, row-head, row-start, row-end, has-head, groups-at, Rows};
 ghost use Rattle.rules.specs.Views.{Tables, terms-in, is-call-at, is-head-at, is-op-at, call-one-at, call-two-at, op-two-at, row-count, row-argument};
-ghost use Rattle.rules.specs.Choices.{kinded, choose-1, choose-2, choose-3, choose-4, choose-5, choose-6, choose-7, choose-8, choose-9, choose-10, choose-11, token-choice, ambient-choice, kind-choice, Within, is-held, as-held, as-option};
+ghost use Rattle.rules.specs.Choices.{Rule, Of-tables, Chosen, choose-1, choose-2, choose-3, choose-4, choose-5, choose-6, choose-7, choose-8, choose-9, choose-10, choose-11, token-choice, ambient-choice, kind-choice, Within, as-option};
 
-// What a rule comes to: it does not hold, or where the disjuncts of the fact's trigger names come from.
+// Where the disjuncts of a fact's trigger names come from.
 pub enum Choice {
-    // The rule does not hold.
-    No,
     // One disjunct: the free names of a term.
     One(usize),
     // Two disjuncts: the free names of two terms.
@@ -32,6 +31,12 @@ pub enum Choice {
     Drop,
     // The fact is ambient, and no root.
     Ambient,
+}
+
+// What a rule comes to: it does not hold, or its choice.
+enum Tried {
+    No,
+    Yes(Choice),
 }
 
 // An argument, where there is one.
@@ -76,7 +81,7 @@ const AND: usize = 3;
 
 // How many references a row has.
 fn count(rows: &[u32], used: usize, many: usize, t: usize) -> usize
-    requires { ⌜ (16384 ≤ length (now rows)) × (t < many) × (many ≤ 4096) × (row-start (now rows) t ≤ row-end (now rows) used many t) ⌝ }
+    requires { ⌜ (working-words ≤ length (now rows)) × (t < many) × (many ≤ most-terms) × (row-start (now rows) t ≤ row-end (now rows) used many t) ⌝ }
     ensures { λ r. ⌜ r ≡ row-count (now (rows .entry)) used many t ⌝ }
 {
     terms::end(rows, used, many, t) - terms::start(rows, t)
@@ -84,7 +89,7 @@ fn count(rows: &[u32], used: usize, many: usize, t: usize) -> usize
 
 // The i-th term that a row names.
 fn nth(refs: &[u32], rows: &[u32], t: usize, i: usize) -> usize
-    requires { ⌜ (16384 ≤ length (now rows)) × (t < 4096) × (row-start (now rows) t + i < length (now refs)) × (i ≤ 1) ⌝ }
+    requires { ⌜ (working-words ≤ length (now rows)) × (t < most-terms) × (row-start (now rows) t + i < length (now refs)) × (i ≤ 1) ⌝ }
     ensures { λ r. ⌜ r ≡ row-argument (now (refs .entry)) (now (rows .entry)) t i ⌝ }
 {
     let a = terms::start(rows, t);
@@ -93,46 +98,34 @@ fn nth(refs: &[u32], rows: &[u32], t: usize, i: usize) -> usize
 
 // Whether a row is a call of the name with this head code.
 fn is_call(names: &[u32], rows: &[u32], t: usize, code: usize) -> bool
-    requires { ⌜ (16384 ≤ length (now names)) × (16384 ≤ length (now rows)) × (t < 4096) × (T (has-head (row-kind (now rows) t)) → row-head (now rows) t < 2048) ⌝ }
+    requires { ⌜ (working-words ≤ length (now names)) × (working-words ≤ length (now rows)) × (t < most-terms) × (T (has-head (row-kind (now rows) t)) → row-head (now rows) t < most-names) ⌝ }
     ensures { λ r. ⌜ r ≡ is-call-at (now (names .entry)) (now (rows .entry)) t code ⌝ }
 {
-    if terms::kind(rows, t) != 2 {
+    if terms::kind(rows, t) != terms::CALL {
         return false;
     }
     let n = terms::head(rows, t);
-    words::at(names, 6144 + n) == code
+    words::at(names, names::CODE + n) == code
 }
 
 // Whether a row is a `free` or a call of the name with this head code.
 fn is_head(names: &[u32], rows: &[u32], t: usize, code: usize) -> bool
-    requires { ⌜ (16384 ≤ length (now names)) × (16384 ≤ length (now rows)) × (t < 4096) × (T (has-head (row-kind (now rows) t)) → row-head (now rows) t < 2048) ⌝ }
+    requires { ⌜ (working-words ≤ length (now names)) × (working-words ≤ length (now rows)) × (t < most-terms) × (T (has-head (row-kind (now rows) t)) → row-head (now rows) t < most-names) ⌝ }
     ensures { λ r. ⌜ r ≡ is-head-at (now (names .entry)) (now (rows .entry)) t code ⌝ }
 {
-    if !has_head(rows, t) {
+    if !terms::has_head(rows, t) {
         return false;
     }
     let n = terms::head(rows, t);
-    words::at(names, 6144 + n) == code
-}
-
-// Whether a row is a `free` or a call.
-fn has_head(rows: &[u32], t: usize) -> bool
-    requires { ⌜ (16384 ≤ length (now rows)) × (t < 4096) ⌝ }
-    ensures { λ r. ⌜ r ≡ has-head (row-kind (now (rows .entry)) t) ⌝ }
-{
-    let kind = terms::kind(rows, t);
-    if kind == 0 {
-        return true;
-    }
-    kind == 2
+    words::at(names, names::CODE + n) == code
 }
 
 // Whether a row is an `op` of the word with this number.
 fn is_op(rows: &[u32], t: usize, op: usize) -> bool
-    requires { ⌜ (16384 ≤ length (now rows)) × (t < 4096) ⌝ }
+    requires { ⌜ (working-words ≤ length (now rows)) × (t < most-terms) ⌝ }
     ensures { λ r. ⌜ r ≡ is-op-at (now (rows .entry)) t op ⌝ }
 {
-    if terms::kind(rows, t) != 3 {
+    if terms::kind(rows, t) != terms::OP {
         return false;
     }
     terms::op(rows, t) == op
@@ -149,7 +142,7 @@ fn call_one(
     t: usize,
     code: usize,
 ) -> Argument
-    requires { ⌜ Rows (now refs) (now rows) used many named × (16384 ≤ length (now names)) × (t < many) ⌝ }
+    requires { ⌜ Rows (now refs) (now rows) used many named × (working-words ≤ length (now names)) × (t < many) ⌝ }
     ensures { λ r. ⌜ r ≡ call-one-at (now (names .entry)) (now (refs .entry)) (now (rows .entry)) used many t code ⌝ }
 {
     if !is_call(names, rows, t, code) {
@@ -172,7 +165,7 @@ fn call_two(
     t: usize,
     code: usize,
 ) -> Arguments
-    requires { ⌜ Rows (now refs) (now rows) used many named × (16384 ≤ length (now names)) × (t < many) ⌝ }
+    requires { ⌜ Rows (now refs) (now rows) used many named × (working-words ≤ length (now names)) × (t < many) ⌝ }
     ensures { λ r. ⌜ r ≡ call-two-at (now (names .entry)) (now (refs .entry)) (now (rows .entry)) used many t code ⌝ }
 {
     if !is_call(names, rows, t, code) {
@@ -217,7 +210,7 @@ fn name_starts(file: &[u8], names: &[u32], named: usize, n: usize, prefix: &[u8]
     ensures { λ r. ⌜ r ≡ starts-with (name-of (now (file .entry)) (now (names .entry)) n) (now (prefix .entry)) ⌝ }
 {
     let a = words::at(names, n);
-    let e = a + words::at(names, 2048 + n);
+    let e = a + words::at(names, names::LENGTH + n);
     text::starts_with(file, a, e, prefix)
 }
 
@@ -233,12 +226,12 @@ fn is_ambient_refinement(
     ty: usize,
 ) -> bool
     requires { ⌜ Tables (now file) (now names) (now refs) (now rows) named used many × (ty < many) ⌝ }
-    ensures { λ r. ⌜ r ≡ is-ambient-refinement exclude-names (terms-in (now (file .entry)) (now (names .entry)) (now (refs .entry)) (now (rows .entry)) used many) ty ⌝ }
+    ensures { λ r. ⌜ r ≡ is-ambient-refinement (terms-in (now (file .entry)) (now (names .entry)) (now (refs .entry)) (now (rows .entry)) used many) ty ⌝ }
 {
     if is_call(names, rows, ty, SQUASH) {
         return true;
     }
-    if !has_head(rows, ty) {
+    if !terms::has_head(rows, ty) {
         return false;
     }
     let n = terms::head(rows, ty);
@@ -257,7 +250,7 @@ fn ambient_refinement_payload(
     ty: usize,
 ) -> usize
     requires { ⌜ Tables (now file) (now names) (now refs) (now rows) named used many × (ty < many) ⌝ }
-    ensures payload { λ r. ⌜ r ≡ ambient-refinement-payload exclude-names (terms-in (now (file .entry)) (now (names .entry)) (now (refs .entry)) (now (rows .entry)) used many) ty ⌝ }
+    ensures payload { λ r. ⌜ r ≡ ambient-refinement-payload (terms-in (now (file .entry)) (now (names .entry)) (now (refs .entry)) (now (rows .entry)) used many) ty ⌝ }
     ensures within { λ r. ⌜ r < many ⌝ }
 {
     let Arguments::Are(_, payload) = call_two(names, refs, rows, named, used, many, ty, SQUASH)
@@ -307,7 +300,7 @@ fn has_eq(
     t: usize,
 ) -> Argument
     requires { ⌜ Tables (now file) (now names) (now refs) (now rows) named used many × (t < many) ⌝ }
-    ensures argument { λ r. ⌜ as-option r ≡ has-eq exclude-names (terms-in (now (file .entry)) (now (names .entry)) (now (refs .entry)) (now (rows .entry)) used many) t ⌝ }
+    ensures argument { λ r. ⌜ as-option r ≡ has-eq (terms-in (now (file .entry)) (now (names .entry)) (now (refs .entry)) (now (rows .entry)) used many) t ⌝ }
     ensures within { λ r. ⌜ ((u : ℕ) → r ≡ Argument.Is u → u < many) ⌝ }
 {
     let Argument::Is(valid) = call_one(names, refs, rows, named, used, many, t, VALID) else {
@@ -330,18 +323,17 @@ fn rule_1(
     many: usize,
     name: usize,
     t: usize,
-) -> Choice
-    requires { ⌜ Tables (now file) (now names) (now refs) (now rows) named used many × (name < named) × (t < many) ⌝ }
-    ensures rule { λ r. ⌜ as-held r ≡ choose-1 (terms-in (now (file .entry)) (now (names .entry)) (now (refs .entry)) (now (rows .entry)) used many) (now (rows .entry)) (name-of (now (file .entry)) (now (names .entry)) name) t ⌝ }
-    ensures within { λ r. ⌜ Within named many r ⌝ }
+) -> Tried
+    requires { ⌜ Of-tables (now file) (now names) (now refs) (now rows) named used many name t ⌝ }
+    ensures { λ r. ⌜ Rule choose-1 (now (file .entry)) (now (names .entry)) (now (refs .entry)) (now (rows .entry)) named used many name t r ⌝ }
 {
     let Arguments::Are(left, _) = op_two(refs, rows, named, used, many, t, IFF) else {
-        return Choice::No;
+        return Tried::No;
     };
     if !name_starts(file, names, named, name, b"l_quant_interp") {
-        return Choice::No;
+        return Tried::No;
     }
-    Choice::One(left)
+    Tried::Yes(Choice::One(left))
 }
 
 // (2) Name starting assumption_: {whole term}.
@@ -355,15 +347,14 @@ fn rule_2(
     many: usize,
     name: usize,
     t: usize,
-) -> Choice
-    requires { ⌜ Tables (now file) (now names) (now refs) (now rows) named used many × (name < named) × (t < many) ⌝ }
-    ensures rule { λ r. ⌜ as-held r ≡ choose-2 (terms-in (now (file .entry)) (now (names .entry)) (now (refs .entry)) (now (rows .entry)) used many) (now (rows .entry)) (name-of (now (file .entry)) (now (names .entry)) name) t ⌝ }
-    ensures within { λ r. ⌜ Within named many r ⌝ }
+) -> Tried
+    requires { ⌜ Of-tables (now file) (now names) (now refs) (now rows) named used many name t ⌝ }
+    ensures { λ r. ⌜ Rule choose-2 (now (file .entry)) (now (names .entry)) (now (refs .entry)) (now (rows .entry)) named used many name t r ⌝ }
 {
     if !name_starts(file, names, named, name, b"assumption_") {
-        return Choice::No;
+        return Tried::No;
     }
-    Choice::One(t)
+    Tried::Yes(Choice::One(t))
 }
 
 // (3) HasType of two, type a squash or a refinement: the triggers of the payload, or ambient root.
@@ -377,18 +368,17 @@ fn rule_3(
     many: usize,
     name: usize,
     t: usize,
-) -> Choice
-    requires { ⌜ Tables (now file) (now names) (now refs) (now rows) named used many × (name < named) × (t < many) ⌝ }
-    ensures rule { λ r. ⌜ as-held r ≡ choose-3 (terms-in (now (file .entry)) (now (names .entry)) (now (refs .entry)) (now (rows .entry)) used many) (now (rows .entry)) (name-of (now (file .entry)) (now (names .entry)) name) t ⌝ }
-    ensures within { λ r. ⌜ Within named many r ⌝ }
+) -> Tried
+    requires { ⌜ Of-tables (now file) (now names) (now refs) (now rows) named used many name t ⌝ }
+    ensures { λ r. ⌜ Rule choose-3 (now (file .entry)) (now (names .entry)) (now (refs .entry)) (now (rows .entry)) named used many name t r ⌝ }
 {
     let Arguments::Are(_, ty) = call_two(names, refs, rows, named, used, many, t, HAS_TYPE) else {
-        return Choice::No;
+        return Tried::No;
     };
     if !is_ambient_refinement(file, names, refs, rows, named, used, many, ty) {
-        return Choice::No;
+        return Tried::No;
     }
-    Choice::Refinement(ambient_refinement_payload(file, names, refs, rows, named, used, many, ty))
+    Tried::Yes(Choice::Refinement(ambient_refinement_payload(file, names, refs, rows, named, used, many, ty)))
 }
 
 // (4) Valid of ApplyTT of __uu__PartialApp and a token: {token}, {token less @tok}; no token, no disjunct.
@@ -402,13 +392,12 @@ fn rule_4(
     many: usize,
     name: usize,
     t: usize,
-) -> Choice
-    requires { ⌜ Tables (now file) (now names) (now refs) (now rows) named used many × (name < named) × (t < many) ⌝ }
-    ensures rule { λ r. ⌜ as-held r ≡ choose-4 (terms-in (now (file .entry)) (now (names .entry)) (now (refs .entry)) (now (rows .entry)) used many) (now (rows .entry)) (name-of (now (file .entry)) (now (names .entry)) name) t ⌝ }
-    ensures within { λ r. ⌜ Within named many r ⌝ }
+) -> Tried
+    requires { ⌜ Of-tables (now file) (now names) (now refs) (now rows) named used many name t ⌝ }
+    ensures { λ r. ⌜ Rule choose-4 (now (file .entry)) (now (names .entry)) (now (refs .entry)) (now (rows .entry)) named used many name t r ⌝ }
 {
     let Argument::Is(applied) = call_one(names, refs, rows, named, used, many, t, VALID) else {
-        return Choice::No;
+        return Tried::No;
     };
     let Arguments::Are(function, argument) = call_two(
         names,
@@ -420,12 +409,14 @@ fn rule_4(
         applied,
         APPLY_TT,
     ) else {
-        return Choice::No;
+        return Tried::No;
     };
     if !is_head(names, rows, function, PARTIAL_APP) {
-        return Choice::No;
+        return Tried::No;
     }
-    token(file, names, refs, rows, named, used, many, argument)
+    Tried::Yes(token(
+        file, names, refs, rows, named, used, many, argument,
+    ))
 }
 
 // (5) Valid, IsTotFun, is-Tm_arrow of one, HasType of two: {first}.
@@ -439,24 +430,23 @@ fn rule_5(
     many: usize,
     name: usize,
     t: usize,
-) -> Choice
-    requires { ⌜ Tables (now file) (now names) (now refs) (now rows) named used many × (name < named) × (t < many) ⌝ }
-    ensures rule { λ r. ⌜ as-held r ≡ choose-5 (terms-in (now (file .entry)) (now (names .entry)) (now (refs .entry)) (now (rows .entry)) used many) (now (rows .entry)) (name-of (now (file .entry)) (now (names .entry)) name) t ⌝ }
-    ensures within { λ r. ⌜ Within named many r ⌝ }
+) -> Tried
+    requires { ⌜ Of-tables (now file) (now names) (now refs) (now rows) named used many name t ⌝ }
+    ensures { λ r. ⌜ Rule choose-5 (now (file .entry)) (now (names .entry)) (now (refs .entry)) (now (rows .entry)) named used many name t r ⌝ }
 {
     if let Argument::Is(first) = call_one(names, refs, rows, named, used, many, t, VALID) {
-        return Choice::One(first);
+        return Tried::Yes(Choice::One(first));
     }
     if let Arguments::Are(first, _) = call_two(names, refs, rows, named, used, many, t, HAS_TYPE) {
-        return Choice::One(first);
+        return Tried::Yes(Choice::One(first));
     }
     if let Argument::Is(first) = call_one(names, refs, rows, named, used, many, t, IS_TOT_FUN) {
-        return Choice::One(first);
+        return Tried::Yes(Choice::One(first));
     }
     if let Argument::Is(first) = call_one(names, refs, rows, named, used, many, t, IS_TM_ARROW) {
-        return Choice::One(first);
+        return Tried::Yes(Choice::One(first));
     }
-    Choice::No
+    Tried::No
 }
 
 // (6) `eq` of two whose right is Term_constr_id of one: {its argument}.
@@ -470,13 +460,12 @@ fn rule_6(
     many: usize,
     name: usize,
     t: usize,
-) -> Choice
-    requires { ⌜ Tables (now file) (now names) (now refs) (now rows) named used many × (name < named) × (t < many) ⌝ }
-    ensures rule { λ r. ⌜ as-held r ≡ choose-6 (terms-in (now (file .entry)) (now (names .entry)) (now (refs .entry)) (now (rows .entry)) used many) (now (rows .entry)) (name-of (now (file .entry)) (now (names .entry)) name) t ⌝ }
-    ensures within { λ r. ⌜ Within named many r ⌝ }
+) -> Tried
+    requires { ⌜ Of-tables (now file) (now names) (now refs) (now rows) named used many name t ⌝ }
+    ensures { λ r. ⌜ Rule choose-6 (now (file .entry)) (now (names .entry)) (now (refs .entry)) (now (rows .entry)) named used many name t r ⌝ }
 {
     let Arguments::Are(_, right) = op_two(refs, rows, named, used, many, t, EQ) else {
-        return Choice::No;
+        return Tried::No;
     };
     let Argument::Is(argument) = call_one(
         names,
@@ -488,9 +477,9 @@ fn rule_6(
         right,
         TERM_CONSTR_ID,
     ) else {
-        return Choice::No;
+        return Tried::No;
     };
-    Choice::One(argument)
+    Tried::Yes(Choice::One(argument))
 }
 
 // (7) `and`: all triggers of its parts.
@@ -504,15 +493,14 @@ fn rule_7(
     many: usize,
     name: usize,
     t: usize,
-) -> Choice
-    requires { ⌜ Tables (now file) (now names) (now refs) (now rows) named used many × (name < named) × (t < many) ⌝ }
-    ensures rule { λ r. ⌜ as-held r ≡ choose-7 (terms-in (now (file .entry)) (now (names .entry)) (now (refs .entry)) (now (rows .entry)) used many) (now (rows .entry)) (name-of (now (file .entry)) (now (names .entry)) name) t ⌝ }
-    ensures within { λ r. ⌜ Within named many r ⌝ }
+) -> Tried
+    requires { ⌜ Of-tables (now file) (now names) (now refs) (now rows) named used many name t ⌝ }
+    ensures { λ r. ⌜ Rule choose-7 (now (file .entry)) (now (names .entry)) (now (refs .entry)) (now (rows .entry)) named used many name t r ⌝ }
 {
     if !is_op(rows, t, AND) {
-        return Choice::No;
+        return Tried::No;
     }
-    Choice::Parts(t)
+    Tried::Yes(Choice::Parts(t))
 }
 
 // (8) `eq` of two, name starting equation_: {left}.
@@ -526,18 +514,17 @@ fn rule_8(
     many: usize,
     name: usize,
     t: usize,
-) -> Choice
-    requires { ⌜ Tables (now file) (now names) (now refs) (now rows) named used many × (name < named) × (t < many) ⌝ }
-    ensures rule { λ r. ⌜ as-held r ≡ choose-8 (terms-in (now (file .entry)) (now (names .entry)) (now (refs .entry)) (now (rows .entry)) used many) (now (rows .entry)) (name-of (now (file .entry)) (now (names .entry)) name) t ⌝ }
-    ensures within { λ r. ⌜ Within named many r ⌝ }
+) -> Tried
+    requires { ⌜ Of-tables (now file) (now names) (now refs) (now rows) named used many name t ⌝ }
+    ensures { λ r. ⌜ Rule choose-8 (now (file .entry)) (now (names .entry)) (now (refs .entry)) (now (rows .entry)) named used many name t r ⌝ }
 {
     let Arguments::Are(left, _) = op_two(refs, rows, named, used, many, t, EQ) else {
-        return Choice::No;
+        return Tried::No;
     };
     if !name_starts(file, names, named, name, b"equation_") {
-        return Choice::No;
+        return Tried::No;
     }
-    Choice::One(left)
+    Tried::Yes(Choice::One(left))
 }
 
 // (9) `iff` of two: hasEq on both sides gives {left's second argument}; else {left}, {right}.
@@ -551,21 +538,20 @@ fn rule_9(
     many: usize,
     name: usize,
     t: usize,
-) -> Choice
-    requires { ⌜ Tables (now file) (now names) (now refs) (now rows) named used many × (name < named) × (t < many) ⌝ }
-    ensures rule { λ r. ⌜ as-held r ≡ choose-9 (terms-in (now (file .entry)) (now (names .entry)) (now (refs .entry)) (now (rows .entry)) used many) (now (rows .entry)) (name-of (now (file .entry)) (now (names .entry)) name) t ⌝ }
-    ensures within { λ r. ⌜ Within named many r ⌝ }
+) -> Tried
+    requires { ⌜ Of-tables (now file) (now names) (now refs) (now rows) named used many name t ⌝ }
+    ensures { λ r. ⌜ Rule choose-9 (now (file .entry)) (now (names .entry)) (now (refs .entry)) (now (rows .entry)) named used many name t r ⌝ }
 {
     let Arguments::Are(left, right) = op_two(refs, rows, named, used, many, t, IFF) else {
-        return Choice::No;
+        return Tried::No;
     };
     let Argument::Is(ty) = has_eq(file, names, refs, rows, named, used, many, left) else {
-        return Choice::Two(left, right);
+        return Tried::Yes(Choice::Two(left, right));
     };
     let Argument::Is(_) = has_eq(file, names, refs, rows, named, used, many, right) else {
-        return Choice::Two(left, right);
+        return Tried::Yes(Choice::Two(left, right));
     };
-    Choice::One(ty)
+    Tried::Yes(Choice::One(ty))
 }
 
 // (10) `eq` of two: {left}, {right}.
@@ -579,15 +565,14 @@ fn rule_10(
     many: usize,
     name: usize,
     t: usize,
-) -> Choice
-    requires { ⌜ Tables (now file) (now names) (now refs) (now rows) named used many × (name < named) × (t < many) ⌝ }
-    ensures rule { λ r. ⌜ as-held r ≡ choose-10 (terms-in (now (file .entry)) (now (names .entry)) (now (refs .entry)) (now (rows .entry)) used many) (now (rows .entry)) (name-of (now (file .entry)) (now (names .entry)) name) t ⌝ }
-    ensures within { λ r. ⌜ Within named many r ⌝ }
+) -> Tried
+    requires { ⌜ Of-tables (now file) (now names) (now refs) (now rows) named used many name t ⌝ }
+    ensures { λ r. ⌜ Rule choose-10 (now (file .entry)) (now (names .entry)) (now (refs .entry)) (now (rows .entry)) named used many name t r ⌝ }
 {
     let Arguments::Are(left, right) = op_two(refs, rows, named, used, many, t, EQ) else {
-        return Choice::No;
+        return Tried::No;
     };
-    Choice::Two(left, right)
+    Tried::Yes(Choice::Two(left, right))
 }
 
 // (11) `true`: drop.
@@ -601,22 +586,14 @@ fn rule_11(
     many: usize,
     name: usize,
     t: usize,
-) -> Choice
-    requires { ⌜ Tables (now file) (now names) (now refs) (now rows) named used many × (name < named) × (t < many) ⌝ }
-    ensures rule { λ r. ⌜ as-held r ≡ choose-11 (terms-in (now (file .entry)) (now (names .entry)) (now (refs .entry)) (now (rows .entry)) used many) (now (rows .entry)) (name-of (now (file .entry)) (now (names .entry)) name) t ⌝ }
-    ensures within { λ r. ⌜ Within named many r ⌝ }
+) -> Tried
+    requires { ⌜ Of-tables (now file) (now names) (now refs) (now rows) named used many name t ⌝ }
+    ensures { λ r. ⌜ Rule choose-11 (now (file .entry)) (now (names .entry)) (now (refs .entry)) (now (rows .entry)) named used many name t r ⌝ }
 {
     if !is_op(rows, t, TRUE) {
-        return Choice::No;
+        return Tried::No;
     }
-    Choice::Drop
-}
-
-// Whether the rule holds.
-fn held(c: Choice) -> bool
-    ensures { λ r. ⌜ r ≡ is-held c ⌝ }
-{
-    if let Choice::No = c { false } else { true }
+    Tried::Yes(Choice::Drop)
 }
 
 // `maybe_add_ambient`: the first of the twelve rules that holds. The term has no triggers.
@@ -631,54 +608,41 @@ pub fn maybe_add_ambient(
     name: usize,
     t: usize,
 ) -> Choice
-    requires { ⌜ Tables (now file) (now names) (now refs) (now rows) named used many × (name < named) × (t < many) × (groups-at (now rows) t ≡ 0) ⌝ }
-    ensures kind { λ r. ⌜ kinded (terms-in (now (file .entry)) (now (names .entry)) (now (refs .entry)) (now (rows .entry)) used many) (name-of (now (file .entry)) (now (names .entry))) r ≡ some (maybe-add-ambient exclude-names (terms-in (now (file .entry)) (now (names .entry)) (now (refs .entry)) (now (rows .entry)) used many) (name-of (now (file .entry)) (now (names .entry)) name) t) ⌝ }
-    ensures within { λ r. ⌜ Within named many r ⌝ }
-    ensures choice { λ r. ⌜ r ≡ ambient-choice (terms-in (now (file .entry)) (now (names .entry)) (now (refs .entry)) (now (rows .entry)) used many) (now (rows .entry)) (name-of (now (file .entry)) (now (names .entry)) name) t ⌝ }
+    requires { ⌜ Of-tables (now file) (now names) (now refs) (now rows) named used many name t × (groups-at (now rows) t ≡ 0) ⌝ }
+    ensures { λ r. ⌜ Chosen ambient-choice maybe-add-ambient (now (file .entry)) (now (names .entry)) (now (refs .entry)) (now (rows .entry)) named used many name t r ⌝ }
 {
-    let c1 = rule_1(file, names, refs, rows, named, used, many, name, t);
-    if held(c1) {
-        return c1;
+    if let Tried::Yes(chosen) = rule_1(file, names, refs, rows, named, used, many, name, t) {
+        return chosen;
     }
-    let c2 = rule_2(file, names, refs, rows, named, used, many, name, t);
-    if held(c2) {
-        return c2;
+    if let Tried::Yes(chosen) = rule_2(file, names, refs, rows, named, used, many, name, t) {
+        return chosen;
     }
-    let c3 = rule_3(file, names, refs, rows, named, used, many, name, t);
-    if held(c3) {
-        return c3;
+    if let Tried::Yes(chosen) = rule_3(file, names, refs, rows, named, used, many, name, t) {
+        return chosen;
     }
-    let c4 = rule_4(file, names, refs, rows, named, used, many, name, t);
-    if held(c4) {
-        return c4;
+    if let Tried::Yes(chosen) = rule_4(file, names, refs, rows, named, used, many, name, t) {
+        return chosen;
     }
-    let c5 = rule_5(file, names, refs, rows, named, used, many, name, t);
-    if held(c5) {
-        return c5;
+    if let Tried::Yes(chosen) = rule_5(file, names, refs, rows, named, used, many, name, t) {
+        return chosen;
     }
-    let c6 = rule_6(file, names, refs, rows, named, used, many, name, t);
-    if held(c6) {
-        return c6;
+    if let Tried::Yes(chosen) = rule_6(file, names, refs, rows, named, used, many, name, t) {
+        return chosen;
     }
-    let c7 = rule_7(file, names, refs, rows, named, used, many, name, t);
-    if held(c7) {
-        return c7;
+    if let Tried::Yes(chosen) = rule_7(file, names, refs, rows, named, used, many, name, t) {
+        return chosen;
     }
-    let c8 = rule_8(file, names, refs, rows, named, used, many, name, t);
-    if held(c8) {
-        return c8;
+    if let Tried::Yes(chosen) = rule_8(file, names, refs, rows, named, used, many, name, t) {
+        return chosen;
     }
-    let c9 = rule_9(file, names, refs, rows, named, used, many, name, t);
-    if held(c9) {
-        return c9;
+    if let Tried::Yes(chosen) = rule_9(file, names, refs, rows, named, used, many, name, t) {
+        return chosen;
     }
-    let c10 = rule_10(file, names, refs, rows, named, used, many, name, t);
-    if held(c10) {
-        return c10;
+    if let Tried::Yes(chosen) = rule_10(file, names, refs, rows, named, used, many, name, t) {
+        return chosen;
     }
-    let c11 = rule_11(file, names, refs, rows, named, used, many, name, t);
-    if held(c11) {
-        return c11;
+    if let Tried::Yes(chosen) = rule_11(file, names, refs, rows, named, used, many, name, t) {
+        return chosen;
     }
     Choice::Ambient
 }
@@ -695,10 +659,8 @@ pub fn summarize_kind(
     name: usize,
     t: usize,
 ) -> Choice
-    requires { ⌜ Tables (now file) (now names) (now refs) (now rows) named used many × (name < named) × (t < many) ⌝ }
-    ensures kind { λ r. ⌜ kinded (terms-in (now (file .entry)) (now (names .entry)) (now (refs .entry)) (now (rows .entry)) used many) (name-of (now (file .entry)) (now (names .entry))) r ≡ some (summarize-kind exclude-names (terms-in (now (file .entry)) (now (names .entry)) (now (refs .entry)) (now (rows .entry)) used many) (name-of (now (file .entry)) (now (names .entry)) name) t) ⌝ }
-    ensures within { λ r. ⌜ Within named many r ⌝ }
-    ensures choice { λ r. ⌜ r ≡ kind-choice (terms-in (now (file .entry)) (now (names .entry)) (now (refs .entry)) (now (rows .entry)) used many) (now (rows .entry)) (name-of (now (file .entry)) (now (names .entry)) name) t ⌝ }
+    requires { ⌜ Of-tables (now file) (now names) (now refs) (now rows) named used many name t ⌝ }
+    ensures { λ r. ⌜ Chosen kind-choice summarize-kind (now (file .entry)) (now (names .entry)) (now (refs .entry)) (now (rows .entry)) named used many name t r ⌝ }
 {
     if terms::group_count(rows, t) == 0 {
         return maybe_add_ambient(file, names, refs, rows, named, used, many, name, t);

@@ -11,7 +11,7 @@ use Rattle.model.specs.Reading.{spell}
 use Rattle.names.specs.Table.{names-of}
 use Rattle.names.proofs.Laws.{names-length}
 use Rattle.terms.proofs.Table.{rows-named}
-use Rattle.gather.specs.Sets.{Same-but}
+use Rattle.words.specs.Slices.{Same-but}
 use Rattle.gather.proofs.Walking.{rows-marked}
 use Rattle.summary.specs.declared.Summary.{Summary}
 use Rattle.summary.specs.declared.Summarized.{Summarized}

@@ -4,22 +4,23 @@ use native.Mathlib.Omega.{arith}
 use mathlib.Core.Path.{_≡_, refl}
 use mathlib.Core.Bool.{Bool, true, false, cond}
 use mathlib.Core.List.{List, [], _∷_}
-use mathlib.Core.Option.{some}
 use Rattle.model.specs.Lists.{fold-left, part}
 use Rattle.model.specs.Names.{Name}
 use Rattle.model.specs.Terms.{Term}
-use Rattle.model.specs.Summaries.{Kinded, Sum-drop, Sum-ambient, Sum-triggers, exclude-names, is-empty, free-top-level-names, triggers-of-term, token-triggers}
+use Rattle.model.specs.Summaries.{Kinded, Sum-drop, Sum-ambient, Sum-triggers, is-empty, free-top-level-names, triggers-of-term}
 use Rattle.model.specs.declared.AsumKind.the-variants as asum
-use Rattle.names.specs.Table.{Table, name-of}
+use Rattle.names.specs.Table.{Table, Excludes, name-of}
 use Rattle.names.proofs.Laws.{names-length}
 use Rattle.terms.specs.Rows.{row-start, row-end, terms-of-words, terms-of}
 use Rattle.terms.proofs.Table.{terms-named}
-use Rattle.gather.specs.Sets.{Same-but, Named}
-use Rattle.gather.proofs.Steps.{same-self, same-back}
+use Rattle.words.specs.Slices.{Same-but}
+use Rattle.gather.specs.Sets.{Named}
+use Rattle.words.proofs.Slices.{same-self}
+use Rattle.gather.proofs.Walking.{excluded-same}
 use Rattle.triggers.specs.Entries.{Files, Filled}
 use Rattle.triggers.specs.Filings.{Filing, filing, file-list, file-groups, file-parts, Files-as}
 use Rattle.triggers.specs.declared.Filed.{Filed}
-use Rattle.triggers.proofs.Marked.{named-marked, fresh-later}
+use Rattle.triggers.proofs.Marked.{fresh-later}
 use Rattle.rules.specs.Views.{Tables, terms-in}
 use Rattle.rules.specs.Choices.{refinement-kind, parts-kind, kinded, Within}
 use Rattle.rules.specs.declared.Choice.{Choice}
@@ -41,7 +42,6 @@ Choice-files file names refs rows out names′ rows′ out′ named used many ma
 -- a choice changes no name word from 8,192 on
 pub trimmed-same : {file names : List ℕ} {named : ℕ} → Table file names named → (c : Choice) → Same-but 0 8192 names (trimmed-table file names named c)
 unfolding trimmed-table
-trimmed-same {names = names} table choice.No = same-self 0 8192 names
 trimmed-same {names = names} table (choice.One t) = same-self 0 8192 names
 trimmed-same {names = names} table (choice.Two t u) = same-self 0 8192 names
 trimmed-same {names = names} table (choice.Groups t) = same-self 0 8192 names
@@ -60,121 +60,132 @@ refinement-trimmed false sets = refl
 
 module _ {file names refs rows out names′ rows′ out′ : List ℕ} {named used many mark at : ℕ} {r : Sorted} (tables : Tables file names refs rows named used many) where
   -- a kind that holds names of the table is filed
-  sorts-comes : (f : List Term → Kinded) → f (terms-in file names refs rows used many) .trimmed ≡ []
-      → Sorts names rows out names′ rows′ out′ named mark at (λ name. f (terms-of name refs rows used many)) r
-      → Comes-to file names names′ out′ named at (f (terms-in file names refs rows used many)) r
+  sorts-comes : (f : List Name → List Term → Kinded) → ((exclude : List Name) → f exclude (terms-in file names refs rows used many) .trimmed ≡ [])
+      → Sorts names rows out names′ rows′ out′ named mark at (λ exclude name. f exclude (terms-of name refs rows used many)) r
+      → (exclude : List Name) → Excludes exclude file names named
+      → Comes-to file names names′ out′ named at (f exclude (terms-in file names refs rows used many)) r
   unfolding terms-in fold-left
-  sorts-comes f e s =
+  sorts-comes f e s exclude excludes =
       let kept = table-marked (tables .name-table) (s .marks .names-same) in
-      let few = tables .name-table .few in
-      let d : Named (name-of file names′) names named = named-marked (same-back (s .marks .names-same)) few (named-of (kept .table)) in
-      let q : terms-of (name-of file names′) refs rows used many ≡ terms-of (name-of file names) refs rows used many = terms-named (name-of file names′) (name-of file names) (kept .name) (tables .term-table) in
-      go (rw q at (s .kinds (name-of file names′) d))
+      let d : Named exclude (name-of file names′) names named = named-of names (kept .table) (omega arith) excludes (kept .name) (λ n l. refl) in
+      let q : terms-of (name-of file names′) refs rows used many ≡ terms-of (name-of file names) refs rows used many =
+          terms-named (name-of file names′) (name-of file names) (kept .name) (tables .term-table) in
+      go (rw q at (s .kinds exclude (name-of file names′) d))
     where
-      go : {x : Sorted} → Kinds (name-of file names′) named (f (terms-of (name-of file names) refs rows used many)) at out′ x
-          → Comes-to file names names′ out′ named at (f (terms-of (name-of file names) refs rows used many)) x
+      go : {x : Sorted} → Kinds (name-of file names′) named (f exclude (terms-of (name-of file names) refs rows used many)) at out′ x
+          → Comes-to file names names′ out′ named at (f exclude (terms-of (name-of file names) refs rows used many)) x
       go (kind-there a b c h k) =
           let kept = table-marked (tables .name-table) (s .marks .names-same) in
-          kind-filed (record { kind = a; disjuncts = b; ends = c; high = h; entry-words = k; table = kept .table; spelled = rw e (kept .names); more = omega arith; same-names = kept .name })
-      go (no-room p) = entries-over (rw e (omega (arith, names-length file names named, tables .name-table .few))) p
+          let few = tables .name-table .few in
+          kind-filed (record {
+            kind = a;
+            disjuncts = b;
+            ends = c;
+            high = h;
+            entry-words = k;
+            table = kept .table;
+            spelled = rw (e exclude) (kept .names);
+            more = omega arith;
+            same-names = kept .name;
+            same-excluded = λ n l. excluded-same (s .marks .names-same) n (omega arith);
+          })
+      go (no-room p) = entries-over (rw (e exclude) (omega (arith, names-length file names named, tables .name-table .few))) p
 
   -- a choice whose kind was filed
-  sorts-chooses : (f : List Term → Kinded) (c : Choice) → kinded (terms-in file names refs rows used many) (name-of file names) c ≡ some (f (terms-in file names refs rows used many))
-      → trimmed-table file names named c ≡ names → f (terms-in file names refs rows used many) .trimmed ≡ []
-      → Sorts names rows out names′ rows′ out′ named mark at (λ name. f (terms-of name refs rows used many)) r
+  sorts-chooses : (f : List Name → List Term → Kinded) (c : Choice)
+      → ((exclude : List Name) → kinded exclude (terms-in file names refs rows used many) (name-of file names) c ≡ f exclude (terms-in file names refs rows used many))
+      → trimmed-table file names named c ≡ names → ((exclude : List Name) → f exclude (terms-in file names refs rows used many) .trimmed ≡ [])
+      → Sorts names rows out names′ rows′ out′ named mark at (λ exclude name. f exclude (terms-of name refs rows used many)) r
       → Chooses file names refs rows out names′ rows′ out′ named used many mark at c r
   sorts-chooses f c e q t s = record {
-    kinds = λ k h. let z : f (terms-in file names refs rows used many) ≡ k = cc in rw z at (sorts-comes f t s);
+    kinds = λ exclude excludes. rw (e exclude) (sorts-comes f t s exclude excludes);
     marks = rw q (s .marks);
   }
 
   -- filing sets files the choice that gathers them
-  sets-chooses : {g : Filing} {count : ℕ} {f : Filed} (s : List Term → List (List Name)) (c : Choice)
-      → kinded (terms-in file names refs rows used many) (name-of file names) c ≡ some (Sum-triggers (s (terms-in file names refs rows used many)))
+  sets-chooses : {g : Filing} {count : ℕ} {f : Filed} (s : List Name → List Term → List (List Name)) (c : Choice)
+      → ((exclude : List Name) → kinded exclude (terms-in file names refs rows used many) (name-of file names) c ≡ Sum-triggers (s exclude (terms-in file names refs rows used many)))
       → trimmed-table file names named c ≡ names → file-choice refs used many file named mark (filing names rows out (mark + 1) at) c ≡ g
-      → ((name : ℕ → Name) → Named name names named → Files name named (s (terms-of name refs rows used many)) at out′ f)
+      → ((exclude : List Name) (name : ℕ → Name) → Named exclude name names named → Files name named (s exclude (terms-of name refs rows used many)) at out′ f)
       → Filled names rows out names′ rows′ out′ (mark + 1) at f → Files-as g count names′ rows′ out′ (mark + 1) at f → r ≡ sorted-of named f
       → Choice-files file names refs rows out names′ rows′ out′ named used many mark at c r
   unfolding Sum-triggers
   sets-chooses s c e q g k w x z = (
-    sorts-chooses (λ terms. Sum-triggers (s terms)) c e q refl (files-sorts (λ name. s (terms-of name refs rows used many)) k w z),
+    sorts-chooses (λ exclude terms. Sum-triggers (s exclude terms)) c e q (λ exclude. refl)
+    (files-sorts (λ exclude name. s exclude (terms-of name refs rows used many)) k w z),
     rw g (files-sorts-as named x z),
   )
 
   module _ {c : Choice} where
     -- one set
     pub choose-one : {t count : ℕ} {f : Filed} → c ≡ choice.One t
-        → ((name : ℕ → Name) → Named name names named → Files name named (free-top-level-names exclude-names (terms-of name refs rows used many) t ∷ []) at out′ f)
+        → ((exclude : List Name) (name : ℕ → Name) → Named exclude name names named → Files name named (free-top-level-names exclude (terms-of name refs rows used many) t ∷ []) at out′ f)
         → Filled names rows out names′ rows′ out′ (mark + 1) at f
         → Files-as (file-list refs used many (filing names rows out (mark + 1) at) (t ∷ [])) count names′ rows′ out′ (mark + 1) at f
         → r ≡ sorted-of named f
         → Choice-files file names refs rows out names′ rows′ out′ named used many mark at c r
     unfolding kinded trimmed-table file-choice
-    choose-one {t} e k w x q = rw e (sets-chooses (λ terms. free-top-level-names exclude-names terms t ∷ []) (choice.One t) refl refl refl k w x q)
+    choose-one {t} e k w x q = rw e (sets-chooses (λ exclude terms. free-top-level-names exclude terms t ∷ []) (choice.One t) (λ exclude. refl) refl refl k w x q)
 
     -- two sets
     pub choose-two : {t u count : ℕ} {f : Filed} → c ≡ choice.Two t u
-        → ((name : ℕ → Name) → Named name names named → Files name named (free-top-level-names exclude-names (terms-of name refs rows used many) t ∷ free-top-level-names exclude-names (terms-of name refs rows used many) u ∷ []) at out′ f)
+        → ((exclude : List Name) (name : ℕ → Name) → Named exclude name names named → Files name named (free-top-level-names exclude (terms-of name refs rows used many) t ∷ free-top-level-names exclude (terms-of name refs rows used many) u ∷ []) at out′ f)
         → Filled names rows out names′ rows′ out′ (mark + 1) at f
         → Files-as (file-list refs used many (file-list refs used many (filing names rows out (mark + 1) at) (t ∷ [])) (u ∷ [])) count names′ rows′ out′ (mark + 1) at f
         → r ≡ sorted-of named f
         → Choice-files file names refs rows out names′ rows′ out′ named used many mark at c r
     unfolding kinded trimmed-table file-choice
-    choose-two {t} {u} e k w x q = rw e (sets-chooses (λ terms. free-top-level-names exclude-names terms t ∷ free-top-level-names exclude-names terms u ∷ []) (choice.Two t u) refl refl refl k w x q)
+    choose-two {t} {u} e k w x q = rw e (sets-chooses (λ exclude terms. free-top-level-names exclude terms t ∷ free-top-level-names exclude terms u ∷ []) (choice.Two t u) (λ exclude. refl) refl refl k w x q)
 
     -- the triggers of a term
     pub choose-groups : {t count : ℕ} {f : Filed} → c ≡ choice.Groups t
-        → ((name : ℕ → Name) → Named name names named → Files name named (triggers-of-term exclude-names (terms-of name refs rows used many) t) at out′ f)
+        → ((exclude : List Name) (name : ℕ → Name) → Named exclude name names named → Files name named (triggers-of-term exclude (terms-of name refs rows used many) t) at out′ f)
         → Filled names rows out names′ rows′ out′ (mark + 1) at f
         → Files-as (file-groups refs used many (filing names rows out (mark + 1) at) t) count names′ rows′ out′ (mark + 1) at f
         → r ≡ sorted-of named f
         → Choice-files file names refs rows out names′ rows′ out′ named used many mark at c r
     unfolding kinded trimmed-table file-choice
-    choose-groups {t} e k w x q = rw e (sets-chooses (λ terms. triggers-of-term exclude-names terms t) (choice.Groups t) refl refl refl k w x q)
+    choose-groups {t} e k w x q = rw e (sets-chooses (λ exclude terms. triggers-of-term exclude terms t) (choice.Groups t) (λ exclude. refl) refl refl k w x q)
 
     -- the payload of a refinement
     pub choose-refinement : {t : ℕ} → c ≡ choice.Refinement t
-        → Sorts names rows out names′ rows′ out′ named mark at (λ name. refinement-kind (terms-of name refs rows used many) t) r
+        → Sorts names rows out names′ rows′ out′ named mark at (λ exclude name. refinement-kind exclude (terms-of name refs rows used many) t) r
         → Sorts-as (file-refinement refs used many mark (filing names rows out (mark + 1) at) t) names′ rows′ out′ mark at r
         → Choice-files file names refs rows out names′ rows′ out′ named used many mark at c r
     unfolding kinded trimmed-table refinement-kind file-choice
     choose-refinement {t} e s w = rw e (
-      sorts-chooses (λ terms. refinement-kind terms t) (choice.Refinement t) refl refl (refinement-trimmed (is-empty (triggers-of-term exclude-names (terms-in file names refs rows used many) t)) (triggers-of-term exclude-names (terms-in file names refs rows used many) t)) s,
+      sorts-chooses (λ exclude terms. refinement-kind exclude terms t) (choice.Refinement t) (λ exclude. refl) refl
+      (λ exclude. let sets = triggers-of-term exclude (terms-in file names refs rows used many) t in refinement-trimmed (is-empty sets) sets) s,
       w,
     )
 
     -- the parts of an `and`
     pub choose-parts : {t : ℕ} → c ≡ choice.Parts t
-        → Sorts names rows out names′ rows′ out′ named mark at (λ name. parts-kind (terms-of name refs rows used many) t) r
+        → Sorts names rows out names′ rows′ out′ named mark at (λ exclude name. parts-kind exclude (terms-of name refs rows used many) t) r
         → Sorts-as (file-parts refs used many (filing names rows out (mark + 1) at) (terms-of-words (part refs (row-start rows t) (row-end rows used many t)))) names′ rows′ out′ mark at r
         → Choice-files file names refs rows out names′ rows′ out′ named used many mark at c r
     unfolding kinded trimmed-table parts-kind Sum-triggers file-choice
-    choose-parts {t} e s w = rw e (sorts-chooses (λ terms. parts-kind terms t) (choice.Parts t) refl refl refl s, w)
+    choose-parts {t} e s w = rw e (sorts-chooses (λ exclude terms. parts-kind exclude terms t) (choice.Parts t) (λ exclude. refl) refl (λ exclude. refl) s, w)
 
 -- a kind without triggers
-none-sorts : {names rows out : List ℕ} {mark at : ℕ} (named : ℕ) → Begun names rows out mark at → (k : Kinded) → k .triggers ≡ [] → Sorts names rows out names rows out named mark at (λ name. k) (sorted.Kind (k .kind) at named)
-none-sorts {names} {rows} {mark = mark} named b k e = nothing-sorts (k .kind) (λ name. k) (λ name d. (refl, e)) (b .low) (same-self 8192 2048 names) (same-self 12288 4096 rows) (fresh-later mark (mark + 1) (omega arith) (b .fresh))
+none-sorts : {names rows out : List ℕ} {mark at : ℕ} (named : ℕ) → Begun names rows out mark at → (k : Kinded) → k .triggers ≡ [] → Sorts names rows out names rows out named mark at (λ exclude name. k) (sorted.Kind (k .kind) at named)
+none-sorts {names} {rows} {mark = mark} named b k e = nothing-sorts (k .kind) (λ exclude name. k) (λ exclude name d. (refl, e)) (b .low) (same-self 8192 2048 names) (same-self 12288 4096 rows) (fresh-later mark (mark + 1) (omega arith) (b .fresh))
 
 module _ {file names refs rows out : List ℕ} {named used many mark at : ℕ} {c : Choice} (tables : Tables file names refs rows named used many) (b : Begun names rows out mark at) where
   -- no disjunct
   pub choose-nothing : c ≡ choice.Nothing → Choice-files file names refs rows out names rows out named used many mark at c (sorted.Kind (asum.Triggers 0) at named)
   unfolding kinded trimmed-table Sum-triggers file-choice
-  choose-nothing e = rw e (sorts-chooses tables (λ terms. Sum-triggers []) choice.Nothing refl refl refl (none-sorts named b (Sum-triggers []) refl), nothing-as)
+  choose-nothing e = rw e (sorts-chooses tables (λ exclude terms. Sum-triggers []) choice.Nothing (λ exclude. refl) refl (λ exclude. refl) (none-sorts named b (Sum-triggers []) refl), nothing-as)
 
   -- a fact that is dropped
   pub choose-drop : c ≡ choice.Drop → Choice-files file names refs rows out names rows out named used many mark at c (sorted.Kind asum.Drop at named)
   unfolding kinded trimmed-table Sum-drop file-choice
-  choose-drop e = rw e (sorts-chooses tables (λ terms. Sum-drop) choice.Drop refl refl refl (none-sorts named b Sum-drop refl), nothing-as)
+  choose-drop e = rw e (sorts-chooses tables (λ exclude terms. Sum-drop) choice.Drop (λ exclude. refl) refl (λ exclude. refl) (none-sorts named b Sum-drop refl), nothing-as)
 
   -- an ambient fact
   pub choose-ambient : c ≡ choice.Ambient → Choice-files file names refs rows out names rows out named used many mark at c (sorted.Kind (asum.Ambient false) at named)
   unfolding kinded trimmed-table Sum-ambient file-choice
-  choose-ambient e = rw e (sorts-chooses tables (λ terms. Sum-ambient false) choice.Ambient refl refl refl (none-sorts named b (Sum-ambient false) refl), nothing-as)
-
-  -- no rule
-  pub choose-no : c ≡ choice.No → Choice-files file names refs rows out names rows out named used many mark at c (sorted.Kind asum.Drop at named)
-  unfolding kinded trimmed-table Sum-drop file-choice
-  choose-no e = rw e (record { kinds = λ k h. let z : _≡_ {A = ℕ} 0 1 = cc in let y : ⊥ = omega arith in absurd y; marks = none-sorts named b Sum-drop refl .marks }, nothing-as)
+  choose-ambient e = rw e (sorts-chooses tables (λ exclude terms. Sum-ambient false) choice.Ambient (λ exclude. refl) refl (λ exclude. refl) (none-sorts named b (Sum-ambient false) refl), nothing-as)
 
   -- a token
   pub choose-token : {names′ out′ : List ℕ} {n : ℕ} {r : Sorted} → c ≡ choice.Token n → Tokens file names out names′ out′ named n at r
@@ -182,7 +193,7 @@ module _ {file names refs rows out : List ℕ} {named used many mark at : ℕ} {
   unfolding kinded trimmed-table file-choice
   choose-token {n = n} e s = rw e (
     record {
-      kinds = λ k h. let z : token-triggers (name-of file names n) ≡ k = cc in rw z at (s .kinds);
+      kinds = λ exclude excludes. s .kinds;
       marks = record {
         names-same = rw (s .name-words) (same-self 8192 2048 (token-table file names named n));
         rows-same = same-self 12288 4096 rows;

@@ -4,31 +4,38 @@ use native.Mathlib.Omega.{arith}
 use mathlib.Core.Path.{_≡_, refl, sym, ap, ap₂, _∙_}
 use mathlib.Core.Bool.{Bool, true, false, cond}
 use mathlib.Core.List.{List, [], _∷_, _++_, map, map-append}
-use mathlib.Core.Option.{some}
-use lib.ListN.{length, getD}
+use lib.ListN.{length, getD, take}
 use lib.Dec.{ltb}
 use borrow.Author.Tests.{ltb-true}
 use Rattle.model.specs.Lists.{part}
-use Rattle.model.specs.Names.{Name, from-list}
-use Rattle.model.specs.Summaries.{exclude-names, summarize-kind}
+use Rattle.model.specs.Names.{Name, bytes, ends-with, from-list}
+use Rattle.model.specs.Terms.{Term}
+use Rattle.model.specs.Reading.{most-terms, most-uses}
+use Rattle.model.specs.Outcome.{working-words}
+use Rattle.model.specs.Summaries.{Kinded, Sum-drop, Sum-ambient, Sum-triggers, is-empty, token-triggers, triggers-of-term, summarize-kind}
 use Rattle.model.specs.declared.AsumKind.{AsumKind}
+use Rattle.model.specs.declared.AsumKind.the-variants as asum
 use Rattle.model.proofs.PartLaws.{part-agree}
-use Rattle.names.specs.Table.{Table, name-of}
+use Rattle.names.specs.Table.{Table, Excludes, name-of}
 use Rattle.names.proofs.Laws.{names-length}
 use Rattle.names.proofs.Coded.{Kept}
+use Rattle.names.proofs.Excluded.{excludes-some}
 use Rattle.terms.specs.Rows.{terms-of, Rows}
-use Rattle.terms.proofs.Table.{terms-named}
-use Rattle.gather.specs.Sets.{Fresh, Same-but, Named, Gathers, all-names, no-room as no-names, ended}
+use Rattle.terms.proofs.Table.{rows-named, terms-named}
+use Rattle.words.specs.Slices.{word-limit, Same-but}
+use Rattle.gather.specs.Sets.{row-mark-column, Fresh, Gathers, all-names, no-room as no-names, ended}
 use Rattle.gather.specs.declared.Walked.{Walked}
 use Rattle.gather.specs.declared.Walked.the-variants as walks
-use Rattle.gather.proofs.Steps.{same-back, same-then, same-wider}
+use Rattle.words.proofs.Slices.{same-then, same-wider}
 use Rattle.gather.proofs.Walking.{rows-marked}
-use Rattle.triggers.specs.Entries.{entry-number, before-first, disjuncts-of-words, disjuncts-of, entries}
-use Rattle.triggers.proofs.Marked.{named-marked, terms-marked, fresh-next}
+use Rattle.triggers.specs.Entries.{entries-base, entries-end, entry-number, before-first, disjuncts-of-words, disjuncts-of}
+use Rattle.triggers.proofs.Marked.{terms-marked, fresh-next}
+use Rattle.triggers.proofs.Disjuncts.{entries-many}
 use Rattle.triggers.specs.Filings.{filing}
-use Rattle.rules.specs.Views.{terms-in}
-use Rattle.rules.specs.Choices.{kinded}
+use Rattle.rules.specs.Views.{Tables, terms-in}
+use Rattle.rules.specs.Choices.{refinement-kind, parts-kind, kinded, kind-choice, Chosen}
 use Rattle.rules.specs.declared.Choice.{Choice}
+use Rattle.rules.specs.declared.Choice.the-variants as choice
 use Rattle.summary.specs.declared.Limit.{Limit}
 use Rattle.summary.specs.declared.Sorted.{Sorted}
 use Rattle.summary.specs.declared.Sorted.the-variants as sorted
@@ -38,7 +45,7 @@ use Rattle.summary.specs.declared.Summarized.the-variants as summarized
 use Rattle.summary.specs.Facts.{Asked, fact-kind, fact-choice, fact-names, names-then, fact-summary, limited, Lists, Slices}
 use Rattle.summary.specs.Steps.{Begun, trimmed-table, sorted-end, Marks, Filed-kind, Comes-to, kind-filed, names-over, entries-over, Sorts-as, Chooses, finished, Finishes}
 use Rattle.summary.specs.Writing.{file-choice, file-fact, Written}
-use Rattle.summary.proofs.Sorting.{named-of, named-fewer, table-marked}
+use Rattle.summary.proofs.Sorting.{named-of, table-marked}
 use Rattle.summary.proofs.Choosing.{Choice-files, trimmed-same}
 use Rattle.summary.proofs.Answering.{over-none, done-one, over-names, over-entries, over-uses, within-limits, summary-is}
 use Rattle.summary.proofs.Writing.{kind-written, over-written}
@@ -91,75 +98,153 @@ pub chooses-is : {file names refs rows out names′ rows′ out′ : List ℕ} {
 chooses-is e c = rw e at c
 
 -- what filing asks
-pub asked-begun : {file names refs rows out : List ℕ} {named used many name t mark filed uses : ℕ} → Asked file names refs rows out named used many name t mark filed uses → Begun names rows out mark (6144 + filed)
+pub asked-begun : {file names refs rows out : List ℕ} {named used many name t mark filed uses : ℕ} → Asked file names refs rows out named used many name t mark filed uses → Begun names rows out mark (entries-base + filed)
 asked-begun a = record { name-room = a .tables .name-table .room; fresh = a .fresh; few-marks = a .few-marks; low = omega (arith, a .few-entries); room = a .room }
 
 -- the name words past the marks stay
 names-past : {file names names′ : List ℕ} {named : ℕ} → Table file names named → (c : Choice) → Same-but 8192 2048 (trimmed-table file names named c) names′ → Same-but 0 10240 names names′
 names-past table c s = same-then (same-wider 0 10240 (omega arith) (omega arith) (trimmed-same table c)) (same-wider 0 10240 (omega arith) (omega arith) s)
 
--- the promises of the answer and of the lists
-abbrev pub Answers : List ℕ → List ℕ → List ℕ → List ℕ → ℕ → ℕ → ℕ → ℕ → ℕ → List ℕ → List ℕ → List ℕ → ℕ → ℕ → ℕ → Summarized → Type 0
-Answers file names refs rows named used many name t names′ rows′ out′ mark filed uses r =
-    (r ≡ limited (fact-summary file names refs rows named used many name t mark filed uses))
-    × ((s : Summary) → r ≡ summarized.Done s → Lists file names refs rows named used many name t names′ rows′ out′ filed uses s)
+-- ---- kinds
 
-module _ {file names refs rows out names′ rows′ out′ : List ℕ} {named used many name t mark filed uses : ℕ} {chosen : Choice} (asked : Asked file names refs rows out named used many name t mark filed uses)
-    (decided : kinded (terms-in file names refs rows used many) (name-of file names) chosen ≡ some (summarize-kind exclude-names (terms-in file names refs rows used many) (name-of file names name) t)) where
-  module _ {l : Limit} (chooses : Chooses file names refs rows out names′ rows′ out′ named used many mark (6144 + filed) chosen (sorted.Over l))
-      (filed-as : Sorts-as (file-choice refs used many file named mark (filing names rows out (mark + 1) (6144 + filed)) chosen) names′ rows′ out′ mark (6144 + filed) (sorted.Over l)) where
+-- a kind of triggers counts its disjuncts
+kinded-count : (exclude : List Name) (terms : List Term) (name : ℕ → Name) (c : Choice) {m : ℕ} → kinded exclude terms name c .kind ≡ asum.Triggers m
+    → m ≡ length (kinded exclude terms name c .triggers)
+unfolding kinded Sum-triggers Sum-drop Sum-ambient refinement-kind parts-kind token-triggers
+kinded-count exclude terms name (choice.One t) e = cc
+kinded-count exclude terms name (choice.Two t u) e = cc
+kinded-count exclude terms name (choice.Groups t) e = cc
+kinded-count exclude terms name (choice.Refinement t) {m} e =
+    go (is-empty (triggers-of-term exclude terms t)) e
+  where
+    go : (b : Bool) → cond b (Sum-ambient true) (Sum-triggers (triggers-of-term exclude terms t)) .kind ≡ asum.Triggers m
+        → m ≡ length (cond b (Sum-ambient true) (Sum-triggers (triggers-of-term exclude terms t)) .triggers)
+    go true e = cc
+    go false e = cc
+kinded-count exclude terms name (choice.Token n) {m} e = go (name n) e
+  where
+    go : (token : Name) → token-triggers token .kind ≡ asum.Triggers m → m ≡ length (token-triggers token .triggers)
+    go token e = choose (ends-with token (bytes "@tok")) e
+      where
+        short : List Name
+        short = take (length token - 4) token ∷ []
+
+        choose : (b : Bool) → cond b (record { kind = asum.Triggers 2; triggers = (token ∷ []) ∷ short ∷ []; trimmed = short }) (Sum-triggers ((token ∷ []) ∷ [])) .kind ≡ asum.Triggers m
+            → m ≡ length (cond b (record { kind = asum.Triggers 2; triggers = (token ∷ []) ∷ short ∷ []; trimmed = short }) (Sum-triggers ((token ∷ []) ∷ [])) .triggers)
+        choose true e = cc
+        choose false e = cc
+kinded-count exclude terms name choice.Nothing e = cc
+kinded-count exclude terms name (choice.Parts t) e = cc
+kinded-count exclude terms name choice.Drop e = cc
+kinded-count exclude terms name choice.Ambient e = cc
+
+-- ---- the promises
+
+-- the answer
+abbrev Answer : List ℕ → List ℕ → List ℕ → List ℕ → ℕ → ℕ → ℕ → ℕ → ℕ → ℕ → ℕ → ℕ → Summarized → Type 0
+Answer file names refs rows named used many name t mark filed uses r =
+    (exclude : List Name) → Excludes exclude file names named → r ≡ limited (fact-summary exclude file names refs rows named used many name t mark filed uses)
+
+-- the lists
+abbrev Listed : List ℕ → List ℕ → List ℕ → List ℕ → ℕ → ℕ → ℕ → ℕ → ℕ → List ℕ → List ℕ → List ℕ → ℕ → ℕ → Summarized → Type 0
+Listed file names refs rows named used many name t names′ rows′ out′ filed uses r =
+    (exclude : List Name) → Excludes exclude file names named → (s : Summary) → r ≡ summarized.Done s
+    → Lists exclude file names refs rows named used many name t names′ rows′ out′ filed uses s
+
+-- all four
+abbrev pub Promised : List ℕ → List ℕ → List ℕ → List ℕ → List ℕ → ℕ → ℕ → ℕ → ℕ → ℕ → ℕ → ℕ → ℕ → List ℕ → List ℕ → List ℕ → Summarized → Type 0
+Promised file names refs rows out named used many name t mark filed uses names′ rows′ out′ r =
+    Answer file names refs rows named used many name t mark filed uses r
+    × (Listed file names refs rows named used many name t names′ rows′ out′ filed uses r
+    × (Slices names rows out names′ rows′ out′ filed uses
+    × Written (file-fact refs used many file names rows out named name t mark filed uses) names′ rows′ out′))
+
+module _ {file names refs rows out : List ℕ} {named used many name t mark filed uses : ℕ} {chosen : Choice}
+    (asked : Asked file names refs rows out named used many name t mark filed uses)
+    (choice : Chosen kind-choice summarize-kind file names refs rows named used many name t chosen) where
+  -- some list of excluded names
+  some-excluded : (exclude : List Name) × Excludes exclude file names named
+  some-excluded = excludes-some (asked .tables .name-table)
+
+  -- the rule that was chosen
+  chose : chosen ≡ fact-choice file names refs rows named used many name t
+  unfolding fact-choice
+  chose = choice .choice
+
+  -- what it makes of the fact
+  made : (exclude : List Name) → kinded exclude (terms-in file names refs rows used many) (name-of file names) chosen ≡ fact-kind exclude file names refs rows named used many name t
+  unfolding fact-kind
+  made = choice .kind
+
+  module _ {names′ rows′ out′ : List ℕ} {r : Sorted} (chooses : Chooses file names refs rows out names′ rows′ out′ named used many mark (entries-base + filed) chosen r) where
+    -- the fact's kind is filed, or a limit passed
+    comes : (exclude : List Name) → Excludes exclude file names named
+        → Comes-to file names names′ out′ named (entries-base + filed) (fact-kind exclude file names refs rows named used many name t) r
+    comes exclude excludes = rw (made exclude) at (chooses .kinds exclude excludes)
+
+  module _ {names′ rows′ out′ : List ℕ} {l : Limit} (chooses : Chooses file names refs rows out names′ rows′ out′ named used many mark (entries-base + filed) chosen (sorted.Over l))
+      (filed-as : Sorts-as (file-choice refs used many file named mark (filing names rows out (mark + 1) (entries-base + filed)) chosen) names′ rows′ out′ mark (entries-base + filed) (sorted.Over l)) where
     -- a limit that filing passes
-    pub over-law : chosen ≡ fact-choice file names refs rows named used many name t
-        → (summarized.Over l ≡ limited (fact-summary file names refs rows named used many name t mark filed uses))
-        × (((s : Summary) → summarized.Over l ≡ summarized.Done s → Lists file names refs rows named used many name t names′ rows′ out′ filed uses s)
-        × (Slices names rows out names′ rows′ out′ filed uses × Written (file-fact refs used many file names rows out named name t mark filed uses) names′ rows′ out′))
-    unfolding fact-kind names-then fact-summary sorted-end file-fact
-    over-law chose = (
-      answer (chooses .kinds _ decided),
+    pub over-law : Promised file names refs rows out named used many name t mark filed uses names′ rows′ out′ (summarized.Over l)
+    unfolding names-then fact-summary sorted-end file-fact
+    over-law = (
+      λ exclude excludes. answer exclude (comes chooses exclude excludes),
       (
-        λ s p. absurd (over-none p),
-        (slices (chooses .kinds _ decided) (chooses .marks), rw (← chose) (over-written refs used many t uses filed-as)),
+        λ exclude excludes s p. absurd (over-none p),
+        (
+          slices (some-excluded .0) (comes chooses (some-excluded .0) (some-excluded .1)) (chooses .marks),
+          rw (← chose) (over-written refs used many t uses filed-as),
+        ),
       ),
     )
       where
-        answer : {x : Limit} → Comes-to file names names′ out′ named (6144 + filed) (fact-kind file names refs rows named used many name t) (sorted.Over x) → summarized.Over x ≡ limited (fact-summary file names refs rows named used many name t mark filed uses)
-        answer (names-over p) = over-names (fact-summary file names refs rows named used many name t mark filed uses) p
-        answer (entries-over p q) = over-entries (fact-summary file names refs rows named used many name t mark filed uses) p (omega arith)
+        answer : {x : Limit} (exclude : List Name)
+            → Comes-to file names names′ out′ named (entries-base + filed) (fact-kind exclude file names refs rows named used many name t) (sorted.Over x)
+            → summarized.Over x ≡ limited (fact-summary exclude file names refs rows named used many name t mark filed uses)
+        answer exclude (names-over p) = over-names (fact-summary exclude file names refs rows named used many name t mark filed uses) p
+        answer exclude (entries-over p q) = over-entries (fact-summary exclude file names refs rows named used many name t mark filed uses) p (omega arith)
 
-        slices : {x : Limit} → Comes-to file names names′ out′ named (6144 + filed) (fact-kind file names refs rows named used many name t) (sorted.Over x) → Marks (trimmed-table file names named chosen) rows out names′ rows′ out′ mark (6144 + filed) (sorted.Over x)
+        slices : {x : Limit} (exclude : List Name)
+            → Comes-to file names names′ out′ named (entries-base + filed) (fact-kind exclude file names refs rows named used many name t) (sorted.Over x)
+            → Marks (trimmed-table file names named chosen) rows out names′ rows′ out′ mark (entries-base + filed) (sorted.Over x)
             → Slices names rows out names′ rows′ out′ filed uses
-        slices (names-over p) m = record {
+        slices exclude (names-over p) m = record {
           name-words = names-past (asked .tables .name-table) chosen (m .names-same);
           row-words = m .rows-same;
           out-length = m .out-same .same-length;
           out-words = λ i f g. m .out-same .same-words i (λ a b. omega arith);
         }
-        slices (entries-over p q) m = record {
+        slices exclude (entries-over p q) m = record {
           name-words = names-past (asked .tables .name-table) chosen (m .names-same);
           row-words = m .rows-same;
           out-length = m .out-same .same-length;
           out-words = λ i f g. m .out-same .same-words i (λ a b. g a (omega (arith, asked .few-entries)));
         }
 
-  module _ {a : AsumKind} {e total : ℕ} (chooses : Chooses file names refs rows out names′ rows′ out′ named used many mark (6144 + filed) chosen (sorted.Kind a e total)) where
+  module _ {names′ rows′ out′ : List ℕ} {a : AsumKind} {e total : ℕ} (chooses : Chooses file names refs rows out names′ rows′ out′ named used many mark (entries-base + filed) chosen (sorted.Kind a e total)) where
     -- the kind that was filed
-    filed-there : Filed-kind file names names′ out′ named (6144 + filed) (fact-kind file names refs rows named used many name t) a e total
-    unfolding fact-kind
-    filed-there = go (chooses .kinds _ decided)
+    filed-there : (exclude : List Name) → Excludes exclude file names named
+        → Filed-kind file names names′ out′ named (entries-base + filed) (fact-kind exclude file names refs rows named used many name t) a e total
+    filed-there exclude excludes = go (comes chooses exclude excludes)
       where
-        go : Comes-to file names names′ out′ named (6144 + filed) (fact-kind file names refs rows named used many name t) (sorted.Kind a e total) → Filed-kind file names names′ out′ named (6144 + filed) (fact-kind file names refs rows named used many name t) a e total
+        go : {k : Kinded} → Comes-to file names names′ out′ named (entries-base + filed) k (sorted.Kind a e total) → Filed-kind file names names′ out′ named (entries-base + filed) k a e total
         go (kind-filed k) = k
 
+    -- for some list of excluded names
+    filed-some : Filed-kind file names names′ out′ named (entries-base + filed) (fact-kind (some-excluded .0) file names refs rows named used many name t) a e total
+    filed-some = filed-there (some-excluded .0) (some-excluded .1)
+
     -- where its entries end
-    pub filed-ends : (6144 + filed ≤ e) × (e ≤ 8192)
-    filed-ends = let q = filed-there .ends in (omega arith, filed-there .high)
+    pub filed-ends : (entries-base + filed ≤ e) × (e ≤ entries-end)
+    filed-ends = let q = filed-some .ends in (omega arith, filed-some .high)
 
     -- what gathering its free names asks
-    pub finish-asks : {n : ℕ} → n ≡ mark + 1 + (e - (6144 + filed)) → Rows refs rows′ used many named × (16384 ≤ length names′) × (t < many) × Fresh names′ rows′ n × (n + 1 < 4294967296) × (6144 ≤ e) × (uses ≤ 6144) × (16384 ≤ length out′)
+    pub finish-asks : {n : ℕ} → n ≡ mark + 1 + (e - (entries-base + filed))
+        → Rows refs rows′ used many named × (working-words ≤ length names′) × (t < many) × Fresh names′ rows′ n × (n + 1 < word-limit) × (entries-base ≤ e) × (uses ≤ most-uses) × (working-words ≤ length out′)
     finish-asks {n} q =
         let (lo, hi) = filed-ends in (
           rows-marked (chooses .marks .rows-same) (asked .tables .term-table),
-          filed-there .table .room,
+          filed-some .table .room,
           asked .term,
           rw q (chooses .marks .fresh a e total refl),
           omega (arith, asked .few-marks),
@@ -168,30 +253,47 @@ module _ {file names refs rows out names′ rows′ out′ : List ℕ} {named us
           rw (chooses .marks .out-same .same-length) (asked .room),
         )
 
-    module _ {names″ rows″ out″ : List ℕ} {n : ℕ} {r : Summarized} (is : n ≡ mark + 1 + (e - (6144 + filed))) (finishes : Finishes names′ refs rows′ out′ names″ rows″ out″ named total used many t a e n uses r) where
-      -- the table then
+    module _ {names″ rows″ out″ : List ℕ} {n : ℕ} {r : Summarized} (is : n ≡ mark + 1 + (e - (entries-base + filed)))
+        (finishes : Finishes names′ refs rows′ out′ names″ rows″ out″ named total used many t a e n uses r) where
+      -- the name table then
       kept-table : Kept file names′ names″ total
-      kept-table = table-marked (filed-there .table) (finishes .slices .names-same)
+      kept-table = table-marked (filed-some .table) (finishes .slices .names-same)
 
-      -- its names are names for the numbers of the table before
-      kept-named : Named (name-of file names″) names′ named
-      kept-named =
-          named-marked (same-back (finishes .slices .names-same)) (asked .tables .name-table .few) (named-fewer (filed-there .more) (named-of (kept-table .table)))
+      -- the names that were there keep their part of the file
+      kept-names : (k : ℕ) → k < named → name-of file names″ k ≡ name-of file names k
+      kept-names k l = kept-table .name k (omega (arith, filed-some .more)) ∙ filed-some .same-names k l
 
-      -- the terms are those of the table before
-      kept-terms : terms-of (name-of file names″) refs rows′ used many ≡ terms-in file names refs rows used many
+      -- the rows differ in marks alone
+      kept-rows : Same-but row-mark-column most-terms rows rows″
+      kept-rows = same-then (chooses .marks .rows-same) (finishes .slices .rows-same)
+
+      -- the two tables then
+      kept-tables : Tables file names″ refs rows″ total used many
+      kept-tables = record {
+        name-table = kept-table .table;
+        term-table = rows-named (filed-some .more) (filed-some .table .few) (rows-marked kept-rows (asked .tables .term-table));
+      }
+
+      -- the terms under the names then
+      kept-named : terms-of (name-of file names″) refs rows used many ≡ terms-in file names refs rows used many
       unfolding terms-in
-      kept-terms =
-          terms-marked (name-of file names″) (chooses .marks .rows-same) (asked .tables .term-table)
-          ∙ terms-named (name-of file names″) (name-of file names) (λ k l. kept-table .name k (omega (arith, filed-there .more)) ∙ filed-there .same-names k l) (asked .tables .term-table)
+      kept-named = terms-named (name-of file names″) (name-of file names) kept-names (asked .tables .term-table)
+
+      -- the terms stay
+      kept-terms : terms-in file names″ refs rows″ used many ≡ terms-in file names refs rows used many
+      unfolding terms-in
+      kept-terms = terms-marked (name-of file names″) kept-rows (asked .tables .term-table) ∙ kept-named
 
       -- the free names that were gathered
-      gathered-names : Gathers (name-of file names″) named (fact-names file names refs rows named used many name t) uses 6144 out″ (finishes .walked)
+      gathered-names : (exclude : List Name) → Excludes exclude file names named
+          → Gathers (name-of file names″) named (fact-names exclude file names refs rows named used many name t) uses most-uses out″ (finishes .walked)
       unfolding fact-names
-      gathered-names = rw kept-terms at (finishes .free-names (name-of file names″) kept-named)
+      gathered-names exclude excludes =
+          rw (terms-marked (name-of file names″) (chooses .marks .rows-same) (asked .tables .term-table) ∙ kept-named) at
+          (finishes .free-names exclude (name-of file names″) (named-of names (kept-table .table) (filed-some .more) excludes kept-names (filed-some .same-excluded)))
 
       -- the entries stay
-      kept-words : part out″ (6144 + filed) e ≡ part out′ (6144 + filed) e
+      kept-words : part out″ (entries-base + filed) e ≡ part out′ (entries-base + filed) e
       kept-words =
           let (lo, hi) = filed-ends in
           let s = finishes .slices in
@@ -199,15 +301,12 @@ module _ {file names refs rows out names′ rows′ out′ : List ℕ} {named us
           let grows = s .grows in
           let room = asked .room in
           let long : length out′ ≡ length out = chooses .marks .out-same .same-length in
-          part-agree out′ out″ (e - (6144 + filed)) (6144 + filed) e refl (omega arith) (omega (arith, s .out-same .same-length)) (λ i l k. s .out-same .same-words i (λ x y. omega arith))
-
-      -- the table has the names that there are then
-      named-then : total ≡ length (names-then file names refs rows named used many name t)
-      unfolding names-then fact-kind
-      named-then = sym (names-length file names′ total) ∙ ap length (filed-there .spelled)
+          part-agree out′ out″ (e - (entries-base + filed)) (entries-base + filed) e refl (omega arith) (omega (arith, s .out-same .same-length))
+          (λ i l k. s .out-same .same-words i (λ x y. omega arith))
 
       -- the words of `out` but the places of the free names and of the entries
-      kept-out : (x : Walked) → Same-but uses (ended 6144 x - uses) out′ out″ → ended 6144 x ≤ 6144 → (i : ℕ) → (uses ≤ i → i < 6144 → ⊥) → (6144 + filed ≤ i → i < 8192 → ⊥) → getD out″ i 0 ≡ getD out i 0
+      kept-out : (x : Walked) → Same-but uses (ended most-uses x - uses) out′ out″ → ended most-uses x ≤ most-uses
+          → (i : ℕ) → (uses ≤ i → i < most-uses → ⊥) → (entries-base + filed ≤ i → i < entries-end → ⊥) → getD out″ i 0 ≡ getD out i 0
       unfolding sorted-end
       kept-out x s up i f g =
           let (lo, hi) = filed-ends in
@@ -220,51 +319,81 @@ module _ {file names refs rows out names′ rows′ out′ : List ℕ} {named us
           let s = finishes .slices in
           record {
             name-words = names-past (asked .tables .name-table) chosen (same-then (m .names-same) (s .names-same));
-            row-words = same-then (m .rows-same) (s .rows-same);
+            row-words = kept-rows;
             out-length = s .out-same .same-length ∙ m .out-same .same-length;
             out-words = kept-out (finishes .walked) (s .out-same) (s .fits);
           }
 
-      -- the summary's lists
-      kept-lists : {k : ℕ} → Gathers (name-of file names″) named (fact-names file names refs rows named used many name t) uses 6144 out″ (walks.Names k)
-          → Lists file names refs rows named used many name t names″ rows″ out″ filed uses (record { kind = a; entries = e - 6144; uses = k; named = total; mark = n + 1 })
-      unfolding names-then
-      kept-lists (all-names p q fits small) =
-          let k = filed-there in
-          let (lo, hi) = filed-ends in
-          let w : 6144 + (e - 6144) ≡ e = omega arith in
-          record {
-            disjuncts = rw (w, kept-words) (disjuncts-named (name-of file names″) (name-of file names′) (name-marked file (finishes .slices .names-same)) (part out′ (6144 + filed) e) ∙ k .disjuncts);
-            entry-words = rw (w, kept-words) (k .entry-words);
-            free-names = p;
-            use-words = small;
-            table = kept-table .table;
-            spelled = kept-table .names ∙ k .spelled;
-            fresh = fresh-next (rw is (chooses .marks .fresh a e total refl)) (finishes .slices);
-          }
+      module _ (exclude : List Name) (excludes : Excludes exclude file names named) where
+        -- the table has the names that there are then
+        named-then : total ≡ length (names-then exclude file names refs rows named used many name t)
+        unfolding names-then
+        named-then = sym (names-length file names′ total) ∙ ap length (filed-there exclude excludes .spelled)
 
-      -- the answer and the lists, by whether there is room for the free names
-      kept-answer : (x : Walked) → Gathers (name-of file names″) named (fact-names file names refs rows named used many name t) uses 6144 out″ x → Answers file names refs rows named used many name t names″ rows″ out″ mark filed uses (finished a e total n x)
-      unfolding fact-summary
-      kept-answer (walks.Names k) (all-names p q fits small) =
-          let (lo, hi) = filed-ends in
-          let ends = filed-there .ends in
-          let s : Summary = record { kind = a; entries = e - 6144; uses = k; named = total; mark = n + 1 } in (
-            within-limits s (filed-there .table .few) (omega arith) fits ∙ ap limited (summary-is s (filed-there .kind) (omega arith) (omega arith) named-then (omega arith)),
-            λ s′ h. rw (← done-one h) (kept-lists (all-names p q fits small)),
-          )
-      kept-answer walks.Full (no-names p f) =
-          let ends = filed-there .ends in
-          let high = filed-there .high in
-          (over-uses (fact-summary file names refs rows named used many name t mark filed uses) (omega (arith, named-then, filed-there .table .few)) (omega arith) (omega arith), λ s h. absurd (over-none h))
+        -- a kind of triggers has no more disjuncts than entries
+        kept-few : (m : ℕ) → a ≡ asum.Triggers m → m + filed ≤ e - entries-base
+        kept-few m q =
+            let k = filed-there exclude excludes in
+            let ends = k .ends in
+            let kind = fact-kind exclude file names refs rows named used many name t in
+            let count : m ≡ length (kind .triggers) =
+                rw (made exclude) at (kinded-count exclude (terms-in file names refs rows used many) (name-of file names) chosen (ap (λ x. x .kind) (made exclude) ∙ sym (k .kind) ∙ q)) in
+            omega (arith, entries-many (kind .triggers))
+
+        -- the summary's lists
+        kept-lists : {k : ℕ} → Gathers (name-of file names″) named (fact-names exclude file names refs rows named used many name t) uses most-uses out″ (walks.Names k)
+            → Lists exclude file names refs rows named used many name t names″ rows″ out″ filed uses (record { kind = a; entries = e - entries-base; uses = k; named = total; mark = n + 1 })
+        unfolding names-then
+        kept-lists (all-names p q fits small) =
+            let k = filed-there exclude excludes in
+            let (lo, hi) = filed-ends in
+            let w : entries-base + (e - entries-base) ≡ e = omega arith in
+            record {
+              disjuncts = rw (w, kept-words)
+                  (disjuncts-named (name-of file names″) (name-of file names′) (name-marked file (finishes .slices .names-same)) (part out′ (entries-base + filed) e) ∙ k .disjuncts);
+              entry-words = rw (w, kept-words) (k .entry-words);
+              few-sets = kept-few;
+              free-names = p;
+              use-words = small;
+              tables = kept-tables;
+              spelled = kept-table .names ∙ k .spelled;
+              more = k .more;
+              same-names = kept-names;
+              same-terms = kept-terms;
+              fresh = fresh-next (rw is (chooses .marks .fresh a e total refl)) (finishes .slices);
+            }
+
+        -- the answer and the lists, by whether there is room for the free names
+        kept-answer : (x : Walked) → Gathers (name-of file names″) named (fact-names exclude file names refs rows named used many name t) uses most-uses out″ x
+            → (finished a e total n x ≡ limited (fact-summary exclude file names refs rows named used many name t mark filed uses))
+            × ((s : Summary) → finished a e total n x ≡ summarized.Done s → Lists exclude file names refs rows named used many name t names″ rows″ out″ filed uses s)
+        unfolding fact-summary
+        kept-answer (walks.Names k) (all-names p q fits small) =
+            let (lo, hi) = filed-ends in
+            let there = filed-there exclude excludes in
+            let ends = there .ends in
+            let s : Summary = record { kind = a; entries = e - entries-base; uses = k; named = total; mark = n + 1 } in (
+              within-limits s (there .table .few) (omega arith) fits ∙ ap limited (summary-is s (there .kind) (omega arith) (omega arith) named-then (omega arith)),
+              λ s′ h. rw (← done-one h) (kept-lists (all-names p q fits small)),
+            )
+        kept-answer walks.Full (no-names p f) =
+            let there = filed-there exclude excludes in
+            let ends = there .ends in
+            let high = there .high in (
+              over-uses (fact-summary exclude file names refs rows named used many name t mark filed uses) (omega (arith, named-then, there .table .few)) (omega arith) (omega arith),
+              λ s h. absurd (over-none h),
+            )
+
+        -- by the answer
+        kept-both : (r ≡ limited (fact-summary exclude file names refs rows named used many name t mark filed uses))
+            × ((s : Summary) → r ≡ summarized.Done s → Lists exclude file names refs rows named used many name t names″ rows″ out″ filed uses s)
+        kept-both = rw (finishes .answer) (kept-answer (finishes .walked) (gathered-names exclude excludes))
 
       -- a fact whose kind was filed
-      pub finish-law : chosen ≡ fact-choice file names refs rows named used many name t
-          → Sorts-as (file-choice refs used many file named mark (filing names rows out (mark + 1) (6144 + filed)) chosen) names′ rows′ out′ mark (6144 + filed) (sorted.Kind a e total)
-          → (r ≡ limited (fact-summary file names refs rows named used many name t mark filed uses))
-          × (((s : Summary) → r ≡ summarized.Done s → Lists file names refs rows named used many name t names″ rows″ out″ filed uses s)
-          × (Slices names rows out names″ rows″ out″ filed uses × Written (file-fact refs used many file names rows out named name t mark filed uses) names″ rows″ out″))
+      pub finish-law : Sorts-as (file-choice refs used many file named mark (filing names rows out (mark + 1) (entries-base + filed)) chosen) names′ rows′ out′ mark (entries-base + filed) (sorted.Kind a e total)
+          → Promised file names refs rows out named used many name t mark filed uses names″ rows″ out″ r
       unfolding file-fact
-      finish-law chose filed-as =
-          let (answer, lists) : Answers file names refs rows named used many name t names″ rows″ out″ mark filed uses r = rw (finishes .answer) (kept-answer (finishes .walked) gathered-names) in
-          (answer, (lists, (kept-slices, rw (← chose) (kind-written filed-as is finishes))))
+      finish-law filed-as = (
+        λ exclude excludes. kept-both exclude excludes .0,
+        (λ exclude excludes. kept-both exclude excludes .1, (kept-slices, rw (← chose) (kind-written filed-as is finishes))),
+      )

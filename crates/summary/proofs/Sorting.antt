@@ -7,20 +7,21 @@ use mathlib.Core.List.{List, []}
 use lib.ListN.{getD}
 use borrow.Author.Tests.{not-true, not-false}
 use Rattle.model.specs.Lists.{collect, sum, part}
-use Rattle.model.specs.Names.{Name}
-use Rattle.model.specs.Summaries.{Kinded, Sum-ambient, Sum-triggers, exclude-names, is-empty, triggers-of-term}
+use Rattle.model.specs.Names.{Name, mem}
+use Rattle.model.specs.Summaries.{Kinded, Sum-ambient, Sum-triggers, is-empty, triggers-of-term, entries}
 use Rattle.model.specs.declared.AsumKind.{AsumKind}
 use Rattle.model.specs.declared.AsumKind.the-variants as asum
 use Rattle.model.proofs.PartLaws.{part-nil}
-use Rattle.names.specs.Table.{Table, name-of}
+use Rattle.names.specs.Table.{Table, is-excluded, Excludes, name-of}
 use Rattle.names.proofs.Laws.{distinct}
-use Rattle.names.proofs.Coded.{code-excluded, Kept, table-kept}
+use Rattle.names.proofs.Coded.{Kept, table-kept}
 use Rattle.terms.specs.Rows.{row-start, row-end, terms-of-words, terms-of, Rows}
 use Rattle.terms.proofs.References.{row-references}
-use Rattle.gather.specs.Sets.{Fresh, Same-but, Named, is-excluded}
-use Rattle.gather.proofs.Steps.{same-self, same-then}
+use Rattle.words.specs.Slices.{Same-but}
+use Rattle.gather.specs.Sets.{Fresh, Named}
+use Rattle.words.proofs.Slices.{same-self, same-then}
 use Rattle.rules.specs.Choices.{refinement-kind, parts-kind}
-use Rattle.triggers.specs.Entries.{disjuncts-of, disjuncts-of-words, entries, Files, all-sets, no-room as no-sets, Filled, filed-end, Opened}
+use Rattle.triggers.specs.Entries.{disjuncts-of, disjuncts-of-words, Files, all-sets, no-room as no-sets, Filled, filed-end, Opened}
 use Rattle.triggers.specs.Filings.{filing, file-groups, file-parts, ask-empty, Asks-as, Files-as}
 use Rattle.triggers.specs.declared.Filed.{Filed}
 use Rattle.triggers.specs.declared.Filed.the-variants as files
@@ -35,17 +36,14 @@ use Rattle.summary.proofs.Writing.{files-sorts-as, nothing-as}
 
 -- ---- names
 
--- the names of a table are names for its numbers
-pub named-of : {file names : List ℕ} {named : ℕ} → Table file names named → Named (name-of file names) names named
-unfolding is-excluded
-named-of {file} {names} table = record {
-  distinct = λ m n l k e. distinct table m n l k e;
-  excluded = λ n l. rw (table .codes n l) (sym (code-excluded (name-of file names n)));
+-- the names of a table that keeps those of another are names for the numbers of that one
+pub named-of : {exclude : List Name} {file names′ w : List ℕ} {named total : ℕ} (names : List ℕ) → Table file names′ total → named ≤ total
+    → Excludes exclude file names named → ((n : ℕ) → n < named → name-of file names′ n ≡ name-of file names n)
+    → ((n : ℕ) → n < named → is-excluded w n ≡ is-excluded names n) → Named exclude (name-of file names′) w named
+named-of {exclude} names table less excludes same excluded = record {
+  distinct = λ m n l k e. distinct table m n (omega arith) (omega arith) e;
+  excluded = λ n l. excluded n l ∙ excludes n l ∙ ap (λ x. mem x exclude) (sym (same n l));
 }
-
--- the first of them are names for fewer
-pub named-fewer : {name : ℕ → Name} {names : List ℕ} {named total : ℕ} → named ≤ total → Named name names total → Named name names named
-named-fewer less d = record { distinct = λ m n l k e. d .distinct m n (omega arith) (omega arith) e; excluded = λ n l. d .excluded n (omega arith) }
 
 -- with other marks a table has the same names
 pub table-marked : {file names names′ : List ℕ} {named : ℕ} → Table file names named → Same-but 8192 2048 names names′ → Kept file names names′ named
@@ -85,26 +83,26 @@ files-marks named (files.Sets n e) w = record { names-same = w .names-same; rows
 files-marks named files.Full w = record { names-same = w .names-same; rows-same = w .rows-same; out-same = w .out-same; fresh = λ a k total q. absurd (over-none q) }
 
 -- filing disjuncts files a kind
-pub files-sorts : {names rows out names′ rows′ out′ : List ℕ} {named mark at : ℕ} {f : Filed} {r : Sorted} (s : (ℕ → Name) → List (List Name))
-    → ((name : ℕ → Name) → Named name names named → Files name named (s name) at out′ f) → Filled names rows out names′ rows′ out′ (mark + 1) at f
-    → r ≡ sorted-of named f → Sorts names rows out names′ rows′ out′ named mark at (λ name. Sum-triggers (s name)) r
-files-sorts {named = named} {f = f} s k w q = rw q (record { kinds = λ name d. files-kinds (k name d); marks = files-marks named f w })
+pub files-sorts : {names rows out names′ rows′ out′ : List ℕ} {named mark at : ℕ} {f : Filed} {r : Sorted} (s : List Name → (ℕ → Name) → List (List Name))
+    → ((exclude : List Name) (name : ℕ → Name) → Named exclude name names named → Files name named (s exclude name) at out′ f) → Filled names rows out names′ rows′ out′ (mark + 1) at f
+    → r ≡ sorted-of named f → Sorts names rows out names′ rows′ out′ named mark at (λ exclude name. Sum-triggers (s exclude name)) r
+files-sorts {named = named} {f = f} s k w q = rw q (record { kinds = λ exclude name d. files-kinds (k exclude name d); marks = files-marks named f w })
 
 -- the same kinds, said in another way
-pub sorts-as : {names rows out names′ rows′ out′ : List ℕ} {named mark at : ℕ} {k l : (ℕ → Name) → Kinded} {r : Sorted} → ((name : ℕ → Name) → Named name names named → k name ≡ l name)
+pub sorts-as : {names rows out names′ rows′ out′ : List ℕ} {named mark at : ℕ} {k l : List Name → (ℕ → Name) → Kinded} {r : Sorted} → ((exclude : List Name) (name : ℕ → Name) → Named exclude name names named → k exclude name ≡ l exclude name)
     → Sorts names rows out names′ rows′ out′ named mark at k r → Sorts names rows out names′ rows′ out′ named mark at l r
-sorts-as e s = record { kinds = λ name d. rw (e name d) at (s .kinds name d); marks = s .marks }
+sorts-as e s = record { kinds = λ exclude name d. rw (e exclude name d) at (s .kinds exclude name d); marks = s .marks }
 
 -- a kind without triggers files nothing
-pub nothing-sorts : {names rows out names′ rows′ : List ℕ} {named mark at : ℕ} (a : AsumKind) (k : (ℕ → Name) → Kinded)
-    → ((name : ℕ → Name) → Named name names named → (a ≡ k name .kind) × (k name .triggers ≡ [])) → at ≤ 8192
+pub nothing-sorts : {names rows out names′ rows′ : List ℕ} {named mark at : ℕ} (a : AsumKind) (k : List Name → (ℕ → Name) → Kinded)
+    → ((exclude : List Name) (name : ℕ → Name) → Named exclude name names named → (a ≡ k exclude name .kind) × (k exclude name .triggers ≡ [])) → at ≤ 8192
     → Same-but 8192 2048 names names′ → Same-but 12288 4096 rows rows′ → Fresh names′ rows′ (mark + 1)
     → Sorts names rows out names′ rows′ out named mark at k (sorted.Kind a at named)
 unfolding sorted-end disjuncts-of disjuncts-of-words entries sum
 nothing-sorts {out = out} {named = named} {mark} {at} a k e low n s f = record {
-  kinds = λ name d. kind-there {e = at} (e name d .0)
-      (rw (part-nil out at at (omega arith), e name d .1) refl)
-      (rw (e name d .1) (omega arith))
+  kinds = λ exclude name d. kind-there {e = at} (e exclude name d .0)
+      (rw (part-nil out at at (omega arith), e exclude name d .1) refl)
+      (rw (e exclude name d .1) (omega arith))
       low
       (rw (part-nil out at at (omega arith)) (no-entries named));
   marks = record {
@@ -123,32 +121,32 @@ marks-after n s q m = record { names-same = same-then n (m .names-same); rows-sa
 -- ---- the payload of a refinement
 
 module _ {names rows out names₁ rows₁ out₁ refs : List ℕ} {named used many mark at : ℕ} {b : Bool} (t : ℕ) (table : Rows refs rows used many named)
-    (answer : (name : ℕ → Name) → Named name names named → b ≡ is-empty (triggers-of-term exclude-names (terms-of name refs rows used many) t))
+    (answer : (exclude : List Name) (name : ℕ → Name) → Named exclude name names named → b ≡ is-empty (triggers-of-term exclude (terms-of name refs rows used many) t))
     (tables : Same-but 8192 2048 names names₁ × Same-but 12288 4096 rows rows₁ × Fresh names₁ rows₁ (mark + 1))
     (same : Asks-as (ask-empty refs used many names rows t) names rows out names₁ rows₁ out₁ mark b) where
   -- a payload that is empty is ambient
-  pub refinement-empty : b ≡ true → at ≤ 8192 → Sorts names rows out names₁ rows₁ out₁ named mark at (λ name. refinement-kind (terms-of name refs rows used many) t) (sorted.Kind (asum.Ambient true) at named)
+  pub refinement-empty : b ≡ true → at ≤ 8192 → Sorts names rows out names₁ rows₁ out₁ named mark at (λ exclude name. refinement-kind exclude (terms-of name refs rows used many) t) (sorted.Kind (asum.Ambient true) at named)
       × Sorts-as (file-refinement refs used many mark (filing names rows out (mark + 1) at) t) names₁ rows₁ out₁ mark at (sorted.Kind (asum.Ambient true) at named)
   unfolding refinement-kind Sum-ambient file-refinement
   refinement-empty e low = (
-    rw (same .out-words) (nothing-sorts (asum.Ambient true) (λ name. refinement-kind (terms-of name refs rows used many) t) (λ name d. rw (sym (answer name d) ∙ e) (refl, refl)) low (tables .0) (tables .1) (tables .2)),
+    rw (same .out-words) (nothing-sorts (asum.Ambient true) (λ exclude name. refinement-kind exclude (terms-of name refs rows used many) t) (λ exclude name d. rw (sym (answer exclude name d) ∙ e) (refl, refl)) low (tables .0) (tables .1) (tables .2)),
     rw (same .name-words, same .row-words, same .out-words, not-true (ask-empty refs used many names rows t .full) (sym (same .answer) ∙ e)) nothing-as,
   )
 
   -- another has its triggers
   pub refinement-more : {names₂ rows₂ out₂ : List ℕ} {count : ℕ} {f : Filed} {r : Sorted} → b ≡ false
-      → ((name : ℕ → Name) → Named name names₁ named → Files name named (triggers-of-term exclude-names (terms-of name refs rows₁ used many) t) at out₂ f)
+      → ((exclude : List Name) (name : ℕ → Name) → Named exclude name names₁ named → Files name named (triggers-of-term exclude (terms-of name refs rows₁ used many) t) at out₂ f)
       → Filled names₁ rows₁ out₁ names₂ rows₂ out₂ (mark + 1) at f
       → Files-as (file-groups refs used many (filing names₁ rows₁ out₁ (mark + 1) at) t) count names₂ rows₂ out₂ (mark + 1) at f
       → r ≡ sorted-of named f
-      → Sorts names rows out names₂ rows₂ out₂ named mark at (λ name. refinement-kind (terms-of name refs rows used many) t) r
+      → Sorts names rows out names₂ rows₂ out₂ named mark at (λ exclude name. refinement-kind exclude (terms-of name refs rows used many) t) r
       × Sorts-as (file-refinement refs used many mark (filing names rows out (mark + 1) at) t) names₂ rows₂ out₂ mark at r
   unfolding refinement-kind file-refinement
   refinement-more {f = f} e k w z q = (
     rw q (record {
-      kinds = λ name d.
-          rw (sym (answer name d) ∙ e)
-          (rw (terms-marked name (tables .1) table) at (files-kinds (k name (named-marked (tables .0) (table .few-names) d))));
+      kinds = λ exclude name d.
+          rw (sym (answer exclude name d) ∙ e)
+          (rw (terms-marked name (tables .1) table) at (files-kinds (k exclude name (named-marked (tables .0) (table .few-names) d))));
       marks = marks-after (tables .0) (tables .1) (same .out-words) (files-marks named f w);
     }),
     rw (not-false (ask-empty refs used many names rows t .full) (sym (same .answer) ∙ e)) (files-sorts-as named (rw (same .name-words, same .row-words, same .out-words) at z) q),
@@ -159,17 +157,17 @@ module _ {names rows out names₁ rows₁ out₁ refs : List ℕ} {named used ma
 -- the triggers of the terms that a row names
 pub parts-sorts : {names rows out names′ rows′ out′ refs : List ℕ} {named used many mark at a e count : ℕ} {f : Filed} {r : Sorted} (t : ℕ) → Rows refs rows used many named → t < many
     → a ≡ row-start rows t → e ≡ row-end rows used many t
-    → ((name : ℕ → Name) → Named name names named → Files name named (collect (triggers-of-term exclude-names (terms-of name refs rows used many)) (terms-of-words (part refs a e))) at out′ f)
+    → ((exclude : List Name) (name : ℕ → Name) → Named exclude name names named → Files name named (collect (triggers-of-term exclude (terms-of name refs rows used many)) (terms-of-words (part refs a e))) at out′ f)
     → Filled names rows out names′ rows′ out′ (mark + 1) at f
     → Files-as (file-parts refs used many (filing names rows out (mark + 1) at) (terms-of-words (part refs a e))) count names′ rows′ out′ (mark + 1) at f
     → r ≡ sorted-of named f
-    → Sorts names rows out names′ rows′ out′ named mark at (λ name. parts-kind (terms-of name refs rows used many) t) r
+    → Sorts names rows out names′ rows′ out′ named mark at (λ exclude name. parts-kind exclude (terms-of name refs rows used many) t) r
     × Sorts-as (file-parts refs used many (filing names rows out (mark + 1) at) (terms-of-words (part refs (row-start rows t) (row-end rows used many t)))) names′ rows′ out′ mark at r
 unfolding parts-kind
 parts-sorts {rows = rows} {refs = refs} {named} {used} {many} {a = a} {e} t table l p q k w x z = (
   sorts-as
-      (λ name d. ap (λ ts. Sum-triggers (collect (triggers-of-term exclude-names (terms-of name refs rows used many)) ts)) (rw (p, q) (sym (row-references table l name))))
-      (files-sorts (λ name. collect (triggers-of-term exclude-names (terms-of name refs rows used many)) (terms-of-words (part refs a e))) k w z),
+      (λ exclude name d. ap (λ ts. Sum-triggers (collect (triggers-of-term exclude (terms-of name refs rows used many)) ts)) (rw (p, q) (sym (row-references table l name))))
+      (files-sorts (λ exclude name. collect (triggers-of-term exclude (terms-of name refs rows used many)) (terms-of-words (part refs a e))) k w z),
   files-sorts-as named (rw (p, q) at x) z,
 )
 

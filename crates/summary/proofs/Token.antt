@@ -8,7 +8,7 @@ use mathlib.Core.Option.{none, some}
 use lib.ListN.{length, getD, take, drop, set, length-take, length-drop, length-set, length-append}
 use lib.Dec.{ltb, not-T}
 use borrow.Author.Tests.{ltb-true, le-ltb, lt-ltb}
-use Rattle.names.specs.Table.{Table, name-of, names-of, look-up, spell-answer, spell-table, entered}
+use Rattle.names.specs.Table.{Table, is-excluded, name-of, names-of, look-up, spell-answer, spell-table, entered}
 use Rattle.names.specs.declared.Found.{Found}
 use Rattle.names.specs.declared.Found.the-variants as found
 use Rattle.names.specs.declared.Spelled.{Spelled}
@@ -21,16 +21,17 @@ use lib.Seq.{take-take, getD-set-same, getD-set-other}
 use Rattle.model.specs.Lists.{fold-left, sum, _>>=_, part}
 use Rattle.model.proofs.ListLaws.{cond-false}
 use Rattle.model.specs.Reading.{spell}
-use Rattle.model.specs.Summaries.{Sum-triggers, token-triggers}
+use Rattle.model.specs.Summaries.{Sum-triggers, token-triggers, entries}
 use Rattle.model.specs.declared.AsumKind.the-variants as asum
 use Rattle.model.proofs.SetLaws.{same-eq}
 use Rattle.model.proofs.PartLaws.{part-cons, part-nil, part-one, part-two}
+use Rattle.names.proofs.Excluded.{excluded-spelled}
 use Rattle.names.proofs.Spelling.{Spelling, spell-law, spelled-known, spelled-new, spelled-full}
 use Rattle.terms.proofs.Laws.{below}
-use Rattle.gather.specs.Sets.{Same-but}
+use Rattle.words.specs.Slices.{Same-but}
 use Rattle.gather.specs.Visits.{put}
-use Rattle.gather.proofs.Steps.{same-self, same-set, same-then}
-use Rattle.triggers.specs.Entries.{entry-number, disjuncts-of-words, disjuncts-of, entries, Entries}
+use Rattle.words.proofs.Slices.{same-self, same-set, same-then}
+use Rattle.triggers.specs.Entries.{entry-number, disjuncts-of-words, disjuncts-of, Entries}
 use Rattle.triggers.specs.Filings.{filing}
 use Rattle.summary.specs.declared.Limit.{Limit}
 use Rattle.summary.specs.declared.Limit.the-variants as limit
@@ -172,11 +173,12 @@ module _ {file names : List ℕ} {named n x y : ℕ} (table : Table file names n
 
     -- a token and the shorter name, filed
     token-two : {names′ out out′ : List ℕ} {total m at : ℕ} {r : Sorted} → Table file names′ total → names-of file names′ total ≡ spell (names-of file names named) (part file x (x + y - 4))
-        → named ≤ total → ((k : ℕ) → k < named → name-of file names′ k ≡ name-of file names k) → name-of file names′ m ≡ part file x (x + y - 4) → m < total
+        → named ≤ total → ((k : ℕ) → k < named → name-of file names′ k ≡ name-of file names k)
+        → ((k : ℕ) → k < named → is-excluded names′ k ≡ is-excluded names k) → name-of file names′ m ≡ part file x (x + y - 4) → m < total
         → 16384 ≤ length out → Two out out′ total n m at r
         → Comes-to file names names′ out′ named at (token-triggers (name-of file names n)) r
     unfolding fold-left entries sum
-    token-two {names′} {out} {total = total} {m} {at} table′ spelled more same is k room (both fits e) =
+    token-two {names′} {out} {total = total} {m} {at} table′ spelled more same excluded is k room (both fits e) =
         let few = table′ .few in
         rw (token-yes (name-of file names n) yes)
         (kind-filed {e = at + 2} {total = total} (record {
@@ -189,8 +191,9 @@ module _ {file names : List ℕ} {named n x y : ℕ} (table : Table file names n
           spelled = rw (← token-short) spelled;
           more = more;
           same-names = same;
+          same-excluded = excluded;
         }))
-    token-two {names′} {total = total} table′ spelled more same is k room (over past e) =
+    token-two {names′} {total = total} table′ spelled more same excluded is k room (over past e) =
         rw (token-yes (name-of file names n) yes)
         (entries-over (rw (← token-short, ← spelled, names-length file names′ total) (table′ .few)) past)
 
@@ -236,7 +239,7 @@ module _ {file names : List ℕ} {named n x y : ℕ} (table : Table file names n
           let k = spelled-known token-spelled e in
           record {
             name-words = token-slice slice;
-            kinds = rw (k .kept) (token-two table (k .names) (omega arith) (λ i h. refl) (k .is) (k .number) room two);
+            kinds = rw (k .kept) (token-two table (k .names) (omega arith) (λ i h. refl) (λ i h. refl) (k .is) (k .number) room two);
             out-same = token-out two;
             words-as = token-two-as (token-slice slice) (token-entries answer ∙ rw e refl) two;
           }
@@ -252,6 +255,7 @@ module _ {file names : List ℕ} {named n x y : ℕ} (table : Table file names n
             name-words = token-slice slice;
             kinds = token-two (k .table) (k .names) (omega arith)
                 (λ i h. rw (k .slice) (entered-old file names named x (x + y - 4) (k .rank) within few (table .room) i h))
+                (λ i h. rw slice (excluded-spelled table x (x + y - 4) i h))
                 (rw (k .number, k .slice) (entered-new file names named x (x + y - 4) (k .rank) within few (table .room) (token-asks .1)))
                 (omega (arith, k .number)) room two;
             out-same = token-out two;
@@ -306,6 +310,7 @@ module _ {file names : List ℕ} {named n x y : ℕ} (table : Table file names n
                 spelled = refl;
                 more = omega arith;
                 same-names = λ k h. refl;
+                same-excluded = λ k h. refl;
               }));
           out-same = same-set at (at + 1 - at) out at (n + 4096) (omega arith) (omega arith);
           words-as = λ rows mark.

@@ -1,5 +1,5 @@
--- The summary of a fact in the lent slices: its trigger entries from word 6,144 of `out` on, behind those of the facts before
--- it; its free names from word 0 on, behind theirs.
+-- The summary of a fact in the lent slices: its trigger entries from word `entries-base` of `out` on, behind those of the facts
+-- before it; its free names from word 0 on, behind theirs.
 use Prim.Native.Nat.{ℕ, _+_, _≤_, _<_}
 use mathlib.Core.Path.{_≡_}
 use mathlib.Core.Bool.{cond}
@@ -8,14 +8,17 @@ use lib.ListN.{length, getD}
 use lib.Dec.{ltb}
 use Rattle.model.specs.Lists.{fold-left, part}
 use Rattle.model.specs.Names.{Name, from-list}
-use Rattle.model.specs.Reading.{spell}
-use Rattle.model.specs.Summaries.{Kinded, exclude-names, free-top-level-names, summarize-kind}
-use Rattle.names.specs.Table.{Table, name-of, names-of}
-use Rattle.gather.specs.Sets.{Fresh, Same-but}
+use Rattle.model.specs.Reading.{most-names, most-terms, most-entries, most-uses, spell}
+use Rattle.model.specs.Outcome.{working-words}
+use Rattle.model.specs.Summaries.{Kinded, entries, free-top-level-names, summarize-kind}
+use Rattle.model.specs.declared.AsumKind.the-variants.{Triggers}
+use Rattle.names.specs.Table.{name-of, names-of}
+use Rattle.words.specs.Slices.{word-limit, Same-but}
+use Rattle.gather.specs.Sets.{name-mark-column, row-mark-column, Fresh}
 use Rattle.rules.specs.Views.{Tables, terms-in}
 use Rattle.rules.specs.Choices.{kind-choice}
 use Rattle.rules.specs.declared.Choice.{Choice}
-use Rattle.triggers.specs.Entries.{disjuncts-of, entries, Entries}
+use Rattle.triggers.specs.Entries.{entries-base, entries-end, disjuncts-of, Entries}
 use Rattle.summary.specs.declared.Limit.the-variants as limit
 use Rattle.summary.specs.declared.Summary.{Summary}
 use Rattle.summary.specs.declared.Summarized.{Summarized}
@@ -28,23 +31,24 @@ pub record Asked (file names refs rows out : List ℕ) (named used many name t m
   pub fact : name < named
   pub term : t < many
   pub fresh : Fresh names rows mark
-  pub few-marks : mark + 16384 < 4294967296
-  pub few-entries : filed ≤ 2048
-  pub few-uses : uses ≤ 6144
-  pub room : 16384 ≤ length out
+  pub few-marks : mark + working-words < word-limit
+  pub few-entries : filed ≤ most-entries
+  pub few-uses : uses ≤ most-uses
+  pub room : working-words ≤ length out
 
-module _ (file names refs rows : List ℕ) (named used many name t : ℕ) where
+-- what its rule gathers
+unfoldable pub fact-choice : List ℕ → List ℕ → List ℕ → List ℕ → ℕ → ℕ → ℕ → ℕ → ℕ → Choice
+fact-choice file names refs rows named used many name t =
+    kind-choice (terms-in file names refs rows used many) rows (name-of file names name) t
+
+module _ (exclude : List Name) (file names refs rows : List ℕ) (named used many name t : ℕ) where
   -- the fact's kind and disjuncts
   unfoldable pub fact-kind : Kinded
-  fact-kind = summarize-kind exclude-names (terms-in file names refs rows used many) (name-of file names name) t
-
-  -- what its rule gathers
-  unfoldable pub fact-choice : Choice
-  fact-choice = kind-choice (terms-in file names refs rows used many) rows (name-of file names name) t
+  fact-kind = summarize-kind exclude (terms-in file names refs rows used many) (name-of file names name) t
 
   -- the fact's free names
   unfoldable pub fact-names : List Name
-  fact-names = free-top-level-names exclude-names (terms-in file names refs rows used many) t
+  fact-names = free-top-level-names exclude (terms-in file names refs rows used many) t
 
   -- the names of the table, with the one that rule 4 trims off the fact's token
   unfoldable pub names-then : List Name
@@ -62,28 +66,33 @@ module _ (file names refs rows : List ℕ) (named used many name t : ℕ) where
         mark = mark + 2 + more;
       }
 
-  -- the lists of a summary in the slices, behind `filed` entries and `uses` uses: its disjuncts, its free names, the names of
-  -- the table; and all marks are below the next one
+  -- the lists of a summary in the slices, behind `filed` entries and `uses` uses: its disjuncts, one entry or more for each, and
+  -- its free names; the tables then: the names, of which those before keep theirs, and the same terms; all marks are below the
+  -- next one
   pub record Lists (names′ rows′ out′ : List ℕ) (filed uses : ℕ) (s : Summary) : Type 0 where
-    pub disjuncts : disjuncts-of (name-of file names′) (part out′ (6144 + filed) (6144 + s .entries)) ≡ fact-kind .triggers
-    pub entry-words : Entries (s .named) (part out′ (6144 + filed) (6144 + s .entries))
+    pub disjuncts : disjuncts-of (name-of file names′) (part out′ (entries-base + filed) (entries-base + s .entries)) ≡ fact-kind .triggers
+    pub entry-words : Entries (s .named) (part out′ (entries-base + filed) (entries-base + s .entries))
+    pub few-sets : (m : ℕ) → s .kind ≡ Triggers m → m + filed ≤ s .entries
     pub free-names : from-list (map (name-of file names′) (part out′ uses (s .uses))) ≡ fact-names
     pub use-words : (i : ℕ) → uses ≤ i → i < s .uses → getD out′ i 0 < named
-    pub table : Table file names′ (s .named)
+    pub tables : Tables file names′ refs rows′ (s .named) used many
     pub spelled : names-of file names′ (s .named) ≡ names-then
+    pub more : named ≤ s .named
+    pub same-names : (n : ℕ) → n < named → name-of file names′ n ≡ name-of file names n
+    pub same-terms : terms-in file names′ refs rows′ used many ≡ terms-in file names refs rows used many
     pub fresh : Fresh names′ rows′ (s .mark)
 
 -- a summary, or the first limit that it passes
 unfoldable pub limited : Summary → Summarized
 limited s =
-    cond (ltb 2048 (s .named)) (summarized.Over limit.Names)
-    (cond (ltb 2048 (s .entries)) (summarized.Over limit.Entries)
-    (cond (ltb 6144 (s .uses)) (summarized.Over limit.Uses) (summarized.Done s)))
+    cond (ltb most-names (s .named)) (summarized.Over limit.Names)
+    (cond (ltb most-entries (s .entries)) (summarized.Over limit.Entries)
+    (cond (ltb most-uses (s .uses)) (summarized.Over limit.Uses) (summarized.Done s)))
 
 -- what of the slices may change: of the names the columns of the table and the marks, of the rows the marks, of `out` the room
 -- for uses and for entries behind those of the facts before
 pub record Slices (names rows out names′ rows′ out′ : List ℕ) (filed uses : ℕ) : Type 0 where
-  pub name-words : Same-but 0 10240 names names′
-  pub row-words : Same-but 12288 4096 rows rows′
+  pub name-words : Same-but 0 (name-mark-column + most-names) names names′
+  pub row-words : Same-but row-mark-column most-terms rows rows′
   pub out-length : length out′ ≡ length out
-  pub out-words : (i : ℕ) → (uses ≤ i → i < 6144 → ⊥) → (6144 + filed ≤ i → i < 8192 → ⊥) → getD out′ i 0 ≡ getD out i 0
+  pub out-words : (i : ℕ) → (uses ≤ i → i < most-uses → ⊥) → (entries-base + filed ≤ i → i < entries-end → ⊥) → getD out′ i 0 ≡ getD out i 0

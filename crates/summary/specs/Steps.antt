@@ -3,17 +3,18 @@ use Prim.Native.Nat.{ℕ, _+_, _-_, _≤_, _<_}
 use mathlib.Core.Path.{_≡_}
 use mathlib.Core.Bool.{true}
 use mathlib.Core.List.{List}
-use mathlib.Core.Option.{some}
 use lib.ListN.{length, set}
 use Rattle.model.specs.Lists.{fold-left, part}
 use Rattle.model.specs.Names.{Name}
-use Rattle.model.specs.Reading.{spell}
-use Rattle.model.specs.Summaries.{Kinded, exclude-names, token-triggers, free-top-level-names}
+use Rattle.model.specs.Reading.{most-names, most-terms, most-uses, spell}
+use Rattle.model.specs.Outcome.{working-words}
+use Rattle.model.specs.Summaries.{Kinded, entries, token-triggers, free-top-level-names}
 use Rattle.model.specs.declared.AsumKind.{AsumKind}
 use Rattle.model.specs.declared.AsumKind.the-variants.{Triggers}
-use Rattle.names.specs.Table.{Table, name-of, names-of}
+use Rattle.names.specs.Table.{Table, is-excluded, Excludes, name-of, names-of}
 use Rattle.terms.specs.Rows.{terms-of}
-use Rattle.gather.specs.Sets.{Fresh, Same-but, Named, Gathers, Gathered}
+use Rattle.words.specs.Slices.{word-limit, Same-but}
+use Rattle.gather.specs.Sets.{name-mark-column, row-mark-column, Fresh, Named, Gathers, Gathered}
 use Rattle.gather.specs.Visits.{visit-term, Walks-as}
 use Rattle.gather.specs.declared.Walked.{Walked}
 use Rattle.gather.specs.declared.Walked.the-variants as walks
@@ -21,7 +22,7 @@ use Rattle.rules.specs.Views.{terms-in}
 use Rattle.rules.specs.Choices.{kinded}
 use Rattle.rules.specs.declared.Choice.{Choice}
 use Rattle.rules.specs.declared.Choice.the-variants as choice
-use Rattle.triggers.specs.Entries.{disjuncts-of, entries, Entries}
+use Rattle.triggers.specs.Entries.{entries-base, entries-end, last-flag, disjuncts-of, Entries}
 use Rattle.triggers.specs.Filings.{Filing, filing}
 use Rattle.triggers.specs.declared.Filed.{Filed}
 use Rattle.triggers.specs.declared.Filed.the-variants as files
@@ -35,42 +36,42 @@ use Rattle.summary.specs.Writing.{token-table, file-token}
 
 -- what filing from `at` on asks of the slices
 pub record Begun (names rows out : List ℕ) (mark at : ℕ) : Type 0 where
-  pub name-room : 16384 ≤ length names
+  pub name-room : working-words ≤ length names
   pub fresh : Fresh names rows mark
-  pub few-marks : mark + 16384 < 4294967296
-  pub low : at ≤ 8192
-  pub room : 16384 ≤ length out
+  pub few-marks : mark + working-words < word-limit
+  pub low : at ≤ entries-end
+  pub room : working-words ≤ length out
 
 -- filed disjuncts as a kind
 abbrev pub sorted-of : ℕ → Filed → Sorted
 sorted-of named (files.Sets n e) = sorted.Kind (Triggers n) e named
 sorted-of named files.Full = sorted.Over limit.Entries
 
--- where the entries end: at 8,192 where there is no room for all
+-- where the entries end: at `entries-end` where there is no room for all
 unfoldable pub sorted-end : ℕ → Sorted → ℕ
 sorted-end at (sorted.Kind a e total) = e
 sorted-end at (sorted.Over limit.Names) = at
-sorted-end at (sorted.Over limit.Entries) = 8192
+sorted-end at (sorted.Over limit.Entries) = entries-end
 sorted-end at (sorted.Over limit.Uses) = at
 
 -- the slices after filing: in the tables only marks change, all below the next one; in `out` only the entries
 pub record Marks (names rows out names′ rows′ out′ : List ℕ) (mark at : ℕ) (r : Sorted) : Type 0 where
-  pub names-same : Same-but 8192 2048 names names′
-  pub rows-same : Same-but 12288 4096 rows rows′
+  pub names-same : Same-but name-mark-column most-names names names′
+  pub rows-same : Same-but row-mark-column most-terms rows rows′
   pub out-same : Same-but at (sorted-end at r - at) out out′
   pub fresh : (a : AsumKind) (e total : ℕ) → r ≡ sorted.Kind a e total → Fresh names′ rows′ (mark + 1 + (e - at))
 
 -- what filing a kind whose disjuncts hold names of the table comes to
 pub data Kinds (name : ℕ → Name) (named : ℕ) (k : Kinded) (at : ℕ) (out′ : List ℕ) : Sorted → Type 0 where
   kind-there : {a : AsumKind} {e : ℕ}
-      → a ≡ k .kind → disjuncts-of name (part out′ at e) ≡ k .triggers → e ≡ at + entries (k .triggers) → e ≤ 8192
+      → a ≡ k .kind → disjuncts-of name (part out′ at e) ≡ k .triggers → e ≡ at + entries (k .triggers) → e ≤ entries-end
       → Entries named (part out′ at e)
       → Kinds name named k at out′ (sorted.Kind a e named)
-  no-room : 8192 < at + entries (k .triggers) → Kinds name named k at out′ (sorted.Over limit.Entries)
+  no-room : entries-end < at + entries (k .triggers) → Kinds name named k at out′ (sorted.Over limit.Entries)
 
--- what filing the kind that a naming of the numbers gives comes to, with the slices
-pub record Sorts (names rows out names′ rows′ out′ : List ℕ) (named mark at : ℕ) (k : (ℕ → Name) → Kinded) (r : Sorted) : Type 0 where
-  pub kinds : (name : ℕ → Name) → Named name names named → Kinds name named (k name) at out′ r
+-- what filing the kind that the excluded names and a naming of the numbers give comes to, with the slices
+pub record Sorts (names rows out names′ rows′ out′ : List ℕ) (named mark at : ℕ) (k : List Name → (ℕ → Name) → Kinded) (r : Sorted) : Type 0 where
+  pub kinds : (exclude : List Name) (name : ℕ → Name) → Named exclude name names named → Kinds name named (k exclude name) at out′ r
   pub marks : Marks names rows out names′ rows′ out′ mark at r
 
 -- the answer and every word of the slices after filing from `at` on under marks after `mark`
@@ -83,24 +84,25 @@ pub record Filed-kind (file names names′ out′ : List ℕ) (named at : ℕ) (
   pub kind : a ≡ k .kind
   pub disjuncts : disjuncts-of (name-of file names′) (part out′ at e) ≡ k .triggers
   pub ends : e ≡ at + entries (k .triggers)
-  pub high : e ≤ 8192
+  pub high : e ≤ entries-end
   pub entry-words : Entries total (part out′ at e)
   pub table : Table file names′ total
   pub spelled : names-of file names′ total ≡ fold-left spell (names-of file names named) (k .trimmed)
   pub more : named ≤ total
   pub same-names : (n : ℕ) → n < named → name-of file names′ n ≡ name-of file names n
+  pub same-excluded : (n : ℕ) → n < named → is-excluded names′ n ≡ is-excluded names n
 
 -- what filing a kind comes to: it is filed, or the first limit that it passes
 pub data Comes-to (file names names′ out′ : List ℕ) (named at : ℕ) (k : Kinded) : Sorted → Type 0 where
   kind-filed : {a : AsumKind} {e total : ℕ} → Filed-kind file names names′ out′ named at k a e total → Comes-to file names names′ out′ named at k (sorted.Kind a e total)
-  names-over : 2048 < length (fold-left spell (names-of file names named) (k .trimmed)) → Comes-to file names names′ out′ named at k (sorted.Over limit.Names)
-  entries-over : length (fold-left spell (names-of file names named) (k .trimmed)) ≤ 2048 → 8192 < at + entries (k .triggers)
+  names-over : most-names < length (fold-left spell (names-of file names named) (k .trimmed)) → Comes-to file names names′ out′ named at k (sorted.Over limit.Names)
+  entries-over : length (fold-left spell (names-of file names named) (k .trimmed)) ≤ most-names → entries-end < at + entries (k .triggers)
       → Comes-to file names names′ out′ named at k (sorted.Over limit.Entries)
 
 -- what filing two names comes to
 pub data Two (out out′ : List ℕ) (total n m at : ℕ) : Sorted → Type 0 where
-  both : at + 2 ≤ 8192 → out′ ≡ set (set out at (n + 4096)) (at + 1) (m + 4096) → Two out out′ total n m at (sorted.Kind (Triggers 2) (at + 2) total)
-  over : 8192 < at + 2 → out′ ≡ out → Two out out′ total n m at (sorted.Over limit.Entries)
+  both : at + 2 ≤ entries-end → out′ ≡ set (set out at (n + last-flag)) (at + 1) (m + last-flag) → Two out out′ total n m at (sorted.Kind (Triggers 2) (at + 2) total)
+  over : entries-end < at + 2 → out′ ≡ out → Two out out′ total n m at (sorted.Over limit.Entries)
 
 -- what filing a token comes to
 pub record Tokens (file names out names′ out′ : List ℕ) (named n at : ℕ) (r : Sorted) : Type 0 where
@@ -111,7 +113,6 @@ pub record Tokens (file names out names′ out′ : List ℕ) (named n at : ℕ)
 
 -- the slice of names after a choice: only a token enters a name
 unfoldable pub trimmed-table : List ℕ → List ℕ → ℕ → Choice → List ℕ
-trimmed-table file names named choice.No = names
 trimmed-table file names named (choice.One t) = names
 trimmed-table file names named (choice.Two t u) = names
 trimmed-table file names named (choice.Groups t) = names
@@ -124,20 +125,21 @@ trimmed-table file names named choice.Ambient = names
 
 -- what filing a choice comes to
 pub record Chooses (file names refs rows out names′ rows′ out′ : List ℕ) (named used many mark at : ℕ) (chosen : Choice) (r : Sorted) : Type 0 where
-  pub kinds : (k : Kinded) → kinded (terms-in file names refs rows used many) (name-of file names) chosen ≡ some k → Comes-to file names names′ out′ named at k r
+  pub kinds : (exclude : List Name) → Excludes exclude file names named
+      → Comes-to file names names′ out′ named at (kinded exclude (terms-in file names refs rows used many) (name-of file names) chosen) r
   pub marks : Marks (trimmed-table file names named chosen) rows out names′ rows′ out′ mark at r
 
 -- the summary of a kind and of the free names that were gathered
 abbrev pub finished : AsumKind → ℕ → ℕ → ℕ → Walked → Summarized
 finished kind end total mark (walks.Names n) =
-    summarized.Done (record { kind = kind; entries = end - 6144; uses = n; named = total; mark = mark + 1 })
+    summarized.Done (record { kind = kind; entries = end - entries-base; uses = n; named = total; mark = mark + 1 })
 finished kind end total mark walks.Full = summarized.Over limit.Uses
 
 -- what gathering the free names of a fact comes to
 pub record Finishes (names refs rows out names′ rows′ out′ : List ℕ) (named total used many t : ℕ) (kind : AsumKind) (end mark uses : ℕ) (r : Summarized) : Type 0 where
   pub walked : Walked
   pub answer : r ≡ finished kind end total mark walked
-  pub free-names : (name : ℕ → Name) → Named name names named
-      → Gathers name named (free-top-level-names exclude-names (terms-of name refs rows used many) t) uses 6144 out′ walked
-  pub slices : Gathered names rows out names′ rows′ out′ mark uses 6144 walked
-  pub words-as : Walks-as (visit-term names refs rows used many (6144 - uses) t) names rows out names′ rows′ out′ mark uses walked
+  pub free-names : (exclude : List Name) (name : ℕ → Name) → Named exclude name names named
+      → Gathers name named (free-top-level-names exclude (terms-of name refs rows used many) t) uses most-uses out′ walked
+  pub slices : Gathered names rows out names′ rows′ out′ mark uses most-uses walked
+  pub words-as : Walks-as (visit-term names refs rows used many (most-uses - uses) t) names rows out names′ rows′ out′ mark uses walked

@@ -4,33 +4,36 @@ use mathlib.Core.Path.{_≡_}
 use mathlib.Core.Bool.{true, cond}
 use mathlib.Core.List.{List, [], _∷_}
 use mathlib.Core.Option.{Option, none, some}
-use lib.ListN.{length, getD}
+use lib.ListN.{length}
 use lib.Dec.{ltb}
 use Rattle.model.specs.Lists.{_>>=_, part}
 use Rattle.model.specs.Names.{bytes, ends-with}
-use Rattle.names.specs.Table.{name-of, names-of, look-up, spell-answer, spell-table}
+use Rattle.model.specs.Reading.{most-uses}
+use Rattle.names.specs.Table.{name-start, name-length, name-of, names-of, look-up, spell-answer, spell-table}
 use Rattle.names.specs.declared.Found.{Found}
 use Rattle.names.specs.declared.Spelled.{Spelled}
 use Rattle.names.specs.declared.Spelled.the-variants as spelled
 use Rattle.terms.specs.Rows.{row-start, row-end, terms-of-words}
+use Rattle.gather.specs.Sets.{name-mark-column, row-mark-column}
 use Rattle.gather.specs.Visits.{visit-term, marked-at, put}
 use Rattle.rules.specs.declared.Choice.{Choice}
 use Rattle.rules.specs.declared.Choice.the-variants as choice
+use Rattle.triggers.specs.Entries.{entries-base, entries-end, last-flag}
 use Rattle.triggers.specs.Filings.{Filing, filing, file-list, file-groups, file-parts, ask-empty}
 use Rattle.summary.specs.Facts.{fact-choice}
 
 -- where the name that a token trims to ends in the file
 abbrev pub trimmed-end : List ℕ → ℕ → ℕ
-trimmed-end names n = getD names n 0 + getD names (2048 + n) 0 - 4
+trimmed-end names n = name-start names n + name-length names n - 4
 
 -- what looking that name up finds
 abbrev pub trimmed-found : List ℕ → List ℕ → ℕ → ℕ → Found
-trimmed-found file names named n = look-up (names-of file names named) (part file (getD names n 0) (trimmed-end names n))
+trimmed-found file names named n = look-up (names-of file names named) (part file (name-start names n) (trimmed-end names n))
 
 -- the slice of names with the name that a token ending in @tok trims to
 unfoldable pub token-table : List ℕ → List ℕ → ℕ → ℕ → List ℕ
 token-table file names named n =
-    let trimmed = spell-table file names named (getD names n 0) (trimmed-end names n) (trimmed-found file names named n) in
+    let trimmed = spell-table file names named (name-start names n) (trimmed-end names n) (trimmed-found file names named n) in
     cond (ends-with (name-of file names n) (bytes "@tok")) trimmed names
 
 -- the number of a spelled name: a full table has none for it
@@ -44,8 +47,8 @@ unfoldable pub token-words : List ℕ → List ℕ → ℕ → ℕ → Option (L
 token-words file names named n =
     let trimmed = spelled-number (spell-answer named (trimmed-found file names named n)) in
     cond (ends-with (name-of file names n) (bytes "@tok"))
-    (trimmed >>= λ m. some ((n + 4096) ∷ (m + 4096) ∷ []))
-    (some ((n + 4096) ∷ []))
+    (trimmed >>= λ m. some ((n + last-flag) ∷ (m + last-flag) ∷ []))
+    (some ((n + last-flag) ∷ []))
 
 -- no more is filed
 unfoldable pub stopped : Filing → Filing
@@ -55,7 +58,7 @@ stopped f = record { names = f .names; rows = f .rows; out = f .out; mark = f .m
 unfoldable pub file-words : Filing → Option (List ℕ) → Filing
 file-words f none = stopped f
 file-words f (some ws) =
-    cond (ltb 8192 (f .end + length ws)) (stopped f)
+    cond (ltb entries-end (f .end + length ws)) (stopped f)
     (filing (f .names) (f .rows) (put (f .end) ws (f .out)) (f .mark + length ws) (f .end + length ws))
 
 -- a token, by its name's number: the name that it trims to enters the name table
@@ -69,13 +72,12 @@ module _ (refs : List ℕ) (used many : ℕ) where
   unfoldable pub file-refinement : ℕ → Filing → ℕ → Filing
   file-refinement mark f t =
       let walk = ask-empty refs used many (f .names) (f .rows) t in
-      let asked = filing (f .names) (marked-at 12288 mark (walk .walked) (f .rows)) (f .out) (f .mark) (f .end) in
+      let asked = filing (f .names) (marked-at row-mark-column mark (walk .walked) (f .rows)) (f .out) (f .mark) (f .end) in
       let more = file-groups refs used many asked t in
       cond (walk .full) more asked
 
   -- what a choice gathers
   unfoldable pub file-choice : List ℕ → ℕ → ℕ → Filing → Choice → Filing
-  file-choice file named mark f choice.No = f
   file-choice file named mark f (choice.One t) = file-list refs used many f (t ∷ [])
   file-choice file named mark f (choice.Two t u) = file-list refs used many (file-list refs used many f (t ∷ [])) (u ∷ [])
   file-choice file named mark f (choice.Groups t) = file-groups refs used many f t
@@ -90,10 +92,10 @@ module _ (refs : List ℕ) (used many : ℕ) where
   -- the free names of a term, from word `uses` of `out` on; nothing once filing has stopped
   unfoldable pub file-uses : ℕ → Filing → ℕ → Filing
   file-uses uses f t =
-      let walk = visit-term (f .names) refs (f .rows) used many (6144 - uses) t in
+      let walk = visit-term (f .names) refs (f .rows) used many (most-uses - uses) t in
       let more : Filing = record {
-        names = marked-at 8192 (f .mark) (walk .found) (f .names);
-        rows = marked-at 12288 (f .mark) (walk .walked) (f .rows);
+        names = marked-at name-mark-column (f .mark) (walk .found) (f .names);
+        rows = marked-at row-mark-column (f .mark) (walk .walked) (f .rows);
         out = put uses (walk .found) (f .out);
         mark = f .mark + 1;
         end = f .end;
@@ -105,7 +107,7 @@ module _ (refs : List ℕ) (used many : ℕ) where
   unfoldable pub file-fact : List ℕ → List ℕ → List ℕ → List ℕ → ℕ → ℕ → ℕ → ℕ → ℕ → ℕ → Filing
   file-fact file names rows out named name t mark filed uses =
       let chosen = fact-choice file names refs rows named used many name t in
-      file-uses uses (file-choice file named mark (filing names rows out (mark + 1) (6144 + filed)) chosen) t
+      file-uses uses (file-choice file named mark (filing names rows out (mark + 1) (entries-base + filed)) chosen) t
 
 -- every word of the slices
 pub record Written (f : Filing) (names′ rows′ out′ : List ℕ) : Type 0 where

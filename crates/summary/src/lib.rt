@@ -5,13 +5,19 @@ use rules::Choice;
 use triggers::Filed;
 ghost use Prim.Native.Nat.{_+_, _≤_, _<_};
 ghost use mathlib.Core.Path.{_≡_};
+ghost use mathlib.Core.List.{List};
 ghost use lib.ListN.{length};
 ghost use Rattle.model.specs.Lists.{part};
-ghost use Rattle.names.specs.Table.{Table};
+ghost use Rattle.model.specs.Names.{Name};
+ghost use Rattle.model.specs.Reading.{most-names, most-uses};
+ghost use Rattle.model.specs.Outcome.{working-words};
+ghost use Rattle.names.specs.Table.{Table, Excludes};
 ghost use Rattle.terms.specs.Rows.{row-start, row-end, terms-of-words, terms-of, Rows};
+ghost use Rattle.words.specs.Slices.{word-limit};
 ghost use Rattle.gather.specs.Sets.{Fresh};
 ghost use Rattle.rules.specs.Views.{Tables};
 ghost use Rattle.rules.specs.Choices.{refinement-kind, parts-kind, Within};
+ghost use Rattle.triggers.specs.Entries.{entries-base, entries-end};
 ghost use Rattle.triggers.specs.Filings.{filing, file-parts};
 ghost use Rattle.summary.specs.Facts.{Asked, fact-summary, limited, Lists, Slices};
 ghost use Rattle.summary.specs.Steps.{Begun, Sorts, Sorts-as, Two, Tokens, Chooses, Finishes, sorted-of};
@@ -48,14 +54,14 @@ pub enum Summarized {
 
 // Files two names as two disjuncts.
 fn put_two(out: &mut [u32], named: usize, n: usize, m: usize, at: usize) -> Sorted
-    requires { ⌜ (n < 2048) × (m < 2048) × (at ≤ 8192) × (16384 ≤ length (now out)) ⌝ }
+    requires { ⌜ (n < most-names) × (m < most-names) × (at ≤ entries-end) × (working-words ≤ length (now out)) ⌝ }
     ensures { λ r. ⌜ Two (now (out .entry)) (now (out .exit)) named n m at r ⌝ }
 {
-    if 8191 <= at {
+    if triggers::ENTRIES_END <= at + 1 {
         return Sorted::Over(Limit::Entries);
     }
-    out[at] = (n + 4096) as u32;
-    out[at + 1] = (m + 4096) as u32;
+    out[at] = (n + triggers::LAST) as u32;
+    out[at + 1] = (m + triggers::LAST) as u32;
     Sorted::Kind(AsumKind::Triggers(2), at + 2, named)
 }
 
@@ -68,16 +74,16 @@ fn file_token(
     n: usize,
     at: usize,
 ) -> Sorted
-    requires { ⌜ Table (now file) (now names) named × (n < named) × (at ≤ 8192) × (16384 ≤ length (now out)) ⌝ }
+    requires { ⌜ Table (now file) (now names) named × (n < named) × (at ≤ entries-end) × (working-words ≤ length (now out)) ⌝ }
     ensures { λ r. ⌜ Tokens (now (file .entry)) (now (names .entry)) (now (out .entry)) (now (names .exit)) (now (out .exit)) named n at r ⌝ }
 {
     let a = words::at(names, n);
-    let e = a + words::at(names, 2048 + n);
+    let e = a + words::at(names, names::LENGTH + n);
     if !text::ends_with(file, a, e, b"@tok") {
-        if 8192 <= at {
+        if triggers::ENTRIES_END <= at {
             return Sorted::Over(Limit::Entries);
         }
-        out[at] = (n + 4096) as u32;
+        out[at] = (n + triggers::LAST) as u32;
         return Sorted::Kind(AsumKind::Triggers(1), at + 1, named);
     }
     match names::spell(file, names, named, a, e - 4) {
@@ -111,7 +117,7 @@ fn file_refinement(
     at: usize,
 ) -> Sorted
     requires { ⌜ Rows (now refs) (now rows) used many named × Begun (now names) (now rows) (now out) mark at × (t < many) ⌝ }
-    ensures kinds { λ r. ⌜ Sorts (now (names .entry)) (now (rows .entry)) (now (out .entry)) (now (names .exit)) (now (rows .exit)) (now (out .exit)) named mark at (λ name. refinement-kind (terms-of name (now (refs .entry)) (now (rows .entry)) used many) t) r ⌝ }
+    ensures kinds { λ r. ⌜ Sorts (now (names .entry)) (now (rows .entry)) (now (out .entry)) (now (names .exit)) (now (rows .exit)) (now (out .exit)) named mark at (λ exclude name. refinement-kind exclude (terms-of name (now (refs .entry)) (now (rows .entry)) used many) t) r ⌝ }
     ensures words { λ r. ⌜ Sorts-as (file-refinement (now (refs .entry)) used many mark (filing (now (names .entry)) (now (rows .entry)) (now (out .entry)) (mark + 1) at) t) (now (names .exit)) (now (rows .exit)) (now (out .exit)) mark at r ⌝ }
 {
     if triggers::is_empty(names, refs, rows, out, named, used, many, t, mark, at) {
@@ -137,7 +143,7 @@ fn file_parts(
     at: usize,
 ) -> Sorted
     requires { ⌜ Rows (now refs) (now rows) used many named × Begun (now names) (now rows) (now out) mark at × (t < many) ⌝ }
-    ensures kinds { λ r. ⌜ Sorts (now (names .entry)) (now (rows .entry)) (now (out .entry)) (now (names .exit)) (now (rows .exit)) (now (out .exit)) named mark at (λ name. parts-kind (terms-of name (now (refs .entry)) (now (rows .entry)) used many) t) r ⌝ }
+    ensures kinds { λ r. ⌜ Sorts (now (names .entry)) (now (rows .entry)) (now (out .entry)) (now (names .exit)) (now (rows .exit)) (now (out .exit)) named mark at (λ exclude name. parts-kind exclude (terms-of name (now (refs .entry)) (now (rows .entry)) used many) t) r ⌝ }
     ensures words { λ r. ⌜ Sorts-as (file-parts (now (refs .entry)) used many (filing (now (names .entry)) (now (rows .entry)) (now (out .entry)) (mark + 1) at) (terms-of-words (part (now (refs .entry)) (row-start (now (rows .entry)) t) (row-end (now (rows .entry)) used many t)))) (now (names .exit)) (now (rows .exit)) (now (out .exit)) mark at r ⌝ }
 {
     let a = terms::start(rows, t);
@@ -179,7 +185,6 @@ fn file_choice(
     ensures words { λ r. ⌜ Sorts-as (file-choice (now (refs .entry)) used many (now (file .entry)) named mark (filing (now (names .entry)) (now (rows .entry)) (now (out .entry)) (mark + 1) at) choice) (now (names .exit)) (now (rows .exit)) (now (out .exit)) mark at r ⌝ }
 {
     match choice {
-        Choice::No => Sorted::Kind(AsumKind::Drop, at, named),
         Choice::One(t) => filed(
             triggers::file_term(names, refs, rows, out, named, used, many, t, mark + 1, at),
             named,
@@ -231,7 +236,7 @@ fn finish(
     mark: usize,
     uses: usize,
 ) -> Summarized
-    requires { ⌜ Rows (now refs) (now rows) used many named × (16384 ≤ length (now names)) × (t < many) × Fresh (now names) (now rows) mark × (mark + 1 < 4294967296) × (6144 ≤ end) × (uses ≤ 6144) × (16384 ≤ length (now out)) ⌝ }
+    requires { ⌜ Rows (now refs) (now rows) used many named × (working-words ≤ length (now names)) × (t < many) × Fresh (now names) (now rows) mark × (mark + 1 < word-limit) × (entries-base ≤ end) × (uses ≤ most-uses) × (working-words ≤ length (now out)) ⌝ }
     ensures { λ r. ⌜ Finishes (now (names .entry)) (now (refs .entry)) (now (rows .entry)) (now (out .entry)) (now (names .exit)) (now (rows .exit)) (now (out .exit)) named total used many t kind end mark uses r ⌝ }
 {
     match gather::gather_term(
@@ -245,11 +250,11 @@ fn finish(
         t,
         mark as u32,
         uses,
-        6144,
+        model::MOST_USES,
     ) {
         Walked::Names(n) => Summarized::Done(Summary {
             kind,
-            entries: end - 6144,
+            entries: end - triggers::ENTRIES,
             uses: n,
             named: total,
             mark: mark + 1,
@@ -275,13 +280,13 @@ pub fn summarize_assumption(
     uses: usize,
 ) -> Summarized
     requires { ⌜ Asked (now file) (now names) (now refs) (now rows) (now out) named used many name t mark entries uses ⌝ }
-    ensures answer { λ r. ⌜ r ≡ limited (fact-summary (now (file .entry)) (now (names .entry)) (now (refs .entry)) (now (rows .entry)) named used many name t mark entries uses) ⌝ }
-    ensures lists { λ r. ⌜ ((s : Summary) → r ≡ Summarized.Done s → Lists (now (file .entry)) (now (names .entry)) (now (refs .entry)) (now (rows .entry)) named used many name t (now (names .exit)) (now (rows .exit)) (now (out .exit)) entries uses s) ⌝ }
+    ensures answer { λ r. ⌜ ((exclude : List Name) → Excludes exclude (now (file .entry)) (now (names .entry)) named → r ≡ limited (fact-summary exclude (now (file .entry)) (now (names .entry)) (now (refs .entry)) (now (rows .entry)) named used many name t mark entries uses)) ⌝ }
+    ensures lists { λ r. ⌜ ((exclude : List Name) → Excludes exclude (now (file .entry)) (now (names .entry)) named → (s : Summary) → r ≡ Summarized.Done s → Lists exclude (now (file .entry)) (now (names .entry)) (now (refs .entry)) (now (rows .entry)) named used many name t (now (names .exit)) (now (rows .exit)) (now (out .exit)) entries uses s) ⌝ }
     ensures slices { λ r. ⌜ Slices (now (names .entry)) (now (rows .entry)) (now (out .entry)) (now (names .exit)) (now (rows .exit)) (now (out .exit)) entries uses ⌝ }
     ensures words { λ r. ⌜ Written (file-fact (now (refs .entry)) used many (now (file .entry)) (now (names .entry)) (now (rows .entry)) (now (out .entry)) named name t mark entries uses) (now (names .exit)) (now (rows .exit)) (now (out .exit)) ⌝ }
 {
     let choice = rules::summarize_kind(file, names, refs, rows, named, used, many, name, t);
-    let at = 6144 + entries;
+    let at = triggers::ENTRIES + entries;
     match file_choice(
         file,
         names,

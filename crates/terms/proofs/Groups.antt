@@ -14,7 +14,7 @@ use lib.Dec.{T, eqb, eqb→eq}
 use borrow.Author.Tests.{eq-eqb, ne-eqb}
 use Rattle.model.specs.Lists.{keep, concat, when, part}
 use Rattle.model.specs.Names.{Name}
-use Rattle.model.specs.Summaries.{exclude-names, groups-of, group-names, triggers-of-term}
+use Rattle.model.specs.Summaries.{groups-of, pattern-groups}
 use Rattle.model.specs.declared.Op.{Op}
 use Rattle.model.proofs.ListLaws.{T-or, keep-append, keep-all, keep-none}
 use Rattle.model.proofs.PartLaws.{part-cons, part-drop, part-elim, part-nil, part-split}
@@ -307,15 +307,13 @@ groups-when true ws g = refl
 groups-when false ws g = refl
 
 module _ {refs rows : List ℕ} {used many named : ℕ} (table : Rows refs rows used many named) (name : ℕ → Name) where
-  -- the triggers of a term: one name set for each group of the `all` under its labels
-  pub groups-count : {t : ℕ} → t < many → triggers-of-term exclude-names (terms-of name refs rows used many) t
-      ≡ map (group-names exclude-names (terms-of name refs rows used many))
-      (groups-of-words (part refs (row-start rows (bare-of rows t) + 1) (row-end rows used many (bare-of rows t))) (groups-at rows t))
-  unfolding triggers-of-term node-of groups-at
+  -- the pattern groups of the `all` under a term's labels
+  pub groups-count : {t : ℕ} → t < many → pattern-groups (terms-of name refs rows used many) t
+      ≡ groups-of-words (part refs (row-start rows (bare-of rows t) + 1) (row-end rows used many (bare-of rows t))) (groups-at rows t)
+  unfolding node-of groups-at
   groups-count {t} l =
       let u = bare-of rows t in
-      ap (map (group-names exclude-names (terms-of name refs rows used many)))
-      (ap (λ node. Option·getD (groups-of node) []) (bare-law name refs rows used many table t l)
+      ap (λ node. Option·getD (groups-of node) []) (bare-law name refs rows used many table t l)
       ∙ ap (λ gs. Option·getD gs []) (groups-node (row-kind rows u) _ _ _ _)
       ∙ groups-when (eqb (row-kind rows u) 4) _ (row-extra rows u)
-      ∙ ap (λ ws. groups-of-words ws (groups-at rows t)) (part-drop refs (row-start rows u) (row-end rows used many u) 1))
+      ∙ ap (λ ws. groups-of-words ws (groups-at rows t)) (part-drop refs (row-start rows u) (row-end rows used many u) 1)

@@ -9,9 +9,10 @@ use lib.Seq.{getD-append-add, getD-set-same, getD-set-other}
 use borrow.Author.Tests.{lt-ltb, le-ltb}
 use Rattle.model.specs.Lists.{sum, part}
 use Rattle.model.specs.Names.{Name, from-list}
+use Rattle.model.specs.Summaries.{entries}
 use Rattle.model.proofs.PartLaws.{part-at, part-elim, part-last, part-length, part-nil, part-same, part-snoc}
 use Rattle.terms.proofs.Laws.{equal, below}
-use Rattle.triggers.specs.Entries.{entry-number, before-first, disjuncts-of-words, disjuncts-of, entries, Entries}
+use Rattle.triggers.specs.Entries.{entry-number, before-first, disjuncts-of-words, disjuncts-of, Entries}
 
 -- the last word of a list, if it has one, ends its disjunct
 abbrev Ends : List ℕ → Type 0
@@ -192,3 +193,8 @@ entries-append (x ∷ s) t = omega (arith, entries-append s t)
 pub entries-one : (s : List Name) → entries (s ∷ []) ≡ max 1 (length s)
 unfolding entries sum
 entries-one s = omega arith
+
+-- each disjunct takes an entry or more
+pub entries-many : (sets : List (List Name)) → length sets ≤ entries sets
+entries-many [] = omega arith
+entries-many (s ∷ sets) = omega (arith, entries-many sets, entries-append (s ∷ []) sets, entries-one s)

@@ -7,37 +7,42 @@ use mathlib.Core.List.{List, [], _∷_, _++_, map}
 use lib.ListN.{length, getD, set, length-append}
 use Rattle.model.specs.Lists.{sum, part}
 use Rattle.model.specs.Names.{Name, from-list}
-use Rattle.model.specs.Summaries.{exclude-names, free-top-level-names, group-names}
+use Rattle.model.specs.Summaries.{free-top-level-names, group-names, entries}
 use Rattle.model.proofs.PartLaws.{part-nil, part-same, part-split}
 use Rattle.terms.specs.Rows.{terms-of-words, terms-of, Rows}
-use Rattle.gather.specs.Sets.{Same-but, Fresh, Named, Gathers, all-names, no-room as no-names, Gathered, ended}
+use Rattle.words.specs.Slices.{Same-but}
+use Rattle.gather.specs.Sets.{Fresh, Named, Gathers, all-names, no-room as no-names, Gathered, ended}
 use Rattle.gather.specs.declared.Walked.{Walked}
 use Rattle.gather.specs.declared.Walked.the-variants as gathered
 use Rattle.gather.specs.Visits.{Visit, Walks-as}
-use Rattle.gather.proofs.Steps.{same-self, same-then, same-wider, same-set}
+use Rattle.words.proofs.Slices.{same-self, same-then, same-wider, same-set}
 use Rattle.triggers.specs.declared.Filed.{Filed}
 use Rattle.triggers.specs.declared.Filed.the-variants as filed
-use Rattle.triggers.specs.Entries.{disjuncts-of, disjuncts-of-words, entries, filed-end, Files, all-sets, no-room, Filled, Closes, last, empty, over, Opened}
+use Rattle.triggers.specs.Entries.{disjuncts-of, disjuncts-of-words, filed-end, Files, all-sets, no-room, Filled, Closes, last, empty, over, Opened}
 use Rattle.triggers.specs.Filings.{Filing, filing, file-set, file-list, Files-as}
 use Rattle.triggers.proofs.Disjuncts.{sets-append, block-sets, block-entries, empty-sets, empty-entries, no-entries, entries-then, entries-append, entries-one}
 use Rattle.triggers.proofs.Marked.{named-marked, terms-marked, fresh-later, fresh-next}
 use Rattle.triggers.proofs.Words.{after, words-over, words-closed, words-then, words-as, words-more, words-count, words-none, list-stays}
 
+-- disjuncts, by the excluded names and the names of the numbers
+abbrev pub Sets : Type 0
+Sets = List Name → (ℕ → Name) → List (List Name)
+
 -- what filing sets comes to, whatever the names are: their entries, the slices, and every word of these
-pub record Comes (names rows out names′ rows′ out′ : List ℕ) (named mark at : ℕ) (sets : (ℕ → Name) → List (List Name)) (f : Filing) (count : ℕ) (r : Filed) : Type 0 where
-  pub files : (name : ℕ → Name) → Named name names named → Files name named (sets name) at out′ r
+pub record Comes (names rows out names′ rows′ out′ : List ℕ) (named mark at : ℕ) (sets : Sets) (f : Filing) (count : ℕ) (r : Filed) : Type 0 where
+  pub files : (exclude : List Name) (name : ℕ → Name) → Named exclude name names named → Files name named (sets exclude name) at out′ r
   pub filled : Filled names rows out names′ rows′ out′ mark at r
   pub filed-as : Files-as f count names′ rows′ out′ mark at r
 
 -- ---- one disjunct
 
 -- the free names of a term, by the names of the numbers
-abbrev pub term-set : List ℕ → List ℕ → ℕ → ℕ → ℕ → (ℕ → Name) → List Name
-term-set refs rows used many t name = free-top-level-names exclude-names (terms-of name refs rows used many) t
+abbrev pub term-set : List ℕ → List ℕ → ℕ → ℕ → ℕ → List Name → (ℕ → Name) → List Name
+term-set refs rows used many t exclude name = free-top-level-names exclude (terms-of name refs rows used many) t
 
 -- those of the terms that the references from a up to e name
-abbrev pub list-set : List ℕ → List ℕ → ℕ → ℕ → ℕ → ℕ → (ℕ → Name) → List Name
-list-set refs rows used many a e name = group-names exclude-names (terms-of name refs rows used many) (terms-of-words (part refs a e))
+abbrev pub list-set : List ℕ → List ℕ → ℕ → ℕ → ℕ → ℕ → List Name → (ℕ → Name) → List Name
+list-set refs rows used many a e exclude name = group-names exclude (terms-of name refs rows used many) (terms-of-words (part refs a e))
 
 -- where the entries of an answer end
 answer-end : {n m e k : ℕ} → filed.Sets n e ≡ filed.Sets m k → e ≡ k
@@ -64,13 +69,13 @@ files-one {at} {s} few long (all-names is count fits small) (over e l q) = no-ro
 files-over : {name : ℕ → Name} {named at : ℕ} {s : List Name} {out : List ℕ} → Gathers name named s at 8192 out gathered.Full → Files name named (s ∷ []) at out filed.Full
 files-over {s} (no-names p f) = no-room (omega (arith, entries-one s))
 
-module _ {names rows out names₁ rows₁ out₁ : List ℕ} {named mark at : ℕ} (s : (ℕ → Name) → List Name) (less : named ≤ 2048) (h : Opened names rows out mark at) where
+module _ {names rows out names₁ rows₁ out₁ : List ℕ} {named mark at : ℕ} (s : List Name → (ℕ → Name) → List Name) (less : named ≤ 2048) (h : Opened names rows out mark at) where
   -- a set without room comes to no disjunct
-  comes-over : {f : Filing} → ((name : ℕ → Name) → Named name names named → Gathers name named (s name) at 8192 out₁ gathered.Full)
-      → Gathered names rows out names₁ rows₁ out₁ mark at 8192 gathered.Full → Files-as f 1 names₁ rows₁ out₁ mark at filed.Full → Comes names rows out names₁ rows₁ out₁ named mark at (λ name. s name ∷ []) f 1 filed.Full
+  comes-over : {f : Filing} → ((exclude : List Name) (name : ℕ → Name) → Named exclude name names named → Gathers name named (s exclude name) at 8192 out₁ gathered.Full)
+      → Gathered names rows out names₁ rows₁ out₁ mark at 8192 gathered.Full → Files-as f 1 names₁ rows₁ out₁ mark at filed.Full → Comes names rows out names₁ rows₁ out₁ named mark at (λ exclude name. s exclude name ∷ []) f 1 filed.Full
   unfolding ended filed-end
   comes-over g p x = record {
-    files = λ name d. files-over (g name d);
+    files = λ exclude name d. files-over (g exclude name d);
     filled = record {
       names-same = p .names-same;
       rows-same = p .rows-same;
@@ -83,7 +88,7 @@ module _ {names rows out names₁ rows₁ out₁ : List ℕ} {named mark at : �
     filed-as = x;
   }
 
-  module _ {end : ℕ} (g : (name : ℕ → Name) → Named name names named → Gathers name named (s name) at 8192 out₁ (gathered.Names end)) (p : Gathered names rows out names₁ rows₁ out₁ mark at 8192 (gathered.Names end)) where
+  module _ {end : ℕ} (g : (exclude : List Name) (name : ℕ → Name) → Named exclude name names named → Gathers name named (s exclude name) at 8192 out₁ (gathered.Names end)) (p : Gathered names rows out names₁ rows₁ out₁ mark at 8192 (gathered.Names end)) where
     -- where a set ends
     set-ends : (at ≤ end) × (end ≤ 8192)
     unfolding ended
@@ -99,10 +104,10 @@ module _ {names rows out names₁ rows₁ out₁ : List ℕ} {named mark at : �
     set-long = rw (set-same .same-length) (h .high)
 
     -- a set that was gathered and ended comes to one disjunct
-    comes-one : {f : Filing} {r : Filed} {out₂ : List ℕ} → Closes out₁ out₂ at end r → Files-as f 1 names₁ rows₁ out₂ mark at r → Comes names rows out names₁ rows₁ out₂ named mark at (λ name. s name ∷ []) f 1 r
+    comes-one : {f : Filing} {r : Filed} {out₂ : List ℕ} → Closes out₁ out₂ at end r → Files-as f 1 names₁ rows₁ out₂ mark at r → Comes names rows out names₁ rows₁ out₂ named mark at (λ exclude name. s exclude name ∷ []) f 1 r
     unfolding filed-end
     comes-one (last some q) x = record {
-      files = λ name d. files-one less set-long (g name d) (last some q);
+      files = λ exclude name d. files-one less set-long (g exclude name d) (last some q);
       filled = record {
         names-same = p .names-same;
         rows-same = p .rows-same;
@@ -115,7 +120,7 @@ module _ {names rows out names₁ rows₁ out₁ : List ℕ} {named mark at : �
       filed-as = x;
     }
     comes-one (empty i l q) x = record {
-      files = λ name d. files-one less set-long (g name d) (empty i l q);
+      files = λ exclude name d. files-one less set-long (g exclude name d) (empty i l q);
       filled = record {
         names-same = p .names-same;
         rows-same = p .rows-same;
@@ -128,7 +133,7 @@ module _ {names rows out names₁ rows₁ out₁ : List ℕ} {named mark at : �
       filed-as = x;
     }
     comes-one (over i l q) x = record {
-      files = λ name d. files-one less set-long (g name d) (over i l q);
+      files = λ exclude name d. files-one less set-long (g exclude name d) (over i l q);
       filled = record {
         names-same = p .names-same;
         rows-same = p .rows-same;
@@ -149,15 +154,15 @@ one-asks {names} {rows} {out} {names₁} {rows₁} {out₁} {mark} {at} {end} h 
     let q : Gathered names rows out names₁ rows₁ out₁ mark at 8192 (gathered.Names end) = rw e at p in
     (q .grows, q .fits, rw (q .out-same .same-length) (h .high), λ l. q .small (end - 1) (omega arith) (omega arith))
 
-module _ {names rows out names₁ rows₁ out₁ : List ℕ} {named mark at : ℕ} {v : Visit} {w : Walked} (s : (ℕ → Name) → List Name) (less : named ≤ 2048) (h : Opened names rows out mark at)
-    (g : (name : ℕ → Name) → Named name names named → Gathers name named (s name) at 8192 out₁ w) (p : Gathered names rows out names₁ rows₁ out₁ mark at 8192 w) (x : Walks-as v names rows out names₁ rows₁ out₁ mark at w) where
+module _ {names rows out names₁ rows₁ out₁ : List ℕ} {named mark at : ℕ} {v : Visit} {w : Walked} (s : List Name → (ℕ → Name) → List Name) (less : named ≤ 2048) (h : Opened names rows out mark at)
+    (g : (exclude : List Name) (name : ℕ → Name) → Named exclude name names named → Gathers name named (s exclude name) at 8192 out₁ w) (p : Gathered names rows out names₁ rows₁ out₁ mark at 8192 w) (x : Walks-as v names rows out names₁ rows₁ out₁ mark at w) where
   -- an answer without room
-  pub one-over : w ≡ gathered.Full → Comes names rows out names₁ rows₁ out₁ named mark at (λ name. s name ∷ []) (file-set (filing names rows out mark at) v) 1 filed.Full
-  one-over e = comes-over s less h (λ name d. rw e at (g name d)) (rw e at p) (words-over h x e)
+  pub one-over : w ≡ gathered.Full → Comes names rows out names₁ rows₁ out₁ named mark at (λ exclude name. s exclude name ∷ []) (file-set (filing names rows out mark at) v) 1 filed.Full
+  one-over e = comes-over s less h (λ exclude name d. rw e at (g exclude name d)) (rw e at p) (words-over h x e)
 
   -- the disjunct that was ended
-  pub one-closed : {end : ℕ} {r : Filed} {out₂ : List ℕ} → w ≡ gathered.Names end → Closes out₁ out₂ at end r → Comes names rows out names₁ rows₁ out₂ named mark at (λ name. s name ∷ []) (file-set (filing names rows out mark at) v) 1 r
-  one-closed e q = comes-one s less h (λ name d. rw e at (g name d)) (rw e at p) q (words-closed h x e (one-asks h p e .1) q)
+  pub one-closed : {end : ℕ} {r : Filed} {out₂ : List ℕ} → w ≡ gathered.Names end → Closes out₁ out₂ at end r → Comes names rows out names₁ rows₁ out₂ named mark at (λ exclude name. s exclude name ∷ []) (file-set (filing names rows out mark at) v) 1 r
+  one-closed e q = comes-one s less h (λ exclude name d. rw e at (g exclude name d)) (rw e at p) q (words-closed h x e (one-asks h p e .1) q)
 
 -- the last entry is marked
 pub close-last : {out : List ℕ} {at end w : ℕ} → at < end → w ≡ getD out (end - 1) 0 → Closes out (set out (end - 1) (w + 4096)) at end (filed.Sets 1 end)
@@ -211,19 +216,19 @@ after-few at n m (filed.Sets p q) lo few k e z =
     omega arith
 after-few at n m filed.Full lo few k e z = absurd (full-none z)
 
-module _ {names rows out names₁ rows₁ out₁ : List ℕ} {named mark at count : ℕ} {s : (ℕ → Name) → List (List Name)} {f : Filing} where
+module _ {names rows out names₁ rows₁ out₁ : List ℕ} {named mark at count : ℕ} {s : Sets} {f : Filing} where
   -- filing after filing
-  comes-then : {names₂ rows₂ out₂ : List ℕ} {n m more : ℕ} {r : Filed} (t : (ℕ → Name) → List (List Name)) (step : Filing → Filing) → named ≤ 2048 → 8192 ≤ length out
+  comes-then : {names₂ rows₂ out₂ : List ℕ} {n m more : ℕ} {r : Filed} (t : Sets) (step : Filing → Filing) → named ≤ 2048 → 8192 ≤ length out
       → Comes names rows out names₁ rows₁ out₁ named mark at s f count (filed.Sets n m)
       → Comes names₁ rows₁ out₁ names₂ rows₂ out₂ named (mark + (m - at)) m t (step (filing names₁ rows₁ out₁ (mark + (m - at)) m)) more r
-      → Comes names rows out names₂ rows₂ out₂ named mark at (λ name. s name ++ t name) (step f) (count + more) (after n r)
+      → Comes names rows out names₂ rows₂ out₂ named mark at (λ exclude name. s exclude name ++ t exclude name) (step f) (count + more) (after n r)
   unfolding filed-end
   comes-then {n} {m} {r} t step less long c d =
       let lo : at ≤ m = c .filled .low in
       let li = d .filled .low in
       let q = after-end n r in
       record {
-        files = λ name k. files-then (rw (c .filled .out-same .same-length) long) (c .files name k) (d .filled .out-same) (d .files name (named-marked (c .filled .names-same) less k));
+        files = λ exclude name k. files-then (rw (c .filled .out-same .same-length) long) (c .files exclude name k) (d .filled .out-same) (d .files exclude name (named-marked (c .filled .names-same) less k));
         filled = record {
           names-same = same-then (c .filled .names-same) (d .filled .names-same);
           rows-same = same-then (c .filled .rows-same) (d .filled .rows-same);
@@ -237,18 +242,18 @@ module _ {names rows out names₁ rows₁ out₁ : List ℕ} {named mark at coun
       }
 
   -- the same disjuncts, said in another way
-  pub comes-as : {t : (ℕ → Name) → List (List Name)} {g : Filing} {as-many : ℕ} {r : Filed} → ((name : ℕ → Name) → s name ≡ t name) → f ≡ g → count ≡ as-many
+  pub comes-as : {t : Sets} {g : Filing} {as-many : ℕ} {r : Filed} → ((exclude : List Name) (name : ℕ → Name) → s exclude name ≡ t exclude name) → f ≡ g → count ≡ as-many
       → Comes names rows out names₁ rows₁ out₁ named mark at s f count r → Comes names rows out names₁ rows₁ out₁ named mark at t g as-many r
-  comes-as q p n c = record { files = λ name d. rw (q name) at (c .files name d); filled = c .filled; filed-as = words-as p n (c .filed-as) }
+  comes-as q p n c = record { files = λ exclude name d. rw (q exclude name) at (c .files exclude name d); filled = c .filled; filed-as = words-as p n (c .filed-as) }
 
   -- the same answer
   pub comes-is : {r r′ : Filed} → r ≡ r′ → Comes names rows out names₁ rows₁ out₁ named mark at s f count r → Comes names rows out names₁ rows₁ out₁ named mark at s f count r′
   comes-is e c = rw e at c
 
   -- where there is no room for disjuncts there is none for more
-  pub comes-more : {t : (ℕ → Name) → List (List Name)} {g : Filing} {as-many : ℕ} → ((name : ℕ → Name) → entries (s name) ≤ entries (t name)) → (f .full ≡ true → g ≡ f)
+  pub comes-more : {t : Sets} {g : Filing} {as-many : ℕ} → ((exclude : List Name) (name : ℕ → Name) → entries (s exclude name) ≤ entries (t exclude name)) → (f .full ≡ true → g ≡ f)
       → Comes names rows out names₁ rows₁ out₁ named mark at s f count filed.Full → Comes names rows out names₁ rows₁ out₁ named mark at t g as-many filed.Full
-  comes-more {t} q p c = record { files = λ name d. full (q name) (c .files name d); filled = c .filled; filed-as = words-more p (c .filed-as) }
+  comes-more {t} q p c = record { files = λ exclude name d. full (q exclude name) (c .files exclude name d); filled = c .filled; filed-as = words-more p (c .filed-as) }
     where
       full : {name : ℕ → Name} {u v : List (List Name)} → entries u ≤ entries v → Files name named u at out₁ filed.Full → Files name named v at out₁ filed.Full
       full h (no-room p) = no-room (omega arith)
@@ -259,10 +264,10 @@ unfolding disjuncts-of disjuncts-of-words entries sum
 files-none name named at out h = all-sets {n = 0} {e = at} (rw (part-nil out at at (omega arith))) refl (omega arith) h (rw (part-nil out at at (omega arith)) (no-entries named))
 
 -- no disjunct comes to none
-pub comes-none : {names rows out : List ℕ} {named mark at : ℕ} → Opened names rows out mark at → Comes names rows out names rows out named mark at (λ name. []) (filing names rows out mark at) 0 (filed.Sets 0 at)
+pub comes-none : {names rows out : List ℕ} {named mark at : ℕ} → Opened names rows out mark at → Comes names rows out names rows out named mark at (λ exclude name. []) (filing names rows out mark at) 0 (filed.Sets 0 at)
 unfolding filed-end
 comes-none {names} {rows} {out} {named} {mark} {at} h = record {
-  files = λ name d. files-none name named at out (h .low);
+  files = λ exclude name d. files-none name named at out (h .low);
   filled = record {
     names-same = same-self 8192 2048 names;
     rows-same = same-self 12288 4096 rows;
@@ -276,7 +281,7 @@ comes-none {names} {rows} {out} {named} {mark} {at} h = record {
 }
 
 -- the slices after filing are ready for more
-pub opened-then : {names rows out names₁ rows₁ out₁ : List ℕ} {named mark at count n m : ℕ} {s : (ℕ → Name) → List (List Name)} {f : Filing} → Opened names rows out mark at
+pub opened-then : {names rows out names₁ rows₁ out₁ : List ℕ} {named mark at count n m : ℕ} {s : Sets} {f : Filing} → Opened names rows out mark at
     → Comes names rows out names₁ rows₁ out₁ named mark at s f count (filed.Sets n m) → Opened names₁ rows₁ out₁ (mark + (m - at)) m
 unfolding filed-end
 opened-then {n = n} {m = m} h c = record {
@@ -288,7 +293,7 @@ opened-then {n = n} {m = m} h c = record {
 }
 
 -- where the entries so far end
-pub comes-ends : {names rows out names₁ rows₁ out₁ : List ℕ} {named mark at count n m : ℕ} {s : (ℕ → Name) → List (List Name)} {f : Filing}
+pub comes-ends : {names rows out names₁ rows₁ out₁ : List ℕ} {named mark at count n m : ℕ} {s : Sets} {f : Filing}
     → Comes names rows out names₁ rows₁ out₁ named mark at s f count (filed.Sets n m) → (at ≤ m) × (m ≤ 8192) × (n + at ≤ m)
 unfolding filed-end
 comes-ends {n = n} {m = m} c = (c .filled .low, c .filled .high, c .filled .few n m refl)
@@ -304,8 +309,8 @@ unfolding after
 after-sets n k e j p q = rw (p, q)
 
 -- filing after filing, said in another way
-pub comes-next : {names rows out names₁ rows₁ out₁ names₂ rows₂ out₂ : List ℕ} {named mark at count n m more as-many : ℕ} {f g : Filing} {r : Filed} (s t u : (ℕ → Name) → List (List Name)) (step : Filing → Filing) → named ≤ 2048 → 8192 ≤ length out
-    → ((name : ℕ → Name) → s name ++ t name ≡ u name) → step f ≡ g → count + more ≡ as-many
+pub comes-next : {names rows out names₁ rows₁ out₁ names₂ rows₂ out₂ : List ℕ} {named mark at count n m more as-many : ℕ} {f g : Filing} {r : Filed} (s t u : Sets) (step : Filing → Filing) → named ≤ 2048 → 8192 ≤ length out
+    → ((exclude : List Name) (name : ℕ → Name) → s exclude name ++ t exclude name ≡ u exclude name) → step f ≡ g → count + more ≡ as-many
     → Comes names rows out names₁ rows₁ out₁ named mark at s f count (filed.Sets n m)
     → Comes names₁ rows₁ out₁ names₂ rows₂ out₂ named (mark + (m - at)) m t (step (filing names₁ rows₁ out₁ (mark + (m - at)) m)) more r
     → Comes names rows out names₂ rows₂ out₂ named mark at u g as-many (after n r)
@@ -314,41 +319,41 @@ comes-next s t u step few long q p i c d = comes-as q p i (comes-then t step few
 -- ---- the promises of the functions
 
 -- they hold of what filing comes to
-pub posts : {names rows out names₁ rows₁ out₁ : List ℕ} {named mark at count : ℕ} {s : (ℕ → Name) → List (List Name)} {f : Filing} {r : Filed} → Comes names rows out names₁ rows₁ out₁ named mark at s f count r
-    → ((name : ℕ → Name) → Named name names named → Files name named (s name) at out₁ r) × (Filled names rows out names₁ rows₁ out₁ mark at r × Files-as f count names₁ rows₁ out₁ mark at r)
+pub posts : {names rows out names₁ rows₁ out₁ : List ℕ} {named mark at count : ℕ} {s : Sets} {f : Filing} {r : Filed} → Comes names rows out names₁ rows₁ out₁ named mark at s f count r
+    → ((exclude : List Name) (name : ℕ → Name) → Named exclude name names named → Files name named (s exclude name) at out₁ r) × (Filled names rows out names₁ rows₁ out₁ mark at r × Files-as f count names₁ rows₁ out₁ mark at r)
 posts c = (c .files, (c .filled, c .filed-as))
 
 -- and say what it comes to
-pub comes-of : {names rows out names₁ rows₁ out₁ : List ℕ} {named mark at count : ℕ} {f : Filing} {r : Filed} (s : (ℕ → Name) → List (List Name))
-    → ((name : ℕ → Name) → Named name names named → Files name named (s name) at out₁ r) × (Filled names rows out names₁ rows₁ out₁ mark at r × Files-as f count names₁ rows₁ out₁ mark at r)
+pub comes-of : {names rows out names₁ rows₁ out₁ : List ℕ} {named mark at count : ℕ} {f : Filing} {r : Filed} (s : Sets)
+    → ((exclude : List Name) (name : ℕ → Name) → Named exclude name names named → Files name named (s exclude name) at out₁ r) × (Filled names rows out names₁ rows₁ out₁ mark at r × Files-as f count names₁ rows₁ out₁ mark at r)
     → Comes names rows out names₁ rows₁ out₁ named mark at s f count r
 comes-of s p = record { files = p .0; filled = p .1 .0; filed-as = p .1 .1 }
 
 -- ---- two disjuncts
 
 -- the disjuncts of one term, by the names of the numbers
-abbrev pub term-sets : List ℕ → List ℕ → ℕ → ℕ → ℕ → (ℕ → Name) → List (List Name)
-term-sets refs rows used many t name = term-set refs rows used many t name ∷ []
+abbrev pub term-sets : List ℕ → List ℕ → ℕ → ℕ → ℕ → Sets
+term-sets refs rows used many t exclude name = term-set refs rows used many t exclude name ∷ []
 
 -- the first has no room
 pub two-first : {names rows out names₁ rows₁ out₁ refs : List ℕ} {used many named mark at count : ℕ} {f : Filing} {r : Filed} (t u : ℕ) → Rows refs rows used many named → r ≡ filed.Full
     → Comes names rows out names₁ rows₁ out₁ named mark at (term-sets refs rows used many t) f count r
-    → Comes names rows out names₁ rows₁ out₁ named mark at (λ name. term-set refs rows used many t name ∷ term-set refs rows used many u name ∷ []) (file-list refs used many f (u ∷ [])) 2 filed.Full
-two-first {rows = rows} {refs = refs} {used} {many} {f = f} t u h e c = comes-more (λ name. omega (arith, entries-append (term-set refs rows used many t name ∷ []) (term-set refs rows used many u name ∷ []))) (list-stays refs used many f (u ∷ [])) (comes-is e c)
+    → Comes names rows out names₁ rows₁ out₁ named mark at (λ exclude name. term-set refs rows used many t exclude name ∷ term-set refs rows used many u exclude name ∷ []) (file-list refs used many f (u ∷ [])) 2 filed.Full
+two-first {rows = rows} {refs = refs} {used} {many} {f = f} t u h e c = comes-more (λ exclude name. omega (arith, entries-append (term-set refs rows used many t exclude name ∷ []) (term-set refs rows used many u exclude name ∷ []))) (list-stays refs used many f (u ∷ [])) (comes-is e c)
 
 module _ {names rows out names₁ rows₁ out₁ names₂ rows₂ out₂ refs : List ℕ} {used many named mark at n m : ℕ} {f : Filing} {r : Filed} (t u : ℕ) (h : Rows refs rows used many named) (long : 8192 ≤ length out)
     (c : Comes names rows out names₁ rows₁ out₁ named mark at (term-sets refs rows used many t) f 1 (filed.Sets n m))
     (d : Comes names₁ rows₁ out₁ names₂ rows₂ out₂ named (mark + (m - at)) m (term-sets refs rows₁ used many u) (file-list refs used many (filing names₁ rows₁ out₁ (mark + (m - at)) m) (u ∷ [])) 1 r) where
   -- both, with the answer of the second
-  two-then : Comes names rows out names₂ rows₂ out₂ named mark at (λ name. term-set refs rows used many t name ∷ term-set refs rows used many u name ∷ []) (file-list refs used many f (u ∷ [])) 2 (after n r)
-  two-then = comes-next _ _ _ (λ f. file-list refs used many f (u ∷ [])) (h .few-names) long (λ name. ap (λ ts. term-set refs rows used many t name ∷ free-top-level-names exclude-names ts u ∷ []) (terms-marked name (c .filled .rows-same) h)) refl refl c d
+  two-then : Comes names rows out names₂ rows₂ out₂ named mark at (λ exclude name. term-set refs rows used many t exclude name ∷ term-set refs rows used many u exclude name ∷ []) (file-list refs used many f (u ∷ [])) 2 (after n r)
+  two-then = comes-next _ _ _ (λ f. file-list refs used many f (u ∷ [])) (h .few-names) long (λ exclude name. ap (λ ts. term-set refs rows used many t exclude name ∷ free-top-level-names exclude ts u ∷ []) (terms-marked name (c .filled .rows-same) h)) refl refl c d
 
   -- the second has no room
-  pub two-full : r ≡ filed.Full → Comes names rows out names₂ rows₂ out₂ named mark at (λ name. term-set refs rows used many t name ∷ term-set refs rows used many u name ∷ []) (file-list refs used many f (u ∷ [])) 2 filed.Full
+  pub two-full : r ≡ filed.Full → Comes names rows out names₂ rows₂ out₂ named mark at (λ exclude name. term-set refs rows used many t exclude name ∷ term-set refs rows used many u exclude name ∷ []) (file-list refs used many f (u ∷ [])) 2 filed.Full
   two-full e = comes-is (after-full n e) two-then
 
   -- both are filed
-  pub two-both : {k e : ℕ} → r ≡ filed.Sets k e → Comes names rows out names₂ rows₂ out₂ named mark at (λ name. term-set refs rows used many t name ∷ term-set refs rows used many u name ∷ []) (file-list refs used many f (u ∷ [])) 2 (filed.Sets 2 e)
+  pub two-both : {k e : ℕ} → r ≡ filed.Sets k e → Comes names rows out names₂ rows₂ out₂ named mark at (λ exclude name. term-set refs rows used many t exclude name ∷ term-set refs rows used many u exclude name ∷ []) (file-list refs used many f (u ∷ [])) 2 (filed.Sets 2 e)
   two-both {k} {e} q =
       let x = words-count refl (c .filed-as) in
       let y = words-count q (d .filed-as) in

@@ -7,27 +7,28 @@ use mathlib.Core.List.{List, [], _∷_, _++_, map, map-append, append-nil}
 use lib.ListN.{length, getD, length-append}
 use Rattle.model.specs.Lists.{collect, fold-left, sum, is-nil, part}
 use Rattle.model.specs.Names.{Name}
-use Rattle.model.specs.Summaries.{exclude-names, group-names, triggers-of-term, is-empty}
+use Rattle.model.specs.Summaries.{group-names, triggers-of-term, is-empty, entries}
 use Rattle.model.proofs.ListLaws.{collect-append}
 use Rattle.model.proofs.PartLaws.{part-nil}
 use Rattle.terms.specs.Rows.{row-start, row-end, terms-of-words, group-of-words, groups-of-words, group-run, terms-of, bare-of, groups-at, Rows}
 use Rattle.terms.proofs.Table.{bare-low}
 use Rattle.terms.proofs.Laws.{groups-all}
 use Rattle.terms.proofs.Groups.{Before, group-first, group-next, group-place, group-last, terms-split, terms-more}
-use Rattle.gather.specs.Sets.{Same-but, Fresh, Gathers, all-names, no-room, Gathered}
+use Rattle.words.specs.Slices.{Same-but}
+use Rattle.gather.specs.Sets.{Fresh, Gathers, all-names, no-room, Gathered}
 use Rattle.gather.specs.Visits.{visit-list, marked-at, Walks-as}
 use Rattle.gather.specs.declared.Walked.{Walked}
 use Rattle.gather.specs.declared.Walked.the-variants as gathered
 use Rattle.gather.proofs.Rendering.{answer-names, answer-full}
-use Rattle.gather.proofs.Steps.{same-self}
+use Rattle.words.proofs.Slices.{same-self}
 use Rattle.triggers.specs.declared.Filed.{Filed}
 use Rattle.triggers.specs.declared.Filed.the-variants as filed
-use Rattle.triggers.specs.Entries.{entries, Opened}
+use Rattle.triggers.specs.Entries.{Opened}
 use Rattle.triggers.specs.Filings.{Filing, filing, file-list, file-groups, file-parts, ask-empty, Asks-as}
 use Rattle.triggers.proofs.Disjuncts.{entries-append}
 use Rattle.triggers.proofs.Marked.{terms-marked, groups-marked, fresh-later, fresh-next, All, patterns, triggers-all, triggers-none, groups-more, groups-fewer}
 use Rattle.triggers.proofs.Words.{after, words-count, filed-group, filed-groups, filed-all, filed-none, filed-part, filed-parts, counted-more, walked-one, names-kept, out-kept}
-use Rattle.triggers.proofs.Filing.{Comes, after-full, after-sets, comes-as, comes-is, comes-more, comes-next, comes-none}
+use Rattle.triggers.proofs.Filing.{Sets, Comes, after-full, after-sets, comes-as, comes-is, comes-more, comes-next, comes-none}
 
 -- what reading the groups of a term asks
 pub patterns-asks : {refs rows : List ℕ} {used many named : ℕ} → Rows refs rows used many named → (t : ℕ) → t < many
@@ -45,8 +46,8 @@ patterns-read rows used many t a b p q = (a, ap (_+ 1) (p ∙ ap (row-start rows
 
 module _ {refs rows : List ℕ} {used many named t groups u e : ℕ} (r : Rows refs rows used many named) (all : All refs rows used many t groups u e) where
   -- the names of a group
-  abbrev names-of : (ℕ → Name) → List ℕ → List Name
-  names-of name = group-names exclude-names (terms-of name refs rows used many)
+  abbrev names-of : List Name → (ℕ → Name) → List ℕ → List Name
+  names-of exclude name = group-names exclude (terms-of name refs rows used many)
 
   -- the references of the groups are in use
   pub groups-asks : {g a : ℕ} → Before refs (row-start rows u + 1) (row-end rows used many u) g a → (a ≤ e) × (e ≤ length refs)
@@ -83,37 +84,37 @@ module _ {refs rows : List ℕ} {used many named t groups u e : ℕ} (r : Rows r
 
     -- the group filed after those before it
     pub groups-then : {names out names₁ rows₁ out₁ names₂ rows₂ out₂ : List ℕ} {mark at end : ℕ} {f : Filed} → 8192 ≤ length out
-        → Comes names rows out names₁ rows₁ out₁ named mark at (λ name. map (names-of name) (groups-of-words (patterns refs rows used many u) g)) (fold-left (file-list refs used many) (filing names rows out mark at) (groups-of-words (patterns refs rows used many u) g)) g (filed.Sets g end)
-        → Comes names₁ rows₁ out₁ names₂ rows₂ out₂ named (mark + (end - at)) end (λ name. group-names exclude-names (terms-of name refs rows₁ used many) (terms-of-words (part refs a b)) ∷ []) (file-list refs used many (filing names₁ rows₁ out₁ (mark + (end - at)) end) (terms-of-words (part refs a b))) 1 f
-        → Comes names rows out names₂ rows₂ out₂ named mark at (λ name. map (names-of name) (groups-of-words (patterns refs rows used many u) (g + 1))) (fold-left (file-list refs used many) (filing names rows out mark at) (groups-of-words (patterns refs rows used many u) (g + 1))) (g + 1) (after g f)
+        → Comes names rows out names₁ rows₁ out₁ named mark at (λ exclude name. map (names-of exclude name) (groups-of-words (patterns refs rows used many u) g)) (fold-left (file-list refs used many) (filing names rows out mark at) (groups-of-words (patterns refs rows used many u) g)) g (filed.Sets g end)
+        → Comes names₁ rows₁ out₁ names₂ rows₂ out₂ named (mark + (end - at)) end (λ exclude name. group-names exclude (terms-of name refs rows₁ used many) (terms-of-words (part refs a b)) ∷ []) (file-list refs used many (filing names₁ rows₁ out₁ (mark + (end - at)) end) (terms-of-words (part refs a b))) 1 f
+        → Comes names rows out names₂ rows₂ out₂ named mark at (λ exclude name. map (names-of exclude name) (groups-of-words (patterns refs rows used many u) (g + 1))) (fold-left (file-list refs used many) (filing names rows out mark at) (groups-of-words (patterns refs rows used many u) (g + 1))) (g + 1) (after g f)
     groups-then {names} {out} {mark = mark} {at} long c d = comes-next _ _ _ (λ f. file-list refs used many f (terms-of-words (part refs a b))) (r .few-names) long
-        (λ name.
-        ap (λ x. map (names-of name) (groups-of-words (patterns refs rows used many u) g) ++ (x ∷ [])) (ap₂ (group-names exclude-names) (terms-marked name (c .filled .rows-same) r) group-terms)
-        ∙ groups-more (names-of name) (patterns refs rows used many u) g)
+        (λ exclude name.
+        ap (λ x. map (names-of exclude name) (groups-of-words (patterns refs rows used many u) g) ++ (x ∷ [])) (ap₂ (group-names exclude) (terms-marked name (c .filled .rows-same) r) group-terms)
+        ∙ groups-more (names-of exclude name) (patterns refs rows used many u) g)
         (ap (file-list refs used many (fold-left (file-list refs used many) (filing names rows out mark at) (groups-of-words (patterns refs rows used many u) g))) group-terms ∙ filed-group refs used many (filing names rows out mark at) (patterns refs rows used many u) g) refl c d
 
   module _ {names out names₁ rows₁ out₁ : List ℕ} {mark at : ℕ} (l : t < many) where
     -- where a group has no room there is none for all
     pub groups-full : {g count : ℕ} {f : Filed} → g < groups → f ≡ filed.Full
-        → Comes names rows out names₁ rows₁ out₁ named mark at (λ name. map (names-of name) (groups-of-words (patterns refs rows used many u) (g + 1))) (fold-left (file-list refs used many) (filing names rows out mark at) (groups-of-words (patterns refs rows used many u) (g + 1))) (g + 1) (after g f)
-        → Comes names rows out names₁ rows₁ out₁ named mark at (λ name. triggers-of-term exclude-names (terms-of name refs rows used many) t) (file-groups refs used many (filing names rows out mark at) t) count filed.Full
+        → Comes names rows out names₁ rows₁ out₁ named mark at (λ exclude name. map (names-of exclude name) (groups-of-words (patterns refs rows used many u) (g + 1))) (fold-left (file-list refs used many) (filing names rows out mark at) (groups-of-words (patterns refs rows used many u) (g + 1))) (g + 1) (after g f)
+        → Comes names rows out names₁ rows₁ out₁ named mark at (λ exclude name. triggers-of-term exclude (terms-of name refs rows used many) t) (file-groups refs used many (filing names rows out mark at) t) count filed.Full
     groups-full {g} h e c = comes-as (triggers-all r l all) (filed-all refs used many (filing names rows out mark at) all) refl
-        (comes-more (λ name. groups-fewer (names-of name) (patterns refs rows used many u) (g + 1) groups (omega arith)) (filed-groups refs used many (filing names rows out mark at) (patterns refs rows used many u) (g + 1) groups (omega arith)) (comes-is (after-full g e) c))
+        (comes-more (λ exclude name. groups-fewer (names-of exclude name) (patterns refs rows used many u) (g + 1) groups (omega arith)) (filed-groups refs used many (filing names rows out mark at) (patterns refs rows used many u) (g + 1) groups (omega arith)) (comes-is (after-full g e) c))
 
     -- all groups are the triggers
     pub groups-done : {g end : ℕ} → g ≤ groups → groups ≤ g
-        → Comes names rows out names₁ rows₁ out₁ named mark at (λ name. map (names-of name) (groups-of-words (patterns refs rows used many u) g)) (fold-left (file-list refs used many) (filing names rows out mark at) (groups-of-words (patterns refs rows used many u) g)) g (filed.Sets g end)
-        → Comes names rows out names₁ rows₁ out₁ named mark at (λ name. triggers-of-term exclude-names (terms-of name refs rows used many) t) (file-groups refs used many (filing names rows out mark at) t) (groups-at rows t) (filed.Sets groups end)
+        → Comes names rows out names₁ rows₁ out₁ named mark at (λ exclude name. map (names-of exclude name) (groups-of-words (patterns refs rows used many u) g)) (fold-left (file-list refs used many) (filing names rows out mark at) (groups-of-words (patterns refs rows used many u) g)) g (filed.Sets g end)
+        → Comes names rows out names₁ rows₁ out₁ named mark at (λ exclude name. triggers-of-term exclude (terms-of name refs rows used many) t) (file-groups refs used many (filing names rows out mark at) t) (groups-at rows t) (filed.Sets groups end)
     groups-done {g} {end} h k c =
         let q : g ≡ groups = omega arith in
         comes-as
-        (λ name. ap (λ n. map (names-of name) (groups-of-words (patterns refs rows used many u) n)) q ∙ triggers-all r l all name)
+        (λ exclude name. ap (λ n. map (names-of exclude name) (groups-of-words (patterns refs rows used many u) n)) q ∙ triggers-all r l all exclude name)
         (ap (λ n. fold-left (file-list refs used many) (filing names rows out mark at) (groups-of-words (patterns refs rows used many u) n)) q ∙ filed-all refs used many (filing names rows out mark at) all)
         (q ∙ all .counted ∙ sym (groups-all rows t u (all .bare) (all .is-all)))
         (comes-is (ap (λ n. filed.Sets n end) q) c)
 
 -- one group more, with its answer
-pub groups-again : {names rows out names₁ rows₁ out₁ names₂ rows₂ out₂ : List ℕ} {named mark mark₁ at m k e : ℕ} {f : Filed} {s t : (ℕ → Name) → List (List Name)} {x y : Filing} (g : ℕ) → f ≡ filed.Sets k e
+pub groups-again : {names rows out names₁ rows₁ out₁ names₂ rows₂ out₂ : List ℕ} {named mark mark₁ at m k e : ℕ} {f : Filed} {s t : Sets} {x y : Filing} (g : ℕ) → f ≡ filed.Sets k e
     → Comes names₁ rows₁ out₁ names₂ rows₂ out₂ named mark₁ m t y 1 f
     → Comes names rows out names₂ rows₂ out₂ named mark at s x (g + 1) (after g f) → Comes names rows out names₂ rows₂ out₂ named mark at s x (g + 1) (filed.Sets (g + 1) e)
 groups-again {k = k} {e = e} g p d c =
@@ -121,16 +122,16 @@ groups-again {k = k} {e = e} g p d c =
     comes-is (after-sets g k e (g + 1) p (omega arith)) c
 
 -- before the first group nothing is filed
-pub groups-start : {rows names out : List ℕ} {named mark at : ℕ} (f : (ℕ → Name) → List ℕ → List Name) (step : Filing → List ℕ → Filing) (ws : List ℕ) → Opened names rows out mark at
-    → Comes names rows out names rows out named mark at (λ name. map (f name) (groups-of-words ws 0)) (fold-left step (filing names rows out mark at) (groups-of-words ws 0)) 0 (filed.Sets 0 at)
+pub groups-start : {rows names out : List ℕ} {named mark at : ℕ} (f : List Name → (ℕ → Name) → List ℕ → List Name) (step : Filing → List ℕ → Filing) (ws : List ℕ) → Opened names rows out mark at
+    → Comes names rows out names rows out named mark at (λ exclude name. map (f exclude name) (groups-of-words ws 0)) (fold-left step (filing names rows out mark at) (groups-of-words ws 0)) 0 (filed.Sets 0 at)
 unfolding groups-of-words fold-left
 groups-start f step ws h = comes-none h
 
 -- a term without groups files nothing
 pub groups-none : {refs rows names out : List ℕ} {used many named mark at groups : ℕ} (t : ℕ) → Rows refs rows used many named → t < many → groups ≡ groups-at rows t → groups ≡ 0 → Opened names rows out mark at
-    → Comes names rows out names rows out named mark at (λ name. triggers-of-term exclude-names (terms-of name refs rows used many) t) (file-groups refs used many (filing names rows out mark at) t) (groups-at rows t) (filed.Sets 0 at)
+    → Comes names rows out names rows out named mark at (λ exclude name. triggers-of-term exclude (terms-of name refs rows used many) t) (file-groups refs used many (filing names rows out mark at) t) (groups-at rows t) (filed.Sets 0 at)
 groups-none {refs} {rows} {names} {out} {used} {many} {mark = mark} {at} t r l c z h =
-    comes-as (λ name. sym (triggers-none r l c z name)) (filed-none refs used many (filing names rows out mark at) t c z) (sym z ∙ c) (comes-none h)
+    comes-as (λ exclude name. sym (triggers-none r l c z exclude name)) (filed-none refs used many (filing names rows out mark at) t c z) (sym z ∙ c) (comes-none h)
 
 -- ---- the terms of a list
 
@@ -152,8 +153,8 @@ unfolding terms-of-words collect
 list-none f refs a i q = rw (part-nil refs a i (omega arith))
 
 -- the triggers of the terms that the references from a up to e name, by the names of the numbers
-abbrev pub list-sets : List ℕ → List ℕ → ℕ → ℕ → ℕ → ℕ → (ℕ → Name) → List (List Name)
-list-sets refs rows used many a e name = collect (triggers-of-term exclude-names (terms-of name refs rows used many)) (terms-of-words (part refs a e))
+abbrev pub list-sets : List ℕ → List ℕ → ℕ → ℕ → ℕ → ℕ → Sets
+list-sets refs rows used many a e exclude name = collect (triggers-of-term exclude (terms-of name refs rows used many)) (terms-of-words (part refs a e))
 
 -- how many there are
 abbrev pub list-count : List ℕ → List ℕ → ℕ → ℕ → ℕ
@@ -163,11 +164,11 @@ module _ {refs rows names out : List ℕ} {used many named mark at a e : ℕ} (r
   -- no term files nothing
   pub list-start : {i : ℕ} → i ≡ a → Comes names rows out names rows out named mark at (list-sets refs rows used many a i) (file-parts refs used many (filing names rows out mark at) (terms-of-words (part refs a i))) (list-count refs rows a i) (filed.Sets 0 at)
   unfolding file-parts terms-of-words fold-left sum
-  list-start {i} q = comes-as (λ name. list-none (triggers-of-term exclude-names (terms-of name refs rows used many)) refs a i q) (rw (part-nil refs a i (omega arith))) (rw (part-nil refs a i (omega arith))) (comes-none h)
+  list-start {i} q = comes-as (λ exclude name. list-none (triggers-of-term exclude (terms-of name refs rows used many)) refs a i q) (rw (part-nil refs a i (omega arith))) (rw (part-nil refs a i (omega arith))) (comes-none h)
 
   module _ {names₁ rows₁ out₁ names₂ rows₂ out₂ : List ℕ} {count end i t : ℕ} {f : Filed} (low : a ≤ i) (high : i < e) (is : t ≡ getD refs i 0 % 4096) (lower : t < many)
       (c : Comes names rows out names₁ rows₁ out₁ named mark at (list-sets refs rows used many a i) (file-parts refs used many (filing names rows out mark at) (terms-of-words (part refs a i))) (list-count refs rows a i) (filed.Sets count end))
-      (d : Comes names₁ rows₁ out₁ names₂ rows₂ out₂ named (mark + (end - at)) end (λ name. triggers-of-term exclude-names (terms-of name refs rows₁ used many) t) (file-groups refs used many (filing names₁ rows₁ out₁ (mark + (end - at)) end) t) (groups-at rows₁ t) f) where
+      (d : Comes names₁ rows₁ out₁ names₂ rows₂ out₂ named (mark + (end - at)) end (λ exclude name. triggers-of-term exclude (terms-of name refs rows₁ used many) t) (file-groups refs used many (filing names₁ rows₁ out₁ (mark + (end - at)) end) t) (groups-at rows₁ t) f) where
     -- the references are in the slice
     list-fits : i < length refs
     list-fits = omega (arith, r .few-references, r .ref-room)
@@ -175,16 +176,16 @@ module _ {refs rows names out : List ℕ} {used many named mark at a e : ℕ} (r
     -- the term's after those before it
     list-then : Comes names rows out names₂ rows₂ out₂ named mark at (list-sets refs rows used many a (i + 1)) (file-parts refs used many (filing names rows out mark at) (terms-of-words (part refs a (i + 1)))) (list-count refs rows a (i + 1)) (after count f)
     list-then = comes-next _ _ _ (λ f. file-groups refs used many f t) (r .few-names) (h .high)
-        (λ name.
-        ap (λ ts. list-sets refs rows used many a i name ++ triggers-of-term exclude-names ts t) (terms-marked name (c .filled .rows-same) r)
-        ∙ list-more (triggers-of-term exclude-names (terms-of name refs rows used many)) refs a i t low list-fits is)
+        (λ exclude name.
+        ap (λ ts. list-sets refs rows used many a i exclude name ++ triggers-of-term exclude ts t) (terms-marked name (c .filled .rows-same) r)
+        ∙ list-more (triggers-of-term exclude (terms-of name refs rows used many)) refs a i t low list-fits is)
         (filed-part refs used many (filing names rows out mark at) a i low t list-fits is)
         (ap (λ n. list-count refs rows a i + n) (groups-marked (c .filled .rows-same) r t lower) ∙ counted-more rows refs a i t low list-fits is) c d
 
     -- where there is no room for them there is none for all
     pub list-full : f ≡ filed.Full → Comes names rows out names₂ rows₂ out₂ named mark at (list-sets refs rows used many a e) (file-parts refs used many (filing names rows out mark at) (terms-of-words (part refs a e))) (list-count refs rows a e) filed.Full
     list-full q = comes-more
-        (λ name. list-fewer (triggers-of-term exclude-names (terms-of name refs rows used many)) refs a (i + 1) e (omega arith) (omega arith) (omega (arith, r .few-references, r .ref-room)))
+        (λ exclude name. list-fewer (triggers-of-term exclude (terms-of name refs rows used many)) refs a (i + 1) e (omega arith) (omega arith) (omega (arith, r .few-references, r .ref-room)))
         (filed-parts refs used many (filing names rows out mark at) a (i + 1) (omega arith) e (omega arith) (omega (arith, r .few-references, r .ref-room)))
         (comes-is (after-full count q) list-then)
 
@@ -229,16 +230,16 @@ empty-some (x ∷ s) h = refl
 
 -- no trigger is empty
 pub empty-none : {refs rows : List ℕ} {used many named t groups : ℕ} → Rows refs rows used many named → t < many → groups ≡ groups-at rows t → groups ≡ 0
-    → (name : ℕ → Name) → true ≡ is-empty (triggers-of-term exclude-names (terms-of name refs rows used many) t)
+    → (exclude : List Name) (name : ℕ → Name) → true ≡ is-empty (triggers-of-term exclude (terms-of name refs rows used many) t)
 unfolding is-empty
-empty-none r l c z name = rw (triggers-none r l c z name)
+empty-none r l c z exclude name = rw (triggers-none r l c z exclude name)
 
 module _ {refs rows : List ℕ} {used many named t groups u e : ℕ} (r : Rows refs rows used many named) (l : t < many) (all : All refs rows used many t groups u e) where
   -- two groups and more are not empty
-  pub empty-more : (groups ≡ 0 → ⊥) → (groups ≡ 1 → ⊥) → (name : ℕ → Name) → false ≡ is-empty (triggers-of-term exclude-names (terms-of name refs rows used many) t)
-  empty-more a b name = rw (← (triggers-all r l all name)) (empty-many (map (group-names exclude-names (terms-of name refs rows used many)) (groups-of-words (patterns refs rows used many u) groups))
-      (λ q. a (sym (triggers-length (group-names exclude-names (terms-of name refs rows used many)) (patterns refs rows used many u) groups) ∙ q))
-      (λ q. b (sym (triggers-length (group-names exclude-names (terms-of name refs rows used many)) (patterns refs rows used many u) groups) ∙ q)))
+  pub empty-more : (groups ≡ 0 → ⊥) → (groups ≡ 1 → ⊥) → (exclude : List Name) (name : ℕ → Name) → false ≡ is-empty (triggers-of-term exclude (terms-of name refs rows used many) t)
+  empty-more a b exclude name = rw (← (triggers-all r l all exclude name)) (empty-many (map (group-names exclude (terms-of name refs rows used many)) (groups-of-words (patterns refs rows used many u) groups))
+      (λ q. a (sym (triggers-length (group-names exclude (terms-of name refs rows used many)) (patterns refs rows used many u) groups) ∙ q))
+      (λ q. b (sym (triggers-length (group-names exclude (terms-of name refs rows used many)) (patterns refs rows used many u) groups) ∙ q)))
 
   module _ {a : ℕ} (one : groups ≡ 1) (starts : a ≡ row-start rows u + 1) where
     -- the references of one group are all that stand after the body
@@ -256,12 +257,12 @@ module _ {refs rows : List ℕ} {used many named t groups u e : ℕ} (r : Rows r
         group-terms r all b (sym last)
 
     -- they are the one trigger
-    pub single-trigger : (name : ℕ → Name) → triggers-of-term exclude-names (terms-of name refs rows used many) t ≡ group-names exclude-names (terms-of name refs rows used many) (terms-of-words (part refs a e)) ∷ []
+    pub single-trigger : (exclude : List Name) (name : ℕ → Name) → triggers-of-term exclude (terms-of name refs rows used many) t ≡ group-names exclude (terms-of name refs rows used many) (terms-of-words (part refs a e)) ∷ []
     unfolding groups-of-words
-    single-trigger name =
-        sym (triggers-all r l all name)
-        ∙ ap (λ g. map (group-names exclude-names (terms-of name refs rows used many)) (groups-of-words (patterns refs rows used many u) g)) one
-        ∙ ap (λ ts. group-names exclude-names (terms-of name refs rows used many) ts ∷ []) (sym single-terms)
+    single-trigger exclude name =
+        sym (triggers-all r l all exclude name)
+        ∙ ap (λ g. map (group-names exclude (terms-of name refs rows used many)) (groups-of-words (patterns refs rows used many u) g)) one
+        ∙ ap (λ ts. group-names exclude (terms-of name refs rows used many) ts ∷ []) (sym single-terms)
 
     module _ {names out names′ rows′ out′ : List ℕ} {mark at : ℕ} {w : Walked} (g : Gathered names rows out names′ rows′ out′ mark at at w)
         (x : Walks-as (visit-list names refs rows used many (at - at) (terms-of-words (part refs a e))) names rows out names′ rows′ out′ mark at w) where
@@ -286,17 +287,17 @@ module _ {refs rows : List ℕ} {used many named t groups u e : ℕ} (r : Rows r
       single-some e = single-words true (answer-full at _ (sym e ∙ x .answer))
 
     -- a gathered set that has no name is empty, and one that has no room is not
-    pub single-empty : {name : ℕ → Name} {at n : ℕ} {out : List ℕ} {f : Walked} → f ≡ gathered.Names n → Gathers name named (group-names exclude-names (terms-of name refs rows used many) (terms-of-words (part refs a e))) at at out f
-        → true ≡ is-empty (triggers-of-term exclude-names (terms-of name refs rows used many) t)
-    single-empty {name} p g = rw (single-trigger name) (empty-nil _ (none (rw p at g)))
+    pub single-empty : (exclude : List Name) {name : ℕ → Name} {at n : ℕ} {out : List ℕ} {f : Walked} → f ≡ gathered.Names n → Gathers name named (group-names exclude (terms-of name refs rows used many) (terms-of-words (part refs a e))) at at out f
+        → true ≡ is-empty (triggers-of-term exclude (terms-of name refs rows used many) t)
+    single-empty exclude {name} p g = rw (single-trigger exclude name) (empty-nil _ (none (rw p at g)))
       where
         none : {name : ℕ → Name} {s : List Name} {at n : ℕ} {out : List ℕ} → Gathers name named s at at out (gathered.Names n) → length s ≡ 0
         none (all-names is count fits small) = omega arith
 
     -- the other answer
-    pub single-full : {name : ℕ → Name} {at : ℕ} {out : List ℕ} {f : Walked} → f ≡ gathered.Full → Gathers name named (group-names exclude-names (terms-of name refs rows used many) (terms-of-words (part refs a e))) at at out f
-        → false ≡ is-empty (triggers-of-term exclude-names (terms-of name refs rows used many) t)
-    single-full {name} p g = rw (single-trigger name) (empty-some _ (some (rw p at g)))
+    pub single-full : (exclude : List Name) {name : ℕ → Name} {at : ℕ} {out : List ℕ} {f : Walked} → f ≡ gathered.Full → Gathers name named (group-names exclude (terms-of name refs rows used many) (terms-of-words (part refs a e))) at at out f
+        → false ≡ is-empty (triggers-of-term exclude (terms-of name refs rows used many) t)
+    single-full exclude {name} p g = rw (single-trigger exclude name) (empty-some _ (some (rw p at g)))
       where
         some : {name : ℕ → Name} {s : List Name} {at : ℕ} {out : List ℕ} → Gathers name named s at at out gathered.Full → 0 < length s
         some (no-room h f) = omega arith

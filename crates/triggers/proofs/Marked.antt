@@ -10,16 +10,17 @@ use lib.Dec.{T}
 use Rattle.model.specs.Lists.{fold-left, part}
 use Rattle.model.specs.Names.{Name}
 use Rattle.model.specs.Terms.{add-term}
-use Rattle.model.specs.Summaries.{exclude-names, group-names, triggers-of-term}
+use Rattle.model.specs.Summaries.{group-names, triggers-of-term, entries}
 use Rattle.model.proofs.PartLaws.{part-drop}
 use Rattle.terms.specs.Rows.{row-kind, row-op, row-head, row-start, row-extra, row-end, group-of-words, groups-of-words, node-of, nodes-below, terms-of, has-groups, bare-of, groups-at, Rows}
 use Rattle.terms.proofs.Laws.{equal, below, groups-all, groups-other}
 use Rattle.terms.proofs.Table.{bare-low}
 use Rattle.terms.proofs.Groups.{groups-count}
-use Rattle.gather.specs.Sets.{Named, Fresh, Same-but, Gathered}
+use Rattle.words.specs.Slices.{Same-but}
+use Rattle.gather.specs.Sets.{Named, Fresh, Gathered}
 use Rattle.gather.specs.declared.Walked.{Walked}
-use Rattle.gather.proofs.Walking.{word-same, kind-same, start-same, extra-same, end-same, bare-same}
-use Rattle.triggers.specs.Entries.{entries}
+use Rattle.gather.proofs.Walking.{excluded-same, word-same, kind-same, start-same, extra-same, end-same, bare-same}
+
 use Rattle.triggers.specs.Filings.{groups-under}
 use Rattle.triggers.proofs.Disjuncts.{entries-append}
 
@@ -46,10 +47,10 @@ groups-marked {rows = rows} s r t l =
     rw (bare-same s t (omega arith), kind-same s (bare-of rows t) (omega arith), extra-same s (bare-of rows t) (omega arith))
 
 -- names for a table are names for it with other marks
-pub named-marked : {name : ℕ → Name} {names names′ : List ℕ} {named : ℕ} → Same-but 8192 2048 names names′ → named ≤ 2048 → Named name names named → Named name names′ named
+pub named-marked : {exclude : List Name} {name : ℕ → Name} {names names′ : List ℕ} {named : ℕ} → Same-but 8192 2048 names names′ → named ≤ 2048 → Named exclude name names named → Named exclude name names′ named
 named-marked s few d = record {
   distinct = d .distinct;
-  excluded = λ n l. rw (s .same-words (6144 + n) (λ a b. omega arith)) (d .excluded n l);
+  excluded = λ n l. excluded-same s n (omega arith) ∙ d .excluded n l;
 }
 
 -- marks below one mark are below a later one
@@ -95,9 +96,12 @@ module _ {refs rows : List ℕ} {used many named t groups : ℕ} (r : Rows refs 
       (equal (row-kind rows u) 4)
 
   -- a term without groups has no trigger
-  pub triggers-none : groups ≡ 0 → (name : ℕ → Name) → triggers-of-term exclude-names (terms-of name refs rows used many) t ≡ []
-  unfolding groups-of-words
-  triggers-none z name = groups-count r name l ∙ ap (λ g. map (group-names exclude-names (terms-of name refs rows used many)) (groups-of-words (part refs (row-start rows (bare-of rows t) + 1) (row-end rows used many (bare-of rows t))) g)) (sym counts ∙ z)
+  pub triggers-none : groups ≡ 0 → (exclude : List Name) (name : ℕ → Name) → triggers-of-term exclude (terms-of name refs rows used many) t ≡ []
+  unfolding triggers-of-term groups-of-words
+  triggers-none z exclude name =
+      let terms = terms-of name refs rows used many in
+      let words = part refs (row-start rows (bare-of rows t) + 1) (row-end rows used many (bare-of rows t)) in
+      ap (map (group-names exclude terms)) (groups-count r name l ∙ ap (groups-of-words words) (sym counts ∙ z))
 
 -- the groups of a term with groups
 pub groups-here : {refs rows : List ℕ} {used many t groups u e : ℕ} → All refs rows used many t groups u e → groups-of-words (patterns refs rows used many u) groups ≡ groups-under refs used many rows t
@@ -107,10 +111,11 @@ groups-here {refs} {rows} {used} {many} {t} {groups} {u} a = ap₂ groups-of-wor
     (a .counted ∙ sym (groups-all rows t u (a .bare) (a .is-all)))
 
 -- the triggers of a term with groups
-pub triggers-all : {refs rows : List ℕ} {used many named t groups u e : ℕ} → Rows refs rows used many named → t < many → All refs rows used many t groups u e → (name : ℕ → Name)
-    → map (group-names exclude-names (terms-of name refs rows used many)) (groups-of-words (patterns refs rows used many u) groups) ≡ triggers-of-term exclude-names (terms-of name refs rows used many) t
-unfolding groups-under
-triggers-all {refs} {rows} {used} {many} r l a name = ap (map (group-names exclude-names (terms-of name refs rows used many))) (groups-here a) ∙ sym (groups-count r name l)
+pub triggers-all : {refs rows : List ℕ} {used many named t groups u e : ℕ} → Rows refs rows used many named → t < many → All refs rows used many t groups u e → (exclude : List Name) (name : ℕ → Name)
+    → map (group-names exclude (terms-of name refs rows used many)) (groups-of-words (patterns refs rows used many u) groups) ≡ triggers-of-term exclude (terms-of name refs rows used many) t
+unfolding triggers-of-term groups-under
+triggers-all {refs} {rows} {used} {many} r l a exclude name =
+    ap (map (group-names exclude (terms-of name refs rows used many))) (groups-here a ∙ sym (groups-count r name l))
 
 -- ---- the groups so far
 

@@ -7,9 +7,11 @@ use lib.ListN.{length}
 use lib.Dec.{eqb, ltb}
 use Rattle.model.specs.Lists.{concat, fold-left, part}
 use Rattle.terms.specs.Rows.{row-start, row-end, groups-of-words, bare-of, groups-at}
+use Rattle.gather.specs.Sets.{name-mark-column, row-mark-column}
 use Rattle.gather.specs.Visits.{Visit, visit-list, marked-at, put}
 use Rattle.triggers.specs.declared.Filed.{Filed}
 use Rattle.triggers.specs.declared.Filed.the-variants as filed
+use Rattle.triggers.specs.Entries.{entries-end, no-name, last-flag}
 
 -- how far filing is: the slices, the mark of the next set, the place of the next entry, and whether a set had no room; mark
 -- and place say nothing then
@@ -25,22 +27,22 @@ pub record Filing : Type 0 where
 abbrev pub filing : List ℕ → List ℕ → List ℕ → ℕ → ℕ → Filing
 filing names rows out mark end = record { names = names; rows = rows; out = out; mark = mark; end = end; full = false }
 
--- the entries of a set, by the numbers of its names: 4096 is added to the last; an empty set takes one, 2048 + 4096
+-- the entries of a set, by the numbers of its names: the last has the flag; an empty set takes one
 unfoldable pub set-words : List ℕ → List ℕ
-set-words [] = 6144 ∷ []
-set-words (n ∷ []) = (n + 4096) ∷ []
+set-words [] = (no-name + last-flag) ∷ []
+set-words (n ∷ []) = (n + last-flag) ∷ []
 set-words (n ∷ m ∷ ns) = n ∷ set-words (m ∷ ns)
 
 -- the set that a walk found: its marks and its entries; where these have no room, since the walk stopped or an empty set
--- comes at 8,192, the numbers found stand without 4096 on the last
+-- comes at the end, the numbers found stand without the flag on the last
 unfoldable pub file-set : Filing → Visit → Filing
 file-set f v =
     let ended = set-words (v .found) in
-    let full = v .full || ltb 8192 (f .end + length ended) in
+    let full = v .full || ltb entries-end (f .end + length ended) in
     let written = cond full (v .found) ended in
     record {
-      names = marked-at 8192 (f .mark) (v .found) (f .names);
-      rows = marked-at 12288 (f .mark) (v .walked) (f .rows);
+      names = marked-at name-mark-column (f .mark) (v .found) (f .names);
+      rows = marked-at row-mark-column (f .mark) (v .walked) (f .rows);
       out = put (f .end) written (f .out);
       mark = f .mark + length written;
       end = f .end + length written;
@@ -52,7 +54,7 @@ module _ (refs : List ℕ) (used many : ℕ) where
   -- the free names of terms as one set; after a set without room none is filed
   unfoldable pub file-list : Filing → List ℕ → Filing
   file-list f ts =
-      let more = file-set f (visit-list (f .names) refs (f .rows) used many (8192 - f .end) ts) in
+      let more = file-set f (visit-list (f .names) refs (f .rows) used many (entries-end - f .end) ts) in
       cond (f .full) f more
 
   -- the pattern groups of the `all` under a term's labels
@@ -81,7 +83,7 @@ module _ (refs : List ℕ) (used many : ℕ) where
 pub record Asks-as (v : Visit) (names rows out names′ rows′ out′ : List ℕ) (mark : ℕ) (r : Bool) : Type 0 where
   pub answer : r ≡ not (v .full)
   pub name-words : names′ ≡ names
-  pub row-words : rows′ ≡ marked-at 12288 mark (v .walked) rows
+  pub row-words : rows′ ≡ marked-at row-mark-column mark (v .walked) rows
   pub out-words : out′ ≡ out
 
 -- the answer and every word of the slices after filing so many sets from `at` on, under marks from `mark` on

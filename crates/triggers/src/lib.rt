@@ -1,15 +1,29 @@
 use gather::Walked;
-ghost use Prim.Native.Nat.{ℕ, _+_, _-_, _%_, _≤_, _<_};
+ghost use Prim.Native.Nat.{ℕ, _+_, _-_, _≤_, _<_};
 ghost use mathlib.Core.Path.{_≡_};
-ghost use mathlib.Core.List.{[], _∷_, map};
+ghost use mathlib.Core.List.{List, [], _∷_, map};
 ghost use lib.ListN.{length, getD};
 ghost use Rattle.model.specs.Lists.{collect, sum, part};
 ghost use Rattle.model.specs.Names.{Name};
-ghost use Rattle.model.specs.Summaries.{exclude-names, is-empty, free-top-level-names, group-names, triggers-of-term};
-ghost use Rattle.terms.specs.Rows.{row-start, row-end, terms-of-words, terms-of, bare-of, groups-at, Rows};
-ghost use Rattle.gather.specs.Sets.{Named, Fresh, Same-but};
-ghost use Rattle.triggers.specs.Entries.{Opened, Files, Filled, Closes};
+ghost use Rattle.model.specs.Reading.{most-names, most-terms, most-references};
+ghost use Rattle.model.specs.Outcome.{working-words};
+ghost use Rattle.model.specs.Summaries.{is-empty, free-top-level-names, group-names, triggers-of-term};
+ghost use Rattle.terms.specs.Rows.{term-of, row-start, row-end, terms-of-words, terms-of, bare-of, groups-at, Rows};
+ghost use Rattle.words.specs.Slices.{Same-but};
+ghost use Rattle.gather.specs.Sets.{name-mark-column, row-mark-column, Named, Fresh};
+ghost use Rattle.triggers.specs.Entries.{entries-end, Opened, Files, Filled, Closes};
 ghost use Rattle.triggers.specs.Filings.{filing, file-list, file-groups, file-parts, ask-empty, Asks-as, Files-as};
+
+// Where the entries of the facts start in the slice, and where they end.
+pub const ENTRIES: usize = 6144;
+
+pub const ENTRIES_END: usize = 8192;
+
+// The entry of a disjunct that has no name.
+pub const NO_NAME: usize = 2048;
+
+// What is added to the last entry of its disjunct.
+pub const LAST: usize = 4096;
 
 // What filing disjuncts comes to: how many there are and where their entries end, or that there is no room for them.
 pub enum Filed {
@@ -19,18 +33,18 @@ pub enum Filed {
 
 // Ends the disjunct whose names stand from `at` up to `end`: its last entry is marked, an empty disjunct takes one.
 fn close(out: &mut [u32], at: usize, end: usize) -> Filed
-    requires { ⌜ (at ≤ end) × (end ≤ 8192) × (8192 ≤ length (now out)) × (at < end → getD (now out) (end - 1) 0 < 2048) ⌝ }
+    requires { ⌜ (at ≤ end) × (end ≤ entries-end) × (entries-end ≤ length (now out)) × (at < end → getD (now out) (end - 1) 0 < most-names) ⌝ }
     ensures { λ r. ⌜ Closes (now (out .entry)) (now (out .exit)) at end r ⌝ }
 {
     if at < end {
         let last = words::at(out, end - 1);
-        out[end - 1] = (last + 4096) as u32;
+        out[end - 1] = (last + LAST) as u32;
         return Filed::Sets(1, end);
     }
-    if 8192 <= at {
+    if ENTRIES_END <= at {
         return Filed::Full;
     }
-    out[at] = 6144;
+    out[at] = (NO_NAME + LAST) as u32;
     Filed::Sets(1, at + 1)
 }
 
@@ -48,8 +62,8 @@ fn file_list(
     mark: usize,
     at: usize,
 ) -> Filed
-    requires { ⌜ Rows (now refs) (now rows) used many named × Opened (now names) (now rows) (now out) mark at × (a ≤ e) × (e ≤ used) × ((i : ℕ) → a ≤ i → i < e → getD (now refs) i 0 % 4096 < many) ⌝ }
-    ensures sets { λ r. ⌜ ((name : ℕ → Name) → Named name (now (names .entry)) named → Files name named (group-names exclude-names (terms-of name (now (refs .entry)) (now (rows .entry)) used many) (terms-of-words (part (now (refs .entry)) a e)) ∷ []) at (now (out .exit)) r) ⌝ }
+    requires { ⌜ Rows (now refs) (now rows) used many named × Opened (now names) (now rows) (now out) mark at × (a ≤ e) × (e ≤ used) × ((i : ℕ) → a ≤ i → i < e → term-of (getD (now refs) i 0) < many) ⌝ }
+    ensures sets { λ r. ⌜ ((exclude : List Name) (name : ℕ → Name) → Named exclude name (now (names .entry)) named → Files name named (group-names exclude (terms-of name (now (refs .entry)) (now (rows .entry)) used many) (terms-of-words (part (now (refs .entry)) a e)) ∷ []) at (now (out .exit)) r) ⌝ }
     ensures slices { λ r. ⌜ Filled (now (names .entry)) (now (rows .entry)) (now (out .entry)) (now (names .exit)) (now (rows .exit)) (now (out .exit)) mark at r ⌝ }
     ensures words { λ r. ⌜ Files-as (file-list (now (refs .entry)) used many (filing (now (names .entry)) (now (rows .entry)) (now (out .entry)) mark at) (terms-of-words (part (now (refs .entry)) a e))) 1 (now (names .exit)) (now (rows .exit)) (now (out .exit)) mark at r ⌝ }
 {
@@ -65,7 +79,7 @@ fn file_list(
         e,
         mark as u32,
         at,
-        8192,
+        ENTRIES_END,
     ) else {
         return Filed::Full;
     };
@@ -86,7 +100,7 @@ pub fn file_term(
     at: usize,
 ) -> Filed
     requires { ⌜ Rows (now refs) (now rows) used many named × Opened (now names) (now rows) (now out) mark at × (t < many) ⌝ }
-    ensures sets { λ r. ⌜ ((name : ℕ → Name) → Named name (now (names .entry)) named → Files name named (free-top-level-names exclude-names (terms-of name (now (refs .entry)) (now (rows .entry)) used many) t ∷ []) at (now (out .exit)) r) ⌝ }
+    ensures sets { λ r. ⌜ ((exclude : List Name) (name : ℕ → Name) → Named exclude name (now (names .entry)) named → Files name named (free-top-level-names exclude (terms-of name (now (refs .entry)) (now (rows .entry)) used many) t ∷ []) at (now (out .exit)) r) ⌝ }
     ensures slices { λ r. ⌜ Filled (now (names .entry)) (now (rows .entry)) (now (out .entry)) (now (names .exit)) (now (rows .exit)) (now (out .exit)) mark at r ⌝ }
     ensures words { λ r. ⌜ Files-as (file-list (now (refs .entry)) used many (filing (now (names .entry)) (now (rows .entry)) (now (out .entry)) mark at) (t ∷ [])) 1 (now (names .exit)) (now (rows .exit)) (now (out .exit)) mark at r ⌝ }
 {
@@ -101,7 +115,7 @@ pub fn file_term(
         t,
         mark as u32,
         at,
-        8192,
+        ENTRIES_END,
     ) else {
         return Filed::Full;
     };
@@ -123,7 +137,7 @@ pub fn file_terms(
     at: usize,
 ) -> Filed
     requires { ⌜ Rows (now refs) (now rows) used many named × Opened (now names) (now rows) (now out) mark at × (t < many) × (u < many) ⌝ }
-    ensures sets { λ r. ⌜ ((name : ℕ → Name) → Named name (now (names .entry)) named → Files name named (free-top-level-names exclude-names (terms-of name (now (refs .entry)) (now (rows .entry)) used many) t ∷ free-top-level-names exclude-names (terms-of name (now (refs .entry)) (now (rows .entry)) used many) u ∷ []) at (now (out .exit)) r) ⌝ }
+    ensures sets { λ r. ⌜ ((exclude : List Name) (name : ℕ → Name) → Named exclude name (now (names .entry)) named → Files name named (free-top-level-names exclude (terms-of name (now (refs .entry)) (now (rows .entry)) used many) t ∷ free-top-level-names exclude (terms-of name (now (refs .entry)) (now (rows .entry)) used many) u ∷ []) at (now (out .exit)) r) ⌝ }
     ensures slices { λ r. ⌜ Filled (now (names .entry)) (now (rows .entry)) (now (out .entry)) (now (names .exit)) (now (rows .exit)) (now (out .exit)) mark at r ⌝ }
     ensures words { λ r. ⌜ Files-as (file-list (now (refs .entry)) used many (file-list (now (refs .entry)) used many (filing (now (names .entry)) (now (rows .entry)) (now (out .entry)) mark at) (t ∷ [])) (u ∷ [])) 2 (now (names .exit)) (now (rows .exit)) (now (out .exit)) mark at r ⌝ }
 {
@@ -157,7 +171,7 @@ struct Patterns {
 
 // Reads them from the rows; a term that is no `all` has none.
 fn pattern_groups(rows: &[u32], used: usize, many: usize, t: usize) -> Patterns
-    requires { ⌜ (16384 ≤ length (now rows)) × (many ≤ 4096) × (t < many) × (bare-of (now rows) t < many) × (row-start (now rows) (bare-of (now rows) t) ≤ 16384) ⌝ }
+    requires { ⌜ (working-words ≤ length (now rows)) × (many ≤ most-terms) × (t < many) × (bare-of (now rows) t < many) × (row-start (now rows) (bare-of (now rows) t) ≤ most-references) ⌝ }
     ensures { λ r. ⌜ (r .count ≡ groups-at (now (rows .entry)) t) × (r .start ≡ row-start (now (rows .entry)) (bare-of (now (rows .entry)) t) + 1) × (r .end ≡ row-end (now (rows .entry)) used many (bare-of (now (rows .entry)) t)) ⌝ }
 {
     let count = terms::group_count(rows, t);
@@ -181,7 +195,7 @@ pub fn triggers_of_term(
     at: usize,
 ) -> Filed
     requires { ⌜ Rows (now refs) (now rows) used many named × Opened (now names) (now rows) (now out) mark at × (t < many) ⌝ }
-    ensures sets { λ r. ⌜ ((name : ℕ → Name) → Named name (now (names .entry)) named → Files name named (triggers-of-term exclude-names (terms-of name (now (refs .entry)) (now (rows .entry)) used many) t) at (now (out .exit)) r) ⌝ }
+    ensures sets { λ r. ⌜ ((exclude : List Name) (name : ℕ → Name) → Named exclude name (now (names .entry)) named → Files name named (triggers-of-term exclude (terms-of name (now (refs .entry)) (now (rows .entry)) used many) t) at (now (out .exit)) r) ⌝ }
     ensures slices { λ r. ⌜ Filled (now (names .entry)) (now (rows .entry)) (now (out .entry)) (now (names .exit)) (now (rows .exit)) (now (out .exit)) mark at r ⌝ }
     ensures words { λ r. ⌜ Files-as (file-groups (now (refs .entry)) used many (filing (now (names .entry)) (now (rows .entry)) (now (out .entry)) mark at) t) (groups-at (now (rows .entry)) t) (now (names .exit)) (now (rows .exit)) (now (out .exit)) mark at r ⌝ }
 {
@@ -232,8 +246,8 @@ pub fn triggers_of_list(
     mark: usize,
     at: usize,
 ) -> Filed
-    requires { ⌜ Rows (now refs) (now rows) used many named × Opened (now names) (now rows) (now out) mark at × (a ≤ e) × (e ≤ used) × ((i : ℕ) → a ≤ i → i < e → getD (now refs) i 0 % 4096 < many) ⌝ }
-    ensures sets { λ r. ⌜ ((name : ℕ → Name) → Named name (now (names .entry)) named → Files name named (collect (triggers-of-term exclude-names (terms-of name (now (refs .entry)) (now (rows .entry)) used many)) (terms-of-words (part (now (refs .entry)) a e))) at (now (out .exit)) r) ⌝ }
+    requires { ⌜ Rows (now refs) (now rows) used many named × Opened (now names) (now rows) (now out) mark at × (a ≤ e) × (e ≤ used) × ((i : ℕ) → a ≤ i → i < e → term-of (getD (now refs) i 0) < many) ⌝ }
+    ensures sets { λ r. ⌜ ((exclude : List Name) (name : ℕ → Name) → Named exclude name (now (names .entry)) named → Files name named (collect (triggers-of-term exclude (terms-of name (now (refs .entry)) (now (rows .entry)) used many)) (terms-of-words (part (now (refs .entry)) a e))) at (now (out .exit)) r) ⌝ }
     ensures slices { λ r. ⌜ Filled (now (names .entry)) (now (rows .entry)) (now (out .entry)) (now (names .exit)) (now (rows .exit)) (now (out .exit)) mark at r ⌝ }
     ensures words { λ r. ⌜ Files-as (file-parts (now (refs .entry)) used many (filing (now (names .entry)) (now (rows .entry)) (now (out .entry)) mark at) (terms-of-words (part (now (refs .entry)) a e))) (sum (map (groups-at (now (rows .entry))) (terms-of-words (part (now (refs .entry)) a e)))) (now (names .exit)) (now (rows .exit)) (now (out .exit)) mark at r ⌝ }
 {
@@ -277,8 +291,8 @@ pub fn is_empty(
     at: usize,
 ) -> bool
     requires { ⌜ Rows (now refs) (now rows) used many named × Opened (now names) (now rows) (now out) mark at × (t < many) ⌝ }
-    ensures answer { λ r. ⌜ ((name : ℕ → Name) → Named name (now (names .entry)) named → r ≡ is-empty (triggers-of-term exclude-names (terms-of name (now (refs .entry)) (now (rows .entry)) used many) t)) ⌝ }
-    ensures tables { λ r. ⌜ Same-but 8192 2048 (now (names .entry)) (now (names .exit)) × Same-but 12288 4096 (now (rows .entry)) (now (rows .exit)) × Fresh (now (names .exit)) (now (rows .exit)) (mark + 1) ⌝ }
+    ensures answer { λ r. ⌜ ((exclude : List Name) (name : ℕ → Name) → Named exclude name (now (names .entry)) named → r ≡ is-empty (triggers-of-term exclude (terms-of name (now (refs .entry)) (now (rows .entry)) used many) t)) ⌝ }
+    ensures tables { λ r. ⌜ Same-but name-mark-column most-names (now (names .entry)) (now (names .exit)) × Same-but row-mark-column most-terms (now (rows .entry)) (now (rows .exit)) × Fresh (now (names .exit)) (now (rows .exit)) (mark + 1) ⌝ }
     ensures words { λ r. ⌜ Asks-as (ask-empty (now (refs .entry)) used many (now (names .entry)) (now (rows .entry)) t) (now (names .entry)) (now (rows .entry)) (now (out .entry)) (now (names .exit)) (now (rows .exit)) (now (out .exit)) mark r ⌝ }
 {
     let p = pattern_groups(rows, used, many, t);

@@ -2,7 +2,7 @@
 use Rattle.model.specs.Names.{bytes}
 use Rattle.rules.proofs.Meaning.{iff-word, op-two-found, op-two-no, op-within}
 use Rattle.rules.proofs.Rules.{rule-1-holds, rule-1-name, rule-1-other}
-use Rattle.rules.specs.Choices.{Within}
+use Rattle.rules.specs.Choices.{Within, holds-not, chooses}
 use borrow.Author.Needs.{needs}
 use borrow.Author.Tests.{not-false, not-true}
 use Rattle.rules.proofs.rule_1.Statement.{statement}
@@ -23,7 +23,7 @@ returns : tie.Need-returns
 unfolding Within
 returns c =
     let start = c .before .before .before .before .before .before .before in
-    (rule-1-other _ _ _ _ (op-two-no (start .pre .0) (start .pre .2) iff-word (c .before .before .op-two .ensures) (c .enum-told .given .1)), tt)
+    holds-not (rule-1-other _ _ _ _ (op-two-no (start .pre .0) (start .pre .2) iff-word (c .before .before .op-two .ensures) (c .enum-told .given .1)))
 
 slice-aggregate-name-starts : tie.Need-slice-aggregate-name-starts
 slice-aggregate-name-starts c = search needs
@@ -37,13 +37,13 @@ returns-2 : tie.Need-returns-2
 unfolding Within bytes
 returns-2 c =
     let start = c .before .before .before .before .before .before .before .before .before .before .before in
-    (rule-1-name _ _ _ _ (op-two-found (start .pre .0) (start .pre .2) iff-word (c .before .before .before .before .before .before .op-two .ensures) (c .before .before .before .before .left .given .1)) (c .before .name-starts .ensures) (not-true _ (c .if1 .taken)), tt)
+    holds-not (rule-1-name _ _ _ _ (op-two-found (start .pre .0) (start .pre .2) iff-word (c .before .before .before .before .before .before .op-two .ensures) (c .before .before .before .before .left .given .1)) (c .before .name-starts .ensures) (not-true _ (c .if1 .taken)))
 
 returns-3 : tie.Need-returns-3
 unfolding Within bytes
 returns-3 c =
     let start = c .before .before .before .before .before .before .before .before .before .before .before in
-    (rule-1-holds _ _ _ _ (op-two-found (start .pre .0) (start .pre .2) iff-word (c .before .before .before .before .before .before .op-two .ensures) (c .before .before .before .before .left .given .1)) (c .before .name-starts .ensures) (not-false _ (c .if1 .left)), op-within (start .pre .0 .term-table) (start .pre .2) 1 (c .before .before .before .before .before .before .op-two .ensures) (c .before .before .before .before .left .given .1) .0)
+    chooses (rule-1-holds _ _ _ _ (op-two-found (start .pre .0) (start .pre .2) iff-word (c .before .before .before .before .before .before .op-two .ensures) (c .before .before .before .before .left .given .1)) (c .before .name-starts .ensures) (not-false _ (c .if1 .left))) (op-within (start .pre .0 .term-table) (start .pre .2) 1 (c .before .before .before .before .before .before .op-two .ensures) (c .before .before .before .before .left .given .1) .0)
 
 pub rule-1-spec : {M : Type 1} → statement M
 rule-1-spec = tie.close (tie.spec op-two-requires enum-known-left enum-told returns slice-aggregate-name-starts name-starts-requires returns-2 returns-3)

@@ -2,7 +2,7 @@
 use Rattle.rules.proofs.Looking.{row-ready}
 use Rattle.rules.proofs.Meaning.{op-found, op-no, true-word}
 use Rattle.rules.proofs.Rules.{rule-11-holds, rule-11-other}
-use Rattle.rules.specs.Choices.{Within}
+use Rattle.rules.specs.Choices.{Within, holds-not, chooses}
 use borrow.Author.Tests.{not-false, not-true}
 use mathlib.Core.Path.{_∙_, sym}
 use Rattle.rules.proofs.rule_11.Statement.{statement}
@@ -17,13 +17,13 @@ returns : tie.Need-returns
 unfolding Within
 returns c =
     let start = c .before .before .before .before .before .before in
-    (rule-11-other _ _ _ _ (op-no (start .pre .0) (start .pre .2) true-word (sym (c .before .is-op .ensures) ∙ not-true _ (c .if1 .taken))), tt)
+    holds-not (rule-11-other _ _ _ _ (op-no (start .pre .0) (start .pre .2) true-word (sym (c .before .is-op .ensures) ∙ not-true _ (c .if1 .taken))))
 
 returns-2 : tie.Need-returns-2
 unfolding Within
 returns-2 c =
     let start = c .before .before .before .before .before .before in
-    (rule-11-holds _ _ _ _ (op-found (start .pre .0) (start .pre .2) true-word (sym (c .before .is-op .ensures) ∙ not-false _ (c .if1 .left))), tt)
+    chooses (rule-11-holds _ _ _ _ (op-found (start .pre .0) (start .pre .2) true-word (sym (c .before .is-op .ensures) ∙ not-false _ (c .if1 .left)))) tt
 
 pub rule-11-spec : {M : Type 1} → statement M
 rule-11-spec = tie.close (tie.spec is-op-requires returns returns-2)

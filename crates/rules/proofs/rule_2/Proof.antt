@@ -1,7 +1,7 @@
 -- `rules::rule_2` meets its contract: the name alone.
 use Rattle.model.specs.Names.{bytes}
 use Rattle.rules.proofs.Rules.{rule-2-holds, rule-2-name}
-use Rattle.rules.specs.Choices.{Within}
+use Rattle.rules.specs.Choices.{Within, holds-not, chooses}
 use borrow.Author.Needs.{needs}
 use borrow.Author.Tests.{not-false, not-true}
 use Rattle.rules.proofs.rule_2.Statement.{statement}
@@ -17,13 +17,13 @@ name-starts-requires c κs =
 
 returns : tie.Need-returns
 unfolding Within bytes
-returns c = (rule-2-name _ _ _ _ (c .before .name-starts .ensures) (not-true _ (c .if1 .taken)), tt)
+returns c = holds-not (rule-2-name _ _ _ _ (c .before .name-starts .ensures) (not-true _ (c .if1 .taken)))
 
 returns-2 : tie.Need-returns-2
 unfolding Within bytes
 returns-2 c =
     let start = c .before .before .before .before .before .before .before in
-    (rule-2-holds _ _ _ _ (c .before .name-starts .ensures) (not-false _ (c .if1 .left)), start .pre .2)
+    chooses (rule-2-holds _ _ _ _ (c .before .name-starts .ensures) (not-false _ (c .if1 .left))) (start .pre .2)
 
 pub rule-2-spec : {M : Type 1} → statement M
 rule-2-spec = tie.close (tie.spec slice-aggregate-name-starts name-starts-requires returns returns-2)

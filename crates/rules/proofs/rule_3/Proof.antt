@@ -1,7 +1,7 @@
 -- `rules::rule_3` meets its contract: a HasType of two, then its type.
 use Rattle.rules.proofs.Meaning.{has-type, two-found, two-no, two-within}
 use Rattle.rules.proofs.Rules.{rule-3-holds, rule-3-other, rule-3-type}
-use Rattle.rules.specs.Choices.{Within}
+use Rattle.rules.specs.Choices.{Within, holds-not, chooses}
 use borrow.Author.Tests.{not-false, not-true}
 use Rattle.rules.proofs.rule_3.Statement.{statement}
 use Rattle.rules.proofs.rule_3.Tie as tie
@@ -21,7 +21,7 @@ returns : tie.Need-returns
 unfolding Within
 returns c =
     let start = c .before .before .before .before .before .before .before in
-    (rule-3-other _ _ _ _ (two-no (start .pre .0) (start .pre .2) has-type (c .before .before .call-two .ensures) (c .enum-told .given .1)), tt)
+    holds-not (rule-3-other _ _ _ _ (two-no (start .pre .0) (start .pre .2) has-type (c .before .before .call-two .ensures) (c .enum-told .given .1)))
 
 is-ambient-refinement-requires : tie.Need-is-ambient-refinement-requires
 is-ambient-refinement-requires c κs =
@@ -32,7 +32,7 @@ returns-2 : tie.Need-returns-2
 unfolding Within
 returns-2 c =
     let start = c .before .before .before .before .before .before .before .before .before .before in
-    (rule-3-type _ _ _ _ (two-found (start .pre .0) (start .pre .2) has-type (c .before .before .before .before .before .call-two .ensures) (c .before .before .before .ty .given .1)) (c .before .is-ambient-refinement .ensures) (not-true _ (c .if1 .taken)), tt)
+    holds-not (rule-3-type _ _ _ _ (two-found (start .pre .0) (start .pre .2) has-type (c .before .before .before .before .before .call-two .ensures) (c .before .before .before .ty .given .1)) (c .before .is-ambient-refinement .ensures) (not-true _ (c .if1 .taken)))
 
 ambient-refinement-payload-requires : tie.Need-ambient-refinement-payload-requires
 ambient-refinement-payload-requires c κs =
@@ -43,7 +43,7 @@ returns-3 : tie.Need-returns-3
 unfolding Within
 returns-3 c =
     let start = c .before .before .before .before .before .before .before .before .before .before .before in
-    (rule-3-holds _ _ _ _ (two-found (start .pre .0) (start .pre .2) has-type (c .before .before .before .before .before .before .call-two .ensures) (c .before .before .before .before .ty .given .1)) (c .before .before .is-ambient-refinement .ensures) (not-false _ (c .before .if1 .left)) (c .ambient-refinement-payload .ensures .0), c .ambient-refinement-payload .ensures .1)
+    chooses (rule-3-holds _ _ _ _ (two-found (start .pre .0) (start .pre .2) has-type (c .before .before .before .before .before .before .call-two .ensures) (c .before .before .before .before .ty .given .1)) (c .before .before .is-ambient-refinement .ensures) (not-false _ (c .before .if1 .left)) (c .ambient-refinement-payload .ensures .0)) (c .ambient-refinement-payload .ensures .1)
 
 pub rule-3-spec : {M : Type 1} → statement M
 rule-3-spec = tie.close (tie.spec call-two-requires enum-known-ty enum-told returns is-ambient-refinement-requires returns-2 ambient-refinement-payload-requires returns-3)

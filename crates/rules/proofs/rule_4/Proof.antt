@@ -2,7 +2,7 @@
 use Rattle.rules.proofs.Looking.{head-ready}
 use Rattle.rules.proofs.Meaning.{apply-tt, is-head-law, one-found, one-no, one-within, partial-app, two-found, two-no, two-within, valid}
 use Rattle.rules.proofs.Rules.{rule-4-applied, rule-4-function, rule-4-holds, rule-4-other}
-use Rattle.rules.specs.Choices.{Within}
+use Rattle.rules.specs.Choices.{Within, holds-not, chooses}
 use borrow.Author.Tests.{not-false, not-true}
 use mathlib.Core.Path.{_∙_, sym}
 use Rattle.rules.proofs.rule_4.Statement.{statement}
@@ -23,7 +23,7 @@ returns : tie.Need-returns
 unfolding Within
 returns c =
     let start = c .before .before .before .before .before .before .before in
-    (rule-4-other _ _ _ _ (one-no (start .pre .0) (start .pre .2) valid (c .before .before .call-one .ensures) (c .enum-told .given .1)), tt)
+    holds-not (rule-4-other _ _ _ _ (one-no (start .pre .0) (start .pre .2) valid (c .before .before .call-one .ensures) (c .enum-told .given .1)))
 
 call-two-requires : tie.Need-call-two-requires
 call-two-requires c κs =
@@ -41,7 +41,7 @@ unfolding Within
 returns-2 c =
     let start = c .before .before .before .before .before .before .before .before .before .before .before in
     let applied = one-within (start .pre .0 .term-table) (start .pre .2) (start .args .names .now) 6 (c .before .before .before .before .before .before .call-one .ensures) (c .before .before .before .before .applied .given .1) in
-    (rule-4-applied _ _ _ _ (one-found (start .pre .0) (start .pre .2) valid (c .before .before .before .before .before .before .call-one .ensures) (c .before .before .before .before .applied .given .1)) (two-no (start .pre .0) applied apply-tt (c .before .before .call-two .ensures) (c .enum-told2 .given .1)), tt)
+    holds-not (rule-4-applied _ _ _ _ (one-found (start .pre .0) (start .pre .2) valid (c .before .before .before .before .before .before .call-one .ensures) (c .before .before .before .before .applied .given .1)) (two-no (start .pre .0) applied apply-tt (c .before .before .call-two .ensures) (c .enum-told2 .given .1)))
 
 is-head-requires : tie.Need-is-head-requires
 is-head-requires c κs =
@@ -56,7 +56,7 @@ returns-3 c =
     let start = c .before .before .before .before .before .before .before .before .before .before .before .before .before .before in
     let applied = one-within (start .pre .0 .term-table) (start .pre .2) (start .args .names .now) 6 (c .before .before .before .before .before .before .before .before .before .call-one .ensures) (c .before .before .before .before .before .before .before .applied .given .1) in
     let parts = two-within (start .pre .0 .term-table) applied (start .args .names .now) 7 (c .before .before .before .before .before .call-two .ensures) (c .before .before .before .function .given .1) in
-    (rule-4-function _ _ _ _ (one-found (start .pre .0) (start .pre .2) valid (c .before .before .before .before .before .before .before .before .before .call-one .ensures) (c .before .before .before .before .before .before .before .applied .given .1)) (two-found (start .pre .0) applied apply-tt (c .before .before .before .before .before .call-two .ensures) (c .before .before .before .function .given .1)) (sym (is-head-law (start .pre .0) (parts .0) partial-app) ∙ sym (c .before .is-head .ensures) ∙ not-true _ (c .if1 .taken)), tt)
+    holds-not (rule-4-function _ _ _ _ (one-found (start .pre .0) (start .pre .2) valid (c .before .before .before .before .before .before .before .before .before .call-one .ensures) (c .before .before .before .before .before .before .before .applied .given .1)) (two-found (start .pre .0) applied apply-tt (c .before .before .before .before .before .call-two .ensures) (c .before .before .before .function .given .1)) (sym (is-head-law (start .pre .0) (parts .0) partial-app) ∙ sym (c .before .is-head .ensures) ∙ not-true _ (c .if1 .taken)))
 
 token-requires : tie.Need-token-requires
 token-requires c κs =
@@ -70,7 +70,7 @@ returns-4 c =
     let start = c .before .before .before .before .before .before .before .before .before .before .before .before .before .before .before in
     let applied = one-within (start .pre .0 .term-table) (start .pre .2) (start .args .names .now) 6 (c .before .before .before .before .before .before .before .before .before .before .call-one .ensures) (c .before .before .before .before .before .before .before .before .applied .given .1) in
     let parts = two-within (start .pre .0 .term-table) applied (start .args .names .now) 7 (c .before .before .before .before .before .before .call-two .ensures) (c .before .before .before .before .function .given .1) in
-    (rule-4-holds _ _ _ _ (one-found (start .pre .0) (start .pre .2) valid (c .before .before .before .before .before .before .before .before .before .before .call-one .ensures) (c .before .before .before .before .before .before .before .before .applied .given .1)) (two-found (start .pre .0) applied apply-tt (c .before .before .before .before .before .before .call-two .ensures) (c .before .before .before .before .function .given .1)) (sym (is-head-law (start .pre .0) (parts .0) partial-app) ∙ sym (c .before .before .is-head .ensures) ∙ not-false _ (c .before .if1 .left)) (c .token .ensures .0), c .token .ensures .1)
+    chooses (rule-4-holds _ _ _ _ (one-found (start .pre .0) (start .pre .2) valid (c .before .before .before .before .before .before .before .before .before .before .call-one .ensures) (c .before .before .before .before .before .before .before .before .applied .given .1)) (two-found (start .pre .0) applied apply-tt (c .before .before .before .before .before .before .call-two .ensures) (c .before .before .before .before .function .given .1)) (sym (is-head-law (start .pre .0) (parts .0) partial-app) ∙ sym (c .before .before .is-head .ensures) ∙ not-false _ (c .before .if1 .left)) (c .token .ensures .0)) (c .token .ensures .1)
 
 pub rule-4-spec : {M : Type 1} → statement M
 rule-4-spec = tie.close (tie.spec call-one-requires enum-known-applied enum-told returns call-two-requires enum-known-function enum-told-2 returns-2 is-head-requires returns-3 token-requires returns-4)

@@ -1,7 +1,7 @@
 -- `rules::rule_5` meets its contract: four calls in turn.
 use Rattle.rules.proofs.Meaning.{has-type, is-tm-arrow, is-tot-fun, one-found, one-no, one-within, two-found, two-no, two-within, valid}
 use Rattle.rules.proofs.Rules.{rule-5-arrow, rule-5-function, rule-5-other, rule-5-type, rule-5-valid}
-use Rattle.rules.specs.Choices.{Within}
+use Rattle.rules.specs.Choices.{Within, holds-not, chooses}
 use Rattle.rules.proofs.rule_5.Statement.{statement}
 use Rattle.rules.proofs.rule_5.Tie as tie
 
@@ -17,7 +17,7 @@ returns : tie.Need-returns
 unfolding Within
 returns c =
     let start = c .before .before .before .before .before .before .before .before in
-    (rule-5-valid _ _ _ _ (one-found (start .pre .0) (start .pre .2) valid (c .before .before .before .call-one .ensures) (c .before .first .given .1)), one-within (start .pre .0 .term-table) (start .pre .2) (start .args .names .now) 6 (c .before .before .before .call-one .ensures) (c .before .first .given .1))
+    chooses (rule-5-valid _ _ _ _ (one-found (start .pre .0) (start .pre .2) valid (c .before .before .before .call-one .ensures) (c .before .first .given .1))) (one-within (start .pre .0 .term-table) (start .pre .2) (start .args .names .now) 6 (c .before .before .before .call-one .ensures) (c .before .first .given .1))
 
 enum-told : tie.Need-enum-told
 enum-told c = c .match .keys2
@@ -34,7 +34,7 @@ returns-2 : tie.Need-returns-2
 unfolding Within
 returns-2 c =
     let start = c .before .before .before .before .before .before .before .before .before .before .before in
-    (rule-5-type _ _ _ _ (one-no (start .pre .0) (start .pre .2) valid (c .before .before .before .before .before .before .call-one .ensures) (c .before .before .before .before .enum-told .given .1)) (two-found (start .pre .0) (start .pre .2) has-type (c .before .before .before .call-two .ensures) (c .before .first2 .given .1)), two-within (start .pre .0 .term-table) (start .pre .2) (start .args .names .now) 3 (c .before .before .before .call-two .ensures) (c .before .first2 .given .1) .0)
+    chooses (rule-5-type _ _ _ _ (one-no (start .pre .0) (start .pre .2) valid (c .before .before .before .before .before .before .call-one .ensures) (c .before .before .before .before .enum-told .given .1)) (two-found (start .pre .0) (start .pre .2) has-type (c .before .before .before .call-two .ensures) (c .before .first2 .given .1))) (two-within (start .pre .0 .term-table) (start .pre .2) (start .args .names .now) 3 (c .before .before .before .call-two .ensures) (c .before .first2 .given .1) .0)
 
 enum-told-2 : tie.Need-enum-told-2
 enum-told-2 c = c .match2 .keys2
@@ -51,7 +51,7 @@ returns-3 : tie.Need-returns-3
 unfolding Within
 returns-3 c =
     let start = c .before .before .before .before .before .before .before .before .before .before .before .before .before .before in
-    (rule-5-function _ _ _ _ (one-no (start .pre .0) (start .pre .2) valid (c .before .before .before .before .before .before .before .before .before .call-one .ensures) (c .before .before .before .before .before .before .before .enum-told .given .1)) (two-no (start .pre .0) (start .pre .2) has-type (c .before .before .before .before .before .before .call-two .ensures) (c .before .before .before .before .enum-told2 .given .1)) (one-found (start .pre .0) (start .pre .2) is-tot-fun (c .before .before .before .call-one2 .ensures) (c .before .first3 .given .1)), one-within (start .pre .0 .term-table) (start .pre .2) (start .args .names .now) 22 (c .before .before .before .call-one2 .ensures) (c .before .first3 .given .1))
+    chooses (rule-5-function _ _ _ _ (one-no (start .pre .0) (start .pre .2) valid (c .before .before .before .before .before .before .before .before .before .call-one .ensures) (c .before .before .before .before .before .before .before .enum-told .given .1)) (two-no (start .pre .0) (start .pre .2) has-type (c .before .before .before .before .before .before .call-two .ensures) (c .before .before .before .before .enum-told2 .given .1)) (one-found (start .pre .0) (start .pre .2) is-tot-fun (c .before .before .before .call-one2 .ensures) (c .before .first3 .given .1))) (one-within (start .pre .0 .term-table) (start .pre .2) (start .args .names .now) 22 (c .before .before .before .call-one2 .ensures) (c .before .first3 .given .1))
 
 enum-told-3 : tie.Need-enum-told-3
 enum-told-3 c = c .match3 .keys2
@@ -68,7 +68,7 @@ returns-4 : tie.Need-returns-4
 unfolding Within
 returns-4 c =
     let start = c .before .before .before .before .before .before .before .before .before .before .before .before .before .before .before .before .before in
-    (rule-5-arrow _ _ _ _ (one-no (start .pre .0) (start .pre .2) valid (c .before .before .before .before .before .before .before .before .before .before .before .before .call-one .ensures) (c .before .before .before .before .before .before .before .before .before .before .enum-told .given .1)) (two-no (start .pre .0) (start .pre .2) has-type (c .before .before .before .before .before .before .before .before .before .call-two .ensures) (c .before .before .before .before .before .before .before .enum-told2 .given .1)) (one-no (start .pre .0) (start .pre .2) is-tot-fun (c .before .before .before .before .before .before .call-one2 .ensures) (c .before .before .before .before .enum-told3 .given .1)) (one-found (start .pre .0) (start .pre .2) is-tm-arrow (c .before .before .before .call-one3 .ensures) (c .before .first4 .given .1)), one-within (start .pre .0 .term-table) (start .pre .2) (start .args .names .now) 23 (c .before .before .before .call-one3 .ensures) (c .before .first4 .given .1))
+    chooses (rule-5-arrow _ _ _ _ (one-no (start .pre .0) (start .pre .2) valid (c .before .before .before .before .before .before .before .before .before .before .before .before .call-one .ensures) (c .before .before .before .before .before .before .before .before .before .before .enum-told .given .1)) (two-no (start .pre .0) (start .pre .2) has-type (c .before .before .before .before .before .before .before .before .before .call-two .ensures) (c .before .before .before .before .before .before .before .enum-told2 .given .1)) (one-no (start .pre .0) (start .pre .2) is-tot-fun (c .before .before .before .before .before .before .call-one2 .ensures) (c .before .before .before .before .enum-told3 .given .1)) (one-found (start .pre .0) (start .pre .2) is-tm-arrow (c .before .before .before .call-one3 .ensures) (c .before .first4 .given .1))) (one-within (start .pre .0 .term-table) (start .pre .2) (start .args .names .now) 23 (c .before .before .before .call-one3 .ensures) (c .before .first4 .given .1))
 
 enum-told-4 : tie.Need-enum-told-4
 enum-told-4 c = c .match4 .keys2
@@ -77,7 +77,7 @@ returns-5 : tie.Need-returns-5
 unfolding Within
 returns-5 c =
     let start = c .before .before .before .before .before .before .before .before .before .before .before .before .before .before .before .before in
-    (rule-5-other _ _ _ _ (one-no (start .pre .0) (start .pre .2) valid (c .before .before .before .before .before .before .before .before .before .before .before .call-one .ensures) (c .before .before .before .before .before .before .before .before .before .enum-told .given .1)) (two-no (start .pre .0) (start .pre .2) has-type (c .before .before .before .before .before .before .before .before .call-two .ensures) (c .before .before .before .before .before .before .enum-told2 .given .1)) (one-no (start .pre .0) (start .pre .2) is-tot-fun (c .before .before .before .before .before .call-one2 .ensures) (c .before .before .before .enum-told3 .given .1)) (one-no (start .pre .0) (start .pre .2) is-tm-arrow (c .before .before .call-one3 .ensures) (c .enum-told4 .given .1)), tt)
+    holds-not (rule-5-other _ _ _ _ (one-no (start .pre .0) (start .pre .2) valid (c .before .before .before .before .before .before .before .before .before .before .before .call-one .ensures) (c .before .before .before .before .before .before .before .before .before .enum-told .given .1)) (two-no (start .pre .0) (start .pre .2) has-type (c .before .before .before .before .before .before .before .before .call-two .ensures) (c .before .before .before .before .before .before .enum-told2 .given .1)) (one-no (start .pre .0) (start .pre .2) is-tot-fun (c .before .before .before .before .before .call-one2 .ensures) (c .before .before .before .enum-told3 .given .1)) (one-no (start .pre .0) (start .pre .2) is-tm-arrow (c .before .before .call-one3 .ensures) (c .enum-told4 .given .1)))
 
 pub rule-5-spec : {M : Type 1} → statement M
 rule-5-spec = tie.close (tie.spec call-one-requires enum-known-first returns enum-told call-two-requires enum-known-first-2 returns-2 enum-told-2 call-one-requires-2 enum-known-first-3 returns-3 enum-told-3 call-one-requires-3 enum-known-first-4 returns-4 enum-told-4 returns-5)

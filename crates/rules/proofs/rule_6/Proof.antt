@@ -1,7 +1,7 @@
 -- `rules::rule_6` meets its contract: an `eq` of two, then its right.
 use Rattle.rules.proofs.Meaning.{eq-word, one-found, one-no, one-within, op-two-found, op-two-no, op-within, term-constr-id}
 use Rattle.rules.proofs.Rules.{rule-6-holds, rule-6-other, rule-6-right}
-use Rattle.rules.specs.Choices.{Within}
+use Rattle.rules.specs.Choices.{Within, holds-not, chooses}
 use Rattle.rules.proofs.rule_6.Statement.{statement}
 use Rattle.rules.proofs.rule_6.Tie as tie
 
@@ -20,7 +20,7 @@ returns : tie.Need-returns
 unfolding Within
 returns c =
     let start = c .before .before .before .before .before .before .before in
-    (rule-6-other _ _ _ _ (op-two-no (start .pre .0) (start .pre .2) eq-word (c .before .before .op-two .ensures) (c .enum-told .given .1)), tt)
+    holds-not (rule-6-other _ _ _ _ (op-two-no (start .pre .0) (start .pre .2) eq-word (c .before .before .op-two .ensures) (c .enum-told .given .1)))
 
 call-one-requires : tie.Need-call-one-requires
 call-one-requires c κs =
@@ -38,14 +38,14 @@ unfolding Within
 returns-2 c =
     let start = c .before .before .before .before .before .before .before .before .before .before .before in
     let right = op-within (start .pre .0 .term-table) (start .pre .2) 2 (c .before .before .before .before .before .before .op-two .ensures) (c .before .before .before .before .right .given .1) .1 in
-    (rule-6-right _ _ _ _ (op-two-found (start .pre .0) (start .pre .2) eq-word (c .before .before .before .before .before .before .op-two .ensures) (c .before .before .before .before .right .given .1)) (one-no (start .pre .0) right term-constr-id (c .before .before .call-one .ensures) (c .enum-told2 .given .1)), tt)
+    holds-not (rule-6-right _ _ _ _ (op-two-found (start .pre .0) (start .pre .2) eq-word (c .before .before .before .before .before .before .op-two .ensures) (c .before .before .before .before .right .given .1)) (one-no (start .pre .0) right term-constr-id (c .before .before .call-one .ensures) (c .enum-told2 .given .1)))
 
 returns-3 : tie.Need-returns-3
 unfolding Within
 returns-3 c =
     let start = c .before .before .before .before .before .before .before .before .before .before .before .before in
     let right = op-within (start .pre .0 .term-table) (start .pre .2) 2 (c .before .before .before .before .before .before .before .op-two .ensures) (c .before .before .before .before .before .right .given .1) .1 in
-    (rule-6-holds _ _ _ _ (op-two-found (start .pre .0) (start .pre .2) eq-word (c .before .before .before .before .before .before .before .op-two .ensures) (c .before .before .before .before .before .right .given .1)) (one-found (start .pre .0) right term-constr-id (c .before .before .before .call-one .ensures) (c .before .argument .given .1)), one-within (start .pre .0 .term-table) right (start .args .names .now) 24 (c .before .before .before .call-one .ensures) (c .before .argument .given .1))
+    chooses (rule-6-holds _ _ _ _ (op-two-found (start .pre .0) (start .pre .2) eq-word (c .before .before .before .before .before .before .before .op-two .ensures) (c .before .before .before .before .before .right .given .1)) (one-found (start .pre .0) right term-constr-id (c .before .before .before .call-one .ensures) (c .before .argument .given .1))) (one-within (start .pre .0 .term-table) right (start .args .names .now) 24 (c .before .before .before .call-one .ensures) (c .before .argument .given .1))
 
 pub rule-6-spec : {M : Type 1} → statement M
 rule-6-spec = tie.close (tie.spec op-two-requires enum-known-right enum-told returns call-one-requires enum-known-argument enum-told-2 returns-2 returns-3)

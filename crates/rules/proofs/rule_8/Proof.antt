@@ -2,7 +2,7 @@
 use Rattle.model.specs.Names.{bytes}
 use Rattle.rules.proofs.Meaning.{eq-word, op-two-found, op-two-no, op-within}
 use Rattle.rules.proofs.Rules.{rule-8-holds, rule-8-name, rule-8-other}
-use Rattle.rules.specs.Choices.{Within}
+use Rattle.rules.specs.Choices.{Within, holds-not, chooses}
 use borrow.Author.Needs.{needs}
 use borrow.Author.Tests.{not-false, not-true}
 use Rattle.rules.proofs.rule_8.Statement.{statement}
@@ -23,7 +23,7 @@ returns : tie.Need-returns
 unfolding Within
 returns c =
     let start = c .before .before .before .before .before .before .before in
-    (rule-8-other _ _ _ _ (op-two-no (start .pre .0) (start .pre .2) eq-word (c .before .before .op-two .ensures) (c .enum-told .given .1)), tt)
+    holds-not (rule-8-other _ _ _ _ (op-two-no (start .pre .0) (start .pre .2) eq-word (c .before .before .op-two .ensures) (c .enum-told .given .1)))
 
 slice-aggregate-name-starts : tie.Need-slice-aggregate-name-starts
 slice-aggregate-name-starts c = search needs
@@ -37,13 +37,13 @@ returns-2 : tie.Need-returns-2
 unfolding Within bytes
 returns-2 c =
     let start = c .before .before .before .before .before .before .before .before .before .before .before in
-    (rule-8-name _ _ _ _ (op-two-found (start .pre .0) (start .pre .2) eq-word (c .before .before .before .before .before .before .op-two .ensures) (c .before .before .before .before .left .given .1)) (c .before .name-starts .ensures) (not-true _ (c .if1 .taken)), tt)
+    holds-not (rule-8-name _ _ _ _ (op-two-found (start .pre .0) (start .pre .2) eq-word (c .before .before .before .before .before .before .op-two .ensures) (c .before .before .before .before .left .given .1)) (c .before .name-starts .ensures) (not-true _ (c .if1 .taken)))
 
 returns-3 : tie.Need-returns-3
 unfolding Within bytes
 returns-3 c =
     let start = c .before .before .before .before .before .before .before .before .before .before .before in
-    (rule-8-holds _ _ _ _ (op-two-found (start .pre .0) (start .pre .2) eq-word (c .before .before .before .before .before .before .op-two .ensures) (c .before .before .before .before .left .given .1)) (c .before .name-starts .ensures) (not-false _ (c .if1 .left)), op-within (start .pre .0 .term-table) (start .pre .2) 2 (c .before .before .before .before .before .before .op-two .ensures) (c .before .before .before .before .left .given .1) .0)
+    chooses (rule-8-holds _ _ _ _ (op-two-found (start .pre .0) (start .pre .2) eq-word (c .before .before .before .before .before .before .op-two .ensures) (c .before .before .before .before .left .given .1)) (c .before .name-starts .ensures) (not-false _ (c .if1 .left))) (op-within (start .pre .0 .term-table) (start .pre .2) 2 (c .before .before .before .before .before .before .op-two .ensures) (c .before .before .before .before .left .given .1) .0)
 
 pub rule-8-spec : {M : Type 1} → statement M
 rule-8-spec = tie.close (tie.spec op-two-requires enum-known-left enum-told returns slice-aggregate-name-starts name-starts-requires returns-2 returns-3)

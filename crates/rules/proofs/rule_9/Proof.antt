@@ -1,7 +1,7 @@
 -- `rules::rule_9` meets its contract: an `iff` of two, then its sides.
 use Rattle.rules.proofs.Meaning.{iff-word, op-two-found, op-two-no, op-within}
 use Rattle.rules.proofs.Rules.{rule-9-both, rule-9-left, rule-9-other, rule-9-right}
-use Rattle.rules.specs.Choices.{Within}
+use Rattle.rules.specs.Choices.{Within, holds-not, chooses}
 use Rattle.rules.proofs.rule_9.Statement.{statement}
 use Rattle.rules.proofs.rule_9.Tie as tie
 
@@ -20,7 +20,7 @@ returns : tie.Need-returns
 unfolding Within
 returns c =
     let start = c .before .before .before .before .before .before .before in
-    (rule-9-other _ _ _ _ (op-two-no (start .pre .0) (start .pre .2) iff-word (c .before .before .op-two .ensures) (c .enum-told .given .1)), tt)
+    holds-not (rule-9-other _ _ _ _ (op-two-no (start .pre .0) (start .pre .2) iff-word (c .before .before .op-two .ensures) (c .enum-told .given .1)))
 
 has-eq-requires : tie.Need-has-eq-requires
 has-eq-requires c κs =
@@ -37,7 +37,7 @@ returns-2 : tie.Need-returns-2
 unfolding Within
 returns-2 c =
     let start = c .before .before .before .before .before .before .before .before .before .before .before in
-    (rule-9-left _ _ _ _ (op-two-found (start .pre .0) (start .pre .2) iff-word (c .before .before .before .before .before .before .op-two .ensures) (c .before .before .before .before .left .given .1)) (c .before .before .has-eq .ensures .0) (c .enum-told2 .given .1), op-within (start .pre .0 .term-table) (start .pre .2) 1 (c .before .before .before .before .before .before .op-two .ensures) (c .before .before .before .before .left .given .1))
+    chooses (rule-9-left _ _ _ _ (op-two-found (start .pre .0) (start .pre .2) iff-word (c .before .before .before .before .before .before .op-two .ensures) (c .before .before .before .before .left .given .1)) (c .before .before .has-eq .ensures .0) (c .enum-told2 .given .1)) (op-within (start .pre .0 .term-table) (start .pre .2) 1 (c .before .before .before .before .before .before .op-two .ensures) (c .before .before .before .before .left .given .1))
 
 has-eq-requires-2 : tie.Need-has-eq-requires-2
 has-eq-requires-2 c κs =
@@ -54,13 +54,13 @@ returns-3 : tie.Need-returns-3
 unfolding Within
 returns-3 c =
     let start = c .before .before .before .before .before .before .before .before .before .before .before .before .before .before .before in
-    (rule-9-right _ _ _ _ (op-two-found (start .pre .0) (start .pre .2) iff-word (c .before .before .before .before .before .before .before .before .before .before .op-two .ensures) (c .before .before .before .before .before .before .before .before .left .given .1)) (c .before .before .before .before .before .before .has-eq .ensures .0) (c .before .before .before .before .ty .given .1) (c .before .before .has-eq2 .ensures .0) (c .enum-told4 .given .1), op-within (start .pre .0 .term-table) (start .pre .2) 1 (c .before .before .before .before .before .before .before .before .before .before .op-two .ensures) (c .before .before .before .before .before .before .before .before .left .given .1))
+    chooses (rule-9-right _ _ _ _ (op-two-found (start .pre .0) (start .pre .2) iff-word (c .before .before .before .before .before .before .before .before .before .before .op-two .ensures) (c .before .before .before .before .before .before .before .before .left .given .1)) (c .before .before .before .before .before .before .has-eq .ensures .0) (c .before .before .before .before .ty .given .1) (c .before .before .has-eq2 .ensures .0) (c .enum-told4 .given .1)) (op-within (start .pre .0 .term-table) (start .pre .2) 1 (c .before .before .before .before .before .before .before .before .before .before .op-two .ensures) (c .before .before .before .before .before .before .before .before .left .given .1))
 
 returns-4 : tie.Need-returns-4
 unfolding Within
 returns-4 c =
     let start = c .before .before .before .before .before .before .before .before .before .before .before .before .before .before .before in
-    (rule-9-both _ _ _ _ (op-two-found (start .pre .0) (start .pre .2) iff-word (c .before .before .before .before .before .before .before .before .before .before .op-two .ensures) (c .before .before .before .before .before .before .before .before .left .given .1)) (c .before .before .before .before .before .before .has-eq .ensures .0) (c .before .before .before .before .ty .given .1) (c .before .before .has-eq2 .ensures .0) (c .enum-told3 .given .1), c .before .before .before .before .before .before .has-eq .ensures .1 _ (c .before .before .before .before .ty .given .1))
+    chooses (rule-9-both _ _ _ _ (op-two-found (start .pre .0) (start .pre .2) iff-word (c .before .before .before .before .before .before .before .before .before .before .op-two .ensures) (c .before .before .before .before .before .before .before .before .left .given .1)) (c .before .before .before .before .before .before .has-eq .ensures .0) (c .before .before .before .before .ty .given .1) (c .before .before .has-eq2 .ensures .0) (c .enum-told3 .given .1)) (c .before .before .before .before .before .before .has-eq .ensures .1 _ (c .before .before .before .before .ty .given .1))
 
 pub rule-9-spec : {M : Type 1} → statement M
 rule-9-spec = tie.close (tie.spec op-two-requires enum-known-left enum-told returns has-eq-requires enum-known-ty enum-told-2 returns-2 has-eq-requires-2 enum-told-3 enum-told-4 returns-3 returns-4)

@@ -1,5 +1,6 @@
 -- `rules::token` meets its contract: by the kind and the count.
-use Rattle.rules.proofs.Looking.{count-ready, head-free, row-ready}
+use Rattle.rules.proofs.Looking.{count-ready, row-ready}
+use Rattle.terms.proofs.Laws.{head-free}
 use Rattle.rules.proofs.Meaning.{call-headed, head-within, token-call, token-free, token-more, token-other}
 use Rattle.rules.proofs.Rules.{token-is, token-not}
 use Rattle.rules.specs.Choices.{Within}

@@ -16,8 +16,10 @@ add-triggers-of-list c = search needs
 
 triggers-of-list-requires : tie.Need-triggers-of-list-requires
 triggers-of-list-requires c κs =
-    let start = c .before .before .before .before .before .before .before .before .before .before .before in
-    let asks = parts-asks (start .pre .0) (start .pre .2) (c .before .before .before .before .before .start .ensures) (c .before .before .before .end .ensures) in
+    let back = c .before .before .before .before .before .before .before .before in
+    let start = back .before .before .before in
+    let after-start = c .before .before .before .before .before .start in
+    let asks = parts-asks (start .pre .0) (start .pre .2) (after-start .ensures) (c .before .before .before .end .ensures) in
     (start .pre .0, begun-opened (start .pre .1) (omega arith) (omega arith), asks .0, asks .1, asks .2)
 
 filed-requires : tie.Need-filed-requires
@@ -25,8 +27,13 @@ filed-requires c κs = search needs
 
 returns : tie.Need-returns
 returns c =
-    let start = c .before .before .before .before .before .before .before .before .before .before .before .before .before .before .before .before .before .before .before in
-    parts-sorts (start .args .t) (start .pre .0) (start .pre .2) (c .before .before .before .before .before .before .before .before .before .before .before .before .before .start .ensures) (c .before .before .before .before .before .before .before .before .before .before .before .end .ensures) (c .before .before .before .before .before .before .before .triggers-of-list .ensures .0) (c .before .before .before .before .before .before .before .triggers-of-list .ensures .1 .0) (c .before .before .before .before .before .before .before .triggers-of-list .ensures .1 .1) (c .filed .ensures)
+    let back = c .before .before .before .before .before .before .before .before in
+    let back2 = back .before .before .before .before .before .before .before .before in
+    let start = back2 .before .before .before in
+    let after-triggers-of-list = c .before .before .before .before .before .before .before .triggers-of-list in
+    let after-end = back .before .before .before .end in
+    let after-start = back .before .before .before .before .before .start in
+    parts-sorts (start .args .t) (start .pre .0) (start .pre .2) (after-start .ensures) (after-end .ensures) (after-triggers-of-list .ensures .0) (after-triggers-of-list .ensures .1 .0) (after-triggers-of-list .ensures .1 .1) (c .filed .ensures)
 
 same-length : tie.Need-same-length
 same-length c = returns c .0 .marks .names-same .same-length

@@ -7,22 +7,41 @@ use Rattle.summary.proofs.file_refinement.Statement.{statement}
 use Rattle.summary.proofs.file_refinement.Tie as tie
 
 is-empty-requires : tie.Need-is-empty-requires
-is-empty-requires c κs = (c .before .before .before .before .before .before .before .pre .0, begun-opened (c .before .before .before .before .before .before .before .pre .1) (omega arith) (omega arith), c .before .before .before .before .before .before .before .pre .2)
+is-empty-requires c κs =
+    let start = c .before .before .before .before .before .before .before in
+    (start .pre .0, begun-opened (start .pre .1) (omega arith) (omega arith), start .pre .2)
 
 returns : tie.Need-returns
-returns c = refinement-empty (c .before .before .before .before .before .before .before .before .before .before .before .before .before .before .before .args .t) (c .before .before .before .before .before .before .before .before .before .before .before .before .before .before .before .pre .0) (c .before .before .before .before .before .before .before .is-empty .ensures .0) (c .before .before .before .before .before .before .before .is-empty .ensures .1 .0) (c .before .before .before .before .before .before .before .is-empty .ensures .1 .1) (c .if1 .taken) (c .before .before .before .before .before .before .before .before .before .before .before .before .before .before .before .pre .1 .low)
+returns c =
+    let back = c .before .before .before .before .before .before .before .before in
+    let start = back .before .before .before .before .before .before .before in
+    let after-is-empty = c .before .before .before .before .before .before .before .is-empty in
+    refinement-empty (start .args .t) (start .pre .0) (after-is-empty .ensures .0) (after-is-empty .ensures .1 .0) (after-is-empty .ensures .1 .1) (c .if1 .taken) (start .pre .1 .low)
 
 add-triggers-of-term : tie.Need-add-triggers-of-term
 add-triggers-of-term c = search needs
 
 triggers-of-term-requires : tie.Need-triggers-of-term-requires
-triggers-of-term-requires c κs = (rows-marked (c .before .before .before .before .before .before .before .before .before .before .is-empty .ensures .1 .0 .1) (c .before .before .before .before .before .before .before .before .before .before .before .before .before .before .before .before .before .before .pre .0), begun-then (c .before .before .before .before .before .before .before .before .before .before .before .before .before .before .before .before .before .before .pre .1) (c .before .before .before .before .before .before .before .before .before .before .is-empty .ensures .1 .0) (c .before .before .before .before .before .before .before .before .before .before .is-empty .ensures .1 .1 .out-words), c .before .before .before .before .before .before .before .before .before .before .before .before .before .before .before .before .before .before .pre .2)
+triggers-of-term-requires c κs =
+    let back = c .before .before .before .before .before .before .before .before in
+    let back2 = back .before .before .before .before .before .before .before .before in
+    let start = back2 .before .before in
+    let after-is-empty = back .before .before .is-empty in
+    (rows-marked (after-is-empty .ensures .1 .0 .1) (start .pre .0), begun-then (start .pre .1) (after-is-empty .ensures .1 .0) (after-is-empty .ensures .1 .1 .out-words), start .pre .2)
 
 filed-requires : tie.Need-filed-requires
 filed-requires c κs = search needs
 
 returns-2 : tie.Need-returns-2
-returns-2 c = refinement-more (c .before .before .before .before .before .before .before .before .before .before .before .before .before .before .before .before .before .before .before .before .before .before .before .before .before .before .args .t) (c .before .before .before .before .before .before .before .before .before .before .before .before .before .before .before .before .before .before .before .before .before .before .before .before .before .before .pre .0) (c .before .before .before .before .before .before .before .before .before .before .before .before .before .before .before .before .before .before .is-empty .ensures .0) (c .before .before .before .before .before .before .before .before .before .before .before .before .before .before .before .before .before .before .is-empty .ensures .1 .0) (c .before .before .before .before .before .before .before .before .before .before .before .before .before .before .before .before .before .before .is-empty .ensures .1 .1) (c .before .before .before .before .before .before .before .before .before .before .before .if1 .left) (c .before .before .before .before .before .before .before .triggers-of-term .ensures .0) (c .before .before .before .before .before .before .before .triggers-of-term .ensures .1 .0) (c .before .before .before .before .before .before .before .triggers-of-term .ensures .1 .1) (c .filed .ensures)
+returns-2 c =
+    let back = c .before .before .before .before .before .before .before .before in
+    let back2 = back .before .before .before .before .before .before .before .before in
+    let back3 = back2 .before .before .before .before .before .before .before .before in
+    let start = back3 .before .before in
+    let after-triggers-of-term = c .before .before .before .before .before .before .before .triggers-of-term in
+    let after-if1 = back .before .before .before .if1 in
+    let after-is-empty = back2 .before .before .is-empty in
+    refinement-more (start .args .t) (start .pre .0) (after-is-empty .ensures .0) (after-is-empty .ensures .1 .0) (after-is-empty .ensures .1 .1) (after-if1 .left) (after-triggers-of-term .ensures .0) (after-triggers-of-term .ensures .1 .0) (after-triggers-of-term .ensures .1 .1) (c .filed .ensures)
 
 same-length : tie.Need-same-length
 same-length c = returns c .0 .marks .names-same .same-length

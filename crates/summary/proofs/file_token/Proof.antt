@@ -17,19 +17,27 @@ at-requires-2 : tie.Need-at-requires-2
 at-requires-2 c κs = search needs
 
 add-e : tie.Need-add-e
-add-e c = omega (arith, token-inside (c .before .before .before .before .before .before .before .pre .0) (c .before .before .before .before .before .before .before .pre .1) (c .before .before .at .ensures) (c .at2 .ensures), c .before .before .before .before .before .before .before .pre .0 .short)
+add-e c =
+    let start = c .before .before .before .before .before .before .before in
+    omega (arith, token-inside (start .pre .0) (start .pre .1) (c .before .before .at .ensures) (c .at2 .ensures), start .pre .0 .short)
 
 slice-aggregate-ends-with : tie.Need-slice-aggregate-ends-with
 slice-aggregate-ends-with c = search needs
 
 ends-with-requires : tie.Need-ends-with-requires
-ends-with-requires c κs = (omega arith, token-inside (c .before .before .before .before .before .before .before .before .pre .0) (c .before .before .before .before .before .before .before .before .pre .1) (c .before .before .before .at .ensures) (c .before .at2 .ensures))
+ends-with-requires c κs =
+    let start = c .before .before .before .before .before .before .before .before in
+    (omega arith, token-inside (start .pre .0) (start .pre .1) (c .before .before .before .at .ensures) (c .before .at2 .ensures))
 
 returns : tie.Need-returns
 unfolding bytes
 returns c =
-    let no = token-ends (c .before .before .before .before .before .before .before .before .before .before .before .pre .0) (c .before .before .before .before .before .before .before .before .before .before .before .pre .1) (c .before .before .before .before .before .before .at .ensures) (c .before .before .before .before .at2 .ensures) (c .before .before .ends-with .ensures) (not-true _ (c .before .if1 .taken)) in
-    token-over (c .before .before .before .before .before .before .before .before .before .before .before .pre .0) (c .before .before .before .before .before .before .before .before .before .before .before .pre .1) (c .before .before .before .before .before .before .at .ensures) (c .before .before .before .before .at2 .ensures) no (c .if2 .taken)
+    let back = c .before .before .before .before .before .before .before .before in
+    let start = back .before .before .before in
+    let after-at2 = c .before .before .before .before .at2 in
+    let after-at = c .before .before .before .before .before .before .at in
+    let no = token-ends (start .pre .0) (start .pre .1) (after-at .ensures) (after-at2 .ensures) (c .before .before .ends-with .ensures) (not-true _ (c .before .if1 .taken)) in
+    token-over (start .pre .0) (start .pre .1) (after-at .ensures) (after-at2 .ensures) no (c .if2 .taken)
 
 add-out : tie.Need-add-out
 add-out c = search needs
@@ -49,20 +57,32 @@ add-t24 c = search needs
 returns-2 : tie.Need-returns-2
 unfolding bytes
 returns-2 c =
-    let no = token-ends (c .before .before .before .before .before .before .before .before .before .before .before .pre .0) (c .before .before .before .before .before .before .before .before .before .before .before .pre .1) (c .before .before .before .before .before .before .at .ensures) (c .before .before .before .before .at2 .ensures) (c .before .before .ends-with .ensures) (not-true _ (c .before .if1 .taken)) in
-    token-one (c .before .before .before .before .before .before .before .before .before .before .before .pre .0) (c .before .before .before .before .before .before .before .before .before .before .before .pre .1) (c .before .before .before .before .before .before .at .ensures) (c .before .before .before .before .at2 .ensures) no (c .if2 .left) (c .before .before .before .before .before .before .before .before .before .before .before .pre .3)
+    let back = c .before .before .before .before .before .before .before .before in
+    let start = back .before .before .before in
+    let after-at2 = c .before .before .before .before .at2 in
+    let after-at = c .before .before .before .before .before .before .at in
+    let no = token-ends (start .pre .0) (start .pre .1) (after-at .ensures) (after-at2 .ensures) (c .before .before .ends-with .ensures) (not-true _ (c .before .if1 .taken)) in
+    token-one (start .pre .0) (start .pre .1) (after-at .ensures) (after-at2 .ensures) no (c .if2 .left) (start .pre .3)
 
 sub-spell : tie.Need-sub-spell
 unfolding bytes
 sub-spell c =
-    let yes = token-ends (c .before .before .before .before .before .before .before .before .before .before .before .pre .0) (c .before .before .before .before .before .before .before .before .before .before .before .pre .1) (c .before .before .before .before .before .before .at .ensures) (c .before .before .before .before .at2 .ensures) (c .before .before .ends-with .ensures) (not-false _ (c .before .if1 .left)) in
-    token-asks (c .before .before .before .before .before .before .before .before .before .before .before .pre .0) (c .before .before .before .before .before .before .before .before .before .before .before .pre .1) (c .before .before .before .before .before .before .at .ensures) (c .before .before .before .before .at2 .ensures) yes .0
+    let back = c .before .before .before .before .before .before .before .before in
+    let start = back .before .before .before in
+    let after-at2 = c .before .before .before .before .at2 in
+    let after-at = c .before .before .before .before .before .before .at in
+    let yes = token-ends (start .pre .0) (start .pre .1) (after-at .ensures) (after-at2 .ensures) (c .before .before .ends-with .ensures) (not-false _ (c .before .if1 .left)) in
+    token-asks (start .pre .0) (start .pre .1) (after-at .ensures) (after-at2 .ensures) yes .0
 
 spell-requires : tie.Need-spell-requires
 unfolding bytes
 spell-requires c κs =
-    let yes = token-ends (c .before .before .before .before .before .before .before .before .before .before .before .pre .0) (c .before .before .before .before .before .before .before .before .before .before .before .pre .1) (c .before .before .before .before .before .before .at .ensures) (c .before .before .before .before .at2 .ensures) (c .before .before .ends-with .ensures) (not-false _ (c .before .if1 .left)) in
-    (c .before .before .before .before .before .before .before .before .before .before .before .pre .0, token-asks (c .before .before .before .before .before .before .before .before .before .before .before .pre .0) (c .before .before .before .before .before .before .before .before .before .before .before .pre .1) (c .before .before .before .before .before .before .at .ensures) (c .before .before .before .before .at2 .ensures) yes .1, token-asks (c .before .before .before .before .before .before .before .before .before .before .before .pre .0) (c .before .before .before .before .before .before .before .before .before .before .before .pre .1) (c .before .before .before .before .before .before .at .ensures) (c .before .before .before .before .at2 .ensures) yes .2)
+    let back = c .before .before .before .before .before .before .before .before in
+    let start = back .before .before .before in
+    let after-at2 = c .before .before .before .before .at2 in
+    let after-at = c .before .before .before .before .before .before .at in
+    let yes = token-ends (start .pre .0) (start .pre .1) (after-at .ensures) (after-at2 .ensures) (c .before .before .ends-with .ensures) (not-false _ (c .before .if1 .left)) in
+    (start .pre .0, token-asks (start .pre .0) (start .pre .1) (after-at .ensures) (after-at2 .ensures) yes .1, token-asks (start .pre .0) (start .pre .1) (after-at .ensures) (after-at2 .ensures) yes .2)
 
 enum-known-m : tie.Need-enum-known-m
 enum-known-m c = search needs
@@ -70,8 +90,16 @@ enum-known-m c = search needs
 put-two-requires : tie.Need-put-two-requires
 unfolding bytes
 put-two-requires c κs =
-    let yes = token-ends (c .before .before .before .before .before .before .before .before .before .before .before .before .before .before .before .before .before .before .pre .0) (c .before .before .before .before .before .before .before .before .before .before .before .before .before .before .before .before .before .before .pre .1) (c .before .before .before .before .before .before .before .before .before .before .before .before .before .at .ensures) (c .before .before .before .before .before .before .before .before .before .before .before .at2 .ensures) (c .before .before .before .before .before .before .before .before .before .ends-with .ensures) (not-false _ (c .before .before .before .before .before .before .before .before .if1 .left)) in
-    (omega (arith, c .before .before .before .before .before .before .before .before .before .before .before .before .before .before .before .before .before .before .pre .1, c .before .before .before .before .before .before .before .before .before .before .before .before .before .before .before .before .before .before .pre .0 .few), token-known-small (c .before .before .before .before .before .before .before .before .before .before .before .before .before .before .before .before .before .before .pre .0) (c .before .before .before .before .before .before .before .before .before .before .before .before .before .before .before .before .before .before .pre .1) (c .before .before .before .before .before .before .before .before .before .before .before .before .before .at .ensures) (c .before .before .before .before .before .before .before .before .before .before .before .at2 .ensures) yes (c .before .before .before .before .before .before .spell .ensures .0) (c .before .before .before .before .before .before .spell .ensures .1) (c .before .before .m .given .1), c .before .before .before .before .before .before .before .before .before .before .before .before .before .before .before .before .before .before .pre .2, c .before .before .before .before .before .before .before .before .before .before .before .before .before .before .before .before .before .before .pre .3)
+    let back = c .before .before .before .before .before .before .before .before in
+    let back2 = back .before .before .before .before .before .before .before .before in
+    let start = back2 .before .before in
+    let after-spell = c .before .before .before .before .before .before .spell in
+    let after-if1 = back .if1 in
+    let after-ends-with = back .before .ends-with in
+    let after-at2 = back .before .before .before .at2 in
+    let after-at = back .before .before .before .before .before .at in
+    let yes = token-ends (start .pre .0) (start .pre .1) (after-at .ensures) (after-at2 .ensures) (after-ends-with .ensures) (not-false _ (after-if1 .left)) in
+    (omega (arith, start .pre .1, start .pre .0 .few), token-known-small (start .pre .0) (start .pre .1) (after-at .ensures) (after-at2 .ensures) yes (after-spell .ensures .0) (after-spell .ensures .1) (c .before .before .m .given .1), start .pre .2, start .pre .3)
 
 enum-known-m-2 : tie.Need-enum-known-m-2
 enum-known-m-2 c = search needs
@@ -82,8 +110,16 @@ add-put-two c = search needs
 put-two-requires-2 : tie.Need-put-two-requires-2
 unfolding bytes
 put-two-requires-2 c κs =
-    let yes = token-ends (c .before .before .before .before .before .before .before .before .before .before .before .before .before .before .before .before .before .before .pre .0) (c .before .before .before .before .before .before .before .before .before .before .before .before .before .before .before .before .before .before .pre .1) (c .before .before .before .before .before .before .before .before .before .before .before .before .before .at .ensures) (c .before .before .before .before .before .before .before .before .before .before .before .at2 .ensures) (c .before .before .before .before .before .before .before .before .before .ends-with .ensures) (not-false _ (c .before .before .before .before .before .before .before .before .if1 .left)) in
-    (omega (arith, c .before .before .before .before .before .before .before .before .before .before .before .before .before .before .before .before .before .before .pre .1, c .before .before .before .before .before .before .before .before .before .before .before .before .before .before .before .before .before .before .pre .0 .few), token-new-small (c .before .before .before .before .before .before .before .before .before .before .before .before .before .before .before .before .before .before .pre .0) (c .before .before .before .before .before .before .before .before .before .before .before .before .before .before .before .before .before .before .pre .1) (c .before .before .before .before .before .before .before .before .before .before .before .before .before .at .ensures) (c .before .before .before .before .before .before .before .before .before .before .before .at2 .ensures) yes (c .before .before .before .before .before .before .spell .ensures .0) (c .before .before .before .before .before .before .spell .ensures .1) (c .before .before .m2 .given .1), c .before .before .before .before .before .before .before .before .before .before .before .before .before .before .before .before .before .before .pre .2, c .before .before .before .before .before .before .before .before .before .before .before .before .before .before .before .before .before .before .pre .3)
+    let back = c .before .before .before .before .before .before .before .before in
+    let back2 = back .before .before .before .before .before .before .before .before in
+    let start = back2 .before .before in
+    let after-spell = c .before .before .before .before .before .before .spell in
+    let after-if1 = back .if1 in
+    let after-ends-with = back .before .ends-with in
+    let after-at2 = back .before .before .before .at2 in
+    let after-at = back .before .before .before .before .before .at in
+    let yes = token-ends (start .pre .0) (start .pre .1) (after-at .ensures) (after-at2 .ensures) (after-ends-with .ensures) (not-false _ (after-if1 .left)) in
+    (omega (arith, start .pre .1, start .pre .0 .few), token-new-small (start .pre .0) (start .pre .1) (after-at .ensures) (after-at2 .ensures) yes (after-spell .ensures .0) (after-spell .ensures .1) (c .before .before .m2 .given .1), start .pre .2, start .pre .3)
 
 enum-told : tie.Need-enum-told
 enum-told c = search needs
@@ -91,20 +127,45 @@ enum-told c = search needs
 returns-3 : tie.Need-returns-3
 unfolding bytes
 returns-3 c =
-    let yes = token-ends (c .before .before .before .before .before .before .before .before .before .before .before .before .before .before .before .before .before .before .before .before .before .pre .0) (c .before .before .before .before .before .before .before .before .before .before .before .before .before .before .before .before .before .before .before .before .before .pre .1) (c .before .before .before .before .before .before .before .before .before .before .before .before .before .before .before .before .at .ensures) (c .before .before .before .before .before .before .before .before .before .before .before .before .before .before .at2 .ensures) (c .before .before .before .before .before .before .before .before .before .before .before .before .ends-with .ensures) (not-false _ (c .before .before .before .before .before .before .before .before .before .before .before .if1 .left)) in
-    token-known (c .before .before .before .before .before .before .before .before .before .before .before .before .before .before .before .before .before .before .before .before .before .pre .0) (c .before .before .before .before .before .before .before .before .before .before .before .before .before .before .before .before .before .before .before .before .before .pre .1) (c .before .before .before .before .before .before .before .before .before .before .before .before .before .before .before .before .at .ensures) (c .before .before .before .before .before .before .before .before .before .before .before .before .before .before .at2 .ensures) yes (c .before .before .before .before .before .before .before .before .before .spell .ensures .0) (c .before .before .before .before .before .before .before .before .before .spell .ensures .1) (c .before .before .before .before .before .m .given .1) (c .before .before .before .before .before .before .before .before .before .before .before .before .before .before .before .before .before .before .before .before .before .pre .3) (c .before .before .put-two .ensures)
+    let back = c .before .before .before .before .before .before .before .before in
+    let back2 = back .before .before .before .before .before .before .before .before in
+    let start = back2 .before .before .before .before .before in
+    let after-m = c .before .before .before .before .before .m in
+    let after-spell = back .before .spell in
+    let after-if1 = back .before .before .before .if1 in
+    let after-ends-with = back .before .before .before .before .ends-with in
+    let after-at2 = back .before .before .before .before .before .before .at2 in
+    let after-at = back2 .at in
+    let yes = token-ends (start .pre .0) (start .pre .1) (after-at .ensures) (after-at2 .ensures) (after-ends-with .ensures) (not-false _ (after-if1 .left)) in
+    token-known (start .pre .0) (start .pre .1) (after-at .ensures) (after-at2 .ensures) yes (after-spell .ensures .0) (after-spell .ensures .1) (after-m .given .1) (start .pre .3) (c .before .before .put-two .ensures)
 
 returns-4 : tie.Need-returns-4
 unfolding bytes
 returns-4 c =
-    let yes = token-ends (c .before .before .before .before .before .before .before .before .before .before .before .before .before .before .before .before .before .before .before .before .before .pre .0) (c .before .before .before .before .before .before .before .before .before .before .before .before .before .before .before .before .before .before .before .before .before .pre .1) (c .before .before .before .before .before .before .before .before .before .before .before .before .before .before .before .before .at .ensures) (c .before .before .before .before .before .before .before .before .before .before .before .before .before .before .at2 .ensures) (c .before .before .before .before .before .before .before .before .before .before .before .before .ends-with .ensures) (not-false _ (c .before .before .before .before .before .before .before .before .before .before .before .if1 .left)) in
-    token-new (c .before .before .before .before .before .before .before .before .before .before .before .before .before .before .before .before .before .before .before .before .before .pre .0) (c .before .before .before .before .before .before .before .before .before .before .before .before .before .before .before .before .before .before .before .before .before .pre .1) (c .before .before .before .before .before .before .before .before .before .before .before .before .before .before .before .before .at .ensures) (c .before .before .before .before .before .before .before .before .before .before .before .before .before .before .at2 .ensures) yes (c .before .before .before .before .before .before .before .before .before .spell .ensures .0) (c .before .before .before .before .before .before .before .before .before .spell .ensures .1) (c .before .before .before .before .before .m2 .given .1) (c .before .before .before .before .before .before .before .before .before .before .before .before .before .before .before .before .before .before .before .before .before .pre .3) (c .before .before .put-two2 .ensures)
+    let back = c .before .before .before .before .before .before .before .before in
+    let back2 = back .before .before .before .before .before .before .before .before in
+    let start = back2 .before .before .before .before .before in
+    let after-m2 = c .before .before .before .before .before .m2 in
+    let after-spell = back .before .spell in
+    let after-if1 = back .before .before .before .if1 in
+    let after-ends-with = back .before .before .before .before .ends-with in
+    let after-at2 = back .before .before .before .before .before .before .at2 in
+    let after-at = back2 .at in
+    let yes = token-ends (start .pre .0) (start .pre .1) (after-at .ensures) (after-at2 .ensures) (after-ends-with .ensures) (not-false _ (after-if1 .left)) in
+    token-new (start .pre .0) (start .pre .1) (after-at .ensures) (after-at2 .ensures) yes (after-spell .ensures .0) (after-spell .ensures .1) (after-m2 .given .1) (start .pre .3) (c .before .before .put-two2 .ensures)
 
 returns-5 : tie.Need-returns-5
 unfolding bytes
 returns-5 c =
-    let yes = token-ends (c .before .before .before .before .before .before .before .before .before .before .before .before .before .before .before .before .pre .0) (c .before .before .before .before .before .before .before .before .before .before .before .before .before .before .before .before .pre .1) (c .before .before .before .before .before .before .before .before .before .before .before .at .ensures) (c .before .before .before .before .before .before .before .before .before .at2 .ensures) (c .before .before .before .before .before .before .before .ends-with .ensures) (not-false _ (c .before .before .before .before .before .before .if1 .left)) in
-    token-full (c .before .before .before .before .before .before .before .before .before .before .before .before .before .before .before .before .pre .0) (c .before .before .before .before .before .before .before .before .before .before .before .before .before .before .before .before .pre .1) (c .before .before .before .before .before .before .before .before .before .before .before .at .ensures) (c .before .before .before .before .before .before .before .before .before .at2 .ensures) yes (c .before .before .before .before .spell .ensures .0) (c .before .before .before .before .spell .ensures .1) (c .enum-told .given .1)
+    let back = c .before .before .before .before .before .before .before .before in
+    let start = back .before .before .before .before .before .before .before .before in
+    let after-spell = c .before .before .before .before .spell in
+    let after-if1 = c .before .before .before .before .before .before .if1 in
+    let after-ends-with = c .before .before .before .before .before .before .before .ends-with in
+    let after-at2 = back .before .at2 in
+    let after-at = back .before .before .before .at in
+    let yes = token-ends (start .pre .0) (start .pre .1) (after-at .ensures) (after-at2 .ensures) (after-ends-with .ensures) (not-false _ (after-if1 .left)) in
+    token-full (start .pre .0) (start .pre .1) (after-at .ensures) (after-at2 .ensures) yes (after-spell .ensures .0) (after-spell .ensures .1) (c .enum-told .given .1)
 
 same-length : tie.Need-same-length
 same-length c = search needs

@@ -7,28 +7,46 @@ use Rattle.summary.proofs.finish.Statement.{statement}
 use Rattle.summary.proofs.finish.Tie as tie
 
 cast-gather-term : tie.Need-cast-gather-term
-cast-gather-term c = omega (arith, c .before .before .before .before .before .before .before .pre .4)
+cast-gather-term c =
+    let start = c .before .before .before .before .before .before .before in
+    omega (arith, start .pre .4)
 
 gather-term-requires : tie.Need-gather-term-requires
-gather-term-requires c κs = (c .before .before .before .before .before .before .before .pre .0, c .before .before .before .before .before .before .before .pre .1, c .before .before .before .before .before .before .before .pre .2, c .before .before .before .before .before .before .before .pre .3, omega (arith, c .before .before .before .before .before .before .before .pre .6), omega (arith, c .before .before .before .before .before .before .before .pre .7))
+gather-term-requires c κs =
+    let start = c .before .before .before .before .before .before .before in
+    (start .pre .0, start .pre .1, start .pre .2, start .pre .3, omega (arith, start .pre .6), omega (arith, start .pre .7))
 
 enum-known-n : tie.Need-enum-known-n
 enum-known-n c = search needs
 
 sub-t24 : tie.Need-sub-t24
-sub-t24 c = omega (arith, c .before .before .before .before .before .before .before .before .before .before .before .before .before .before .before .before .before .pre .5)
+sub-t24 c =
+    let back = c .before .before .before .before .before .before .before .before in
+    let start = back .before .before .before .before .before .before .before .before .before in
+    omega (arith, start .pre .5)
 
 add-t25 : tie.Need-add-t25
-add-t25 c = omega (arith, c .before .before .before .before .before .before .before .before .before .before .before .before .before .before .before .before .before .pre .4)
+add-t25 c =
+    let back = c .before .before .before .before .before .before .before .before in
+    let start = back .before .before .before .before .before .before .before .before .before in
+    omega (arith, start .pre .4)
 
 enum-told : tie.Need-enum-told
 enum-told c = search needs
 
 returns : tie.Need-returns
-returns c = record { walked = c .before .before .before .before .before .before .before .before .before .gather-term .result; answer = ap (finished (c .before .before .before .before .before .before .before .before .before .before .before .before .before .before .before .before .before .args .kind) (c .before .before .before .before .before .before .before .before .before .before .before .before .before .before .before .before .before .args .end) (c .before .before .before .before .before .before .before .before .before .before .before .before .before .before .before .before .before .args .total) (c .before .before .before .before .before .before .before .before .before .before .before .before .before .before .before .before .before .args .mark)) (sym (c .before .n .given .1)); free-names = c .before .before .before .before .before .before .before .before .before .gather-term .ensures .0; slices = c .before .before .before .before .before .before .before .before .before .gather-term .ensures .1 .0; words-as = c .before .before .before .before .before .before .before .before .before .gather-term .ensures .1 .1 }
+returns c =
+    let back = c .before .before .before .before .before .before .before .before in
+    let start = back .before .before .before .before .before .before .before .before .before in
+    let after-gather-term = back .before .gather-term in
+    record { walked = after-gather-term .result; answer = ap (finished (start .args .kind) (start .args .end) (start .args .total) (start .args .mark)) (sym (c .before .n .given .1)); free-names = after-gather-term .ensures .0; slices = after-gather-term .ensures .1 .0; words-as = after-gather-term .ensures .1 .1 }
 
 returns-2 : tie.Need-returns-2
-returns-2 c = record { walked = c .before .before .before .before .before .before .before .before .gather-term .result; answer = ap (finished (c .before .before .before .before .before .before .before .before .before .before .before .before .before .before .before .before .args .kind) (c .before .before .before .before .before .before .before .before .before .before .before .before .before .before .before .before .args .end) (c .before .before .before .before .before .before .before .before .before .before .before .before .before .before .before .before .args .total) (c .before .before .before .before .before .before .before .before .before .before .before .before .before .before .before .before .args .mark)) (sym (c .enum-told .given .1)); free-names = c .before .before .before .before .before .before .before .before .gather-term .ensures .0; slices = c .before .before .before .before .before .before .before .before .gather-term .ensures .1 .0; words-as = c .before .before .before .before .before .before .before .before .gather-term .ensures .1 .1 }
+returns-2 c =
+    let back = c .before .before .before .before .before .before .before .before in
+    let start = back .before .before .before .before .before .before .before .before in
+    let after-gather-term = back .gather-term in
+    record { walked = after-gather-term .result; answer = ap (finished (start .args .kind) (start .args .end) (start .args .total) (start .args .mark)) (sym (c .enum-told .given .1)); free-names = after-gather-term .ensures .0; slices = after-gather-term .ensures .1 .0; words-as = after-gather-term .ensures .1 .1 }
 
 same-length : tie.Need-same-length
 same-length c = returns c .slices .names-same .same-length

@@ -7,6 +7,9 @@ use borrow.Author.Needs.{needs}
 use Rattle.summary.proofs.put_two.Statement.{statement}
 use Rattle.summary.proofs.put_two.Tie as tie
 
+add-if1 : tie.Need-add-if1
+add-if1 c = omega arith
+
 returns : tie.Need-returns
 returns c = over (omega arith) refl
 
@@ -37,8 +40,8 @@ mul-out-2 c = search needs
 slice-write-out-2 : tie.Need-slice-write-out-2
 slice-write-out-2 c = simp length-set (omega arith)
 
-add-t8 : tie.Need-add-t8
-add-t8 c = search needs
+add-t6 : tie.Need-add-t6
+add-t6 c = search needs
 
 same-length : tie.Need-same-length
 same-length c = search needs
@@ -50,6 +53,7 @@ pub put-two-spec : {M : Type 1} → statement M
 put-two-spec =
     tie.close
     (tie.spec
+    add-if1
     returns
     add-out
     cast-out
@@ -60,6 +64,6 @@ put-two-spec =
     add-out-3
     mul-out-2
     slice-write-out-2
-    add-t8
+    add-t6
     same-length
     returns-2)

@@ -35,6 +35,12 @@ same-length c = search needs
 returns-2 : tie.Need-returns-2
 returns-2 c = close-over (c .before .before .before .pre .0) (c .before .if1 .left) (c .if2 .taken)
 
+add-out-2 : tie.Need-add-out-2
+add-out-2 c = omega arith
+
+cast-out-2 : tie.Need-cast-out-2
+cast-out-2 c = omega arith
+
 mul-out-2 : tie.Need-mul-out-2
 mul-out-2 c = omega arith
 
@@ -64,6 +70,8 @@ close-spec =
     same-length
     returns
     returns-2
+    add-out-2
+    cast-out-2
     mul-out-2
     slice-write-out-2
     add-t13

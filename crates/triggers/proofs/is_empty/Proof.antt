@@ -16,7 +16,10 @@ pattern-groups-requires c κs =
 returns : tie.Need-returns
 returns c =
     let start = c .before .before .before .before .before .before .before .before in
-    (λ name d. empty-none (start .pre .0) (start .pre .2) (c .before .before .pattern-groups .ensures .0) (c .if1 .taken) name, (tables-kept _ _ _ (start .pre .1 .fresh), asked-none (start .args .refs .now) (start .args .used) (start .args .many) (start .args .names .now) (start .args .rows .now) (start .args .out .now) (start .args .t) (start .args .mark) (c .before .before .pattern-groups .ensures .0) (c .if1 .taken)))
+    let a = start .args in
+    let groups = c .before .before .pattern-groups .ensures .0 in
+    let words = asked-none (a .refs .now) (a .used) (a .many) (a .names .now) (a .rows .now) (a .out .now) (a .t) (a .mark) groups (c .if1 .taken) in
+    (λ exclude name d. empty-none (start .pre .0) (start .pre .2) groups (c .if1 .taken) exclude name, (tables-kept _ _ _ (start .pre .1 .fresh), words))
 
 same-length : tie.Need-same-length
 same-length c = refl
@@ -24,27 +27,59 @@ same-length c = refl
 returns-2 : tie.Need-returns-2
 returns-2 c =
     let start = c .before .before .before .before .before .before .before .before .before .before in
-    (λ name d. empty-more (start .pre .0) (start .pre .2) (all-there (start .pre .0) (start .pre .2) (c .before .before .before .before .pattern-groups .ensures .0) (c .before .before .if1 .left) refl (c .before .before .before .before .pattern-groups .ensures .2)) (c .before .before .if1 .left) (c .if2 .taken) name, (tables-kept _ _ _ (start .pre .1 .fresh), asked-more (start .args .refs .now) (start .args .used) (start .args .many) (start .args .names .now) (start .args .rows .now) (start .args .out .now) (start .args .t) (start .args .mark) (c .before .before .before .before .pattern-groups .ensures .0) (c .before .before .if1 .left) (c .if2 .taken)))
+    let after-pattern-groups = c .before .before .before .before .pattern-groups in
+    let a = start .args in
+    let patterns = after-pattern-groups .ensures in
+    let some = c .before .before .if1 .left in
+    let all = all-there (start .pre .0) (start .pre .2) (patterns .0) some refl (patterns .2) in
+    let words = asked-more (a .refs .now) (a .used) (a .many) (a .names .now) (a .rows .now) (a .out .now) (a .t) (a .mark) (patterns .0) some (c .if2 .taken) in
+    (λ exclude name d. empty-more (start .pre .0) (start .pre .2) all some (c .if2 .taken) exclude name, (tables-kept _ _ _ (start .pre .1 .fresh), words))
 
 same-length-2 : tie.Need-same-length-2
 same-length-2 c = refl
 
 cast-gather-list : tie.Need-cast-gather-list
-cast-gather-list c = omega (arith, c .before .before .before .before .before .before .before .before .before .before .before .before .before .pre .1 .few-marks)
+cast-gather-list c =
+    let back = c .before .before .before .before .before .before .before .before in
+    let start = back .before .before .before .before .before in
+    omega (arith, start .pre .1 .few-marks)
 
 gather-list-requires : tie.Need-gather-list-requires
 gather-list-requires c κs =
-    let start = c .before .before .before .before .before .before .before .before .before .before .before .before .before in
-    let asks = single-asks (start .pre .0) (start .pre .2) (all-there (start .pre .0) (start .pre .2) (c .before .before .before .before .before .before .before .pattern-groups .ensures .0) (c .before .before .before .before .before .if1 .left) refl (c .before .before .before .before .before .before .before .pattern-groups .ensures .2)) (c .before .before .before .if2 .left) (c .before .before .before .before .before .before .before .pattern-groups .ensures .1) in
-    (start .pre .0, start .pre .1 .name-room, asks .0, asks .1, asks .2, start .pre .1 .fresh, omega arith, omega (arith, start .pre .1 .low, start .pre .1 .high))
+    let back = c .before .before .before .before .before .before .before .before in
+    let start = back .before .before .before .before .before in
+    let after-if1 = c .before .before .before .before .before .if1 in
+    let after-pattern-groups = c .before .before .before .before .before .before .before .pattern-groups in
+    let patterns = after-pattern-groups .ensures in
+    let all = all-there (start .pre .0) (start .pre .2) (patterns .0) (after-if1 .left) refl (patterns .2) in
+    let asks = single-asks (start .pre .0) (start .pre .2) all (c .before .before .before .if2 .left) (patterns .1) in
+    let opened = start .pre .1 in
+    (start .pre .0, opened .name-room, asks .0, asks .1, asks .2, opened .fresh, omega arith, omega (arith, opened .low, opened .high))
 
 enum-told : tie.Need-enum-told
 enum-told c = c .match .keys1
 
 returns-3 : tie.Need-returns-3
 returns-3 c =
-    let start = c .before .before .before .before .before .before .before .before .before .before .before .before .before .before .before .before .before .before .before .before .before .before in
-    (λ name d. single-empty (start .pre .0) (start .pre .2) (all-there (start .pre .0) (start .pre .2) (c .before .before .before .before .before .before .before .before .before .before .before .before .before .before .before .before .pattern-groups .ensures .0) (c .before .before .before .before .before .before .before .before .before .before .before .before .before .before .if1 .left) refl (c .before .before .before .before .before .before .before .before .before .before .before .before .before .before .before .before .pattern-groups .ensures .2)) (c .before .before .before .before .before .before .before .before .before .before .before .before .if2 .left) (c .before .before .before .before .before .before .before .before .before .before .before .before .before .before .before .before .pattern-groups .ensures .1) (c .enum-told .given .1) (c .before .before .before .before .before .before .before .before .gather-list .ensures .0 name d), (tables-gathered (start .pre .1 .fresh) (c .before .before .before .before .before .before .before .before .gather-list .ensures .1 .0), single-none (start .pre .0) (start .pre .2) (all-there (start .pre .0) (start .pre .2) (c .before .before .before .before .before .before .before .before .before .before .before .before .before .before .before .before .pattern-groups .ensures .0) (c .before .before .before .before .before .before .before .before .before .before .before .before .before .before .if1 .left) refl (c .before .before .before .before .before .before .before .before .before .before .before .before .before .before .before .before .pattern-groups .ensures .2)) (c .before .before .before .before .before .before .before .before .before .before .before .before .if2 .left) (c .before .before .before .before .before .before .before .before .before .before .before .before .before .before .before .before .pattern-groups .ensures .1) (c .before .before .before .before .before .before .before .before .gather-list .ensures .1 .0) (c .before .before .before .before .before .before .before .before .gather-list .ensures .1 .1) (c .enum-told .given .1)))
+    let back = c .before .before .before .before .before .before .before .before in
+    let back2 = back .before .before .before .before .before .before .before .before in
+    let start = back2 .before .before .before .before .before .before in
+    let after-gather-list = back .gather-list in
+    let after-if2 = back .before .before .before .before .if2 in
+    let after-if1 = back .before .before .before .before .before .before .if1 in
+    let after-pattern-groups = back2 .pattern-groups in
+    let patterns = after-pattern-groups .ensures in
+    let one = after-if2 .left in
+    let gathered = after-gather-list .ensures in
+    let is = c .enum-told .given .1 in
+    let all = all-there (start .pre .0) (start .pre .2) (patterns .0) (after-if1 .left) refl (patterns .2) in
+    (
+      λ exclude name d. single-empty (start .pre .0) (start .pre .2) all one (patterns .1) exclude is (gathered .0 exclude name d),
+      (
+        tables-gathered (start .pre .1 .fresh) (gathered .1 .0),
+        single-none (start .pre .0) (start .pre .2) all one (patterns .1) (gathered .1 .0) (gathered .1 .1) is,
+      ),
+    )
 
 same-length-3 : tie.Need-same-length-3
 same-length-3 c = returns-3 c .1 .0 .0 .same-length
@@ -60,8 +95,25 @@ enum-told-2 c = c .match .keys2
 
 returns-4 : tie.Need-returns-4
 returns-4 c =
-    let start = c .before .before .before .before .before .before .before .before .before .before .before .before .before .before .before .before .before .before .before .before .before .before in
-    (λ name d. single-full (start .pre .0) (start .pre .2) (all-there (start .pre .0) (start .pre .2) (c .before .before .before .before .before .before .before .before .before .before .before .before .before .before .before .before .pattern-groups .ensures .0) (c .before .before .before .before .before .before .before .before .before .before .before .before .before .before .if1 .left) refl (c .before .before .before .before .before .before .before .before .before .before .before .before .before .before .before .before .pattern-groups .ensures .2)) (c .before .before .before .before .before .before .before .before .before .before .before .before .if2 .left) (c .before .before .before .before .before .before .before .before .before .before .before .before .before .before .before .before .pattern-groups .ensures .1) (c .enum-told2 .given .1) (c .before .before .before .before .before .before .before .before .gather-list .ensures .0 name d), (tables-gathered (start .pre .1 .fresh) (c .before .before .before .before .before .before .before .before .gather-list .ensures .1 .0), single-some (start .pre .0) (start .pre .2) (all-there (start .pre .0) (start .pre .2) (c .before .before .before .before .before .before .before .before .before .before .before .before .before .before .before .before .pattern-groups .ensures .0) (c .before .before .before .before .before .before .before .before .before .before .before .before .before .before .if1 .left) refl (c .before .before .before .before .before .before .before .before .before .before .before .before .before .before .before .before .pattern-groups .ensures .2)) (c .before .before .before .before .before .before .before .before .before .before .before .before .if2 .left) (c .before .before .before .before .before .before .before .before .before .before .before .before .before .before .before .before .pattern-groups .ensures .1) (c .before .before .before .before .before .before .before .before .gather-list .ensures .1 .0) (c .before .before .before .before .before .before .before .before .gather-list .ensures .1 .1) (c .enum-told2 .given .1)))
+    let back = c .before .before .before .before .before .before .before .before in
+    let back2 = back .before .before .before .before .before .before .before .before in
+    let start = back2 .before .before .before .before .before .before in
+    let after-gather-list = back .gather-list in
+    let after-if2 = back .before .before .before .before .if2 in
+    let after-if1 = back .before .before .before .before .before .before .if1 in
+    let after-pattern-groups = back2 .pattern-groups in
+    let patterns = after-pattern-groups .ensures in
+    let one = after-if2 .left in
+    let gathered = after-gather-list .ensures in
+    let is = c .enum-told2 .given .1 in
+    let all = all-there (start .pre .0) (start .pre .2) (patterns .0) (after-if1 .left) refl (patterns .2) in
+    (
+      λ exclude name d. single-full (start .pre .0) (start .pre .2) all one (patterns .1) exclude is (gathered .0 exclude name d),
+      (
+        tables-gathered (start .pre .1 .fresh) (gathered .1 .0),
+        single-some (start .pre .0) (start .pre .2) all one (patterns .1) (gathered .1 .0) (gathered .1 .1) is,
+      ),
+    )
 
 same-length-6 : tie.Need-same-length-6
 same-length-6 c = returns-4 c .1 .0 .0 .same-length

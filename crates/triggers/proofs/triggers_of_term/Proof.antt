@@ -4,7 +4,7 @@ use native.Mathlib.Omega.{arith}
 use mathlib.Core.Path.{refl}
 use mathlib.Core.List.{map}
 use Rattle.model.specs.Lists.{fold-left}
-use Rattle.model.specs.Summaries.{exclude-names, group-names}
+use Rattle.model.specs.Summaries.{group-names}
 use Rattle.terms.specs.Rows.{row-start, row-end, groups-of-words, terms-of, bare-of}
 use Rattle.terms.proofs.Groups.{Before}
 use Rattle.gather.proofs.Walking.{rows-marked}
@@ -21,7 +21,7 @@ Inv-loop names₀ refs rows₀ out₀ named used many t mark at groups a₀ e en
     All refs rows₀ used many t groups (bare-of rows₀ t) e
     × (g ≤ groups)
     × Before refs (row-start rows₀ (bare-of rows₀ t) + 1) (row-end rows₀ used many (bare-of rows₀ t)) g a
-    × Comes names₀ rows₀ out₀ names rows out named mark at (λ name. map (group-names exclude-names (terms-of name refs rows₀ used many)) (groups-of-words (patterns refs rows₀ used many (bare-of rows₀ t)) g)) (fold-left (file-list refs used many) (filing names₀ rows₀ out₀ mark at) (groups-of-words (patterns refs rows₀ used many (bare-of rows₀ t)) g)) g (filed.Sets g end)
+    × Comes names₀ rows₀ out₀ names rows out named mark at (λ exclude name. map (group-names exclude (terms-of name refs rows₀ used many)) (groups-of-words (patterns refs rows₀ used many (bare-of rows₀ t)) g)) (fold-left (file-list refs used many) (filing names₀ rows₀ out₀ mark at) (groups-of-words (patterns refs rows₀ used many (bare-of rows₀ t)) g)) g (filed.Sets g end)
 
 abbrev μ-loop : tie.MeasureT-loop
 μ-loop names₀ refs rows₀ out₀ named used many t mark at groups a₀ e end₀ g₀ names rows out a end g = groups - g
