@@ -1,0 +1,4 @@
+pub mod Columns
+pub mod States
+pub mod Filing
+pub mod Macros
