@@ -1,0 +1,14 @@
+pub mod Numbers
+pub mod Marks
+pub mod Visited
+pub mod Visits
+pub mod Firing
+pub mod Round
+pub mod Meeting
+pub mod Rounds
+pub mod Running
+pub mod Starting
+pub mod Opened
+pub mod Visiting
+pub mod Chaining
+pub mod Phases
