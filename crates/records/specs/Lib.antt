@@ -2,3 +2,4 @@ pub mod Columns
 pub mod States
 pub mod Filing
 pub mod Macros
+pub mod Adding
