@@ -13,7 +13,7 @@ use Rattle.gather.specs.Sets.{Same-but}
 use Rattle.terms.proofs.Laws.{equal}
 use Rattle.records.specs.Columns.{entry-column, fact-column, next-column, first-column, last-entry, no-name, entry-name, entry-fact, next-entry, first-entry}
 use Rattle.records.specs.Filing.{newest, Chained}
-use Rattle.records.specs.Adding.{Chains}
+use Rattle.records.specs.Writing.{Chains}
 
 -- the newest number of functions that agree
 pub newest-cong : (f g : ℕ → ℕ) (n e : ℕ) → ((d : ℕ) → d < e → f d ≡ g d) → newest f n e ≡ newest g n e

@@ -9,7 +9,7 @@ use lib.ListN.{length, getD, set, drop, length-set, drop-of-length-le}
 use lib.Seq.{getD-set-same, getD-set-other, drop-cons}
 use Rattle.model.specs.Reading.{most-records}
 use Rattle.records.specs.Columns.{record-word}
-use Rattle.records.specs.Adding.{put-row}
+use Rattle.records.specs.Writing.{put-row}
 
 -- one word more
 pub put-on : (recs : List ℕ) (i c : ℕ) (row : List ℕ) → c < length row

@@ -6,7 +6,7 @@ ghost use lib.ListN.{length};
 ghost use Rattle.model.specs.Reading.{most-names, most-records, most-entries, no-ambients, pretyping-axioms, prune-decls};
 ghost use Rattle.records.specs.States.{asks};
 ghost use Rattle.records.specs.Filing.{Chained};
-ghost use Rattle.records.specs.Adding.{put-row, Chains};
+ghost use Rattle.records.specs.Writing.{put-row, Chains};
 
 // What a line comes to: on with these counts, or its refusal.
 pub enum Step {

@@ -3,7 +3,7 @@ use Prim.Native.Nat.{ℕ, _+_, _-_, _%_, _≤_, _<_}
 use mathlib.Core.Path.{_≡_, refl, sym, _∙_, ap}
 use lib.ListN.{length, getD, length-set}
 use Rattle.records.specs.Columns.{last-entry}
-use Rattle.records.specs.Adding.{Chains}
+use Rattle.records.specs.Writing.{Chains}
 use Rattle.records.proofs.Chaining.{chain-start, chain-none, chain-one, chain-end}
 use borrow.Author.Needs.{needs}
 use native.Mathlib.Omega.{arith}

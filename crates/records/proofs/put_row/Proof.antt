@@ -2,7 +2,7 @@
 use Prim.Native.Nat.{_+_, _-_, _≤_}
 use mathlib.Core.Path.{_≡_, refl, sym, _∙_}
 use lib.ListN.{length, drop}
-use Rattle.records.specs.Adding.{put-row}
+use Rattle.records.specs.Writing.{put-row}
 use Rattle.records.proofs.Rows.{put-on, put-end}
 use borrow.Author.Needs.{needs}
 use native.Mathlib.Omega.{arith}
