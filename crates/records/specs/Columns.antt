@@ -159,8 +159,8 @@ abbrev pub first-column : ℕ
 first-column = 14336
 
 -- the assume, fun or def record that took a name and one, or 0
-abbrev pub taken-by : List ℕ → ℕ → ℕ
-taken-by names n = getD names (taken-column + n) 0
+abbrev pub taken-at : List ℕ → ℕ → ℕ
+taken-at names n = getD names (taken-column + n) 0
 
 -- the macro word of a name
 abbrev pub macro-at : List ℕ → ℕ → ℕ

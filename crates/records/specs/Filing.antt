@@ -10,7 +10,7 @@ use Rattle.model.specs.Names.{Name}
 use Rattle.model.specs.Reading.{most-names, most-records, most-entries, most-uses}
 use Rattle.names.specs.Table.{name-of}
 use Rattle.triggers.specs.Entries.{disjuncts-of, entries}
-use Rattle.records.specs.Columns.{record-kind, record-name, uses-start, uses-end, entries-start, entries-end, assume-kind, retain-kind, root-kind, last-entry, no-name, entry-word, entry-name, entry-fact, next-entry, taken-by, first-entry}
+use Rattle.records.specs.Columns.{record-kind, record-name, uses-start, uses-end, entries-start, entries-end, assume-kind, retain-kind, root-kind, last-entry, no-name, entry-word, entry-name, entry-fact, next-entry, taken-at, first-entry}
 use Rattle.records.specs.States.{entries-at}
 
 -- the record table: each row has its kind, its name (a retain has none) and its two lists, and the words in use are numbers of
@@ -57,9 +57,9 @@ pub record Filing (name : ℕ → Name) (recs out : List ℕ) (records filed : �
 
 -- the taken column says which assume, fun or def took a name
 pub record Taken (names recs : List ℕ) (records : ℕ) : Type 0 where
-  pub took : (i : ℕ) → i < records → record-kind recs i < retain-kind → taken-by names (record-name recs i) ≡ i + 1
-  pub low : (n : ℕ) → n < most-names → taken-by names n ≤ records
-  pub takes : (n i : ℕ) → n < most-names → taken-by names n ≡ i + 1 → (record-kind recs i < retain-kind) × (record-name recs i ≡ n)
+  pub took : (i : ℕ) → i < records → record-kind recs i < retain-kind → taken-at names (record-name recs i) ≡ i + 1
+  pub low : (n : ℕ) → n < most-names → taken-at names n ≤ records
+  pub takes : (n i : ℕ) → n < most-names → taken-at names n ≡ i + 1 → (record-kind recs i < retain-kind) × (record-name recs i ≡ n)
 
 -- what filing keeps beside the record table
 pub record Stocked (file names recs out : List ℕ) (records filed : ℕ) : Type 0 where

@@ -7,7 +7,7 @@ use mathlib.Core.List.{List, [], _∷_}
 use lib.Dec.{eqb, leb, ltb}
 use Rattle.model.specs.declared.Counts.{Counts}
 use Rattle.names.specs.Table.{Table}
-use Rattle.records.specs.Columns.{record-kind, def-kind, taken-by, macro-at, name-code}
+use Rattle.records.specs.Columns.{record-kind, def-kind, taken-at, macro-at, name-code}
 use Rattle.records.specs.States.{uses-at}
 use Rattle.records.specs.Filing.{Records, newest, Stocked}
 
@@ -40,7 +40,7 @@ is-def recs taken = ltb 0 taken && eqb (record-kind recs (taken - 1)) def-kind
 -- the macro word of a name
 unfoldable pub macro-word : List ℕ → List ℕ → ℕ → ℕ → ℕ
 macro-word names recs named n =
-    cond (is-def recs (taken-by names n)) (taken-by names n) (start-word names named (name-code names n))
+    cond (is-def recs (taken-at names n)) (taken-at names n) (start-word names named (name-code names n))
 
 -- the numbers of the names that a macro word opens to
 unfoldable pub opens-at : List ℕ → List ℕ → ℕ → List ℕ

@@ -68,9 +68,13 @@ module _ (name : ℕ → Name) (recs out : List ℕ) where
   roots-of zero = []
   roots-of (suc n) = roots-of n ++ root-at name recs out n (record-kind recs n)
 
+-- the ask of a query and an options number
+abbrev pub asks : ℕ → ℕ → Ask
+asks query options = record { query = query; options = options }
+
 -- the ask that was read
 abbrev pub ask-of : Counts → Ask
-ask-of k = record { query = k .query; options = k .options }
+ask-of k = asks (k .query) (k .options)
 
 -- the tables as the state of `model`
 unfoldable pub state-of : List ℕ → List ℕ → List ℕ → List ℕ → List ℕ → List ℕ → Counts → State
