@@ -118,6 +118,7 @@ module _ {h : Held} {l w₀ : List ℕ} {a e r : ℕ} where
   unfolding opened-all collect
   all-end {w} {i} m p = sym (m .left ∙ rw (part-nil l i e p, marks-nil))
 
--- the uses of a record, where their ends were read
-pub uses-are : (recs out : List ℕ) (i a e : ℕ) → a ≡ uses-start recs i → e ≡ uses-end recs i → part out a e ≡ uses-at recs out i
-uses-are recs out i a e p q = rw (p, q)
+-- the free names of a record are all met
+pub uses-met : (h : Held) (r : ℕ) (w₀ w recs out : List ℕ) (i a e : ℕ) → a ≡ uses-start recs i → e ≡ uses-end recs i
+    → w ≡ marks r w₀ (opened-all h (part out a e)) → w ≡ marks r w₀ (opened-all h (uses-at recs out i))
+uses-met h r w₀ w recs out i a e p q m = rw (← p, ← q) m

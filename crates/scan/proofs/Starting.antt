@@ -27,9 +27,16 @@ use Rattle.scan.proofs.Numbers.{upto-elim, count-upto, count-none}
 
 -- ---- clearing
 
+pub clear-start : (w : List ℕ) → w ≡ cleared 0 w
+unfolding cleared
+clear-start w = refl
+
 pub clear-next : (n : ℕ) (w v : List ℕ) → v ≡ cleared n w → set v n 0 ≡ cleared (n + 1) w
 unfolding cleared
 clear-next n w v e = rw (add-one n, e)
+
+pub clear-end : {n m : ℕ} (w v : List ℕ) → v ≡ cleared n w → n ≤ m → m ≤ n → v ≡ cleared m w
+clear-end {n} {m} w v e a b = let z : n ≡ m = omega arith in subst (λ k. v ≡ cleared k w) z e
 
 pub clear-length : (n : ℕ) (w : List ℕ) → length (cleared n w) ≡ length w
 unfolding cleared
@@ -72,14 +79,45 @@ module _ (recs : List ℕ) (k : Counts) (i x : ℕ) (e : x ≡ record-kind recs 
 
 -- ---- the worklist
 
--- one record after the other
-pub push-skip : (test : ℕ → Bool) (n : ℕ) (g v : Going) (b : Bool) → v ≡ pushed test n g → b ≡ test n → b ≡ false → v ≡ pushed test (n + 1) g
-unfolding pushed
-push-skip test n g v b e p q = rw (add-one n, ← p, q) e
+-- a state with another end of the worklist
+abbrev with-end : Scan → ℕ → Scan
+with-end s to = record { from = s .from; to = to; visits = s .visits; rounds = s .rounds; triggered = s .triggered }
 
-pub push-next : (test : ℕ → Bool) (n : ℕ) (g v : Going) (b : Bool) → v ≡ pushed test n g → b ≡ test n → b ≡ true → push v n ≡ pushed test (n + 1) g
-unfolding pushed
-push-next test n g v b e p q = rw (add-one n, ← p, q, e)
+-- the first i of so many records are looked at
+pub record Adding (test : ℕ → Bool) (s : Scan) (w₀ : List ℕ) (count i to : ℕ) (w : List ℕ) : Type 0 where
+  pub within : i ≤ count
+  pub few : to ≤ s .to + i
+  pub same-length : length w ≡ length w₀
+  pub goes : going (with-end s to) w ≡ pushed test i (going s w₀)
+
+module _ {test : ℕ → Bool} {s : Scan} {w₀ : List ℕ} {count : ℕ} where
+  pub add-start : Adding test s w₀ count 0 (s .to) w₀
+  unfolding pushed
+  add-start = record { within = omega arith; few = omega arith; same-length = refl; goes = refl }
+
+  module _ {i to : ℕ} {w : List ℕ} (a : Adding test s w₀ count i to w) (l : i < count) {b : Bool} (p : b ≡ test i) where
+    pub add-skip : b ≡ false → Adding test s w₀ count (i + 1) to w
+    unfolding pushed
+    add-skip q =
+        let few = a .few in
+        record { within = omega arith; few = omega arith; same-length = a .same-length; goes = rw (add-one i, ← p, q) (a .goes) }
+
+    pub add-next : b ≡ true → Adding test s w₀ count (i + 1) (to + 1) (set w (work-column + to) i)
+    unfolding pushed push
+    add-next q =
+        let few = a .few in
+        record {
+          within = omega arith;
+          few = omega arith;
+          same-length = length-set w (work-column + to) i ∙ a .same-length;
+          goes = rw (add-one i, ← p, q, ← a .goes);
+        }
+
+  pub add-end : {i to : ℕ} {w : List ℕ} → Adding test s w₀ count i to w → count ≤ i → going (with-end s to) w ≡ pushed test count (going s w₀)
+  add-end {i} {to} {w} a l =
+      let k = a .within in
+      let e : i ≡ count = omega arith in
+      subst (λ n. going (with-end s to) w ≡ pushed test n (going s w₀)) e (a .goes)
 
 -- the worklist with these records behind it
 pub record Pushed (test : ℕ → Bool) (n : ℕ) (g v : Going) : Type 0 where

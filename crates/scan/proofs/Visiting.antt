@@ -4,17 +4,19 @@ use native.Mathlib.Omega.{arith}
 use mathlib.Core.Path.{_≡_, refl, sym, _∙_, ap}
 use mathlib.Core.Bool.{Bool, true, false, cond, not, _&&_, _||_}
 use mathlib.Core.List.{List}
-use lib.Dec.{eqb, ltb}
+use lib.Dec.{T, eqb, ltb}
 use lib.ListN.{length, getD, set}
-use borrow.Author.Tests.{eq-eqb, ne-eqb, lt-ltb}
+use borrow.Author.Tests.{eq-eqb, ne-eqb, lt-ltb, le-ltb}
 use Rattle.model.specs.Lists.{any, all, part}
 use Rattle.model.specs.Reading.{most-records, most-entries, pretyping-axioms}
 use Rattle.model.specs.declared.Counts.{Counts}
+use Rattle.model.proofs.ListLaws.{false-T}
 use Rattle.records.specs.Columns.{record-flag, entries-start, entries-end, entry-column, entry-fact}
 use Rattle.records.specs.States.{entries-at, ask-of}
 use Rattle.scan.specs.Tables.{retained, held-of, Laid}
-use Rattle.scan.specs.Steps.{Going, going, reached-column, work-column, is-met, is-reached, fires-in, fires-on, counted, reach, visit}
+use Rattle.scan.specs.Steps.{Going, going, reached-column, work-column, is-met, is-reached, fires-in, fires-on, counted, reach, visit, unreached, work-room, Room}
 use Rattle.scan.specs.declared.Scan.{Scan}
+use Rattle.scan.proofs.Numbers.{count-some}
 use Rattle.scan.proofs.Firing.{fires-exact}
 use Rattle.scan.proofs.Visits.{or-none}
 
@@ -37,6 +39,16 @@ positive v d = lt-ltb 0 v (omega (arith, d))
 -- one visit more
 abbrev seen : Scan → ℕ → List ℕ → Bool → Going
 seen s to w b = going (record { from = s .from; to = to; visits = s .visits + 1; rounds = s .rounds; triggered = b }) w
+
+-- there is a place behind the worklist while a record is not reached
+pub a-place : {g : Going} {i v : ℕ} → Room g → i < most-records → v ≡ getD (g .run) (reached-column + i) 0 → v ≡ 0 → g .scan .to < work-room
+unfolding unreached is-reached
+a-place {g} {i} {v} room l e z =
+    let w = g .run in
+    let u : T (not (ltb 0 (getD w (reached-column + i) 0))) = false-T (le-ltb 0 (getD w (reached-column + i) 0) (omega arith)) in
+    let left = count-some (λ j. not (is-reached w j)) most-records i l u in
+    let x = room .fits in
+    omega arith
 
 module _ {names recs out : List ℕ} {k : Counts} (laid : Laid names recs out k) (e i : ℕ) (l : e < k .entries) (p : i ≡ entry-fact out e) where
   -- the record of the entry
