@@ -14,12 +14,13 @@ use Rattle.model.specs.declared.Counts.{Counts}
 use Rattle.model.proofs.ListLaws.{fold-left-append}
 use Rattle.records.specs.Columns.{no-name, entry-name, next-entry, first-entry}
 use Rattle.records.specs.Filing.{newest}
+use Rattle.records.proofs.Chaining.{newest-low}
 use Rattle.scan.specs.Held.{Held, upto, waiting}
 use Rattle.scan.specs.Tables.{held-of, Laid}
 use Rattle.scan.specs.Steps.{Going, going, visit, visits-of, visited, Room, Steady}
 use Rattle.scan.specs.declared.Scan.{Scan}
 use Rattle.scan.proofs.Numbers.{count-upto}
-use Rattle.scan.proofs.Visited.{newest-le, newest-waiting, newest-name, waiting-first, visited-elim, visited-length}
+use Rattle.scan.proofs.Visited.{newest-waiting, newest-name, waiting-first, visited-elim, visited-length}
 use Rattle.scan.proofs.Visits.{Fired, room-then, visit-fired, visits-fired}
 
 -- ---- the chain of a name
@@ -44,7 +45,7 @@ module _ {names recs out : List ℕ} {k : Counts} (laid : Laid names recs out k)
   unfolding held-of
   chain-start g n p steady l e =
       let q : p ≡ newest (entry-name out) n (k .entries) = e ∙ laid .first n l in
-      let le = newest-le h n (k .entries) in
+      let le = newest-low (entry-name out) n (k .entries) in
       record {
         left = ap (visits-of h g) (newest-waiting h n (k .entries) ∙ ap (waiting h n) (sym q));
         rounds-same = refl;
@@ -76,7 +77,7 @@ module _ {names recs out : List ℕ} {k : Counts} (laid : Laid names recs out k)
 
     pub chain-less : {q : ℕ} → 0 < p → q ≡ next-entry out (p - 1) → q < p
     unfolding held-of
-    chain-less {q} l e = let m = next-is l e in let le = newest-le h n (p - 1) in omega arith
+    chain-less {q} l e = let m = next-is l e in let le = newest-low (entry-name out) n (p - 1) in omega arith
 
     pub chain-next : {v : Going} {q : ℕ} → 0 < p → v ≡ visit (held-of names recs out k) g (p - 1) → q ≡ next-entry out (p - 1)
         → Visited-to names recs out k g₀ n v q
@@ -89,7 +90,7 @@ module _ {names recs out : List ℕ} {k : Counts} (laid : Laid names recs out k)
         let one = visit-fired h (laid .fits) g (omega arith) (c .room) (p - 1) (omega arith) in
         let f = subst (λ x. Fired h g x ((p - 1) ∷ [])) (sym goes) one in
         let m : q ≡ newest (entry-name out) n (p - 1) = next-is l e in
-        let le = newest-le h n (p - 1) in
+        let le = newest-low (entry-name out) n (p - 1) in
         let up = f .visits-up in
         let vis = c .visits in
         record {

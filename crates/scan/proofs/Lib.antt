@@ -12,3 +12,8 @@ pub mod Opened
 pub mod Visiting
 pub mod Chaining
 pub mod Phases
+pub mod Listing
+pub mod Background
+pub mod Opening
+pub mod Joining
+pub mod Asking

@@ -213,6 +213,10 @@ pushed-is test (suc n) g a b c = go (test n) refl (pushed-is test n g a (omega a
         }
     go true e p = push-one test n p (true-T e) a b c
 
+-- the worklist behind a state that is known
+pub roots-on : (test : ℕ → Bool) (n : ℕ) {g₀ g v : Going} → g ≡ g₀ → v ≡ pushed test n g → v ≡ pushed test n g₀
+roots-on test n e p = p ∙ ap (pushed test n) e
+
 -- ---- the state before round 1
 
 -- a word that is zero marks nothing

@@ -7,7 +7,7 @@ use mathlib.Core.Logic.{_⊎_, inl, inr, ⊎-elim}
 use mathlib.Core.List.{List, [], _∷_, _++_, List·Memᴰ, List·Memᴰ·append-cases, List·Memᴰ·not-nil, Memᴰ·append-left, Memᴰ·append-right}
 use lib.Dec.{T, eqb, ltb, eqb→eq, ltb→lt, lt→ltb}
 use lib.ListN.{length, getD, length-append}
-use borrow.Author.Tests.{eqb-true, eq-eqb, ne-eqb, lt-ltb, le-ltb}
+use borrow.Author.Tests.{eqb-true, eqb-false, eq-eqb, ne-eqb, lt-ltb, le-ltb}
 use Rattle.model.specs.Lists.{keep, count}
 use Rattle.model.proofs.ListLaws.{keep-intro, keep-elim, T-ext, true-T, cond-ap}
 use Rattle.terms.proofs.Laws.{equal}
@@ -16,18 +16,33 @@ use Rattle.scan.specs.Held.{Held, upto, waiting}
 use Rattle.scan.specs.Steps.{visited}
 use Rattle.scan.proofs.Numbers.{upto-intro, upto-elim}
 
+-- ---- the newest number of a value
+
+module _ (f : ℕ → ℕ) (n : ℕ) where
+  -- it has the value
+  pub newest-at : (k m : ℕ) → newest f n k ≡ suc m → (m < k) × (f m ≡ n)
+  unfolding newest
+  newest-at zero m e = absurd (omega arith)
+  newest-at (suc k) m e = go (eqb (f k) n) refl e (newest-at k m)
+    where
+      go : (b : Bool) → eqb (f k) n ≡ b → cond b (suc k) (newest f n k) ≡ suc m → (newest f n k ≡ suc m → (m < k) × (f m ≡ n)) → (m < suc k) × (f m ≡ n)
+      go true q e ih = let z : m ≡ k = omega arith in (omega arith, rw z (eqb-true (f k) n q))
+      go false q e ih = let (a, b) = ih e in (omega arith, b)
+
+  -- where there is none, no number has it
+  pub newest-none : (k : ℕ) → newest f n k ≡ 0 → (m : ℕ) → m < k → f m ≡ n → ⊥
+  unfolding newest
+  newest-none zero e m l q = omega arith
+  newest-none (suc k) e m l q = go (eqb (f k) n) refl e (newest-none k)
+    where
+      go : (b : Bool) → eqb (f k) n ≡ b → cond b (suc k) (newest f n k) ≡ 0 → (newest f n k ≡ 0 → (m : ℕ) → m < k → f m ≡ n → ⊥) → ⊥
+      go true r e ih = omega arith
+      go false r e ih =
+          ⊎-elim (λ (z : m ≡ k). eqb-false (f k) n r (rw z at q)) (λ (z : m ≡ k → ⊥). ih e m (omega arith) q) (equal m k)
+
 -- ---- the chain of a name
 
 module _ (h : Held) (n : ℕ) where
-  pub newest-le : (k : ℕ) → newest (h .entry-name) n k ≤ k
-  unfolding newest
-  newest-le zero = omega arith
-  newest-le (suc k) = go (eqb (h .entry-name k) n) (newest-le k)
-    where
-      go : (b : Bool) → newest (h .entry-name) n k ≤ k → cond b (suc k) (newest (h .entry-name) n k) ≤ suc k
-      go true l = omega arith
-      go false l = omega arith
-
   -- the entries that wait are those up to the newest
   pub newest-waiting : (k : ℕ) → waiting h n k ≡ waiting h n (newest (h .entry-name) n k)
   unfolding newest waiting upto keep
@@ -41,15 +56,7 @@ module _ (h : Held) (n : ℕ) where
 
   -- the newest is on the name
   pub newest-name : (k : ℕ) → 0 < newest (h .entry-name) n k → h .entry-name (newest (h .entry-name) n k - 1) ≡ n
-  unfolding newest
-  newest-name zero l = absurd (omega arith)
-  newest-name (suc k) l = go (eqb (h .entry-name k) n) refl l (newest-name k)
-    where
-      go : (b : Bool) → eqb (h .entry-name k) n ≡ b → 0 < cond b (suc k) (newest (h .entry-name) n k)
-          → (0 < newest (h .entry-name) n k → h .entry-name (newest (h .entry-name) n k - 1) ≡ n)
-          → h .entry-name (cond b (suc k) (newest (h .entry-name) n k) - 1) ≡ n
-      go true e l w = let z : suc k - 1 ≡ k = omega arith in rw z (eqb-true (h .entry-name k) n e)
-      go false e l w = w l
+  newest-name k l = newest-at (h .entry-name) n k (newest (h .entry-name) n k - 1) (omega arith) .1
 
   pub waiting-first : (p : ℕ) → 0 < p → h .entry-name (p - 1) ≡ n → waiting h n p ≡ (p - 1) ∷ waiting h n (p - 1)
   unfolding waiting upto keep

@@ -59,7 +59,15 @@ fn meet_part(out: &[u32], run: &mut [u32], a: usize, e: usize, round: usize)
 }
 
 // Meets what a name opens to, one level.
-fn open_macro(names: &[u32], recs: &[u32], out: &[u32], run: &mut [u32], k: Counts, n: usize, round: usize)
+fn open_macro(
+    names: &[u32],
+    recs: &[u32],
+    out: &[u32],
+    run: &mut [u32],
+    k: Counts,
+    n: usize,
+    round: usize,
+)
     requires { ⌜ Laid (now names) (now recs) (now out) k × (n < k .named) × (most-names ≤ length (now run)) × (round < 4294967296) ⌝ }
     ensures { λ r. ⌜ now (run .exit) ≡ marks round (now (run .entry)) (opens-at (now (recs .entry)) (now (out .entry)) (macro-at (now (names .entry)) n)) ⌝ }
 {
@@ -77,7 +85,15 @@ fn open_macro(names: &[u32], recs: &[u32], out: &[u32], run: &mut [u32], k: Coun
 }
 
 // Meets the free names of a record, and what they open to.
-fn meet_record(names: &[u32], recs: &[u32], out: &[u32], run: &mut [u32], k: Counts, i: usize, round: usize)
+fn meet_record(
+    names: &[u32],
+    recs: &[u32],
+    out: &[u32],
+    run: &mut [u32],
+    k: Counts,
+    i: usize,
+    round: usize,
+)
     requires { ⌜ Laid (now names) (now recs) (now out) k × (i < k .records) × (most-names ≤ length (now run)) × (round < 4294967296) ⌝ }
     ensures { λ r. ⌜ now (run .exit) ≡ marks round (now (run .entry)) (opened-all (held-of (now (names .entry)) (now (recs .entry)) (now (out .entry)) k) (uses-at (now (recs .entry)) (now (out .entry)) i)) ⌝ }
 {
@@ -184,7 +200,13 @@ impl Scan {
             run[i] = 0;
             i += 1;
         }
-        Scan { from: 0, to: 0, visits: 0, rounds: 0, triggered: false }
+        Scan {
+            from: 0,
+            to: 0,
+            visits: 0,
+            rounds: 0,
+            triggered: false,
+        }
     }
 
     // Puts the records that round 1 scans behind the worklist.
@@ -204,11 +226,25 @@ impl Scan {
             run[WORK + to] = j as u32;
             to += 1;
         }
-        Scan { from: self.from, to, visits: self.visits, rounds: self.rounds, triggered: self.triggered }
+        Scan {
+            from: self.from,
+            to,
+            visits: self.visits,
+            rounds: self.rounds,
+            triggered: self.triggered,
+        }
     }
 
     // Visits an entry: a fact that fires is triggered, and reached if it is retainable and was not reached.
-    fn visit(self, names: &[u32], recs: &[u32], out: &[u32], run: &mut [u32], k: Counts, e: usize) -> Scan
+    fn visit(
+        self,
+        names: &[u32],
+        recs: &[u32],
+        out: &[u32],
+        run: &mut [u32],
+        k: Counts,
+        e: usize,
+    ) -> Scan
         requires { ⌜ Laid (now names) (now recs) (now out) k × Steady (going self (now run)) × (e < k .entries) ⌝ }
         ensures { λ r. ⌜ going r (now (run .exit)) ≡ visit (held-of (now (names .entry)) (now (recs .entry)) (now (out .entry)) k) (going self (now (run .entry))) e ⌝ }
     {
@@ -218,9 +254,21 @@ impl Scan {
         let to = self.to;
         let visits = self.visits + 1;
         if !fires(out, run, a, z) {
-            return Scan { from: self.from, to, visits, rounds: self.rounds, triggered: self.triggered };
+            return Scan {
+                from: self.from,
+                to,
+                visits,
+                rounds: self.rounds,
+                triggered: self.triggered,
+            };
         }
-        let fired = Scan { from: self.from, to, visits, rounds: self.rounds, triggered: true };
+        let fired = Scan {
+            from: self.from,
+            to,
+            visits,
+            rounds: self.rounds,
+            triggered: true,
+        };
         if !retained(recs, k, i) {
             return fired;
         }
@@ -230,11 +278,25 @@ impl Scan {
         run[REACHED + i] = self.rounds as u32;
         run[WORK + to] = i as u32;
         let end = to + 1;
-        Scan { from: self.from, to: end, visits, rounds: self.rounds, triggered: true }
+        Scan {
+            from: self.from,
+            to: end,
+            visits,
+            rounds: self.rounds,
+            triggered: true,
+        }
     }
 
     // Visits the entries that wait on a name, newest first.
-    fn visit_chain(self, names: &[u32], recs: &[u32], out: &[u32], run: &mut [u32], k: Counts, n: usize) -> Scan
+    fn visit_chain(
+        self,
+        names: &[u32],
+        recs: &[u32],
+        out: &[u32],
+        run: &mut [u32],
+        k: Counts,
+        n: usize,
+    ) -> Scan
         requires { ⌜ Laid (now names) (now recs) (now out) k × Steady (going self (now run)) × (self .visits ≤ 2 * most-entries) × (n < k .named) ⌝ }
         ensures { λ r. ⌜ going r (now (run .exit)) ≡ visits-of (held-of (now (names .entry)) (now (recs .entry)) (now (out .entry)) k) (going self (now (run .entry))) (waiting (held-of (now (names .entry)) (now (recs .entry)) (now (out .entry)) k) n (k .entries)) ⌝ }
     {
@@ -268,7 +330,14 @@ impl Scan {
     }
 
     // Meets all that the next round scans.
-    fn meet_items(self, names: &[u32], recs: &[u32], out: &[u32], run: &mut [u32], k: Counts) -> Scan
+    fn meet_items(
+        self,
+        names: &[u32],
+        recs: &[u32],
+        out: &[u32],
+        run: &mut [u32],
+        k: Counts,
+    ) -> Scan
         requires { ⌜ Laid (now names) (now recs) (now out) k × Ready (held-of (now names) (now recs) (now out) k) (going self (now run)) ⌝ }
         ensures { λ r. ⌜ going r (now (run .exit)) ≡ met-phase (held-of (now (names .entry)) (now (recs .entry)) (now (out .entry)) k) (going self (now (run .entry))) ⌝ }
     {
@@ -281,7 +350,13 @@ impl Scan {
             meet_record(names, recs, out, run, k, i, round);
             j += 1;
         }
-        Scan { from: to, to, visits: self.visits, rounds: round, triggered: false }
+        Scan {
+            from: to,
+            to,
+            visits: self.visits,
+            rounds: round,
+            triggered: false,
+        }
     }
 
     // A round: all that it scans is met, then the entries of the names first met in it are visited.
@@ -309,7 +384,14 @@ impl Scan {
 }
 
 // Runs the ask over the tables that the reader filled.
-pub fn run_ask(file: &[u8], names: &[u32], recs: &[u32], out: &[u32], run: &mut [u32], k: Counts) -> Scan
+pub fn run_ask(
+    file: &[u8],
+    names: &[u32],
+    recs: &[u32],
+    out: &[u32],
+    run: &mut [u32],
+    k: Counts,
+) -> Scan
     requires { ⌜ Filled (now file) (now names) (now recs) (now out) k × (run-end ≤ length (now run)) ⌝ }
     ensures { λ r. ⌜ Ran (now (file .entry)) (now (names .entry)) (now (recs .entry)) (now (out .entry)) k (now (run .entry)) (now (run .exit)) r ⌝ }
 {

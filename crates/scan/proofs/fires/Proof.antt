@@ -48,9 +48,11 @@ disjuncts-again : tie.Need-disjuncts-again Inv-loop μ-loop Inv-disjuncts μ-dis
 disjuncts-again c =
     let passed = c .past .ensures in
     let before = c .before .before .before .before .before .before .before .disjuncts .inv .2 ∙ c .before .before .before .before .before .before .loop .inv .2 in
-    let met = c .before .before .before .entry-met .ensures in
-    (omega (arith, passed .0), passed .1,
-    before ∙ fires-unmet _ _ _ _ _ (c .before .before .before .before .before .loop-test .taken) (c .before .before .before .before .before .before .before .before .before .before .pre .1) (c .before .before .before .before .at .ensures) _ met (not-true _ (c .before .before .if1 .taken)) (c .before .if2 .taken) ∙ passed .2 _)
+    let met = c .before .before .before .entry-met .ensures in (
+      omega (arith, passed .0),
+      passed .1,
+      before ∙ fires-unmet _ _ _ _ _ (c .before .before .before .before .before .loop-test .taken) (c .before .before .before .before .before .before .before .before .before .before .pre .1) (c .before .before .before .before .at .ensures) _ met (not-true _ (c .before .before .if1 .taken)) (c .before .if2 .taken) ∙ passed .2 _,
+    )
 
 disjuncts-less-2 : tie.Need-disjuncts-less-2 Inv-loop μ-loop Inv-disjuncts μ-disjuncts
 disjuncts-less-2 c = omega arith
@@ -58,18 +60,22 @@ disjuncts-less-2 c = omega arith
 disjuncts-again-2 : tie.Need-disjuncts-again-2 Inv-loop μ-loop Inv-disjuncts μ-disjuncts
 disjuncts-again-2 c =
     let before = c .before .before .before .before .before .before .disjuncts .inv .2 ∙ c .before .before .before .before .before .loop .inv .2 in
-    let met = c .before .before .entry-met .ensures in
-    (omega arith, omega arith,
-    before ∙ fires-unmet-last _ _ _ _ _ (c .before .before .before .before .loop-test .taken) (c .before .before .before .before .before .before .before .before .before .pre .1) (c .before .before .before .at .ensures) _ met (not-true _ (c .before .if1 .taken)) (c .if2 .left))
+    let met = c .before .before .entry-met .ensures in (
+      omega arith,
+      omega arith,
+      before ∙ fires-unmet-last _ _ _ _ _ (c .before .before .before .before .loop-test .taken) (c .before .before .before .before .before .before .before .before .before .pre .1) (c .before .before .before .at .ensures) _ met (not-true _ (c .before .if1 .taken)) (c .if2 .left),
+    )
 
 loop-less : tie.Need-loop-less Inv-loop μ-loop Inv-disjuncts μ-disjuncts
 loop-less c = omega arith
 
 loop-again : tie.Need-loop-again Inv-loop μ-loop Inv-disjuncts μ-disjuncts
 loop-again c =
-    let met = c .before .before .entry-met .ensures in
-    (omega arith, omega arith,
-    c .before .before .before .before .before .loop .inv .2 ∙ fires-met _ _ _ _ _ (c .before .before .before .before .loop-test .taken) (c .before .before .before .before .before .before .before .before .before .pre .1) (c .before .before .before .at .ensures) _ met (not-false _ (c .before .if1 .left)) (c .if3 .left))
+    let met = c .before .before .entry-met .ensures in (
+      omega arith,
+      omega arith,
+      c .before .before .before .before .before .loop .inv .2 ∙ fires-met _ _ _ _ _ (c .before .before .before .before .loop-test .taken) (c .before .before .before .before .before .before .before .before .before .pre .1) (c .before .before .before .at .ensures) _ met (not-false _ (c .before .if1 .left)) (c .if3 .left),
+    )
 
 returns : tie.Need-returns Inv-loop μ-loop Inv-disjuncts μ-disjuncts
 returns c =
