@@ -3,30 +3,29 @@ use Prim.Native.Nat.{ℕ, zero, suc, _+_, _≤_, _<_}
 use native.Mathlib.Omega.{arith}
 use mathlib.Core.Path.{_≡_, refl, sym, ap, _∙_, subst}
 use mathlib.Core.Bool.{Bool, true, false, cond, not, _&&_}
-use mathlib.Core.Logic.{_⊎_, _↔_, inl, inr, ⊎-elim}
-use mathlib.Core.List.{List, [], _∷_, _++_, map, List·Memᴰ, List·Memᴰ·not-nil, List·Memᴰ·append-cases, Memᴰ·append-left, Memᴰ·append-right}
-use lib.ListN.{length, getD}
+use mathlib.Core.Logic.{_⊎_, inl, inr, ⊎-elim}
+use mathlib.Core.List.{List, [], map, List·Memᴰ, List·Memᴰ·not-nil, List·Memᴰ·append-cases, Memᴰ·append-left, Memᴰ·append-right}
+use lib.ListN.{length}
 use lib.Dec.{T, ltb, eqb, eqb→eq, ltb→lt, lt→ltb}
 use borrow.Author.Tests.{eq-eqb, ne-eqb}
 use Rattle.model.specs.Lists.{any, collect, keep}
-use Rattle.model.specs.Names.{Name, from-list, mem}
+use Rattle.model.specs.Names.{Name, mem}
 use Rattle.model.specs.Summaries.{Fact}
-use Rattle.model.specs.Reading.{Ask, Root, no-ambients, most-records}
-use Rattle.model.specs.Rounds.{Run, facts, macros, run, goal-roots, ambient-roots, is-ambient-root, first-scanned}
+use Rattle.model.specs.Reading.{Root, no-ambients}
+use Rattle.model.specs.Rounds.{facts, run, goal-roots, ambient-roots, is-ambient-root, first-scanned}
 use Rattle.model.specs.declared.AsumKind.the-variants.{Ambient}
 use Rattle.model.specs.declared.Counts.{Counts}
-use Rattle.model.proofs.ListLaws.{true-T, T-true, T-false, T-and, collect-intro, collect-elim, keep-intro, keep-elim, map-intro, map-elim}
+use Rattle.model.proofs.ListLaws.{true-T, T-false, T-and, collect-intro, collect-elim, keep-intro, keep-elim, map-intro, map-elim}
 use Rattle.model.proofs.SetLaws.{mem-intro, mem-elim, mem-from-list}
 use Rattle.demands.proofs.FuelLaws.{run-ends}
 use Rattle.names.specs.Table.{name-of}
 use Rattle.terms.proofs.Laws.{equal, below}
 use Rattle.gather.specs.Sets.{Same-but}
-use Rattle.records.specs.Columns.{record-kind, record-name, record-flag, summary-code, assume-kind, retain-kind, root-kind, kind-of-code, code-of}
+use Rattle.records.specs.Columns.{record-kind, record-flag, summary-code, assume-kind, retain-kind, root-kind, kind-of-code, code-of}
 use Rattle.records.specs.States.{uses-at, free-at, fact-at, decls-of, roots-of, ask-of}
 use Rattle.records.specs.Macros.{Filled}
-use Rattle.scan.specs.Held.{Held, set-of}
-use Rattle.scan.specs.Tables.{held-of, Laid}
-use Rattle.scan.specs.Steps.{Going, going, work-column, run-end, work-room, is-met, is-reached, items, Ready, Rounds}
+use Rattle.scan.specs.Tables.{held-of}
+use Rattle.scan.specs.Steps.{Going, going, work-column, run-end, is-met, items, Ready, Rounds}
 use Rattle.scan.specs.Starts.{cleared, first-scan, starts-at, pushed}
 use Rattle.scan.specs.Runs.{run-of, Ran}
 use Rattle.scan.specs.declared.Scan.{Scan}

@@ -4,16 +4,16 @@ use native.Mathlib.Omega.{arith}
 use mathlib.Core.Path.{_≡_, refl, sym, ap, ap₂, _∙_}
 use mathlib.Core.Bool.{Bool, true, false, cond, _&&_}
 use mathlib.Core.Logic.{_⊎_, inl, inr, ⊎-elim}
-use mathlib.Core.List.{List, [], _∷_, _++_, map, append-nil, List·Memᴰ, List·Memᴰ·head, List·Memᴰ·not-nil, List·Memᴰ·cases-cons, List·Memᴰ·append-cases, Memᴰ·append-left, Memᴰ·append-right}
+use mathlib.Core.List.{List, [], _∷_, _++_, append-nil, List·Memᴰ, List·Memᴰ·head, List·Memᴰ·not-nil, List·Memᴰ·cases-cons, List·Memᴰ·append-cases, Memᴰ·append-left, Memᴰ·append-right}
 use lib.ListN.{length, getD}
-use lib.Dec.{T, ltb, eqb, eqb→eq, ltb→lt}
-use borrow.Author.Tests.{eq-eqb, ne-eqb, lt-ltb, ltb-true, ltb-false}
+use lib.Dec.{T, ltb, eqb}
+use borrow.Author.Tests.{ne-eqb, lt-ltb, ltb-true, ltb-false}
 use Rattle.model.specs.Lists.{count, collect, concat, part}
 use Rattle.model.specs.Names.{Name}
 use Rattle.model.specs.Summaries.{Fact}
-use Rattle.model.specs.Reading.{Summary, Decl, Root}
+use Rattle.model.specs.Reading.{Decl, Root}
 use Rattle.model.specs.Rounds.{facts, definitions, listed, filed}
-use Rattle.model.proofs.ListLaws.{count-append, collect-append, true-T}
+use Rattle.model.proofs.ListLaws.{count-append, collect-append}
 use Rattle.model.proofs.PartLaws.{part-nil, part-length}
 use Rattle.demands.proofs.Records.{facts-append, definitions-append}
 use Rattle.terms.proofs.Laws.{equal}

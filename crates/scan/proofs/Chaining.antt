@@ -3,8 +3,8 @@ use Prim.Native.Nat.{ℕ, _+_, _-_, _*_, _≤_, _<_}
 use native.Mathlib.Omega.{arith}
 use native.Mathlib.Numerals.{add-one}
 use mathlib.Core.Path.{_≡_, refl, sym, _∙_, ap, subst}
-use mathlib.Core.Bool.{Bool, true, false, cond, _&&_}
-use mathlib.Core.List.{List, [], _∷_, _++_, append-nil}
+use mathlib.Core.Bool.{_&&_}
+use mathlib.Core.List.{List, [], _∷_, append-nil}
 use lib.Dec.{eqb, ltb}
 use lib.ListN.{length, getD}
 use borrow.Author.Tests.{eq-eqb, ne-eqb}
@@ -12,13 +12,12 @@ use Rattle.model.specs.Lists.{keep, fold-left}
 use Rattle.model.specs.Reading.{most-names, most-entries}
 use Rattle.model.specs.declared.Counts.{Counts}
 use Rattle.model.proofs.ListLaws.{fold-left-append}
-use Rattle.records.specs.Columns.{no-name, entry-name, next-entry, first-entry}
+use Rattle.records.specs.Columns.{entry-name, next-entry, first-entry}
 use Rattle.records.specs.Filing.{newest}
 use Rattle.records.proofs.Chaining.{newest-low}
 use Rattle.scan.specs.Held.{Held, upto, waiting}
 use Rattle.scan.specs.Tables.{held-of, Laid}
-use Rattle.scan.specs.Steps.{Going, going, visit, visits-of, visited, Room, Steady}
-use Rattle.scan.specs.declared.Scan.{Scan}
+use Rattle.scan.specs.Steps.{Going, visit, visits-of, visited, visit-phase, Room, Steady}
 use Rattle.scan.proofs.Numbers.{count-upto}
 use Rattle.scan.proofs.Visited.{newest-waiting, newest-name, waiting-first, visited-elim, visited-length}
 use Rattle.scan.proofs.Visits.{Fired, room-then, visit-fired, visits-fired}
@@ -177,8 +176,8 @@ module _ {names recs out : List ℕ} {k : Counts} (laid : Laid names recs out k)
           small = omega arith;
         }
 
-  pub sweep-end : {g₀ g : Going} {n : ℕ} → Swept names recs out k g₀ n g → k .named ≤ n
-      → g ≡ visits-of t g₀ (visited t (g₀ .scan .rounds) (g₀ .run) (k .named))
+  pub sweep-end : {g₀ g : Going} {n : ℕ} → Swept names recs out k g₀ n g → k .named ≤ n → g ≡ visit-phase t g₀
+  unfolding visit-phase held-of
   sweep-end {g₀} {g} {n} c l =
       let m = c .small in
       let e : n ≡ k .named = omega arith in

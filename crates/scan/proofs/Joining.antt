@@ -9,21 +9,20 @@ use lib.ListN.{length, getD}
 use lib.Seq.{getD-take, getD-drop}
 use lib.Dec.{ltb, eqb, eqb→eq}
 use borrow.Author.Tests.{eq-eqb, lt-ltb, le-ltb}
-use Rattle.model.specs.Lists.{count, part}
+use Rattle.model.specs.Lists.{count}
 use Rattle.model.specs.Names.{Name}
-use Rattle.model.specs.Reading.{most-names}
 use Rattle.model.specs.Rounds.{facts, macros, listed, filed, retainable}
 use Rattle.model.specs.declared.Counts.{Counts}
 use Rattle.model.proofs.ListLaws.{true-T, count-cong}
-use Rattle.model.proofs.PartLaws.{part-elim, part-intro, part-length, part-at}
+use Rattle.model.proofs.PartLaws.{part-elim, part-intro, part-length}
 use Rattle.names.specs.Table.{name-of}
 use Rattle.names.proofs.Laws.{distinct}
 use Rattle.triggers.specs.Entries.{Entries, disjuncts-of}
 use Rattle.records.specs.Columns.{record-kind, uses-end, entries-start, entries-end, assume-kind, last-entry, no-name, entry-column, entry-word, entry-name, entry-fact, taken-at, macro-at}
 use Rattle.records.specs.States.{uses-at, entries-at, free-at, fact-at, decls-of, ask-of}
 use Rattle.records.specs.Filing.{Records, Filing}
-use Rattle.records.specs.Macros.{opened-word, opens-at, Filled}
-use Rattle.scan.specs.Held.{Held, Fits, Holds, upto}
+use Rattle.records.specs.Macros.{opened-word, Filled}
+use Rattle.scan.specs.Held.{Fits, Holds, upto}
 use Rattle.scan.specs.Tables.{retained, held-of, Laid}
 use Rattle.scan.proofs.Numbers.{upto-elim}
 use Rattle.scan.proofs.Listing.{word-listed, listed-word, numbers-elim}

@@ -2,14 +2,14 @@
 use Prim.Native.Nat.{ℕ, zero, suc, _+_, _≤_, _<_}
 use native.Mathlib.Omega.{arith}
 use mathlib.Core.Path.{_≡_, refl, sym, ap, _∙_}
-use mathlib.Core.Bool.{Bool, true, false, not, cond, _&&_}
+use mathlib.Core.Bool.{Bool, true, false, not, cond}
 use mathlib.Core.Logic.{_⊎_, inl, inr, ⊎-elim}
 use mathlib.Core.List.{List, [], _∷_, map, List·Memᴰ, List·Memᴰ·head, List·Memᴰ·tail, List·Memᴰ·cases-cons, List·Memᴰ·not-nil}
 use lib.Dec.{T}
 use lib.ListN.{length}
 use Rattle.model.specs.Lists.{keep, count}
 use Rattle.model.specs.Names.{Name, mem, from-list}
-use Rattle.model.proofs.ListLaws.{map-intro, map-elim, keep-intro, keep-elim, keep-none, keep-all, keep-cong, T-ext, T-true, T-false, count-cong, count-keep}
+use Rattle.model.proofs.ListLaws.{map-intro, map-elim, keep-intro, keep-elim, keep-none, T-ext, T-true, T-false, count-cong, count-keep}
 use Rattle.model.proofs.SetLaws.{Ascending, ascending-from-list, mem-intro, mem-elim, mem-from-list}
 use Rattle.terms.proofs.Laws.{equal}
 use Rattle.scan.specs.Held.{upto, set-of}
@@ -52,11 +52,6 @@ module _ (name : ℕ → Name) (test : ℕ → Bool) where
   unfolding set-of from-list
   set-none n h = rw (keep-none test (upto n) (λ i m. h i (upto-elim n m)))
 
--- tests that agree give the same set
-pub set-cong : (name : ℕ → Name) (p q : ℕ → Bool) (n : ℕ) → ((i : ℕ) → i < n → p i ≡ q i) → set-of name p n ≡ set-of name q n
-unfolding set-of
-set-cong name p q n h = ap (λ l. from-list (map name l)) (keep-cong p q (upto n) (λ i m. h i (upto-elim n m)))
-
 -- ---- counts
 
 -- a count is at most how many there are
@@ -71,9 +66,6 @@ count-upto p (suc n) = go (p n) (count-upto p n)
 
 pub count-none : (test : ℕ → Bool) (l : List ℕ) → ((i : ℕ) → T (not (test i))) → count test l ≡ 0
 count-none test l h = count-keep test l ∙ ap length (keep-none test l (λ i m. h i))
-
-pub count-all : {A : Type 0} (l : List A) → count (λ x. true) l ≡ length l
-count-all l = count-keep (λ x. true) l ∙ ap length (keep-all (λ x. true) l (λ x m. tt))
 
 -- where a test holds of one number below N it is counted
 pub count-some : (p : ℕ → Bool) (N i : ℕ) → i < N → T (p i) → 0 < count p (upto N)

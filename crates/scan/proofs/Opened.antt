@@ -2,7 +2,7 @@
 use Prim.Native.Nat.{ℕ, _+_, _-_, _≤_, _<_}
 use native.Mathlib.Omega.{arith}
 use mathlib.Core.Path.{_≡_, refl, sym, _∙_, ap}
-use mathlib.Core.List.{List, [], _∷_}
+use mathlib.Core.List.{List, _∷_}
 use lib.ListN.{length, getD, set}
 use borrow.Author.Tests.{eq-eqb, ne-eqb, lt-ltb, le-ltb}
 use Rattle.model.specs.Lists.{collect, part}
@@ -13,7 +13,7 @@ use Rattle.records.specs.Columns.{uses-start, uses-end, macro-at}
 use Rattle.records.specs.States.{uses-at}
 use Rattle.records.specs.Macros.{opened-word, opens-at}
 use Rattle.scan.specs.Held.{Held}
-use Rattle.scan.specs.Tables.{held-of, Laid}
+use Rattle.scan.specs.Tables.{Laid}
 use Rattle.scan.specs.Steps.{mark, marks, opened-all}
 use Rattle.scan.proofs.Marks.{mark-length, marks-nil, marks-cons, marks-append, marks-length}
 

@@ -8,10 +8,10 @@ use mathlib.Core.Option.{Option, none, some, Option·getD}
 use mathlib.Core.List.{List, [], _∷_, map, List·Memᴰ, List·Memᴰ·head, List·Memᴰ·not-nil, List·Memᴰ·cases-cons}
 use lib.ListN.{length, getD}
 use lib.Dec.{T, leb, ltb, eqb, eqb→eq, ltb→lt, leb→le, le→leb, lt→ltb}
-use borrow.Author.Tests.{eq-eqb, ne-eqb, lt-ltb, le-ltb, eqb-true}
-use Rattle.model.specs.Lists.{or-else, part}
-use Rattle.model.specs.Names.{Name, bytes, same, is-same, order, by-byte, from-list}
-use Rattle.model.specs.Reading.{Decl, most-names, most-records}
+use borrow.Author.Tests.{eq-eqb, ne-eqb, lt-ltb, le-ltb}
+use Rattle.model.specs.Lists.{or-else}
+use Rattle.model.specs.Names.{Name, bytes, same, is-same, order, by-byte}
+use Rattle.model.specs.Reading.{Decl, most-records}
 use Rattle.model.specs.Pruning.{Map, try-find, init-macro-freenames}
 use Rattle.model.specs.Rounds.{definitions, macros}
 use Rattle.model.specs.Summaries.{common-names}
@@ -24,7 +24,7 @@ use Rattle.names.specs.Table.{Table, name-of}
 use Rattle.names.proofs.Coded.{code-exact}
 use Rattle.names.proofs.Laws.{distinct}
 use Rattle.terms.proofs.Laws.{equal, below}
-use Rattle.records.specs.Columns.{record-kind, record-name, uses-end, def-kind, taken-at, macro-at, name-code}
+use Rattle.records.specs.Columns.{record-kind, record-name, uses-end, def-kind, taken-at, name-code}
 use Rattle.records.specs.States.{uses-at, free-at, decl-at, decls-of}
 use Rattle.records.specs.Filing.{Records, newest, Taken}
 use Rattle.records.specs.Macros.{opened-word, first-macro, macro-count, opened, start-word, is-def, macro-word, opens-at}

@@ -1,9 +1,9 @@
 -- What the proofs of the meeting phase, the round and the rounds cite.
-use Prim.Native.Nat.{ℕ, _+_, _*_, _≤_, _<_}
+use Prim.Native.Nat.{ℕ, _+_, _≤_, _<_}
 use native.Mathlib.Omega.{arith}
 use mathlib.Core.Path.{_≡_, refl, sym, _∙_, ap, subst}
-use mathlib.Core.Bool.{Bool, true, false, _&&_}
-use mathlib.Core.List.{List, [], _∷_, _++_, List·Memᴰ}
+use mathlib.Core.Bool.{true, false, _&&_}
+use mathlib.Core.List.{List}
 use lib.Dec.{ltb}
 use lib.ListN.{length, getD}
 use Rattle.model.specs.Lists.{collect, part}
@@ -14,7 +14,7 @@ use Rattle.records.specs.Columns.{entry-name}
 use Rattle.records.specs.States.{uses-at}
 use Rattle.scan.specs.Held.{Held}
 use Rattle.scan.specs.Tables.{held-of, Laid}
-use Rattle.scan.specs.Steps.{Going, going, work-column, is-met, marks, opened-all, scanned-by, items, met-phase, visits-of, visited, round, Rounds, last, more, Steady, Ready, unmet}
+use Rattle.scan.specs.Steps.{Going, going, work-column, is-met, marks, opened-all, scanned-by, items, met-phase, visit-phase, round, Rounds, last, more, Steady, Ready, unmet}
 use Rattle.scan.specs.declared.Scan.{Scan}
 use Rattle.scan.proofs.Numbers.{count-upto}
 use Rattle.scan.proofs.Marks.{marks-nil, marks-append, marks-length, marks-out}
@@ -109,9 +109,9 @@ module _ {names recs out : List ℕ} {k : Counts} (laid : Laid names recs out k)
       let v = few-visits in
       (record { room = met-room t (laid .fits) g ready; started = omega arith; few-rounds = omega arith; few-visits = omega arith }, v))
 
-  pub round-is : {m v : Going} → m ≡ met-phase t g → v ≡ visits-of t m (visited t (m .scan .rounds) (m .run) (k .named)) → v ≡ round t g
-  unfolding round held-of
-  round-is {m} {v} e f = subst (λ (x : Going). v ≡ visits-of t x (visited t (x .scan .rounds) (x .run) (k .named))) e f
+pub round-is : (h : Held) (g : Going) {m v : Going} → m ≡ met-phase h g → v ≡ visit-phase h m → v ≡ round h g
+unfolding round
+round-is h g e f = f ∙ ap (visit-phase h) e
 
 -- ---- the rounds
 

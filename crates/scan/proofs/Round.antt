@@ -7,13 +7,13 @@ use mathlib.Core.Logic.{_⊎_, inl, inr, ⊎-elim}
 use mathlib.Core.List.{List, _∷_, List·Memᴰ, List·Memᴰ·cases-cons}
 use lib.Dec.{T, T-not, not-T, eqb, ltb, ltb→lt}
 use lib.ListN.{length, getD}
-use Rattle.model.specs.Lists.{any, collect, count, part}
-use Rattle.model.specs.Reading.{most-names, most-records, most-entries}
+use Rattle.model.specs.Lists.{any, count}
+use Rattle.model.specs.Reading.{most-names, most-records}
 use Rattle.model.proofs.ListLaws.{T-dec, T-true, T-false, true-T, any-elim, count-keep, count-cong, keep-less, collect-elim}
 use Rattle.model.proofs.PartLaws.{part-elim, part-intro}
 use Rattle.scan.specs.Held.{Held, Fits, upto}
-use Rattle.scan.specs.Steps.{Going, reached-column, work-column, run-end, is-met, is-reached, marks, opened-all, scanned-by, fires-on, visited, items, met-phase, round, unreached, unmet, Room, Ready}
-use Rattle.scan.proofs.Numbers.{upto-intro, upto-elim, count-both, count-upto}
+use Rattle.scan.specs.Steps.{Going, reached-column, work-column, run-end, is-met, is-reached, marks, opened-all, scanned-by, fires-on, visited, items, met-phase, visit-phase, round, unreached, unmet, Room, Ready}
+use Rattle.scan.proofs.Numbers.{upto-intro, upto-elim, count-both}
 use Rattle.scan.proofs.Marks.{marks-length, marks-out, marks-low, met-old, new-elim, old-or-new}
 use Rattle.scan.proofs.Visited.{visited-elim, visited-length}
 use Rattle.scan.proofs.Visits.{Fired, room-then, visits-fired}
@@ -70,7 +70,7 @@ module _ (h : Held) (fits : Fits h) (g : Going) (ready : Ready h g) where
       record { fits = omega arith; long = omega arith }
 
   pub fired : Fired h (met-phase h g) (round h g) (visited-then h g)
-  unfolding round met-phase visited-then met-then
+  unfolding round visit-phase met-phase visited-then met-then
   fired =
       visits-fired h fits (met-phase h g) (omega arith) met-room (visited-then h g)
       (λ e m. visited-elim h (round-of g) (met-then h g) (h .named) m .0)

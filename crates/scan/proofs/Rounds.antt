@@ -1,12 +1,11 @@
 -- A round on numbers is a round of `model`.
-use Prim.Native.Nat.{ℕ, _+_, _≤_, _<_}
+use Prim.Native.Nat.{ℕ, _+_, _<_}
 use native.Mathlib.Omega.{arith}
-use mathlib.Core.Path.{_≡_, refl, sym, _∙_, ap, subst}
-use mathlib.Core.Bool.{Bool, true, false, not, _&&_}
+use mathlib.Core.Path.{_≡_, sym, _∙_, ap, subst}
+use mathlib.Core.Bool.{Bool, not, _&&_}
 use mathlib.Core.Logic.{_↔_, _⊎_, inl, inr, ⊎-elim}
 use mathlib.Core.List.{List, map, List·Memᴰ}
 use lib.Dec.{T, T-not}
-use lib.ListN.{length, getD}
 use Rattle.model.specs.Lists.{any, collect, is-nil}
 use Rattle.model.specs.Names.{Name, mem, from-list}
 use Rattle.model.specs.Summaries.{Fact}
@@ -15,7 +14,7 @@ use Rattle.model.specs.Pruning.{Map}
 use Rattle.model.specs.Rounds.{Run, met-after, lies-within, triggers-in, triggered, fresh, after-round, next-scanned, retainable, listed}
 use Rattle.model.proofs.ListLaws.{T-ext, T-and, any-intro, any-elim, keep-intro, keep-elim, collect-intro, collect-elim, map-intro, map-elim, not-nil-mem, mem-not-nil}
 use Rattle.model.proofs.SetLaws.{Ascending, ascending-ext, ascending-union, mem-intro, mem-elim, mem-from-list}
-use Rattle.demands.proofs.RoundsLaws.{Fresh, reached-elim, reached-stays, reached-intro}
+use Rattle.demands.proofs.RoundsLaws.{reached-elim, reached-stays, reached-intro}
 use Rattle.scan.specs.Held.{Held, Fits, Holds, set-of}
 use Rattle.scan.specs.Steps.{Going, is-met, is-reached, scanned-by, fires-on, items, met-phase, round, Ready}
 use Rattle.scan.proofs.Numbers.{set-intro, set-elim, set-at, set-ascending}

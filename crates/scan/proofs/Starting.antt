@@ -10,20 +10,19 @@ use lib.Dec.{T, T-not, eqb, ltb}
 use lib.ListN.{length, getD, set, length-set}
 use lib.Seq.{getD-set-same, getD-set-other}
 use borrow.Author.Tests.{eq-eqb, ne-eqb, le-ltb, ltb-true}
-use Rattle.model.specs.Lists.{count, part}
-use Rattle.model.specs.Reading.{most-names, most-records, no-ambients}
-use Rattle.model.specs.declared.AsumKind.the-variants.{Ambient}
+use Rattle.model.specs.Lists.{count}
+use Rattle.model.specs.Reading.{most-records, no-ambients}
 use Rattle.model.specs.declared.Counts.{Counts}
-use Rattle.model.proofs.ListLaws.{T-dec, T-false, true-T, false-T, keep-none}
+use Rattle.model.proofs.ListLaws.{true-T, false-T}
 use Rattle.model.proofs.PartLaws.{part-nil, part-snoc, part-agree}
 use Rattle.terms.proofs.Laws.{equal}
 use Rattle.records.specs.Columns.{record-kind, record-flag, summary-code, assume-kind, root-kind, code-of}
 use Rattle.records.specs.States.{ask-of}
 use Rattle.scan.specs.Held.{Held, Fits, upto}
-use Rattle.scan.specs.Steps.{Going, going, reached-column, work-column, run-end, work-room, is-met, is-reached, items, unreached, unmet, Room, Ready}
+use Rattle.scan.specs.Steps.{Going, going, reached-column, work-column, run-end, work-room, is-met, is-reached, items, unreached, unmet, Ready}
 use Rattle.scan.specs.Starts.{cleared, first-scan, starts-at, push, pushed}
 use Rattle.scan.specs.declared.Scan.{Scan}
-use Rattle.scan.proofs.Numbers.{upto-elim, count-upto, count-none}
+use Rattle.scan.proofs.Numbers.{count-upto, count-none}
 
 -- ---- clearing
 

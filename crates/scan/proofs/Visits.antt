@@ -2,17 +2,17 @@
 use Prim.Native.Nat.{ℕ, _+_, _≤_, _<_}
 use native.Mathlib.Omega.{arith}
 use mathlib.Core.Path.{_≡_, refl, sym, _∙_, ap}
-use mathlib.Core.Bool.{Bool, true, false, cond, not, _&&_, _||_, or-assoc}
+use mathlib.Core.Bool.{Bool, true, false, not, _&&_, _||_, or-assoc}
 use mathlib.Core.Logic.{_⊎_, inl, inr, ⊎-elim}
 use mathlib.Core.List.{List, [], _∷_, _++_, List·Memᴰ, List·Memᴰ·head, List·Memᴰ·tail, List·Memᴰ·append-cases, List·Memᴰ·cases-cons, List·Memᴰ·not-nil, Memᴰ·append-left, Memᴰ·append-right}
 use lib.Dec.{T, not-T, T-not, ltb, lt→ltb}
 use lib.ListN.{length, getD, set, length-set, length-append}
 use lib.Seq.{getD-set-same, getD-set-other}
-use Rattle.model.specs.Lists.{any, all, count, fold-left}
+use Rattle.model.specs.Lists.{any, all, fold-left}
 use Rattle.model.specs.Reading.{most-names, most-records}
 use Rattle.model.proofs.ListLaws.{any-cong, any-append, all-intro, all-elim, T-ext, T-and, T-dec, branch}
 use Rattle.terms.proofs.Laws.{equal, below}
-use Rattle.scan.specs.Held.{Held, Fits, upto}
+use Rattle.scan.specs.Held.{Held, Fits}
 use Rattle.scan.specs.Steps.{Going, reached-column, work-column, run-end, work-room, is-met, is-reached, fires-on, reach, counted, visit, visits-of, unreached, Room}
 use Rattle.scan.proofs.Numbers.{count-less, count-some}
 

@@ -1,5 +1,5 @@
 pub mod Held
-pub mod Tables
 pub mod Steps
+pub mod Tables
 pub mod Starts
 pub mod Runs

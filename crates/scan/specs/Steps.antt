@@ -137,9 +137,13 @@ module _ (h : Held) where
         run = marks (g .scan .rounds + 1) (g .run) (scanned-by (items g));
       }
 
-  -- a round: then the entries of the names first met in it are visited
+  -- the second half: the entries of the names first met in it are visited
+  unfoldable pub visit-phase : Going → Going
+  visit-phase g = visits-of g (visited (g .scan .rounds) (g .run) (h .named))
+
+  -- a round
   unfoldable pub round : Going → Going
-  round g = let m = met-phase g in visits-of m (visited (m .scan .rounds) (m .run) (h .named))
+  round g = visit-phase (met-phase g)
 
   -- round after round, to the one that triggers no fact
   pub data Rounds : Going → Going → Type 0 where

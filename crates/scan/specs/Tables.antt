@@ -13,6 +13,8 @@ use Rattle.records.specs.States.{uses-at, entries-at, ask-of}
 use Rattle.records.specs.Filing.{newest}
 use Rattle.records.specs.Macros.{opened-word, opens-at}
 use Rattle.scan.specs.Held.{Held, Fits}
+use Rattle.scan.specs.Steps.{Going, going, opened-all}
+use Rattle.scan.specs.declared.Scan.{Scan}
 
 -- whether a record is retainable: its flag is 0, or option 2 is on
 unfoldable pub retained : List ℕ → Counts → ℕ → Bool
@@ -34,6 +36,14 @@ held-of names recs out k =
       entry-name = entry-name out;
       entry-fact = entry-fact out;
     }
+
+-- what a record meets: its free names, and what they open to
+abbrev pub met-by : List ℕ → List ℕ → List ℕ → Counts → ℕ → List ℕ
+met-by names recs out k i = opened-all (held-of names recs out k) (uses-at recs out i)
+
+-- a step from a state and slice of a run to another
+abbrev pub Goes : List ℕ → List ℕ → List ℕ → Counts → (Held → Going → Going) → Scan → List ℕ → Scan → List ℕ → Type 0
+Goes names recs out k step s w s′ w′ = going s′ w′ ≡ step (held-of names recs out k) (going s w)
 
 -- what the steps of a run ask of the slices
 pub record Laid (names recs out : List ℕ) (k : Counts) : Type 0 where

@@ -7,21 +7,17 @@ ghost use lib.ListN.{length, getD};
 ghost use Rattle.model.specs.Lists.{part};
 ghost use Rattle.model.specs.Reading.{most-names, most-records, most-entries};
 ghost use Rattle.records.specs.Columns.{macro-at};
-ghost use Rattle.records.specs.States.{uses-at};
 ghost use Rattle.records.specs.Macros.{opens-at, Filled};
 ghost use Rattle.scan.specs.Held.{waiting};
-ghost use Rattle.scan.specs.Tables.{retained, held-of, Laid};
-ghost use Rattle.scan.specs.Steps.{mark, marks, opened-all, entry-met, fires-in, Going, going, visit, visits-of, visited, met-phase, round, Rounds, Steady, Ready, work-column, run-end, work-room};
+ghost use Rattle.scan.specs.Tables.{retained, held-of, met-by, Goes, Laid};
+ghost use Rattle.scan.specs.Steps.{mark, marks, entry-met, fires-in, going, visit, visits-of, visit-phase, met-phase, round, Rounds, Steady, Ready, work-column, run-end, work-room};
 ghost use Rattle.scan.specs.Starts.{cleared, first-scan, starts-at, pushed};
 ghost use Rattle.scan.specs.Runs.{Ran};
 
-// The columns of the run's slice: by name, from word 0 on, the round first met; by record the round reached; the worklist, and where
-// it ends.
+// The columns of the run's slice: by name, from word 0 on, the round first met; by record the round reached; the worklist.
 pub const REACHED: usize = 2048;
 
-pub const WORK: usize = 3072;
-
-pub const RUN_END: usize = 5120;
+const WORK: usize = 3072;
 
 // The summary code of an ambient root.
 const AMBIENT_ROOT: usize = 2;
@@ -95,7 +91,7 @@ fn meet_record(
     round: usize,
 )
     requires { ⌜ Laid (now names) (now recs) (now out) k × (i < k .records) × (most-names ≤ length (now run)) × (round < 4294967296) ⌝ }
-    ensures { λ r. ⌜ now (run .exit) ≡ marks round (now (run .entry)) (opened-all (held-of (now (names .entry)) (now (recs .entry)) (now (out .entry)) k) (uses-at (now (recs .entry)) (now (out .entry)) i)) ⌝ }
+    ensures { λ r. ⌜ now (run .exit) ≡ marks round (now (run .entry)) (met-by (now (names .entry)) (now (recs .entry)) (now (out .entry)) k i) ⌝ }
 {
     let a = words::at(recs, records::USES_START + i);
     let e = words::at(recs, records::USES_END + i);
@@ -191,7 +187,7 @@ fn starts(recs: &[u32], k: Counts, i: usize) -> bool
 
 impl Scan {
     // Clears the columns of a run: nothing is met or reached.
-    pub fn start(run: &mut [u32]) -> Scan
+    fn start(run: &mut [u32]) -> Scan
         requires { ⌜ run-end ≤ length (now run) ⌝ }
         ensures { λ r. ⌜ going r (now (run .exit)) ≡ going first-scan (cleared work-column (now (run .entry))) ⌝ }
     {
@@ -210,7 +206,7 @@ impl Scan {
     }
 
     // Puts the records that round 1 scans behind the worklist.
-    pub fn add_roots(self, recs: &[u32], run: &mut [u32], k: Counts) -> Scan
+    fn add_roots(self, recs: &[u32], run: &mut [u32], k: Counts) -> Scan
         requires { ⌜ (k .records ≤ most-records) × (16384 ≤ length (now recs)) × (run-end ≤ length (now run)) × (self .to + k .records ≤ work-room) ⌝ }
         ensures { λ r. ⌜ going r (now (run .exit)) ≡ pushed (starts-at (now (recs .entry)) k) (k .records) (going self (now (run .entry))) ⌝ }
     {
@@ -246,7 +242,7 @@ impl Scan {
         e: usize,
     ) -> Scan
         requires { ⌜ Laid (now names) (now recs) (now out) k × Steady (going self (now run)) × (e < k .entries) ⌝ }
-        ensures { λ r. ⌜ going r (now (run .exit)) ≡ visit (held-of (now (names .entry)) (now (recs .entry)) (now (out .entry)) k) (going self (now (run .entry))) e ⌝ }
+        ensures { λ r. ⌜ Goes (now (names .entry)) (now (recs .entry)) (now (out .entry)) k (λ h g. visit h g e) self (now (run .entry)) r (now (run .exit)) ⌝ }
     {
         let i = words::at(out, records::FACT + e);
         let a = records::ENTRY + words::at(recs, records::ENTRIES_START + i);
@@ -298,7 +294,7 @@ impl Scan {
         n: usize,
     ) -> Scan
         requires { ⌜ Laid (now names) (now recs) (now out) k × Steady (going self (now run)) × (self .visits ≤ 2 * most-entries) × (n < k .named) ⌝ }
-        ensures { λ r. ⌜ going r (now (run .exit)) ≡ visits-of (held-of (now (names .entry)) (now (recs .entry)) (now (out .entry)) k) (going self (now (run .entry))) (waiting (held-of (now (names .entry)) (now (recs .entry)) (now (out .entry)) k) n (k .entries)) ⌝ }
+        ensures { λ r. ⌜ Goes (now (names .entry)) (now (recs .entry)) (now (out .entry)) k (λ h g. visits-of h g (waiting h n (k .entries))) self (now (run .entry)) r (now (run .exit)) ⌝ }
     {
         let mut s = self;
         let mut next = words::at(names, records::FIRST + n);
@@ -312,7 +308,7 @@ impl Scan {
     // Visits the entries of the names first met in this round.
     fn visit_new(self, names: &[u32], recs: &[u32], out: &[u32], run: &mut [u32], k: Counts) -> Scan
         requires { ⌜ Laid (now names) (now recs) (now out) k × Steady (going self (now run)) × (self .visits ≤ most-entries) ⌝ }
-        ensures { λ r. ⌜ going r (now (run .exit)) ≡ visits-of (held-of (now (names .entry)) (now (recs .entry)) (now (out .entry)) k) (going self (now (run .entry))) (visited (held-of (now (names .entry)) (now (recs .entry)) (now (out .entry)) k) (self .rounds) (now (run .entry)) (k .named)) ⌝ }
+        ensures { λ r. ⌜ Goes (now (names .entry)) (now (recs .entry)) (now (out .entry)) k visit-phase self (now (run .entry)) r (now (run .exit)) ⌝ }
     {
         let round = self.rounds;
         let named = k.named;
@@ -339,7 +335,7 @@ impl Scan {
         k: Counts,
     ) -> Scan
         requires { ⌜ Laid (now names) (now recs) (now out) k × Ready (held-of (now names) (now recs) (now out) k) (going self (now run)) ⌝ }
-        ensures { λ r. ⌜ going r (now (run .exit)) ≡ met-phase (held-of (now (names .entry)) (now (recs .entry)) (now (out .entry)) k) (going self (now (run .entry))) ⌝ }
+        ensures { λ r. ⌜ Goes (now (names .entry)) (now (recs .entry)) (now (out .entry)) k met-phase self (now (run .entry)) r (now (run .exit)) ⌝ }
     {
         let from = self.from;
         let to = self.to;
@@ -362,14 +358,14 @@ impl Scan {
     // A round: all that it scans is met, then the entries of the names first met in it are visited.
     fn round(self, names: &[u32], recs: &[u32], out: &[u32], run: &mut [u32], k: Counts) -> Scan
         requires { ⌜ Laid (now names) (now recs) (now out) k × Ready (held-of (now names) (now recs) (now out) k) (going self (now run)) ⌝ }
-        ensures { λ r. ⌜ going r (now (run .exit)) ≡ round (held-of (now (names .entry)) (now (recs .entry)) (now (out .entry)) k) (going self (now (run .entry))) ⌝ }
+        ensures { λ r. ⌜ Goes (now (names .entry)) (now (recs .entry)) (now (out .entry)) k round self (now (run .entry)) r (now (run .exit)) ⌝ }
     {
         let met = self.meet_items(names, recs, out, run, k);
         met.visit_new(names, recs, out, run, k)
     }
 
     // Round after round, to the one that triggers no fact.
-    pub fn go_on(self, names: &[u32], recs: &[u32], out: &[u32], run: &mut [u32], k: Counts) -> Scan
+    fn go_on(self, names: &[u32], recs: &[u32], out: &[u32], run: &mut [u32], k: Counts) -> Scan
         requires { ⌜ Laid (now names) (now recs) (now out) k × Ready (held-of (now names) (now recs) (now out) k) (going self (now run)) ⌝ }
         ensures { λ r. ⌜ Rounds (held-of (now (names .entry)) (now (recs .entry)) (now (out .entry)) k) (going self (now (run .entry))) (going r (now (run .exit))) ⌝ }
     {

@@ -2,7 +2,7 @@
 use Prim.Native.Nat.{_-_, _≤_}
 use native.Mathlib.Omega.{arith}
 use mathlib.Core.Path.{_≡_, refl, sym, _∙_}
-use mathlib.Core.Bool.{true, false}
+use mathlib.Core.Bool.{true}
 use borrow.Author.Needs.{needs}
 use borrow.Author.Tests.{not-true, not-false}
 use Rattle.model.specs.Lists.{part}
@@ -42,16 +42,26 @@ past-requires : tie.Need-past-requires Inv-loop μ-loop Inv-disjuncts μ-disjunc
 past-requires c κs = (omega arith, c .before .before .before .before .before .before .before .before .before .pre .1)
 
 disjuncts-less : tie.Need-disjuncts-less Inv-loop μ-loop Inv-disjuncts μ-disjuncts
-disjuncts-less c = omega (arith, c .past .ensures .0, c .past .ensures .1)
+disjuncts-less c =
+    omega (arith, c .past .ensures .0, c .past .ensures .1)
 
 disjuncts-again : tie.Need-disjuncts-again Inv-loop μ-loop Inv-disjuncts μ-disjuncts
 disjuncts-again c =
+    let if2 = c .before in
+    let if1 = if2 .before in
+    let entry-met = if1 .before in
+    let at = entry-met .before in
+    let test = at .before in
+    let loop = test .before in
+    let disjuncts = loop .before in
+    let entry = disjuncts .before .before .before in
     let passed = c .past .ensures in
-    let before = c .before .before .before .before .before .before .before .disjuncts .inv .2 ∙ c .before .before .before .before .before .before .loop .inv .2 in
-    let met = c .before .before .before .entry-met .ensures in (
+    let before = disjuncts .disjuncts .inv .2 ∙ loop .loop .inv .2 in
+    let met = entry-met .entry-met .ensures in (
       omega (arith, passed .0),
       passed .1,
-      before ∙ fires-unmet _ _ _ _ _ (c .before .before .before .before .before .loop-test .taken) (c .before .before .before .before .before .before .before .before .before .before .pre .1) (c .before .before .before .before .at .ensures) _ met (not-true _ (c .before .before .if1 .taken)) (c .before .if2 .taken) ∙ passed .2 _,
+      before ∙ fires-unmet _ _ _ _ _ (test .loop-test .taken) (entry .pre .1) (at .at .ensures) _ met (not-true _ (if1 .if1 .taken)) (if2 .if2 .taken)
+          ∙ passed .2 _,
     )
 
 disjuncts-less-2 : tie.Need-disjuncts-less-2 Inv-loop μ-loop Inv-disjuncts μ-disjuncts
@@ -59,11 +69,18 @@ disjuncts-less-2 c = omega arith
 
 disjuncts-again-2 : tie.Need-disjuncts-again-2 Inv-loop μ-loop Inv-disjuncts μ-disjuncts
 disjuncts-again-2 c =
-    let before = c .before .before .before .before .before .before .disjuncts .inv .2 ∙ c .before .before .before .before .before .loop .inv .2 in
-    let met = c .before .before .entry-met .ensures in (
+    let if1 = c .before in
+    let entry-met = if1 .before in
+    let at = entry-met .before in
+    let test = at .before in
+    let loop = test .before in
+    let disjuncts = loop .before in
+    let entry = disjuncts .before .before .before in
+    let before = disjuncts .disjuncts .inv .2 ∙ loop .loop .inv .2 in
+    let met = entry-met .entry-met .ensures in (
       omega arith,
       omega arith,
-      before ∙ fires-unmet-last _ _ _ _ _ (c .before .before .before .before .loop-test .taken) (c .before .before .before .before .before .before .before .before .before .pre .1) (c .before .before .before .at .ensures) _ met (not-true _ (c .before .if1 .taken)) (c .if2 .left),
+      before ∙ fires-unmet-last _ _ _ _ _ (test .loop-test .taken) (entry .pre .1) (at .at .ensures) _ met (not-true _ (if1 .if1 .taken)) (c .if2 .left),
     )
 
 loop-less : tie.Need-loop-less Inv-loop μ-loop Inv-disjuncts μ-disjuncts
@@ -71,20 +88,36 @@ loop-less c = omega arith
 
 loop-again : tie.Need-loop-again Inv-loop μ-loop Inv-disjuncts μ-disjuncts
 loop-again c =
-    let met = c .before .before .entry-met .ensures in (
+    let if1 = c .before in
+    let entry-met = if1 .before in
+    let at = entry-met .before in
+    let test = at .before in
+    let loop = test .before in
+    let entry = loop .before .before .before .before in
+    let met = entry-met .entry-met .ensures in (
       omega arith,
       omega arith,
-      c .before .before .before .before .before .loop .inv .2 ∙ fires-met _ _ _ _ _ (c .before .before .before .before .loop-test .taken) (c .before .before .before .before .before .before .before .before .before .pre .1) (c .before .before .before .at .ensures) _ met (not-false _ (c .before .if1 .left)) (c .if3 .left),
+      loop .loop .inv .2 ∙ fires-met _ _ _ _ _ (test .loop-test .taken) (entry .pre .1) (at .at .ensures) _ met (not-false _ (if1 .if1 .left)) (c .if3 .left),
     )
 
 returns : tie.Need-returns Inv-loop μ-loop Inv-disjuncts μ-disjuncts
 returns c =
-    let before = c .before .before .before .before .before .before .disjuncts .inv .2 ∙ c .before .before .before .before .before .loop .inv .2 in
-    let met = c .before .before .entry-met .ensures in
-    sym (before ∙ fires-met-last _ _ _ _ _ (c .before .before .before .before .loop-test .taken) (c .before .before .before .before .before .before .before .before .before .pre .1) (c .before .before .before .at .ensures) _ met (not-false _ (c .before .if1 .left)) (c .if3 .taken))
+    let if1 = c .before in
+    let entry-met = if1 .before in
+    let at = entry-met .before in
+    let test = at .before in
+    let loop = test .before in
+    let disjuncts = loop .before in
+    let entry = disjuncts .before .before .before in
+    let before = disjuncts .disjuncts .inv .2 ∙ loop .loop .inv .2 in
+    let met = entry-met .entry-met .ensures in
+    sym (before ∙ fires-met-last _ _ _ _ _ (test .loop-test .taken) (entry .pre .1) (at .at .ensures) _ met (not-false _ (if1 .if1 .left)) (c .if3 .taken))
 
 returns-2 : tie.Need-returns-2 Inv-loop μ-loop Inv-disjuncts μ-disjuncts
 returns-2 c = sym (c .before .before .disjuncts .inv .2 ∙ c .before .loop .inv .2 ∙ fires-end _ _ true _ _ (c .loop-test .left))
 
 pub fires-spec : {M : Type 1} → statement M
-fires-spec = tie.close (tie.spec Inv-loop μ-loop Inv-disjuncts μ-disjuncts disjuncts-holds loop-holds at-requires add-i entry-met-requires past-requires disjuncts-less disjuncts-again disjuncts-less-2 disjuncts-again-2 loop-less loop-again returns returns-2)
+fires-spec =
+    tie.close
+    (tie.spec Inv-loop μ-loop Inv-disjuncts μ-disjuncts disjuncts-holds loop-holds at-requires add-i entry-met-requires past-requires
+    disjuncts-less disjuncts-again disjuncts-less-2 disjuncts-again-2 loop-less loop-again returns returns-2)

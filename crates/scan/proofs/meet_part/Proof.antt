@@ -19,9 +19,12 @@ at-requires c κs = let pre = c .before .before .before .before .before .pre in 
 
 meet-requires : tie.Need-meet-requires Inv-loop μ-loop
 meet-requires c κs =
-    let pre = c .before .before .before .before .before .before .pre in
-    let inv = c .before .before .before .loop .inv in
-    let small = pre .2 (c .before .before .before .loop .i) (inv .low) (c .before .before .loop-test .taken) in
+    let test = c .before .before in
+    let loop = test .before in
+    let entry = loop .before .before .before in
+    let pre = entry .pre in
+    let inv = loop .loop .inv in
+    let small = pre .2 (loop .loop .i) (inv .low) (test .loop-test .taken) in
     let same = inv .same-length in
     (omega (arith, c .at .ensures), pre .3)
 
@@ -32,7 +35,13 @@ loop-less : tie.Need-loop-less Inv-loop μ-loop
 loop-less c = omega arith
 
 loop-again : tie.Need-loop-again Inv-loop μ-loop
-loop-again c = meet-next (c .before .before .before .before .before .before .loop .inv) (c .before .before .before .before .before .loop-test .taken) (c .before .before .before .before .before .before .before .before .before .pre .1) (c .before .before .before .at .ensures) (c .before .before .meet .ensures)
+loop-again c =
+    let meet = c .before .before in
+    let at = meet .before in
+    let test = at .before .before in
+    let loop = test .before in
+    let entry = loop .before .before .before in
+    meet-next (loop .loop .inv) (test .loop-test .taken) (entry .pre .1) (at .at .ensures) (meet .meet .ensures)
 
 same-length : tie.Need-same-length Inv-loop μ-loop
 same-length c = c .before .loop .inv .same-length

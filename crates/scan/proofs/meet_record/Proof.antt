@@ -16,7 +16,10 @@ abbrev μ-loop : tie.MeasureT-loop
 μ-loop names recs out run₀ k i round a e j₀ run j = e - j
 
 add-at : tie.Need-add-at Inv-loop μ-loop
-add-at c = let pre = c .before .before .before .before .pre in let few = pre .0 .few-records in omega arith
+add-at c =
+    let pre = c .before .before .before .before .pre in
+    let few = pre .0 .few-records in
+    omega arith
 
 at-requires : tie.Need-at-requires Inv-loop μ-loop
 at-requires c κs =
@@ -26,7 +29,10 @@ at-requires c κs =
     omega arith
 
 add-at-2 : tie.Need-add-at-2 Inv-loop μ-loop
-add-at-2 c = let pre = c .before .before .before .before .before .pre in let few = pre .0 .few-records in omega arith
+add-at-2 c =
+    let pre = c .before .before .before .before .before .pre in
+    let few = pre .0 .few-records in
+    omega arith
 
 at-requires-2 : tie.Need-at-requires-2 Inv-loop μ-loop
 at-requires-2 c κs =
@@ -50,29 +56,45 @@ at-requires-3 c κs =
 
 meet-requires : tie.Need-meet-requires Inv-loop μ-loop
 meet-requires c κs =
-    let pre = c .before .before .before .before .before .before .before .before .before .before .pre in
-    let inv = c .before .before .before .loop .inv in
+    let at3 = c .before in
+    let test = at3 .before in
+    let loop = test .before in
+    let at2 = loop .before in
+    let at = at2 .before in
+    let entry = at .before .before .before .before .before in
+    let pre = entry .pre in
+    let inv = loop .loop .inv in
     let low = inv .low in
     let same = inv .same-length in
-    let small = pre .0 .use-small _ (c .before .before .before .loop .j) (pre .1) (omega (arith, c .before .before .before .before .before .at .ensures)) (omega (arith, c .before .before .before .before .at2 .ensures, c .before .before .loop-test .taken)) in
+    let small = pre .0 .use-small _ (loop .loop .j) (pre .1) (omega (arith, at .at .ensures)) (omega (arith, at2 .at2 .ensures, test .loop-test .taken)) in
     let few = pre .0 .few-names in
-    (omega (arith, c .before .at3 .ensures, pre .2), pre .3)
+    (omega (arith, at3 .at3 .ensures, pre .2), pre .3)
 
 open-macro-requires : tie.Need-open-macro-requires Inv-loop μ-loop
 open-macro-requires c κs =
-    let pre = c .before .before .before .before .before .before .before .before .before .before .before .before .before .before .pre in
-    let inv = c .before .before .before .before .before .before .before .loop .inv in
+    let meet = c .before .before .before in
+    let at3 = meet .before .before in
+    let test = at3 .before in
+    let loop = test .before in
+    let at2 = loop .before in
+    let at = at2 .before in
+    let entry = at .before .before .before .before .before in
+    let pre = entry .pre in
+    let inv = loop .loop .inv in
     let low = inv .low in
     let same = inv .same-length in
-    let small = pre .0 .use-small _ (c .before .before .before .before .before .before .before .loop .j) (pre .1) (omega (arith, c .before .before .before .before .before .before .before .before .before .at .ensures)) (omega (arith, c .before .before .before .before .before .before .before .before .at2 .ensures, c .before .before .before .before .before .before .loop-test .taken)) in
-    let met = ap length (c .before .before .before .meet .ensures) ∙ mark-length _ _ _ in
-    (pre .0, omega (arith, c .before .before .before .before .before .at3 .ensures), omega (arith, pre .2), pre .3)
+    let small = pre .0 .use-small _ (loop .loop .j) (pre .1) (omega (arith, at .at .ensures)) (omega (arith, at2 .at2 .ensures, test .loop-test .taken)) in
+    let met = ap length (meet .meet .ensures) ∙ mark-length _ _ _ in
+    (pre .0, omega (arith, at3 .at3 .ensures), omega (arith, pre .2), pre .3)
 
 add-j : tie.Need-add-j Inv-loop μ-loop
 add-j c =
-    let pre = c .before .before .before .before .before .before .before .before .before .before .before .before .before .before .before .before .before .pre in
+    let test = c .before .before .before .before .before .before .before .before .before in
+    let at2 = test .before .before in
+    let entry = at2 .before .before .before .before .before .before in
+    let pre = entry .pre in
     let place = pre .0 .use-place _ (pre .1) in
-    omega (arith, c .before .before .before .before .before .before .before .before .before .before .before .at2 .ensures, c .before .before .before .before .before .before .before .before .before .loop-test .taken)
+    omega (arith, at2 .at2 .ensures, test .loop-test .taken)
 
 loop-less : tie.Need-loop-less Inv-loop μ-loop
 loop-less c = omega arith
@@ -80,16 +102,32 @@ loop-less c = omega arith
 loop-again : tie.Need-loop-again Inv-loop μ-loop
 unfolding held-of
 loop-again c =
-    let pre = c .before .before .before .before .before .before .before .before .before .before .before .before .before .before .before .before .before .pre in
+    let open-macro = c .before .before in
+    let meet = open-macro .before .before .before .before in
+    let at3 = meet .before .before in
+    let test = at3 .before in
+    let loop = test .before in
+    let at2 = loop .before in
+    let entry = at2 .before .before .before .before .before .before in
+    let pre = entry .pre in
     let place = pre .0 .use-place _ (pre .1) in
     let room = pre .0 .list-room in
-    all-next (c .before .before .before .before .before .before .before .before .before .before .loop .inv) (c .before .before .before .before .before .before .before .before .before .loop-test .taken) (omega (arith, c .before .before .before .before .before .before .before .before .before .before .before .at2 .ensures)) (c .before .before .before .before .before .before .before .before .at3 .ensures) (c .before .before .before .before .before .before .meet .ensures) (c .before .before .open-macro .ensures)
+    all-next (loop .loop .inv) (test .loop-test .taken) (omega (arith, at2 .at2 .ensures)) (at3 .at3 .ensures) (meet .meet .ensures)
+    (open-macro .open-macro .ensures)
 
 same-length : tie.Need-same-length Inv-loop μ-loop
 same-length c = c .before .loop .inv .same-length
 
 returns : tie.Need-returns Inv-loop μ-loop
-returns c = uses-met _ _ _ _ (c .before .before .before .before .before .before .before .before .args .recs .now) _ (c .before .before .before .before .before .before .before .before .args .i) _ _ (c .before .before .before .at .ensures) (c .before .before .at2 .ensures) (all-end (c .before .loop .inv) (c .loop-test .left))
+returns c =
+    let loop = c .before in
+    let at2 = loop .before in
+    let at = at2 .before in
+    let entry = at .before .before .before .before .before in
+    uses-met _ _ _ _ (entry .args .recs .now) _ (entry .args .i) _ _ (at .at .ensures) (at2 .at2 .ensures) (all-end (loop .loop .inv) (c .loop-test .left))
 
 pub meet-record-spec : {M : Type 1} → statement M
-meet-record-spec = tie.close (tie.spec Inv-loop μ-loop add-at at-requires add-at-2 at-requires-2 loop-holds at-requires-3 meet-requires open-macro-requires add-j loop-less loop-again same-length returns)
+meet-record-spec =
+    tie.close
+    (tie.spec Inv-loop μ-loop add-at at-requires add-at-2 at-requires-2 loop-holds at-requires-3 meet-requires open-macro-requires
+    add-j loop-less loop-again same-length returns)

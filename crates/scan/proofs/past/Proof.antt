@@ -26,13 +26,23 @@ add-j : tie.Need-add-j Inv-loop μ-loop
 add-j c = omega arith
 
 returns : tie.Need-returns Inv-loop μ-loop
-returns c = (omega arith, omega arith, λ w. c .before .before .before .loop .inv .2 w ∙ past-last w _ _ _ _ (c .before .before .loop-test .taken) (c .before .before .before .before .before .pre .1) (c .before .at .ensures) (c .if1 .taken))
+returns c =
+    let at = c .before in
+    let test = at .before in
+    let loop = test .before in
+    let entry = loop .before .before in
+    (omega arith, omega arith, λ w. loop .loop .inv .2 w ∙ past-last w _ _ _ _ (test .loop-test .taken) (entry .pre .1) (at .at .ensures) (c .if1 .taken))
 
 loop-less : tie.Need-loop-less Inv-loop μ-loop
 loop-less c = omega arith
 
 loop-again : tie.Need-loop-again Inv-loop μ-loop
-loop-again c = (omega arith, omega arith, λ w. c .before .before .before .loop .inv .2 w ∙ past-next w _ _ _ _ (c .before .before .loop-test .taken) (c .before .before .before .before .before .pre .1) (c .before .at .ensures) (c .if1 .left))
+loop-again c =
+    let at = c .before in
+    let test = at .before in
+    let loop = test .before in
+    let entry = loop .before .before in
+    (omega arith, omega arith, λ w. loop .loop .inv .2 w ∙ past-next w _ _ _ _ (test .loop-test .taken) (entry .pre .1) (at .at .ensures) (c .if1 .left))
 
 returns-2 : tie.Need-returns-2 Inv-loop μ-loop
 returns-2 c =

@@ -17,7 +17,11 @@ pretyping-axioms-requires : tie.Need-pretyping-axioms-requires
 pretyping-axioms-requires c κs = search needs
 
 returns-2 : tie.Need-returns-2
-returns-2 c = flag-on _ _ _ _ _ (c .before .before .at .ensures) (c .before .if1 .left) (c .pretyping-axioms .ensures (c .before .before .before .before .args .k .query))
+returns-2 c =
+    let if1 = c .before in
+    let at = if1 .before in
+    let entry = at .before .before in
+    flag-on _ _ _ _ _ (at .at .ensures) (if1 .if1 .left) (c .pretyping-axioms .ensures (entry .args .k .query))
 
 pub retained-spec : {M : Type 1} → statement M
 retained-spec = tie.close (tie.spec add-at at-requires returns pretyping-axioms-requires returns-2)

@@ -23,13 +23,20 @@ add-roots-requires c κs =
 
 go-on-requires : tie.Need-go-on-requires
 go-on-requires c κs =
-    let pre = c .before .before .before .before .before .before .before .before .before .before .before .before .before .before .pre in
-    (laid (pre .0), first-ready (pre .0) _ (pre .1) (roots-on _ _ (c .before .before .before .before .before .before .before .start .ensures) (c .before .before .before .add-roots .ensures)))
+    let add-roots = c .before .before .before in
+    let start = add-roots .before .before .before .before in
+    let entry = start .before .before .before .before .before .before .before in
+    let pre = entry .pre in
+    (laid (pre .0), first-ready (pre .0) _ (pre .1) (roots-on _ _ (start .start .ensures) (add-roots .add-roots .ensures)))
 
 returns : tie.Need-returns
 returns c =
-    let pre = c .before .before .before .before .before .before .before .before .before .before .before .before .before .before .before .before .before .pre in
-    ran (pre .0) _ (pre .1) (roots-on _ _ (c .before .before .before .before .before .before .before .before .before .before .start .ensures) (c .before .before .before .before .before .before .add-roots .ensures)) (c .before .before .go-on .ensures)
+    let go-on = c .before .before in
+    let add-roots = go-on .before .before .before .before in
+    let start = add-roots .before .before .before .before in
+    let entry = start .before .before .before .before .before .before .before in
+    let pre = entry .pre in
+    ran (pre .0) _ (pre .1) (roots-on _ _ (start .start .ensures) (add-roots .add-roots .ensures)) (go-on .go-on .ensures)
 
 same-length : tie.Need-same-length
 same-length c = returns c .same .same-length

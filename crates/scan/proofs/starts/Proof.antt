@@ -29,13 +29,26 @@ at-requires-3 : tie.Need-at-requires-3
 at-requires-3 c κs = search needs
 
 returns-3 : tie.Need-returns-3
-returns-3 c = starts-no _ _ _ _ (c .before .before .before .before .at .ensures) _ (c .before .before .if2 .left) (c .before .at3 .ensures) (c .if3 .taken)
+returns-3 c =
+    let at3 = c .before in
+    let if2 = at3 .before in
+    let at = if2 .before .before in
+    starts-no _ _ _ _ (at .at .ensures) _ (if2 .if2 .left) (at3 .at3 .ensures) (c .if3 .taken)
 
 no-ambients-requires : tie.Need-no-ambients-requires
 no-ambients-requires c κs = search needs
 
 returns-4 : tie.Need-returns-4
-returns-4 c = starts-ambient _ _ _ _ (c .before .before .before .before .before .at .ensures) _ _ (c .before .before .before .if2 .left) (c .before .before .at3 .ensures) (c .before .if3 .left) (c .no-ambients .ensures (c .before .before .before .before .before .before .before .args .k .query))
+returns-4 c =
+    let if3 = c .before in
+    let at3 = if3 .before in
+    let if2 = at3 .before in
+    let at = if2 .before .before in
+    let entry = at .before .before in
+    starts-ambient _ _ _ _ (at .at .ensures) _ _ (if2 .if2 .left) (at3 .at3 .ensures) (if3 .if3 .left) (c .no-ambients .ensures (entry .args .k .query))
 
 pub starts-spec : {M : Type 1} → statement M
-starts-spec = tie.close (tie.spec add-at at-requires add-at-2 at-requires-2 returns returns-2 add-at-3 at-requires-3 returns-3 no-ambients-requires returns-4)
+starts-spec =
+    tie.close
+    (tie.spec add-at at-requires add-at-2 at-requires-2 returns returns-2 add-at-3 at-requires-3 returns-3 no-ambients-requires
+    returns-4)

@@ -1,7 +1,6 @@
 -- `scan::Scan::add_roots` meets its contract. The loop's invariant: the records so far are on the worklist.
-use Prim.Native.Nat.{_+_, _-_, _≤_}
+use Prim.Native.Nat.{_-_}
 use native.Mathlib.Omega.{arith}
-use mathlib.Core.Path.{_≡_, refl, _∙_}
 use borrow.Author.Tests.{not-true, not-false}
 use Rattle.scan.specs.Starts.{starts-at}
 use Rattle.scan.proofs.Starting.{Adding, add-start, add-skip, add-next, add-end}
@@ -27,16 +26,26 @@ loop-less : tie.Need-loop-less Inv-loop μ-loop
 loop-less c = omega arith
 
 loop-again : tie.Need-loop-again Inv-loop μ-loop
-loop-again c = add-skip (c .before .before .before .loop .inv) (c .before .before .loop-test .taken) (c .before .starts .ensures) (not-true _ (c .if1 .taken))
+loop-again c =
+    let starts = c .before in
+    let test = starts .before in
+    let loop = test .before in
+    add-skip (loop .loop .inv) (test .loop-test .taken) (starts .starts .ensures) (not-true _ (c .if1 .taken))
 
 cast-run : tie.Need-cast-run Inv-loop μ-loop
 cast-run c = let pre = c .before .before .before .before .before .before .pre in omega (arith, c .before .before .loop-test .taken)
 
 add-run : tie.Need-add-run Inv-loop μ-loop
-add-run c = let pre = c .before .before .before .before .before .before .pre in let few = c .before .before .before .loop .inv .few in omega (arith, c .before .before .loop-test .taken)
+add-run c =
+    let pre = c .before .before .before .before .before .before .pre in
+    let few = c .before .before .before .loop .inv .few in
+    omega (arith, c .before .before .loop-test .taken)
 
 mul-run : tie.Need-mul-run Inv-loop μ-loop
-mul-run c = let pre = c .before .before .before .before .before .before .pre in let few = c .before .before .before .loop .inv .few in omega (arith, c .before .before .loop-test .taken)
+mul-run c =
+    let pre = c .before .before .before .before .before .before .pre in
+    let few = c .before .before .before .loop .inv .few in
+    omega (arith, c .before .before .loop-test .taken)
 
 slice-write-run : tie.Need-slice-write-run Inv-loop μ-loop
 slice-write-run c =
@@ -47,13 +56,20 @@ slice-write-run c =
     omega (arith, c .before .before .loop-test .taken)
 
 add-to : tie.Need-add-to Inv-loop μ-loop
-add-to c = let pre = c .before .before .before .before .before .before .pre in let few = c .before .before .before .loop .inv .few in omega (arith, c .before .before .loop-test .taken)
+add-to c =
+    let pre = c .before .before .before .before .before .before .pre in
+    let few = c .before .before .before .loop .inv .few in
+    omega (arith, c .before .before .loop-test .taken)
 
 loop-less-2 : tie.Need-loop-less-2 Inv-loop μ-loop
 loop-less-2 c = omega arith
 
 loop-again-2 : tie.Need-loop-again-2 Inv-loop μ-loop
-loop-again-2 c = add-next (c .before .before .before .loop .inv) (c .before .before .loop-test .taken) (c .before .starts .ensures) (not-false _ (c .if1 .left))
+loop-again-2 c =
+    let starts = c .before in
+    let test = starts .before in
+    let loop = test .before in
+    add-next (loop .loop .inv) (test .loop-test .taken) (starts .starts .ensures) (not-false _ (c .if1 .left))
 
 same-length : tie.Need-same-length Inv-loop μ-loop
 same-length c = c .before .loop .inv .same-length
@@ -62,4 +78,7 @@ returns : tie.Need-returns Inv-loop μ-loop
 returns c = add-end (c .before .loop .inv) (c .loop-test .left)
 
 pub add-roots-spec : {M : Type 1} → statement M
-add-roots-spec = tie.close (tie.spec Inv-loop μ-loop loop-holds add-i starts-requires loop-less loop-again cast-run add-run mul-run slice-write-run add-to loop-less-2 loop-again-2 same-length returns)
+add-roots-spec =
+    tie.close
+    (tie.spec Inv-loop μ-loop loop-holds add-i starts-requires loop-less loop-again cast-run add-run mul-run slice-write-run add-to
+    loop-less-2 loop-again-2 same-length returns)

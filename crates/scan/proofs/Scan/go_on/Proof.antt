@@ -19,16 +19,32 @@ round-requires : tie.Need-round-requires Inv-loop μ-loop
 round-requires c κs = (c .before .before .before .before .before .before .pre .0, c .before .loop .inv .ready)
 
 same-length : tie.Need-same-length Inv-loop μ-loop
-same-length c = on-length (c .before .before .before .before .before .before .before .before .before .before .before .pre .0) (c .before .before .before .before .before .before .loop .inv) (c .before .before .before .before .round .ensures)
+same-length c =
+    let round = c .before .before .before .before in
+    let loop = round .before .before in
+    let entry = loop .before .before .before .before .before in
+    on-length (entry .pre .0) (loop .loop .inv) (round .round .ensures)
 
 returns : tie.Need-returns Inv-loop μ-loop
-returns c = on-end (c .before .before .before .before .before .before .before .before .before .before .before .pre .0) (c .before .before .before .before .before .before .loop .inv) (c .before .before .before .before .round .ensures) (not-true _ (c .if1 .taken))
+returns c =
+    let round = c .before .before .before .before in
+    let loop = round .before .before in
+    let entry = loop .before .before .before .before .before in
+    on-end (entry .pre .0) (loop .loop .inv) (round .round .ensures) (not-true _ (c .if1 .taken))
 
 loop-less : tie.Need-loop-less Inv-loop μ-loop
-loop-less c = on-less (c .before .before .before .before .before .before .before .before .before .before .before .pre .0) (c .before .before .before .before .before .before .loop .inv) (c .before .before .before .before .round .ensures) (not-false _ (c .if1 .left))
+loop-less c =
+    let round = c .before .before .before .before in
+    let loop = round .before .before in
+    let entry = loop .before .before .before .before .before in
+    on-less (entry .pre .0) (loop .loop .inv) (round .round .ensures) (not-false _ (c .if1 .left))
 
 loop-again : tie.Need-loop-again Inv-loop μ-loop
-loop-again c = on-next (c .before .before .before .before .before .before .before .before .before .before .before .pre .0) (c .before .before .before .before .before .before .loop .inv) (c .before .before .before .before .round .ensures) (not-false _ (c .if1 .left))
+loop-again c =
+    let round = c .before .before .before .before in
+    let loop = round .before .before in
+    let entry = loop .before .before .before .before .before in
+    on-next (entry .pre .0) (loop .loop .inv) (round .round .ensures) (not-false _ (c .if1 .left))
 
 pub go-on-spec : {M : Type 1} → statement M
 go-on-spec = tie.close (tie.spec Inv-loop μ-loop loop-holds round-requires same-length returns loop-less loop-again)

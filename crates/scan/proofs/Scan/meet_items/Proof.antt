@@ -33,12 +33,16 @@ at-requires c κs =
 
 meet-record-requires : tie.Need-meet-record-requires Inv-loop μ-loop
 meet-record-requires c κs =
-    let pre = c .before .before .before .before .before .before .before .before .before .before .pre in
-    let inv = c .before .before .before .before .loop .inv in
+    let at = c .before in
+    let test = at .before .before in
+    let loop = test .before in
+    let entry = loop .before .before .before .before .before .before in
+    let pre = entry .pre in
+    let inv = loop .loop .inv in
     let same = inv .same-length in
     let long = pre .1 .room .long in
     let few = pre .1 .few-rounds in
-    (pre .0, scan-item (pre .0) (pre .1) inv (c .before .before .before .loop-test .taken) (c .before .at .ensures), omega arith, omega arith)
+    (pre .0, scan-item (pre .0) (pre .1) inv (test .loop-test .taken) (at .at .ensures), omega arith, omega arith)
 
 add-j : tie.Need-add-j Inv-loop μ-loop
 add-j c =
@@ -49,13 +53,25 @@ loop-less : tie.Need-loop-less Inv-loop μ-loop
 loop-less c = omega arith
 
 loop-again : tie.Need-loop-again Inv-loop μ-loop
-loop-again c = let pre = c .before .before .before .before .before .before .before .before .before .before .before .before .before .pre in scan-next (pre .0) (pre .1) (c .before .before .before .before .before .before .before .loop .inv) (c .before .before .before .before .before .before .loop-test .taken) (c .before .before .before .before .at .ensures) (c .before .before .meet-record .ensures)
+loop-again c =
+    let meet-record = c .before .before in
+    let at = meet-record .before .before in
+    let test = at .before .before in
+    let loop = test .before in
+    let entry = loop .before .before .before .before .before .before in
+    let pre = entry .pre in scan-next (pre .0) (pre .1) (loop .loop .inv) (test .loop-test .taken) (at .at .ensures) (meet-record .meet-record .ensures)
 
 same-length : tie.Need-same-length Inv-loop μ-loop
 same-length c = c .before .loop .inv .same-length
 
 returns : tie.Need-returns Inv-loop μ-loop
-returns c = let pre = c .before .before .before .before .before .before .before .pre in scan-end (pre .0) (pre .1) (c .before .loop .inv) (c .loop-test .left)
+returns c =
+    let loop = c .before in
+    let entry = loop .before .before .before .before .before .before in
+    let pre = entry .pre in scan-end (pre .0) (pre .1) (loop .loop .inv) (c .loop-test .left)
 
 pub meet-items-spec : {M : Type 1} → statement M
-meet-items-spec = tie.close (tie.spec Inv-loop μ-loop add-round loop-holds add-at at-requires meet-record-requires add-j loop-less loop-again same-length returns)
+meet-items-spec =
+    tie.close
+    (tie.spec Inv-loop μ-loop add-round loop-holds add-at at-requires meet-record-requires add-j loop-less loop-again same-length
+    returns)

@@ -1,5 +1,5 @@
 -- `scan::Scan::round` meets its contract.
-use mathlib.Core.Path.{ap, _∙_}
+use mathlib.Core.Path.{_∙_}
 use Rattle.scan.proofs.Phases.{met-steady, round-is}
 use Rattle.scan.proofs.Scan.round.Statement.{statement}
 use Rattle.scan.proofs.Scan.round.Tie as tie
@@ -17,7 +17,7 @@ same-length : tie.Need-same-length
 same-length c = c .before .run2 .given ∙ c .before .before .before .before .before .run .given
 
 returns : tie.Need-returns
-returns c = let pre = c .before .before .before .before .before .before .before .before .before .before .before .before .pre in round-is (pre .0) (pre .1) (c .before .before .before .before .before .before .meet-items .ensures) (c .before .before .visit-new .ensures)
+returns c = round-is _ _ (c .before .before .before .before .before .before .meet-items .ensures) (c .before .before .visit-new .ensures)
 
 pub round-spec : {M : Type 1} → statement M
 round-spec = tie.close (tie.spec meet-items-requires visit-new-requires same-length returns)

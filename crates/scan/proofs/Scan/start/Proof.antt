@@ -1,7 +1,7 @@
 -- `scan::Scan::start` meets its contract. The loop's invariant: the words so far are cleared.
 use Prim.Native.Nat.{_-_, _≤_}
 use native.Mathlib.Omega.{arith}
-use mathlib.Core.Path.{_≡_, refl, ap, _∙_}
+use mathlib.Core.Path.{_≡_, ap, _∙_}
 use lib.ListN.{length}
 use Rattle.scan.specs.Steps.{going, work-column}
 use Rattle.scan.specs.Starts.{cleared, first-scan}
@@ -40,7 +40,9 @@ same-length : tie.Need-same-length Inv-loop μ-loop
 same-length c = ap length (c .before .loop .inv .1) ∙ clear-length _ _
 
 returns : tie.Need-returns Inv-loop μ-loop
-returns c = ap (going first-scan) (clear-end _ _ (c .before .loop .inv .1) (c .before .loop .inv .0) (c .loop-test .left))
+returns c =
+    let loop = c .before in
+    ap (going first-scan) (clear-end _ _ (loop .loop .inv .1) (loop .loop .inv .0) (c .loop-test .left))
 
 pub start-spec : {M : Type 1} → statement M
 start-spec = tie.close (tie.spec Inv-loop μ-loop loop-holds mul-run slice-write-run add-i loop-less loop-again same-length returns)

@@ -1,6 +1,5 @@
 -- `scan::Scan::visit_chain` meets its contract. The loop's invariant: the chain is visited down to an entry.
 use native.Mathlib.Omega.{arith}
-use mathlib.Core.Path.{ap, _∙_}
 use Rattle.scan.specs.Steps.{going}
 use Rattle.scan.proofs.Chaining.{Visited-to, chain-start, chain-steady, chain-next, chain-less, chain-end}
 use Rattle.scan.proofs.Scan.visit_chain.Statement.{statement}
@@ -13,7 +12,10 @@ abbrev μ-loop : tie.MeasureT-loop
 μ-loop names recs out run₀ k n s₀ next₀ run s next = next
 
 add-at : tie.Need-add-at Inv-loop μ-loop
-add-at c = let pre = c .before .before .before .before .pre in let few = pre .0 .few-names in omega arith
+add-at c =
+    let pre = c .before .before .before .before .pre in
+    let few = pre .0 .few-names in
+    omega arith
 
 at-requires : tie.Need-at-requires Inv-loop μ-loop
 at-requires c κs =
@@ -54,19 +56,32 @@ at-requires-2 c κs =
 
 loop-less : tie.Need-loop-less Inv-loop μ-loop
 loop-less c =
-    let pre = c .before .before .before .before .before .before .before .before .before .before .before .before .pre in
-    chain-less (pre .0) (pre .1) (c .before .before .before .before .before .before .loop .inv) (omega (arith, c .before .before .before .before .before .loop-test .taken)) (c .at2 .ensures)
+    let test = c .before .before .before .before .before in
+    let loop = test .before in
+    let entry = loop .before .before .before .before .before .before in
+    let pre = entry .pre in
+    chain-less (pre .0) (pre .1) (loop .loop .inv) (omega (arith, test .loop-test .taken)) (c .at2 .ensures)
 
 loop-again : tie.Need-loop-again Inv-loop μ-loop
 loop-again c =
-    let pre = c .before .before .before .before .before .before .before .before .before .before .before .before .pre in
-    chain-next (pre .0) (pre .1) (c .before .before .before .before .before .before .loop .inv) (omega (arith, c .before .before .before .before .before .loop-test .taken)) (c .before .before .before .visit .ensures) (c .at2 .ensures)
+    let visit = c .before .before .before in
+    let test = visit .before .before in
+    let loop = test .before in
+    let entry = loop .before .before .before .before .before .before in
+    let pre = entry .pre in
+    chain-next (pre .0) (pre .1) (loop .loop .inv) (omega (arith, test .loop-test .taken)) (visit .visit .ensures) (c .at2 .ensures)
 
 same-length : tie.Need-same-length Inv-loop μ-loop
 same-length c = c .before .loop .inv .same-length
 
 returns : tie.Need-returns Inv-loop μ-loop
-returns c = let pre = c .before .before .before .before .before .before .before .pre in chain-end (pre .0) (pre .1) (c .before .loop .inv) (c .loop-test .left)
+returns c =
+    let loop = c .before in
+    let entry = loop .before .before .before .before .before .before in
+    let pre = entry .pre in chain-end (pre .0) (pre .1) (loop .loop .inv) (c .loop-test .left)
 
 pub visit-chain-spec : {M : Type 1} → statement M
-visit-chain-spec = tie.close (tie.spec Inv-loop μ-loop add-at at-requires loop-holds sub-visit visit-requires sub-at add-at-2 at-requires-2 loop-less loop-again same-length returns)
+visit-chain-spec =
+    tie.close
+    (tie.spec Inv-loop μ-loop add-at at-requires loop-holds sub-visit visit-requires sub-at add-at-2 at-requires-2 loop-less
+    loop-again same-length returns)

@@ -30,22 +30,36 @@ loop-less : tie.Need-loop-less Inv-loop μ-loop
 loop-less c = omega arith
 
 loop-again : tie.Need-loop-again Inv-loop μ-loop
-loop-again c = let pre = c .before .before .before .before .before .before .before .before .before .pre in sweep-skip (pre .0) (pre .1) (c .before .before .before .before .loop .inv) (c .before .before .before .loop-test .taken) _ (c .before .at .ensures) (c .if1 .taken)
+loop-again c =
+    let at = c .before in
+    let test = at .before .before in
+    let loop = test .before in
+    let entry = loop .before .before .before .before .before in
+    let pre = entry .pre in sweep-skip (pre .0) (pre .1) (loop .loop .inv) (test .loop-test .taken) _ (at .at .ensures) (c .if1 .taken)
 
 visit-chain-requires : tie.Need-visit-chain-requires Inv-loop μ-loop
 visit-chain-requires c κs =
-    let pre = c .before .before .before .before .before .before .before .before .before .before .pre in
-    let inv = c .before .before .before .before .before .loop .inv in
+    let test = c .before .before .before .before in
+    let loop = test .before in
+    let entry = loop .before .before .before .before .before in
+    let pre = entry .pre in
+    let inv = loop .loop .inv in
     let visits = sweep-visits (pre .0) (pre .1) inv in
-    (pre .0, sweep-steady (pre .0) (pre .1) inv (pre .2), omega (arith, pre .2), c .before .before .before .before .loop-test .taken)
+    (pre .0, sweep-steady (pre .0) (pre .1) inv (pre .2), omega (arith, pre .2), test .loop-test .taken)
 
 loop-less-2 : tie.Need-loop-less-2 Inv-loop μ-loop
 loop-less-2 c = omega arith
 
 loop-again-2 : tie.Need-loop-again-2 Inv-loop μ-loop
 loop-again-2 c =
-    let pre = c .before .before .before .before .before .before .before .before .before .before .before .before .before .pre in
-    sweep-next (pre .0) (pre .1) (c .before .before .before .before .before .before .before .before .loop .inv) (c .before .before .before .before .before .before .before .loop-test .taken) _ (c .before .before .before .before .before .at .ensures) (c .before .before .before .before .if1 .left) (c .before .before .visit-chain .ensures)
+    let visit-chain = c .before .before in
+    let if1 = visit-chain .before .before in
+    let at = if1 .before in
+    let test = at .before .before in
+    let loop = test .before in
+    let entry = loop .before .before .before .before .before in
+    let pre = entry .pre in
+    sweep-next (pre .0) (pre .1) (loop .loop .inv) (test .loop-test .taken) _ (at .at .ensures) (if1 .if1 .left) (visit-chain .visit-chain .ensures)
 
 same-length : tie.Need-same-length Inv-loop μ-loop
 same-length c = let pre = c .before .before .before .before .before .before .pre in sweep-fired (pre .0) (pre .1) (c .before .loop .inv) .same-length
@@ -54,4 +68,7 @@ returns : tie.Need-returns Inv-loop μ-loop
 returns c = sweep-end (c .before .before .before .before .before .before .pre .0) (c .before .loop .inv) (c .loop-test .left)
 
 pub visit-new-spec : {M : Type 1} → statement M
-visit-new-spec = tie.close (tie.spec Inv-loop μ-loop loop-holds add-n at-requires loop-less loop-again visit-chain-requires loop-less-2 loop-again-2 same-length returns)
+visit-new-spec =
+    tie.close
+    (tie.spec Inv-loop μ-loop loop-holds add-n at-requires loop-less loop-again visit-chain-requires loop-less-2 loop-again-2
+    same-length returns)
