@@ -258,7 +258,7 @@ impl Scan {
                 triggered: self.triggered,
             };
         }
-        let fired = Scan {
+        let mut fired = Scan {
             from: self.from,
             to,
             visits,
@@ -273,14 +273,8 @@ impl Scan {
         }
         run[REACHED + i] = self.rounds as u32;
         run[WORK + to] = i as u32;
-        let end = to + 1;
-        Scan {
-            from: self.from,
-            to: end,
-            visits,
-            rounds: self.rounds,
-            triggered: true,
-        }
+        fired.to = to + 1;
+        fired
     }
 
     // Visits the entries that wait on a name, newest first.
@@ -372,7 +366,8 @@ impl Scan {
         let mut s = self;
         loop {
             s = s.round(names, recs, out, run, k);
-            if !s.triggered {
+            let more = s.triggered;
+            if !more {
                 return s;
             }
         }

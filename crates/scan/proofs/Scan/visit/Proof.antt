@@ -201,8 +201,8 @@ slice-write-run-2 c =
     let long = room .long in
     rw length-set (omega arith)
 
-add-end : tie.Need-add-end
-add-end c =
+add-fired : tie.Need-add-fired
+add-fired c =
     let entry = c .before .before .before .before .before .before .before .before .before .before .before .before .before .before .before .before .before in
     let fits = entry .pre .1 .room .fits in omega arith
 
@@ -231,4 +231,4 @@ visit-spec =
     tie.close
     (tie.spec add-at at-requires add-at-2 at-requires-2 add-a add-at-3 at-requires-3 add-z add-visits fires-requires same-length
     returns retained-requires same-length-2 returns-2 add-at-4 at-requires-4 same-length-3 returns-3 cast-run add-run
-    mul-run slice-write-run cast-run-2 add-run-2 mul-run-2 slice-write-run-2 add-end same-length-4 returns-4)
+    mul-run slice-write-run cast-run-2 add-run-2 mul-run-2 slice-write-run-2 add-fired same-length-4 returns-4)
