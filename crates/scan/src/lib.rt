@@ -366,8 +366,7 @@ impl Scan {
         let mut s = self;
         loop {
             s = s.round(names, recs, out, run, k);
-            let more = s.triggered;
-            if !more {
+            if !s.triggered {
                 return s;
             }
         }

@@ -20,28 +20,28 @@ round-requires c κs = (c .before .before .before .before .before .before .pre .
 
 same-length : tie.Need-same-length Inv-loop μ-loop
 same-length c =
-    let round = c .before .before .before in
+    let round = c .before .before .before .before in
     let loop = round .before .before in
     let entry = loop .before .before .before .before .before in
     on-length (entry .pre .0) (loop .loop .inv) (round .round .ensures)
 
 returns : tie.Need-returns Inv-loop μ-loop
 returns c =
-    let round = c .before .before .before in
+    let round = c .before .before .before .before in
     let loop = round .before .before in
     let entry = loop .before .before .before .before .before in
     on-end (entry .pre .0) (loop .loop .inv) (round .round .ensures) (not-true _ (c .if1 .taken))
 
 loop-less : tie.Need-loop-less Inv-loop μ-loop
 loop-less c =
-    let round = c .before .before .before in
+    let round = c .before .before .before .before in
     let loop = round .before .before in
     let entry = loop .before .before .before .before .before in
     on-less (entry .pre .0) (loop .loop .inv) (round .round .ensures) (not-false _ (c .if1 .left))
 
 loop-again : tie.Need-loop-again Inv-loop μ-loop
 loop-again c =
-    let round = c .before .before .before in
+    let round = c .before .before .before .before in
     let loop = round .before .before in
     let entry = loop .before .before .before .before .before in
     on-next (entry .pre .0) (loop .loop .inv) (round .round .ensures) (not-false _ (c .if1 .left))

@@ -42,7 +42,7 @@ meet-record-requires c κs =
     let same = inv .same-length in
     let long = pre .1 .room .long in
     let few = pre .1 .few-rounds in
-    (pre .0, scan-item (pre .0) (pre .1) inv (test .loop-test .taken) (at .at .ensures), omega arith, omega arith)
+    (pre .0, scan-item (pre .0) (pre .1) inv (omega (arith, test .loop-test .taken)) (at .at .ensures), omega arith, omega arith)
 
 add-j : tie.Need-add-j Inv-loop μ-loop
 add-j c =
@@ -59,7 +59,7 @@ loop-again c =
     let test = at .before .before in
     let loop = test .before in
     let entry = loop .before .before .before .before .before .before in
-    let pre = entry .pre in scan-next (pre .0) (pre .1) (loop .loop .inv) (test .loop-test .taken) (at .at .ensures) (meet-record .meet-record .ensures)
+    let pre = entry .pre in scan-next (pre .0) (pre .1) (loop .loop .inv) (omega (arith, test .loop-test .taken)) (at .at .ensures) (meet-record .meet-record .ensures)
 
 same-length : tie.Need-same-length Inv-loop μ-loop
 same-length c = c .before .loop .inv .same-length
