@@ -167,11 +167,14 @@ module _ {file names recs out : List ℕ} {k : Counts} (x : Filled file names re
 
   -- ---- the run
 
-  module _ (w : List ℕ) (long : run-end ≤ length w) {g : Going} (is : g ≡ pushed (starts-at recs k) (k .records) (going first-scan (cleared work-column w))) where
+  module _ (w : List ℕ) (long : run-end ≤ length w) {g : Going}
+      (is : g ≡ pushed (starts-at recs k) (k .records) (going first-scan (cleared work-column w))) where
     -- the state before round 1
     first : Begun (held-of names recs out k) (starts-at recs k) g
     unfolding held-of
-    first = subst (λ g. Begun (held-of names recs out k) (starts-at recs k) g) (sym is) (begun (held-of names recs out k) (laid x .fits) (starts-at recs k) w long)
+    first =
+        subst (λ g. Begun (held-of names recs out k) (starts-at recs k) g) (sym is)
+        (begun (held-of names recs out k) (laid x .fits) (starts-at recs k) w long)
 
     pub first-ready : Ready (held-of names recs out k) g
     first-ready = first .ready

@@ -8,7 +8,7 @@ pub mod Meeting
 pub mod Rounds
 pub mod Running
 pub mod Starting
-pub mod Opened
+pub mod Meets
 pub mod Visiting
 pub mod Chaining
 pub mod Phases

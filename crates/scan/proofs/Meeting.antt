@@ -29,7 +29,8 @@ unfolding any
 any-map p f [] = refl
 any-map p f (x ∷ l) = ap (λ b. p (f x) || b) (any-map p f l)
 
-module _ {h : Held} {name : ℕ → Name} {a : Ask} {ms : Map (List Name)} {fs : List Fact} {fact : ℕ → Fact} (fits : Fits h) (holds : Holds h name a ms fs fact) where
+module _ {h : Held} {name : ℕ → Name} {a : Ask} {ms : Map (List Name)} {fs : List Fact} {fact : ℕ → Fact} (fits : Fits h)
+    (holds : Holds h name a ms fs fact) where
   -- a disjunct lies within names that agree where its numbers are marked
   within-at : (w : List ℕ) (met : List Name) → Agrees h name w met → (ns : List ℕ) → ((n : ℕ) → List·Memᴰ n ns → n < h .named)
       → lies-within met (from-list (map name ns)) ≡ all (is-met w) ns

@@ -34,7 +34,8 @@ pub record Scanned (h : Held) (s : Scan) (w₀ : List ℕ) (j : ℕ) (w : List �
 pub scan-start : (h : Held) (s : Scan) (w : List ℕ) → s .from ≤ s .to → Scanned h s w (s .from) w
 scan-start h s w l = record { left = refl; same-length = refl; high = λ j k. refl; low = omega arith; top = l }
 
-module _ {names recs out : List ℕ} {k : Counts} (laid : Laid names recs out k) {s : Scan} {w₀ : List ℕ} (ready : Ready (held-of names recs out k) (going s w₀)) where
+module _ {names recs out : List ℕ} {k : Counts} (laid : Laid names recs out k) {s : Scan} {w₀ : List ℕ}
+    (ready : Ready (held-of names recs out k) (going s w₀)) where
   abbrev h : Held
   h = held-of names recs out k
 

@@ -38,8 +38,8 @@ pub record At (h : Held) (name : ℕ → Name) (g : Going) (run : Run) (scanned 
   pub rounds-is : run .rounds ≡ g .scan .rounds
   pub scanned-is : (k : Name) → List·Memᴰ k scanned ↔ List·Memᴰ k (map name (collect (h .frees) (items g)))
 
-module _ {h : Held} {name : ℕ → Name} {a : Ask} {ms : Map (List Name)} {fs : List Fact} {fact : ℕ → Fact} (fits : Fits h) (holds : Holds h name a ms fs fact)
-    (g : Going) (ready : Ready h g) (run : Run) (scanned : List Name) (at : At h name g run scanned) where
+module _ {h : Held} {name : ℕ → Name} {a : Ask} {ms : Map (List Name)} {fs : List Fact} {fact : ℕ → Fact} (fits : Fits h)
+    (holds : Holds h name a ms fs fact) (g : Going) (ready : Ready h g) (run : Run) (scanned : List Name) (at : At h name g run scanned) where
   after-is : Agrees h name (met-then h g) (met-after ms run scanned)
   unfolding met-then
   after-is =

@@ -38,7 +38,8 @@ pub record Over (h : Held) (name : ℕ → Name) (fs : List Fact) (end : Run) (g
   pub rounds-are : end .rounds ≡ g .scan .rounds
   pub visits-are : visits (end .met) fs ≡ g .scan .visits
 
-module _ {h : Held} {name : ℕ → Name} {a : Ask} {ms : Map (List Name)} {fs : List Fact} {fact : ℕ → Fact} (fits : Fits h) (holds : Holds h name a ms fs fact) where
+module _ {h : Held} {name : ℕ → Name} {a : Ask} {ms : Map (List Name)} {fs : List Fact} {fact : ℕ → Fact} (fits : Fits h)
+    (holds : Holds h name a ms fs fact) where
   -- the filed names that are met are those of the entries whose names are marked
   count-visits : (w : List ℕ) (met : List Name) → Agrees h name w met
       → visits met fs ≡ count (λ e. ltb (h .entry-name e) (h .named) && is-met w (h .entry-name e)) (upto (h .entries))

@@ -250,7 +250,9 @@ pub record Begun (h : Held) (test : ℕ → Bool) (g : Going) : Type 0 where
 
 pub begun : (h : Held) → Fits h → (test : ℕ → Bool) (w : List ℕ) → run-end ≤ length w
     → Begun h test (pushed test (h .records) (going first-scan (cleared work-column w)))
-begun h fits test w long = go (pushed test (h .records) g₀) (pushed-is test (h .records) g₀ (omega arith) (omega (arith, fits .few-records)) (rw (clear-length work-column w) long))
+begun h fits test w long =
+    go (pushed test (h .records) g₀)
+    (pushed-is test (h .records) g₀ (omega arith) (omega (arith, fits .few-records)) (rw (clear-length work-column w) long))
   where
     g₀ : Going
     g₀ = going first-scan (cleared work-column w)
@@ -263,15 +265,19 @@ begun h fits test w long = go (pushed test (h .records) g₀) (pushed-is test (h
         let len : length (g .run) ≡ length w = p .same-length ∙ clear-length work-column w in
         let zeros : (i : ℕ) → i < work-column → _≡_ {A = ℕ} (getD (g .run) i 0) 0 = λ i l. p .low i l ∙ clear-zero work-column w (omega arith) i l in
         let no-met : (n : ℕ) → n < h .named → T (not (is-met (g .run) n)) = λ n l. none-met (g .run) n (zeros n (omega arith)) in
-        let no-reached : (i : ℕ) → i < most-records → T (not (is-reached (g .run) i)) = λ i l. none-reached (g .run) i (zeros (reached-column + i) (omega arith)) in
-        let scans : (i : ℕ) → List·Memᴰ i (items g) → (i < h .records) × T (test i) = λ i m. ⊎-elim (λ k. absurd (no-items (cleared work-column w) i k)) (λ q. q) (p .only i m) in
+        let no-reached : (i : ℕ) → i < most-records → T (not (is-reached (g .run) i)) =
+        λ i l. none-reached (g .run) i (zeros (reached-column + i) (omega arith)) in
+        let scans : (i : ℕ) → List·Memᴰ i (items g) → (i < h .records) × T (test i) =
+        λ i m. ⊎-elim (λ k. absurd (no-items (cleared work-column w) i k)) (λ q. q) (p .only i m) in
         record {
           ready = record {
             room = record { fits = let m = few-unreached (g .run) in omega arith; long = omega arith };
             ends = let a = p .from-same in omega arith;
             few-rounds = let a = p .rounds-same in let b = few-unmet (h .named) (g .run) in omega arith;
             low = λ n l. let z = zeros n (omega arith) in omega arith;
-            visits-are = p .visits-same ∙ sym (count-none (λ e. ltb (h .entry-name e) (h .named) && is-met (g .run) (h .entry-name e)) (upto (h .entries)) (λ e. each no-met (h .entry-name e) (ltb (h .entry-name e) (h .named)) refl));
+            visits-are = p .visits-same
+                ∙ sym (count-none (λ e. ltb (h .entry-name e) (h .named) && is-met (g .run) (h .entry-name e)) (upto (h .entries))
+                (λ e. each no-met (h .entry-name e) (ltb (h .entry-name e) (h .named)) refl));
             items-small = λ i m. scans i m .0;
             only-facts = λ i l r. absurd (T-not (is-reached (g .run) i) (no-reached i l) r);
           };

@@ -1,6 +1,6 @@
 -- `scan::meet` meets its contract.
 use borrow.Author.Needs.{needs}
-use Rattle.scan.proofs.Opened.{mark-set, mark-stay}
+use Rattle.scan.proofs.Meets.{mark-set, mark-stay}
 use Rattle.scan.proofs.meet.Statement.{statement}
 use Rattle.scan.proofs.meet.Tie as tie
 

@@ -1,7 +1,7 @@
 -- `scan::meet_part` meets its contract. The loop's invariant: what is left to meet comes to the whole.
 use Prim.Native.Nat.{_-_}
 use native.Mathlib.Omega.{arith}
-use Rattle.scan.proofs.Opened.{Met, meet-start, meet-next, meet-end}
+use Rattle.scan.proofs.Meets.{Met, meet-start, meet-next, meet-end}
 use Rattle.scan.proofs.meet_part.Statement.{statement}
 use Rattle.scan.proofs.meet_part.Tie as tie
 

@@ -5,7 +5,7 @@ use mathlib.Core.Path.{ap, _∙_}
 use lib.ListN.{length}
 use Rattle.scan.specs.Tables.{held-of}
 use Rattle.scan.proofs.Marks.{mark-length}
-use Rattle.scan.proofs.Opened.{Met-all, all-start, all-next, all-end, uses-met}
+use Rattle.scan.proofs.Meets.{Met-all, all-start, all-next, all-end, uses-met}
 use Rattle.scan.proofs.meet_record.Statement.{statement}
 use Rattle.scan.proofs.meet_record.Tie as tie
 

@@ -4,7 +4,7 @@ use borrow.Author.Needs.{needs}
 use mathlib.Core.Path.{ap, _∙_}
 use lib.ListN.{length}
 use Rattle.scan.proofs.Marks.{mark-length, marks-length}
-use Rattle.scan.proofs.Opened.{open-none, open-record, open-name, open-place, open-small}
+use Rattle.scan.proofs.Meets.{open-none, open-record, open-name, open-place, open-small}
 use Rattle.scan.proofs.open_macro.Statement.{statement}
 use Rattle.scan.proofs.open_macro.Tie as tie
 

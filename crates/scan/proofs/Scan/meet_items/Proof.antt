@@ -59,7 +59,9 @@ loop-again c =
     let test = at .before .before in
     let loop = test .before in
     let entry = loop .before .before .before .before .before .before in
-    let pre = entry .pre in scan-next (pre .0) (pre .1) (loop .loop .inv) (omega (arith, test .loop-test .taken)) (at .at .ensures) (meet-record .meet-record .ensures)
+    let pre = entry .pre in
+    scan-next (pre .0) (pre .1) (loop .loop .inv) (omega (arith, test .loop-test .taken)) (at .at .ensures)
+    (meet-record .meet-record .ensures)
 
 same-length : tie.Need-same-length Inv-loop μ-loop
 same-length c = c .before .loop .inv .same-length
