@@ -6,3 +6,7 @@ pub mod Judging
 pub mod Appending
 pub mod Plain
 pub mod Funs
+pub mod Uses
+pub mod Naming
+pub mod Coding
+pub mod Facts
