@@ -1,0 +1,12 @@
+pub mod Rows
+pub mod Chaining
+pub mod Recording
+pub mod Keeping
+pub mod Judging
+pub mod Appending
+pub mod Plain
+pub mod Funs
+pub mod Uses
+pub mod Naming
+pub mod Coding
+pub mod Facts

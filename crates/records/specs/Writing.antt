@@ -1,0 +1,90 @@
+-- The row of a record written, and its entries put on the chains of their names.
+use Prim.Native.Nat.{ℕ, _+_, _*_, _≤_, _<_}
+use mathlib.Core.Path.{_≡_}
+use mathlib.Core.List.{List, [], _∷_}
+use lib.ListN.{length, getD, set}
+use Rattle.model.specs.Reading.{most-names, most-records, most-entries}
+use Rattle.model.specs.declared.Counts.{Counts}
+use Rattle.gather.specs.Sets.{Same-but}
+use Rattle.records.specs.Columns.{record-word, record-kind, record-line, record-name, record-term, record-flag, uses-start, uses-end, entries-start, entries-end, summary-code, assume-kind, code-of, fact-column, next-column, first-column, taken-column, entry-fact}
+use Rattle.summary.specs.declared.Summary.{Summary}
+use Rattle.records.specs.Filing.{Chained}
+
+-- words into the columns of a record's row, from the c-th column on
+unfoldable pub put-row : List ℕ → ℕ → ℕ → List ℕ → List ℕ
+put-row recs i c [] = recs
+put-row recs i c (v ∷ vs) = put-row (set recs (c * most-records + i) v) i (c + 1) vs
+
+-- the counts with a record more: how many names, entries and uses there are then, and the next mark
+abbrev pub with-record : Counts → ℕ → ℕ → ℕ → ℕ → Counts
+with-record k named entries uses mark = record {
+  named = named;
+  used = k .used;
+  many = k .many;
+  records = k .records + 1;
+  entries = entries;
+  uses = uses;
+  mark = mark;
+  query = k .query;
+  options = k .options;
+}
+
+-- numbers that fit a word
+pub record Small (k k′ : Counts) (kind line name term flag code : ℕ) : Type 0 where
+  pub small-kind : kind < 4294967296
+  pub small-line : line < 4294967296
+  pub small-name : name < 4294967296
+  pub small-term : term < 4294967296
+  pub small-flag : flag < 4294967296
+  pub small-uses : k .uses < 4294967296
+  pub small-uses′ : k′ .uses < 4294967296
+  pub small-entries : k .entries < 4294967296
+  pub small-entries′ : k′ .entries < 4294967296
+  pub small-code : code < 4294967296
+
+-- the columns of a row
+abbrev pub row-columns : ℕ
+row-columns = 10
+
+-- the row of the record after those counted: its free names and entries are those counted since; other rows stay
+pub record Rowed (recs recs′ : List ℕ) (k k′ : Counts) (kind line name term flag code : ℕ) : Type 0 where
+  pub same-length : length recs′ ≡ length recs
+  pub others : (c j : ℕ) → j < most-records → (j ≡ k .records → ⊥) → record-word recs′ (c * most-records) j ≡ record-word recs (c * most-records) j
+  pub past : (j : ℕ) → row-columns * most-records ≤ j → getD recs′ j 0 ≡ getD recs j 0
+  pub kind-is : record-kind recs′ (k .records) ≡ kind
+  pub line-is : record-line recs′ (k .records) ≡ line
+  pub name-is : record-name recs′ (k .records) ≡ name
+  pub term-is : record-term recs′ (k .records) ≡ term
+  pub flag-is : record-flag recs′ (k .records) ≡ flag
+  pub uses-from : uses-start recs′ (k .records) ≡ k .uses
+  pub uses-to : uses-end recs′ (k .records) ≡ k′ .uses
+  pub entries-from : entries-start recs′ (k .records) ≡ k .entries
+  pub entries-to : entries-end recs′ (k .records) ≡ k′ .entries
+  pub code-is : summary-code recs′ (k .records) ≡ code
+
+-- the entries from one on up to another put on the chains of their names, as those of a record
+pub record Chains (names out names′ out′ : List ℕ) (from to fact : ℕ) : Type 0 where
+  pub chained : Chained names′ out′ to
+  pub names-same : Same-but first-column most-names names names′
+  pub out-length : length out′ ≡ length out
+  pub out-words : (i : ℕ) → (fact-column + from ≤ i → i < fact-column + to → ⊥) → (next-column + from ≤ i → i < next-column + to → ⊥)
+      → getD out′ i 0 ≡ getD out i 0
+  pub facts : (e : ℕ) → from ≤ e → e < to → entry-fact out′ e ≡ fact
+
+-- what putting a summary into the tables asks
+pub record Puttable (names recs out : List ℕ) (k : Counts) (line name flag term : ℕ) (s : Summary) : Type 0 where
+  pub chained : Chained names out (k .entries)
+  pub name-room : 16384 ≤ length names
+  pub record-room : 16384 ≤ length recs
+  pub out-room : 16384 ≤ length out
+  pub few : k .records < most-records
+  pub known : name < most-names
+  pub more : k .entries ≤ s .entries
+  pub few-entries : s .entries ≤ most-entries
+  pub small : Small k (with-record k (s .named) (s .entries) (s .uses) (s .mark)) assume-kind line name term flag (code-of (s .kind))
+
+-- a summary put into the tables: the counts, the row, the name taken, the entries chained
+pub record Puts (names recs out names′ recs′ out′ : List ℕ) (k : Counts) (line name flag term : ℕ) (s : Summary) (r : Counts) : Type 0 where
+  pub counts : r ≡ with-record k (s .named) (s .entries) (s .uses) (s .mark)
+  pub row : Rowed recs recs′ k r assume-kind line name term flag (code-of (s .kind))
+  pub chains : Chains (set names (taken-column + name) (k .records + 1)) out names′ out′ (k .entries) (s .entries) (k .records)

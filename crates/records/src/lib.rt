@@ -1,0 +1,421 @@
+use gather::Walked;
+use model::AsumKind;
+use model::Counts;
+use model::Refusal;
+use summary::Summarized;
+use summary::Summary;
+ghost use Prim.Native.Nat.{ℕ, _+_, _≤_, _<_};
+ghost use mathlib.Core.Path.{_≡_};
+ghost use mathlib.Core.List.{[]};
+ghost use lib.ListN.{length};
+ghost use lib.Dec.{eqb};
+ghost use Rattle.model.specs.Reading.{assume, fun, def, retain, root, most-names, most-records, most-entries, no-ambients, pretyping-axioms, prune-decls};
+ghost use Rattle.names.specs.Table.{name-of};
+ghost use Rattle.records.specs.Columns.{code-of};
+ghost use Rattle.records.specs.States.{asks};
+ghost use Rattle.records.specs.Filing.{Chained};
+ghost use Rattle.records.specs.Writing.{put-row, with-record, Small, Rowed, Chains, Puttable, Puts};
+ghost use Rattle.records.specs.Adding.{Standing, Adds, Untouched};
+
+// What a line comes to: on with these counts, or its refusal.
+pub enum Step {
+    On(Counts),
+    Refused(Refusal),
+}
+
+// The columns of the records slice, by the record's number.
+pub const KIND: usize = 0;
+
+pub const LINE: usize = 1024;
+
+pub const NAME: usize = 2048;
+
+pub const TERM: usize = 3072;
+
+pub const FLAG: usize = 4096;
+
+pub const USES_START: usize = 5120;
+
+pub const USES_END: usize = 6144;
+
+pub const ENTRIES_START: usize = 7168;
+
+pub const ENTRIES_END: usize = 8192;
+
+pub const SUMMARY: usize = 9216;
+
+// The kinds of records.
+pub const ASSUME: usize = 0;
+
+pub const FUN: usize = 1;
+
+pub const DEF: usize = 2;
+
+pub const RETAIN: usize = 3;
+
+pub const ROOT: usize = 4;
+
+// The columns of the lists slice, by the entry's number: the entry, the record of its fact, the next older entry on its name and one.
+pub const ENTRY: usize = 6144;
+
+pub const FACT: usize = 8192;
+
+pub const NEXT: usize = 10240;
+
+// Added to the last entry of a disjunct; the entry of an empty disjunct has no name.
+pub const LAST_ENTRY: usize = 4096;
+
+pub const NO_NAME: usize = 2048;
+
+// The columns of the names slice, by the name's number: the record that took it and one, its macro word, the newest entry on it and one.
+pub const TAKEN: usize = 10240;
+
+pub const MACRO: usize = 12288;
+
+pub const FIRST: usize = 14336;
+
+// Macro words from here on say the number of the name that a macro of the start opens to.
+pub const OPENED: usize = 2048;
+
+// The head code of the first macro of the start, and how many there are.
+pub const FIRST_MACRO: usize = 10;
+
+pub const MACRO_COUNT: usize = 5;
+
+// Option 1, `no_ambients`.
+pub fn no_ambients(options: usize) -> bool
+    ensures { λ r. ⌜ ((q : ℕ) → r ≡ no-ambients (asks q options)) ⌝ }
+{
+    options % 2 == 1
+}
+
+// Option 2, `pretyping_axioms`.
+pub fn pretyping_axioms(options: usize) -> bool
+    ensures { λ r. ⌜ ((q : ℕ) → r ≡ pretyping-axioms (asks q options)) ⌝ }
+{
+    options / 2 % 2 == 1
+}
+
+// Option 4, `prune_decls`.
+pub fn prune_decls(options: usize) -> bool
+    ensures { λ r. ⌜ ((q : ℕ) → r ≡ prune-decls (asks q options)) ⌝ }
+{
+    options / 4 % 2 == 1
+}
+
+// Writes the row of a record: a word for each of its ten columns.
+fn put_row(recs: &mut [u32], i: usize, row: &[u32])
+    requires { ⌜ (i < most-records) × (16384 ≤ length (now recs)) × (length (now row) ≡ 10) ⌝ }
+    ensures { λ x. ⌜ now (recs .exit) ≡ put-row (now (recs .entry)) i 0 (now (row .entry)) ⌝ }
+{
+    let mut c: usize = 0;
+    while c < row.len() {
+        recs[c * model::MOST_RECORDS + i] = row[c];
+        c += 1;
+    }
+}
+
+// The counts with a record more.
+fn with_record(k: Counts, named: usize, entries: usize, uses: usize, mark: usize) -> Counts
+    requires { ⌜ k .records < most-records ⌝ }
+    ensures { λ r. ⌜ r ≡ with-record k named entries uses mark ⌝ }
+{
+    Counts {
+        named,
+        used: k.used,
+        many: k.many,
+        records: k.records + 1,
+        entries,
+        uses,
+        mark,
+        query: k.query,
+        options: k.options,
+    }
+}
+
+// Writes the row of the record after those counted: its free names and entries are those from the counts `k` on up to `next`.
+fn put_record(
+    recs: &mut [u32],
+    k: Counts,
+    next: Counts,
+    kind: usize,
+    line: usize,
+    name: usize,
+    term: usize,
+    flag: usize,
+    code: usize,
+)
+    requires { ⌜ (k .records < most-records) × (16384 ≤ length (now recs)) × Small k next kind line name term flag code ⌝ }
+    ensures { λ x. ⌜ Rowed (now (recs .entry)) (now (recs .exit)) k next kind line name term flag code ⌝ }
+{
+    let row = [
+        kind as u32,
+        line as u32,
+        name as u32,
+        term as u32,
+        flag as u32,
+        k.uses as u32,
+        next.uses as u32,
+        k.entries as u32,
+        next.entries as u32,
+        code as u32,
+    ];
+    put_row(recs, k.records, &row);
+}
+
+// Puts the entries from `from` on up to `to`, which are those of the record `fact`, on the chains of their names.
+fn chain_entries(names: &mut [u32], out: &mut [u32], from: usize, to: usize, fact: usize)
+    requires { ⌜ Chained (now names) (now out) from × (from ≤ to) × (to ≤ most-entries) × (fact < most-records) × (16384 ≤ length (now names)) × (16384 ≤ length (now out)) ⌝ }
+    ensures { λ x. ⌜ Chains (now (names .entry)) (now (out .entry)) (now (names .exit)) (now (out .exit)) from to fact ⌝ }
+{
+    let mut e = from;
+    while e < to {
+        let k = e;
+        let n = words::at(out, ENTRY + k) % LAST_ENTRY;
+        e += 1;
+        out[FACT + k] = fact as u32;
+        if NO_NAME <= n {
+            continue;
+        }
+        out[NEXT + k] = names[FIRST + n];
+        names[FIRST + n] = e as u32;
+    }
+}
+
+// Adds a `retain` record.
+pub fn add_retain(
+    file: &[u8],
+    names: &[u32],
+    refs: &[u32],
+    rows: &[u32],
+    recs: &mut [u32],
+    out: &[u32],
+    k: Counts,
+    line: usize,
+) -> Step
+    requires { ⌜ (k .named ≤ most-names → Standing (now file) (now names) (now refs) (now rows) (now recs) (now out) k) × (line < 4294967296) ⌝ }
+    ensures record { λ r. ⌜ Adds (now (file .entry)) (now (names .entry)) (now (refs .entry)) (now (rows .entry)) (now (recs .entry)) (now (out .entry)) (now (names .entry)) (now (rows .entry)) (now (recs .exit)) (now (out .entry)) k line (retain []) r ⌝ }
+    ensures past { λ r. ⌜ Untouched (now (names .entry)) (now (rows .entry)) (now (recs .entry)) (now (out .entry)) (now (names .entry)) (now (rows .entry)) (now (recs .exit)) (now (out .entry)) ⌝ }
+{
+    if model::MOST_NAMES < k.named {
+        return Step::Refused(Refusal::Limit);
+    }
+    if model::MOST_RECORDS <= k.records {
+        return Step::Refused(Refusal::Limit);
+    }
+    let next = with_record(k, k.named, k.entries, k.uses, k.mark);
+    put_record(recs, k, next, RETAIN, line, 0, 0, 0, 0);
+    Step::On(next)
+}
+
+// Adds a `fun` record, its name by number.
+pub fn add_fun(
+    file: &[u8],
+    names: &mut [u32],
+    refs: &[u32],
+    rows: &[u32],
+    recs: &mut [u32],
+    out: &[u32],
+    k: Counts,
+    line: usize,
+    i: usize,
+) -> Step
+    requires { ⌜ (k .named ≤ most-names → Standing (now file) (now names) (now refs) (now rows) (now recs) (now out) k × (i < k .named)) × (line < 4294967296) ⌝ }
+    ensures record { λ r. ⌜ Adds (now (file .entry)) (now (names .entry)) (now (refs .entry)) (now (rows .entry)) (now (recs .entry)) (now (out .entry)) (now (names .exit)) (now (rows .entry)) (now (recs .exit)) (now (out .entry)) k line (fun (name-of (now (file .entry)) (now (names .entry)) i)) r ⌝ }
+    ensures past { λ r. ⌜ Untouched (now (names .entry)) (now (rows .entry)) (now (recs .entry)) (now (out .entry)) (now (names .exit)) (now (rows .entry)) (now (recs .exit)) (now (out .entry)) ⌝ }
+{
+    if model::MOST_NAMES < k.named {
+        return Step::Refused(Refusal::Limit);
+    }
+    if 0 < words::at(names, TAKEN + i) {
+        return Step::Refused(Refusal::Repeated);
+    }
+    if model::MOST_RECORDS <= k.records {
+        return Step::Refused(Refusal::Limit);
+    }
+    names[TAKEN + i] = (k.records + 1) as u32;
+    let next = with_record(k, k.named, k.entries, k.uses, k.mark);
+    put_record(recs, k, next, FUN, line, i, 0, 0, 0);
+    Step::On(next)
+}
+
+// Adds a `def` record, its name and its term by number.
+pub fn add_def(
+    file: &[u8],
+    names: &mut [u32],
+    refs: &[u32],
+    rows: &mut [u32],
+    recs: &mut [u32],
+    out: &mut [u32],
+    k: Counts,
+    line: usize,
+    i: usize,
+    t: usize,
+) -> Step
+    requires { ⌜ (k .named ≤ most-names → Standing (now file) (now names) (now refs) (now rows) (now recs) (now out) k × (i < k .named)) × (t < k .many) × (line < 4294967296) ⌝ }
+    ensures record { λ r. ⌜ Adds (now (file .entry)) (now (names .entry)) (now (refs .entry)) (now (rows .entry)) (now (recs .entry)) (now (out .entry)) (now (names .exit)) (now (rows .exit)) (now (recs .exit)) (now (out .exit)) k line (def (name-of (now (file .entry)) (now (names .entry)) i) t) r ⌝ }
+    ensures past { λ r. ⌜ Untouched (now (names .entry)) (now (rows .entry)) (now (recs .entry)) (now (out .entry)) (now (names .exit)) (now (rows .exit)) (now (recs .exit)) (now (out .exit)) ⌝ }
+{
+    if model::MOST_NAMES < k.named {
+        return Step::Refused(Refusal::Limit);
+    }
+    if 0 < words::at(names, TAKEN + i) {
+        return Step::Refused(Refusal::Repeated);
+    }
+    if model::MOST_RECORDS <= k.records {
+        return Step::Refused(Refusal::Limit);
+    }
+    let mark = k.mark as u32;
+    let Walked::Names(uses) = gather::gather_term(
+        names,
+        refs,
+        rows,
+        out,
+        k.named,
+        k.used,
+        k.many,
+        t,
+        mark,
+        k.uses,
+        model::MOST_USES,
+    ) else {
+        return Step::Refused(Refusal::Limit);
+    };
+    names[TAKEN + i] = (k.records + 1) as u32;
+    let next = with_record(k, k.named, k.entries, uses, k.mark + 1);
+    put_record(recs, k, next, DEF, line, i, t, 0, 0);
+    Step::On(next)
+}
+
+// Adds a `root` record of a query, its name and its term by number.
+pub fn add_root(
+    file: &[u8],
+    names: &mut [u32],
+    refs: &[u32],
+    rows: &mut [u32],
+    recs: &mut [u32],
+    out: &mut [u32],
+    k: Counts,
+    line: usize,
+    query: usize,
+    i: usize,
+    t: usize,
+) -> Step
+    requires { ⌜ (k .named ≤ most-names → Standing (now file) (now names) (now refs) (now rows) (now recs) (now out) k × (i < k .named)) × (t < k .many) × (line < 4294967296) × (query < 256) ⌝ }
+    ensures record { λ r. ⌜ Adds (now (file .entry)) (now (names .entry)) (now (refs .entry)) (now (rows .entry)) (now (recs .entry)) (now (out .entry)) (now (names .exit)) (now (rows .exit)) (now (recs .exit)) (now (out .exit)) k line (root query (name-of (now (file .entry)) (now (names .entry)) i) t) r ⌝ }
+    ensures past { λ r. ⌜ Untouched (now (names .entry)) (now (rows .entry)) (now (recs .entry)) (now (out .entry)) (now (names .exit)) (now (rows .exit)) (now (recs .exit)) (now (out .exit)) ⌝ }
+{
+    if model::MOST_NAMES < k.named {
+        return Step::Refused(Refusal::Limit);
+    }
+    if model::MOST_RECORDS <= k.records {
+        return Step::Refused(Refusal::Limit);
+    }
+    let mark = k.mark as u32;
+    let Walked::Names(uses) = gather::gather_term(
+        names,
+        refs,
+        rows,
+        out,
+        k.named,
+        k.used,
+        k.many,
+        t,
+        mark,
+        k.uses,
+        model::MOST_USES,
+    ) else {
+        return Step::Refused(Refusal::Limit);
+    };
+    let next = with_record(k, k.named, k.entries, uses, k.mark + 1);
+    put_record(recs, k, next, ROOT, line, i, t, query, 0);
+    Step::On(next)
+}
+
+// The code of a fact's kind.
+fn code(kind: AsumKind) -> usize
+    requires { ⌜ code-of kind < 4294967296 ⌝ }
+    ensures { λ r. ⌜ r ≡ code-of kind ⌝ }
+{
+    match kind {
+        AsumKind::Drop => 0,
+        AsumKind::Ambient(root) => {
+            if root {
+                return 2;
+            }
+            1
+        }
+        AsumKind::Triggers(n) => 3 + n,
+    }
+}
+
+// Puts the summary of a fact into the tables: its name is taken, its row written, its entries put on their chains.
+fn put_fact(
+    names: &mut [u32],
+    recs: &mut [u32],
+    out: &mut [u32],
+    k: Counts,
+    line: usize,
+    i: usize,
+    flag: usize,
+    t: usize,
+    s: Summary,
+) -> Counts
+    requires { ⌜ Puttable (now names) (now recs) (now out) k line i flag t s ⌝ }
+    ensures { λ r. ⌜ Puts (now (names .entry)) (now (recs .entry)) (now (out .entry)) (now (names .exit)) (now (recs .exit)) (now (out .exit)) k line i flag t s r ⌝ }
+{
+    let kind = s.kind;
+    let word = code(kind);
+    names[TAKEN + i] = (k.records + 1) as u32;
+    let next = with_record(k, s.named, s.entries, s.uses, s.mark);
+    put_record(recs, k, next, ASSUME, line, i, t, flag, word);
+    chain_entries(names, out, k.entries, s.entries, k.records);
+    next
+}
+
+// Adds the fact of an `assume` record, its name and its term by number: it is filed whether it is retainable or not.
+pub fn add_fact(
+    file: &[u8],
+    names: &mut [u32],
+    refs: &[u32],
+    rows: &mut [u32],
+    recs: &mut [u32],
+    out: &mut [u32],
+    k: Counts,
+    line: usize,
+    i: usize,
+    flag: usize,
+    t: usize,
+) -> Step
+    requires { ⌜ (k .named ≤ most-names → Standing (now file) (now names) (now refs) (now rows) (now recs) (now out) k × (i < k .named)) × (t < k .many) × (line < 4294967296) × (flag < 2) ⌝ }
+    ensures record { λ r. ⌜ Adds (now (file .entry)) (now (names .entry)) (now (refs .entry)) (now (rows .entry)) (now (recs .entry)) (now (out .entry)) (now (names .exit)) (now (rows .exit)) (now (recs .exit)) (now (out .exit)) k line (assume (name-of (now (file .entry)) (now (names .entry)) i) (eqb flag 1) t) r ⌝ }
+    ensures past { λ r. ⌜ Untouched (now (names .entry)) (now (rows .entry)) (now (recs .entry)) (now (out .entry)) (now (names .exit)) (now (rows .exit)) (now (recs .exit)) (now (out .exit)) ⌝ }
+{
+    if model::MOST_NAMES < k.named {
+        return Step::Refused(Refusal::Limit);
+    }
+    if 0 < words::at(names, TAKEN + i) {
+        return Step::Refused(Refusal::Repeated);
+    }
+    if model::MOST_RECORDS <= k.records {
+        return Step::Refused(Refusal::Limit);
+    }
+    match summary::summarize_assumption(
+        file,
+        names,
+        refs,
+        rows,
+        out,
+        k.named,
+        k.used,
+        k.many,
+        i,
+        t,
+        k.mark,
+        k.entries,
+        k.uses,
+    ) {
+        Summarized::Done(s) => Step::On(put_fact(names, recs, out, k, line, i, flag, t, s)),
+        Summarized::Over(_) => Step::Refused(Refusal::Limit),
+    }
+}

@@ -1,0 +1,236 @@
+-- The facts, the definitions and the roots of the tables, record by record, and the filed names.
+use Prim.Native.Nat.{ℕ, zero, suc, _+_, _-_, _%_, _≤_, _<_}
+use native.Mathlib.Omega.{arith}
+use mathlib.Core.Path.{_≡_, refl, sym, ap, ap₂, _∙_}
+use mathlib.Core.Bool.{Bool, true, false, cond, _&&_}
+use mathlib.Core.Logic.{_⊎_, inl, inr, ⊎-elim}
+use mathlib.Core.List.{List, [], _∷_, _++_, append-nil, List·Memᴰ, List·Memᴰ·head, List·Memᴰ·not-nil, List·Memᴰ·cases-cons, List·Memᴰ·append-cases, Memᴰ·append-left, Memᴰ·append-right}
+use lib.ListN.{length, getD}
+use lib.Dec.{T, ltb, eqb}
+use borrow.Author.Tests.{ne-eqb, lt-ltb, ltb-true, ltb-false}
+use Rattle.model.specs.Lists.{count, collect, concat, part}
+use Rattle.model.specs.Names.{Name}
+use Rattle.model.specs.Summaries.{Fact}
+use Rattle.model.specs.Reading.{Decl, Root}
+use Rattle.model.specs.Rounds.{facts, definitions, listed, filed}
+use Rattle.model.proofs.ListLaws.{count-append, collect-append}
+use Rattle.model.proofs.PartLaws.{part-nil, part-length}
+use Rattle.demands.proofs.Records.{facts-append, definitions-append}
+use Rattle.terms.proofs.Laws.{equal}
+use Rattle.triggers.specs.Entries.{disjuncts-of, entries}
+use Rattle.records.specs.Columns.{record-kind, record-line, record-name, record-flag, entries-start, entries-end, assume-kind, def-kind, retain-kind, last-entry, no-name, entry-column, entry-name, entry-fact}
+use Rattle.records.specs.States.{entries-at, free-at, fact-at, decl-at, summary-at, root-at, decls-of, roots-of}
+use Rattle.records.specs.Filing.{Records, entries-before, Filing}
+use Rattle.scan.specs.Held.{upto}
+use Rattle.scan.proofs.Listing.{listed-count, places-count}
+
+-- ---- lists that each record adds to
+
+pub only : {A : Type 0} {x y : A} → List·Memᴰ x (y ∷ []) → x ≡ y
+only m = ⊎-elim (λ q. q) (λ q. absurd (List·Memᴰ·not-nil q)) (List·Memᴰ·cases-cons m)
+
+-- one element, if the test holds
+one-elim : {A : Type 0} (b : Bool) {x y : A} → List·Memᴰ x (cond b (y ∷ []) []) → T b × (x ≡ y)
+one-elim true m = (tt, only m)
+one-elim false m = absurd (List·Memᴰ·not-nil m)
+
+one-intro : {A : Type 0} (b : Bool) {y : A} → T b → List·Memᴰ y (cond b (y ∷ []) [])
+one-intro true t = List·Memᴰ·head refl
+one-intro false t = absurd t
+
+module _ {A : Type 0} (list : ℕ → List A) (test : ℕ → Bool) (one : ℕ → A) (start : list 0 ≡ [])
+    (next : (n : ℕ) → list (suc n) ≡ list n ++ cond (test n) (one n ∷ []) []) where
+  each-elim : (n : ℕ) {x : A} → List·Memᴰ x (list n) → (i : ℕ) × (i < n) × T (test i) × (x ≡ one i)
+  each-elim zero m = absurd (List·Memᴰ·not-nil (rw start at m))
+  each-elim (suc n) m =
+      ⊎-elim
+      (λ q. let (i, l, t, e) = each-elim n q in (i, omega arith, t, e))
+      (λ q. let (t, e) = one-elim (test n) q in (n, omega arith, t, e))
+      (List·Memᴰ·append-cases (list n) (rw (next n) at m))
+
+  each-intro : (n i : ℕ) → i < n → T (test i) → List·Memᴰ (one i) (list n)
+  each-intro zero i l t = absurd (omega arith)
+  each-intro (suc n) i l t =
+      rw (next n)
+      (⊎-elim
+      (λ (e : i ≡ n). Memᴰ·append-right (list n) (rw e (one-intro (test n) (rw e at t))))
+      (λ (e : i ≡ n → ⊥). Memᴰ·append-left (cond (test n) (one n ∷ []) []) (each-intro n i (omega arith) t))
+      (equal i n))
+
+-- whether a record is a fact
+abbrev is-fact : List ℕ → ℕ → Bool
+is-fact recs i = eqb (record-kind recs i) assume-kind
+
+-- whether it is a definition
+abbrev is-definition : List ℕ → ℕ → Bool
+is-definition recs i = eqb (record-kind recs i) def-kind
+
+-- whether it is a root
+abbrev is-root : List ℕ → ℕ → Bool
+is-root recs i = ltb retain-kind (record-kind recs i)
+
+module _ (name : ℕ → Name) (recs out : List ℕ) where
+  -- the definition, the root of a record
+  abbrev pub def-at : ℕ → Decl
+  def-at i = decl-at name recs out i (free-at name recs out i)
+
+  abbrev pub root-of : ℕ → Root
+  root-of i =
+      record { line = record-line recs i; query = record-flag recs i; name = name (record-name recs i); free-names = free-at name recs out i }
+
+  -- ---- facts
+
+  record-facts : (i kind : ℕ) → facts (summary-at name recs out i kind) ≡ cond (eqb kind assume-kind) (fact-at name recs out i ∷ []) []
+  unfolding summary-at facts
+  record-facts i zero = refl
+  record-facts i (suc zero) = refl
+  record-facts i (suc (suc zero)) = refl
+  record-facts i (suc (suc (suc zero))) = refl
+  record-facts i (suc (suc (suc (suc k)))) = rw (ne-eqb (suc (suc (suc (suc k)))) 0 (λ e. omega arith))
+
+  next-facts : (n : ℕ) → facts (decls-of name recs out (suc n)) ≡ facts (decls-of name recs out n) ++ cond (is-fact recs n) (fact-at name recs out n ∷ []) []
+  unfolding decls-of
+  next-facts n =
+      facts-append (decls-of name recs out n) (summary-at name recs out n (record-kind recs n))
+      ∙ ap (facts (decls-of name recs out n) ++_) (record-facts n (record-kind recs n))
+
+  no-facts : facts (decls-of name recs out 0) ≡ []
+  unfolding decls-of facts
+  no-facts = refl
+
+  pub facts-elim : (n : ℕ) {f : Fact} → List·Memᴰ f (facts (decls-of name recs out n)) → (i : ℕ) × (i < n) × T (is-fact recs i) × (f ≡ fact-at name recs out i)
+  facts-elim = each-elim (λ n. facts (decls-of name recs out n)) (is-fact recs) (fact-at name recs out) no-facts next-facts
+
+  pub facts-intro : (n i : ℕ) → i < n → T (is-fact recs i) → List·Memᴰ (fact-at name recs out i) (facts (decls-of name recs out n))
+  facts-intro = each-intro (λ n. facts (decls-of name recs out n)) (is-fact recs) (fact-at name recs out) no-facts next-facts
+
+  next-filed : (n : ℕ)
+      → filed (facts (decls-of name recs out (suc n)))
+      ≡ filed (facts (decls-of name recs out n)) ++ cond (is-fact recs n) (concat (disjuncts-of name (entries-at recs out n))) []
+  unfolding filed collect listed fact-at
+  next-filed n =
+      ap (collect listed) (next-facts n)
+      ∙ collect-append listed (facts (decls-of name recs out n)) (cond (is-fact recs n) (fact-at name recs out n ∷ []) [])
+      ∙ ap (collect listed (facts (decls-of name recs out n)) ++_) (one (is-fact recs n))
+    where
+      one : (b : Bool) → collect listed (cond b (fact-at name recs out n ∷ []) []) ≡ cond b (concat (disjuncts-of name (entries-at recs out n))) []
+      one true = append-nil (concat (disjuncts-of name (entries-at recs out n)))
+      one false = refl
+
+  -- ---- definitions
+
+  record-defs : (i kind : ℕ) → definitions (summary-at name recs out i kind) ≡ cond (eqb kind def-kind) (def-at i ∷ []) []
+  unfolding summary-at definitions
+  record-defs i zero = refl
+  record-defs i (suc zero) = refl
+  record-defs i (suc (suc zero)) = refl
+  record-defs i (suc (suc (suc zero))) = refl
+  record-defs i (suc (suc (suc (suc k)))) = rw (ne-eqb (suc (suc (suc (suc k)))) 2 (λ e. omega arith))
+
+  next-defs : (n : ℕ) → definitions (decls-of name recs out (suc n)) ≡ definitions (decls-of name recs out n) ++ cond (is-definition recs n) (def-at n ∷ []) []
+  unfolding decls-of
+  next-defs n =
+      definitions-append (decls-of name recs out n) (summary-at name recs out n (record-kind recs n))
+      ∙ ap (definitions (decls-of name recs out n) ++_) (record-defs n (record-kind recs n))
+
+  no-defs : definitions (decls-of name recs out 0) ≡ []
+  unfolding decls-of definitions
+  no-defs = refl
+
+  pub defs-elim : (n : ℕ) {d : Decl} → List·Memᴰ d (definitions (decls-of name recs out n)) → (i : ℕ) × (i < n) × T (is-definition recs i) × (d ≡ def-at i)
+  defs-elim = each-elim (λ n. definitions (decls-of name recs out n)) (is-definition recs) def-at no-defs next-defs
+
+  pub defs-intro : (n i : ℕ) → i < n → T (is-definition recs i) → List·Memᴰ (def-at i) (definitions (decls-of name recs out n))
+  defs-intro = each-intro (λ n. definitions (decls-of name recs out n)) (is-definition recs) def-at no-defs next-defs
+
+  -- ---- roots
+
+  record-roots : (i kind : ℕ) → root-at name recs out i kind ≡ cond (ltb retain-kind kind) (root-of i ∷ []) []
+  unfolding root-at
+  record-roots i zero = refl
+  record-roots i (suc zero) = refl
+  record-roots i (suc (suc zero)) = refl
+  record-roots i (suc (suc (suc zero))) = refl
+  record-roots i (suc (suc (suc (suc k)))) = rw (lt-ltb 3 (suc (suc (suc (suc k)))) (omega arith))
+
+  next-roots : (n : ℕ) → roots-of name recs out (suc n) ≡ roots-of name recs out n ++ cond (is-root recs n) (root-of n ∷ []) []
+  unfolding roots-of
+  next-roots n = ap (roots-of name recs out n ++_) (record-roots n (record-kind recs n))
+
+  no-roots : roots-of name recs out 0 ≡ []
+  unfolding roots-of
+  no-roots = refl
+
+  pub roots-elim : (n : ℕ) {r : Root} → List·Memᴰ r (roots-of name recs out n) → (i : ℕ) × (i < n) × T (is-root recs i) × (r ≡ root-of i)
+  roots-elim = each-elim (roots-of name recs out) (is-root recs) root-of no-roots next-roots
+
+  pub roots-intro : (n i : ℕ) → i < n → T (is-root recs i) → List·Memᴰ (root-of i) (roots-of name recs out n)
+  roots-intro = each-intro (roots-of name recs out) (is-root recs) root-of no-roots next-roots
+
+-- ---- the entries of the records
+
+module _ {name : ℕ → Name} {recs out : List ℕ} {records total : ℕ} (g : Filing name recs out records total) where
+  -- an entry is in the part of a record
+  owner : (n : ℕ) → n ≤ records → (e : ℕ) → e < entries-before recs n → (i : ℕ) × (i < n) × (entries-start recs i ≤ e) × (e < entries-end recs i)
+  unfolding entries-before
+  owner zero h e l = absurd (omega arith)
+  owner (suc n) h e l = go (ltb e (entries-before recs n)) refl (owner n (omega arith) e)
+    where
+      go : (b : Bool) → ltb e (entries-before recs n) ≡ b
+          → (e < entries-before recs n → (i : ℕ) × (i < n) × (entries-start recs i ≤ e) × (e < entries-end recs i))
+          → (i : ℕ) × (i < suc n) × (entries-start recs i ≤ e) × (e < entries-end recs i)
+      go true q w = let (i, a, b, c) = w (ltb-true e (entries-before recs n) q) in (i, omega arith, b, c)
+      go false q w = (n, omega arith, omega (arith, g .starts n (omega arith), ltb-false e (entries-before recs n) q), l)
+
+  -- the fact of an entry: a record that is one, and the entry is in its part
+  pub entry-owner : (e : ℕ) → e < total
+      → (entry-fact out e < records) × (record-kind recs (entry-fact out e) ≡ assume-kind)
+      × (entries-start recs (entry-fact out e) ≤ e) × (e < entries-end recs (entry-fact out e))
+  entry-owner e h =
+      let (i, l, a, b) = owner records (omega arith) e (omega (arith, g .whole)) in
+      rw (g .facts i e l a b)
+      (l, ⊎-elim (λ q. q) (λ q. absurd (omega (arith, g .only-facts i l q))) (equal (record-kind recs i) assume-kind), a, b)
+
+  module _ {named uses : ℕ} (r : Records recs out named records total uses) where
+    -- the words of a record's entries are as many as its sets take
+    full : (i : ℕ) → i < records → length (entries-at recs out i) ≡ entries (disjuncts-of name (entries-at recs out i))
+    full i h =
+        part-length out (entry-column + entries-start recs i) (entry-column + entries-end recs i)
+        (omega (arith, r .entries-in i h, r .few-entries, r .out-room))
+        ∙ omega (arith, g .sized i h)
+
+    -- the count over the filed names is that over the entries
+    pub upto-count : (p : Name → Bool) (n : ℕ) → n ≤ records
+        → count p (filed (facts (decls-of name recs out n)))
+        ≡ count (λ e. ltb (entry-name out e) no-name && p (name (entry-name out e))) (upto (entries-before recs n))
+    unfolding decls-of facts filed collect count entries-before upto
+    upto-count p zero h = refl
+    upto-count p (suc n) h =
+        let s = g .starts n (omega arith) in
+        let z = g .sized n (omega arith) in
+        let end = entries-end recs n in
+        ap (count p) (next-filed name recs out n)
+        ∙ count-append p (filed (facts (decls-of name recs out n))) _
+        ∙ ap₂ _+_ (upto-count p n (omega arith)) (one (equal (record-kind recs n) assume-kind))
+        ∙ sym (joined (entries-before recs n) (end - entries-before recs n) end (omega arith)
+        (omega (arith, r .entries-in n (omega arith), r .few-entries, r .out-room)))
+      where
+        test : ℕ → Bool
+        test w = ltb (w % last-entry) no-name && p (name (w % last-entry))
+
+        joined : (a d b : ℕ) → a + d ≡ b → entry-column + b ≤ length out
+            → count (λ e. test (getD out (entry-column + e) 0)) (upto b)
+            ≡ count (λ e. test (getD out (entry-column + e) 0)) (upto a) + count test (part out (entry-column + a) (entry-column + b))
+        joined a d b e k = rw (← e) (places-count test out entry-column a d (omega arith))
+
+        one : (record-kind recs n ≡ assume-kind) ⊎ (record-kind recs n ≡ assume-kind → ⊥)
+            → count p (cond (eqb (record-kind recs n) assume-kind) (concat (disjuncts-of name (entries-at recs out n))) [])
+            ≡ count test (part out (entry-column + entries-before recs n) (entry-column + entries-end recs n))
+        one (inl e) = rw (e, ← (g .starts n (omega arith))) (listed-count p name (entries-at recs out n) (full n (omega arith)))
+        one (inr e) =
+            rw (
+              ne-eqb (record-kind recs n) assume-kind e,
+              g .only-facts n (omega arith) e,
+              ← (g .starts n (omega arith)),
+              part-nil out (entry-column + entries-start recs n) (entry-column + entries-start recs n) (omega arith),
+            )

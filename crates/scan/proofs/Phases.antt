@@ -1,0 +1,157 @@
+-- What the proofs of the meeting phase, the round and the rounds cite.
+use Prim.Native.Nat.{ℕ, _+_, _≤_, _<_}
+use native.Mathlib.Omega.{arith}
+use mathlib.Core.Path.{_≡_, refl, sym, _∙_, ap, subst}
+use mathlib.Core.Bool.{true, false, _&&_}
+use mathlib.Core.List.{List}
+use lib.Dec.{ltb}
+use lib.ListN.{length, getD}
+use Rattle.model.specs.Lists.{collect, part}
+use Rattle.model.specs.Reading.{most-names, most-entries}
+use Rattle.model.specs.declared.Counts.{Counts}
+use Rattle.model.proofs.PartLaws.{part-cons, part-nil, part-intro}
+use Rattle.records.specs.Columns.{entry-name}
+use Rattle.records.specs.States.{uses-at}
+use Rattle.scan.specs.Held.{Held}
+use Rattle.scan.specs.Tables.{held-of, Laid}
+use Rattle.scan.specs.Steps.{Going, going, work-column, is-met, marks, opened-all, scanned-by, items, met-phase, visit-phase, round, Rounds, last, more, Steady, Ready, unmet}
+use Rattle.scan.specs.declared.Scan.{Scan}
+use Rattle.scan.proofs.Numbers.{count-upto}
+use Rattle.scan.proofs.Marks.{marks-nil, marks-append, marks-length, marks-out}
+use Rattle.scan.proofs.Round.{opened-small, met-room, then-unmet, then-ready, then-length}
+
+-- ---- meeting
+
+-- the items before j are met
+pub record Scanned (h : Held) (s : Scan) (w₀ : List ℕ) (j : ℕ) (w : List ℕ) : Type 0 where
+  pub left : marks (s .rounds + 1) w₀ (scanned-by h (part w₀ (work-column + s .from) (work-column + s .to)))
+      ≡ marks (s .rounds + 1) w (scanned-by h (part w₀ (work-column + j) (work-column + s .to)))
+  pub same-length : length w ≡ length w₀
+  pub high : (i : ℕ) → most-names ≤ i → getD w i 0 ≡ getD w₀ i 0
+  pub low : s .from ≤ j
+  pub top : j ≤ s .to
+
+pub scan-start : (h : Held) (s : Scan) (w : List ℕ) → s .from ≤ s .to → Scanned h s w (s .from) w
+scan-start h s w l = record { left = refl; same-length = refl; high = λ j k. refl; low = omega arith; top = l }
+
+module _ {names recs out : List ℕ} {k : Counts} (laid : Laid names recs out k) {s : Scan} {w₀ : List ℕ}
+    (ready : Ready (held-of names recs out k) (going s w₀)) where
+  abbrev h : Held
+  h = held-of names recs out k
+
+  -- the item at j
+  pub scan-item : {j i : ℕ} {w : List ℕ} → Scanned h s w₀ j w → j < s .to → i ≡ getD w (work-column + j) 0 → i < k .records
+  unfolding held-of items
+  scan-item {j} {i} {w} z l e =
+      let x = ready .room .fits in
+      let y = ready .room .long in
+      let lo = z .low in
+      let same : i ≡ getD w₀ (work-column + j) 0 = e ∙ z .high (work-column + j) (omega arith) in
+      subst (λ i. i < k .records) (sym same)
+      (ready .items-small (getD w₀ (work-column + j) 0)
+      (part-intro w₀ (work-column + s .from) (work-column + s .to) (work-column + j) (omega arith) (omega arith) (omega arith)))
+
+  pub scan-next : {j i : ℕ} {w v : List ℕ} → Scanned h s w₀ j w → j < s .to → i ≡ getD w (work-column + j) 0
+      → v ≡ marks (s .rounds + 1) w (opened-all h (uses-at recs out i)) → Scanned h s w₀ (j + 1) v
+  unfolding scanned-by collect held-of
+  scan-next {j} {i} {w} {v} z l e g =
+      let a = ready .room .fits in
+      let b = ready .room .long in
+      let lo = z .low in
+      let small = scan-item z l e in
+      let r = s .rounds + 1 in
+      let here = opened-all h (uses-at recs out i) in
+      let f : i ≡ getD w₀ (work-column + j) 0 = e ∙ z .high (work-column + j) (omega arith) in
+      let next : work-column + j + 1 ≡ work-column + (j + 1) = omega arith in
+      record {
+        left = z .left
+            ∙ rw (
+              part-cons w₀ (work-column + j) (work-column + s .to) (omega arith) (omega arith),
+              next,
+              ← f,
+              marks-append r w here (collect (λ i. opened-all h (uses-at recs out i)) (part w₀ (work-column + (j + 1)) (work-column + s .to))),
+              ← g,
+            );
+        same-length = ap length g ∙ marks-length r w here ∙ z .same-length;
+        high = λ m o. ap (λ (v : List ℕ). getD v m 0) g
+            ∙ marks-out r w here m (λ q. let y = opened-small h (laid .fits) i m small q in let few = laid .few-names in omega arith)
+            ∙ z .high m o;
+        low = omega arith;
+        top = omega arith;
+      }
+
+  pub scan-end : {j : ℕ} {w : List ℕ} → Scanned h s w₀ j w → s .to ≤ j
+      → going (record { from = s .to; to = s .to; visits = s .visits; rounds = s .rounds + 1; triggered = false }) w ≡ met-phase h (going s w₀)
+  unfolding met-phase items scanned-by collect
+  scan-end {j} {w} z l =
+      ap (going (record { from = s .to; to = s .to; visits = s .visits; rounds = s .rounds + 1; triggered = false }))
+      (sym (z .left ∙ rw (part-nil w₀ (work-column + j) (work-column + s .to) (omega arith)) (marks-nil (s .rounds + 1) w)))
+
+-- ---- a round
+
+module _ {names recs out : List ℕ} {k : Counts} (laid : Laid names recs out k) {g : Going} (ready : Ready (held-of names recs out k) g) where
+  abbrev t : Held
+  t = held-of names recs out k
+
+  few-visits : g .scan .visits ≤ most-entries
+  unfolding held-of
+  few-visits =
+      let v = ready .visits-are in
+      let m = count-upto (λ e. ltb (entry-name out e) (k .named) && is-met (g .run) (entry-name out e)) (k .entries) in
+      let f = laid .few-entries in
+      omega arith
+
+  -- the state when the names are met
+  pub met-steady : {m : Going} → m ≡ met-phase t g → Steady m × (m .scan .visits ≤ most-entries)
+  unfolding met-phase
+  met-steady {m} e =
+      subst (λ (x : Going). Steady x × (x .scan .visits ≤ most-entries)) (sym e)
+      (let f = ready .few-rounds in
+      let v = few-visits in
+      (record { room = met-room t (laid .fits) g ready; started = omega arith; few-rounds = omega arith; few-visits = omega arith }, v))
+
+pub round-is : (h : Held) (g : Going) {m v : Going} → m ≡ met-phase h g → v ≡ visit-phase h m → v ≡ round h g
+unfolding round
+round-is h g e f = f ∙ ap (visit-phase h) e
+
+-- ---- the rounds
+
+-- the rounds so far: those that come end those from the start
+pub record Going-on (h : Held) (g₀ g : Going) : Type 0 where
+  pub ready : Ready h g
+  pub rest : (end : Going) → Rounds h g end → Rounds h g₀ end
+  pub same-length : length (g .run) ≡ length (g₀ .run)
+
+pub on-start : {h : Held} {g : Going} → Ready h g → Going-on h g g
+on-start r = record { ready = r; rest = λ end x. x; same-length = refl }
+
+module _ {names recs out : List ℕ} {k : Counts} (laid : Laid names recs out k) {g₀ g v : Going} (on : Going-on (held-of names recs out k) g₀ g)
+    (goes : v ≡ round (held-of names recs out k) g) where
+  abbrev u : Held
+  u = held-of names recs out k
+
+  went : v .scan .triggered ≡ true → round u g .scan .triggered ≡ true
+  went t = sym (ap (λ (x : Going). x .scan .triggered) goes) ∙ t
+
+  pub on-next : v .scan .triggered ≡ true → Going-on u g₀ v
+  on-next t =
+      subst (λ x. Going-on u g₀ x) (sym goes)
+      (record {
+        ready = then-ready u (laid .fits) g (on .ready) (went t);
+        rest = λ end x. on .rest end (more (went t) x);
+        same-length = then-length u (laid .fits) g (on .ready) ∙ on .same-length;
+      })
+
+  -- a name is met in each round that triggers a fact
+  pub on-less : v .scan .triggered ≡ true → unmet (k .named) (v .run) < unmet (k .named) (g .run)
+  unfolding held-of
+  on-less t =
+      subst (λ (x : Going). unmet (k .named) (x .run) < unmet (k .named) (g .run)) (sym goes) (then-unmet u (laid .fits) g (on .ready) (went t))
+
+  pub on-end : v .scan .triggered ≡ false → Rounds u g₀ v
+  on-end t =
+      subst (λ x. Rounds u g₀ x) (sym goes)
+      (on .rest (round u g) (last (sym (ap (λ (x : Going). x .scan .triggered) goes) ∙ t)))
+
+  pub on-length : length (v .run) ≡ length (g₀ .run)
+  on-length = ap (λ (x : Going). length (x .run)) goes ∙ then-length u (laid .fits) g (on .ready) ∙ on .same-length

@@ -1,0 +1,87 @@
+-- `scan::Scan::visit_chain` meets its contract. The loop's invariant: the chain is visited down to an entry.
+use native.Mathlib.Omega.{arith}
+use Rattle.scan.specs.Steps.{going}
+use Rattle.scan.proofs.Chaining.{Visited-to, chain-start, chain-steady, chain-next, chain-less, chain-end}
+use Rattle.scan.proofs.Scan.visit_chain.Statement.{statement}
+use Rattle.scan.proofs.Scan.visit_chain.Tie as tie
+
+abbrev Inv-loop : tie.InvT-loop
+Inv-loop names recs out run₀ k n s₀ next₀ run s next = Visited-to names recs out k (going s₀ run₀) n (going s run) next
+
+abbrev μ-loop : tie.MeasureT-loop
+μ-loop names recs out run₀ k n s₀ next₀ run s next = next
+
+add-at : tie.Need-add-at Inv-loop μ-loop
+add-at c =
+    let pre = c .before .before .before .before .pre in
+    let few = pre .0 .few-names in
+    omega arith
+
+at-requires : tie.Need-at-requires Inv-loop μ-loop
+at-requires c κs =
+    let pre = c .before .before .before .before .pre in
+    let few = pre .0 .few-names in
+    let room = pre .0 .name-room in
+    omega arith
+
+loop-holds : tie.Need-loop-holds Inv-loop μ-loop
+loop-holds c = let pre = c .before .before .before .before .before .pre in chain-start (pre .0) _ _ _ (pre .1) (pre .3) (c .at .ensures)
+
+sub-visit : tie.Need-sub-visit Inv-loop μ-loop
+sub-visit c = omega (arith, c .before .loop-test .taken)
+
+visit-requires : tie.Need-visit-requires Inv-loop μ-loop
+visit-requires c κs =
+    let pre = c .before .before .before .before .before .before .before .before .pre in
+    let inv = c .before .before .loop .inv in
+    let small = inv .small in
+    (pre .0, chain-steady (pre .0) (pre .1) inv (pre .2), omega (arith, c .before .loop-test .taken))
+
+sub-at : tie.Need-sub-at Inv-loop μ-loop
+sub-at c = omega (arith, c .before .before .before .before .loop-test .taken)
+
+add-at-2 : tie.Need-add-at-2 Inv-loop μ-loop
+add-at-2 c =
+    let few = c .before .before .before .before .before .before .before .before .before .before .before .pre .0 .few-entries in
+    let small = c .before .before .before .before .before .loop .inv .small in
+    omega arith
+
+at-requires-2 : tie.Need-at-requires-2 Inv-loop μ-loop
+at-requires-2 c κs =
+    let laid = c .before .before .before .before .before .before .before .before .before .before .before .pre .0 in
+    let few = laid .few-entries in
+    let room = laid .list-room in
+    let small = c .before .before .before .before .before .loop .inv .small in
+    omega (arith, c .before .before .before .before .loop-test .taken)
+
+loop-less : tie.Need-loop-less Inv-loop μ-loop
+loop-less c =
+    let test = c .before .before .before .before .before in
+    let loop = test .before in
+    let entry = loop .before .before .before .before .before .before in
+    let pre = entry .pre in
+    chain-less (pre .0) (pre .1) (loop .loop .inv) (omega (arith, test .loop-test .taken)) (c .at2 .ensures)
+
+loop-again : tie.Need-loop-again Inv-loop μ-loop
+loop-again c =
+    let visit = c .before .before .before in
+    let test = visit .before .before in
+    let loop = test .before in
+    let entry = loop .before .before .before .before .before .before in
+    let pre = entry .pre in
+    chain-next (pre .0) (pre .1) (loop .loop .inv) (omega (arith, test .loop-test .taken)) (visit .visit .ensures) (c .at2 .ensures)
+
+same-length : tie.Need-same-length Inv-loop μ-loop
+same-length c = c .before .loop .inv .same-length
+
+returns : tie.Need-returns Inv-loop μ-loop
+returns c =
+    let loop = c .before in
+    let entry = loop .before .before .before .before .before .before in
+    let pre = entry .pre in chain-end (pre .0) (pre .1) (loop .loop .inv) (c .loop-test .left)
+
+pub visit-chain-spec : {M : Type 1} → statement M
+visit-chain-spec =
+    tie.close
+    (tie.spec Inv-loop μ-loop add-at at-requires loop-holds sub-visit visit-requires sub-at add-at-2 at-requires-2 loop-less
+    loop-again same-length returns)

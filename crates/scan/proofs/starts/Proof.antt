@@ -1,0 +1,54 @@
+-- `scan::starts` meets its contract.
+use borrow.Author.Needs.{needs}
+use Rattle.scan.proofs.Starting.{starts-root, starts-other, starts-no, starts-ambient}
+use Rattle.scan.proofs.starts.Statement.{statement}
+use Rattle.scan.proofs.starts.Tie as tie
+
+add-at : tie.Need-add-at
+add-at c = search needs
+
+at-requires : tie.Need-at-requires
+at-requires c κs = search needs
+
+add-at-2 : tie.Need-add-at-2
+add-at-2 c = search needs
+
+at-requires-2 : tie.Need-at-requires-2
+at-requires-2 c κs = search needs
+
+returns : tie.Need-returns
+returns c = starts-root _ _ _ _ (c .before .before .before .at .ensures) _ (c .before .before .if1 .taken) (c .before .at2 .ensures)
+
+returns-2 : tie.Need-returns-2
+returns-2 c = starts-other _ _ _ _ (c .before .before .at .ensures) (c .before .if1 .left) (c .if2 .taken)
+
+add-at-3 : tie.Need-add-at-3
+add-at-3 c = search needs
+
+at-requires-3 : tie.Need-at-requires-3
+at-requires-3 c κs = search needs
+
+returns-3 : tie.Need-returns-3
+returns-3 c =
+    let at3 = c .before in
+    let if2 = at3 .before in
+    let at = if2 .before .before in
+    starts-no _ _ _ _ (at .at .ensures) _ (if2 .if2 .left) (at3 .at3 .ensures) (c .if3 .taken)
+
+no-ambients-requires : tie.Need-no-ambients-requires
+no-ambients-requires c κs = search needs
+
+returns-4 : tie.Need-returns-4
+returns-4 c =
+    let if3 = c .before in
+    let at3 = if3 .before in
+    let if2 = at3 .before in
+    let at = if2 .before .before in
+    let entry = at .before .before in
+    starts-ambient _ _ _ _ (at .at .ensures) _ _ (if2 .if2 .left) (at3 .at3 .ensures) (if3 .if3 .left) (c .no-ambients .ensures (entry .args .k .query))
+
+pub starts-spec : {M : Type 1} → statement M
+starts-spec =
+    tie.close
+    (tie.spec add-at at-requires add-at-2 at-requires-2 returns returns-2 add-at-3 at-requires-3 returns-3 no-ambients-requires
+    returns-4)

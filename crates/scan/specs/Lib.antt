@@ -1,0 +1,5 @@
+pub mod Held
+pub mod Steps
+pub mod Tables
+pub mod Starts
+pub mod Runs

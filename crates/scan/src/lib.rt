@@ -1,0 +1,391 @@
+use model::Counts;
+ghost use Prim.Native.Nat.{ℕ, _+_, _*_, _≤_, _<_};
+ghost use mathlib.Core.Path.{_≡_};
+ghost use mathlib.Core.Bool.{true, false};
+ghost use mathlib.Core.List.{List};
+ghost use lib.ListN.{length, getD};
+ghost use Rattle.model.specs.Lists.{part};
+ghost use Rattle.model.specs.Reading.{most-names, most-records, most-entries};
+ghost use Rattle.records.specs.Columns.{macro-at};
+ghost use Rattle.records.specs.Macros.{opens-at, Filled};
+ghost use Rattle.scan.specs.Held.{waiting};
+ghost use Rattle.scan.specs.Tables.{retained, held-of, met-by, Goes, Laid};
+ghost use Rattle.scan.specs.Steps.{mark, marks, entry-met, fires-in, going, visit, visits-of, visit-phase, met-phase, round, Rounds, Steady, Ready, work-column, run-end, work-room};
+ghost use Rattle.scan.specs.Starts.{cleared, first-scan, starts-at, pushed};
+ghost use Rattle.scan.specs.Runs.{Ran};
+
+// The columns of the run's slice: by name, from word 0 on, the round first met; by record the round reached; the worklist.
+pub const REACHED: usize = 2048;
+
+const WORK: usize = 3072;
+
+// The summary code of an ambient root.
+const AMBIENT_ROOT: usize = 2;
+
+// The state of a run: the part of the worklist that the next round scans, the visits, the rounds, and whether the last round
+// triggered a fact.
+pub struct Scan {
+    pub from: usize,
+    pub to: usize,
+    pub visits: usize,
+    pub rounds: usize,
+    pub triggered: bool,
+}
+
+// Meets a name in a round, unless it was met before.
+fn meet(run: &mut [u32], n: usize, round: usize)
+    requires { ⌜ (n < length (now run)) × (round < 4294967296) ⌝ }
+    ensures { λ r. ⌜ now (run .exit) ≡ mark round (now (run .entry)) n ⌝ }
+{
+    if words::at(run, n) == 0 {
+        run[n] = round as u32;
+    }
+}
+
+// Meets the names of a part of the uses.
+fn meet_part(out: &[u32], run: &mut [u32], a: usize, e: usize, round: usize)
+    requires { ⌜ (a ≤ e) × (e ≤ length (now out)) × ((i : ℕ) → a ≤ i → i < e → getD (now out) i 0 < length (now run)) × (round < 4294967296) ⌝ }
+    ensures { λ r. ⌜ now (run .exit) ≡ marks round (now (run .entry)) (part (now (out .entry)) a e) ⌝ }
+{
+    let mut i = a;
+    while i < e {
+        meet(run, words::at(out, i), round);
+        i += 1;
+    }
+}
+
+// Meets what a name opens to, one level.
+fn open_macro(
+    names: &[u32],
+    recs: &[u32],
+    out: &[u32],
+    run: &mut [u32],
+    k: Counts,
+    n: usize,
+    round: usize,
+)
+    requires { ⌜ Laid (now names) (now recs) (now out) k × (n < k .named) × (most-names ≤ length (now run)) × (round < 4294967296) ⌝ }
+    ensures { λ r. ⌜ now (run .exit) ≡ marks round (now (run .entry)) (opens-at (now (recs .entry)) (now (out .entry)) (macro-at (now (names .entry)) n)) ⌝ }
+{
+    let word = words::at(names, records::MACRO + n);
+    if word == 0 {
+        return;
+    }
+    if word < records::OPENED {
+        let a = words::at(recs, records::USES_START + (word - 1));
+        let e = words::at(recs, records::USES_END + (word - 1));
+        meet_part(out, run, a, e, round);
+        return;
+    }
+    meet(run, word - records::OPENED, round);
+}
+
+// Meets the free names of a record, and what they open to.
+fn meet_record(
+    names: &[u32],
+    recs: &[u32],
+    out: &[u32],
+    run: &mut [u32],
+    k: Counts,
+    i: usize,
+    round: usize,
+)
+    requires { ⌜ Laid (now names) (now recs) (now out) k × (i < k .records) × (most-names ≤ length (now run)) × (round < 4294967296) ⌝ }
+    ensures { λ r. ⌜ now (run .exit) ≡ marks round (now (run .entry)) (met-by (now (names .entry)) (now (recs .entry)) (now (out .entry)) k i) ⌝ }
+{
+    let a = words::at(recs, records::USES_START + i);
+    let e = words::at(recs, records::USES_END + i);
+    let mut j = a;
+    while j < e {
+        let n = words::at(out, j);
+        meet(run, n, round);
+        open_macro(names, recs, out, run, k, n, round);
+        j += 1;
+    }
+}
+
+// The place after the disjunct that the entry at `i` is in.
+fn past(out: &[u32], i: usize, e: usize) -> usize
+    requires { ⌜ (i ≤ e) × (e ≤ length (now out)) ⌝ }
+    ensures { λ r. ⌜ (i ≤ r) × (r ≤ e) × ((w : List ℕ) → fires-in w false (part (now (out .entry)) i e) ≡ fires-in w true (part (now (out .entry)) r e)) ⌝ }
+{
+    let mut j = i;
+    while j < e {
+        let x = words::at(out, j);
+        j += 1;
+        if records::LAST_ENTRY <= x {
+            return j;
+        }
+    }
+    j
+}
+
+// Whether the name of an entry is met, or it has none.
+fn entry_met(run: &[u32], x: usize) -> bool
+    requires { ⌜ most-names ≤ length (now run) ⌝ }
+    ensures { λ r. ⌜ r ≡ entry-met (now (run .entry)) x ⌝ }
+{
+    let n = x % records::LAST_ENTRY;
+    if records::NO_NAME <= n {
+        return true;
+    }
+    words::at(run, n) != 0
+}
+
+// Whether a disjunct of the entries from `a` up to `e` is wholly met: each is given up at its first name that is not.
+fn fires(out: &[u32], run: &[u32], a: usize, e: usize) -> bool
+    requires { ⌜ (a ≤ e) × (e ≤ length (now out)) × (most-names ≤ length (now run)) ⌝ }
+    ensures { λ r. ⌜ r ≡ fires-in (now (run .entry)) true (part (now (out .entry)) a e) ⌝ }
+{
+    let mut i = a;
+    'disjuncts: loop {
+        while i < e {
+            let x = words::at(out, i);
+            i += 1;
+            if !entry_met(run, x) {
+                if x < records::LAST_ENTRY {
+                    i = past(out, i, e);
+                }
+                continue 'disjuncts;
+            }
+            if records::LAST_ENTRY <= x {
+                break 'disjuncts true;
+            }
+        }
+        break 'disjuncts false;
+    }
+}
+
+// Whether a record is retainable: its flag is 0, or option 2 is on.
+fn retained(recs: &[u32], k: Counts, i: usize) -> bool
+    requires { ⌜ (i < most-records) × (16384 ≤ length (now recs)) ⌝ }
+    ensures { λ r. ⌜ r ≡ retained (now (recs .entry)) k i ⌝ }
+{
+    if words::at(recs, records::FLAG + i) != 1 {
+        return true;
+    }
+    records::pretyping_axioms(k.options)
+}
+
+// Whether round 1 scans a record: a root of the query or, without option 1, an ambient root.
+fn starts(recs: &[u32], k: Counts, i: usize) -> bool
+    requires { ⌜ (i < most-records) × (16384 ≤ length (now recs)) ⌝ }
+    ensures { λ r. ⌜ r ≡ starts-at (now (recs .entry)) k i ⌝ }
+{
+    let kind = words::at(recs, records::KIND + i);
+    if kind == records::ROOT {
+        return words::at(recs, records::FLAG + i) == k.query;
+    }
+    if kind != records::ASSUME {
+        return false;
+    }
+    if words::at(recs, records::SUMMARY + i) != AMBIENT_ROOT {
+        return false;
+    }
+    !records::no_ambients(k.options)
+}
+
+impl Scan {
+    // Clears the columns of a run: nothing is met or reached.
+    fn start(run: &mut [u32]) -> Scan
+        requires { ⌜ run-end ≤ length (now run) ⌝ }
+        ensures { λ r. ⌜ going r (now (run .exit)) ≡ going first-scan (cleared work-column (now (run .entry))) ⌝ }
+    {
+        let mut i = 0;
+        while i < WORK {
+            run[i] = 0;
+            i += 1;
+        }
+        Scan {
+            from: 0,
+            to: 0,
+            visits: 0,
+            rounds: 0,
+            triggered: false,
+        }
+    }
+
+    // Puts the records that round 1 scans behind the worklist.
+    fn add_roots(self, recs: &[u32], run: &mut [u32], k: Counts) -> Scan
+        requires { ⌜ (k .records ≤ most-records) × (16384 ≤ length (now recs)) × (run-end ≤ length (now run)) × (self .to + k .records ≤ work-room) ⌝ }
+        ensures { λ r. ⌜ going r (now (run .exit)) ≡ pushed (starts-at (now (recs .entry)) k) (k .records) (going self (now (run .entry))) ⌝ }
+    {
+        let count = k.records;
+        let mut to = self.to;
+        let mut i = 0;
+        while i < count {
+            let j = i;
+            i += 1;
+            if !starts(recs, k, j) {
+                continue;
+            }
+            run[WORK + to] = j as u32;
+            to += 1;
+        }
+        Scan {
+            from: self.from,
+            to,
+            visits: self.visits,
+            rounds: self.rounds,
+            triggered: self.triggered,
+        }
+    }
+
+    // Visits an entry: a fact that fires is triggered, and reached if it is retainable and was not reached.
+    fn visit(
+        self,
+        names: &[u32],
+        recs: &[u32],
+        out: &[u32],
+        run: &mut [u32],
+        k: Counts,
+        e: usize,
+    ) -> Scan
+        requires { ⌜ Laid (now names) (now recs) (now out) k × Steady (going self (now run)) × (e < k .entries) ⌝ }
+        ensures { λ r. ⌜ Goes (now (names .entry)) (now (recs .entry)) (now (out .entry)) k (λ h g. visit h g e) self (now (run .entry)) r (now (run .exit)) ⌝ }
+    {
+        let i = words::at(out, records::FACT + e);
+        let a = records::ENTRY + words::at(recs, records::ENTRIES_START + i);
+        let z = records::ENTRY + words::at(recs, records::ENTRIES_END + i);
+        let to = self.to;
+        let visits = self.visits + 1;
+        if !fires(out, run, a, z) {
+            return Scan {
+                from: self.from,
+                to,
+                visits,
+                rounds: self.rounds,
+                triggered: self.triggered,
+            };
+        }
+        let mut fired = Scan {
+            from: self.from,
+            to,
+            visits,
+            rounds: self.rounds,
+            triggered: true,
+        };
+        if !retained(recs, k, i) {
+            return fired;
+        }
+        if words::at(run, REACHED + i) != 0 {
+            return fired;
+        }
+        run[REACHED + i] = self.rounds as u32;
+        run[WORK + to] = i as u32;
+        fired.to = to + 1;
+        fired
+    }
+
+    // Visits the entries that wait on a name, newest first.
+    fn visit_chain(
+        self,
+        names: &[u32],
+        recs: &[u32],
+        out: &[u32],
+        run: &mut [u32],
+        k: Counts,
+        n: usize,
+    ) -> Scan
+        requires { ⌜ Laid (now names) (now recs) (now out) k × Steady (going self (now run)) × (self .visits ≤ 2 * most-entries) × (n < k .named) ⌝ }
+        ensures { λ r. ⌜ Goes (now (names .entry)) (now (recs .entry)) (now (out .entry)) k (λ h g. visits-of h g (waiting h n (k .entries))) self (now (run .entry)) r (now (run .exit)) ⌝ }
+    {
+        let mut s = self;
+        let mut next = words::at(names, records::FIRST + n);
+        while next != 0 {
+            s = s.visit(names, recs, out, run, k, next - 1);
+            next = words::at(out, records::NEXT + (next - 1));
+        }
+        s
+    }
+
+    // Visits the entries of the names first met in this round.
+    fn visit_new(self, names: &[u32], recs: &[u32], out: &[u32], run: &mut [u32], k: Counts) -> Scan
+        requires { ⌜ Laid (now names) (now recs) (now out) k × Steady (going self (now run)) × (self .visits ≤ most-entries) ⌝ }
+        ensures { λ r. ⌜ Goes (now (names .entry)) (now (recs .entry)) (now (out .entry)) k visit-phase self (now (run .entry)) r (now (run .exit)) ⌝ }
+    {
+        let round = self.rounds;
+        let named = k.named;
+        let mut s = self;
+        let mut n = 0;
+        while n < named {
+            let m = n;
+            n += 1;
+            if words::at(run, m) != round {
+                continue;
+            }
+            s = s.visit_chain(names, recs, out, run, k, m);
+        }
+        s
+    }
+
+    // Meets all that the next round scans.
+    fn meet_items(
+        self,
+        names: &[u32],
+        recs: &[u32],
+        out: &[u32],
+        run: &mut [u32],
+        k: Counts,
+    ) -> Scan
+        requires { ⌜ Laid (now names) (now recs) (now out) k × Ready (held-of (now names) (now recs) (now out) k) (going self (now run)) ⌝ }
+        ensures { λ r. ⌜ Goes (now (names .entry)) (now (recs .entry)) (now (out .entry)) k met-phase self (now (run .entry)) r (now (run .exit)) ⌝ }
+    {
+        let from = self.from;
+        let to = self.to;
+        let round = self.rounds + 1;
+        let mut j = from;
+        while j < to {
+            let i = words::at(run, WORK + j);
+            meet_record(names, recs, out, run, k, i, round);
+            j += 1;
+        }
+        Scan {
+            from: to,
+            to,
+            visits: self.visits,
+            rounds: round,
+            triggered: false,
+        }
+    }
+
+    // A round: all that it scans is met, then the entries of the names first met in it are visited.
+    fn round(self, names: &[u32], recs: &[u32], out: &[u32], run: &mut [u32], k: Counts) -> Scan
+        requires { ⌜ Laid (now names) (now recs) (now out) k × Ready (held-of (now names) (now recs) (now out) k) (going self (now run)) ⌝ }
+        ensures { λ r. ⌜ Goes (now (names .entry)) (now (recs .entry)) (now (out .entry)) k round self (now (run .entry)) r (now (run .exit)) ⌝ }
+    {
+        let met = self.meet_items(names, recs, out, run, k);
+        met.visit_new(names, recs, out, run, k)
+    }
+
+    // Round after round, to the one that triggers no fact.
+    fn go_on(self, names: &[u32], recs: &[u32], out: &[u32], run: &mut [u32], k: Counts) -> Scan
+        requires { ⌜ Laid (now names) (now recs) (now out) k × Ready (held-of (now names) (now recs) (now out) k) (going self (now run)) ⌝ }
+        ensures { λ r. ⌜ Rounds (held-of (now (names .entry)) (now (recs .entry)) (now (out .entry)) k) (going self (now (run .entry))) (going r (now (run .exit))) ⌝ }
+    {
+        let mut s = self;
+        loop {
+            s = s.round(names, recs, out, run, k);
+            if !s.triggered {
+                return s;
+            }
+        }
+    }
+}
+
+// Runs the ask over the tables that the reader filled.
+pub fn run_ask(
+    file: &[u8],
+    names: &[u32],
+    recs: &[u32],
+    out: &[u32],
+    run: &mut [u32],
+    k: Counts,
+) -> Scan
+    requires { ⌜ Filled (now file) (now names) (now recs) (now out) k × (run-end ≤ length (now run)) ⌝ }
+    ensures { λ r. ⌜ Ran (now (file .entry)) (now (names .entry)) (now (recs .entry)) (now (out .entry)) k (now (run .entry)) (now (run .exit)) r ⌝ }
+{
+    let begun = Scan::start(run);
+    let rooted = begun.add_roots(recs, run, k);
+    rooted.go_on(names, recs, out, run, k)
+}
