@@ -21,7 +21,7 @@ use Rattle.text.proofs.Laws.{Onward, term-law, term-next, number-law, left-none
 use Rattle.terms.proofs.Laws.{below}
 use Rattle.lines.specs.Additions.{pushed}
 use Rattle.lines.proofs.Laws.{pushed-in, pushed-full}
-use Rattle.gather.specs.Sets.{Same-but}
+use Rattle.words.specs.Slices.{Same-but}
 use Rattle.gather.proofs.Steps.{same-self, same-then, same-set}
 use Rattle.fields.specs.declared.Upto.{Upto}
 use Rattle.fields.specs.declared.Upto.the-variants as upto

@@ -9,6 +9,7 @@ use mathlib.Core.List.{List, [], _∷_, _++_, map}
 use lib.ListN.{length, getD, length-append}
 use Rattle.model.specs.Lists.{sum, collect, fold-left, part}
 use Rattle.model.specs.Names.{Name}
+use Rattle.model.specs.Summaries.{entries}
 use Rattle.model.specs.Terms.{Node, Term, add-term, unlabeled, free-top-level-names}
 use Rattle.model.specs.Reading.{Content, asked, nodes, spelled, trimmed, spell, summarize-decl, root-of, entries-of, uses-of, add-line, repeats, most-records, most-entries, most-uses}
 use Rattle.model.specs.declared.Counts.{Counts}
@@ -18,12 +19,13 @@ use Rattle.names.proofs.Laws.{names-length}
 use Rattle.terms.specs.Rows.{terms-of, nodes-below, node-of}
 use Rattle.terms.proofs.Table.{rows-named, terms-named}
 use Rattle.terms.proofs.Laws.{equal, below}
-use Rattle.gather.specs.Sets.{Fresh, Same-but}
+use Rattle.words.specs.Slices.{Same-but}
+use Rattle.gather.specs.Sets.{Fresh}
 use Rattle.gather.proofs.Walking.{rows-marked}
 use Rattle.rules.specs.Views.{terms-in}
-use Rattle.triggers.specs.Entries.{disjuncts-of, entries}
+use Rattle.triggers.specs.Entries.{disjuncts-of}
 use Rattle.triggers.proofs.Marked.{terms-marked}
-use Rattle.records.specs.declared.Step.the-variants as step
+use Rattle.model.specs.declared.Step.the-variants as step
 use Rattle.records.specs.Columns.{record-kind, assume-kind, retain-kind, root-kind, entry-column, last-entry, no-name, entry-word, entry-name, entry-fact}
 use Rattle.records.specs.States.{summary-at, root-at, decls-of, roots-of, ask-of, state-of}
 use Rattle.records.specs.Filing.{Records, Chained, Filing, Taken, Stocked}

@@ -9,7 +9,7 @@ use lib.ListN.{length, getD, set, length-set}
 use lib.Seq.{getD-set-same, getD-set-other}
 use borrow.Author.Tests.{eq-eqb, ne-eqb}
 use Rattle.model.specs.Reading.{most-names, most-entries}
-use Rattle.gather.specs.Sets.{Same-but}
+use Rattle.words.specs.Slices.{Same-but}
 use Rattle.terms.proofs.Laws.{equal}
 use Rattle.records.specs.Columns.{entry-column, fact-column, next-column, first-column, taken-column, last-entry, no-name, entry-name, entry-fact, next-entry, first-entry}
 use Rattle.records.specs.Filing.{newest, Chained}

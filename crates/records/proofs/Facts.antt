@@ -12,22 +12,23 @@ use borrow.Author.Tests.{ltb-true}
 use Rattle.model.specs.Lists.{sum, collect, fold-left, part}
 use Rattle.model.specs.Names.{Name, from-list}
 use Rattle.model.specs.Reading.{assume, spell, asked, nodes, spelled, trimmed, summarize-decl, root-of, taken-by, entries-of, uses-of, add-line, repeats, most-names, most-terms, most-records, most-entries, most-uses}
-use Rattle.model.specs.Summaries.{summarize-assumption, summarize-kind, free-top-level-names}
+use Rattle.model.specs.Summaries.{entries, summarize-assumption, summarize-kind, free-top-level-names}
 use Rattle.model.specs.declared.Counts.{Counts}
 use Rattle.model.specs.declared.Refusal.the-variants as refusal
 use Rattle.model.proofs.PartLaws.{part-agree, part-elim, part-intro, part-length, part-at}
-use Rattle.names.specs.Table.{Table, name-of, names-of}
+use Rattle.names.specs.Table.{Excludes, Table, name-of, names-of}
+use Rattle.names.proofs.Excluded.{excluded-exact}
 use Rattle.names.proofs.Coded.{Kept, table-kept}
-use Rattle.gather.specs.Sets.{Same-but}
+use Rattle.words.specs.Slices.{Same-but}
 use Rattle.rules.specs.Views.{terms-in}
-use Rattle.triggers.specs.Entries.{disjuncts-of, entries, Entries}
+use Rattle.triggers.specs.Entries.{disjuncts-of, Entries}
 use Rattle.summary.specs.declared.Limit.{Limit}
 use Rattle.summary.specs.declared.Limit.the-variants as limit
 use Rattle.summary.specs.declared.Summary.{Summary}
 use Rattle.summary.specs.declared.Summarized.the-variants as summarized
 use Rattle.summary.specs.Facts.{Asked, fact-kind, fact-names, names-then, fact-summary, limited, Lists, Slices}
 use Rattle.summary.proofs.Answering.{over-none, limited-done}
-use Rattle.records.specs.declared.Step.the-variants as step
+use Rattle.model.specs.declared.Step.the-variants as step
 use Rattle.records.specs.Columns.{assume-kind, code-of, entry-column, fact-column, next-column, first-column, taken-column, last-entry, no-name, entry-word, entry-name, entry-fact, taken-at}
 use Rattle.records.specs.States.{free-at, fact-at, summary-at, root-at, state-of}
 use Rattle.records.specs.Writing.{with-record, Rowed, Puttable, Puts}
@@ -38,7 +39,6 @@ use Rattle.records.proofs.Judging.{many-names, many-entries, many-uses,
 use Rattle.records.proofs.Appending.{Appends, Says, record-added, record-repeated, record-crowded, record-beyond}
 use Rattle.records.proofs.Plain.{spelled-before, is-taken}
 use Rattle.records.proofs.Funs.{same-wider, row-past, taken-put, small-row}
-use Rattle.records.proofs.Naming.{named-more, named-same}
 use Rattle.records.proofs.Coding.{code-kind, code-low}
 
 -- ---- the words of a fact's entries
@@ -93,12 +93,12 @@ module _ {file names refs rows recs out : List ℕ} {k : Counts} (st : Standing 
     fact-crowded h = record-crowded st line (assume (name-of file names i) (eqb flag 1) t) (fact-new free) h refl
 
     -- more names, entries or uses than may be
-    pub fact-over : {l : Limit} → summarized.Over l ≡ limited (fact-summary file names refs rows (k .named) (k .used) (k .many) i t (k .mark) (k .entries) (k .uses))
+    pub fact-over : {l : Limit} → summarized.Over l ≡ limited (fact-summary excluded file names refs rows (k .named) (k .used) (k .many) i t (k .mark) (k .entries) (k .uses))
         → Adds file names refs rows recs out names′ rows′ recs′ out′ k line (assume (name-of file names i) (eqb flag 1) t) (step.Refused refusal.Limit)
     unfolding add-line state-of spelled trimmed summarize-decl summarize-assumption root-of entries-of uses-of sum fold-left fact-summary names-then fact-kind fact-names entries
     fact-over o =
-        let x = fact-summary file names refs rows (k .named) (k .used) (k .many) i t (k .mark) (k .entries) (k .uses) in
-        let again = spelled-before file names (k .named) i (fact-kind file names refs rows (k .named) (k .used) (k .many) i t .trimmed) known in
+        let x = fact-summary excluded file names refs rows (k .named) (k .used) (k .many) i t (k .mark) (k .entries) (k .uses) in
+        let again = spelled-before file names (k .named) i (fact-kind excluded file names refs rows (k .named) (k .used) (k .many) i t .trimmed) known in
         record-beyond st line (assume (name-of file names i) (eqb flag 1) t) (fact-new free)
         (⊎-elim (λ (q : most-names < x .named). many-names (omega (arith, ap length again)))
         (λ q. ⊎-elim (λ (z : most-entries < x .entries). many-entries (omega arith)) (λ (z : most-uses < x .uses). many-uses (omega arith)) q)
@@ -108,48 +108,46 @@ module _ {file names refs rows recs out : List ℕ} {k : Counts} (st : Standing 
 
 module _ {file names refs rows recs out names₁ rows′ out₁ names′ recs′ out′ : List ℕ} {k : Counts} (st : Standing file names refs rows recs out k) (line : ℕ) {i : ℕ} (known : i < k .named) (flag t : ℕ) {x : Summary} {next : Counts}
     (few : k .records < most-records) (free : taken-at names i ≡ 0)
-    (done : summarized.Done x ≡ limited (fact-summary file names refs rows (k .named) (k .used) (k .many) i t (k .mark) (k .entries) (k .uses)))
-    (lists : Lists file names refs rows (k .named) (k .used) (k .many) i t names₁ rows′ out₁ (k .entries) (k .uses) x)
+    (done : summarized.Done x ≡ limited (fact-summary excluded file names refs rows (k .named) (k .used) (k .many) i t (k .mark) (k .entries) (k .uses)))
+    (lists : Lists excluded file names refs rows (k .named) (k .used) (k .many) i t names₁ rows′ out₁ (k .entries) (k .uses) x)
     (slices : Slices names rows out names₁ rows′ out₁ (k .entries) (k .uses))
     (puts : Puts names₁ recs out₁ names′ recs′ out′ k line i flag t x next) where
   -- the summary is the definition's, within the limits
-  within : (x ≡ fact-summary file names refs rows (k .named) (k .used) (k .many) i t (k .mark) (k .entries) (k .uses)) × (x .named ≤ most-names) × (x .entries ≤ most-entries) × (x .uses ≤ most-uses)
+  within : (x ≡ fact-summary excluded file names refs rows (k .named) (k .used) (k .many) i t (k .mark) (k .entries) (k .uses)) × (x .named ≤ most-names) × (x .entries ≤ most-entries) × (x .uses ≤ most-uses)
   within = limited-done _ done
 
   low : i < most-names
   low = omega (arith, known, st .tables .name-table .few)
 
-  entries-are : x .entries ≡ k .entries + entries (fact-kind file names refs rows (k .named) (k .used) (k .many) i t .triggers)
+  entries-are : x .entries ≡ k .entries + entries (fact-kind excluded file names refs rows (k .named) (k .used) (k .many) i t .triggers)
   unfolding fact-summary
   entries-are = ap (λ y. y .entries) (within .0)
 
-  uses-are : x .uses ≡ k .uses + length (fact-names file names refs rows (k .named) (k .used) (k .many) i t)
+  uses-are : x .uses ≡ k .uses + length (fact-names excluded file names refs rows (k .named) (k .used) (k .many) i t)
   unfolding fact-summary
   uses-are = ap (λ y. y .uses) (within .0)
 
-  mark-is : x .mark ≡ k .mark + 2 + entries (fact-kind file names refs rows (k .named) (k .used) (k .many) i t .triggers)
+  mark-is : x .mark ≡ k .mark + 2 + entries (fact-kind excluded file names refs rows (k .named) (k .used) (k .many) i t .triggers)
   unfolding fact-summary
   mark-is = ap (λ y. y .mark) (within .0)
 
-  kind-is : x .kind ≡ fact-kind file names refs rows (k .named) (k .used) (k .many) i t .kind
+  kind-is : x .kind ≡ fact-kind excluded file names refs rows (k .named) (k .used) (k .many) i t .kind
   unfolding fact-summary
   kind-is = ap (λ y. y .kind) (within .0)
 
   -- names are spelled behind those before
   more : k .named ≤ x .named
-  unfolding names-then
-  more = named-more file names names₁ (k .named) (x .named) (fact-kind file names refs rows (k .named) (k .used) (k .many) i t .trimmed) (lists .spelled)
+  more = lists .more
 
   old : (j : ℕ) → j < k .named → name-of file names₁ j ≡ name-of file names j
-  unfolding names-then
-  old = named-same file names names₁ (k .named) (x .named) (fact-kind file names refs rows (k .named) (k .used) (k .many) i t .trimmed) (lists .spelled)
+  old = lists .same-names
 
   -- of the names the taken word and the first entries change
   name-words : (j : ℕ) → (j ≡ taken-column + i → ⊥) → (first-column ≤ j → j < first-column + most-names → ⊥) → getD names′ j 0 ≡ getD names₁ j 0
   name-words j d e = puts .chains .names-same .same-words j e ∙ getD-set-other names₁ (taken-column + i) j (k .records + 1) 0 d
 
   still : Kept file names₁ names′ (x .named)
-  still = table-kept (lists .table) (puts .chains .names-same .same-length ∙ simp length-set) (λ j l. name-words j (λ e. omega arith) (λ a b. omega arith))
+  still = table-kept (lists .tables .name-table) (puts .chains .names-same .same-length ∙ simp length-set) (λ j l. name-words j (λ e. omega arith) (λ a b. omega arith))
 
   same : (j : ℕ) → j < k .named → name-of file names′ j ≡ name-of file names j
   same j l = still .name j (omega (arith, more)) ∙ old j l
@@ -164,7 +162,7 @@ module _ {file names refs rows recs out names₁ rows′ out₁ names′ recs′
   size : length out′ ≡ length out₁
   size = puts .chains .out-length
 
-  sets : disjuncts-of (name-of file names′) (part out′ (entry-column + k .entries) (entry-column + x .entries)) ≡ fact-kind file names refs rows (k .named) (k .used) (k .many) i t .triggers
+  sets : disjuncts-of (name-of file names′) (part out′ (entry-column + k .entries) (entry-column + x .entries)) ≡ fact-kind excluded file names refs rows (k .named) (k .used) (k .many) i t .triggers
   sets =
       let a = entry-column + k .entries in
       let e = entry-column + x .entries in
@@ -185,7 +183,7 @@ module _ {file names refs rows recs out names₁ rows′ out₁ names′ recs′
       let grow = uses-are in
       let here : taken-at names′ i ≡ k .records + 1 =
       puts .chains .names-same .same-words (taken-column + i) (λ a b. omega (arith, low))
-      ∙ getD-set-same names₁ (taken-column + i) (k .records + 1) 0 (omega (arith, lists .table .room, low)) in
+      ∙ getD-set-same names₁ (taken-column + i) (k .records + 1) 0 (omega (arith, lists .tables .name-table .room, low)) in
       let others : (n : ℕ) → n < most-names → (n ≡ i → ⊥) → taken-at names′ n ≡ taken-at names n =
       λ n l d. name-words (taken-column + n) (λ e. d (omega arith)) (λ a b. omega arith) ∙ slices .name-words .same-words (taken-column + n) (λ a b. omega arith) in
       record {
@@ -221,7 +219,7 @@ module _ {file names refs rows recs out names₁ rows′ out₁ names′ recs′
         chained = puts .chains .chained;
       }
 
-  uses-then : free-at (name-of file names′) recs′ out′ (k .records) ≡ fact-names file names refs rows (k .named) (k .used) (k .many) i t
+  uses-then : free-at (name-of file names′) recs′ out′ (k .records) ≡ fact-names excluded file names refs rows (k .named) (k .used) (k .many) i t
   unfolding free-at
   uses-then =
       let high : x .uses ≤ length out₁ = omega (arith, room, within .3) in
@@ -248,7 +246,7 @@ module _ {file names refs rows recs out names₁ rows′ out₁ names′ recs′
       rw (puts .counts) (record-added st few appends (fact-new st line known {w = 0} (sym free) flag t (omega arith)) (record {
         no-ask = refl;
         no-term = refl;
-        spells = still .names ∙ lists .spelled ∙ sym (spelled-before file names (k .named) i (fact-kind file names refs rows (k .named) (k .used) (k .many) i t .trimmed) known);
+        spells = still .names ∙ lists .spelled ∙ sym (spelled-before file names (k .named) i (fact-kind excluded file names refs rows (k .named) (k .used) (k .many) i t .trimmed) known);
         decls = rw fact-is;
         roots = refl;
         entries = omega (arith, entries-are);
@@ -256,6 +254,10 @@ module _ {file names refs rows recs out names₁ rows′ out₁ names′ recs′
       }))
 
 -- ---- what the calls ask, and what stays
+
+-- the table tells the excluded names
+pub excludes-here : {file names refs rows recs out : List ℕ} {k : Counts} → Standing file names refs rows recs out k → Excludes excluded file names (k .named)
+excludes-here st = excluded-exact (st .tables .name-table)
 
 module _ {file names refs rows recs out : List ℕ} {k : Counts} (st : Standing file names refs rows recs out k) {i t : ℕ} (known : i < k .named) (term : t < k .many) where
   -- summarising the fact
@@ -273,13 +275,14 @@ module _ {file names refs rows recs out : List ℕ} {k : Counts} (st : Standing 
 
   -- putting its summary into the tables
   pub fact-puttable : {names₁ rows₁ out₁ : List ℕ} {line flag : ℕ} {x : Summary}
-      → summarized.Done x ≡ limited (fact-summary file names refs rows (k .named) (k .used) (k .many) i t (k .mark) (k .entries) (k .uses))
+      → summarized.Done x ≡ limited (fact-summary excluded file names refs rows (k .named) (k .used) (k .many) i t (k .mark) (k .entries) (k .uses))
+      → Lists excluded file names refs rows (k .named) (k .used) (k .many) i t names₁ rows₁ out₁ (k .entries) (k .uses) x
       → Slices names rows out names₁ rows₁ out₁ (k .entries) (k .uses) → k .records < most-records → line < 4294967296 → flag < 2 → Puttable names₁ recs out₁ k line i flag t x
   unfolding fact-summary fact-kind
-  fact-puttable {names₁} {out₁ = out₁} {line} {flag} {x} done slices few line-small flag-small =
+  fact-puttable {names₁} {out₁ = out₁} {line} {flag} {x} done lists slices few line-small flag-small =
       let (is, few-names, few-entries, few-uses) = limited-done _ done in
       let low : i < most-names = omega (arith, st .tables .name-table .few) in
-      let code : code-of (x .kind) ≤ 3 + x .entries = rw is (omega (arith, code-low (st .tables) term (name-of file names i))) in
+      let code : code-of (x .kind) ≤ 3 + x .entries = code-low (x .kind) (x .entries) (λ m e. omega (arith, lists .few-sets m e)) in
       record {
         chained = chained-kept (st .stocked .chained) (λ n l. slices .name-words .same-words (first-column + n) (λ a b. omega arith))
             (λ e l. ap (λ w. w % last-entry) (slices .out-words (entry-column + e) (λ a b. omega arith) (λ a b. omega arith)))
@@ -330,8 +333,8 @@ fact-past {names₁ = names₁} {i = i} {k = k} s few low p =
 -- the fact there, by what the code has found
 pub fact-added : {file names refs rows recs out names₁ rows′ out₁ names′ recs′ out′ : List ℕ} {k : Counts} → Standing file names refs rows recs out k → (line : ℕ) → {i : ℕ} → i < k .named
     → {w : ℕ} → w ≡ taken-at names i → (flag t : ℕ) → {x : Summary} {next : Counts} → w ≤ 0 → k .records < most-records
-    → summarized.Done x ≡ limited (fact-summary file names refs rows (k .named) (k .used) (k .many) i t (k .mark) (k .entries) (k .uses))
-    → Lists file names refs rows (k .named) (k .used) (k .many) i t names₁ rows′ out₁ (k .entries) (k .uses) x
+    → summarized.Done x ≡ limited (fact-summary excluded file names refs rows (k .named) (k .used) (k .many) i t (k .mark) (k .entries) (k .uses))
+    → Lists excluded file names refs rows (k .named) (k .used) (k .many) i t names₁ rows′ out₁ (k .entries) (k .uses) x
     → Slices names rows out names₁ rows′ out₁ (k .entries) (k .uses) → Puts names₁ recs out₁ names′ recs′ out′ k line i flag t x next
     → Adds file names refs rows recs out names′ rows′ recs′ out′ k line (assume (name-of file names i) (eqb flag 1) t) (step.On next)
 fact-added st line known is flag t h few done lists slices puts = fact-there st line known flag t few (omega arith) done lists slices puts

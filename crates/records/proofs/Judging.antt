@@ -24,7 +24,7 @@ use Rattle.names.proofs.Laws.{names-length, distinct}
 use Rattle.terms.specs.Rows.{terms-of, nodes-below, node-of}
 use Rattle.terms.proofs.Laws.{equal}
 use Rattle.rules.specs.Views.{terms-in}
-use Rattle.records.specs.declared.Step.the-variants as step
+use Rattle.model.specs.declared.Step.the-variants as step
 use Rattle.records.specs.Columns.{record-kind, record-name, retain-kind, taken-at}
 use Rattle.records.specs.States.{decl-at, fact-at, summary-at, decls-of, roots-of, state-of}
 use Rattle.records.specs.Filing.{Taken}

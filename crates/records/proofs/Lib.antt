@@ -7,6 +7,5 @@ pub mod Appending
 pub mod Plain
 pub mod Funs
 pub mod Uses
-pub mod Naming
 pub mod Coding
 pub mod Facts

@@ -7,6 +7,7 @@ use lib.ListN.{length, getD, set, length-set}
 use lib.Seq.{getD-set-same, getD-set-other}
 use Rattle.model.specs.Lists.{sum, fold-left, part}
 use Rattle.model.specs.Names.{Name, mem}
+use Rattle.model.specs.Summaries.{entries}
 use Rattle.model.specs.Reading.{spell, most-names, most-records, most-uses}
 use Rattle.model.specs.declared.Counts.{Counts}
 use Rattle.model.proofs.ListLaws.{cond-true}
@@ -14,8 +15,9 @@ use Rattle.model.proofs.PartLaws.{part-nil}
 use Rattle.names.specs.Table.{name-of, names-of}
 use Rattle.names.proofs.Laws.{names-intro}
 use Rattle.names.proofs.Coded.{Kept, table-kept}
-use Rattle.gather.specs.Sets.{Fresh, Same-but}
-use Rattle.triggers.specs.Entries.{disjuncts-of, disjuncts-of-words, entries}
+use Rattle.words.specs.Slices.{Same-but}
+use Rattle.gather.specs.Sets.{Fresh}
+use Rattle.triggers.specs.Entries.{disjuncts-of, disjuncts-of-words}
 use Rattle.records.specs.Columns.{record-kind, record-name, assume-kind, retain-kind, root-kind, entry-column, fact-column, next-column, first-column, taken-column, taken-at}
 use Rattle.records.specs.Filing.{Taken}
 use Rattle.records.specs.Writing.{with-record, Rowed}

@@ -13,15 +13,17 @@ use Rattle.model.specs.Summaries.{free-top-level-names}
 use Rattle.model.specs.declared.Counts.{Counts}
 use Rattle.model.specs.declared.Refusal.the-variants as refusal
 use Rattle.model.proofs.PartLaws.{part-elim}
-use Rattle.names.specs.Table.{name-of, names-of}
+use Rattle.names.specs.Table.{Table, name-of, names-of}
+use Rattle.names.proofs.Laws.{distinct}
+use Rattle.names.proofs.Excluded.{excluded-exact}
 use Rattle.terms.specs.Rows.{terms-of}
-use Rattle.gather.specs.Sets.{Fresh, Same-but, Named, Gathers, all-names, no-room, Gathered, ended}
+use Rattle.words.specs.Slices.{Same-but}
+use Rattle.gather.specs.Sets.{Fresh, Named, Gathers, all-names, no-room, Gathered, ended}
 use Rattle.gather.specs.declared.Walked.{Walked}
 use Rattle.gather.specs.declared.Walked.the-variants as walks
 use Rattle.rules.specs.Views.{terms-in}
 use Rattle.triggers.proofs.Marked.{fresh-next}
-use Rattle.summary.proofs.Sorting.{named-of}
-use Rattle.records.specs.declared.Step.the-variants as step
+use Rattle.model.specs.declared.Step.the-variants as step
 use Rattle.records.specs.Columns.{def-kind, root-kind, taken-column, taken-at}
 use Rattle.records.specs.States.{free-at, summary-at, root-at, decl-at, state-of}
 use Rattle.records.specs.Writing.{with-record, Rowed}
@@ -43,13 +45,17 @@ pub record Uses (file names rows out names′ rows′ out′ : List ℕ) (k : Co
   pub out-words : Same-but (k .uses) (n - k .uses) out out′
   pub fresh : Fresh names′ rows′ (k .mark + 1)
 
+-- the names of a table, and those that it says are excluded
+named-here : {file names : List ℕ} {named : ℕ} → Table file names named → Named excluded (name-of file names) names named
+named-here table = record { distinct = distinct table; excluded = excluded-exact table }
+
 module _ {file names refs rows recs out names′ rows′ out′ : List ℕ} {k : Counts} (st : Standing file names refs rows recs out k) (t : ℕ) {r : Walked}
-    (gathers : (name : ℕ → Name) → Named name names (k .named) → Gathers name (k .named) (free-top-level-names excluded (terms-of name refs rows (k .used) (k .many)) t) (k .uses) most-uses out′ r)
+    (gathers : (exclude : List Name) (name : ℕ → Name) → Named exclude name names (k .named) → Gathers name (k .named) (free-top-level-names exclude (terms-of name refs rows (k .used) (k .many)) t) (k .uses) most-uses out′ r)
     (slices : Gathered names rows out names′ rows′ out′ (k .mark) (k .uses) most-uses r) where
   -- all the names have room
   pub gathered-uses : {n : ℕ} → r ≡ walks.Names n → Uses file names rows out names′ rows′ out′ k (free-top-level-names excluded (terms-in file names refs rows (k .used) (k .many)) t) n
   unfolding terms-in ended
-  gathered-uses {n} e = go (rw e at (gathers (name-of file names) (named-of (st .tables .name-table)))) (rw e at slices)
+  gathered-uses {n} e = go (rw e at (gathers excluded (name-of file names) (named-here (st .tables .name-table)))) (rw e at slices)
     where
       go : Gathers (name-of file names) (k .named) (free-top-level-names excluded (terms-of (name-of file names) refs rows (k .used) (k .many)) t) (k .uses) most-uses out′ (walks.Names n)
           → Gathered names rows out names′ rows′ out′ (k .mark) (k .uses) most-uses (walks.Names n)
@@ -68,7 +74,7 @@ module _ {file names refs rows recs out names′ rows′ out′ : List ℕ} {k :
   -- some have none
   pub gathered-over : r ≡ walks.Full → most-uses < k .uses + length (free-top-level-names excluded (terms-in file names refs rows (k .used) (k .many)) t)
   unfolding terms-in
-  gathered-over e = go (rw e at (gathers (name-of file names) (named-of (st .tables .name-table))))
+  gathered-over e = go (rw e at (gathers excluded (name-of file names) (named-here (st .tables .name-table))))
     where
       go : Gathers (name-of file names) (k .named) (free-top-level-names excluded (terms-of (name-of file names) refs rows (k .used) (k .many)) t) (k .uses) most-uses out′ walks.Full
           → most-uses < k .uses + length (free-top-level-names excluded (terms-of (name-of file names) refs rows (k .used) (k .many)) t)

@@ -9,10 +9,11 @@ use Rattle.model.specs.Summaries.{exclude-names}
 use Rattle.model.specs.declared.Counts.{Counts}
 use Rattle.model.specs.declared.Refusal.{Refusal}
 use Rattle.model.specs.declared.Refusal.the-variants as refusal
-use Rattle.gather.specs.Sets.{Fresh, Same-but}
+use Rattle.words.specs.Slices.{Same-but}
+use Rattle.gather.specs.Sets.{Fresh}
 use Rattle.rules.specs.Views.{Tables}
-use Rattle.records.specs.declared.Step.{Step}
-use Rattle.records.specs.declared.Step.the-variants as step
+use Rattle.model.specs.declared.Step.{Step}
+use Rattle.model.specs.declared.Step.the-variants as step
 use Rattle.records.specs.States.{state-of}
 use Rattle.records.specs.Filing.{Records, Stocked}
 

@@ -7,9 +7,10 @@ use mathlib.Core.List.{List}
 use lib.Dec.{eqb}
 use lib.ListN.{length, getD}
 use Rattle.model.specs.Names.{Name}
+use Rattle.model.specs.Summaries.{entries}
 use Rattle.model.specs.Reading.{most-names, most-records, most-entries, most-uses}
 use Rattle.names.specs.Table.{name-of}
-use Rattle.triggers.specs.Entries.{disjuncts-of, entries}
+use Rattle.triggers.specs.Entries.{disjuncts-of}
 use Rattle.records.specs.Columns.{record-kind, record-name, uses-start, uses-end, entries-start, entries-end, assume-kind, retain-kind, root-kind, last-entry, no-name, entry-word, entry-name, entry-fact, next-entry, taken-at, first-entry}
 use Rattle.records.specs.States.{entries-at}
 

@@ -5,7 +5,7 @@ use mathlib.Core.List.{List, [], _∷_}
 use lib.ListN.{length, getD, set}
 use Rattle.model.specs.Reading.{most-names, most-records, most-entries}
 use Rattle.model.specs.declared.Counts.{Counts}
-use Rattle.gather.specs.Sets.{Same-but}
+use Rattle.words.specs.Slices.{Same-but}
 use Rattle.records.specs.Columns.{record-word, record-kind, record-line, record-name, record-term, record-flag, uses-start, uses-end, entries-start, entries-end, summary-code, assume-kind, code-of, fact-column, next-column, first-column, taken-column, entry-fact}
 use Rattle.summary.specs.declared.Summary.{Summary}
 use Rattle.records.specs.Filing.{Chained}

@@ -20,7 +20,7 @@ use Rattle.model.proofs.SetLaws.{mem-intro, mem-elim, mem-from-list}
 use Rattle.demands.proofs.FuelLaws.{run-ends}
 use Rattle.names.specs.Table.{name-of}
 use Rattle.terms.proofs.Laws.{equal, below}
-use Rattle.gather.specs.Sets.{Same-but}
+use Rattle.words.specs.Slices.{Same-but}
 use Rattle.records.specs.Columns.{record-kind, record-flag, summary-code, assume-kind, retain-kind, root-kind, kind-of-code, code-of}
 use Rattle.records.specs.States.{uses-at, free-at, fact-at, decls-of, roots-of, ask-of}
 use Rattle.records.specs.Macros.{Filled}

@@ -10,14 +10,14 @@ use lib.Dec.{T, ltb, eqb}
 use borrow.Author.Tests.{ne-eqb, lt-ltb, ltb-true, ltb-false}
 use Rattle.model.specs.Lists.{count, collect, concat, part}
 use Rattle.model.specs.Names.{Name}
-use Rattle.model.specs.Summaries.{Fact}
+use Rattle.model.specs.Summaries.{entries, Fact}
 use Rattle.model.specs.Reading.{Decl, Root}
 use Rattle.model.specs.Rounds.{facts, definitions, listed, filed}
 use Rattle.model.proofs.ListLaws.{count-append, collect-append}
 use Rattle.model.proofs.PartLaws.{part-nil, part-length}
 use Rattle.demands.proofs.Records.{facts-append, definitions-append}
 use Rattle.terms.proofs.Laws.{equal}
-use Rattle.triggers.specs.Entries.{disjuncts-of, entries}
+use Rattle.triggers.specs.Entries.{disjuncts-of}
 use Rattle.records.specs.Columns.{record-kind, record-line, record-name, record-flag, entries-start, entries-end, assume-kind, def-kind, retain-kind, last-entry, no-name, entry-column, entry-name, entry-fact}
 use Rattle.records.specs.States.{entries-at, free-at, fact-at, decl-at, summary-at, root-at, decls-of, roots-of}
 use Rattle.records.specs.Filing.{Records, entries-before, Filing}

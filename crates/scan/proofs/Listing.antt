@@ -10,12 +10,13 @@ use lib.Dec.{ltb}
 use borrow.Author.Tests.{ltb-true, lt-ltb}
 use Rattle.model.specs.Lists.{count, sum, collect, concat, part}
 use Rattle.model.specs.Names.{Name, order, add, add-by, from-list}
+use Rattle.model.specs.Summaries.{entries}
 use Rattle.model.specs.declared.Order.{Order}
 use Rattle.model.specs.declared.Order.the-variants.{Before, Same, After}
 use Rattle.model.proofs.ListLaws.{count-append, concat-intro, concat-elim, collect-intro, collect-elim, map-intro, map-elim}
 use Rattle.model.proofs.SetLaws.{add-length, from-list-length, mem-intro, mem-elim, mem-from-list}
 use Rattle.model.proofs.PartLaws.{part-nil, part-snoc}
-use Rattle.triggers.specs.Entries.{disjuncts-of, disjuncts-of-words, before-first, entry-number, entries}
+use Rattle.triggers.specs.Entries.{disjuncts-of, disjuncts-of-words, before-first, entry-number}
 use Rattle.records.specs.Columns.{last-entry, no-name}
 use Rattle.scan.specs.Held.{upto}
 

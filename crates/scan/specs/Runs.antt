@@ -7,7 +7,7 @@ use Rattle.model.specs.Names.{mem}
 use Rattle.model.specs.Rounds.{Run, facts, run, visits}
 use Rattle.model.specs.declared.Counts.{Counts}
 use Rattle.names.specs.Table.{name-of}
-use Rattle.gather.specs.Sets.{Same-but}
+use Rattle.words.specs.Slices.{Same-but}
 use Rattle.records.specs.Columns.{record-kind, record-name, assume-kind}
 use Rattle.records.specs.States.{decls-of, roots-of, ask-of}
 use Rattle.scan.specs.Held.{set-of}

@@ -1,10 +1,10 @@
 -- `records::add_fact` meets its contract.
 use native.Mathlib.Omega.{arith}
 use mathlib.Core.Path.{_≡_, sym, _∙_}
-use Rattle.records.specs.Adding.{full}
+use Rattle.records.specs.Adding.{full, excluded}
 use Rattle.summary.proofs.Answering.{limited-done}
 use Rattle.records.proofs.Funs.{untouched}
-use Rattle.records.proofs.Facts.{fact-asked, fact-puttable, fact-repeated, fact-crowded, fact-over, over-past, fact-added, fact-past}
+use Rattle.records.proofs.Facts.{excludes-here, fact-asked, fact-puttable, fact-repeated, fact-crowded, fact-over, over-past, fact-added, fact-past}
 use borrow.Author.Needs.{needs}
 use Rattle.records.proofs.add_fact.Statement.{statement}
 use Rattle.records.proofs.add_fact.Tie as tie
@@ -54,9 +54,10 @@ enum-known-s c = c .match .keys1
 put-fact-requires : tie.Need-put-fact-requires
 put-fact-requires c κs =
     let (st, known) = c .before .before .before .before .before .before .before .before .before .before .before .before .before .before .before .before .before .before .before .before .before .before .before .before .before .before .before .before .before .pre .0 (c .before .before .before .before .before .before .before .before .before .before .before .before .before .before .before .before .before .before .before .before .before .if1 .left) in
-    let done = sym (c .before .before .before .before .s .given .1) ∙ c .before .before .before .before .before .before .before .before .before .before .before .before .summarize-assumption .ensures .0 in
+    let done = sym (c .before .before .before .before .s .given .1) ∙ c .before .before .before .before .before .before .before .before .before .before .before .before .summarize-assumption .ensures .0 excluded (excludes-here st) in
+    let lists = c .before .before .before .before .before .before .before .before .before .before .before .before .summarize-assumption .ensures .1 .0 excluded (excludes-here st) _ (c .before .before .before .before .s .given .1) in
     let slices = c .before .before .before .before .before .before .before .before .before .before .before .before .summarize-assumption .ensures .1 .1 .0 in
-    fact-puttable st known (c .before .before .before .before .before .before .before .before .before .before .before .before .before .before .before .before .before .before .before .before .before .before .before .before .before .before .before .before .before .pre .1) done slices (c .before .before .before .before .before .before .before .before .before .before .before .before .before .before .before .before .if3 .left) (c .before .before .before .before .before .before .before .before .before .before .before .before .before .before .before .before .before .before .before .before .before .before .before .before .before .before .before .before .before .pre .2) (c .before .before .before .before .before .before .before .before .before .before .before .before .before .before .before .before .before .before .before .before .before .before .before .before .before .before .before .before .before .pre .3)
+    fact-puttable st known (c .before .before .before .before .before .before .before .before .before .before .before .before .before .before .before .before .before .before .before .before .before .before .before .before .before .before .before .before .before .pre .1) done lists slices (c .before .before .before .before .before .before .before .before .before .before .before .before .before .before .before .before .if3 .left) (c .before .before .before .before .before .before .before .before .before .before .before .before .before .before .before .before .before .before .before .before .before .before .before .before .before .before .before .before .before .pre .2) (c .before .before .before .before .before .before .before .before .before .before .before .before .before .before .before .before .before .before .before .before .before .before .before .before .before .before .before .before .before .pre .3)
 
 enum-told : tie.Need-enum-told
 enum-told c = c .match .keys2
@@ -76,9 +77,9 @@ same-length-6 c = search needs
 returns-4 : tie.Need-returns-4
 returns-4 c =
     let (st, known) = c .before .before .before .before .before .before .before .before .before .before .before .before .before .before .before .before .before .before .before .before .before .before .before .before .before .before .before .before .before .before .before .before .before .before .before .before .pre .0 (c .before .before .before .before .before .before .before .before .before .before .before .before .before .before .before .before .before .before .before .before .before .before .before .before .before .before .before .before .if1 .left) in
-    let done = sym (c .before .before .before .before .before .before .before .before .before .before .before .s .given .1) ∙ c .before .before .before .before .before .before .before .before .before .before .before .before .before .before .before .before .before .before .before .summarize-assumption .ensures .0 in
+    let done = sym (c .before .before .before .before .before .before .before .before .before .before .before .s .given .1) ∙ c .before .before .before .before .before .before .before .before .before .before .before .before .before .before .before .before .before .before .before .summarize-assumption .ensures .0 excluded (excludes-here st) in
     let slices = c .before .before .before .before .before .before .before .before .before .before .before .before .before .before .before .before .before .before .before .summarize-assumption .ensures .1 .1 .0 in
-    let lists = c .before .before .before .before .before .before .before .before .before .before .before .before .before .before .before .before .before .before .before .summarize-assumption .ensures .1 .0 _ (c .before .before .before .before .before .before .before .before .before .before .before .s .given .1) in
+    let lists = c .before .before .before .before .before .before .before .before .before .before .before .before .before .before .before .before .before .before .before .summarize-assumption .ensures .1 .0 excluded (excludes-here st) _ (c .before .before .before .before .before .before .before .before .before .before .before .s .given .1) in
     let puts = c .before .before .before .before .before .before .put-fact .ensures in (
       fact-added st (c .before .before .before .before .before .before .before .before .before .before .before .before .before .before .before .before .before .before .before .before .before .before .before .before .before .before .before .before .before .before .before .before .before .before .before .before .args .line) known (c .before .before .before .before .before .before .before .before .before .before .before .before .before .before .before .before .before .before .before .before .before .before .before .before .before .before .at .ensures) (c .before .before .before .before .before .before .before .before .before .before .before .before .before .before .before .before .before .before .before .before .before .before .before .before .before .before .before .before .before .before .before .before .before .before .before .before .args .flag) (c .before .before .before .before .before .before .before .before .before .before .before .before .before .before .before .before .before .before .before .before .before .before .before .before .before .before .before .before .before .before .before .before .before .before .before .before .args .t) (c .before .before .before .before .before .before .before .before .before .before .before .before .before .before .before .before .before .before .before .before .before .before .before .before .before .if2 .left) (c .before .before .before .before .before .before .before .before .before .before .before .before .before .before .before .before .before .before .before .before .before .before .before .if3 .left) done lists slices puts,
       fact-past slices (limited-done _ done .2) (omega (arith, st .tables .name-table .few, known)) puts,
@@ -96,7 +97,7 @@ same-length-9 c = search needs
 returns-5 : tie.Need-returns-5
 returns-5 c =
     let (st, known) = c .before .before .before .before .before .before .before .before .before .before .before .before .before .before .before .before .before .before .before .before .before .before .before .before .before .pre .0 (c .before .before .before .before .before .before .before .before .before .before .before .before .before .before .before .before .before .if1 .left) in (
-      fact-over st (c .before .before .before .before .before .before .before .before .before .before .before .before .before .before .before .before .before .before .before .before .before .before .before .before .before .args .line) known (c .before .before .before .before .before .before .before .before .before .before .before .before .before .before .before .at .ensures) (c .before .before .before .before .before .before .before .before .before .before .before .before .before .before .before .before .before .before .before .before .before .before .before .before .before .args .flag) (c .before .before .before .before .before .before .before .before .before .before .before .before .before .before .before .before .before .before .before .before .before .before .before .before .before .args .t) (c .before .before .before .before .before .before .before .before .before .before .before .before .before .before .if2 .left) (sym (c .enum-told .given .1) ∙ c .before .before .before .before .before .before .before .before .summarize-assumption .ensures .0),
+      fact-over st (c .before .before .before .before .before .before .before .before .before .before .before .before .before .before .before .before .before .before .before .before .before .before .before .before .before .args .line) known (c .before .before .before .before .before .before .before .before .before .before .before .before .before .before .before .at .ensures) (c .before .before .before .before .before .before .before .before .before .before .before .before .before .before .before .before .before .before .before .before .before .before .before .before .before .args .flag) (c .before .before .before .before .before .before .before .before .before .before .before .before .before .before .before .before .before .before .before .before .before .before .before .before .before .args .t) (c .before .before .before .before .before .before .before .before .before .before .before .before .before .before .if2 .left) (sym (c .enum-told .given .1) ∙ c .before .before .before .before .before .before .before .before .summarize-assumption .ensures .0 excluded (excludes-here st)),
       over-past (c .before .before .before .before .before .before .before .before .summarize-assumption .ensures .1 .1 .0),
     )
 
