@@ -9,3 +9,4 @@ pub mod Funs
 pub mod Uses
 pub mod Coding
 pub mod Facts
+pub mod Opening
