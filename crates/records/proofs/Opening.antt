@@ -13,7 +13,7 @@ use Rattle.model.specs.Reading.{most-names, most-records}
 use Rattle.model.specs.declared.Counts.{Counts}
 use Rattle.names.specs.Table.{Table}
 use Rattle.names.proofs.Coded.{table-kept}
-use Rattle.gather.specs.Sets.{Same-but}
+use Rattle.words.specs.Slices.{Same-but}
 use Rattle.terms.proofs.Laws.{equal}
 use Rattle.records.specs.Columns.{record-kind, def-kind, taken-column, macro-column, first-column, taken-at, macro-at, name-code}
 use Rattle.records.specs.Filing.{newest, Records, Stocked}
