@@ -22,7 +22,7 @@ use Rattle.terms.proofs.Laws.{below}
 use Rattle.lines.specs.Additions.{pushed}
 use Rattle.lines.proofs.Laws.{pushed-in, pushed-full}
 use Rattle.words.specs.Slices.{Same-but}
-use Rattle.gather.proofs.Steps.{same-self, same-then, same-set}
+use Rattle.words.proofs.Slices.{same-self, same-then, same-set}
 use Rattle.fields.specs.declared.Upto.{Upto}
 use Rattle.fields.specs.declared.Upto.the-variants as upto
 use Rattle.fields.specs.Pushing.{most-number, Run, push-one, push-many, push-rest, push-groups, upto-result, Ahead, Pushes, Pushable}

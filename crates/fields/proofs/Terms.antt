@@ -28,7 +28,7 @@ use Rattle.lines.specs.declared.Added.{Added}
 use Rattle.lines.proofs.Laws.{added-in, added-full}
 use Rattle.lines.proofs.Lines.{pushed-none, pushed-one}
 use Rattle.words.specs.Slices.{Same-but}
-use Rattle.gather.proofs.Steps.{same-self, same-then, same-set, same-wider}
+use Rattle.words.proofs.Slices.{same-self, same-then, same-set, same-wider}
 use Rattle.rules.specs.Views.{Tables, terms-in}
 use Rattle.fields.specs.declared.TermKind.{TermKind}
 use Rattle.model.specs.declared.Step.{Step}

@@ -5,7 +5,7 @@ use Rattle.text.specs.Parts.{fields-left}
 use Rattle.text.proofs.Laws.{number-next}
 use Rattle.model.specs.Reading.{most-references}
 use Rattle.words.specs.Slices.{Same-but}
-use Rattle.gather.proofs.Steps.{same-self, same-then}
+use Rattle.words.proofs.Slices.{same-self, same-then}
 use Rattle.fields.specs.Pushing.{push-many, push-groups, Ahead}
 use Rattle.fields.proofs.Pushing.{number-read, number-not, run-at, run-not, pushes-not, pushes-at, ahead-none, ahead-then, ahead-field, pushable-then, pushable-field, groups-first, groups-on, groups-none}
 use borrow.Author.Needs.{needs}
