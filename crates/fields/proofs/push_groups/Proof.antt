@@ -6,7 +6,7 @@ use Rattle.text.proofs.Laws.{number-next}
 use Rattle.model.specs.Reading.{most-references}
 use Rattle.gather.specs.Sets.{Same-but}
 use Rattle.gather.proofs.Steps.{same-self, same-then}
-use Rattle.fields.specs.Pushing.{push-many, push-groups, Ahead}
+use Rattle.fields.specs.Pushing.{push-many, push-groups, Ahead, most-number}
 use Rattle.fields.proofs.Pushing.{number-read, number-not, run-at, run-not, pushes-not, pushes-at, ahead-none, ahead-then, ahead-field, pushable-then, pushable-field, groups-first, groups-on, groups-none}
 use borrow.Author.Needs.{needs}
 use native.Mathlib.Omega.{arith}
@@ -59,7 +59,7 @@ returns c =
     let read = call .before .before .before .before .before in
     let step = call .push-many .ensures in
     let inv = read .before .before .loop .inv in
-    let number = number-read (inv .1 .placed) _ (read .number .ensures) (call .before .before .before .n .given .1) in
+    let number = number-read (inv .1 .placed) most-number (read .number .ensures) (call .before .before .before .n .given .1) in
     pushes-not (same-then (inv .2) (step .kept)) _ (inv .0 ∙ rw (groups-on _ _ _ _ _ _ (read .before .loop-test .taken), number, run-not step (c .before .r .given .1)))
 
 enum-known-r-2 : tie.Need-enum-known-r-2 Inv-loop μ-loop
@@ -72,7 +72,7 @@ returns-2 : tie.Need-returns-2 Inv-loop μ-loop
 returns-2 c =
     let read = c .before .before .before in
     let inv = read .before .before .loop .inv in
-    pushes-not (inv .2) _ (inv .0 ∙ rw (groups-on _ _ _ _ _ _ (read .before .loop-test .taken), number-not (inv .1 .placed) _ (read .number .ensures) (c .before .r2 .given .1)))
+    pushes-not (inv .2) _ (inv .0 ∙ rw (groups-on _ _ _ _ _ _ (read .before .loop-test .taken), number-not (inv .1 .placed) most-number (read .number .ensures) (c .before .r2 .given .1)))
 
 add-g : tie.Need-add-g Inv-loop μ-loop
 add-g c = omega (arith, c .before .before .before .before .before .before .before .before .before .before .before .loop-test .taken)
@@ -87,7 +87,7 @@ loop-again c =
     let step = call .push-many .ensures in
     let inv = read .before .before .loop .inv in
     let at = c .before .more .given .1 in
-    let number = number-read (inv .1 .placed) _ (read .number .ensures) (call .before .before .before .n .given .1) in
+    let number = number-read (inv .1 .placed) most-number (read .number .ensures) (call .before .before .before .n .given .1) in
     let next = number-next _ _ (inv .1 .placed) _ _ _ (sym (read .number .ensures) ∙ call .before .before .before .n .given .1) .0 in (
       inv .0 ∙ rw (groups-on _ _ _ _ _ _ (read .before .loop-test .taken), number, run-at step at),
       ahead-then (inv .1) (ahead-field next (step .ahead _ _ at)),

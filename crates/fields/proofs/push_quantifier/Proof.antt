@@ -1,5 +1,6 @@
 -- `fields::push_quantifier` meets its contract.
 use mathlib.Core.Path.{sym, _∙_}
+use Rattle.fields.specs.Pushing.{most-number}
 use Rattle.text.proofs.Laws.{number-next}
 use Rattle.gather.proofs.Steps.{same-then}
 use Rattle.fields.proofs.Pushing.{run-at, run-not, pushable-then, pushable-field, number-read, number-not}
@@ -47,7 +48,7 @@ returns c =
     let call = count .before .before .before .before .before .before in
     let step = call .push-term .ensures in
     let at = count .before .before .one .given .1 in
-    let number = number-read (step .ahead _ _ at .placed) _ (count .number .ensures) (groups .before .before .before .g .given .1) in
+    let number = number-read (step .ahead _ _ at .placed) most-number (count .number .ensures) (groups .before .before .before .g .given .1) in
     let whole = groups-there _ _ _ _ (run-at step at) number (run-at (groups .push-groups .ensures) (c .before .before .before .used .given .1)) in
     quantifies-not (whole ∙ end-more _ _ _ (c .if1 .taken)) (same-then (step .kept) (groups .push-groups .ensures .kept))
 
@@ -73,7 +74,7 @@ returns-2 c =
     let call = count .before .before .before .before .before .before in
     let step = call .push-term .ensures in
     let at = count .before .before .one .given .1 in
-    let number = number-read (step .ahead _ _ at .placed) _ (count .number .ensures) (groups .before .before .before .g .given .1) in
+    let number = number-read (step .ahead _ _ at .placed) most-number (count .number .ensures) (groups .before .before .before .g .given .1) in
     let whole = groups-there _ _ _ _ (run-at step at) number (run-at (groups .push-groups .ensures) (c .before .before .before .used .given .1)) in
     let most = number-next _ _ (step .ahead _ _ at .placed) _ _ _ (sym (count .number .ensures) ∙ groups .before .before .before .g .given .1) .1 in
     quantifies-at (whole ∙ end-none _ _ _ (c .if1 .left)) most (same-then (step .kept) (groups .push-groups .ensures .kept))
@@ -88,7 +89,7 @@ returns-3 c =
     let call = count .before .before .before .before .before .before in
     let step = call .push-term .ensures in
     let at = count .before .before .one .given .1 in
-    let number = number-read (step .ahead _ _ at .placed) _ (count .number .ensures) (groups .before .before .before .g .given .1) in
+    let number = number-read (step .ahead _ _ at .placed) most-number (count .number .ensures) (groups .before .before .before .g .given .1) in
     quantifies-not (no-groups _ _ _ _ (run-at step at) number (run-not (groups .push-groups .ensures) (c .before .r .given .1))) (same-then (step .kept) (groups .push-groups .ensures .kept))
 
 same-length-4 : tie.Need-same-length-4
@@ -100,7 +101,7 @@ returns-4 c =
     let call = count .before .before .before .before .before .before in
     let step = call .push-term .ensures in
     let at = count .before .before .one .given .1 in
-    quantifies-not (no-number _ _ _ _ (run-at step at) (number-not (step .ahead _ _ at .placed) _ (count .number .ensures) (c .before .r2 .given .1))) (step .kept)
+    quantifies-not (no-number _ _ _ _ (run-at step at) (number-not (step .ahead _ _ at .placed) most-number (count .number .ensures) (c .before .r2 .given .1))) (step .kept)
 
 same-length-5 : tie.Need-same-length-5
 same-length-5 c = c .before .before .before .before .refs .given
