@@ -36,14 +36,15 @@ use Rattle.fields.specs.declared.Step.the-variants as step
 use Rattle.fields.specs.Wording.{term-kind}
 use Rattle.fields.specs.Pushing.{push-all, Pushable}
 use Rattle.fields.specs.Spelling.{name-columns, Naming, Longer}
-use Rattle.fields.specs.Growing.{is-over, grown-to, Stands, row-columns, Kept, Grown, names-passed, terms-passed, references-passed, grown, over, not-read, Reads-term}
+use Rattle.fields.specs.Growing.{is-over, grown-to, Stands, row-columns, Kept, names-passed, terms-passed, references-passed, grown, over, not-read, Reads-term}
 use Rattle.fields.proofs.Spelling.{naming-table, naming-past}
 use Rattle.fields.proofs.Runs.{Ran, ran-kept, ran-agrees, ran-words}
 
 -- ---- tables
 
 -- the terms of a table stay where its references do
-terms-agree : {refs rows : List ℕ} {used many named : ℕ} (refs′ : List ℕ) (name : ℕ → Name) → Rows refs rows used many named → length refs′ ≡ length refs
+terms-agree : {refs rows : List ℕ} {used many named : ℕ} (refs′ : List ℕ) (name : ℕ → Name) → Rows refs rows used many named
+    → length refs′ ≡ length refs
     → ((i : ℕ) → i < used → getD refs′ i 0 ≡ getD refs i 0) → terms-of name refs′ rows used many ≡ terms-of name refs rows used many
 unfolding terms-of nodes-below node-of
 terms-agree {refs} {rows} {used} {many} refs′ name r size agrees = ap (fold-left add-term []) (go many (omega arith))
@@ -93,7 +94,8 @@ module _ (named used : ℕ) where
   unfolding is-over
   over-cases e = go (ltb most-names named) refl (ltb most-references used) refl e
     where
-      go : (a : Bool) → ltb most-names named ≡ a → (b : Bool) → ltb most-references used ≡ b → true ≡ (a || b) → (most-names < named) ⊎ (most-references < used)
+      go : (a : Bool) → ltb most-names named ≡ a → (b : Bool) → ltb most-references used ≡ b → true ≡ (a || b)
+          → (most-names < named) ⊎ (most-references < used)
       go true p b q e = inl (ltb-true most-names named p)
       go false p true q e = inr (ltb-true most-references used q)
       go false p false q e = let z : _≡_ {A = ℕ} 0 1 = cc in absurd (omega arith)
@@ -103,7 +105,8 @@ module _ (named used : ℕ) where
   unfolding is-over
   under-both e = go (ltb most-names named) refl (ltb most-references used) refl e
     where
-      go : (a : Bool) → ltb most-names named ≡ a → (b : Bool) → ltb most-references used ≡ b → false ≡ (a || b) → (named ≤ most-names) × (used ≤ most-references)
+      go : (a : Bool) → ltb most-names named ≡ a → (b : Bool) → ltb most-references used ≡ b → false ≡ (a || b)
+          → (named ≤ most-names) × (used ≤ most-references)
       go true p b q e = let z : _≡_ {A = ℕ} 0 1 = cc in absurd (omega arith)
       go false p true q e = let z : _≡_ {A = ℕ} 0 1 = cc in absurd (omega arith)
       go false p false q e = (ltb-false most-names named p, ltb-false most-references used q)
@@ -116,7 +119,8 @@ under-start {named = named} {used} t = rw (le-ltb most-names named (t .name-tabl
 -- ---- a line that was read
 
 -- references may be pushed behind the tables
-pub pushable-start : {file names refs rows : List ℕ} {named used many : ℕ} {c : Cursor} → Tables file names refs rows named used many → Placed file c → Pushable file refs used many c
+pub pushable-start : {file names refs rows : List ℕ} {named used many : ℕ} {c : Cursor} → Tables file names refs rows named used many
+    → Placed file c → Pushable file refs used many c
 pushable-start t p = record { room = t .term-table .ref-room; few = t .term-table .few-rows; bounded = omega (arith, t .term-table .few-references); placed = p }
 
 -- the fields of a term line, read: they say a node, its names are spelled, the words of its references pushed
@@ -129,7 +133,8 @@ pub record Line-read (file names refs names′ refs′ : List ℕ) (k : Counts) 
 
 module _ {file names refs rows names′ refs′ : List ℕ} {k : Counts} {kind : LineKind} {c : Cursor} where
   -- a field that is refused
-  pub line-not : {x : Refusal} → content kind (k .many) (fields-left file c) ≡ refused x → Same-but 0 name-columns names names′ → Same-but 0 most-references refs refs′
+  pub line-not : {x : Refusal} → content kind (k .many) (fields-left file c) ≡ refused x → Same-but 0 name-columns names names′
+      → Same-but 0 most-references refs refs′
       → Reads-term file names refs rows names′ refs′ rows k kind c (step.Refused x)
   line-not {x} e a b = record { grows = not-read {x = x} e; kept = record { names-kept = a; refs-kept = b; rows-kept = same-self 0 row-columns rows } }
 

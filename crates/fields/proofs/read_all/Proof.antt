@@ -12,7 +12,9 @@ use Rattle.fields.proofs.read_all.Statement.{statement}
 use Rattle.fields.proofs.read_all.Tie as tie
 
 push-quantifier-requires : tie.Need-push-quantifier-requires
-push-quantifier-requires c κs = pushable-start (c .before .before .before .before .before .pre .0) (c .before .before .before .before .before .pre .1)
+push-quantifier-requires c κs =
+    let entry = c .before .before .before .before .before in
+    pushable-start (entry .pre .0) (entry .pre .1)
 
 enum-known-used : tie.Need-enum-known-used
 enum-known-used c = c .match .keys1
@@ -26,33 +28,41 @@ same-length c = c .before .before .before .before .before .before .refs .given
 returns : tie.Need-returns
 unfolding content references spelled-by
 returns c =
-    let call = c .before .before .before .before .before .before .before in
-    let entry = call .before .before .before .before .before .before in
+    let quantifying = c .before .before .before .before .before .before .before in
+    let entry = quantifying .before .before .before .before .before .before in
     let t = entry .pre .0 in
-    let read = quantifier-read (call .push-quantifier .ensures) (t .term-table .few-rows) (c .before .before .before .used .given .1) in
+    let read = quantifier-read (quantifying .push-quantifier .ensures) (t .term-table .few-rows) (c .before .before .before .used .given .1) in
     let line = quantifier-line (entry .args .k) t read kind.All Forall refl refl refl in
     line-over t line (c .before .is-over .ensures) (c .if1 .taken)
 
 add-all-requires : tie.Need-add-all-requires
 unfolding content references spelled-by
 add-all-requires c κs =
-    let call = c .before .before .before .before .before .before .before .before .before in
-    let entry = call .before .before .before .before .before .before in
+    let limiting = c .before .before .before in
+    let quantifying = limiting .before .before .before .before .before .before in
+    let entry = quantifying .before .before .before .before .before .before in
     let t = entry .pre .0 in
-    let read = quantifier-read (call .push-quantifier .ensures) (t .term-table .few-rows) (c .before .before .before .before .before .used .given .1) in
+    let read = quantifier-read (quantifying .push-quantifier .ensures) (t .term-table .few-rows) (limiting .before .before .used .given .1) in
     let line = quantifier-line (entry .args .k) t read kind.All Forall refl refl refl in
-    let d = c .before .before .before .is-over .ensures in
+    let d = limiting .is-over .ensures in
     let e = c .before .before .if1 .left in
-    (line-pushed t line d e, quantifier-patterns (entry .args .k) t read kind.All Forall line d e, omega (arith, call .push-quantifier .ensures .groups _ _ (c .before .before .before .before .before .used .given .1)))
+    let most = quantifying .push-quantifier .ensures .groups _ _ (limiting .before .before .used .given .1) in
+    (line-pushed t line d e, quantifier-patterns (entry .args .k) t read kind.All Forall line d e, omega arith)
 
 grown-requires : tie.Need-grown-requires
-grown-requires c κs = c .before .before .before .before .before .before .before .before .before .before .before .before .before .before .before .before .before .before .pre .0 .term-table .few-rows
+grown-requires c κs =
+    let limiting = c .before .before .before .before .before .before in
+    let quantifying = limiting .before .before .before .before .before .before in
+    let entry = quantifying .before .before .before .before .before .before in
+    entry .pre .0 .term-table .few-rows
 
 enum-known-r : tie.Need-enum-known-r
 enum-known-r c = c .match .keys2
 
 same-length-2 : tie.Need-same-length-2
-same-length-2 c = c .before .before .before .before .before .before .before .before .before .before .before .before .refs .given
+same-length-2 c =
+    let limiting = c .before .before .before .before .before .before .before in
+    limiting .before .before .before .before .before .refs .given
 
 same-length-3 : tie.Need-same-length-3
 same-length-3 c = c .before .before .rows .given
@@ -60,14 +70,16 @@ same-length-3 c = c .before .before .rows .given
 returns-2 : tie.Need-returns-2
 unfolding content references spelled-by
 returns-2 c =
-    let call = c .before .before .before .before .before .before .before .before .before .before .before .before .before in
-    let entry = call .before .before .before .before .before .before in
+    let limiting = c .before .before .before .before .before .before .before in
+    let quantifying = limiting .before .before .before .before .before .before in
+    let entry = quantifying .before .before .before .before .before .before in
     let t = entry .pre .0 in
-    let read = quantifier-read (call .push-quantifier .ensures) (t .term-table .few-rows) (c .before .before .before .before .before .before .before .before .before .used .given .1) in
+    let read = quantifier-read (quantifying .push-quantifier .ensures) (t .term-table .few-rows) (limiting .before .before .used .given .1) in
     let line = quantifier-line (entry .args .k) t read kind.All Forall refl refl refl in
-    let d = c .before .before .before .before .before .before .before .is-over .ensures in
+    let d = limiting .is-over .ensures in
     let e = c .before .before .before .before .before .before .if1 .left in
-    line-added t line d e (c .grown .ensures) (c .before .before .before .add-all .ensures) (quantifier-node (entry .args .k) t read kind.All Forall line d e)
+    let node = quantifier-node (entry .args .k) t read kind.All Forall line d e in
+    line-added t line d e (c .grown .ensures) (c .before .before .before .add-all .ensures) node
 
 same-length-4 : tie.Need-same-length-4
 same-length-4 c = c .before .before .before .before .refs .given
@@ -75,10 +87,11 @@ same-length-4 c = c .before .before .before .before .refs .given
 returns-3 : tie.Need-returns-3
 unfolding content
 returns-3 c =
-    let call = c .before .before .before .before .before in
-    let entry = call .before .before .before .before .before .before in
+    let quantifying = c .before .before .before .before .before in
+    let entry = quantifying .before .before .before .before .before .before in
     let few = entry .pre .0 .term-table .few-rows in
-    line-not (quantifier-not (call .push-quantifier .ensures) few Forall (c .before .r .given .1)) (same-self _ _ _) (call .push-quantifier .ensures .kept)
+    let read = quantifying .push-quantifier .ensures in
+    line-not (quantifier-not read few Forall (c .before .r .given .1)) (same-self _ _ _) (read .kept)
 
 pub read-all-spec : {M : Type 1} → statement M
 read-all-spec =

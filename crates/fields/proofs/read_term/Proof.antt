@@ -9,49 +9,65 @@ enum-told : tie.Need-enum-told
 enum-told c = c .match .keys1
 
 read-free-requires : tie.Need-read-free-requires
-read-free-requires c κs = c .before .before .before .before .before .before .before .before .before .pre
+read-free-requires c κs =
+    let entry = c .before .before .before .before .before .before .before .before .before in
+    entry .pre
 
 enum-told-2 : tie.Need-enum-told-2
 enum-told-2 c = c .match .keys2
 
 read-leaf-requires : tie.Need-read-leaf-requires
-read-leaf-requires c κs = c .before .before .before .before .before .before .before .before .before .pre
+read-leaf-requires c κs =
+    let entry = c .before .before .before .before .before .before .before .before .before in
+    entry .pre
 
 enum-told-3 : tie.Need-enum-told-3
 enum-told-3 c = c .match .keys3
 
 read-call-requires : tie.Need-read-call-requires
-read-call-requires c κs = c .before .before .before .before .before .before .before .before .before .pre
+read-call-requires c κs =
+    let entry = c .before .before .before .before .before .before .before .before .before in
+    entry .pre
 
 enum-told-4 : tie.Need-enum-told-4
 enum-told-4 c = c .match .keys4
 
 read-op-requires : tie.Need-read-op-requires
-read-op-requires c κs = c .before .before .before .before .before .before .before .before .before .pre
+read-op-requires c κs =
+    let entry = c .before .before .before .before .before .before .before .before .before in
+    entry .pre
 
 enum-told-5 : tie.Need-enum-told-5
 enum-told-5 c = c .match .keys5
 
 read-all-requires : tie.Need-read-all-requires
-read-all-requires c κs = c .before .before .before .before .before .before .before .before .before .pre
+read-all-requires c κs =
+    let entry = c .before .before .before .before .before .before .before .before .before in
+    entry .pre
 
 enum-told-6 : tie.Need-enum-told-6
 enum-told-6 c = c .match .keys6
 
 read-some-requires : tie.Need-read-some-requires
-read-some-requires c κs = c .before .before .before .before .before .before .before .before .before .pre
+read-some-requires c κs =
+    let entry = c .before .before .before .before .before .before .before .before .before in
+    entry .pre
 
 enum-told-7 : tie.Need-enum-told-7
 enum-told-7 c = c .match .keys7
 
 read-let-requires : tie.Need-read-let-requires
-read-let-requires c κs = c .before .before .before .before .before .before .before .before .before .pre
+read-let-requires c κs =
+    let entry = c .before .before .before .before .before .before .before .before .before in
+    entry .pre
 
 enum-told-8 : tie.Need-enum-told-8
 enum-told-8 c = c .match .keys8
 
 read-label-requires : tie.Need-read-label-requires
-read-label-requires c κs = c .before .before .before .before .before .before .before .before .before .pre
+read-label-requires c κs =
+    let entry = c .before .before .before .before .before .before .before .before .before in
+    entry .pre
 
 same-length : tie.Need-same-length
 same-length c = c .before .before .before .names .given
@@ -64,9 +80,7 @@ same-length-3 c = c .before .rows .given
 
 returns : tie.Need-returns
 unfolding term-kind
-returns c =
-    let call = c .before .before .before .before in
-    reads-kind _ _ (call .before .before .before .before .enum-told .given .1) (call .read-free .ensures)
+returns c = reads-kind _ _ (c .before .before .before .before .before .before .before .before .enum-told .given .1) (c .before .before .before .before .read-free .ensures)
 
 same-length-4 : tie.Need-same-length-4
 same-length-4 c = refl
@@ -79,9 +93,7 @@ same-length-6 c = c .before .rows2 .given
 
 returns-2 : tie.Need-returns-2
 unfolding term-kind
-returns-2 c =
-    let call = c .before .before in
-    reads-kind _ _ (call .before .before .before .before .enum-told2 .given .1) (call .read-leaf .ensures)
+returns-2 c = reads-kind _ _ (c .before .before .before .before .before .before .enum-told2 .given .1) (c .before .before .read-leaf .ensures)
 
 same-length-7 : tie.Need-same-length-7
 same-length-7 c = c .before .before .before .before .before .names2 .given
@@ -95,8 +107,8 @@ same-length-9 c = c .before .rows3 .given
 returns-3 : tie.Need-returns-3
 unfolding term-kind
 returns-3 c =
-    let call = c .before .before .before .before .before .before in
-    reads-kind _ _ (call .before .before .before .before .enum-told3 .given .1) (call .read-call .ensures)
+    let reading = c .before .before .before .before .before .before in
+    reads-kind _ _ (reading .before .before .before .before .enum-told3 .given .1) (reading .read-call .ensures)
 
 same-length-10 : tie.Need-same-length-10
 same-length-10 c = refl
@@ -109,9 +121,7 @@ same-length-12 c = c .before .rows4 .given
 
 returns-4 : tie.Need-returns-4
 unfolding term-kind
-returns-4 c =
-    let call = c .before .before .before .before in
-    reads-kind _ _ (call .before .before .before .before .enum-told4 .given .1) (call .read-op .ensures)
+returns-4 c = reads-kind _ _ (c .before .before .before .before .before .before .before .before .enum-told4 .given .1) (c .before .before .before .before .read-op .ensures)
 
 same-length-13 : tie.Need-same-length-13
 same-length-13 c = refl
@@ -124,9 +134,7 @@ same-length-15 c = c .before .rows5 .given
 
 returns-5 : tie.Need-returns-5
 unfolding term-kind
-returns-5 c =
-    let call = c .before .before .before .before in
-    reads-kind _ _ (call .before .before .before .before .enum-told5 .given .1) (call .read-all .ensures)
+returns-5 c = reads-kind _ _ (c .before .before .before .before .before .before .before .before .enum-told5 .given .1) (c .before .before .before .before .read-all .ensures)
 
 same-length-16 : tie.Need-same-length-16
 same-length-16 c = refl
@@ -139,9 +147,7 @@ same-length-18 c = c .before .rows6 .given
 
 returns-6 : tie.Need-returns-6
 unfolding term-kind
-returns-6 c =
-    let call = c .before .before .before .before in
-    reads-kind _ _ (call .before .before .before .before .enum-told6 .given .1) (call .read-some .ensures)
+returns-6 c = reads-kind _ _ (c .before .before .before .before .before .before .before .before .enum-told6 .given .1) (c .before .before .before .before .read-some .ensures)
 
 same-length-19 : tie.Need-same-length-19
 same-length-19 c = refl
@@ -154,9 +160,7 @@ same-length-21 c = c .before .rows7 .given
 
 returns-7 : tie.Need-returns-7
 unfolding term-kind
-returns-7 c =
-    let call = c .before .before .before .before in
-    reads-kind _ _ (call .before .before .before .before .enum-told7 .given .1) (call .read-let .ensures)
+returns-7 c = reads-kind _ _ (c .before .before .before .before .before .before .before .before .enum-told7 .given .1) (c .before .before .before .before .read-let .ensures)
 
 same-length-22 : tie.Need-same-length-22
 same-length-22 c = refl
@@ -169,9 +173,7 @@ same-length-24 c = c .before .rows8 .given
 
 returns-8 : tie.Need-returns-8
 unfolding term-kind
-returns-8 c =
-    let call = c .before .before .before .before in
-    reads-kind _ _ (call .before .before .before .before .enum-told8 .given .1) (call .read-label .ensures)
+returns-8 c = reads-kind _ _ (c .before .before .before .before .before .before .before .before .enum-told8 .given .1) (c .before .before .before .before .read-label .ensures)
 
 pub read-term-spec : {M : Type 1} → statement M
 read-term-spec =
