@@ -1,6 +1,7 @@
 -- `fields::read_term` meets its contract.
 use mathlib.Core.Path.{refl}
 use Rattle.fields.specs.Wording.{term-kind}
+use Rattle.fields.specs.Growing.{quantifier-kind}
 use Rattle.fields.proofs.Terms.{reads-kind}
 use Rattle.fields.proofs.read_term.Statement.{statement}
 use Rattle.fields.proofs.read_term.Tie as tie
@@ -40,16 +41,16 @@ read-op-requires c κs =
 enum-told-5 : tie.Need-enum-told-5
 enum-told-5 c = c .match .keys5
 
-read-all-requires : tie.Need-read-all-requires
-read-all-requires c κs =
+read-quantifier-requires : tie.Need-read-quantifier-requires
+read-quantifier-requires c κs =
     let entry = c .before .before .before .before .before .before .before .before .before in
     entry .pre
 
 enum-told-6 : tie.Need-enum-told-6
 enum-told-6 c = c .match .keys6
 
-read-some-requires : tie.Need-read-some-requires
-read-some-requires c κs =
+read-quantifier-requires-2 : tie.Need-read-quantifier-requires-2
+read-quantifier-requires-2 c κs =
     let entry = c .before .before .before .before .before .before .before .before .before in
     entry .pre
 
@@ -79,7 +80,7 @@ same-length-3 : tie.Need-same-length-3
 same-length-3 c = c .before .rows .given
 
 returns : tie.Need-returns
-unfolding term-kind
+unfolding term-kind quantifier-kind
 returns c = reads-kind _ _ (c .before .before .before .before .before .before .before .before .enum-told .given .1) (c .before .before .before .before .read-free .ensures)
 
 same-length-4 : tie.Need-same-length-4
@@ -92,7 +93,7 @@ same-length-6 : tie.Need-same-length-6
 same-length-6 c = c .before .rows2 .given
 
 returns-2 : tie.Need-returns-2
-unfolding term-kind
+unfolding term-kind quantifier-kind
 returns-2 c = reads-kind _ _ (c .before .before .before .before .before .before .enum-told2 .given .1) (c .before .before .read-leaf .ensures)
 
 same-length-7 : tie.Need-same-length-7
@@ -105,7 +106,7 @@ same-length-9 : tie.Need-same-length-9
 same-length-9 c = c .before .rows3 .given
 
 returns-3 : tie.Need-returns-3
-unfolding term-kind
+unfolding term-kind quantifier-kind
 returns-3 c =
     let reading = c .before .before .before .before .before .before in
     reads-kind _ _ (reading .before .before .before .before .enum-told3 .given .1) (reading .read-call .ensures)
@@ -120,7 +121,7 @@ same-length-12 : tie.Need-same-length-12
 same-length-12 c = c .before .rows4 .given
 
 returns-4 : tie.Need-returns-4
-unfolding term-kind
+unfolding term-kind quantifier-kind
 returns-4 c = reads-kind _ _ (c .before .before .before .before .before .before .before .before .enum-told4 .given .1) (c .before .before .before .before .read-op .ensures)
 
 same-length-13 : tie.Need-same-length-13
@@ -133,8 +134,8 @@ same-length-15 : tie.Need-same-length-15
 same-length-15 c = c .before .rows5 .given
 
 returns-5 : tie.Need-returns-5
-unfolding term-kind
-returns-5 c = reads-kind _ _ (c .before .before .before .before .before .before .before .before .enum-told5 .given .1) (c .before .before .before .before .read-all .ensures)
+unfolding term-kind quantifier-kind
+returns-5 c = reads-kind _ _ (c .before .before .before .before .before .before .before .before .enum-told5 .given .1) (c .before .before .before .before .read-quantifier .ensures)
 
 same-length-16 : tie.Need-same-length-16
 same-length-16 c = refl
@@ -146,8 +147,8 @@ same-length-18 : tie.Need-same-length-18
 same-length-18 c = c .before .rows6 .given
 
 returns-6 : tie.Need-returns-6
-unfolding term-kind
-returns-6 c = reads-kind _ _ (c .before .before .before .before .before .before .before .before .enum-told6 .given .1) (c .before .before .before .before .read-some .ensures)
+unfolding term-kind quantifier-kind
+returns-6 c = reads-kind _ _ (c .before .before .before .before .before .before .before .before .enum-told6 .given .1) (c .before .before .before .before .read-quantifier2 .ensures)
 
 same-length-19 : tie.Need-same-length-19
 same-length-19 c = refl
@@ -159,7 +160,7 @@ same-length-21 : tie.Need-same-length-21
 same-length-21 c = c .before .rows7 .given
 
 returns-7 : tie.Need-returns-7
-unfolding term-kind
+unfolding term-kind quantifier-kind
 returns-7 c = reads-kind _ _ (c .before .before .before .before .before .before .before .before .enum-told7 .given .1) (c .before .before .before .before .read-let .ensures)
 
 same-length-22 : tie.Need-same-length-22
@@ -172,7 +173,7 @@ same-length-24 : tie.Need-same-length-24
 same-length-24 c = c .before .rows8 .given
 
 returns-8 : tie.Need-returns-8
-unfolding term-kind
+unfolding term-kind quantifier-kind
 returns-8 c = reads-kind _ _ (c .before .before .before .before .before .before .before .before .enum-told8 .given .1) (c .before .before .before .before .read-label .ensures)
 
 pub read-term-spec : {M : Type 1} → statement M
@@ -188,9 +189,9 @@ read-term-spec =
     enum-told-4
     read-op-requires
     enum-told-5
-    read-all-requires
+    read-quantifier-requires
     enum-told-6
-    read-some-requires
+    read-quantifier-requires-2
     enum-told-7
     read-let-requires
     enum-told-8
