@@ -37,7 +37,7 @@ use Rattle.fields.specs.Spelling.{in-table, Spelled-as}
 use Rattle.fields.specs.Growing.{op-field, Reads-op, op-read, op-not, is-over, Stands}
 use Rattle.fields.proofs.Words.{op-back, op-small}
 use Rattle.fields.proofs.Pushing.{left-cons}
-use Rattle.fields.proofs.Spelling.{Name-read, longer-none}
+use Rattle.fields.proofs.Spelling.{Name-read, longer-to}
 use Rattle.fields.proofs.Runs.{in-group, Ran, ran-none, ran-then, Term-ran, Rest-ran}
 use Rattle.fields.proofs.Terms.{Line-read, line-words, line-long}
 
@@ -195,7 +195,7 @@ module _ {file names refs rows refs′ : List ℕ} {k : Counts} {end : ℕ} {wor
   -- a line that spells no name
   pub plain-line : spelled-by node ≡ [] → Line-read file names refs names refs′ k kind c (k .named) end node words
   unfolding fold-left
-  plain-line e = record { says = says; naming = in-table (t .name-table) (rw e); longer = longer-none (t .name-table); ran = ran; count = count }
+  plain-line e = record { says = says; naming = in-table (t .name-table) (rw e); longer = longer-to (omega arith); ran = ran; count = count }
 
   -- a line that spells a name
   pub named-line : {names′ : List ℕ} {named′ n : ℕ} {m : Name} → Spelled-as file names names′ (k .named) named′ n m → spelled-by node ≡ m ∷ []

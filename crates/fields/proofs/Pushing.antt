@@ -102,12 +102,11 @@ module _ {file refs refs′ : List ℕ} {run : Run} {from : ℕ} {c : Cursor} (k
 
 -- nothing is pushed yet
 pub ahead-none : {file refs : List ℕ} {from many : ℕ} {c : Cursor} → Pushable file refs from many c → Ahead file from c from c
-ahead-none p = record { more = omega arith; further = omega arith; stays = refl; placed = p .placed }
+ahead-none p = record { further = omega arith; stays = refl; placed = p .placed }
 
 -- further on from further on
 pub ahead-then : {file : List ℕ} {a b e : ℕ} {c d n : Cursor} → Ahead file a c b d → Ahead file b d e n → Ahead file a c e n
 ahead-then p q = record {
-  more = omega (arith, p .more, q .more);
   further = omega (arith, p .further, q .further);
   stays = q .stays ∙ p .stays;
   placed = q .placed;
@@ -115,7 +114,7 @@ ahead-then p q = record {
 
 -- after a field that was read
 pub ahead-field : {file : List ℕ} {a e : ℕ} {c d n : Cursor} → Onward file c d → Ahead file a d e n → Ahead file a c e n
-ahead-field p q = record { more = q .more; further = omega (arith, p .further, q .further); stays = q .stays ∙ p .stays; placed = q .placed }
+ahead-field p q = record { further = omega (arith, p .further, q .further); stays = q .stays ∙ p .stays; placed = q .placed }
 
 module _ {file refs : List ℕ} {from many : ℕ} {c : Cursor} (p : Pushable file refs from many c) where
   -- pushing goes on after references that were pushed
@@ -150,7 +149,7 @@ module _ {file refs : List ℕ} {used many : ℕ} {c : Cursor} (p : Pushable fil
   one-pushed {t = t} {n} a b e =
       let on = term-next file c (p .placed) many t n (sym a ∙ b) .0 in
       pushes-at (rw e (pushed-kept refs used (reference t group))) (used + 1) n (rw (term-read (p .placed) many a b, e))
-      (record { more = omega arith; further = omega (arith, on .further); stays = on .stays; placed = on .placed })
+      (record { further = omega (arith, on .further); stays = on .stays; placed = on .placed })
 
   -- a field that is refused
   pub one-not : {x : Refusal} {r : NumberStep} → r ≡ term-at many file c → r ≡ numbered.Refused x

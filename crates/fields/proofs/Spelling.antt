@@ -47,19 +47,14 @@ spell-one : (ns : List Name) (m : Name) → (T (mem m ns) → ⊥) → length (s
 unfolding spell
 spell-one ns m h = rw (cond-false (mem m ns) ns (ns ++ (m ∷ [])) (not-T (mem m ns) h)) (omega (arith, length-append ns (m ∷ [])))
 
--- the same table, whatever its count
-longer-to : {file names : List ℕ} {named named′ : ℕ} → named ≤ named′ → named′ ≤ past-names → Longer file names names named named′
-longer-to {names = names} m h = record { more = m; bound = h; same = λ n l. refl; kept = same-self 0 name-columns names }
-
--- the same table
-pub longer-none : {file names : List ℕ} {named : ℕ} → Table file names named → Longer file names names named named
-longer-none t = longer-to (omega arith) (omega (arith, t .few))
+-- the same table, of no smaller a count
+pub longer-to : {file names : List ℕ} {named named′ : ℕ} → named ≤ named′ → Longer file names names named named′
+longer-to {names = names} h = record { more = h; same = λ n l. refl; kept = same-self 0 name-columns names }
 
 -- longer than longer
 pub longer-then : {file a b c : List ℕ} {k l m : ℕ} → Longer file a b k l → Longer file b c l m → Longer file a c k m
 longer-then p q = record {
   more = omega (arith, p .more, q .more);
-  bound = q .bound;
   same = λ n h. q .same n (omega (arith, p .more)) ∙ p .same n h;
   kept = same-then (p .kept) (q .kept);
 }
@@ -90,17 +85,13 @@ pub spelled-past : {file names : List ℕ} {named : ℕ} (m : Name) → Begun fi
 spelled-past {file} {names} {named} m b h = record {
   naming = λ ns g. go ns g;
   number = λ l. absurd (omega arith);
-  longer = longer-to (omega arith) (few b);
+  longer = longer-to (omega arith);
   begun = b;
 }
   where
     go : (ns : List Name) → Naming file names named ns → Naming file names named (spell ns m)
     go ns (in-table t d) = absurd (omega (arith, t .few))
     go ns (past d l) = past d (omega (arith, spell-more ns m))
-
-    few : Begun file names named → named ≤ past-names
-    few (table-there t) = absurd (omega (arith, t .few))
-    few (none-left d) = omega arith
 
 -- the names with one more are those of a table with it
 spell-names : {file names : List ℕ} {named : ℕ} {ns : List Name} (m : Name) → Table file names named → Naming file names named ns
@@ -113,7 +104,7 @@ module _ {file names names′ : List ℕ} {named a e : ℕ} (t : Table file name
   as-known {n} w = rw (w .kept) (record {
     naming = λ ns g. in-table t (w .names ∙ spell-names (part file a e) t g);
     number = λ l. (w .number, w .is);
-    longer = longer-none t;
+    longer = longer-to (omega arith);
     begun = table-there t;
   })
 
@@ -127,7 +118,6 @@ module _ {file names names′ : List ℕ} {named a e : ℕ} (t : Table file name
         number = λ l. (omega (arith, w .number), rw (w .slice, w .number) (entered-new file names named a e (w .rank) inside few (t .room) o));
         longer = record {
           more = omega arith;
-          bound = omega arith;
           same = λ m l. rw (w .slice) (entered-old file names named a e (w .rank) inside few (t .room) m l);
           kept = record {
             same-length = rw (w .slice) (entered-length file names named a e (w .rank) inside few (t .room));
@@ -146,7 +136,7 @@ module _ {file names names′ : List ℕ} {named a e : ℕ} (t : Table file name
         let d = naming-table g (t .few) .1 in
         past refl (omega (arith, spell-one ns (part file a e) (rw d at (w .absent)), names-length file names named, ap length d, w .full));
     number = λ l. absurd (omega arith);
-    longer = longer-to (omega (arith, w .full)) (omega arith);
+    longer = longer-to (omega (arith, w .full));
     begun = none-left refl;
   })
 
@@ -231,7 +221,7 @@ on-first {file} {names} {named} t p = record {
   ns = names-of file names named;
   run = refl;
   naming = in-table t refl;
-  longer = longer-none t;
+  longer = longer-to (omega arith);
   begun = table-there t;
   placed = p;
 }

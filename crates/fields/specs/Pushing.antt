@@ -60,7 +60,6 @@ upto-result file refs (upto.Refused r) = refused r
 
 -- a cursor that stands further on, by a byte or more for each reference
 pub record Ahead (file : List ℕ) (from : ℕ) (c : Cursor) (end : ℕ) (next : Cursor) : Type 0 where
-  pub more : from ≤ end
   pub further : c .at + end ≤ next .at + from
   pub stays : next .end ≡ c .end
   pub placed : Placed file next
