@@ -11,7 +11,7 @@ use Rattle.model.specs.Names.{Name}
 use Rattle.model.specs.Lines.{Field}
 use Rattle.model.specs.Summaries.{op-number}
 use Rattle.model.specs.Terms.{Node, FreeV, Leaf, Call, App, Let, Labeled, references}
-use Rattle.model.specs.Reading.{Result, ok, refused, _>>=_, need, word, op-words, next, rest, end, name-field, term-field, term, content, spell, spelled-by}
+use Rattle.model.specs.Reading.{Result, ok, refused, _>>=_, need, word, op-words, next, rest, end, name-field, term-field, term, content, spelled-by}
 use Rattle.model.specs.declared.Counts.{Counts}
 use Rattle.model.specs.declared.LineKind.{LineKind}
 use Rattle.model.specs.declared.LineKind.the-variants as kind
@@ -32,11 +32,12 @@ use Rattle.fields.specs.declared.OpStep.the-variants as worded
 use Rattle.fields.specs.declared.OpWord.{OpWord}
 use Rattle.fields.specs.declared.OpWord.the-variants as is-op
 use Rattle.fields.specs.Wording.{as-op}
+use Rattle.fields.specs.Pushing.{reference}
 use Rattle.fields.specs.Spelling.{in-table, Spelled-as}
 use Rattle.fields.specs.Growing.{op-field, Reads-op, op-read, op-not, is-over, Stands}
 use Rattle.fields.proofs.Words.{op-back, op-small}
 use Rattle.fields.proofs.Pushing.{left-cons}
-use Rattle.fields.proofs.Spelling.{Name-read, longer-none}
+use Rattle.fields.proofs.Spelling.{Name-read, longer-to}
 use Rattle.fields.proofs.Runs.{in-group, Ran, ran-none, ran-then, Term-ran, Rest-ran}
 use Rattle.fields.proofs.Terms.{Line-read, line-words, line-long}
 
@@ -48,7 +49,7 @@ unfolding terms-of-words
 terms-back [] s h = refl
 terms-back (t ∷ ts) s h =
     let l = s t (List·Memᴰ·head refl) in
-    let m : (t + 4096 * 0) % 4096 ≡ t = omega arith in
+    let m : (reference t 0) % 4096 ≡ t = omega arith in
     ap₂ _∷_ m (terms-back ts (λ u k. s u (List·Memᴰ·tail k)) h)
 
 -- ---- op words
@@ -58,7 +59,8 @@ abbrev and-after : {A : Type 0} → A → List Field → Result (A × List Field
 and-after a gs = ok (a, gs)
 
 -- what the next field says, where it was read
-next-said : {A : Type 0} (judge : Field → Result A) (fs : List Field) {f : Field} {gs : List Field} → next ok fs ≡ ok (f, gs) → next judge fs ≡ (judge f >>= λ a. ok (a, gs))
+next-said : {A : Type 0} (judge : Field → Result A) (fs : List Field) {f : Field} {gs : List Field} → next ok fs ≡ ok (f, gs)
+    → next judge fs ≡ (judge f >>= λ a. ok (a, gs))
 unfolding next
 next-said judge [] e = absurd (not-ok e)
 next-said judge (x ∷ xs) e = let q = ok-eq e in rw (← ap (λ y. y .0) q, ← ap (λ y. y .1) q)
@@ -147,17 +149,20 @@ module _ (count : ℕ) (fs : List Field) where
   leaf-said = refl
 
   -- a `call`, after its name
-  pub call-said : {m : Name} {gs : List Field} → next name-field fs ≡ ok (m, gs) → content kind.Call count fs ≡ (rest (term-field count) gs >>= λ ts. ok (term (Call m ts)))
+  pub call-said : {m : Name} {gs : List Field} → next name-field fs ≡ ok (m, gs)
+      → content kind.Call count fs ≡ (rest (term-field count) gs >>= λ ts. ok (term (Call m ts)))
   unfolding content
   call-said e = rw e
 
   -- an `op`, after its word
-  pub op-said : {w : Op} {gs : List Field} → next op-field fs ≡ ok (w, gs) → content kind.Op count fs ≡ (rest (term-field count) gs >>= λ ts. ok (term (App w ts)))
+  pub op-said : {w : Op} {gs : List Field} → next op-field fs ≡ ok (w, gs)
+      → content kind.Op count fs ≡ (rest (term-field count) gs >>= λ ts. ok (term (App w ts)))
   unfolding content op-field
   op-said {w} {gs} e = let d : next (λ f. need refusal.Form (word op-words f)) fs ≡ ok (w, gs) = e in rw d
 
   -- a `let`, after its body
-  pub let-said : {b : ℕ} {gs : List Field} → next (term-field count) fs ≡ ok (b, gs) → content kind.Let count fs ≡ (rest (term-field count) gs >>= λ ts. ok (term (Let b ts)))
+  pub let-said : {b : ℕ} {gs : List Field} → next (term-field count) fs ≡ ok (b, gs)
+      → content kind.Let count fs ≡ (rest (term-field count) gs >>= λ ts. ok (term (Let b ts)))
   unfolding content
   let-said e = rw e
 
@@ -190,7 +195,7 @@ module _ {file names refs rows refs′ : List ℕ} {k : Counts} {end : ℕ} {wor
   -- a line that spells no name
   pub plain-line : spelled-by node ≡ [] → Line-read file names refs names refs′ k kind c (k .named) end node words
   unfolding fold-left
-  plain-line e = record { says = says; naming = in-table (t .name-table) (rw e); longer = longer-none (t .name-table); ran = ran; count = count }
+  plain-line e = record { says = says; naming = in-table (t .name-table) (rw e); longer = longer-to (omega arith); ran = ran; count = count }
 
   -- a line that spells a name
   pub named-line : {names′ : List ℕ} {named′ n : ℕ} {m : Name} → Spelled-as file names names′ (k .named) named′ n m → spelled-by node ≡ m ∷ []
@@ -220,24 +225,25 @@ module _ {file names refs rows : List ℕ} (k : Counts) (t : Stands file names r
     pub call-read : {refs′ : List ℕ} {end : ℕ} (b : Rest-ran (k .many) refs refs′ (k .used) end (fields-left file after))
         → Line-read file names refs names′ refs′ k kind.Call c named′ end (Call (r .name) (b .terms)) (in-group 0 (b .terms))
     unfolding spelled-by references
-    call-read b = named-line t (call-said (k .many) (fields-left file c) (r .said) ∙ rw (b .said)) (b .ran) (length-map (b .terms) (λ t. t + 4096 * 0)) (r .spelled) refl
+    call-read b = named-line t (call-said (k .many) (fields-left file c) (r .said) ∙ rw (b .said)) (b .ran) (length-map (b .terms) (λ t. reference t 0)) (r .spelled) refl
 
   -- an `op`
-  pub op-line : {refs′ : List ℕ} {end : ℕ} {w : Op} {gs : List Field} → next op-field (fields-left file c) ≡ ok (w, gs) → (b : Rest-ran (k .many) refs refs′ (k .used) end gs)
+  pub op-line : {refs′ : List ℕ} {end : ℕ} {w : Op} {gs : List Field} → next op-field (fields-left file c) ≡ ok (w, gs)
+      → (b : Rest-ran (k .many) refs refs′ (k .used) end gs)
       → Line-read file names refs names refs′ k kind.Op c (k .named) end (App w (b .terms)) (in-group 0 (b .terms))
   unfolding spelled-by references
-  op-line e b = plain-line t (op-said (k .many) (fields-left file c) e ∙ rw (b .said)) (b .ran) (length-map (b .terms) (λ t. t + 4096 * 0)) refl
+  op-line e b = plain-line t (op-said (k .many) (fields-left file c) e ∙ rw (b .said)) (b .ran) (length-map (b .terms) (λ t. reference t 0)) refl
 
   -- a `let`
   pub let-read : {refs₁ refs′ : List ℕ} {one end : ℕ} {gs : List Field} (a : Term-ran (k .many) refs refs₁ (k .used) one (fields-left file c) gs) (b : Rest-ran (k .many) refs₁ refs′ one end gs)
-      → Line-read file names refs names refs′ k kind.Let c (k .named) end (Let (a .term) (b .terms)) ((a .term + 4096 * 0) ∷ in-group 0 (b .terms))
+      → Line-read file names refs names refs′ k kind.Let c (k .named) end (Let (a .term) (b .terms)) (reference (a .term) 0 ∷ in-group 0 (b .terms))
   unfolding spelled-by references
   let-read a b =
-      plain-line t (let-said (k .many) (fields-left file c) (a .said) ∙ rw (b .said)) (ran-then (a .ran) (b .ran)) (ap suc (length-map (b .terms) (λ t. t + 4096 * 0))) refl
+      plain-line t (let-said (k .many) (fields-left file c) (a .said) ∙ rw (b .said)) (ran-then (a .ran) (b .ran)) (ap suc (length-map (b .terms) (λ t. reference t 0))) refl
 
   -- a `label`
   pub label-read : {refs′ : List ℕ} {one : ℕ} {after : Cursor} (a : Term-ran (k .many) refs refs′ (k .used) one (fields-left file c) (fields-left file after)) → after .end < after .at
-      → Line-read file names refs names refs′ k kind.Label c (k .named) (k .used + 1) (Labeled (a .term)) ((a .term + 4096 * 0) ∷ [])
+      → Line-read file names refs names refs′ k kind.Label c (k .named) (k .used + 1) (Labeled (a .term)) (reference (a .term) 0 ∷ [])
   unfolding spelled-by references
   label-read {after = after} a h =
       plain-line t (label-said (k .many) (fields-left file c) (a .said) ∙ end-none (term (Labeled (a .term))) file after h)
@@ -248,11 +254,12 @@ module _ {file names refs rows : List ℕ} (k : Counts) (t : Stands file names r
 module _ {file names refs rows names′ refs′ : List ℕ} {k : Counts} {kind : LineKind} {c : Cursor} {named′ end : ℕ} {node : Node}
     (t : Stands file names refs rows k) {r : Bool} (d : r ≡ is-over named′ end) (e : r ≡ false) where
   -- the terms of a line whose words are those of terms
-  pub line-terms : {ts : List ℕ} → Line-read file names refs names′ refs′ k kind c named′ end node (in-group 0 ts) → ((u : ℕ) → List·Memᴰ u ts → u < k .many)
+  pub line-terms : {ts : List ℕ} → Line-read file names refs names′ refs′ k kind c named′ end node (in-group 0 ts)
+      → ((u : ℕ) → List·Memᴰ u ts → u < k .many)
       → terms-of-words (part refs′ (k .used) end) ≡ ts
   line-terms {ts} b s = ap terms-of-words (line-words t b d e) ∙ terms-back ts s (t .term-table .few-rows)
 
-  module _ (body : ℕ) {words : List ℕ} (b : Line-read file names refs names′ refs′ k kind c named′ end node ((body + 4096 * 0) ∷ words)) where
+  module _ (body : ℕ) {words : List ℕ} (b : Line-read file names refs names′ refs′ k kind c named′ end node (reference body 0 ∷ words)) where
     -- a line with a body
     pub line-bodied : k .used < end
     line-bodied = omega (arith, b .ran .ends)
@@ -269,5 +276,6 @@ module _ {file names refs rows names′ refs′ : List ℕ} {k : Counts} {kind :
     line-after = sym (part-drop refs′ (k .used) end 1) ∙ ap (drop 1) (line-words t b d e)
 
     -- and their terms
-    pub line-rest : {ts : List ℕ} → words ≡ in-group 0 ts → ((u : ℕ) → List·Memᴰ u ts → u < k .many) → terms-of-words (part refs′ (k .used + 1) end) ≡ ts
+    pub line-rest : {ts : List ℕ} → words ≡ in-group 0 ts → ((u : ℕ) → List·Memᴰ u ts → u < k .many)
+        → terms-of-words (part refs′ (k .used + 1) end) ≡ ts
     line-rest {ts} q s = ap terms-of-words (line-after ∙ q) ∙ terms-back ts s (t .term-table .few-rows)

@@ -6,7 +6,6 @@ use mathlib.Core.Path.{_≡_, refl, sym, ap, _∙_}
 use mathlib.Core.Logic.{⊎-elim}
 use mathlib.Core.Bool.{Bool, true, false, cond}
 use mathlib.Core.List.{List, [], _∷_}
-use lib.ListN.{length}
 use lib.Dec.{eqb}
 use Rattle.model.specs.Lists.{part}
 use Rattle.model.specs.Lines.{Field, fields, field-cons}
@@ -21,11 +20,11 @@ use Rattle.text.proofs.Laws.{Onward, term-law, term-next, number-law, left-none
 use Rattle.terms.proofs.Laws.{below}
 use Rattle.lines.specs.Additions.{pushed}
 use Rattle.lines.proofs.Laws.{pushed-in, pushed-full}
-use Rattle.words.specs.Slices.{Same-but}
-use Rattle.words.proofs.Slices.{same-self, same-then, same-set}
+use Rattle.gather.specs.Sets.{Same-but}
+use Rattle.gather.proofs.Steps.{same-self, same-set}
 use Rattle.fields.specs.declared.Upto.{Upto}
 use Rattle.fields.specs.declared.Upto.the-variants as upto
-use Rattle.fields.specs.Pushing.{most-number, Run, push-one, push-many, push-rest, push-groups, upto-result, Ahead, Pushes, Pushable}
+use Rattle.fields.specs.Pushing.{reference, most-number, Run, push-one, push-many, push-rest, push-groups, upto-result, Ahead, Pushes, Pushable}
 
 -- ---- a field read
 
@@ -90,7 +89,8 @@ module _ {file refs refs′ : List ℕ} {run : Run} {from : ℕ} {c : Cursor} (k
   pushes-not x e = record { answer = sym e; ahead = λ end next h. let z : _≡_ {A = ℕ} 0 1 = cc in absurd (omega arith); kept = k }
 
   -- a run that is done
-  pub pushes-at : (end : ℕ) (n : Cursor) → run ≡ ok (refs′, end, fields-left file n) → Ahead file from c end n → Pushes file refs refs′ run from c (upto.At end n)
+  pub pushes-at : (end : ℕ) (n : Cursor) → run ≡ ok (refs′, end, fields-left file n) → Ahead file from c end n
+      → Pushes file refs refs′ run from c (upto.At end n)
   unfolding upto-result
   pushes-at end n e a = record {
     answer = sym e;
@@ -102,12 +102,11 @@ module _ {file refs refs′ : List ℕ} {run : Run} {from : ℕ} {c : Cursor} (k
 
 -- nothing is pushed yet
 pub ahead-none : {file refs : List ℕ} {from many : ℕ} {c : Cursor} → Pushable file refs from many c → Ahead file from c from c
-ahead-none p = record { more = omega arith; further = omega arith; stays = refl; placed = p .placed }
+ahead-none p = record { further = omega arith; stays = refl; placed = p .placed }
 
 -- further on from further on
 pub ahead-then : {file : List ℕ} {a b e : ℕ} {c d n : Cursor} → Ahead file a c b d → Ahead file b d e n → Ahead file a c e n
 ahead-then p q = record {
-  more = omega (arith, p .more, q .more);
   further = omega (arith, p .further, q .further);
   stays = q .stays ∙ p .stays;
   placed = q .placed;
@@ -115,11 +114,12 @@ ahead-then p q = record {
 
 -- after a field that was read
 pub ahead-field : {file : List ℕ} {a e : ℕ} {c d n : Cursor} → Onward file c d → Ahead file a d e n → Ahead file a c e n
-ahead-field p q = record { more = q .more; further = omega (arith, p .further, q .further); stays = q .stays ∙ p .stays; placed = q .placed }
+ahead-field p q = record { further = omega (arith, p .further, q .further); stays = q .stays ∙ p .stays; placed = q .placed }
 
 module _ {file refs : List ℕ} {from many : ℕ} {c : Cursor} (p : Pushable file refs from many c) where
   -- pushing goes on after references that were pushed
-  pub pushable-then : {refs′ : List ℕ} {used : ℕ} {n : Cursor} → Ahead file from c used n → Same-but 0 most-references refs refs′ → Pushable file refs′ used many n
+  pub pushable-then : {refs′ : List ℕ} {used : ℕ} {n : Cursor} → Ahead file from c used n → Same-but 0 most-references refs refs′
+      → Pushable file refs′ used many n
   pushable-then a k = record {
     room = omega (arith, p .room, k .same-length);
     few = p .few;
@@ -142,13 +142,14 @@ pushed-kept refs used word = ⊎-elim
 
 module _ {file refs : List ℕ} {used many : ℕ} {c : Cursor} (p : Pushable file refs used many c) (group : ℕ) where
   -- a term that was read is pushed
-  pub one-pushed : {refs′ : List ℕ} {t : ℕ} {n : Cursor} {r : NumberStep} → r ≡ term-at many file c → r ≡ numbered.Number t n → refs′ ≡ pushed refs used (t + 4096 * group)
+  pub one-pushed : {refs′ : List ℕ} {t : ℕ} {n : Cursor} {r : NumberStep} → r ≡ term-at many file c → r ≡ numbered.Number t n
+      → refs′ ≡ pushed refs used (reference t group)
       → Pushes file refs refs′ (push-one many group refs used (fields-left file c)) used c (upto.At (used + 1) n)
   unfolding push-one
   one-pushed {t = t} {n} a b e =
       let on = term-next file c (p .placed) many t n (sym a ∙ b) .0 in
-      pushes-at (rw e (pushed-kept refs used (t + 4096 * group))) (used + 1) n (rw (term-read (p .placed) many a b, e))
-      (record { more = omega arith; further = omega (arith, on .further); stays = on .stays; placed = on .placed })
+      pushes-at (rw e (pushed-kept refs used (reference t group))) (used + 1) n (rw (term-read (p .placed) many a b, e))
+      (record { further = omega (arith, on .further); stays = on .stays; placed = on .placed })
 
   -- a field that is refused
   pub one-not : {x : Refusal} {r : NumberStep} → r ≡ term-at many file c → r ≡ numbered.Refused x
@@ -203,8 +204,8 @@ rest-on : (count : ℕ) (refs : List ℕ) (used : ℕ) (f : Field) (gs : List Fi
 unfolding push-rest push-one next
 rest-on count refs used f gs = go (term-field count f)
   where
-    go : (r : Result ℕ) → (r >>= λ t. push-rest count (pushed refs used (t + 4096 * 0)) (used + 1) gs)
-        ≡ (r >>= (λ a. ok (a, gs)) >>= (λ (t, fs₁). ok (pushed refs used (t + 4096 * 0), used + 1, fs₁)) >>= λ (refs₁, used₁, fs₁). push-rest count refs₁ used₁ fs₁)
+    go : (r : Result ℕ) → (r >>= λ t. push-rest count (pushed refs used (reference t 0)) (used + 1) gs)
+        ≡ (r >>= (λ a. ok (a, gs)) >>= (λ (t, fs₁). ok (pushed refs used (reference t 0), used + 1, fs₁)) >>= λ (refs₁, used₁, fs₁). push-rest count refs₁ used₁ fs₁)
     go (ok t) = refl
     go (refused x) = refl
 

@@ -1,16 +1,15 @@
 -- Laws of an `all` and a `some`: their body and groups read, and their words behind the table.
-use Prim.Native.Nat.{ℕ, suc, _+_, _-_, _*_, _/_, _%_, _≤_, _<_}
+use Prim.Native.Nat.{ℕ, suc, _+_, _-_, _*_, _%_, _≤_, _<_}
 use native.Mathlib.Omega.{arith}
 use mathlib.Core.Path.{_≡_, refl, sym, ap, ap₂, _∙_}
-use mathlib.Core.Bool.{Bool, false}
-use mathlib.Core.List.{List, [], _∷_, _++_, map, List·Memᴰ}
+use mathlib.Core.Bool.{Bool, true, false}
+use mathlib.Core.List.{List, [], _∷_, map, List·Memᴰ}
 use lib.ListN.{length, getD, length-append, length-map}
 use Rattle.model.specs.Lists.{concat, part}
 use Rattle.model.specs.Lines.{Field}
-use Rattle.model.specs.Terms.{Node, references}
-use Rattle.model.specs.Reading.{Result, ok, refused, _>>=_, next, groups, end, number-field, term-field, Content, term, content, quantifier, spelled-by, most-references}
+use Rattle.model.specs.Terms.{Node, Forall, Exists, references}
+use Rattle.model.specs.Reading.{Result, ok, refused, _>>=_, next, groups, end, number-field, term-field, term, content, quantifier, spelled-by, most-references}
 use Rattle.model.specs.declared.Counts.{Counts}
-use Rattle.model.specs.declared.LineKind.{LineKind}
 use Rattle.model.specs.declared.Refusal.{Refusal}
 use Rattle.model.proofs.PartLaws.{part-at, part-intro, part-length}
 use Rattle.model.proofs.ResultLaws.{bind-ok, ok-eq, not-ok}
@@ -19,11 +18,11 @@ use Rattle.text.specs.Parts.{fields-left}
 use Rattle.terms.specs.Rows.{groups-of-words}
 use Rattle.terms.proofs.Groups.{group-words, groups-law, group-words-rise}
 use Rattle.lines.specs.Additions.{Patterns}
-use Rattle.words.specs.Slices.{Same-but}
+use Rattle.gather.specs.Sets.{Same-but}
 use Rattle.fields.specs.declared.Quantifier.{Quantifier}
 use Rattle.fields.specs.declared.Quantifier.the-variants as quantified
-use Rattle.fields.specs.Pushing.{most-number, Run, push-one, push-groups}
-use Rattle.fields.specs.Growing.{push-quantifier, quantifier-result, Quantifies, is-over, Stands}
+use Rattle.fields.specs.Pushing.{reference, most-number, Run, push-one, push-groups}
+use Rattle.fields.specs.Growing.{quantifier-kind, push-quantifier, quantifier-result, Quantifies, is-over, Stands}
 use Rattle.fields.proofs.Runs.{Ran, ran-then, word-small, term-ran, groups-ran, term-refused, groups-refused}
 use Rattle.fields.proofs.Terms.{Line-read, line-long}
 use Rattle.fields.proofs.Lines.{plain-line, line-bodied, line-body, line-after}
@@ -62,7 +61,8 @@ module _ {file refs refs′ : List ℕ} {from many : ℕ} {c : Cursor} where
   quantifies-not e s = record { answer = sym e; groups = λ used g d. let z : _≡_ {A = ℕ} 0 1 = cc in absurd (omega arith); kept = s }
 
   -- a quantifier that was pushed
-  pub quantifies-at : {used g : ℕ} → push-quantifier many refs from (fields-left file c) ≡ ok (refs′, used, g) → g ≤ most-number → Same-but 0 most-references refs refs′
+  pub quantifies-at : {used g : ℕ} → push-quantifier many refs from (fields-left file c) ≡ ok (refs′, used, g) → g ≤ most-number
+      → Same-but 0 most-references refs refs′
       → Quantifies file refs refs′ from many c (quantified.Read used g)
   unfolding quantifier-result
   quantifies-at {used} {g} e l s = record { answer = sym e; groups = λ used′ g′ d. let z : g ≡ g′ = cc in rw (← z) l; kept = s }
@@ -75,7 +75,7 @@ pub record Quantified (count : ℕ) (refs refs′ : List ℕ) (from stop g : ℕ
   pub low : body < count
   pub small : (t : ℕ) → List·Memᴰ t (concat gs) → t < count
   pub size : length gs ≡ g
-  pub ran : Ran count refs refs′ from stop ((body + 4096 * 0) ∷ group-words 0 gs)
+  pub ran : Ran count refs refs′ from stop (reference body 0 ∷ group-words 0 gs)
 
 -- a value that no field is left after
 end-ok : {A : Type 0} (a : A) (fs : List Field) {b : A} → end a fs ≡ ok b → (fs ≡ []) × (a ≡ b)
@@ -112,7 +112,8 @@ module _ (count : ℕ) (few : count ≤ 4096) (refs : List ℕ) (from : ℕ) (fs
   module _ {refs₁ : List ℕ} {one : ℕ} {fs₁ : List Field} (a : push-one count 0 refs from fs ≡ ok (refs₁, one, fs₁)) where
     module _ {g : ℕ} {fs₂ : List Field} (b : next (number-field most-number) fs₁ ≡ ok (g, fs₂)) where
       -- a quantifier whose groups were read
-      quantified-by : {refs′ : List ℕ} {stop : ℕ} → push-groups count 0 g refs₁ one fs₂ ≡ ok (refs′, stop, []) → Quantified count refs refs′ from stop g fs
+      quantified-by : {refs′ : List ℕ} {stop : ℕ} → push-groups count 0 g refs₁ one fs₂ ≡ ok (refs′, stop, [])
+          → Quantified count refs refs′ from stop g fs
       unfolding end
       quantified-by d =
           let body = term-ran count few refs from fs a in
@@ -128,7 +129,8 @@ module _ (count : ℕ) (few : count ≤ 4096) (refs : List ℕ) (from : ℕ) (fs
           }
 
       -- or not
-      groups-not : (make : ℕ → List (List ℕ) → Node) {x : Refusal} (r : Run) → push-groups count 0 g refs₁ one fs₂ ≡ r → (r >>= λ (refs₂, used₂, fs₃). all-to g refs₂ used₂ fs₃) ≡ refused x
+      groups-not : (make : ℕ → List (List ℕ) → Node) {x : Refusal} (r : Run) → push-groups count 0 g refs₁ one fs₂ ≡ r
+          → (r >>= λ (refs₂, used₂, fs₃). all-to g refs₂ used₂ fs₃) ≡ refused x
           → quantifier make count fs ≡ refused x
       unfolding quantifier
       groups-not make (refused y) d e = rw (term-ran count few refs from fs a .said, b, groups-refused count refs₁ one fs₂ g d) (cc)
@@ -154,7 +156,8 @@ module _ (count : ℕ) (few : count ≤ 4096) (refs : List ℕ) (from : ℕ) (fs
   body-not make (ok (refs₁, one, fs₁)) a e = number-not a make (next (number-field most-number) fs₁) refl e
 
   -- what was read, where it was not refused
-  pub quantified-at : {refs′ : List ℕ} {stop g : ℕ} → push-quantifier count refs from fs ≡ ok (refs′, stop, g) → Quantified count refs refs′ from stop g fs
+  pub quantified-at : {refs′ : List ℕ} {stop g : ℕ} → push-quantifier count refs from fs ≡ ok (refs′, stop, g)
+      → Quantified count refs refs′ from stop g fs
   unfolding push-quantifier
   quantified-at {refs′} {stop} {g} e =
       let ((refs₁, one, fs₁), a, e₁) = bind-ok (push-one count 0 refs from fs) e in
@@ -170,9 +173,30 @@ module _ (count : ℕ) (few : count ≤ 4096) (refs : List ℕ) (from : ℕ) (fs
       ∙ ap (run-to refs′ stop) nil)
 
   -- and where it was
-  pub quantified-not : (make : ℕ → List (List ℕ) → Node) {x : Refusal} → push-quantifier count refs from fs ≡ refused x → quantifier make count fs ≡ refused x
+  pub quantified-not : (make : ℕ → List (List ℕ) → Node) {x : Refusal} → push-quantifier count refs from fs ≡ refused x
+      → quantifier make count fs ≡ refused x
   unfolding push-quantifier
   quantified-not make e = body-not make (push-one count 0 refs from fs) refl e
+
+-- ---- an `all`, or else a `some`
+
+-- the node of a quantifier: an `all`, or else a `some`
+unfoldable pub quantifier-node : Bool → ℕ → List (List ℕ) → Node
+quantifier-node true = Forall
+quantifier-node false = Exists
+
+-- what its fields say
+quantifier-content : (all : Bool) (count : ℕ) (fs : List Field) → content (quantifier-kind all) count fs ≡ quantifier (quantifier-node all) count fs
+unfolding content quantifier-kind quantifier-node
+quantifier-content true count fs = refl
+quantifier-content false count fs = refl
+
+-- the terms that it names, and that it spells no name
+quantifier-plain : (all : Bool) (body : ℕ) (gs : List (List ℕ))
+    → (references (quantifier-node all body gs) ≡ body ∷ concat gs) × (spelled-by (quantifier-node all body gs) ≡ [])
+unfolding references spelled-by quantifier-node
+quantifier-plain true body gs = (refl, refl)
+quantifier-plain false body gs = (refl, refl)
 
 -- ---- the answer of `push_quantifier`
 
@@ -183,9 +207,11 @@ module _ {file refs refs′ : List ℕ} {from many : ℕ} {c : Cursor} {r : Quan
   quantifier-read e = quantified-at many few refs from (fields-left file c) (sym (p .answer) ∙ ap (quantifier-result refs′) e)
 
   -- a field that is refused
-  pub quantifier-not : (make : ℕ → List (List ℕ) → Node) {x : Refusal} → r ≡ quantified.Refused x → quantifier make many (fields-left file c) ≡ refused x
+  pub quantifier-not : (all : Bool) {x : Refusal} → r ≡ quantified.Refused x → content (quantifier-kind all) many (fields-left file c) ≡ refused x
   unfolding quantifier-result
-  quantifier-not make e = quantified-not many few refs from (fields-left file c) make (sym (p .answer) ∙ ap (quantifier-result refs′) e)
+  quantifier-not all e =
+      quantifier-content all many (fields-left file c)
+      ∙ quantified-not many few refs from (fields-left file c) (quantifier-node all) (sym (p .answer) ∙ ap (quantifier-result refs′) e)
 
 -- ---- its words behind the table
 
@@ -194,31 +220,32 @@ group-length : (g : ℕ) (gs : List (List ℕ)) → length (group-words g gs) �
 unfolding group-words concat
 group-length g [] = refl
 group-length g (ts ∷ gs) =
-    omega (arith, length-append (map (λ t. t + 4096 * g) ts) (group-words (suc g) gs), length-append ts (concat gs), length-map ts (λ t. t + 4096 * g), group-length (suc g) gs)
+    omega (arith, length-append (map (λ t. reference t g) ts) (group-words (suc g) gs), length-append ts (concat gs), length-map ts (λ t. reference t g), group-length (suc g) gs)
 
-module _ {file names refs rows refs′ : List ℕ} (k : Counts) {stop g : ℕ} {c : Cursor} (t : Stands file names refs rows k)
-    (b : Quantified (k .many) refs refs′ (k .used) stop g (fields-left file c)) (kind : LineKind) (make : ℕ → List (List ℕ) → Node) where
-  -- a line of a quantifier, whichever it is
-  pub quantifier-line : content kind (k .many) (fields-left file c) ≡ quantifier make (k .many) (fields-left file c)
-      → references (make (b .body) (b .gs)) ≡ b .body ∷ concat (b .gs) → spelled-by (make (b .body) (b .gs)) ≡ []
-      → Line-read file names refs names refs′ k kind c (k .named) stop (make (b .body) (b .gs)) ((b .body + 4096 * 0) ∷ group-words 0 (b .gs))
-  quantifier-line is refers plain = plain-line t (is ∙ b .said make) (b .ran) (rw refers (ap suc (group-length 0 (b .gs)))) plain
+module _ {file names refs rows refs′ : List ℕ} (k : Counts) {stop g : ℕ} (c : Cursor) (t : Stands file names refs rows k)
+    (b : Quantified (k .many) refs refs′ (k .used) stop g (fields-left file c)) (all : Bool) where
+  -- the line of a quantifier
+  pub quantifier-line :
+      Line-read file names refs names refs′ k (quantifier-kind all) c (k .named) stop (quantifier-node all (b .body) (b .gs)) (reference (b .body) 0 ∷ group-words 0 (b .gs))
+  quantifier-line =
+      let (refers, plain) = quantifier-plain all (b .body) (b .gs) in
+      plain-line t (quantifier-content all (k .many) (fields-left file c) ∙ b .said (quantifier-node all)) (b .ran) (rw refers (ap suc (group-length 0 (b .gs)))) plain
 
-  module _ (line : Line-read file names refs names refs′ k kind c (k .named) stop (make (b .body) (b .gs)) ((b .body + 4096 * 0) ∷ group-words 0 (b .gs)))
-      {r : Bool} (d : r ≡ is-over (k .named) stop) (e : r ≡ false) where
+  module _ {r : Bool} (d : r ≡ is-over (k .named) stop) (e : r ≡ false) where
     -- the words after the body
     after-body : part refs′ (k .used + 1) stop ≡ group-words 0 (b .gs)
-    after-body = line-after t d e (b .body) line
+    after-body = line-after t d e (b .body) quantifier-line
 
     -- the patterns stand in the order of their groups
     pub quantifier-patterns : Patterns refs′ (k .used) stop g
     quantifier-patterns =
-        let long = line-long t line d e in
+        let long = line-long t quantifier-line d e in
         let few = t .term-table .few-rows in
         record {
-          bodied = line-bodied t d e (b .body) line;
+          bodied = line-bodied t d e (b .body) quantifier-line;
           grouped = λ i low high.
-              omega (arith, b .size, word-small (k .many) (b .gs) 0 few (b .small) (getD refs′ i 0) (rw after-body at (part-intro refs′ (k .used + 1) stop i long (omega arith) high)) .1);
+              let w = rw after-body at (part-intro refs′ (k .used + 1) stop i long (omega arith) high) in
+              omega (arith, b .size, word-small (k .many) (b .gs) 0 few (b .small) (getD refs′ i 0) w .1);
           rising = λ i low high.
               let p = i - (k .used + 1) in
               let x = part-at refs′ (k .used + 1) stop i (omega arith) (omega arith) in
@@ -228,8 +255,12 @@ module _ {file names refs rows refs′ : List ℕ} (k : Counts) {stop g : ℕ} {
               rw (← x, ← y, z, after-body) (group-words-rise (b .gs) 0 (λ u m. omega (arith, b .small u m)) p l);
         }
 
-    -- its node
-    pub quantifier-node : make (getD refs′ (k .used) 0 % 4096) (groups-of-words (part refs′ (k .used + 1) stop) g) ≡ make (b .body) (b .gs)
-    quantifier-node =
+    -- its node, as its row has it
+    pub quantifier-row : {all′ : Bool} → all ≡ all′
+        → quantifier-node all′ (getD refs′ (k .used) 0 % 4096) (groups-of-words (part refs′ (k .used + 1) stop) g) ≡ quantifier-node all (b .body) (b .gs)
+    quantifier-row q =
         let few = t .term-table .few-rows in
-        ap₂ make (line-body t d e (b .body) line (b .low)) (rw (after-body, ← b .size) (groups-law (b .gs) (λ u m. omega (arith, b .small u m))))
+        rw q
+        (ap₂ (quantifier-node _)
+        (line-body t d e (b .body) quantifier-line (b .low))
+        (rw (after-body, ← b .size) (groups-law (b .gs) (λ u m. omega (arith, b .small u m)))))

@@ -5,7 +5,7 @@ use native.Mathlib.Omega.{arith}
 use mathlib.Core.Path.{_≡_, refl, sym, ap, ap₂, _∙_}
 use mathlib.Core.Logic.{⊎-elim}
 use mathlib.Core.List.{List, [], _∷_, _++_, map, List·Memᴰ, List·Memᴰ·cases-cons, List·Memᴰ·not-nil, List·Memᴰ·append-cases, Memᴰ·append-left, Memᴰ·append-right}
-use lib.ListN.{length, getD, length-append, length-map}
+use lib.ListN.{length, getD, length-append}
 use lib.Dec.{ltb}
 use borrow.Author.Tests.{ltb-true}
 use Rattle.model.specs.Lists.{concat, part}
@@ -20,16 +20,16 @@ use Rattle.terms.proofs.Groups.{group-words}
 use Rattle.lines.specs.Additions.{pushed}
 use Rattle.lines.proofs.Adding.{push-agrees, push-length}
 use Rattle.lines.proofs.Lines.{push-last}
-use Rattle.words.specs.Slices.{Same-but}
-use Rattle.words.proofs.Slices.{same-self, same-then}
-use Rattle.fields.specs.Pushing.{most-number, Run, push-one, push-many, push-rest, push-groups, push-all}
+use Rattle.gather.specs.Sets.{Same-but}
+use Rattle.gather.proofs.Steps.{same-self, same-then}
+use Rattle.fields.specs.Pushing.{reference, most-number, Run, push-one, push-many, push-rest, push-groups, push-all}
 use Rattle.fields.proofs.Pushing.{pushed-kept}
 
 -- ---- runs are the fields of `model`, pushed
 
 -- the words of the terms of a group
 abbrev pub in-group : ℕ → List ℕ → List ℕ
-in-group g ts = map (λ t. t + 4096 * g) ts
+in-group g ts = map (λ t. reference t g) ts
 
 -- two lists of words
 push-append : (refs : List ℕ) (used : ℕ) (v w : List ℕ) → push-all refs used (v ++ w) ≡ push-all (push-all refs used v) (used + length v) w
@@ -54,14 +54,15 @@ unfolding push-all
 done-cons refs used w ws fs = let e : used + suc (length ws) ≡ used + 1 + length ws = omega arith in rw e
 
 -- words and then words
-done-append : (refs : List ℕ) (used : ℕ) (v w : List ℕ) (fs : List Field) → done (push-all refs used v) (used + length v) w fs ≡ done refs used (v ++ w) fs
+done-append : (refs : List ℕ) (used : ℕ) (v w : List ℕ) (fs : List Field)
+    → done (push-all refs used v) (used + length v) w fs ≡ done refs used (v ++ w) fs
 done-append refs used v w fs =
     let e : used + length (v ++ w) ≡ used + length v + length w = omega (arith, length-append v w) in
     rw (e, push-append refs used v w)
 
 -- a term pushed
 abbrev one : ℕ → List ℕ → ℕ → ℕ → List Field → Run
-one g refs used t fs₁ = ok (pushed refs used (t + 4096 * g), used + 1, fs₁)
+one g refs used t fs₁ = ok (pushed refs used (reference t g), used + 1, fs₁)
 
 -- a value before others
 abbrev with : {A : Type 0} → A → List A → List Field → Result (List A × List Field)
@@ -69,45 +70,47 @@ with a more fs₂ = ok (a ∷ more, fs₂)
 
 module _ (count : ℕ) where
   -- all fields that are left
-  pub rest-law : (refs : List ℕ) (used : ℕ) (fs : List Field) → push-rest count refs used fs ≡ (rest (term-field count) fs >>= λ ts. done refs used (in-group 0 ts) [])
+  pub rest-law : (refs : List ℕ) (used : ℕ) (fs : List Field)
+      → push-rest count refs used fs ≡ (rest (term-field count) fs >>= λ ts. done refs used (in-group 0 ts) [])
   unfolding push-rest rest
   rest-law refs used [] = done-nil refs used []
-  rest-law refs used (f ∷ fs) = go (λ t. rest-law (pushed refs used (t + 4096 * 0)) (used + 1) fs) (term-field count f)
+  rest-law refs used (f ∷ fs) = go (λ t. rest-law (pushed refs used (reference t 0)) (used + 1) fs) (term-field count f)
     where
       Later : Type 0
-      Later = (t : ℕ) → push-rest count (pushed refs used (t + 4096 * 0)) (used + 1) fs
-          ≡ (rest (term-field count) fs >>= λ ts. done (pushed refs used (t + 4096 * 0)) (used + 1) (in-group 0 ts) [])
+      Later = (t : ℕ) → push-rest count (pushed refs used (reference t 0)) (used + 1) fs
+          ≡ (rest (term-field count) fs >>= λ ts. done (pushed refs used (reference t 0)) (used + 1) (in-group 0 ts) [])
 
-      go : Later → (r : Result ℕ) → (r >>= λ t. push-rest count (pushed refs used (t + 4096 * 0)) (used + 1) fs)
+      go : Later → (r : Result ℕ) → (r >>= λ t. push-rest count (pushed refs used (reference t 0)) (used + 1) fs)
           ≡ (r >>= (λ a. rest (term-field count) fs >>= λ more. ok (a ∷ more)) >>= λ ts. done refs used (in-group 0 ts) [])
       go ih (refused x) = refl
       go ih (ok t) = ih t ∙ on (rest (term-field count) fs)
         where
-          on : (r : Result (List ℕ)) → (r >>= λ ts. done (pushed refs used (t + 4096 * 0)) (used + 1) (in-group 0 ts) [])
+          on : (r : Result (List ℕ)) → (r >>= λ ts. done (pushed refs used (reference t 0)) (used + 1) (in-group 0 ts) [])
               ≡ (r >>= (λ more. ok (t ∷ more)) >>= λ ts. done refs used (in-group 0 ts) [])
           on (refused x) = refl
-          on (ok ts) = done-cons refs used (t + 4096 * 0) (in-group 0 ts) []
+          on (ok ts) = done-cons refs used (reference t 0) (in-group 0 ts) []
 
   -- the next n fields
   pub many-law : (g n : ℕ) (refs : List ℕ) (used : ℕ) (fs : List Field)
       → push-many count g n refs used fs ≡ (many n (term-field count) fs >>= λ (ts, fs₁). done refs used (in-group g ts) fs₁)
   unfolding push-many push-one many
   many-law g zero refs used fs = done-nil refs used fs
-  many-law g (suc n) refs used fs = go (λ t fs₁. many-law g n (pushed refs used (t + 4096 * g)) (used + 1) fs₁) (next (term-field count) fs)
+  many-law g (suc n) refs used fs = go (λ t fs₁. many-law g n (pushed refs used (reference t g)) (used + 1) fs₁) (next (term-field count) fs)
     where
       Later : Type 0
-      Later = (t : ℕ) (fs₁ : List Field) → push-many count g n (pushed refs used (t + 4096 * g)) (used + 1) fs₁
-          ≡ (many n (term-field count) fs₁ >>= λ (ts, fs₂). done (pushed refs used (t + 4096 * g)) (used + 1) (in-group g ts) fs₂)
+      Later = (t : ℕ) (fs₁ : List Field) → push-many count g n (pushed refs used (reference t g)) (used + 1) fs₁
+          ≡ (many n (term-field count) fs₁ >>= λ (ts, fs₂). done (pushed refs used (reference t g)) (used + 1) (in-group g ts) fs₂)
 
-      go : Later → (r : Result (ℕ × List Field)) → (r >>= (λ (t, fs₁). one g refs used t fs₁) >>= λ (refs₁, used₁, fs₁). push-many count g n refs₁ used₁ fs₁)
+      go : Later → (r : Result (ℕ × List Field))
+          → (r >>= (λ (t, fs₁). one g refs used t fs₁) >>= λ (refs₁, used₁, fs₁). push-many count g n refs₁ used₁ fs₁)
           ≡ (r >>= (λ (a, fs₁). many n (term-field count) fs₁ >>= λ (more, fs₂). with a more fs₂) >>= λ (ts, fs₁). done refs used (in-group g ts) fs₁)
       go ih (refused x) = refl
       go ih (ok (t, fs₁)) = ih t fs₁ ∙ on (many n (term-field count) fs₁)
         where
-          on : (r : Result (List ℕ × List Field)) → (r >>= λ (ts, fs₂). done (pushed refs used (t + 4096 * g)) (used + 1) (in-group g ts) fs₂)
+          on : (r : Result (List ℕ × List Field)) → (r >>= λ (ts, fs₂). done (pushed refs used (reference t g)) (used + 1) (in-group g ts) fs₂)
               ≡ (r >>= (λ (more, fs₂). with t more fs₂) >>= λ (ts, fs₁). done refs used (in-group g ts) fs₁)
           on (refused x) = refl
-          on (ok (ts, fs₂)) = done-cons refs used (t + 4096 * g) (in-group g ts) fs₂
+          on (ok (ts, fs₂)) = done-cons refs used (reference t g) (in-group g ts) fs₂
 
   -- the next groups
   pub groups-law : (g n : ℕ) (refs : List ℕ) (used : ℕ) (fs : List Field)
@@ -120,17 +123,20 @@ module _ (count : ℕ) where
       Later = (refs′ : List ℕ) (used′ : ℕ) (fs′ : List Field) → push-groups count (g + 1) n refs′ used′ fs′
           ≡ (groups count n fs′ >>= λ (gs, fs₁). done refs′ used′ (group-words (g + 1) gs) fs₁)
 
-      go : Later → (r : Result (ℕ × List Field)) → (r >>= λ (size, fs₁). push-many count g size refs used fs₁ >>= λ (refs₂, used₂, fs₂). push-groups count (g + 1) n refs₂ used₂ fs₂)
+      go : Later → (r : Result (ℕ × List Field))
+          → (r >>= λ (size, fs₁). push-many count g size refs used fs₁ >>= λ (refs₂, used₂, fs₂). push-groups count (g + 1) n refs₂ used₂ fs₂)
           ≡ (r >>= (λ (size, fs₁). many size (term-field count) fs₁ >>= λ (ts, fs₂). groups count n fs₂ >>= λ (gs, fs₃). with ts gs fs₃) >>= λ (gs, fs₁). done refs used (group-words g gs) fs₁)
       go ih (refused x) = refl
       go ih (ok (size, fs₁)) = rw (many-law g size refs used fs₁) (on ih (many size (term-field count) fs₁))
         where
-          on : Later → (r : Result (List ℕ × List Field)) → (r >>= (λ (ts, fs₁). done refs used (in-group g ts) fs₁) >>= λ (refs₂, used₂, fs₂). push-groups count (g + 1) n refs₂ used₂ fs₂)
+          on : Later → (r : Result (List ℕ × List Field))
+              → (r >>= (λ (ts, fs₁). done refs used (in-group g ts) fs₁) >>= λ (refs₂, used₂, fs₂). push-groups count (g + 1) n refs₂ used₂ fs₂)
               ≡ (r >>= (λ (ts, fs₂). groups count n fs₂ >>= λ (gs, fs₃). with ts gs fs₃) >>= λ (gs, fs₁). done refs used (group-words g gs) fs₁)
           on ih (refused x) = refl
           on ih (ok (ts, fs₂)) = ih (push-all refs used (in-group g ts)) (used + length (in-group g ts)) fs₂ ∙ last (groups count n fs₂)
             where
-              last : (r : Result (List (List ℕ) × List Field)) → (r >>= λ (gs, fs₁). done (push-all refs used (in-group g ts)) (used + length (in-group g ts)) (group-words (g + 1) gs) fs₁)
+              last : (r : Result (List (List ℕ) × List Field))
+                  → (r >>= λ (gs, fs₁). done (push-all refs used (in-group g ts)) (used + length (in-group g ts)) (group-words (g + 1) gs) fs₁)
                   ≡ (r >>= (λ (gs, fs₃). with ts gs fs₃) >>= λ (gs, fs₁). done refs used (group-words g gs) fs₁)
               last (refused x) = refl
               last (ok (gs, fs₃)) = rw (add-one g) (done-append refs used (in-group g ts) (group-words (suc g) gs) fs₃)
@@ -236,7 +242,8 @@ rest-small count (f ∷ fs) e t m =
     ⊎-elim (λ (q : t ≡ a). rw q (term-small count f d)) (λ q. rest-small count fs d₁ t q) (List·Memᴰ·cases-cons (rw (← ok-eq k₁) at m))
 
 -- each of the next n
-many-small : (count n : ℕ) (fs : List Field) {ts : List ℕ} {gs : List Field} → many n (term-field count) fs ≡ ok (ts, gs) → (t : ℕ) → List·Memᴰ t ts → t < count
+many-small : (count n : ℕ) (fs : List Field) {ts : List ℕ} {gs : List Field} → many n (term-field count) fs ≡ ok (ts, gs) → (t : ℕ)
+    → List·Memᴰ t ts → t < count
 unfolding many
 many-small count zero fs e t m = absurd (List·Memᴰ·not-nil (rw (← ap (λ x. x .0) (ok-eq e)) at m))
 many-small count (suc n) fs {ts} e t m =
@@ -266,9 +273,9 @@ pub word-small : (count : ℕ) (gs : List (List ℕ)) (g : ℕ) → count ≤ 40
 unfolding concat group-words
 word-small count [] g h s w m = absurd (List·Memᴰ·not-nil m)
 word-small count (ts ∷ gs) g h s w m = ⊎-elim
-    (λ z. let (t, k, e) = map-elim (λ t. t + 4096 * g) ts z in let l = s t (Memᴰ·append-left (concat gs) k) in (omega arith, omega arith))
+    (λ z. let (t, k, e) = map-elim (λ t. reference t g) ts z in let l = s t (Memᴰ·append-left (concat gs) k) in (omega arith, omega arith))
     (λ z. let (a, b) = word-small count gs (suc g) h (λ t k. s t (Memᴰ·append-right ts k)) w z in (a, omega arith))
-    (List·Memᴰ·append-cases (map (λ t. t + 4096 * g) ts) m)
+    (List·Memᴰ·append-cases (map (λ t. reference t g) ts) m)
 
 -- ---- what was read, by the run
 
@@ -277,7 +284,7 @@ pub record Term-ran (count : ℕ) (refs refs′ : List ℕ) (from end : ℕ) (fs
   pub term : ℕ
   pub said : next (term-field count) fs ≡ ok (term, hs)
   pub small : term < count
-  pub ran : Ran count refs refs′ from end ((term + 4096 * 0) ∷ [])
+  pub ran : Ran count refs refs′ from end (reference term 0 ∷ [])
 
 -- terms of all fields left that were pushed
 pub record Rest-ran (count : ℕ) (refs refs′ : List ℕ) (from end : ℕ) (fs : List Field) : Type 0 where
@@ -312,7 +319,7 @@ module _ (count : ℕ) (few : count ≤ 4096) (refs : List ℕ) {refs′ : List 
         ran = record {
           is = sym (ap (λ x. x .0) q);
           ends = sym (ap (λ x. x .1) q);
-          small = λ w m. ⊎-elim (λ (z : w ≡ t + 4096 * 0). omega arith) (λ z. absurd (List·Memᴰ·not-nil z)) (List·Memᴰ·cases-cons m);
+          small = λ w m. ⊎-elim (λ (z : w ≡ reference t 0). omega arith) (λ z. absurd (List·Memᴰ·not-nil z)) (List·Memᴰ·cases-cons m);
         };
       }
 
@@ -329,7 +336,7 @@ module _ (count : ℕ) (few : count ≤ 4096) (refs : List ℕ) {refs′ : List 
         ran = record {
           is = sym (ap (λ x. x .0) q);
           ends = sym (ap (λ x. x .1) q);
-          small = λ w m. let (t, l, z) = map-elim (λ t. t + 4096 * 0) ts m in let low = small t l in omega arith;
+          small = λ w m. let (t, l, z) = map-elim (λ t. reference t 0) ts m in let low = small t l in omega arith;
         };
       }
 
@@ -355,7 +362,7 @@ module _ (count : ℕ) (refs : List ℕ) (from : ℕ) (fs : List Field) {x : Ref
   -- a term that is refused
   pub term-refused : push-one count 0 refs from fs ≡ refused x → next (term-field count) fs ≡ refused x
   unfolding push-one
-  term-refused e = refused-back (next (term-field count) fs) (λ (t, fs₁). (pushed refs from (t + 4096 * 0), from + 1, fs₁)) e
+  term-refused e = refused-back (next (term-field count) fs) (λ (t, fs₁). (pushed refs from (reference t 0), from + 1, fs₁)) e
 
   -- one of all fields left
   pub rest-refused : push-rest count refs from fs ≡ refused x → rest (term-field count) fs ≡ refused x

@@ -18,13 +18,13 @@ use Rattle.text.specs.declared.FieldStep.{FieldStep}
 use Rattle.text.specs.declared.FieldStep.the-variants as field
 use Rattle.text.specs.Parts.{Placed, fields-left, name-at, field-result}
 use Rattle.text.proofs.Laws.{Onward, name-law, left-none}
-use Rattle.names.specs.Table.{Table, name-of, names-of}
+use Rattle.names.specs.Table.{Table, names-of}
 use Rattle.names.proofs.Laws.{names-length}
 use Rattle.names.proofs.Entering.{entered-length, entered-keeps, entered-old, entered-new}
 use Rattle.names.proofs.Spelling.{Was-known, Is-new, Is-full}
 use Rattle.terms.proofs.Laws.{below}
-use Rattle.words.specs.Slices.{Same-but}
-use Rattle.words.proofs.Slices.{same-self, same-then}
+use Rattle.gather.specs.Sets.{Same-but}
+use Rattle.gather.proofs.Steps.{same-self, same-then}
 use Rattle.fields.specs.declared.Word.{Word}
 use Rattle.fields.specs.declared.Word.the-variants as word
 use Rattle.fields.specs.declared.Upto.the-variants as upto
@@ -47,19 +47,14 @@ spell-one : (ns : List Name) (m : Name) → (T (mem m ns) → ⊥) → length (s
 unfolding spell
 spell-one ns m h = rw (cond-false (mem m ns) ns (ns ++ (m ∷ [])) (not-T (mem m ns) h)) (omega (arith, length-append ns (m ∷ [])))
 
--- the same table, whatever its count
-longer-to : {file names : List ℕ} {named named′ : ℕ} → named ≤ named′ → named′ ≤ past-names → Longer file names names named named′
-longer-to {names = names} m h = record { more = m; bound = h; same = λ n l. refl; kept = same-self 0 name-columns names }
-
--- the same table
-pub longer-none : {file names : List ℕ} {named : ℕ} → Table file names named → Longer file names names named named
-longer-none t = longer-to (omega arith) (omega (arith, t .few))
+-- the same table, of no smaller a count
+pub longer-to : {file names : List ℕ} {named named′ : ℕ} → named ≤ named′ → Longer file names names named named′
+longer-to {names = names} h = record { more = h; same = λ n l. refl; kept = same-self 0 name-columns names }
 
 -- longer than longer
 pub longer-then : {file a b c : List ℕ} {k l m : ℕ} → Longer file a b k l → Longer file b c l m → Longer file a c k m
 longer-then p q = record {
   more = omega (arith, p .more, q .more);
-  bound = q .bound;
   same = λ n h. q .same n (omega (arith, p .more)) ∙ p .same n h;
   kept = same-then (p .kept) (q .kept);
 }
@@ -85,11 +80,12 @@ naming-past (in-table t d) h = absurd (omega (arith, t .few))
 naming-past (past d l) h = l
 
 -- past the limit nothing is spelled
-pub spelled-past : {file names : List ℕ} {named : ℕ} (m : Name) → Begun file names named → most-names < named → Spelled-as file names names named named 0 m
+pub spelled-past : {file names : List ℕ} {named : ℕ} (m : Name) → Begun file names named → most-names < named
+    → Spelled-as file names names named named 0 m
 spelled-past {file} {names} {named} m b h = record {
   naming = λ ns g. go ns g;
   number = λ l. absurd (omega arith);
-  longer = longer-to (omega arith) (few b);
+  longer = longer-to (omega arith);
   begun = b;
 }
   where
@@ -97,12 +93,9 @@ spelled-past {file} {names} {named} m b h = record {
     go ns (in-table t d) = absurd (omega (arith, t .few))
     go ns (past d l) = past d (omega (arith, spell-more ns m))
 
-    few : Begun file names named → named ≤ past-names
-    few (table-there t) = absurd (omega (arith, t .few))
-    few (none-left d) = omega arith
-
 -- the names with one more are those of a table with it
-spell-names : {file names : List ℕ} {named : ℕ} {ns : List Name} (m : Name) → Table file names named → Naming file names named ns → spell (names-of file names named) m ≡ spell ns m
+spell-names : {file names : List ℕ} {named : ℕ} {ns : List Name} (m : Name) → Table file names named → Naming file names named ns
+    → spell (names-of file names named) m ≡ spell ns m
 spell-names m t g = ap (λ l. spell l m) (naming-table g (t .few) .1)
 
 module _ {file names names′ : List ℕ} {named a e : ℕ} (t : Table file names named) (o : a ≤ e) where
@@ -111,7 +104,7 @@ module _ {file names names′ : List ℕ} {named a e : ℕ} (t : Table file name
   as-known {n} w = rw (w .kept) (record {
     naming = λ ns g. in-table t (w .names ∙ spell-names (part file a e) t g);
     number = λ l. (w .number, w .is);
-    longer = longer-none t;
+    longer = longer-to (omega arith);
     begun = table-there t;
   })
 
@@ -125,7 +118,6 @@ module _ {file names names′ : List ℕ} {named a e : ℕ} (t : Table file name
         number = λ l. (omega (arith, w .number), rw (w .slice, w .number) (entered-new file names named a e (w .rank) inside few (t .room) o));
         longer = record {
           more = omega arith;
-          bound = omega arith;
           same = λ m l. rw (w .slice) (entered-old file names named a e (w .rank) inside few (t .room) m l);
           kept = record {
             same-length = rw (w .slice) (entered-length file names named a e (w .rank) inside few (t .room));
@@ -144,7 +136,7 @@ module _ {file names names′ : List ℕ} {named a e : ℕ} (t : Table file name
         let d = naming-table g (t .few) .1 in
         past refl (omega (arith, spell-one ns (part file a e) (rw d at (w .absent)), names-length file names named, ap length d, w .full));
     number = λ l. absurd (omega arith);
-    longer = longer-to (omega (arith, w .full)) (omega arith);
+    longer = longer-to (omega (arith, w .full));
     begun = none-left refl;
   })
 
@@ -152,7 +144,8 @@ module _ {file names names′ : List ℕ} {named a e : ℕ} (t : Table file name
 
 module _ {file : List ℕ} {c : Cursor} (p : Placed file c) {r : FieldStep} where
   -- the next field is a name
-  pub field-name : {a e : ℕ} {n : Cursor} → r ≡ name-at file c → r ≡ field.Part a e n → next name-field (fields-left file c) ≡ ok (part file a e, fields-left file n)
+  pub field-name : {a e : ℕ} {n : Cursor} → r ≡ name-at file c → r ≡ field.Part a e n
+      → next name-field (fields-left file c) ≡ ok (part file a e, fields-left file n)
   unfolding field-result
   field-name d k = sym (name-law file c p) ∙ ap (field-result file) (sym d ∙ k)
 
@@ -180,7 +173,8 @@ module _ {file names names′ : List ℕ} {named : ℕ} {c : Cursor} {r : Word} 
   pub reads-not : {x : Refusal} → r ≡ word.Refused x → (next name-field (fields-left file c) ≡ refused x) × Same-but 0 name-columns names names′
   reads-not {x} p = go (rw p at s)
     where
-      go : Reads-name file names names′ named c (word.Refused x) → (next name-field (fields-left file c) ≡ refused x) × Same-but 0 name-columns names names′
+      go : Reads-name file names names′ named c (word.Refused x)
+          → (next name-field (fields-left file c) ≡ refused x) × Same-but 0 name-columns names names′
       go (name-not d k) = (d, rw k (same-self 0 name-columns names))
 
 -- ---- all names that are left
@@ -200,7 +194,8 @@ fields-next ns fs f gs e = rw e (go (name-field f))
 
 module _ (ns : List Name) (file : List ℕ) (c : Cursor) where
   -- one of all that are left
-  spell-next : c .at ≤ c .end → spell-fields ns (fields-left file c) ≡ (next name-field (fields-left file c) >>= λ (m, fs₁). spell-fields (spell ns m) fs₁)
+  spell-next : c .at ≤ c .end
+      → spell-fields ns (fields-left file c) ≡ (next name-field (fields-left file c) >>= λ (m, fs₁). spell-fields (spell ns m) fs₁)
   spell-next h =
       let (f, fs, e) = left-cons file c h in
       fields-next ns (fields-left file c) f fs e
@@ -220,12 +215,13 @@ pub record Spelling-on (file names₀ names : List ℕ) (named₀ named : ℕ) (
   pub placed : Placed file c
 
 -- before the first
-pub on-first : {file names : List ℕ} {named : ℕ} {c : Cursor} → Table file names named → Placed file c → Spelling-on file names names named named (fields-left file c) c
+pub on-first : {file names : List ℕ} {named : ℕ} {c : Cursor} → Table file names named → Placed file c
+    → Spelling-on file names names named named (fields-left file c) c
 on-first {file} {names} {named} t p = record {
   ns = names-of file names named;
   run = refl;
   naming = in-table t refl;
-  longer = longer-none t;
+  longer = longer-to (omega arith);
   begun = table-there t;
   placed = p;
 }
@@ -252,7 +248,8 @@ module _ {file names₀ names names′ : List ℕ} {named₀ named : ℕ} {fs₀
       rest-not {x = x} (s .run ∙ rw (spell-next (s .ns) file c h, k)) (same-then (s .longer .kept) q)
 
 -- after the last
-pub on-last : {file names₀ names : List ℕ} {named₀ named : ℕ} {fs₀ : List Field} {c : Cursor} → Spelling-on file names₀ names named₀ named fs₀ c → c .end < c .at
+pub on-last : {file names₀ names : List ℕ} {named₀ named : ℕ} {fs₀ : List Field} {c : Cursor} → Spelling-on file names₀ names named₀ named fs₀ c
+    → c .end < c .at
     → Spells-rest file names₀ names named₀ fs₀ (upto.At named c)
 on-last {file} {c = c} s h = all-spelt {ns = s .ns} {after = c} (s .run ∙ spell-none (s .ns) file c h) (s .naming) (s .longer)
 
@@ -267,6 +264,7 @@ spell-law ns (f ∷ fs) = go (λ m. spell-law (spell ns m) fs) (name-field f)
     go ih (refused x) = refl
     go ih (ok m) = ih m ∙ on (rest name-field fs)
       where
-        on : (r : Result (List Name)) → (r >>= λ ms. ok (fold-left spell (spell ns m) ms)) ≡ (r >>= (λ more. ok (m ∷ more)) >>= λ ms. ok (fold-left spell ns ms))
+        on : (r : Result (List Name))
+            → (r >>= λ ms. ok (fold-left spell (spell ns m) ms)) ≡ (r >>= (λ more. ok (m ∷ more)) >>= λ ms. ok (fold-left spell ns ms))
         on (refused x) = refl
         on (ok ms) = refl

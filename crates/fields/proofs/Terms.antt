@@ -6,8 +6,8 @@ use mathlib.Core.Logic.{_⊎_, inl, inr, ⊎-elim}
 use mathlib.Core.Bool.{Bool, true, false, _||_}
 use mathlib.Core.List.{List, [], _∷_, _++_, List·Memᴰ, List·Memᴰ·head, List·Memᴰ·tail}
 use lib.ListN.{length, getD}
-use lib.Dec.{ltb}
-use borrow.Author.Tests.{le-ltb, ltb-true, ltb-false}
+use lib.Dec.{ltb, ltb→lt}
+use borrow.Author.Tests.{le-ltb, ltb-false}
 use Rattle.model.specs.Lists.{fold-left, part}
 use Rattle.model.specs.Names.{Name}
 use Rattle.model.specs.Terms.{Node, add-term, references}
@@ -16,6 +16,7 @@ use Rattle.model.specs.declared.Counts.{Counts}
 use Rattle.model.specs.declared.LineKind.{LineKind}
 use Rattle.model.specs.declared.Refusal.{Refusal}
 use Rattle.model.specs.declared.Refusal.the-variants as refusal
+use Rattle.model.proofs.ListLaws.{T-or, true-T}
 use Rattle.model.proofs.PartLaws.{part-same}
 use Rattle.text.specs.declared.Cursor.{Cursor}
 use Rattle.text.specs.Parts.{Placed, fields-left}
@@ -27,23 +28,24 @@ use Rattle.lines.specs.Additions.{with-row, rows-after, pushed, Pushed, Adds}
 use Rattle.lines.specs.declared.Added.{Added}
 use Rattle.lines.proofs.Laws.{added-in, added-full}
 use Rattle.lines.proofs.Lines.{pushed-none, pushed-one}
-use Rattle.words.specs.Slices.{Same-but}
-use Rattle.words.proofs.Slices.{same-self, same-then, same-set, same-wider}
+use Rattle.gather.specs.Sets.{Same-but}
+use Rattle.gather.proofs.Steps.{same-self, same-then, same-set, same-wider}
 use Rattle.rules.specs.Views.{Tables, terms-in}
 use Rattle.fields.specs.declared.TermKind.{TermKind}
-use Rattle.model.specs.declared.Step.{Step}
-use Rattle.model.specs.declared.Step.the-variants as step
+use Rattle.fields.specs.declared.Step.{Step}
+use Rattle.fields.specs.declared.Step.the-variants as step
 use Rattle.fields.specs.Wording.{term-kind}
 use Rattle.fields.specs.Pushing.{push-all, Pushable}
 use Rattle.fields.specs.Spelling.{name-columns, Naming, Longer}
-use Rattle.fields.specs.Growing.{is-over, grown-to, Stands, row-columns, Kept, Grown, names-passed, terms-passed, references-passed, grown, over, not-read, Reads-term}
+use Rattle.fields.specs.Growing.{is-over, grown-to, Stands, row-columns, Kept, names-passed, terms-passed, references-passed, grown, over, not-read, Reads-term}
 use Rattle.fields.proofs.Spelling.{naming-table, naming-past}
 use Rattle.fields.proofs.Runs.{Ran, ran-kept, ran-agrees, ran-words}
 
 -- ---- tables
 
 -- the terms of a table stay where its references do
-terms-agree : {refs rows : List ℕ} {used many named : ℕ} (refs′ : List ℕ) (name : ℕ → Name) → Rows refs rows used many named → length refs′ ≡ length refs
+terms-agree : {refs rows : List ℕ} {used many named : ℕ} (refs′ : List ℕ) (name : ℕ → Name) → Rows refs rows used many named
+    → length refs′ ≡ length refs
     → ((i : ℕ) → i < used → getD refs′ i 0 ≡ getD refs i 0) → terms-of name refs′ rows used many ≡ terms-of name refs rows used many
 unfolding terms-of nodes-below node-of
 terms-agree {refs} {rows} {used} {many} refs′ name r size agrees = ap (fold-left add-term []) (go many (omega arith))
@@ -87,26 +89,24 @@ row-kept rows many word start extra = ⊎-elim
 
 -- ---- limits
 
-module _ (named used : ℕ) where
-  -- a limit that is passed
-  over-cases : true ≡ is-over named used → (most-names < named) ⊎ (most-references < used)
-  unfolding is-over
-  over-cases e = go (ltb most-names named) refl (ltb most-references used) refl e
-    where
-      go : (a : Bool) → ltb most-names named ≡ a → (b : Bool) → ltb most-references used ≡ b → true ≡ (a || b) → (most-names < named) ⊎ (most-references < used)
-      go true p b q e = inl (ltb-true most-names named p)
-      go false p true q e = inr (ltb-true most-references used q)
-      go false p false q e = let z : _≡_ {A = ℕ} 0 1 = cc in absurd (omega arith)
+-- neither of two tests
+neither : (a b : Bool) → (a || b) ≡ false → (a ≡ false) × (b ≡ false)
+neither true b e = let z : _≡_ {A = ℕ} 0 1 = cc in absurd (omega arith)
+neither false b e = (refl, e)
 
-  -- no limit is passed
-  under-both : false ≡ is-over named used → (named ≤ most-names) × (used ≤ most-references)
+module _ (named used : ℕ) {r : Bool} (d : r ≡ is-over named used) where
+  -- a limit that is passed
+  over-cases : r ≡ true → (most-names < named) ⊎ (most-references < used)
   unfolding is-over
-  under-both e = go (ltb most-names named) refl (ltb most-references used) refl e
-    where
-      go : (a : Bool) → ltb most-names named ≡ a → (b : Bool) → ltb most-references used ≡ b → false ≡ (a || b) → (named ≤ most-names) × (used ≤ most-references)
-      go true p b q e = let z : _≡_ {A = ℕ} 0 1 = cc in absurd (omega arith)
-      go false p true q e = let z : _≡_ {A = ℕ} 0 1 = cc in absurd (omega arith)
-      go false p false q e = (ltb-false most-names named p, ltb-false most-references used q)
+  over-cases e = ⊎-elim (λ h. inl (ltb→lt most-names named h)) (λ h. inr (ltb→lt most-references used h))
+      (T-or (ltb most-names named) (ltb most-references used) .0 (true-T (sym d ∙ e)))
+
+  -- none is passed
+  under-both : r ≡ false → (named ≤ most-names) × (used ≤ most-references)
+  unfolding is-over
+  under-both e =
+      let (a, b) = neither (ltb most-names named) (ltb most-references used) (sym d ∙ e) in
+      (ltb-false most-names named a, ltb-false most-references used b)
 
 -- neither is, where the tables are right
 pub under-start : {file names refs rows : List ℕ} {named used many : ℕ} → Tables file names refs rows named used many → false ≡ is-over named used
@@ -116,11 +116,13 @@ under-start {named = named} {used} t = rw (le-ltb most-names named (t .name-tabl
 -- ---- a line that was read
 
 -- references may be pushed behind the tables
-pub pushable-start : {file names refs rows : List ℕ} {named used many : ℕ} {c : Cursor} → Tables file names refs rows named used many → Placed file c → Pushable file refs used many c
+pub pushable-start : {file names refs rows : List ℕ} {named used many : ℕ} {c : Cursor} → Tables file names refs rows named used many
+    → Placed file c → Pushable file refs used many c
 pushable-start t p = record { room = t .term-table .ref-room; few = t .term-table .few-rows; bounded = omega (arith, t .term-table .few-references); placed = p }
 
 -- the fields of a term line, read: they say a node, its names are spelled, the words of its references pushed
-pub record Line-read (file names refs names′ refs′ : List ℕ) (k : Counts) (kind : LineKind) (c : Cursor) (named′ end : ℕ) (node : Node) (words : List ℕ) : Type 0 where
+pub record Line-read (file names refs names′ refs′ : List ℕ) (k : Counts) (kind : LineKind) (c : Cursor) (named′ end : ℕ) (node : Node) (words : List ℕ)
+    : Type 0 where
   pub says : content kind (k .many) (fields-left file c) ≡ ok (term node)
   pub naming : Naming file names′ named′ (fold-left spell (names-of file names (k .named)) (spelled-by node))
   pub longer : Longer file names names′ (k .named) named′
@@ -129,11 +131,13 @@ pub record Line-read (file names refs names′ refs′ : List ℕ) (k : Counts) 
 
 module _ {file names refs rows names′ refs′ : List ℕ} {k : Counts} {kind : LineKind} {c : Cursor} where
   -- a field that is refused
-  pub line-not : {x : Refusal} → content kind (k .many) (fields-left file c) ≡ refused x → Same-but 0 name-columns names names′ → Same-but 0 most-references refs refs′
+  pub line-not : {x : Refusal} → content kind (k .many) (fields-left file c) ≡ refused x → Same-but 0 name-columns names names′
+      → Same-but 0 most-references refs refs′
       → Reads-term file names refs rows names′ refs′ rows k kind c (step.Refused x)
   line-not {x} e a b = record { grows = not-read {x = x} e; kept = record { names-kept = a; refs-kept = b; rows-kept = same-self 0 row-columns rows } }
 
-  module _ {named′ end : ℕ} {node : Node} {words : List ℕ} (t : Stands file names refs rows k) (b : Line-read file names refs names′ refs′ k kind c named′ end node words) {r : Bool} (d : r ≡ is-over named′ end) where
+  module _ {named′ end : ℕ} {node : Node} {words : List ℕ} (t : Stands file names refs rows k)
+      (b : Line-read file names refs names′ refs′ k kind c named′ end node words) {r : Bool} (d : r ≡ is-over named′ end) where
     -- the slices but the rows
     line-kept : {rows′ : List ℕ} → Same-but 0 row-columns rows rows′ → Kept names refs rows names′ refs′ rows′
     line-kept r = record { names-kept = b .longer .kept; refs-kept = ran-kept (b .ran); rows-kept = r }
@@ -141,14 +145,17 @@ module _ {file names refs rows names′ refs′ : List ℕ} {k : Counts} {kind :
     -- names or references past their limit
     pub line-over : r ≡ true → Reads-term file names refs rows names′ refs′ rows k kind c (step.Refused refusal.Limit)
     line-over e = record {
-      grows = over (b .says) (⊎-elim (λ l. names-passed (naming-past (b .naming) l)) (λ (l : most-references < end). references-passed (omega (arith, b .ran .ends, b .count))) (over-cases named′ end (sym e ∙ d)));
+      grows = over (b .says) (⊎-elim
+          (λ l. names-passed (naming-past (b .naming) l))
+          (λ (l : most-references < end). references-passed (omega (arith, b .ran .ends, b .count)))
+          (over-cases named′ end d e));
       kept = line-kept (same-self 0 row-columns rows);
     }
 
     module _ (e : r ≡ false) where
       -- no limit is passed
       pub line-few : (named′ ≤ most-names) × (end ≤ most-references)
-      line-few = under-both named′ end (sym e ∙ d)
+      line-few = under-both named′ end d e
 
       -- the references are in the slice
       pub line-long : end ≤ length refs′

@@ -2,10 +2,10 @@
 use Prim.Native.Nat.{ℕ, zero, suc, _+_, _≤_, _<_}
 use Prim.Native.String.{String}
 use native.Mathlib.Omega.{arith}
-use mathlib.Core.Path.{_≡_, refl, sym, ap, ap₂, _∙_}
+use mathlib.Core.Path.{_≡_, refl, sym, ap, _∙_}
 use mathlib.Core.Logic.{⊎-elim}
 use mathlib.Core.Bool.{Bool, true, false, cond, not, Bool·beq}
-use mathlib.Core.List.{List, [], _∷_, map}
+use mathlib.Core.List.{List, [], _∷_}
 use mathlib.Core.Option.{Option, none, some}
 use lib.ListN.{length}
 use lib.Dec.{eqb}
@@ -26,8 +26,6 @@ use Rattle.text.proofs.Laws.{left-some}
 use Rattle.terms.specs.Rows.{op-of-code}
 use Rattle.terms.proofs.Laws.{equal}
 use Rattle.names.specs.Known.{code-from}
-use Rattle.fields.specs.declared.TermKind.{TermKind}
-use Rattle.fields.specs.declared.RecordKind.{RecordKind}
 use Rattle.fields.specs.declared.Kind.{Kind}
 use Rattle.fields.specs.declared.Kind.the-variants as kinded
 use Rattle.fields.specs.declared.OpWord.the-variants as worded
@@ -84,7 +82,8 @@ module _ {A : Type 0} where
       later : ℕ
       later = code-from (n + 1) (spelt ws) f
 
-      go : (t : Bool) → word ws f ≡ pick (n + 1) ws later → cond t (some a) (word ws f) ≡ cond (eqb (cond t n later) n) (some a) (pick (n + 1) ws (cond t n later))
+      go : (t : Bool) → word ws f ≡ pick (n + 1) ws later
+          → cond t (some a) (word ws f) ≡ cond (eqb (cond t n later) n) (some a) (pick (n + 1) ws (cond t n later))
       go true ih = rw (eq-eqb n n refl)
       go false ih = rw (ne-eqb later n (code-later n (n + 1) (spelt ws) f p (omega arith))) ih
 
@@ -101,7 +100,8 @@ module _ {A : Type 0} where
 -- ---- the kind of a line
 
 -- a kind under a test
-kind-tested : (o : Option LineKind) (t : Bool) → (need refusal.Form o >>= λ k. cond t (ok k) (refused refusal.Form)) ≡ cond t (need refusal.Form o) (refused refusal.Form)
+kind-tested : (o : Option LineKind) (t : Bool)
+    → (need refusal.Form o >>= λ k. cond t (ok k) (refused refusal.Form)) ≡ cond t (need refusal.Form o) (refused refusal.Form)
 unfolding need
 kind-tested none true = refl
 kind-tested none false = refl

@@ -1,7 +1,7 @@
 -- A term line read into the tables: what its fields say, and the tables with its term, or the limit that it passes.
 use Prim.Native.Nat.{ℕ, _+_, _≤_, _<_}
 use mathlib.Core.Path.{_≡_}
-use mathlib.Core.Bool.{Bool, _||_}
+use mathlib.Core.Bool.{Bool, true, false, _||_}
 use mathlib.Core.List.{List}
 use lib.ListN.{length}
 use lib.Dec.{ltb}
@@ -11,6 +11,7 @@ use Rattle.model.specs.Lines.{Field}
 use Rattle.model.specs.Reading.{Result, ok, refused, _>>=_, need, word, op-words, next, end, number-field, Content, term, content, spell, spelled-by, most-names, most-terms, most-references}
 use Rattle.model.specs.declared.Counts.{Counts}
 use Rattle.model.specs.declared.LineKind.{LineKind}
+use Rattle.model.specs.declared.LineKind.the-variants as kind
 use Rattle.model.specs.declared.Op.{Op}
 use Rattle.model.specs.declared.Refusal.{Refusal}
 use Rattle.model.specs.declared.Refusal.the-variants as refusal
@@ -20,14 +21,14 @@ use Rattle.text.proofs.Laws.{Onward}
 use Rattle.names.specs.Table.{names-of}
 use Rattle.lines.specs.declared.Added.{Added}
 use Rattle.lines.specs.declared.Added.the-variants as adds
-use Rattle.words.specs.Slices.{Same-but}
+use Rattle.gather.specs.Sets.{Same-but}
 use Rattle.rules.specs.Views.{Tables, terms-in}
 use Rattle.fields.specs.declared.OpStep.{OpStep}
 use Rattle.fields.specs.declared.OpStep.the-variants as worded
 use Rattle.fields.specs.declared.Quantifier.{Quantifier}
 use Rattle.fields.specs.declared.Quantifier.the-variants as quantified
-use Rattle.model.specs.declared.Step.{Step}
-use Rattle.model.specs.declared.Step.the-variants as step
+use Rattle.fields.specs.declared.Step.{Step}
+use Rattle.fields.specs.declared.Step.the-variants as step
 use Rattle.fields.specs.Pushing.{most-number, push-one, push-groups}
 use Rattle.fields.specs.Spelling.{name-columns, Longer}
 
@@ -45,6 +46,11 @@ pub data Reads-op (file : List ℕ) (c : Cursor) : OpStep → Type 0 where
   op-not : {x : Refusal} → next op-field (fields-left file c) ≡ refused x → Reads-op file c (worded.Refused x)
 
 -- ---- quantifiers
+
+-- the kind of a quantifier: an `all`, or else a `some`
+unfoldable pub quantifier-kind : Bool → LineKind
+quantifier-kind true = kind.All
+quantifier-kind false = kind.Some
 
 -- a body, a number of groups and the groups, with no field left over: the references then, how many they are, the number of groups
 unfoldable pub push-quantifier : ℕ → List ℕ → ℕ → List Field → Result (List ℕ × ℕ × ℕ)

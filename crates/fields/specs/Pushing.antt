@@ -8,13 +8,17 @@ use Rattle.model.specs.Reading.{Result, ok, refused, _>>=_, next, number-field,
 use Rattle.text.specs.declared.Cursor.{Cursor}
 use Rattle.text.specs.Parts.{Placed, fields-left}
 use Rattle.lines.specs.Additions.{pushed}
-use Rattle.words.specs.Slices.{Same-but}
+use Rattle.gather.specs.Sets.{Same-but}
 use Rattle.fields.specs.declared.Upto.{Upto}
 use Rattle.fields.specs.declared.Upto.the-variants as upto
 
 -- the largest number that a field may be
 abbrev pub most-number : ℕ
 most-number = 65535
+
+-- the word of a reference to a term, in a group
+abbrev pub reference : ℕ → ℕ → ℕ
+reference t group = t + 4096 * group
 
 -- the references then, how many they are, and the fields after; or the refusal of a field
 abbrev pub Run : Type 0
@@ -23,7 +27,7 @@ Run = Result (List ℕ × ℕ × List Field)
 module _ (count : ℕ) where
   -- the next field, one of `count` terms, in a group
   unfoldable pub push-one : ℕ → List ℕ → ℕ → List Field → Run
-  push-one group refs used fs = next (term-field count) fs >>= λ (t, fs₁). ok (pushed refs used (t + 4096 * group), used + 1, fs₁)
+  push-one group refs used fs = next (term-field count) fs >>= λ (t, fs₁). ok (pushed refs used (reference t group), used + 1, fs₁)
 
   -- the next n fields
   unfoldable pub push-many : ℕ → ℕ → List ℕ → ℕ → List Field → Run
@@ -34,7 +38,7 @@ module _ (count : ℕ) where
   -- all fields that are left
   unfoldable pub push-rest : List ℕ → ℕ → List Field → Run
   push-rest refs used [] = ok (refs, used, [])
-  push-rest refs used (f ∷ fs) = term-field count f >>= λ t. push-rest (pushed refs used (t + 4096 * 0)) (used + 1) fs
+  push-rest refs used (f ∷ fs) = term-field count f >>= λ t. push-rest (pushed refs used (reference t 0)) (used + 1) fs
 
   -- the next n groups, the first of which has the number g: each a count and that many terms
   unfoldable pub push-groups : ℕ → ℕ → List ℕ → ℕ → List Field → Run
@@ -56,7 +60,6 @@ upto-result file refs (upto.Refused r) = refused r
 
 -- a cursor that stands further on, by a byte or more for each reference
 pub record Ahead (file : List ℕ) (from : ℕ) (c : Cursor) (end : ℕ) (next : Cursor) : Type 0 where
-  pub more : from ≤ end
   pub further : c .at + end ≤ next .at + from
   pub stays : next .end ≡ c .end
   pub placed : Placed file next

@@ -12,7 +12,7 @@ use Rattle.text.specs.declared.Cursor.{Cursor}
 use Rattle.text.specs.Parts.{fields-left}
 use Rattle.text.proofs.Laws.{Onward}
 use Rattle.names.specs.Table.{Table, name-of, names-of}
-use Rattle.words.specs.Slices.{Same-but}
+use Rattle.gather.specs.Sets.{Same-but}
 use Rattle.fields.specs.declared.Spelt.{Spelt}
 use Rattle.fields.specs.declared.Word.{Word}
 use Rattle.fields.specs.declared.Word.the-variants as word
@@ -40,7 +40,6 @@ pub data Begun (file names : List ℕ) (named : ℕ) : Type 0 where
 -- a table with no fewer names: those before have their numbers, and the columns of others are as before
 pub record Longer (file names names′ : List ℕ) (named named′ : ℕ) : Type 0 where
   pub more : named ≤ named′
-  pub bound : named′ ≤ past-names
   pub same : (n : ℕ) → n < named → name-of file names′ n ≡ name-of file names n
   pub kept : Same-but 0 name-columns names names′
 

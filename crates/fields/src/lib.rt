@@ -2,7 +2,6 @@ use lines::Added;
 use model::Counts;
 use model::Op;
 use model::Refusal;
-use model::Step;
 use names::Spelled;
 use text::Cursor;
 use text::FieldStep;
@@ -22,7 +21,7 @@ ghost use Rattle.names.specs.Table.{Table};
 ghost use Rattle.fields.specs.Wording.{pick, term-kind, kind-result, count-of, fixed-of, well-counted, as-op};
 ghost use Rattle.fields.specs.Pushing.{most-number, push-one, push-many, push-rest, push-groups, Pushable, Pushes};
 ghost use Rattle.fields.specs.Spelling.{Begun, Spells, Reads-name, Spells-rest};
-ghost use Rattle.fields.specs.Growing.{Reads-op, Quantifies, is-over, grown-to, Stands, Reads-term};
+ghost use Rattle.fields.specs.Growing.{Reads-op, Quantifies, quantifier-kind, is-over, grown-to, Stands, Reads-term};
 
 // The kinds of term lines.
 pub enum TermKind {
@@ -444,6 +443,12 @@ fn push_quantifier(file: &[u8], refs: &mut [u32], from: usize, many: usize, c: C
     }
 }
 
+// What reading a line comes to: the counts then, or its refusal.
+pub enum Step {
+    On(Counts),
+    Refused(Refusal),
+}
+
 // Whether so many names or references pass their limit.
 fn is_over(named: usize, used: usize) -> bool
     ensures { λ r. ⌜ r ≡ is-over named used ⌝ }
@@ -600,17 +605,18 @@ pub fn read_op(
     }
 }
 
-// Reads an `all`, from its body on.
-pub fn read_all(
+// Reads an `all`, or else a `some`, from its body on.
+pub fn read_quantifier(
     file: &[u8],
     names: &[u32],
     refs: &mut [u32],
     rows: &mut [u32],
     k: Counts,
+    all: bool,
     c: Cursor,
 ) -> Step
     requires { ⌜ Stands (now file) (now names) (now refs) (now rows) k × Placed (now file) c ⌝ }
-    ensures { λ r. ⌜ Reads-term (now (file .entry)) (now (names .entry)) (now (refs .entry)) (now (rows .entry)) (now (names .entry)) (now (refs .exit)) (now (rows .exit)) k kind.All c r ⌝ }
+    ensures { λ r. ⌜ Reads-term (now (file .entry)) (now (names .entry)) (now (refs .entry)) (now (rows .entry)) (now (names .entry)) (now (refs .exit)) (now (rows .exit)) k (quantifier-kind all) c r ⌝ }
 {
     let start = k.used;
     let many = k.many;
@@ -620,36 +626,13 @@ pub fn read_all(
             if is_over(named, used) {
                 return Step::Refused(Refusal::Limit);
             }
-            grown(
-                lines::add_all(refs, rows, start, used, many, named, groups),
-                k,
-                named,
-                used,
-            )
-        }
-        Quantifier::Refused(r) => Step::Refused(r),
-    }
-}
-
-// Reads a `some`, from its body on.
-pub fn read_some(
-    file: &[u8],
-    names: &[u32],
-    refs: &mut [u32],
-    rows: &mut [u32],
-    k: Counts,
-    c: Cursor,
-) -> Step
-    requires { ⌜ Stands (now file) (now names) (now refs) (now rows) k × Placed (now file) c ⌝ }
-    ensures { λ r. ⌜ Reads-term (now (file .entry)) (now (names .entry)) (now (refs .entry)) (now (rows .entry)) (now (names .entry)) (now (refs .exit)) (now (rows .exit)) k kind.Some c r ⌝ }
-{
-    let start = k.used;
-    let many = k.many;
-    let named = k.named;
-    match push_quantifier(file, refs, start, many, c) {
-        Quantifier::Read(used, groups) => {
-            if is_over(named, used) {
-                return Step::Refused(Refusal::Limit);
+            if all {
+                return grown(
+                    lines::add_all(refs, rows, start, used, many, named, groups),
+                    k,
+                    named,
+                    used,
+                );
             }
             grown(
                 lines::add_some(refs, rows, start, used, many, named, groups),
@@ -749,8 +732,8 @@ pub fn read_term(
         TermKind::Leaf => read_leaf(file, names, refs, rows, k, c),
         TermKind::Call => read_call(file, names, refs, rows, k, c),
         TermKind::Op => read_op(file, names, refs, rows, k, c),
-        TermKind::All => read_all(file, names, refs, rows, k, c),
-        TermKind::Some => read_some(file, names, refs, rows, k, c),
+        TermKind::All => read_quantifier(file, names, refs, rows, k, true, c),
+        TermKind::Some => read_quantifier(file, names, refs, rows, k, false, c),
         TermKind::Let => read_let(file, names, refs, rows, k, c),
         TermKind::Label => read_label(file, names, refs, rows, k, c),
     }

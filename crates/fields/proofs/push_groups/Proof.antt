@@ -4,9 +4,9 @@ use mathlib.Core.Path.{_≡_, sym, _∙_}
 use Rattle.text.specs.Parts.{fields-left}
 use Rattle.text.proofs.Laws.{number-next}
 use Rattle.model.specs.Reading.{most-references}
-use Rattle.words.specs.Slices.{Same-but}
-use Rattle.words.proofs.Slices.{same-self, same-then}
-use Rattle.fields.specs.Pushing.{push-many, push-groups, Ahead}
+use Rattle.gather.specs.Sets.{Same-but}
+use Rattle.gather.proofs.Steps.{same-self, same-then}
+use Rattle.fields.specs.Pushing.{push-many, push-groups, Ahead, most-number}
 use Rattle.fields.proofs.Pushing.{number-read, number-not, run-at, run-not, pushes-not, pushes-at, ahead-none, ahead-then, ahead-field, pushable-then, pushable-field, groups-first, groups-on, groups-none}
 use borrow.Author.Needs.{needs}
 use native.Mathlib.Omega.{arith}
@@ -37,10 +37,12 @@ cast-push-many c = search needs
 
 push-many-requires : tie.Need-push-many-requires Inv-loop μ-loop
 push-many-requires c κs =
-    let read = c .before .before .before .before in
-    let inv = read .before .before .loop .inv in
-    let next = number-next _ _ (inv .1 .placed) _ _ _ (sym (read .number .ensures) ∙ c .before .before .n .given .1) .0 in
-    (pushable-field (pushable-then (read .before .before .before .before .before .pre .0) (inv .1) (inv .2)) next, omega (arith, read .before .loop-test .taken, read .before .before .before .before .before .pre .1))
+    let turn = c .before .before .before .before .before .before in
+    let entry = turn .before .before .before in
+    let inv = turn .loop .inv in
+    let next = number-next _ _ (inv .1 .placed) _ _ _ (sym (c .before .before .before .before .number .ensures) ∙ c .before .before .n .given .1) .0 in
+    let test = c .before .before .before .before .before .loop-test .taken in
+    (pushable-field (pushable-then (entry .pre .0) (inv .1) (inv .2)) next, omega (arith, entry .pre .1))
 
 enum-known-more : tie.Need-enum-known-more Inv-loop μ-loop
 enum-known-more c = c .match2 .keys1
@@ -50,17 +52,17 @@ enum-known-r c = c .match2 .keys2
 
 same-length : tie.Need-same-length Inv-loop μ-loop
 same-length c =
-    let call = c .before .before .before .before .before in
-    call .push-many .ensures .kept .same-length ∙ call .before .before .before .before .before .before .before .loop .inv .2 .same-length
+    let many = c .before .before .before .before .before in
+    many .push-many .ensures .kept .same-length ∙ many .before .before .before .before .before .before .before .loop .inv .2 .same-length
 
 returns : tie.Need-returns Inv-loop μ-loop
 returns c =
-    let call = c .before .before .before .before .before in
-    let read = call .before .before .before .before .before in
-    let step = call .push-many .ensures in
-    let inv = read .before .before .loop .inv in
-    let number = number-read (inv .1 .placed) _ (read .number .ensures) (call .before .before .before .n .given .1) in
-    pushes-not (same-then (inv .2) (step .kept)) _ (inv .0 ∙ rw (groups-on _ _ _ _ _ _ (read .before .loop-test .taken), number, run-not step (c .before .r .given .1)))
+    let many = c .before .before .before .before .before in
+    let step = many .push-many .ensures in
+    let inv = many .before .before .before .before .before .before .before .loop .inv in
+    let test = many .before .before .before .before .before .before .loop-test .taken in
+    let number = number-read (inv .1 .placed) most-number (many .before .before .before .before .before .number .ensures) (many .before .before .before .n .given .1) in
+    pushes-not (same-then (inv .2) (step .kept)) _ (inv .0 ∙ rw (groups-on _ _ _ _ _ _ test, number, run-not step (c .before .r .given .1)))
 
 enum-known-r-2 : tie.Need-enum-known-r-2 Inv-loop μ-loop
 enum-known-r-2 c = c .match .keys2
@@ -70,29 +72,35 @@ same-length-2 c = c .before .before .before .before .before .loop .inv .2 .same-
 
 returns-2 : tie.Need-returns-2 Inv-loop μ-loop
 returns-2 c =
-    let read = c .before .before .before in
-    let inv = read .before .before .loop .inv in
-    pushes-not (inv .2) _ (inv .0 ∙ rw (groups-on _ _ _ _ _ _ (read .before .loop-test .taken), number-not (inv .1 .placed) _ (read .number .ensures) (c .before .r2 .given .1)))
+    let inv = c .before .before .before .before .before .loop .inv in
+    let refused = number-not (inv .1 .placed) most-number (c .before .before .before .number .ensures) (c .before .r2 .given .1) in
+    pushes-not (inv .2) _ (inv .0 ∙ rw (groups-on _ _ _ _ _ _ (c .before .before .before .before .loop-test .taken), refused))
 
 add-g : tie.Need-add-g Inv-loop μ-loop
-add-g c = omega (arith, c .before .before .before .before .before .before .before .before .before .before .before .loop-test .taken)
+add-g c =
+    let many = c .before .before .before .before .before in
+    omega (arith, many .before .before .before .before .before .before .loop-test .taken)
 
 loop-less : tie.Need-loop-less Inv-loop μ-loop
-loop-less c = omega (arith, c .before .before .before .before .before .before .before .before .before .before .before .loop-test .taken)
+loop-less c =
+    let many = c .before .before .before .before .before in
+    omega (arith, many .before .before .before .before .before .before .loop-test .taken)
 
 loop-again : tie.Need-loop-again Inv-loop μ-loop
 loop-again c =
-    let call = c .before .before .before .before .before in
-    let read = call .before .before .before .before .before in
-    let step = call .push-many .ensures in
-    let inv = read .before .before .loop .inv in
+    let many = c .before .before .before .before .before in
+    let step = many .push-many .ensures in
+    let inv = many .before .before .before .before .before .before .before .loop .inv in
     let at = c .before .more .given .1 in
-    let number = number-read (inv .1 .placed) _ (read .number .ensures) (call .before .before .before .n .given .1) in
-    let next = number-next _ _ (inv .1 .placed) _ _ _ (sym (read .number .ensures) ∙ call .before .before .before .n .given .1) .0 in (
-      inv .0 ∙ rw (groups-on _ _ _ _ _ _ (read .before .loop-test .taken), number, run-at step at),
+    let test = many .before .before .before .before .before .before .loop-test .taken in
+    let read = many .before .before .before .before .before .number .ensures in
+    let told = many .before .before .before .n .given .1 in
+    let number = number-read (inv .1 .placed) most-number read told in
+    let next = number-next _ _ (inv .1 .placed) _ _ _ (sym read ∙ told) .0 in (
+      inv .0 ∙ rw (groups-on _ _ _ _ _ _ test, number, run-at step at),
       ahead-then (inv .1) (ahead-field next (step .ahead _ _ at)),
       same-then (inv .2) (step .kept),
-      omega (arith, read .before .loop-test .taken),
+      omega arith,
     )
 
 same-length-3 : tie.Need-same-length-3 Inv-loop μ-loop

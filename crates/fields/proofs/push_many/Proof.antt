@@ -3,8 +3,8 @@ use Prim.Native.Nat.{_-_}
 use mathlib.Core.Path.{_≡_, refl, _∙_}
 use Rattle.text.specs.Parts.{fields-left}
 use Rattle.model.specs.Reading.{most-references}
-use Rattle.words.specs.Slices.{Same-but}
-use Rattle.words.proofs.Slices.{same-self, same-then}
+use Rattle.gather.specs.Sets.{Same-but}
+use Rattle.gather.proofs.Steps.{same-self, same-then}
 use Rattle.fields.specs.Pushing.{push-many, Ahead}
 use Rattle.fields.proofs.Pushing.{run-at, run-not, pushes-not, pushes-at, ahead-none, ahead-then, pushable-then, many-on, many-none}
 use native.Mathlib.Omega.{arith}
@@ -24,7 +24,9 @@ loop-holds : tie.Need-loop-holds Inv-loop μ-loop
 loop-holds c = (refl, ahead-none (c .before .before .pre .0), same-self _ _ _)
 
 push-term-requires : tie.Need-push-term-requires Inv-loop μ-loop
-push-term-requires c κs = (pushable-then (c .before .before .before .before .before .pre .0) (c .before .before .loop .inv .1) (c .before .before .loop .inv .2), c .before .before .before .before .before .pre .1)
+push-term-requires c κs =
+    let entry = c .before .before .before .before .before in
+    (pushable-then (entry .pre .0) (c .before .before .loop .inv .1) (c .before .before .loop .inv .2), entry .pre .1)
 
 enum-known-more : tie.Need-enum-known-more Inv-loop μ-loop
 enum-known-more c = c .match .keys1
@@ -33,17 +35,14 @@ enum-known-r : tie.Need-enum-known-r Inv-loop μ-loop
 enum-known-r c = c .match .keys2
 
 same-length : tie.Need-same-length Inv-loop μ-loop
-same-length c =
-    let call = c .before .before .before .before .before in
-    call .push-term .ensures .kept .same-length ∙ call .before .before .before .loop .inv .2 .same-length
+same-length c = c .before .before .before .before .before .push-term .ensures .kept .same-length ∙ c .before .before .before .before .before .before .before .before .loop .inv .2 .same-length
 
 returns : tie.Need-returns Inv-loop μ-loop
 returns c =
-    let call = c .before .before .before .before .before in
-    let turn = call .before .before .before in
-    let step = call .push-term .ensures in
-    let inv = turn .loop .inv in
-    pushes-not (same-then (inv .2) (step .kept)) _ (inv .0 ∙ rw (many-on _ _ _ _ _ _ (call .before .before .loop-test .taken), run-not step (c .before .r .given .1)))
+    let step = c .before .before .before .before .before .push-term .ensures in
+    let inv = c .before .before .before .before .before .before .before .before .loop .inv in
+    let test = c .before .before .before .before .before .before .before .loop-test .taken in
+    pushes-not (same-then (inv .2) (step .kept)) _ (inv .0 ∙ rw (many-on _ _ _ _ _ _ test, run-not step (c .before .r .given .1)))
 
 sub-left : tie.Need-sub-left Inv-loop μ-loop
 sub-left c = omega (arith, c .before .before .before .before .before .before .before .loop-test .taken)
@@ -53,12 +52,11 @@ loop-less c = omega (arith, c .before .before .before .before .before .before .b
 
 loop-again : tie.Need-loop-again Inv-loop μ-loop
 loop-again c =
-    let call = c .before .before .before .before .before in
-    let turn = call .before .before .before in
-    let step = call .push-term .ensures in
-    let inv = turn .loop .inv in
+    let step = c .before .before .before .before .before .push-term .ensures in
+    let inv = c .before .before .before .before .before .before .before .before .loop .inv in
     let at = c .before .more .given .1 in
-    (inv .0 ∙ rw (many-on _ _ _ _ _ _ (call .before .before .loop-test .taken), run-at step at), ahead-then (inv .1) (step .ahead _ _ at), same-then (inv .2) (step .kept))
+    let test = c .before .before .before .before .before .before .before .loop-test .taken in
+    (inv .0 ∙ rw (many-on _ _ _ _ _ _ test, run-at step at), ahead-then (inv .1) (step .ahead _ _ at), same-then (inv .2) (step .kept))
 
 same-length-2 : tie.Need-same-length-2 Inv-loop μ-loop
 same-length-2 c = c .before .loop .inv .2 .same-length

@@ -3,8 +3,8 @@ use Prim.Native.Nat.{_+_, _-_}
 use mathlib.Core.Path.{_≡_, refl, _∙_}
 use Rattle.text.specs.Parts.{fields-left}
 use Rattle.model.specs.Reading.{most-references}
-use Rattle.words.specs.Slices.{Same-but}
-use Rattle.words.proofs.Slices.{same-self, same-then}
+use Rattle.gather.specs.Sets.{Same-but}
+use Rattle.gather.proofs.Steps.{same-self, same-then}
 use Rattle.fields.specs.Pushing.{push-rest, Ahead}
 use Rattle.fields.proofs.Pushing.{run-at, run-not, pushes-not, pushes-at, ahead-none, ahead-then, pushable-then, one-end, rest-next, rest-none}
 use native.Mathlib.Omega.{arith}
@@ -31,35 +31,35 @@ enum-known-more c = c .match .keys1
 
 loop-less : tie.Need-loop-less Inv-loop μ-loop
 loop-less c =
-    let call = c .before .before .before .before .before in
-    let step = call .push-term .ensures in
+    let step = c .before .before .before .before .before .push-term .ensures in
     let on = step .ahead _ _ (c .before .more .given .1) in
-    omega (arith, one-end _ _ _ _ _ (run-at step (c .before .more .given .1)), on .further, on .stays, call .before .before .if1 .taken)
+    let one = one-end _ _ _ _ _ (run-at step (c .before .more .given .1)) in
+    omega (arith, on .further, on .stays, c .before .before .before .before .before .before .before .if1 .taken)
 
 loop-again : tie.Need-loop-again Inv-loop μ-loop
 loop-again c =
-    let call = c .before .before .before .before .before in
-    let turn = call .before .before .before .before in
-    let step = call .push-term .ensures in
-    let inv = turn .loop .inv in
+    let first = c .before .before .before .before .before in
+    let step = first .push-term .ensures in
+    let inv = first .before .before .before .before .loop .inv in
     let at = c .before .more .given .1 in
-    (inv .0 ∙ rw (rest-next _ _ _ _ _ (call .before .before .if1 .taken), run-at step at), ahead-then (inv .1) (step .ahead _ _ at), same-then (inv .2) (step .kept))
+    let test = first .before .before .if1 .taken in
+    (inv .0 ∙ rw (rest-next _ _ _ _ _ test, run-at step at), ahead-then (inv .1) (step .ahead _ _ at), same-then (inv .2) (step .kept))
 
 enum-known-r : tie.Need-enum-known-r Inv-loop μ-loop
 enum-known-r c = c .match .keys2
 
 same-length : tie.Need-same-length Inv-loop μ-loop
 same-length c =
-    let call = c .before .before .before .before .before in
-    call .push-term .ensures .kept .same-length ∙ call .before .before .before .before .loop .inv .2 .same-length
+    let first = c .before .before .before .before .before in
+    first .push-term .ensures .kept .same-length ∙ first .before .before .before .before .loop .inv .2 .same-length
 
 returns : tie.Need-returns Inv-loop μ-loop
 returns c =
-    let call = c .before .before .before .before .before in
-    let turn = call .before .before .before .before in
-    let step = call .push-term .ensures in
-    let inv = turn .loop .inv in
-    pushes-not (same-then (inv .2) (step .kept)) _ (inv .0 ∙ rw (rest-next _ _ _ _ _ (call .before .before .if1 .taken), run-not step (c .before .r .given .1)))
+    let first = c .before .before .before .before .before in
+    let step = first .push-term .ensures in
+    let inv = first .before .before .before .before .loop .inv in
+    let test = first .before .before .if1 .taken in
+    pushes-not (same-then (inv .2) (step .kept)) _ (inv .0 ∙ rw (rest-next _ _ _ _ _ test, run-not step (c .before .r .given .1)))
 
 same-length-2 : tie.Need-same-length-2 Inv-loop μ-loop
 same-length-2 c = c .before .before .loop .inv .2 .same-length

@@ -21,15 +21,16 @@ cast-push c = search needs
 
 push-requires : tie.Need-push-requires
 push-requires c κs =
-    let read = c .before .before .before .before in
-    let next = term-next _ _ (read .before .before .before .pre .0 .placed) _ _ _ (sym (read .term .ensures) ∙ c .before .before .t .given .1) in
-    (read .before .before .before .pre .0 .room, omega (arith, next .1, read .before .before .before .pre .0 .few), omega (arith, read .before .before .before .pre .1))
+    let entry = c .before .before .before .before .before .before .before in
+    let next = term-next _ _ (entry .pre .0 .placed) _ _ _ (sym (c .before .before .before .before .term .ensures) ∙ c .before .before .t .given .1) in
+    (entry .pre .0 .room, omega (arith, next .1, entry .pre .0 .few), omega (arith, entry .pre .1))
 
 add-t16 : tie.Need-add-t16
 add-t16 c =
-    let read = c .before .before .before .before .before .before .before in
-    let p = read .before .before .before .pre .0 in
-    let next = term-next _ _ (p .placed) _ _ _ (sym (read .term .ensures) ∙ c .before .before .before .before .before .t .given .1) .0 in
+    let reading = c .before .before .before .before .before .before .before in
+    let entry = reading .before .before .before in
+    let p = entry .pre .0 in
+    let next = term-next _ _ (p .placed) _ _ _ (sym (reading .term .ensures) ∙ c .before .before .before .before .before .t .given .1) .0 in
     omega (arith, p .bounded, next .further, next .bounded, p .placed .inside, p .placed .short)
 
 enum-known-r : tie.Need-enum-known-r
@@ -40,8 +41,9 @@ same-length c = c .before .refs .given
 
 returns : tie.Need-returns
 returns c =
-    let read = c .before .before .before .before .before .before .before in
-    one-pushed (read .before .before .before .pre .0) _ (read .term .ensures) (c .before .before .before .before .before .t .given .1) (c .before .before .push .ensures .1)
+    let reading = c .before .before .before .before .before .before .before in
+    let entry = reading .before .before .before in
+    one-pushed (entry .pre .0) _ (reading .term .ensures) (c .before .before .before .before .before .t .given .1) (c .before .before .push .ensures .1)
 
 returns-2 : tie.Need-returns-2
 returns-2 c = one-not (c .before .before .before .before .before .before .pre .0) _ (c .before .before .before .term .ensures) (c .before .r .given .1)

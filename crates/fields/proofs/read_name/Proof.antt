@@ -14,8 +14,9 @@ enum-known-start c = c .match .keys1
 
 spell-name-requires : tie.Need-spell-name-requires
 spell-name-requires c κs =
-    let next = name-next _ _ (c .before .before .before .before .before .before .before .pre .1) _ _ _ (sym (c .before .before .before .before .name .ensures) ∙ c .before .before .start .given .1) .0 in
-    (c .before .before .before .before .before .before .before .pre .0, next .ordered, next .inside)
+    let entry = c .before .before .before .before .before .before .before in
+    let next = name-next _ _ (entry .pre .1) _ _ _ (sym (c .before .before .before .before .name .ensures) ∙ c .before .before .start .given .1) .0 in
+    (entry .pre .0, next .ordered, next .inside)
 
 enum-known-r : tie.Need-enum-known-r
 enum-known-r c = c .match .keys2
@@ -25,10 +26,11 @@ same-length c = c .before .names .given
 
 returns : tie.Need-returns
 returns c =
-    let read = c .before .before .before .before .before .before .before in
-    let placed = read .before .before .before .pre .1 in
-    let next = name-next _ _ placed _ _ _ (sym (read .name .ensures) ∙ c .before .before .before .before .before .start .given .1) .0 in
-    name-read (field-name placed (read .name .ensures) (c .before .before .before .before .before .start .given .1)) (c .before .before .spell-name .ensures) (next .onward)
+    let reading = c .before .before .before .before .before .before .before in
+    let entry = reading .before .before .before in
+    let placed = entry .pre .1 in
+    let next = name-next _ _ placed _ _ _ (sym (reading .name .ensures) ∙ c .before .before .before .before .before .start .given .1) .0 in
+    name-read (field-name placed (reading .name .ensures) (c .before .before .before .before .before .start .given .1)) (c .before .before .spell-name .ensures) (next .onward)
 
 returns-2 : tie.Need-returns-2
 returns-2 c = name-not (field-not (c .before .before .before .before .before .before .pre .1) (c .before .before .before .name .ensures) (c .before .r .given .1)) refl

@@ -27,14 +27,15 @@ enum-known-r c = c .match .keys2
 
 returns : tie.Need-returns
 returns c =
-    let read = c .before .before .before .before .before .before .before in
-    let next = field-next _ _ (read .before .before .pre) _ _ _ (sym (read .field .ensures) ∙ c .before .before .before .before .before .start .given .1) in
-    op-there (read .before .before .pre) (read .field .ensures) (c .before .before .before .before .before .start .given .1) (c .before .before .before .op-word .ensures) (c .before .op .given .1) (next .onward)
+    let reading = c .before .before .before .before .before .before .before in
+    let entry = reading .before .before in
+    let next = field-next _ _ (entry .pre) _ _ _ (sym (reading .field .ensures) ∙ c .before .before .before .before .before .start .given .1) in
+    op-there (entry .pre) (reading .field .ensures) (c .before .before .before .before .before .start .given .1) (c .before .before .before .op-word .ensures) (c .before .op .given .1) (next .onward)
 
 returns-2 : tie.Need-returns-2
 returns-2 c =
-    let read = c .before .before .before .before .before .before in
-    op-lacks (read .before .before .pre) (read .field .ensures) (c .before .before .before .before .start .given .1) (c .before .before .op-word .ensures) (c .enum-told .given .1)
+    let entry = c .before .before .before .before .before .before .before .before in
+    op-lacks (entry .pre) (c .before .before .before .before .before .before .field .ensures) (c .before .before .before .before .start .given .1) (c .before .before .op-word .ensures) (c .enum-told .given .1)
 
 returns-3 : tie.Need-returns-3
 returns-3 c = field-lacks (c .before .before .before .before .before .pre) (c .before .before .before .field .ensures) (c .before .r .given .1)

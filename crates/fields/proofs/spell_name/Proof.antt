@@ -9,7 +9,9 @@ returns : tie.Need-returns
 returns c = spelled-past _ (c .before .before .before .pre .0) (c .if1 .taken)
 
 spell-requires : tie.Need-spell-requires
-spell-requires c κs = (begun-table (c .before .before .before .before .pre .0) (c .before .if1 .left), c .before .before .before .before .pre .1, c .before .before .before .before .pre .2)
+spell-requires c κs =
+    let entry = c .before .before .before .before in
+    (begun-table (entry .pre .0) (c .before .if1 .left), entry .pre .1, entry .pre .2)
 
 enum-known-n : tie.Need-enum-known-n
 enum-known-n c = c .match .keys1
@@ -28,10 +30,11 @@ same-length c = c .before .before .before .before .names .given
 
 returns-2 : tie.Need-returns-2
 returns-2 c =
-    let call = c .before .before .before .before .before in
-    let pre = call .before .before .before .before .before .pre in
-    let t = begun-table (pre .0) (call .before .before .if1 .left) in
-    let spelled = spell-law t _ _ (pre .1) (pre .2) _ _ (call .spell .ensures .0) (call .spell .ensures .1) in
+    let spelling = c .before .before .before .before .before in
+    let entry = spelling .before .before .before .before .before in
+    let pre = entry .pre in
+    let t = begun-table (pre .0) (spelling .before .before .if1 .left) in
+    let spelled = spell-law t _ _ (pre .1) (pre .2) _ _ (spelling .spell .ensures .0) (spelling .spell .ensures .1) in
     as-known t (pre .1) (spelled-known spelled (c .before .n .given .1))
 
 same-length-2 : tie.Need-same-length-2
@@ -39,10 +42,11 @@ same-length-2 c = c .before .before .before .before .names .given
 
 returns-3 : tie.Need-returns-3
 returns-3 c =
-    let call = c .before .before .before .before .before in
-    let pre = call .before .before .before .before .before .pre in
-    let t = begun-table (pre .0) (call .before .before .if1 .left) in
-    let spelled = spell-law t _ _ (pre .1) (pre .2) _ _ (call .spell .ensures .0) (call .spell .ensures .1) in
+    let spelling = c .before .before .before .before .before in
+    let entry = spelling .before .before .before .before .before in
+    let pre = entry .pre in
+    let t = begun-table (pre .0) (spelling .before .before .if1 .left) in
+    let spelled = spell-law t _ _ (pre .1) (pre .2) _ _ (spelling .spell .ensures .0) (spelling .spell .ensures .1) in
     as-new t (pre .1) (spelled-new spelled (c .before .n2 .given .1))
 
 same-length-3 : tie.Need-same-length-3
@@ -50,10 +54,11 @@ same-length-3 c = c .before .before .before .names .given
 
 returns-4 : tie.Need-returns-4
 returns-4 c =
-    let call = c .before .before .before .before in
-    let pre = call .before .before .before .before .before .pre in
-    let t = begun-table (pre .0) (call .before .before .if1 .left) in
-    let spelled = spell-law t _ _ (pre .1) (pre .2) _ _ (call .spell .ensures .0) (call .spell .ensures .1) in
+    let spelling = c .before .before .before .before in
+    let entry = spelling .before .before .before .before .before in
+    let pre = entry .pre in
+    let t = begun-table (pre .0) (spelling .before .before .if1 .left) in
+    let spelled = spell-law t _ _ (pre .1) (pre .2) _ _ (spelling .spell .ensures .0) (spelling .spell .ensures .1) in
     as-full t (pre .1) (spelled-full spelled (c .enum-told .given .1))
 
 pub spell-name-spec : {M : Type 1} → statement M

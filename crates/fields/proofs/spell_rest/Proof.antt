@@ -24,27 +24,26 @@ enum-known-more c = c .match .keys1
 
 loop-less : tie.Need-loop-less Inv-loop μ-loop
 loop-less c =
-    let call = c .before .before .before .before .before in
-    let on = reads-name (call .read-name .ensures) (c .before .more .given .1) .onward in
-    omega (arith, on .further, on .stays, call .before .before .if1 .taken)
+    let on = reads-name (c .before .before .before .before .before .read-name .ensures) (c .before .more .given .1) .onward in
+    omega (arith, on .further, on .stays, c .before .before .before .before .before .before .before .if1 .taken)
 
 loop-again : tie.Need-loop-again Inv-loop μ-loop
 loop-again c =
-    let call = c .before .before .before .before .before in
-    on-next (call .before .before .before .before .loop .inv) (call .before .before .if1 .taken) (call .read-name .ensures) (c .before .more .given .1)
+    let naming = c .before .before .before .before .before in
+    on-next (naming .before .before .before .before .loop .inv) (naming .before .before .if1 .taken) (naming .read-name .ensures) (c .before .more .given .1)
 
 enum-known-r : tie.Need-enum-known-r Inv-loop μ-loop
 enum-known-r c = c .match .keys2
 
 same-length : tie.Need-same-length Inv-loop μ-loop
 same-length c =
-    let call = c .before .before .before .before .before in
-    c .before .before .before .before .names .given ∙ call .before .before .before .before .loop .inv .longer .kept .same-length
+    let naming = c .before .before .before .before .before in
+    c .before .before .before .before .names .given ∙ naming .before .before .before .before .loop .inv .longer .kept .same-length
 
 returns : tie.Need-returns Inv-loop μ-loop
 returns c =
-    let call = c .before .before .before .before .before in
-    on-not (call .before .before .before .before .loop .inv) (call .before .before .if1 .taken) (call .read-name .ensures) (c .before .r .given .1)
+    let naming = c .before .before .before .before .before in
+    on-not (naming .before .before .before .before .loop .inv) (naming .before .before .if1 .taken) (naming .read-name .ensures) (c .before .r .given .1)
 
 same-length-2 : tie.Need-same-length-2 Inv-loop μ-loop
 same-length-2 c = c .before .before .loop .inv .longer .kept .same-length
