@@ -20,8 +20,8 @@ use Rattle.text.proofs.Laws.{Onward, term-law, term-next, number-law, left-none
 use Rattle.terms.proofs.Laws.{below}
 use Rattle.lines.specs.Additions.{pushed}
 use Rattle.lines.proofs.Laws.{pushed-in, pushed-full}
-use Rattle.gather.specs.Sets.{Same-but}
-use Rattle.gather.proofs.Steps.{same-self, same-set}
+use Rattle.words.specs.Slices.{Same-but}
+use Rattle.words.proofs.Slices.{same-self, same-set}
 use Rattle.fields.specs.declared.Upto.{Upto}
 use Rattle.fields.specs.declared.Upto.the-variants as upto
 use Rattle.fields.specs.Pushing.{reference, most-number, Run, push-one, push-many, push-rest, push-groups, upto-result, Ahead, Pushes, Pushable}

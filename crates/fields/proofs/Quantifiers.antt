@@ -18,7 +18,7 @@ use Rattle.text.specs.Parts.{fields-left}
 use Rattle.terms.specs.Rows.{groups-of-words}
 use Rattle.terms.proofs.Groups.{group-words, groups-law, group-words-rise}
 use Rattle.lines.specs.Additions.{Patterns}
-use Rattle.gather.specs.Sets.{Same-but}
+use Rattle.words.specs.Slices.{Same-but}
 use Rattle.fields.specs.declared.Quantifier.{Quantifier}
 use Rattle.fields.specs.declared.Quantifier.the-variants as quantified
 use Rattle.fields.specs.Pushing.{reference, most-number, Run, push-one, push-groups}

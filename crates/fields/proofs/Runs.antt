@@ -20,8 +20,8 @@ use Rattle.terms.proofs.Groups.{group-words}
 use Rattle.lines.specs.Additions.{pushed}
 use Rattle.lines.proofs.Adding.{push-agrees, push-length}
 use Rattle.lines.proofs.Lines.{push-last}
-use Rattle.gather.specs.Sets.{Same-but}
-use Rattle.gather.proofs.Steps.{same-self, same-then}
+use Rattle.words.specs.Slices.{Same-but}
+use Rattle.words.proofs.Slices.{same-self, same-then}
 use Rattle.fields.specs.Pushing.{reference, most-number, Run, push-one, push-many, push-rest, push-groups, push-all}
 use Rattle.fields.proofs.Pushing.{pushed-kept}
 

@@ -23,8 +23,8 @@ use Rattle.names.proofs.Laws.{names-length}
 use Rattle.names.proofs.Entering.{entered-length, entered-keeps, entered-old, entered-new}
 use Rattle.names.proofs.Spelling.{Was-known, Is-new, Is-full}
 use Rattle.terms.proofs.Laws.{below}
-use Rattle.gather.specs.Sets.{Same-but}
-use Rattle.gather.proofs.Steps.{same-self, same-then}
+use Rattle.words.specs.Slices.{Same-but}
+use Rattle.words.proofs.Slices.{same-self, same-then}
 use Rattle.fields.specs.declared.Word.{Word}
 use Rattle.fields.specs.declared.Word.the-variants as word
 use Rattle.fields.specs.declared.Upto.the-variants as upto

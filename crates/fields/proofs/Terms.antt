@@ -28,12 +28,12 @@ use Rattle.lines.specs.Additions.{with-row, rows-after, pushed, Pushed, Adds}
 use Rattle.lines.specs.declared.Added.{Added}
 use Rattle.lines.proofs.Laws.{added-in, added-full}
 use Rattle.lines.proofs.Lines.{pushed-none, pushed-one}
-use Rattle.gather.specs.Sets.{Same-but}
-use Rattle.gather.proofs.Steps.{same-self, same-then, same-set, same-wider}
+use Rattle.words.specs.Slices.{Same-but}
+use Rattle.words.proofs.Slices.{same-self, same-then, same-set, same-wider}
 use Rattle.rules.specs.Views.{Tables, terms-in}
 use Rattle.fields.specs.declared.TermKind.{TermKind}
-use Rattle.fields.specs.declared.Step.{Step}
-use Rattle.fields.specs.declared.Step.the-variants as step
+use Rattle.model.specs.declared.Step.{Step}
+use Rattle.model.specs.declared.Step.the-variants as step
 use Rattle.fields.specs.Wording.{term-kind}
 use Rattle.fields.specs.Pushing.{push-all, Pushable}
 use Rattle.fields.specs.Spelling.{name-columns, Naming, Longer}

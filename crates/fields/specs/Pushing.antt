@@ -8,7 +8,7 @@ use Rattle.model.specs.Reading.{Result, ok, refused, _>>=_, next, number-field,
 use Rattle.text.specs.declared.Cursor.{Cursor}
 use Rattle.text.specs.Parts.{Placed, fields-left}
 use Rattle.lines.specs.Additions.{pushed}
-use Rattle.gather.specs.Sets.{Same-but}
+use Rattle.words.specs.Slices.{Same-but}
 use Rattle.fields.specs.declared.Upto.{Upto}
 use Rattle.fields.specs.declared.Upto.the-variants as upto
 

@@ -12,7 +12,7 @@ use Rattle.text.specs.declared.Cursor.{Cursor}
 use Rattle.text.specs.Parts.{fields-left}
 use Rattle.text.proofs.Laws.{Onward}
 use Rattle.names.specs.Table.{Table, name-of, names-of}
-use Rattle.gather.specs.Sets.{Same-but}
+use Rattle.words.specs.Slices.{Same-but}
 use Rattle.fields.specs.declared.Spelt.{Spelt}
 use Rattle.fields.specs.declared.Word.{Word}
 use Rattle.fields.specs.declared.Word.the-variants as word

@@ -4,8 +4,8 @@ use mathlib.Core.Path.{_≡_, sym, _∙_}
 use Rattle.text.specs.Parts.{fields-left}
 use Rattle.text.proofs.Laws.{number-next}
 use Rattle.model.specs.Reading.{most-references}
-use Rattle.gather.specs.Sets.{Same-but}
-use Rattle.gather.proofs.Steps.{same-self, same-then}
+use Rattle.words.specs.Slices.{Same-but}
+use Rattle.words.proofs.Slices.{same-self, same-then}
 use Rattle.fields.specs.Pushing.{push-many, push-groups, Ahead, most-number}
 use Rattle.fields.proofs.Pushing.{number-read, number-not, run-at, run-not, pushes-not, pushes-at, ahead-none, ahead-then, ahead-field, pushable-then, pushable-field, groups-first, groups-on, groups-none}
 use borrow.Author.Needs.{needs}

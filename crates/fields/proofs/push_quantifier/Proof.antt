@@ -2,7 +2,7 @@
 use mathlib.Core.Path.{sym, _∙_}
 use Rattle.fields.specs.Pushing.{most-number}
 use Rattle.text.proofs.Laws.{number-next}
-use Rattle.gather.proofs.Steps.{same-then}
+use Rattle.words.proofs.Slices.{same-then}
 use Rattle.fields.proofs.Pushing.{run-at, run-not, pushable-then, pushable-field, number-read, number-not}
 use Rattle.fields.proofs.Lines.{end-more, end-none}
 use Rattle.fields.proofs.Quantifiers.{no-body, no-number, no-groups, groups-there, quantifies-not, quantifies-at}

@@ -1,7 +1,7 @@
 -- `fields::read_call` meets its contract.
 use mathlib.Core.Path.{ap₂, _∙_}
 use Rattle.model.specs.Terms.{Call}
-use Rattle.gather.proofs.Steps.{same-self}
+use Rattle.words.proofs.Slices.{same-self}
 use Rattle.fields.specs.Spelling.{table-there}
 use Rattle.fields.proofs.Pushing.{run-at, run-not}
 use Rattle.fields.proofs.Spelling.{reads-name, reads-not}

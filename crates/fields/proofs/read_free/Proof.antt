@@ -1,7 +1,7 @@
 -- `fields::read_free` meets its contract.
 use mathlib.Core.Path.{ap, _∙_}
 use Rattle.model.specs.Terms.{FreeV}
-use Rattle.gather.proofs.Steps.{same-self}
+use Rattle.words.proofs.Slices.{same-self}
 use Rattle.fields.specs.Spelling.{table-there}
 use Rattle.fields.proofs.Spelling.{reads-name, reads-not}
 use Rattle.fields.proofs.Terms.{line-not, line-over, line-few, line-pushed, line-added}

@@ -1,6 +1,6 @@
 -- `fields::read_leaf` meets its contract.
 use mathlib.Core.Path.{refl, _∙_}
-use Rattle.gather.proofs.Steps.{same-self}
+use Rattle.words.proofs.Slices.{same-self}
 use Rattle.fields.proofs.Terms.{under-start, line-not, line-added}
 use Rattle.fields.proofs.Lines.{end-more, leaf-said, leaf-read}
 use Rattle.fields.proofs.read_leaf.Statement.{statement}

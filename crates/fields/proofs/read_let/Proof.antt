@@ -1,7 +1,7 @@
 -- `fields::read_let` meets its contract.
 use mathlib.Core.Path.{refl, ap₂, _∙_}
 use Rattle.model.specs.Terms.{Let}
-use Rattle.gather.proofs.Steps.{same-self, same-then}
+use Rattle.words.proofs.Slices.{same-self, same-then}
 use Rattle.fields.proofs.Pushing.{run-at, run-not, pushable-then}
 use Rattle.fields.proofs.Runs.{term-ran, rest-ran, term-refused, rest-refused}
 use Rattle.fields.proofs.Terms.{pushable-start, line-not, line-over, line-pushed, line-added}

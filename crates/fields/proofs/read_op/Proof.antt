@@ -1,7 +1,7 @@
 -- `fields::read_op` meets its contract.
 use mathlib.Core.Path.{ap₂, _∙_}
 use Rattle.model.specs.Terms.{App}
-use Rattle.gather.proofs.Steps.{same-self}
+use Rattle.words.proofs.Slices.{same-self}
 use Rattle.fields.proofs.Pushing.{run-at, run-not}
 use Rattle.fields.proofs.Runs.{rest-ran, rest-refused}
 use Rattle.fields.proofs.Terms.{pushable-start, line-not, line-over, line-pushed, line-added}

@@ -1,5 +1,5 @@
 -- `fields::read_quantifier` meets its contract.
-use Rattle.gather.proofs.Steps.{same-self}
+use Rattle.words.proofs.Slices.{same-self}
 use Rattle.fields.proofs.Terms.{pushable-start, line-not, line-over, line-pushed, line-added}
 use Rattle.fields.proofs.Quantifiers.{quantifier-node, quantifier-read, quantifier-not, quantifier-line, quantifier-patterns, quantifier-row}
 use borrow.Author.Needs.{needs}
