@@ -93,7 +93,8 @@ one-referring line = go (begins term-words line)
     go false = refl
 
 -- a line that says something adds what it is counted as
-adds-line : (exclude : List Name) (n : ℕ) (s : State) (line : Line) (c : Content) → parse n (length (s .terms)) (fields (line .bytes)) ≡ ok c → Adds (line ∷ []) s (add-line exclude n s c)
+adds-line : (exclude : List Name) (n : ℕ) (s : State) (line : Line) (c : Content) → parse n (length (s .terms)) (fields (line .bytes)) ≡ ok c
+    → Adds (line ∷ []) s (add-line exclude n s c)
 unfolding add-line begins term-fields
 adds-line exclude n s line c e =
     let l = line-fields n (length (s .terms)) (fields (line .bytes)) e in
@@ -137,7 +138,8 @@ module _ {ls : List Line} {n : ℕ} (l : Reached-line ls n) where
   module _ (c : Content) (says : Says l c) where
     -- they hold with the line added
     laws-said : State-laws (state-with l c)
-    laws-said = laws-added exclude-names n (l .state) c (named-below n (length (l .state .terms)) (fields (l .line .bytes)) (says .parsed)) laws-reached
+    laws-said =
+        laws-added exclude-names n (l .state) c (named-below n (length (l .state .terms)) (fields (l .line .bytes)) (says .parsed)) laws-reached
 
     -- the lines up to it add up to the state with it
     adds-said : Adds (lines-to l) start (state-with l c)

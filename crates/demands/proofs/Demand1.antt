@@ -14,7 +14,7 @@ use Rattle.model.specs.Terms.{Term}
 use Rattle.model.specs.Summaries.{exclude-names, summarize-assumption}
 use Rattle.model.specs.Reading.{Content, ask, term, assume, fun, def, retain, root, Result, refused, State, start, Reading, read, refused-at, taken-by, summarize-decl, parse, limits, add-line, repeats, read-line, read-file}
 use Rattle.model.specs.Rounds.{facts, visits}
-use Rattle.model.specs.Outcome.{Outcome, refusal-at, list, filtered, of-reading, fitting, working-words, outcome}
+use Rattle.model.specs.Outcome.{Outcome, refusal-at, list, filtered, of-reading, fitting, working-words, judged, outcome}
 use Rattle.model.specs.declared.Refusal.{Refusal}
 use Rattle.model.specs.declared.Refusal.the-variants as refusal
 use Rattle.model.proofs.ListLaws.{not-and, T-dec, T-true, T-false, any-intro, any-elim, all-elim, collect-append}
@@ -31,7 +31,6 @@ use Rattle.demands.proofs.SaidLines.{reached, Said-in, Said-by, said-li
 
 -- the test of the working slices holds exactly where one is too short
 short-test : (works : List ℕ) → T (any (λ n. ltb n working-words) works) ↔ Short-slice works
-unfolding working-words
 short-test works = (
   λ t. let (n, i, u) = any-elim (λ n. ltb n 16384) works t in (n, i, ltb→lt n 16384 u),
   λ p. any-intro (λ n. ltb n 16384) (p .1) (lt→ltb (p .0) 16384 (p .2)),
@@ -50,12 +49,12 @@ module _ (file works : List ℕ) (room : ℕ) where
 
     -- a file that is too long is refused
     large-call : 65535 < length file → outcome file works room ≡ refusal-at refusal.Size 0
-    unfolding outcome
+    unfolding outcome judged
     large-call h = rw (long-test, T-true (ltb 65535 (length file)) (lt→ltb 65535 (length file) h))
 
   -- any other call is judged by reading
   judged-call : Lines-judged file works → outcome file works room ≡ fitting room (of-reading (read-file exclude-names file))
-  unfolding outcome
+  unfolding outcome judged
   judged-call j =
       let fits = j .fits in
       rw (long-test (j .long-slices), T-false (ltb 65535 (length file)) (not-T (ltb 65535 (length file)) (λ t. let h = ltb→lt 65535 (length file) t in omega arith)))

@@ -24,12 +24,14 @@ told (line ∷ ls) n s t e =
     said-first n s u line ls (line-read exclude-names n s line u r) ∷ map (said-later n s u line r) (told ls (n + 1) u t others)
 
 -- they stand on the lines from the n-th on
-told-places : (ls : List Line) (n : ℕ) (s t : State) (e : read-lines exclude-names n s ls ≡ read t) → map (λ (w : Said-from n s ls). w .place) (told ls n s t e) ≡ numbers-from n (length ls)
+told-places : (ls : List Line) (n : ℕ) (s t : State) (e : read-lines exclude-names n s ls ≡ read t)
+    → map (λ (w : Said-from n s ls). w .place) (told ls n s t e) ≡ numbers-from n (length ls)
 unfolding told numbers-from said-first said-later
 told-places [] n s t e = refl
 told-places (line ∷ ls) n s t e =
     let (u, r, others) = lines-read exclude-names n s line ls t e in
-    ap (n ∷_) (map-map (λ (w : Said-from n s (line ∷ ls)). w .place) (said-later n s u line r) (told ls (n + 1) u t others) ∙ told-places ls (n + 1) u t others)
+    ap (n ∷_) (map-map (λ (w : Said-from n s (line ∷ ls)). w .place) (said-later n s u line r) (told ls (n + 1) u t others)
+    ∙ told-places ls (n + 1) u t others)
 
 -- what a line that is read gives
 abbrev from-said : {X : Type 0} {n : ℕ} {s : State} {ls : List Line} → (List Term → ℕ → Content → List X) → Said-from n s ls → List X
@@ -38,7 +40,8 @@ from-said said w = said (w .at .state .terms) (w .place) (w .content)
 -- a part of the state to which each line adds what it says: after some lines it is what it was and what they say
 told-part : {X : Type 0} (part : State → List X) (said : List Term → ℕ → Content → List X)
     → ((n : ℕ) (s : State) (c : Content) → part (add-line exclude-names n s c) ≡ part s ++ said (s .terms) n c)
-    → (ls : List Line) (n : ℕ) (s t : State) (e : read-lines exclude-names n s ls ≡ read t) → part t ≡ part s ++ collect (from-said said) (told ls n s t e)
+    → (ls : List Line) (n : ℕ) (s t : State) (e : read-lines exclude-names n s ls ≡ read t)
+    → part t ≡ part s ++ collect (from-said said) (told ls n s t e)
 unfolding told collect said-first said-later
 told-part part said h [] n s t e = rw (none-read exclude-names n s t e) (sym (append-nil (part t)))
 told-part part said h (line ∷ ls) n s t e =
@@ -71,7 +74,8 @@ as-said w = record { place = w .place; line = reached (w .at); content = w .cont
 -- a part of the state to which each line adds what it says, and which is empty at first, is what all lines say
 said-part : {X : Type 0} (file : List ℕ) (part : State → List X) (said : List Term → ℕ → Content → List X) → part start ≡ []
     → ((n : ℕ) (s : State) (c : Content) → part (add-line exclude-names n s c) ≡ part s ++ said (s .terms) n c)
-    → (s : State) (e : read-lines exclude-names 1 start (lines file) ≡ read s) → part s ≡ collect (from-line said) (map as-said (told (lines file) 1 start s e))
+    → (s : State) (e : read-lines exclude-names 1 start (lines file) ≡ read s)
+    → part s ≡ collect (from-line said) (map as-said (told (lines file) 1 start s e))
 unfolding as-said reached
 said-part file part said none h s e =
     told-part part said h (lines file) 1 start s e ∙ rw none (sym (collect-map (from-line said) as-said (told (lines file) 1 start s e)))

@@ -18,7 +18,8 @@ use Rattle.model.specs.declared.AsumKind.{AsumKind}
 use Rattle.model.specs.declared.AsumKind.the-variants.{Drop, Ambient, Triggers}
 use Rattle.model.proofs.ListLaws.{collect-intro, collect-elim, collect-reverse-intro, collect-reverse-elim, collect-reverse-length, collect-reverse, count-append, concat-intro, concat-elim, map-reverse, reverse-intro, reverse-elim}
 use Rattle.model.proofs.SetLaws.{same-eq, same-refl, same-sym, mem-intro, mem-elim, mem-from-list, ascending-from-list, subset-length, sets-again, from-list-length}
-use Rattle.demands.specs.Accepted.{Distinct, Well-formed, Counts-disjuncts}
+use Rattle.demands.specs.Accepted.{Distinct}
+use Rattle.demands.specs.WellFormed.{Well-formed, Counts-disjuncts}
 use Rattle.demands.proofs.Distinct.{distinct-collect}
 use Rattle.demands.proofs.MapLaws.{Functional, try-find-intro, try-find-elim, try-find-same, try-find-append}
 use Rattle.demands.proofs.Filing.{on-kind, waiting, entries-of, keys, filed-names, filed-defs, filed-macros, filed-triggers, filed-ambients, filed-roots, filed-waiting, filed-keys}
@@ -189,7 +190,8 @@ module _ {X : Type 0} (n : Name) (x : X) where
       go false l e = e
 
   -- an element for each entry of the name
-  entries-length : (ts : List (List Name)) → length (collect (λ d. collect (λ t. cond (same t n) (x ∷ []) []) (reverse d)) ts) ≡ count (same n) (concat ts)
+  entries-length : (ts : List (List Name))
+      → length (collect (λ d. collect (λ t. cond (same t n) (x ∷ []) []) (reverse d)) ts) ≡ count (same n) (concat ts)
   unfolding collect concat count
   entries-length [] = refl
   entries-length (d ∷ ts) =
@@ -197,7 +199,8 @@ module _ {X : Type 0} (n : Name) (x : X) where
       (omega (arith, collect-reverse-length (λ t. cond (same t n) (x ∷ []) []) d, names-length d, entries-length ts))
 
   -- the same in the order of filing, of a fact of any kind
-  kind-length : (k : AsumKind) (ts : List (List Name)) → Counts-disjuncts k ts → length (on-kind nothing (entries-of (λ t. cond (same t n) (x ∷ []) []) ts) k) ≡ count (same n) (concat ts)
+  kind-length : (k : AsumKind) (ts : List (List Name)) → Counts-disjuncts k ts
+      → length (on-kind nothing (entries-of (λ t. cond (same t n) (x ∷ []) []) ts) k) ≡ count (same n) (concat ts)
   unfolding concat count
   kind-length Drop ts e = rw e
   kind-length (Ambient r) ts e = rw e
@@ -210,7 +213,11 @@ unfolding waiting-of collect filed listed facts count
 waiting-length n [] h = refl
 waiting-length n (Sum-assume f ∷ decls) h =
     rw (length-append, count-append (same n) (concat (f .triggers)))
-    (omega (arith, kind-length n (passumption f) (f .kind) (f .triggers) (h f (List·Memᴰ·head refl)), waiting-length n decls (λ g i. h g (List·Memᴰ·tail i))))
+    (omega (
+      arith,
+      kind-length n (passumption f) (f .kind) (f .triggers) (h f (List·Memᴰ·head refl)),
+      waiting-length n decls (λ g i. h g (List·Memᴰ·tail i)),
+    ))
 waiting-length n (Sum-definefun d ∷ decls) h = waiting-length n decls h
 waiting-length n (Sum-declfun d ∷ decls) h = waiting-length n decls h
 waiting-length n (Sum-retain ∷ decls) h = waiting-length n decls h

@@ -32,3 +32,4 @@ pub mod ScanRounds
 pub mod ScanFile
 pub mod Pruned
 pub mod Demand2
+pub mod Room

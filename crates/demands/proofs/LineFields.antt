@@ -143,6 +143,30 @@ word-case P ((w, b) ∷ ws) h f {a} e = go (same f (bytes w)) refl (word-case P 
     go true s later e = rw (same-eq (true-T s), ← (Option·some-injective b a e)) (h .0)
     go false s later e = later e
 
+-- the word of a kind
+kind-word : LineKind → String
+kind-word kind.Ask = "ask"
+kind-word kind.Free = "free"
+kind-word kind.Leaf = "leaf"
+kind-word kind.Call = "call"
+kind-word kind.Op = "op"
+kind-word kind.All = "all"
+kind-word kind.Some = "some"
+kind-word kind.Let = "let"
+kind-word kind.Label = "label"
+kind-word kind.Assume = "assume"
+kind-word kind.Fun = "fun"
+kind-word kind.Def = "def"
+kind-word kind.Retain = "retain"
+kind-word kind.Root = "root"
+
+-- a field of a known kind is the word of the kind
+word-exact : (f : Field) {k : LineKind} → word kinds f ≡ some k → f ≡ bytes (kind-word k)
+unfolding kinds kind-word
+word-exact f e =
+    word-case (λ f k. f ≡ bytes (kind-word k)) kinds
+    (refl, (refl, (refl, (refl, (refl, (refl, (refl, (refl, (refl, (refl, (refl, (refl, (refl, (refl, tt)))))))))))))) f e
+
 -- what a line says, by whether it counts as a term line or as a record line, by its names and by the terms that it names
 pub record Formed (is-term is-record : Bool) (named terms : List Field) (c : Content) : Type 0 where
   pub names : named ≡ spelled c
@@ -164,13 +188,15 @@ term-formed {node} e h =
 
 -- a line that is no term line
 other-formed : {is-record : Bool} {named terms : List Field} {c : Content} → nodes c ≡ []
-    → ((exclude : List Name) (terms : List Term) (n : ℕ) → length (summarize-decl exclude terms n c) + length (root-of exclude terms n c) ≡ cond is-record 1 0)
+    → ((exclude : List Name) (terms : List Term) (n : ℕ)
+    → length (summarize-decl exclude terms n c) + length (root-of exclude terms n c) ≡ cond is-record 1 0)
     → named ≡ spelled c → Formed false is-record named terms c
 unfolding collect
 other-formed e h names = record { names = names; term-lines = rw e; term-references = rw e; record-lines = h }
 
 -- an `all` or a `some`, by its fields
-quantifier-made : (k : LineKind) → due k ≡ quantifier-due → (node : Node) (body g : ℕ) (gs : List (List ℕ)) → spelled-by node ≡ [] → references node ≡ body ∷ concat gs
+quantifier-made : (k : LineKind) → due k ≡ quantifier-due
+    → (node : Node) (body g : ℕ) (gs : List (List ℕ)) → spelled-by node ≡ [] → references node ≡ body ∷ concat gs
     → (f f₁ : Field) (fs after : List Field) → value f₁ ≡ g → terms-due 0 g fs ≡ length (concat gs) + terms-due 0 0 after → after ≡ []
     → Formed-as true false k (f ∷ f₁ ∷ fs) (term node)
 unfolding quantifier-due fields-due sort-due holds is-a-name is-a-term group-due
@@ -190,63 +216,46 @@ module _ (count : ℕ) where
       (quantifier-made k e (make body (p .0)) body g (p .0) (h body (p .0) .0) (h body (p .0) .1) f f₁ fs₂ (p .1) v w))))
 
   -- a line of each kind
-  kind-formed : All-words (λ f k. (fs : List Field) → Gives (Formed-as (is-word term-words f) (is-word record-words f) k fs) (content k count fs)) kinds
-  unfolding kinds is-word term-words record-words any same order by-byte is-same bytes
+  kind-formed : (k : LineKind) (fs : List Field)
+      → Gives (Formed-as (is-word term-words (bytes (kind-word k))) (is-word record-words (bytes (kind-word k))) k fs) (content k count fs)
+  unfolding kind-word is-word term-words record-words any same order by-byte is-same bytes
       content due in-order then-terms fields-due sort-due holds is-a-name is-a-term
       spelled spelled-by references nodes collect summarize-decl root-of
-  kind-formed = (
-    gives-field _ (λ f. any-value (number-field 255 f)) _ (λ f q u. gives-field _ (λ g. any-value (number-field 7 g)) _ (λ g o v.
-        gives-ended _ (ask q o) (other-formed refl (λ exclude terms n. refl) refl))),
-    (
-      gives-field _ gives-name _ (λ f name e. gives-ended _ (term (FreeV name)) (term-formed (rw e) refl)),
-      (
-        gives-ended _ (term Leaf) (term-formed refl refl),
-        (
-          gives-field _ gives-name _ (λ f name e fs. gives-bind (gives-as-many (term-field count) fs) (λ ts h.
-              gives-value (term-formed (rw (e, all-due is-a-name a-term fs)) (rw (all-due is-a-term a-term fs) h)))),
-          (
-            gives-field _ (λ f. any-value (need refusal.Form (word op-words f))) _ (λ f w u fs. gives-bind (gives-as-many (term-field count) fs) (λ ts h.
-                gives-value (term-formed (all-due is-a-name a-term fs) (rw (all-due is-a-term a-term fs) h)))),
-            (
-              quantifier-formed kind.All refl Forall (λ body gs. (refl, refl)),
-              (
-                quantifier-formed kind.Some refl Exists (λ body gs. (refl, refl)),
-                (
-                  gives-field _ (λ f. any-value (term-field count f)) _ (λ f body u fs. gives-bind (gives-as-many (term-field count) fs) (λ ts h.
-                      gives-value (term-formed (all-due is-a-name a-term fs) (rw (all-due is-a-term a-term fs) (ap suc h))))),
-                  (
-                    gives-field _ (λ f. any-value (term-field count f)) _ (λ f t u. gives-ended _ (term (Labeled t)) (term-formed refl refl)),
-                    (
-                      gives-field _ gives-name _ (λ f name e. gives-field _ (λ g. any-value (number-field 1 g)) _ (λ g flag u. gives-field _ (λ h. any-value (term-field count h)) _ (λ h t v.
-                          gives-ended _ (assume name (eqb flag 1) t) (other-formed refl (λ exclude terms n. refl) (rw e))))),
-                      (
-                        gives-field _ gives-name _ (λ f name e. gives-ended _ (fun name) (other-formed refl (λ exclude terms n. refl) (rw e))),
-                        (
-                          gives-field _ gives-name _ (λ f name e. gives-field _ (λ g. any-value (term-field count g)) _ (λ g t u.
-                              gives-ended _ (def name t) (other-formed refl (λ exclude terms n. refl) (rw e)))),
-                          (
-                            λ fs. gives-bind (gives-names fs) (λ names e. gives-value (other-formed refl (λ exclude terms n. refl) (all-due is-a-name a-name fs ∙ e))),
-                            (
-                              gives-field _ (λ f. any-value (number-field 255 f)) _ (λ f q u. gives-field _ gives-name _ (λ g name e. gives-field _ (λ h. any-value (term-field count h)) _ (λ h t v.
-                                  gives-ended _ (root q name t) (other-formed refl (λ exclude terms n. refl) (rw e))))),
-                              tt,
-                            ),
-                          ),
-                        ),
-                      ),
-                    ),
-                  ),
-                ),
-              ),
-            ),
-          ),
-        ),
-      ),
-    ),
-  )
+  kind-formed kind.Ask =
+      gives-field _ (λ f. any-value (number-field 255 f)) _ (λ f q u. gives-field _ (λ g. any-value (number-field 7 g)) _ (λ g o v.
+      gives-ended _ (ask q o) (other-formed refl (λ exclude terms n. refl) refl)))
+  kind-formed kind.Free = gives-field _ gives-name _ (λ f name e. gives-ended _ (term (FreeV name)) (term-formed (rw e) refl))
+  kind-formed kind.Leaf = gives-ended _ (term Leaf) (term-formed refl refl)
+  kind-formed kind.Call =
+      gives-field _ gives-name _ (λ f name e fs. gives-bind (gives-as-many (term-field count) fs) (λ ts h.
+      gives-value (term-formed (rw (e, all-due is-a-name a-term fs)) (rw (all-due is-a-term a-term fs) h))))
+  kind-formed kind.Op =
+      gives-field _ (λ f. any-value (need refusal.Form (word op-words f))) _ (λ f w u fs. gives-bind (gives-as-many (term-field count) fs) (λ ts h.
+      gives-value (term-formed (all-due is-a-name a-term fs) (rw (all-due is-a-term a-term fs) h))))
+  kind-formed kind.All = quantifier-formed kind.All refl Forall (λ body gs. (refl, refl))
+  kind-formed kind.Some = quantifier-formed kind.Some refl Exists (λ body gs. (refl, refl))
+  kind-formed kind.Let =
+      gives-field _ (λ f. any-value (term-field count f)) _ (λ f body u fs. gives-bind (gives-as-many (term-field count) fs) (λ ts h.
+      gives-value (term-formed (all-due is-a-name a-term fs) (rw (all-due is-a-term a-term fs) (ap suc h)))))
+  kind-formed kind.Label = gives-field _ (λ f. any-value (term-field count f)) _ (λ f t u. gives-ended _ (term (Labeled t)) (term-formed refl refl))
+  kind-formed kind.Assume =
+      gives-field _ gives-name _ (λ f name e. gives-field _ (λ g. any-value (number-field 1 g)) _ (λ g flag u.
+      gives-field _ (λ h. any-value (term-field count h)) _ (λ h t v.
+      gives-ended _ (assume name (eqb flag 1) t) (other-formed refl (λ exclude terms n. refl) (rw e)))))
+  kind-formed kind.Fun = gives-field _ gives-name _ (λ f name e. gives-ended _ (fun name) (other-formed refl (λ exclude terms n. refl) (rw e)))
+  kind-formed kind.Def =
+      gives-field _ gives-name _ (λ f name e. gives-field _ (λ g. any-value (term-field count g)) _ (λ g t u.
+      gives-ended _ (def name t) (other-formed refl (λ exclude terms n. refl) (rw e))))
+  kind-formed kind.Retain = λ fs.
+      gives-bind (gives-names fs) (λ names e. gives-value (other-formed refl (λ exclude terms n. refl) (all-due is-a-name a-name fs ∙ e)))
+  kind-formed kind.Root =
+      gives-field _ (λ f. any-value (number-field 255 f)) _ (λ f q u. gives-field _ gives-name _ (λ g name e.
+      gives-field _ (λ h. any-value (term-field count h)) _ (λ h t v.
+      gives-ended _ (root q name t) (other-formed refl (λ exclude terms n. refl) (rw e)))))
 
 -- the fields of a line of a known kind
-fields-known : (of-sort : Sort → Bool) (f : Field) (fs : List Field) {k : LineKind} → word kinds f ≡ some k → fields-of of-sort (f ∷ fs) ≡ fields-due of-sort (due k) fs
+fields-known : (of-sort : Sort → Bool) (f : Field) (fs : List Field) {k : LineKind} → word kinds f ≡ some k
+    → fields-of of-sort (f ∷ fs) ≡ fields-due of-sort (due k) fs
 unfolding fields-of
 fields-known of-sort f fs e = rw (e, fields-of)
 
@@ -255,7 +264,6 @@ pub line-fields : (n count : ℕ) (fs : List Field) {c : Content} → parse n co
     → Formed (is-word term-words (getD fs 0 [])) (is-word record-words (getD fs 0 [])) (fields-of is-a-name fs) (fields-of is-a-term fs) c
 line-fields n count fs e =
     let p = parse-ok n count fs e in
-    let made = word-case (λ f k. (fs : List Field) → Gives (Formed-as (is-word term-words f) (is-word record-words f) k fs) (content k count fs))
-    kinds (kind-formed count) (p .kind-word) (p .known) (p .others) in
-    rw (p .split, fields-known is-a-name (p .kind-word) (p .others) (p .known), fields-known is-a-term (p .kind-word) (p .others) (p .known))
-    (given made (p .says))
+    let is = word-exact (p .kind-word) (p .known) in
+    rw (p .split, fields-known is-a-name (p .kind-word) (p .others) (p .known), fields-known is-a-term (p .kind-word) (p .others) (p .known), is)
+    (given (kind-formed count (p .kind) (p .others)) (p .says))

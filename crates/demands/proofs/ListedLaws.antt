@@ -1,21 +1,23 @@
--- The reached facts are the facts of the kept list that are not ambient.
-use mathlib.Core.Path.{_≡_, refl, sym}
+-- The kept list: its facts that are not ambient are the reached facts, and nothing stands twice in a part of it.
+use Prim.Native.Nat.{ℕ}
+use mathlib.Core.Path.{_≡_, refl, sym, _∙_}
 use mathlib.Core.Logic.{⊎-elim}
 use mathlib.Core.Bool.{Bool, true, false, not, cond}
-use mathlib.Core.List.{List, [], _∷_, reverse, map-append, append-nil, List·Memᴰ, List·Memᴰ·head, List·Memᴰ·tail, List·Memᴰ·not-nil, List·Memᴰ·append-cases, Memᴰ·cast}
+use mathlib.Core.List.{List, [], _∷_, map, reverse, map-append, append-nil, List·Memᴰ, List·Memᴰ·head, List·Memᴰ·tail, List·Memᴰ·not-nil, List·Memᴰ·append-cases, Memᴰ·cast}
 use lib.Dec.{T, T-not, not-T}
 use Rattle.model.specs.Lists.{keep, collect}
-use Rattle.model.specs.Names.{Name, same, mem}
+use Rattle.model.specs.Names.{Name, same, mem, remove}
 use Rattle.model.specs.Summaries.{Fact}
-use Rattle.model.specs.Reading.{Ask, Summary, Root, no-ambients}
+use Rattle.model.specs.Reading.{Ask, Decl, Summary, Root, no-ambients}
 use Rattle.model.specs.Rounds.{facts, is-ambient, run}
-use Rattle.model.specs.Kept.{reached-facts, ambients, kept-facts}
+use Rattle.model.specs.Kept.{reached-facts, ambients, kept-facts, first-met, kept-decls}
 use Rattle.model.specs.declared.AsumKind.{AsumKind}
 use Rattle.model.specs.declared.AsumKind.the-variants.{Drop, Ambient, Triggers}
-use Rattle.model.proofs.ListLaws.{cond-case, keep-intro, keep-elim, keep-all, keep-none, keep-append, reverse-elim, collect-intro, collect-elim, map-intro}
+use Rattle.model.proofs.ListLaws.{cond-case, keep-intro, keep-elim, keep-all, keep-none, keep-append, reverse-elim, collect-intro, collect-elim, map-intro, map-elim}
 use Rattle.model.proofs.SetLaws.{Ascending, mem-intro, mem-elim, same-eq, same-refl}
-use Rattle.demands.specs.Accepted.{Distinct, none, Counts-disjuncts, Well-formed}
-use Rattle.demands.proofs.Distinct.{distinct-append, distinct-reverse, distinct-of-map, distinct-map-keep, ascending-distinct}
+use Rattle.demands.specs.Accepted.{Distinct, none, one-more}
+use Rattle.demands.specs.WellFormed.{Counts-disjuncts, Well-formed}
+use Rattle.demands.proofs.Distinct.{distinct-append, distinct-keep, distinct-reverse, distinct-map, distinct-of-map, distinct-to-map, distinct-map-keep, ascending-distinct}
 use Rattle.demands.proofs.Facts.{fact-names, fact-by-name, names-distinct, one-of-name}
 use Rattle.demands.proofs.FiringLaws.{fires-elim}
 use Rattle.demands.proofs.RoundsLaws.{reached-by, run-end}
@@ -106,3 +108,50 @@ module _ (a : Ask) (decls : List Summary) (roots : List Root) (wf : Well-formed 
       (distinct-of-map (λ (f : Fact). f .name) _ (ascending-distinct _ reached-ascending))
       (ambients-once a (facts decls) (names-distinct decls (wf .distinct)))
       (λ f i j. let (k, t) = reached-facts-elim (facts decls) (run a decls roots .reached) i in T-not (is-ambient (f .kind)) (reached-no-ambient f k t) (ambients-elim a (facts decls) j .1))
+
+-- no name is met first twice
+first-met-once : (ns : List Name) → Distinct (first-met ns)
+unfolding first-met remove
+first-met-once [] = none
+first-met-once (n ∷ ns) =
+    one-more (λ m. T-not (same n n) (keep-elim (λ m. not (same n m)) (first-met ns) m .1) (same-refl n))
+    (distinct-keep (λ m. not (same n m)) (first-met-once ns))
+
+-- no element is picked twice by names that are all different
+picked-once : {A : Type 0} (name : A → Name) (l : List A) → Distinct l → {ns : List Name} → Distinct ns
+    → Distinct (collect (λ n. keep (λ x. same (name x) n) l) ns)
+unfolding collect
+picked-once name l d none = none
+picked-once {A} name l d (one-more {a = n} {l = ns} new e) =
+    distinct-append (distinct-keep (λ x. same (name x) n) d) (picked-once name l d e)
+    (λ x i j. let (m, k, h) = collect-elim (λ n. keep (λ x. same (name x) n) l) ns j in
+    new (Memᴰ·cast (sym (named n i) ∙ named m h) k))
+  where
+    named : (n : Name) {x : A} → List·Memᴰ x (keep (λ x. same (name x) n) l) → name x ≡ n
+    named n i = same-eq (keep-elim (λ x. same (name x) n) l i .1)
+
+module _ (names : List Name) (ds : List Decl) where
+  -- a kept definition, or declaration, is one of them
+  pub kept-decls-elim : {d : Decl} → List·Memᴰ d (kept-decls names ds) → List·Memᴰ d ds
+  unfolding kept-decls
+  kept-decls-elim m =
+      let (n, i, j) = collect-elim (λ n. keep (λ d. same (d .name) n) ds) (reverse (first-met names)) m in
+      keep-elim (λ d. same (d .name) n) ds j .0
+
+  -- its line is that of one of them
+  pub kept-decl-line : {n : ℕ} → List·Memᴰ n (map (λ d. d .line) (kept-decls names ds)) → (d : Decl) × List·Memᴰ d ds × (d .line ≡ n)
+  kept-decl-line m = let (d, i, e) = map-elim (λ (d : Decl). d .line) (kept-decls names ds) m in (d, kept-decls-elim i, e)
+
+  -- their lines stand once where all do
+  pub kept-decls-once : Distinct (map (λ d. d .line) ds) → Distinct (map (λ d. d .line) (kept-decls names ds))
+  unfolding kept-decls
+  kept-decls-once d =
+      distinct-to-map (λ (d : Decl). d .line)
+      (picked-once (λ (d : Decl). d .name) ds (distinct-of-map (λ (d : Decl). d .line) ds d) (distinct-reverse (first-met-once names)))
+      (λ x y i j. distinct-map (λ (d : Decl). d .line) ds d (kept-decls-elim i) (kept-decls-elim j))
+
+-- the line of a kept fact is that of a fact of the file
+pub kept-fact-line : (a : Ask) (fs : List Fact) (reached : List Name) {n : ℕ} → List·Memᴰ n (map (λ f. f .line) (kept-facts a fs reached))
+    → (f : Fact) × List·Memᴰ f fs × (f .line ≡ n)
+kept-fact-line a fs reached m =
+    let (f, i, e) = map-elim (λ (f : Fact). f .line) (kept-facts a fs reached) m in (f, kept-facts-elim a fs reached i, e)

@@ -92,8 +92,8 @@ placed-line : (exclude : List Name) (n : ℕ) (s : State) (c : Content) → Plac
 unfolding add-line
 placed-line exclude n s c i =
     record {
-      decls = rw collect-append (lines-step n (collect line-of (s .decls)) (collect line-of (summarize-decl exclude (s .terms) n c)) (i .decls) (line-n exclude (s .terms) n c));
-      roots = rw map-append (lines-step n (map (λ r. r .line) (s .roots)) (map (λ r. r .line) (root-of exclude (s .terms) n c)) (i .roots) (root-n exclude (s .terms) n c));
+      decls = rw collect-append (lines-step n (collect line-of (s .decls)) _ (i .decls) (line-n exclude (s .terms) n c));
+      roots = rw map-append (lines-step n (map (λ r. r .line) (s .roots)) _ (i .roots) (root-n exclude (s .terms) n c));
     }
 
 module _ (exclude : List Name) (file : List ℕ) (s : State) (e : read-file exclude file ≡ read s) where

@@ -33,7 +33,8 @@ said-first n s u line ls l =
     record { place = n; at = reaches-first exclude-names n s line ls; content = l .content; ended = l .ended; parsed = l .parsed }
 
 -- a line after the first, if that is read
-unfoldable pub said-later : (n : ℕ) (s u : State) (line : Line) {ls : List Line} → read-line exclude-names n s line ≡ ok u → Said-from (n + 1) u ls → Said-from n s (line ∷ ls)
+unfoldable pub said-later : (n : ℕ) (s u : State) (line : Line) {ls : List Line} → read-line exclude-names n s line ≡ ok u
+    → Said-from (n + 1) u ls → Said-from n s (line ∷ ls)
 unfolding reaches-later
 said-later n s u line r w =
     record { place = w .place; at = reaches-later exclude-names n s u line r (w .at); content = w .content; ended = w .ended; parsed = w .parsed }
@@ -55,7 +56,8 @@ module _ {holds : State → Type 0} {law : ℕ → State → Content → Type 0}
   said-lines (line ∷ ls) n s t e h =
       let (u, r, others) = lines-read exclude-names n s line ls t e in
       let l = line-read exclude-names n s line u r in
-      ⊎-elim (λ j. ⊎-elim inl (λ k. inr (here u l k)) (by n s (l .content) .0 (rw (l .after) at j))) (λ w. inr (there u r w)) (said-lines ls (n + 1) u t others h)
+      ⊎-elim (λ j. ⊎-elim inl (λ k. inr (here u l k)) (by n s (l .content) .0 (rw (l .after) at j))) (λ w. inr (there u r w))
+      (said-lines ls (n + 1) u t others h)
     where
       here : (u : State) (l : Line-read exclude-names n s line u) → law n s (l .content) → Said-in law n s (line ∷ ls)
       here u l k = record { said = said-first n s u line ls l; lawful = k }

@@ -9,7 +9,7 @@ use lib.Seq.{take-at, drop-at}
 use Rattle.model.specs.Outcome.{Outcome, refusal-at, list, refusal-number, working-words, result-after, is-working, work-after}
 use Rattle.model.specs.declared.Refusal.{Refusal}
 use Rattle.model.specs.declared.Refusal.the-variants as refusal
-use Rattle.demands.specs.Demand1.{Result-slice, Cleared, Slices-exact}
+use Rattle.demands.specs.Slices.{Result-slice, Cleared, Slices-exact}
 
 -- general law: a list of n elements in place of the first n of another leaves its length
 front-length : {A : Type 0} (l m : List A) (n : ℕ) → length l ≡ n → n ≤ length m → length (l ++ drop n m) ≡ length m
@@ -48,7 +48,7 @@ other-working refusal.Size h = refl
 
 -- any other call sets the first words of a working slice to zero
 work-cleared : (o : Outcome) (work : List ℕ) → 16384 ≤ length work → ((place : ℕ) → o ≡ refusal-at refusal.Working place → ⊥) → Cleared work (work-after o work)
-unfolding work-after working-words
+unfolding work-after
 work-cleared (refusal-at r place) work h other = rw (other-working r (λ e. other place (rw e))) (zeros-clear work h)
 work-cleared (list given seen turns) work h other = zeros-clear work h
 

@@ -13,7 +13,8 @@ use Rattle.model.specs.Reading.{Content, ask, term, assume, fun, def, retain, r
 use Rattle.model.specs.Rounds.{facts, definitions}
 use Rattle.model.proofs.ListLaws.{any-intro, collect-append, fold-left-case}
 use Rattle.model.proofs.SetLaws.{Ascending, empty, one, ascending-add, ascending-union, ascending-diff, mem-intro}
-use Rattle.demands.specs.Accepted.{Distinct, none as distinct-none, one-more, Good-fact, Well-formed, Accepted-well-formed}
+use Rattle.demands.specs.Accepted.{Distinct, none as distinct-none, one-more}
+use Rattle.demands.specs.WellFormed.{Good-fact, Well-formed, Accepted-well-formed}
 use Rattle.demands.proofs.Distinct.{distinct-append}
 use Rattle.demands.proofs.Records.{facts-append, definitions-append}
 use Rattle.demands.proofs.TermNames.{Name-law, node-law, free-law, group-law}

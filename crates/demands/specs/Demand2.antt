@@ -1,15 +1,13 @@
 -- Demand 2, for every accepted file: the list of Pruning.fst, read as definitions over lists, is the kept list.
-use Prim.Native.Nat.{ℕ}
+use Prim.Native.Nat.{ℕ, suc}
 use mathlib.Core.Path.{_≡_}
 use mathlib.Core.Bool.{cond}
-use mathlib.Core.List.{List, [], _++_, map, List·Memᴰ}
+use mathlib.Core.List.{List, [], _++_, map}
 use lib.ListN.{length}
-use Prim.Native.Nat.{suc}
-use Rattle.model.specs.Summaries.{Fact}
-use Rattle.model.specs.Reading.{no-ambients, pretyping-axioms, prune-decls, Decl, State}
+use Rattle.model.specs.Reading.{no-ambients, pretyping-axioms, prune-decls, State}
 use Rattle.model.specs.Pruning.{Ctxt, Passumption, PruningState, init, add-summaries, passumption-of-root, prune, scan}
-use Rattle.model.specs.Rounds.{facts, definitions, declarations, goal-roots, run, visits}
-use Rattle.model.specs.Kept.{kept, kept-facts, kept-names, kept-decls}
+use Rattle.model.specs.Rounds.{facts, goal-roots, run, visits}
+use Rattle.model.specs.Kept.{kept}
 use Rattle.demands.specs.Accepted.{Accepted, Distinct}
 use Rattle.demands.specs.Fuel.{Scans}
 
@@ -43,39 +41,14 @@ pruned s =
     prune (no-ambients (s .goal)) (pretyping-axioms (s .goal)) (prune-decls (s .goal))
     (filed-state s) (goal-roots (s .goal) (s .roots))
 
--- document 01's list, and its three parts
+-- document 01's list
 abbrev pub kept-list : State → List ℕ
 kept-list s = kept (s .goal) (s .decls) (s .roots) (run (s .goal) (s .decls) (s .roots) .reached)
 
-abbrev pub fact-lines : State → List ℕ
-fact-lines s =
-    map (λ (f : Fact). f .line) (kept-facts (s .goal) (facts (s .decls)) (run (s .goal) (s .decls) (s .roots) .reached))
-
-abbrev pub decl-lines : State → List Decl → List ℕ
-decl-lines s ds =
-    let names = kept-names (s .goal) (facts (s .decls)) (s .roots) (run (s .goal) (s .decls) (s .roots) .reached) in
-    cond (prune-decls (s .goal)) (map (λ (d : Decl). d .line) (kept-decls names ds)) []
-
--- the same lines, each once
-pub record Same-lines (ours theirs : List ℕ) : Type 0 where
-  pub to : (n : ℕ) → List·Memᴰ n ours → List·Memᴰ n theirs
-  pub from : (n : ℕ) → List·Memᴰ n theirs → List·Memᴰ n ours
-  pub once-ours : Distinct ours
-  pub once-theirs : Distinct theirs
-
--- "the kept list and its order equal what Pruning.fst computes .. Only the order inside the definitions and inside the
--- declarations is open": facts and ambients as equal lists; then the same definitions, then the same declarations
-pub record Same-list (s : State) : Type 0 where
-  pub defs : List ℕ
-  pub decls : List ℕ
-  pub ours : kept-list s
-      ≡ fact-lines s ++ (decl-lines s (definitions (s .decls)) ++ decl-lines s (declarations (s .decls)))
-  pub theirs : pruned s ≡ fact-lines s ++ (defs ++ decls)
-  pub same-defs : Same-lines (decl-lines s (definitions (s .decls))) defs
-  pub same-decls : Same-lines (decl-lines s (declarations (s .decls))) decls
-
+-- "the kept list and its order equal what Pruning.fst computes", the order inside the definitions and inside the
+-- declarations too
 abbrev pub Kept-is-pruned : Type 0
-Kept-is-pruned = (file : List ℕ) (s : State) → Accepted file s → Same-list s
+Kept-is-pruned = (file : List ℕ) (s : State) → Accepted file s → kept-list s ≡ pruned s
 
 -- "each kept line stands once"
 abbrev pub Kept-once : Type 0

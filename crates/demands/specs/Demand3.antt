@@ -6,12 +6,11 @@ use mathlib.Core.List.{List, [], _++_, map, List·Memᴰ}
 use lib.ListN.{length}
 use lib.Dec.{T}
 use Rattle.model.specs.Lists.{keep, collect}
-use Rattle.model.specs.Names.{Name, mem, from-list}
+use Rattle.model.specs.Names.{Name, mem, from-list, Ascending}
 use Rattle.model.specs.Summaries.{Fact}
 use Rattle.model.specs.Reading.{Ask, Summary, Root, State}
 use Rattle.model.specs.Rounds.{Run, facts, macros, filed, fires, retainable, met-from, first-scanned, is-ambient, run, visits}
 use Rattle.model.specs.Kept.{reached-facts, kept-facts}
-use Rattle.model.proofs.SetLaws.{Ascending}
 use Rattle.demands.specs.Accepted.{Accepted}
 use Rattle.demands.specs.Fuel.{Ends}
 

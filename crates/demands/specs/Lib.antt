@@ -1,9 +1,11 @@
 pub mod Accepted
+pub mod WellFormed
 pub mod Fuel
 pub mod Demand2
 pub mod Demand3
 pub mod Queries
 pub mod LineForm
 pub mod Demand1
+pub mod Slices
 pub mod FileOrder
 pub mod Counts

@@ -152,6 +152,24 @@ prefix-first =
           ∷ []);
     }
 
+-- definitions and then declarations, each last met first: the roots by line, the names of each in byte order
+decls-last-met-first : Case
+decls-last-met-first =
+    record {
+      file =
+          ("ask,0,4" ∷ "free,d" ∷ "free,e" ∷ "free,f" ∷ "free,g" ∷ "fun,f" ∷ "fun,g"
+          ∷ "def,d,2" ∷ "def,e,3" ∷ "op,and,2,0" ∷ "op,and,3,1" ∷ "root,0,r,4" ∷ "root,0,s,5" ∷ []);
+      printed = ("kept,9,e" ∷ "kept,8,d" ∷ "kept,7,g" ∷ "kept,6,f" ∷ "sum,4,0,1" ∷ []);
+    }
+
+-- the kept facts are walked before the roots, and a name counts where it is first met
+decls-facts-first : Case
+decls-facts-first =
+    record {
+      file = ("ask,0,4" ∷ "free,f" ∷ "free,g" ∷ "fun,g" ∷ "fun,f" ∷ "assume,a,0,1" ∷ "op,and,0,1" ∷ "root,0,r,2" ∷ []);
+      printed = ("fact,6,ambient,0 free={g}" ∷ "kept,6,a" ∷ "kept,5,f" ∷ "kept,4,g" ∷ "sum,3,0,1" ∷ []);
+    }
+
 -- the edges
 abbrev edges : List Case
 edges =
@@ -187,6 +205,8 @@ edges =
     ∷ term-before-repeated
     ∷ root-repeats
     ∷ prefix-first
+    ∷ decls-last-met-first
+    ∷ decls-facts-first
     ∷ []
 
 -- each entry passes; a wrong one is named in the error
@@ -194,8 +214,9 @@ all-pass : All-pass edges
 unfolding passes rule-1 rule-3-payload rule-3-root rule-6 rule-8 rule-9 empty-name-unmet ambients-last-first
     ambient-root-scanned ambient-root-option-1 ambient-not-scanned not-retainable other-query equal-disjuncts
     form-kind form-ask form-count form-lacking form-left-over name-empty number-zero number-65536 options-8
-    query-256 highest term-65535 term-own term-lower repeated term-before-repeated root-repeats prefix-first
-all-pass = (refl, (refl, (refl, (refl, (refl, (refl, (refl, (refl, (refl, (refl, (refl, (refl, (refl, (refl, (refl, (refl, (refl, (refl, (refl, (refl, (refl, (refl, (refl, (refl, (refl, (refl, (refl, (refl, (refl, (refl, (refl, (refl, tt))))))))))))))))))))))))))))))))
+    query-256 highest term-65535 term-own term-lower repeated term-before-repeated root-repeats prefix-first decls-last-met-first
+    decls-facts-first
+all-pass = (refl, (refl, (refl, (refl, (refl, (refl, (refl, (refl, (refl, (refl, (refl, (refl, (refl, (refl, (refl, (refl, (refl, (refl, (refl, (refl, (refl, (refl, (refl, (refl, (refl, (refl, (refl, (refl, (refl, (refl, (refl, (refl, (refl, (refl, tt))))))))))))))))))))))))))))))))))
 
 -- what is printed of a call over these working slices and this room, without names
 answered : List ℕ → List ℕ → ℕ → List ℕ → Bool

@@ -91,6 +91,11 @@ module _ {A : Type 0} where
   branch P true x y h k = h tt
   branch P false x y h k = k tt
 
+  -- a member of a list that may be left out is a member of it
+  pub option-elim : (b : Bool) {x : A} {l : List A} → List·Memᴰ x (cond b l []) → List·Memᴰ x l
+  option-elim true m = m
+  option-elim false m = absurd (List·Memᴰ·not-nil m)
+
   -- a function of a branch is the branch of the function
   pub cond-ap : {B : Type 0} (f : A → B) (b : Bool) (x y : A) → f (cond b x y) ≡ cond b (f x) (f y)
   cond-ap f true x y = refl
@@ -211,7 +216,8 @@ module _ {A : Type 0} where
   count-or p q (x ∷ l) h = rw (count-or p q l h) (go (p x) (q x) (h x))
     where
       go : (a b : Bool) → (T a → T (not b))
-          → cond (a || b) (1 + (count p l + count q l)) (count p l + count q l) ≡ cond a (1 + count p l) (count p l) + cond b (1 + count q l) (count q l)
+          → cond (a || b) (1 + (count p l + count q l)) (count p l + count q l)
+          ≡ cond a (1 + count p l) (count p l) + cond b (1 + count q l) (count q l)
       go true true e = absurd (e tt)
       go true false e = omega arith
       go false true e = omega arith
@@ -338,6 +344,12 @@ module _ {A B : Type 0} where
   unfolding collect
   map-collect g f [] = refl
   map-collect g f (x ∷ l) = rw (map-append, map-collect g f l)
+
+  -- what is kept of what is collected
+  pub keep-collect : (test : B → Bool) (f : A → List B) (l : List A) → keep test (collect f l) ≡ collect (λ x. keep test (f x)) l
+  unfolding collect keep
+  keep-collect test f [] = refl
+  keep-collect test f (x ∷ l) = rw (keep-append, keep-collect test f l)
 
   -- a function of a list the other way round
   pub map-reverse : (f : A → B) (l : List A) → map f (reverse l) ≡ reverse (map f l)

@@ -4,16 +4,15 @@ use Prim.Native.String.{String}
 use mathlib.Core.Path.{_≡_}
 use mathlib.Core.Bool.{Bool, true, false, cond, _&&_}
 use mathlib.Core.List.{List, [], _∷_, _++_, map}
-use lib.ListN.{length, take, drop, replicate}
+use lib.ListN.{length, replicate}
 use lib.Dec.{eqb, ltb}
 use Rattle.model.specs.declared.AsumKind.{AsumKind}
 use Rattle.model.specs.declared.AsumKind.the-variants.{Drop, Ambient, Triggers}
 use Rattle.model.specs.Lists
 use Rattle.model.specs.Lists.{keep, concat, collect}
 use Rattle.model.specs.Names
-use Rattle.model.specs.Names.{Name, bytes, same, from-list}
+use Rattle.model.specs.Names.{Name, bytes, same}
 use Rattle.model.specs.Lines
-use Rattle.model.specs.Lines.{lines}
 use Rattle.model.specs.Terms
 use Rattle.model.specs.Summaries
 use Rattle.model.specs.Summaries.{Fact, exclude-names}
@@ -22,9 +21,8 @@ use Rattle.model.specs.Reading.{Summary, Decl, Reading, read, refused-at
 use Rattle.model.specs.Pruning
 use Rattle.model.specs.Pruning.{init, add-summaries, prune}
 use Rattle.model.specs.Rounds
-use Rattle.model.specs.Rounds.{facts, definitions, declarations, goal-roots, run}
+use Rattle.model.specs.Rounds.{facts, definitions, declarations, goal-roots}
 use Rattle.model.specs.Kept
-use Rattle.model.specs.Kept.{kept-facts}
 use Rattle.model.specs.Outcome
 use Rattle.model.specs.Outcome.{Outcome, refusal-at, list, refusal-number, of-reading, outcome}
 
@@ -114,23 +112,11 @@ unfoldable pub listed-lines : Outcome → List (List ℕ)
 listed-lines (refusal-at r place) = []
 listed-lines (list lines seen turns) = map show lines
 
--- how many facts are kept of a file that was read
-unfoldable pub facts-kept : Reading → ℕ
-facts-kept (refused-at r line) = 0
-facts-kept (read s) =
-    let reached = run (s .goal) (s .decls) (s .roots) .reached in
-    length (kept-facts (s .goal) (facts (s .decls)) reached)
-
--- whether the two accounts keep the same lines: the facts as equal lists, the rest as equal sets
+-- whether the two accounts keep the same lines in the same order
 unfoldable pub agrees : List ℕ → Bool
 agrees file =
     let reading = read-file exclude-names file in
-    let ours = listed-lines (of-reading reading) in
-    let theirs = pruned reading in
-    let n = facts-kept reading in
-    same-lines (take n ours) (take n theirs)
-    && same-lines (from-list (drop n ours)) (from-list (drop n theirs))
-    && eqb (length ours) (length theirs)
+    same-lines (listed-lines (of-reading reading)) (pruned reading)
 
 -- a case: the lines of a file, and the lines printed of it
 pub record Case : Type 0 where
@@ -140,7 +126,7 @@ pub record Case : Type 0 where
 -- whether the definitions print what the case says, and the two accounts agree
 unfoldable pub passes : Case → Bool
 unfolding digits show between comma set show-kind show-fact name-at show-outcome decls-of file-of print
-    same-lines pruned listed-lines facts-kept agrees Lists.any Lists.all Lists.keep Lists.count Lists.concat
+    same-lines pruned listed-lines agrees Lists.any Lists.all Lists.keep Lists.count Lists.concat
     Lists.is-nil Lists.sum Lists.collect Lists.fold-left Lists.to-list Lists.or-else Lists.holds Lists.when
     Names.bytes Names.by-byte Names.order Names.is-same Names.same Names.mem Names.add-by Names.add
     Names.from-list Names.union Names.diff Names.remove Names.starts-with Names.ends-with Lines.line-cons
@@ -175,8 +161,8 @@ unfolding digits show between comma set show-kind show-fact name-at show-outcome
     Rounds.retainable Rounds.met-after Rounds.triggered Rounds.fresh Rounds.after-round Rounds.next-scanned
     Rounds.rounds-from Rounds.is-ambient Rounds.is-ambient-root Rounds.goal-roots Rounds.ambient-roots
     Rounds.first-scanned Rounds.run Rounds.visits Kept.reached-facts Kept.ambients Kept.kept-facts
-    Kept.kept-names Kept.kept-decls Kept.kept Outcome.refusal-number Outcome.filtered Outcome.of-reading
-    Outcome.fitting Outcome.working-words Outcome.outcome Outcome.answer Outcome.result-after Outcome.is-working
+    Kept.kept-names Kept.first-met Kept.kept-decls Kept.kept Outcome.refusal-number Outcome.filtered Outcome.of-reading
+    Outcome.fitting Outcome.working-words Outcome.judged Outcome.outcome Outcome.answer Outcome.result-after Outcome.is-working
     Outcome.work-after
 passes c = same-lines (print (file-of (c .file))) (map bytes (c .printed)) && agrees (file-of (c .file))
 

@@ -12,6 +12,8 @@ use Rattle.model.specs.declared.Order.{Order}
 use Rattle.model.specs.declared.Order.the-variants.{Before, Same, After}
 use Rattle.model.specs.Lists.{any, keep}
 use Rattle.model.specs.Names.{Name, by-byte, order, is-same, same, mem, add-by, add, from-list, union, diff, remove}
+-- sets of names
+pub use Rattle.model.specs.Names.{Ascending, empty, one, more}
 use Rattle.model.proofs.ListLaws.{T-or, T-dec, T-ext, keep-none, map-intro, any-intro, any-elim, any-append, keep-intro, keep-elim}
 
 -- how two numbers compare, with what the answer says
@@ -244,12 +246,6 @@ mem-diff k l m = mem-keep k (λ n. not (mem n m)) l
 pub mem-remove : (k n : Name) (l : List Name) → T (mem k (remove n l)) ↔ (T (mem k l) × T (not (same n k)))
 unfolding remove
 mem-remove k n l = mem-keep k (λ m. not (same n m)) l
-
--- an ascending list without repeats, which is a set
-pub data Ascending : List Name → Type 0 where
-  empty : Ascending []
-  one : {n : Name} → Ascending (n ∷ [])
-  more : {n m : Name} {ms : List Name} → order n m ≡ Before → Ascending (m ∷ ms) → Ascending (n ∷ m ∷ ms)
 
 -- the others of a set are a set
 pub ascending-tail : {n : Name} {ns : List Name} → Ascending (n ∷ ns) → Ascending ns

@@ -1,9 +1,9 @@
 -- Document 01, "Kept": the list of kept lines.
 use Prim.Native.Nat.{ℕ}
 use mathlib.Core.Bool.{cond}
-use mathlib.Core.List.{List, [], _++_, map, reverse}
+use mathlib.Core.List.{List, [], _∷_, _++_, map, reverse}
 use Rattle.model.specs.Lists.{keep, collect}
-use Rattle.model.specs.Names.{Name, same, mem}
+use Rattle.model.specs.Names.{Name, same, remove}
 use Rattle.model.specs.Summaries.{Fact}
 use Rattle.model.specs.Reading.{Ask, no-ambients, prune-decls, Root, Decl, Summary}
 use Rattle.model.specs.Rounds.{facts, definitions, declarations, is-ambient, goal-roots}
@@ -20,14 +20,19 @@ ambients a fs = cond (no-ambients a) [] (reverse (keep (λ f. is-ambient (f .kin
 unfoldable pub kept-facts : Ask → List Fact → List Name → List Fact
 kept-facts a fs reached = reached-facts fs reached ++ ambients a fs
 
--- the names free in a kept fact or a root of the query
+-- the names free in a kept fact or a root of the query, as they are met: the facts as listed, then the roots by line
 unfoldable pub kept-names : Ask → List Fact → List Root → List Name → List Name
 kept-names a fs roots reached =
     collect (λ f. f .free-names) (kept-facts a fs reached) ++ collect (λ r. r .free-names) (goal-roots a roots)
 
--- the definitions, or the declarations, whose name is among these; which is document 01's, and their order, by line, the program's
+-- each name once, in the order of first meeting
+unfoldable pub first-met : List Name → List Name
+first-met [] = []
+first-met (n ∷ ns) = n ∷ remove n (first-met ns)
+
+-- the definitions, or the declarations, of these names; their order, last met first, is the program's choice and Pruning.fst's
 unfoldable pub kept-decls : List Name → List Decl → List Decl
-kept-decls names ds = keep (λ d. mem (d .name) names) ds
+kept-decls names ds = collect (λ n. keep (λ d. same (d .name) n) ds) (reverse (first-met names))
 
 -- the kept lines: facts, and with option 4 definitions and then declarations
 unfoldable pub kept : Ask → List Summary → List Root → List Name → List ℕ

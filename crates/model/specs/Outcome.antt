@@ -56,12 +56,17 @@ most-bytes = 65535
 abbrev pub working-words : ℕ
 working-words = 16384
 
--- the call, from the file's bytes, the lengths of the six working slices and of the result slice: 7, 9, lines, 8
+-- the call where no working slice is too short, from the file's bytes and the length of the result slice: 9, lines, 8
+unfoldable pub judged : List ℕ → ℕ → Outcome
+judged file room =
+    let answered = fitting room (of-reading (read-file exclude-names file)) in
+    cond (ltb most-bytes (length file)) (refusal-at refusal.Size 0) answered
+
+-- the call, from the lengths of the six working slices too: 7 first
 unfoldable pub outcome : List ℕ → List ℕ → ℕ → Outcome
 outcome file works room =
-    let answered = fitting room (of-reading (read-file exclude-names file)) in
-    cond (any (λ n. ltb n working-words) works) (refusal-at refusal.Working 0)
-    (cond (ltb most-bytes (length file)) (refusal-at refusal.Size 0) answered)
+    let rest = judged file room in
+    cond (any (λ n. ltb n working-words) works) (refusal-at refusal.Working 0) rest
 
 -- the answer's fields: a refused one has every count 0
 unfoldable pub answer : Outcome → Answer

@@ -1,0 +1,149 @@
+//! Cases: a file with the lengths of the slices lent for it, and a container for many of them.
+//!
+//! In the container each case has a head line `case,NAME,LENGTH,W0,W1,W2,W3,W4,W5,ROOM`, then `LENGTH` bytes of file.
+
+use std::io::{self, Write};
+
+use crate::limits;
+use crate::reader;
+use crate::{filter_in, Order, LONG_ENOUGH};
+
+/// A file and the lengths of the slices lent for it.
+#[derive(Clone, Debug, PartialEq, Eq)]
+pub struct Case {
+    pub name: String,
+    pub file: Vec<u8>,
+    /// Words of the six working slices.
+    pub works: [usize; 6],
+    /// Words of the result slice.
+    pub room: usize,
+}
+
+impl Case {
+    /// A case whose slices are long enough.
+    pub fn new(name: impl Into<String>, file: Vec<u8>) -> Self {
+        Case { name: name.into(), file, works: LONG_ENOUGH, room: limits::RECORDS }
+    }
+
+    /// The same case with other working slices.
+    pub fn with_works(self, works: [usize; 6]) -> Self {
+        Case { works, ..self }
+    }
+
+    /// The same case with another result slice.
+    pub fn with_room(self, room: usize) -> Self {
+        Case { room, ..self }
+    }
+
+    /// Writes the head line and the file.
+    pub fn write(&self, out: &mut impl Write) -> io::Result<()> {
+        write!(out, "case,{},{}", self.name, self.file.len())?;
+        for words in self.works {
+            write!(out, ",{words}")?;
+        }
+        writeln!(out, ",{}", self.room)?;
+        out.write_all(&self.file)
+    }
+
+    /// What the program `cases` prints for the case.
+    pub fn answer(&self, order: Order) -> String {
+        let outcome = filter_in(order, &self.file, self.works, self.room);
+        format!("case,{}\n{outcome}slices,ok\n", self.name)
+    }
+}
+
+/// The most names of a file that is worth probing.
+const PROBED_NAMES: usize = 16;
+
+/// An accepted file once more for each of its names, with a root that has that name alone, and with roots for all names
+/// but that one. This shows each name of each disjunct in the answers. The file's own roots are of other queries.
+///
+/// There are none for a file with very many names, or without facts.
+pub fn probes(case: &Case) -> Vec<Case> {
+    let Ok(background) = reader::read(&case.file) else { return Vec::new() };
+    let count = background.names.len();
+    let query = (0..=limits::QUERY).rev().find(|query| background.roots.iter().all(|root| root.query != *query));
+    let (Some(query), 1..=PROBED_NAMES, false) = (query, count, background.facts.is_empty()) else {
+        return Vec::new();
+    };
+    let first_line = case.file.iter().position(|&byte| byte == b'\n').map_or(0, |end| end + 1);
+    let mut lines = format!("ask,{query},{}\n", background.options()).into_bytes();
+    lines.extend_from_slice(&case.file[first_line..]);
+
+    // The empty name, which a token can leave, can't be spelled.
+    let names: Vec<&[u8]> = (0..count).map(|id| background.names.bytes(id)).filter(|name| !name.is_empty()).collect();
+    let probe = |sort: &str, index: usize, probed: &mut dyn Iterator<Item = &&[u8]>| {
+        let mut file = lines.clone();
+        for (number, name) in probed.enumerate() {
+            file.extend_from_slice(b"free,");
+            file.extend_from_slice(name);
+            file.extend_from_slice(format!("\nroot,{query},probe,{}\n", background.terms.len() + number).as_bytes());
+        }
+        Case::new(format!("{}-{sort}-{index}", case.name), file)
+    };
+    let one = |index: usize| probe("with", index, &mut names[index..=index].iter());
+    let others = |index: usize| probe("without", index, &mut names[..index].iter().chain(&names[index + 1..]));
+    (0..names.len()).map(one).chain((0..names.len()).map(others)).collect()
+}
+
+/// The cases of a container, or `None` if it is not of that form.
+pub fn read_all(mut bytes: &[u8]) -> Option<Vec<Case>> {
+    let mut cases = Vec::new();
+    while !bytes.is_empty() {
+        let end = bytes.iter().position(|&byte| byte == b'\n')?;
+        let head = std::str::from_utf8(&bytes[..end]).ok()?;
+        let mut fields = head.strip_prefix("case,")?.split(',');
+        let name = fields.next()?.to_owned();
+        let numbers: Vec<usize> = fields.map(|field| field.parse().ok()).collect::<Option<_>>()?;
+        let [length, works @ .., room] = numbers.as_slice() else { return None };
+        let file = bytes[end + 1..].get(..*length)?.to_vec();
+        bytes = &bytes[end + 1 + length..];
+        cases.push(Case { name, file, works: works.try_into().ok()?, room: *room });
+    }
+    Some(cases)
+}
+
+#[cfg(test)]
+mod tests {
+    use super::*;
+
+    #[test]
+    fn a_container_is_read_as_written() {
+        let cases = [
+            Case::new("empty", Vec::new()),
+            Case::new("newlines", b"\n\ncase,\n".to_vec()).with_room(0),
+            Case::new("short", b"ask,0,0\n".to_vec()).with_works([1, 2, 3, 4, 5, 6]),
+        ];
+        let mut bytes = Vec::new();
+        for case in &cases {
+            case.write(&mut bytes).unwrap();
+        }
+        assert_eq!(read_all(&bytes).as_deref(), Some(&cases[..]));
+        bytes.pop();
+        assert_eq!(read_all(&bytes), None);
+    }
+
+    #[test]
+    fn probes_tell_disjuncts_apart() {
+        let answers = |disjuncts: &str| -> Vec<String> {
+            let file = format!("ask,7,0\nfree,p\nfree,q\nleaf\nall,2,{disjuncts}\nassume,a,0,3\nroot,7,r,1\n");
+            probes(&Case::new("x", file.into_bytes())).iter().map(|probe| probe.answer(Order::Source)).collect()
+        };
+        let both = answers("1,2,0,1");
+        assert_eq!(both.len(), 8);
+        assert_eq!(both[0], "case,x-with-0\nsum,0,1,1\nslices,ok\n");
+        assert_eq!(both[4], "case,x-without-0\nsum,0,1,1\nslices,ok\n");
+        assert_eq!(both[6], "case,x-without-2\nkept,6,a\nsum,1,2,2\nslices,ok\n");
+        for other in ["2,1,0,1,1", "1,1,0", "2,0,2,0,1", "1,0", "0"] {
+            assert_ne!(answers(other), both, "{other}");
+        }
+        assert!(probes(&Case::new("refused", b"ask".to_vec())).is_empty());
+    }
+
+    #[test]
+    fn answers() {
+        let case = Case::new("accepted", b"ask,0,0\nleaf\nassume,a,0,0\n".to_vec());
+        assert_eq!(case.answer(Order::Source), "case,accepted\nkept,3,a\nsum,1,0,1\nslices,ok\n");
+        assert_eq!(case.with_room(0).answer(Order::Source), "case,accepted\nrefused,8,1\nslices,ok\n");
+    }
+}

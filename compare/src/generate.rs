@@ -1,0 +1,687 @@
+//! Random files from a seed: well-formed ones, damaged ones, raw bytes, and files near a limit.
+
+use std::collections::HashSet;
+
+use crate::case::Case;
+use crate::edges;
+use crate::limits;
+use crate::random::Random;
+use crate::terms::TermId;
+use crate::text::Text;
+use crate::{filter, Outcome, LONG_ENOUGH};
+
+/// Names with a meaning of their own.
+const SPECIAL: [&str; 27] = [
+    "SFuel",
+    "ZFuel",
+    "HasType",
+    "HasTypeZ",
+    "HasTypeFuel",
+    "Valid",
+    "ApplyTT",
+    "ApplyTF",
+    "Prims.lex_t",
+    "Prims.squash",
+    "Prims.hasEq",
+    "Tm_refine_1",
+    "Tm_refine_",
+    "__uu__PartialApp",
+    "@tok",
+    "f@tok",
+    "IsTotFun",
+    "is-Tm_arrow",
+    "Term_constr_id",
+    "is-BoxBool",
+    "BoxBool",
+    "is-BoxInt",
+    "BoxInt",
+    "is-BoxString",
+    "BoxString",
+    "is-BoxReal",
+    "BoxProp",
+];
+
+/// Starts of fact names that the rules ask for, and near misses.
+const PREFIXES: [&str; 6] = ["assumption_", "equation_", "l_quant_interp", "assumption", "l_quant_inter", "Equation_"];
+
+/// Starts of plain names: some are prefixes of others, some are at the ends of the range of bytes.
+const STEMS: [&str; 12] = ["p", "q", "pq", "f", "g", "Prims.op_Equals", "T", "~", "!", "\"", "a-b", "f@"];
+
+/// So many cases of a seed.
+pub fn cases(seed: u64, count: usize) -> impl Iterator<Item = Case> {
+    let mut seeds = Random::new(seed);
+    (0..count).map(move |index| {
+        let mut random = Random::new(seeds.bits());
+        let case = any(&mut random);
+        Case { name: format!("{seed}-{index}-{}", case.name), ..case }
+    })
+}
+
+fn any(random: &mut Random) -> Case {
+    match random.below(100) {
+        0..=49 => Case::new("formed", formed(random)),
+        50..=74 => Case::new("damaged", damaged(random)),
+        75..=79 => Case::new("raw", raw(random)),
+        80..=89 => Case::new("near", near_a_limit(random)),
+        _ => lent(random),
+    }
+}
+
+/// A well-formed file.
+pub fn formed(random: &mut Random) -> Vec<u8> {
+    let steps = match random.below(10) {
+        0..=5 => random.within(0..=20),
+        6..=8 => random.within(20..=120),
+        _ => random.within(200..=1_000),
+    };
+    Grower::new(random).grow(steps).finish()
+}
+
+/// A small well-formed file.
+fn small(random: &mut Random) -> Vec<u8> {
+    let steps = random.within(1..=40);
+    Grower::new(random).grow(steps).finish()
+}
+
+/// A well-formed file that grows step by step.
+struct Grower<'r> {
+    random: &'r mut Random,
+    text: Text,
+    query: u32,
+    /// The plain names to draw from.
+    pool: Vec<String>,
+    /// The names of the assume, fun and def lines.
+    taken: HashSet<String>,
+}
+
+impl<'r> Grower<'r> {
+    fn new(random: &'r mut Random) -> Self {
+        let query = if random.chance(90) { random.below(3) } else { random.below(256) } as u32;
+        let options = random.below(8) as u32;
+        let pool = (0..random.within(1..=60))
+            .map(|index| match random.pick(&STEMS) {
+                stem if random.chance(10) => format!("{stem}{index}@tok"),
+                stem if random.chance(15) => stem.to_owned(),
+                stem => format!("{stem}{index}"),
+            })
+            .collect();
+        Grower { random, text: Text::ask(query, options), query, pool, taken: HashSet::new() }
+    }
+
+    fn grow(mut self, steps: usize) -> Text {
+        for _ in 0..steps {
+            if self.text.len() > 60_000 || self.text.terms() > limits::TERMS - 100 {
+                break;
+            }
+            match self.random.below(100) {
+                0..=49 => self.fact(),
+                50..=59 => self.def(),
+                60..=69 => self.fun(),
+                70..=73 => self.retain(),
+                74..=89 => self.root(),
+                90..=94 => self.chain(),
+                _ => {
+                    self.term();
+                }
+            }
+        }
+        self.text
+    }
+
+    fn symbol(&mut self) -> String {
+        if self.random.chance(85) {
+            self.random.pick(&self.pool)
+        } else {
+            self.random.pick(&SPECIAL).to_owned()
+        }
+    }
+
+    /// A term that is there already, often a late one, or a new one.
+    fn term(&mut self) -> TermId {
+        let count = self.text.terms();
+        if count > 0 && self.random.chance(50) {
+            let back = if self.random.chance(60) { count.min(8) } else { count };
+            return count - 1 - self.random.below(back);
+        }
+        self.new_term()
+    }
+
+    fn terms(&mut self, most: usize) -> Vec<TermId> {
+        (0..self.random.within(0..=most)).map(|_| self.term()).collect()
+    }
+
+    fn groups(&mut self, most: usize) -> Vec<Vec<TermId>> {
+        (0..self.random.within(0..=most)).map(|_| self.terms(3)).collect()
+    }
+
+    fn new_term(&mut self) -> TermId {
+        // The deeper terms come later, so a new term does not always ask for new ones.
+        if self.text.terms() == 0 || self.random.chance(40) {
+            return self.name_term();
+        }
+        match self.random.below(10) {
+            0 => self.text.leaf(),
+            1..=3 => {
+                let (name, parts) = (self.symbol(), self.terms(3));
+                self.text.call(name, &parts)
+            }
+            4..=5 => {
+                let word = self.random.pick(&["true", "iff", "eq", "and", "other"]);
+                let parts = self.terms(3);
+                self.text.op(word, &parts)
+            }
+            6 => {
+                let (body, groups) = (self.term(), self.groups(3));
+                self.text.all(body, &groups)
+            }
+            7 => {
+                let (body, groups) = (self.term(), self.groups(3));
+                self.text.some(body, &groups)
+            }
+            8 => {
+                let (body, parts) = (self.term(), self.terms(3));
+                self.text.bind(body, &parts)
+            }
+            _ => {
+                let inner = self.term();
+                self.text.label(inner)
+            }
+        }
+    }
+
+    /// A `free`, or a `call` of none.
+    fn name_term(&mut self) -> TermId {
+        let name = self.symbol();
+        self.named(&name)
+    }
+
+    fn named(&mut self, name: &str) -> TermId {
+        if self.random.chance(50) {
+            self.text.free(name)
+        } else {
+            self.text.call(name, &[])
+        }
+    }
+
+    /// So many terms, now and then one more or one less.
+    fn about(&mut self, count: usize) -> Vec<TermId> {
+        let count = match self.random.below(20) {
+            0 => count + 1,
+            1 => count - 1,
+            _ => count,
+        };
+        (0..count).map(|_| self.term()).collect()
+    }
+
+    /// A call of about so many terms, of which the last is given.
+    fn call_ending(&mut self, name: &str, count: usize, last: TermId) -> TermId {
+        let mut parts = self.about(count);
+        if let Some(part) = parts.last_mut() {
+            *part = last;
+        }
+        self.text.call(name, &parts)
+    }
+
+    /// A term that one of the rules is for, and the start of a name that goes with it.
+    fn shape(&mut self) -> (&'static str, TermId) {
+        match self.random.below(14) {
+            0 | 13 => {
+                let (body, groups) = (self.term(), self.groups(4));
+                let mut term = self.text.all(body, &groups);
+                for _ in 0..self.random.within(0..=2) {
+                    term = self.text.label(term);
+                }
+                ("", term)
+            }
+            1 => {
+                let parts = self.about(2);
+                ("l_quant_interp", self.text.op("iff", &parts))
+            }
+            2 => ("assumption_", self.term()),
+            3 => {
+                let payload = match self.random.below(3) {
+                    0 => self.term(),
+                    1 => {
+                        let body = self.term();
+                        self.text.all(body, &[Vec::new()])
+                    }
+                    _ => {
+                        let (body, groups) = (self.term(), self.groups(3));
+                        self.text.all(body, &groups)
+                    }
+                };
+                let ty = match self.random.below(4) {
+                    0 => {
+                        let name = self.random.pick(&["Tm_refine_7", "Tm_refine", "Prims.squash"]);
+                        self.named(name)
+                    }
+                    1 => self.text.call("Tm_refine_7", &[payload]),
+                    _ => self.call_ending("Prims.squash", 2, payload),
+                };
+                ("", self.call_ending("HasType", 2, ty))
+            }
+            4 => {
+                let marker = match self.random.below(5) {
+                    0 => self.term(),
+                    1 => {
+                        let parts = self.terms(2);
+                        self.text.call("__uu__PartialApp", &parts)
+                    }
+                    _ => self.named("__uu__PartialApp"),
+                };
+                let token = if self.random.chance(80) { self.name_term() } else { self.term() };
+                let mut parts = self.about(2);
+                if let [first, second, ..] = parts.as_mut_slice() {
+                    (*first, *second) = (marker, token);
+                }
+                let apply = self.text.call("ApplyTT", &parts);
+                ("", self.text.call("Valid", &[apply]))
+            }
+            5 => {
+                let head = self.random.pick(&["Valid", "IsTotFun", "is-Tm_arrow", "HasType"]);
+                let parts = self.about(if head == "HasType" { 2 } else { 1 });
+                ("", self.text.call(head, &parts))
+            }
+            6 => {
+                let argument = self.about(1);
+                let right = self.text.call("Term_constr_id", &argument);
+                let left = self.term();
+                ("", self.text.op("eq", &[left, right]))
+            }
+            7 => {
+                let parts: Vec<TermId> = (0..self.random.within(0..=4))
+                    .map(|_| if self.random.chance(60) { self.shape().1 } else { self.term() })
+                    .collect();
+                ("", self.text.op("and", &parts))
+            }
+            8 => {
+                let parts = self.about(2);
+                ("equation_", self.text.op("eq", &parts))
+            }
+            9 => {
+                let mut side = || {
+                    let (parts, valid) = (self.about(2), self.random.chance(90));
+                    let inner = self.text.call("Prims.hasEq", &parts);
+                    self.text.call(if valid { "Valid" } else { "Valid2" }, &[inner])
+                };
+                let (left, right) = (side(), side());
+                ("", self.text.op("iff", &[left, right]))
+            }
+            10 => {
+                let word = self.random.pick(&["eq", "iff"]);
+                let parts = self.about(2);
+                ("", self.text.op(word, &parts))
+            }
+            11 => {
+                let parts = self.terms(1);
+                ("", self.text.op("true", &parts))
+            }
+            _ => ("", self.new_term()),
+        }
+    }
+
+    /// A name that no assume, fun or def line has; mostly one of its own.
+    fn record_name(&mut self, start: &str) -> String {
+        let mut name = if self.random.chance(25) { self.symbol() } else { format!("r{}", self.random.below(5_000)) };
+        if self.random.chance(80) {
+            name.insert_str(0, start);
+        }
+        if self.random.chance(6) {
+            name.insert_str(0, self.random.pick(&PREFIXES));
+        }
+        while !self.taken.insert(name.clone()) {
+            name.push((b'a' + self.random.below(26) as u8) as char);
+        }
+        name
+    }
+
+    fn flag(&mut self) -> u32 {
+        u32::from(self.random.chance(20))
+    }
+
+    fn fact(&mut self) {
+        let (start, term) = self.shape();
+        let (name, flag) = (self.record_name(start), self.flag());
+        self.text.assume(name, flag, term);
+    }
+
+    /// A name to declare: mostly one that terms use.
+    fn declared(&mut self) -> Option<String> {
+        let name = self.symbol();
+        self.taken.insert(name.clone()).then_some(name)
+    }
+
+    fn def(&mut self) {
+        let term = self.term();
+        if let Some(name) = self.declared() {
+            self.text.def(name, term);
+        }
+    }
+
+    fn fun(&mut self) {
+        if let Some(name) = self.declared() {
+            self.text.fun(name);
+        }
+    }
+
+    fn retain(&mut self) {
+        let names: Vec<String> = (0..self.random.within(0..=4)).map(|_| self.symbol()).collect();
+        self.text.retain(names);
+    }
+
+    fn root(&mut self) {
+        let query = if self.random.chance(65) { self.query } else { self.random.below(4) as u32 };
+        let (name, term) = (self.symbol(), self.term());
+        self.text.root(query, name, term);
+    }
+
+    /// Facts of which each brings the next, some by way of a def.
+    fn chain(&mut self) {
+        let start = self.symbol();
+        let mut term = self.named(&start);
+        if self.random.chance(60) {
+            self.text.root(self.query, start, term);
+        }
+        for _ in 0..self.random.within(1..=8) {
+            let symbol = self.symbol();
+            let next = self.named(&symbol);
+            let mut groups = vec![vec![term]];
+            if self.random.chance(30) {
+                groups.push(self.terms(2));
+            }
+            if self.random.chance(20) {
+                groups.insert(0, Vec::new());
+            }
+            let fact = self.text.all(next, &groups);
+            let (name, flag) = (self.record_name(""), self.flag());
+            self.text.assume(name, flag, fact);
+            term = next;
+            if self.random.chance(25) && self.taken.insert(symbol.clone()) {
+                let opened = self.name_term();
+                self.text.def(symbol, opened);
+                term = opened;
+            }
+        }
+    }
+}
+
+/// A well-formed file with some damage done to it.
+pub fn damaged(random: &mut Random) -> Vec<u8> {
+    let mut file = small(random);
+    for _ in 0..random.within(1..=3) {
+        match random.below(10) {
+            0..=2 => damage_bytes(&mut file, random),
+            3..=6 => damage_fields(&mut file, random),
+            7..=8 => damage_lines(&mut file, random),
+            _ => {
+                file.pop();
+            }
+        }
+    }
+    file
+}
+
+/// Bytes that fields and lines turn on.
+const TURNING: [u8; 12] = [b',', b'\n', b'0', b'9', b'a', b' ', b'\r', b'!', b'~', 0x00, 0x7f, 0x80];
+
+fn damage_bytes(file: &mut Vec<u8>, random: &mut Random) {
+    if file.is_empty() {
+        return;
+    }
+    let at = random.below(file.len());
+    let byte = if random.chance(70) { random.pick(&TURNING) } else { random.byte() };
+    match random.below(5) {
+        0 => file[at] ^= 1 << random.below(8),
+        1 => file[at] = byte,
+        2 => {
+            file.remove(at);
+        }
+        3 => file.insert(at, byte),
+        _ => file.truncate(at),
+    }
+}
+
+/// Words that stand in files, good in some places.
+const WORDS: [&str; 32] = [
+    "ask", "free", "leaf", "call", "op", "all", "some", "let", "label", "assume", "fun", "def", "retain", "root",
+    "true", "iff", "eq", "and", "other", "xor", "Free", "", "0", "1", "2", "255", "256", "65535", "65536", "00", "01",
+    "-1",
+];
+
+fn damage_fields(file: &mut Vec<u8>, random: &mut Random) {
+    let mut lines: Vec<Vec<u8>> = file.split(|&byte| byte == b'\n').map(<[u8]>::to_vec).collect();
+    let at = random.below(lines.len());
+    let mut fields: Vec<Vec<u8>> = lines[at].split(|&byte| byte == b',').map(<[u8]>::to_vec).collect();
+    let field = random.below(fields.len());
+    match random.below(8) {
+        0 => {
+            fields.remove(field);
+        }
+        1 => fields.insert(field, fields[field].clone()),
+        2 => {
+            let other = random.below(fields.len());
+            fields.swap(field, other);
+        }
+        3 => fields[field] = random.pick(&WORDS).as_bytes().to_vec(),
+        4 => fields.push(random.pick(&WORDS).as_bytes().to_vec()),
+        5 => fields[field] = vec![b'x'; random.within(254..=257)],
+        6 => fields[field] = random.below(70).to_string().into_bytes(),
+        _ => {
+            // A number one higher or lower, or else a changed name.
+            let number = std::str::from_utf8(&fields[field]).ok().and_then(|text| text.parse::<u32>().ok());
+            match number {
+                Some(number) if random.chance(50) => fields[field] = (number + 1).to_string().into_bytes(),
+                Some(number) => fields[field] = number.saturating_sub(1).to_string().into_bytes(),
+                None => fields[field].push(random.pick(&TURNING)),
+            }
+        }
+    }
+    lines[at] = fields.join(&b',');
+    *file = lines.join(&b'\n');
+}
+
+fn damage_lines(file: &mut Vec<u8>, random: &mut Random) {
+    let mut lines: Vec<Vec<u8>> = file.split(|&byte| byte == b'\n').map(<[u8]>::to_vec).collect();
+    let (at, other) = (random.below(lines.len()), random.below(lines.len()));
+    let repeats = |line: &&Vec<u8>| [&b"assume"[..], b"fun", b"def"].iter().any(|kind| line.starts_with(kind));
+    match random.below(8) {
+        0 => {
+            lines.remove(at);
+        }
+        1 => lines.insert(other, lines[at].clone()),
+        6 | 7 => {
+            // A record once more, before the empty end that the final 0A leaves.
+            if let Some(line) = lines.iter().find(repeats).cloned() {
+                lines.insert(lines.len() - 1, line);
+            }
+        }
+        2 => lines.swap(at, other),
+        3 => lines.insert(at, Vec::new()),
+        4 => lines.insert(at, random.pick(&WORDS).as_bytes().to_vec()),
+        _ => lines.truncate(at),
+    }
+    *file = lines.join(&b'\n');
+}
+
+/// Bytes without form, or words and commas in any order.
+pub fn raw(random: &mut Random) -> Vec<u8> {
+    let length = match random.below(10) {
+        0..=6 => random.within(0..=60),
+        7..=8 => random.within(0..=2_000),
+        _ => random.within(65_000..=65_600),
+    };
+    let mut file = Vec::new();
+    if random.chance(50) {
+        file.extend_from_slice(b"ask,0,0\n");
+    }
+    let words = random.chance(70);
+    while file.len() < length {
+        if words {
+            file.extend_from_slice(random.pick(&WORDS).as_bytes());
+            file.push(if random.chance(70) { b',' } else { b'\n' });
+        } else {
+            file.push(random.byte());
+        }
+    }
+    file
+}
+
+/// A file that comes near one limit or two, and then a few lines more.
+pub fn near_a_limit(random: &mut Random) -> Vec<u8> {
+    let mut text = Text::ask(0, random.below(8) as u32);
+    text.free("p");
+    let (marker, token) = (text.free("__uu__PartialApp"), text.free("t@tok"));
+    let apply = text.call("ApplyTT", &[marker, token]);
+    text.call("Valid", &[apply]);
+    for _ in 0..random.within(1..=2) {
+        let less = random.below(4);
+        match random.below(8) {
+            0 => edges::spell_names(&mut text, limits::NAMES - 7 - less),
+            1 => {
+                let count = (limits::TERMS - less).saturating_sub(text.terms());
+                edges::add_leaves(&mut text, count);
+            }
+            2 => {
+                edges::add_references(&mut text, limits::REFERENCES - 5 - less);
+            }
+            3 => edges::add_records(&mut text, limits::RECORDS - 2 - less),
+            4 => {
+                let all = edges::add_empty_groups(&mut text, limits::ENTRIES - 2 - less);
+                text.assume("full", 0, all);
+            }
+            5 => {
+                let count = random.within(3_000..=14_000);
+                let all = edges::add_empty_groups(&mut text, count);
+                text.op("and", &vec![all; count]);
+            }
+            6 => {
+                edges::add_empty_groups(&mut text, random.within(20_000..=30_000));
+            }
+            _ => {
+                let wide = edges::add_wide_call(&mut text, 64);
+                for _ in 0..95 {
+                    text.root(random.below(3) as u32, "r", wide);
+                }
+                for _ in 0..64 - less {
+                    text.root(random.below(3) as u32, "s", 0);
+                }
+            }
+        }
+    }
+    let last = text.terms() - 1;
+    let last_fact = format!("assume,z2,0,{last}");
+    let last_root = format!("root,0,z2,{last}");
+    let good = [
+        &last_fact,
+        &last_root,
+        "free,z1",
+        "free,z2",
+        "leaf",
+        "label,0",
+        "op,and,0,0",
+        "let,0,0,0",
+        "call,z3,0",
+        "all,0,2,0,1,0",
+        "assume,z1,0,4",
+        "assume,t,0,4",
+        "assume,z1,0,0",
+        "assume,assumption_1,0,0",
+        "assume,assumption_2,1,0",
+        "fun,z1",
+        "fun,z4",
+        "def,z5,0",
+        "retain,p",
+        "retain,z6,z7",
+        "root,0,r,0",
+        "root,1,z8,0",
+    ];
+    let bad = [
+        "retain,z9,",
+        "call,z1,65535",
+        "call,z1,0,x",
+        "op,xor,0",
+        "op,and,0,65535",
+        "assume,z1,2,0",
+        "assume,z1,0,65536",
+        "fun,r,r",
+        "all,0,65535",
+        "all,0,1,2,0",
+        "free,z9 ",
+    ];
+    for _ in 0..random.within(2..=10) {
+        text.line(if random.chance(90) { random.pick(&good) } else { random.pick(&bad) });
+    }
+    if random.chance(5) && text.len() < 65_000 {
+        let total = random.within(65_534..=65_537);
+        edges::add_bytes(&mut text, total);
+    }
+    text.finish()
+}
+
+/// A case in which the lengths of the slices matter.
+fn lent(random: &mut Random) -> Case {
+    let file = match random.below(4) {
+        0 => damaged(random),
+        1 => raw(random),
+        _ => small(random),
+    };
+    let kept = match filter(&file, LONG_ENOUGH, limits::RECORDS) {
+        Outcome::Kept { lines, .. } => lines.len(),
+        Outcome::Refused { .. } => 0,
+    };
+    let mut works = LONG_ENOUGH;
+    for words in &mut works {
+        *words = match random.below(40) {
+            0 => limits::WORK_WORDS - 1,
+            1 => random.below(limits::WORK_WORDS),
+            _ => limits::WORK_WORDS + random.below(10),
+        };
+    }
+    let room = match random.below(4) {
+        0 => kept,
+        1 => kept.saturating_sub(1),
+        2 => kept + 1,
+        _ => random.below(kept + 2),
+    };
+    Case::new("lent", file).with_works(works).with_room(room)
+}
+
+#[cfg(test)]
+mod tests {
+    use super::*;
+    use crate::{filter_in, Order};
+
+    #[test]
+    fn a_seed_gives_the_same_cases() {
+        assert!(cases(5, 40).eq(cases(5, 40)));
+        assert!(cases(5, 40).ne(cases(6, 40)));
+    }
+
+    #[test]
+    fn every_answer_is_generated() {
+        let mut numbers = HashSet::new();
+        for case in cases(1, 1_500) {
+            match filter(&case.file, case.works, case.room) {
+                Outcome::Refused { number, .. } => numbers.insert(number),
+                Outcome::Kept { .. } => numbers.insert(0),
+            };
+        }
+        assert_eq!(numbers, (0..=9).collect());
+    }
+
+    #[test]
+    fn formed_files_are_refused_for_limits_only() {
+        let mut random = Random::new(2);
+        let mut kept_in_other_order = 0;
+        for _ in 0..300 {
+            let file = formed(&mut random);
+            let answer = filter(&file, LONG_ENOUGH, limits::RECORDS);
+            if let Outcome::Refused { number, .. } = answer {
+                assert_eq!(number, 6);
+            } else if answer != filter_in(Order::Line, &file, LONG_ENOUGH, limits::RECORDS) {
+                kept_in_other_order += 1;
+            }
+        }
+        assert!(kept_in_other_order > 20, "{kept_in_other_order}");
+    }
+}

@@ -1,0 +1,26 @@
+//! The limits of document 01.
+
+/// Bytes of a file.
+pub const BYTES: usize = 65_535;
+/// Distinct names: those the file spells and the trimmed tokens.
+pub const NAMES: usize = 2_048;
+/// Bytes of a name.
+pub const NAME_BYTES: usize = 255;
+/// Term lines.
+pub const TERMS: usize = 4_096;
+/// Term references in term lines.
+pub const REFERENCES: usize = 16_384;
+/// Record lines.
+pub const RECORDS: usize = 1_024;
+/// Trigger entries; an empty disjunct counts as one.
+pub const ENTRIES: usize = 2_048;
+/// Free names summed over assume, def and root lines.
+pub const USES: usize = 6_144;
+/// The largest number a field can hold.
+pub const NUMBER: u32 = 65_535;
+/// The largest query number.
+pub const QUERY: u32 = 255;
+/// The largest options number.
+pub const OPTIONS: u32 = 7;
+/// Words that each working slice must have.
+pub const WORK_WORDS: usize = 16_384;

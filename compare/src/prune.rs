@@ -1,0 +1,187 @@
+//! Which facts the roots reach, and what is kept: `scan` and `prune`.
+
+use std::collections::{HashMap, HashSet};
+
+use crate::names::{NameId, NameSet};
+use crate::reader::{Background, Fact};
+use crate::rules::Kind;
+use crate::Order;
+
+/// The macros that stand at the start, each with the name that it opens to.
+const BOX_MACROS: [(&[u8], &[u8]); 5] = [
+    (b"is-BoxBool", b"BoxBool"),
+    (b"is-BoxInt", b"BoxInt"),
+    (b"is-BoxString", b"BoxString"),
+    (b"is-BoxReal", b"BoxReal"),
+    (b"is-BoxProp", b"BoxProp"),
+];
+
+/// What a run keeps: lines with their names, in order, and the counts.
+pub struct Kept {
+    pub records: Vec<(u32, NameId)>,
+    pub visits: u32,
+    pub rounds: u32,
+}
+
+/// The answer to the query of a file.
+pub fn prune(background: &Background, order: Order) -> Kept {
+    let Background { names, facts, no_ambients, .. } = background;
+    let roots: Vec<&NameSet> =
+        background.roots.iter().filter(|root| root.query == background.query).map(|root| &root.free).collect();
+    let ambient = |fact: &&Fact| !no_ambients && matches!(fact.kind, Kind::Ambient { .. });
+    let extra_roots =
+        facts.iter().filter(ambient).filter(|fact| fact.kind == Kind::Ambient { root: true }).map(|fact| &fact.free);
+
+    let mut scan = Scan::new(background);
+    scan.run(roots.iter().copied().chain(extra_roots).collect());
+
+    let mut kept: Vec<&Fact> = scan.reached.iter().map(|&fact| &facts[fact]).collect();
+    kept.sort_unstable_by_key(|fact| names.bytes(fact.name));
+    kept.extend(facts.iter().rev().filter(ambient));
+
+    let mut records: Vec<(u32, NameId)> = kept.iter().map(|fact| (fact.line, fact.name)).collect();
+    if background.prune_decls {
+        let free = kept.iter().map(|fact| &fact.free).chain(roots);
+        records.extend(declarations(background, free, order));
+    }
+    Kept { records, visits: scan.visits, rounds: scan.rounds }
+}
+
+/// The defs and then the funs named in some sets.
+fn declarations<'s>(
+    background: &Background,
+    free: impl Iterator<Item = &'s NameSet>,
+    order: Order,
+) -> Vec<(u32, NameId)> {
+    let mut seen = HashSet::new();
+    let (mut defs, mut funs) = (Vec::new(), Vec::new());
+    for set in free {
+        for name in background.names.in_byte_order(set.iter()) {
+            if let Some(declaration) = background.declarations.get(&name) {
+                if seen.insert(name) {
+                    let group = if declaration.is_fun { &mut funs } else { &mut defs };
+                    group.push((declaration.line, name));
+                }
+            }
+        }
+    }
+    for group in [&mut defs, &mut funs] {
+        match order {
+            Order::Source => group.reverse(),
+            Order::Line => group.sort_unstable(),
+        }
+    }
+    defs.append(&mut funs);
+    defs
+}
+
+/// One disjunct of one fact that waits on a name.
+struct Entry {
+    fact: usize,
+    disjunct: usize,
+}
+
+/// The state of the rounds.
+struct Scan<'b> {
+    background: &'b Background<'b>,
+    /// The names that each macro opens to.
+    macros: HashMap<NameId, Vec<NameId>>,
+    /// The entries filed under each name.
+    waiting: HashMap<NameId, Vec<Entry>>,
+    /// How many names of each disjunct of each fact are not met yet.
+    missing: Vec<Vec<usize>>,
+    /// For each fact, whether one of its disjuncts is wholly met.
+    satisfied: Vec<bool>,
+    met: NameSet,
+    reached: HashSet<usize>,
+    visits: u32,
+    rounds: u32,
+}
+
+impl<'b> Scan<'b> {
+    fn new(background: &'b Background<'b>) -> Self {
+        let mut scan = Scan {
+            background,
+            macros: HashMap::new(),
+            waiting: HashMap::new(),
+            missing: Vec::new(),
+            satisfied: Vec::new(),
+            met: NameSet::empty(),
+            reached: HashSet::new(),
+            visits: 0,
+            rounds: 0,
+        };
+        for (from, to) in BOX_MACROS {
+            if let (Some(from), Some(to)) = (background.names.find(from), background.names.find(to)) {
+                scan.macros.insert(from, vec![to]);
+            }
+        }
+        scan.macros.extend(background.macros.iter().map(|(&name, free)| (name, free.iter().collect())));
+        for (fact, record) in background.facts.iter().enumerate() {
+            let mut missing = Vec::new();
+            if let Kind::Triggers(disjuncts) = &record.kind {
+                for (disjunct, names) in disjuncts.iter().enumerate() {
+                    missing.push(names.len());
+                    for &name in names {
+                        scan.waiting.entry(name).or_default().push(Entry { fact, disjunct });
+                    }
+                }
+            }
+            scan.satisfied.push(missing.contains(&0));
+            scan.missing.push(missing);
+        }
+        scan
+    }
+
+    /// Scans round by round until one triggers nothing.
+    fn run(&mut self, mut scanned: Vec<&'b NameSet>) {
+        loop {
+            let triggered = self.round(&scanned);
+            if triggered.is_empty() {
+                return;
+            }
+            scanned.clear();
+            for fact in triggered {
+                if self.is_retainable(fact) && self.reached.insert(fact) {
+                    scanned.push(&self.background.facts[fact].free);
+                }
+            }
+        }
+    }
+
+    /// Meets the names of what is scanned, and gives the facts that this triggers.
+    fn round(&mut self, scanned: &[&NameSet]) -> Vec<usize> {
+        self.rounds += 1;
+        let mut touched = HashSet::new();
+        for set in scanned {
+            for name in set.iter() {
+                self.meet(name, &mut touched);
+                for opened in self.macros.get(&name).cloned().unwrap_or_default() {
+                    self.meet(opened, &mut touched);
+                }
+            }
+        }
+        touched.into_iter().filter(|&fact| self.satisfied[fact]).collect()
+    }
+
+    /// Meets a name. The facts with an entry under it are touched if it is new.
+    fn meet(&mut self, name: NameId, touched: &mut HashSet<usize>) {
+        if !self.met.insert(name) {
+            return;
+        }
+        for entry in self.waiting.get(&name).into_iter().flatten() {
+            self.visits += 1;
+            let missing = &mut self.missing[entry.fact][entry.disjunct];
+            *missing -= 1;
+            if *missing == 0 {
+                self.satisfied[entry.fact] = true;
+            }
+            touched.insert(entry.fact);
+        }
+    }
+
+    /// `should_retain_assumption`.
+    fn is_retainable(&self, fact: usize) -> bool {
+        !self.background.facts[fact].pretyping || self.background.pretyping_axioms
+    }
+}

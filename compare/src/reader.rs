@@ -1,0 +1,287 @@
+//! A file read line by line, each line checked as it comes.
+
+use std::collections::{HashMap, HashSet};
+
+use crate::fields::{Fault, Fields};
+use crate::limits;
+use crate::names::{NameId, NameSet, Names};
+use crate::rules::{self, Kind};
+use crate::terms::{Op, Term, Terms};
+use crate::Refusal;
+
+/// A fact: an `assume` line and its summary.
+pub struct Fact {
+    pub line: u32,
+    pub name: NameId,
+    pub pretyping: bool,
+    pub free: NameSet,
+    pub kind: Kind,
+}
+
+/// A `def` or a `fun` line.
+pub struct Declaration {
+    pub line: u32,
+    pub is_fun: bool,
+}
+
+/// A `root` line.
+pub struct Root {
+    pub query: u32,
+    pub free: NameSet,
+}
+
+/// What an accepted file says.
+#[derive(Default)]
+pub struct Background<'a> {
+    pub query: u32,
+    pub no_ambients: bool,
+    pub pretyping_axioms: bool,
+    pub prune_decls: bool,
+    pub names: Names<'a>,
+    pub terms: Terms,
+    /// In the order of their lines.
+    pub facts: Vec<Fact>,
+    /// By name.
+    pub declarations: HashMap<NameId, Declaration>,
+    /// The free names of each `def`.
+    pub macros: HashMap<NameId, NameSet>,
+    /// In the order of their lines.
+    pub roots: Vec<Root>,
+}
+
+impl Background<'_> {
+    /// The options number.
+    pub fn options(&self) -> u32 {
+        u32::from(self.no_ambients) + 2 * u32::from(self.pretyping_axioms) + 4 * u32::from(self.prune_decls)
+    }
+}
+
+/// Reads a file, or says which line is refused.
+pub fn read(file: &[u8]) -> Result<Background<'_>, Refusal> {
+    if file.len() > limits::BYTES {
+        return Err(Refusal { number: 9, place: 0 });
+    }
+    let mut reader = Reader::default();
+    let mut rest = file;
+    let mut number = 1;
+    loop {
+        let read = match rest.iter().position(|&byte| byte == b'\n') {
+            Some(end) => {
+                let line = &rest[..end];
+                rest = &rest[end + 1..];
+                reader.line(number, line)
+            }
+            None => Err(Fault::Form),
+        };
+        if let Err(fault) = read {
+            return Err(Refusal { number: fault as u32, place: number });
+        }
+        if rest.is_empty() {
+            return Ok(reader.background);
+        }
+        number += 1;
+    }
+}
+
+#[derive(Default)]
+struct Reader<'a> {
+    background: Background<'a>,
+    /// The names of the assume, fun and def lines.
+    taken: HashSet<NameId>,
+    records: usize,
+    entries: usize,
+    uses: usize,
+}
+
+impl<'a> Reader<'a> {
+    fn line(&mut self, number: u32, line: &'a [u8]) -> Result<(), Fault> {
+        let mut fields = Fields::new(line);
+        let kind = fields.field()?;
+        if (kind == b"ask") != (number == 1) {
+            return Err(Fault::Form);
+        }
+        match kind {
+            b"ask" => self.ask(fields),
+            b"free" | b"leaf" | b"call" | b"op" | b"all" | b"some" | b"let" | b"label" => {
+                let term = self.term(kind, fields)?;
+                self.add_term(term)
+            }
+            b"assume" => self.assume(number, fields),
+            b"fun" => self.fun(number, fields),
+            b"def" => self.def(number, fields),
+            b"retain" => self.retain(fields),
+            b"root" => self.root(fields),
+            _ => Err(Fault::Form),
+        }
+    }
+
+    fn ask(&mut self, mut fields: Fields<'a>) -> Result<(), Fault> {
+        fields.exactly(2)?;
+        let background = &mut self.background;
+        background.query = fields.number(limits::QUERY)?;
+        let options = fields.number(limits::OPTIONS)?;
+        background.no_ambients = options & 1 != 0;
+        background.pretyping_axioms = options & 2 != 0;
+        background.prune_decls = options & 4 != 0;
+        Ok(())
+    }
+
+    fn name(&mut self, fields: &mut Fields<'a>) -> Result<NameId, Fault> {
+        Ok(self.background.names.number(fields.name()?))
+    }
+
+    fn term(&mut self, kind: &[u8], mut fields: Fields<'a>) -> Result<Term, Fault> {
+        let count = self.background.terms.len();
+        match kind {
+            b"free" => {
+                fields.exactly(1)?;
+                Ok(Term::Free(self.name(&mut fields)?))
+            }
+            b"leaf" => {
+                fields.end()?;
+                Ok(Term::Leaf)
+            }
+            b"call" => Ok(Term::Call(self.name(&mut fields)?, fields.terms(count)?)),
+            b"op" => Ok(Term::Op(op(fields.field()?)?, fields.terms(count)?)),
+            b"let" => Ok(Term::Let { body: fields.term(count)?, bound: fields.terms(count)? }),
+            b"label" => {
+                fields.exactly(1)?;
+                Ok(Term::Label(fields.term(count)?))
+            }
+            // `all` and `some`
+            _ => {
+                let body = fields.term(count)?;
+                let groups = groups(&mut fields, count)?;
+                fields.end()?;
+                Ok(if kind == b"all" { Term::All { body, groups } } else { Term::Some { body, groups } })
+            }
+        }
+    }
+
+    fn add_term(&mut self, term: Term) -> Result<(), Fault> {
+        self.check_names()?;
+        let Background { names, terms, .. } = &mut self.background;
+        if terms.len() < limits::TERMS && terms.add(term, names, limits::REFERENCES) {
+            Ok(())
+        } else {
+            Err(Fault::Limit)
+        }
+    }
+
+    fn assume(&mut self, line: u32, mut fields: Fields<'a>) -> Result<(), Fault> {
+        fields.exactly(3)?;
+        let name = self.name(&mut fields)?;
+        let pretyping = fields.number(1)? == 1;
+        let term = fields.term(self.background.terms.len())?;
+        self.take(name)?;
+        self.add_record()?;
+
+        let Background { names, terms, .. } = &mut self.background;
+        let room = limits::ENTRIES - self.entries;
+        let kind = rules::summarize(names.bytes(name), term, terms, names, room).ok_or(Fault::Limit)?;
+        self.entries += kind.entries();
+        self.check_names()?;
+        let free = self.add_uses(term)?;
+        self.background.facts.push(Fact { line, name, pretyping, free, kind });
+        Ok(())
+    }
+
+    fn fun(&mut self, line: u32, mut fields: Fields<'a>) -> Result<(), Fault> {
+        fields.exactly(1)?;
+        let name = self.name(&mut fields)?;
+        self.take(name)?;
+        self.add_record()?;
+        self.background.declarations.insert(name, Declaration { line, is_fun: true });
+        Ok(())
+    }
+
+    fn def(&mut self, line: u32, mut fields: Fields<'a>) -> Result<(), Fault> {
+        fields.exactly(2)?;
+        let name = self.name(&mut fields)?;
+        let term = fields.term(self.background.terms.len())?;
+        self.take(name)?;
+        self.add_record()?;
+        let free = self.add_uses(term)?;
+        self.background.declarations.insert(name, Declaration { line, is_fun: false });
+        self.background.macros.insert(name, free);
+        Ok(())
+    }
+
+    fn retain(&mut self, mut fields: Fields<'a>) -> Result<(), Fault> {
+        while !fields.is_done() {
+            self.name(&mut fields)?;
+        }
+        self.add_record()
+    }
+
+    fn root(&mut self, mut fields: Fields<'a>) -> Result<(), Fault> {
+        fields.exactly(3)?;
+        let query = fields.number(limits::QUERY)?;
+        self.name(&mut fields)?;
+        let term = fields.term(self.background.terms.len())?;
+        self.add_record()?;
+        let free = self.add_uses(term)?;
+        self.background.roots.push(Root { query, free });
+        Ok(())
+    }
+
+    /// Takes the name of an assume, fun or def line.
+    fn take(&mut self, name: NameId) -> Result<(), Fault> {
+        if self.taken.insert(name) {
+            Ok(())
+        } else {
+            Err(Fault::Repeat)
+        }
+    }
+
+    /// Counts a record line whose fields have been read.
+    fn add_record(&mut self) -> Result<(), Fault> {
+        self.records += 1;
+        within(self.records, limits::RECORDS)?;
+        self.check_names()
+    }
+
+    /// The free names of a record's term, each counted as a use.
+    fn add_uses(&mut self, term: usize) -> Result<NameSet, Fault> {
+        let free = self.background.terms.free_names(term);
+        self.uses += free.len();
+        within(self.uses, limits::USES)?;
+        Ok(free.clone())
+    }
+
+    fn check_names(&self) -> Result<(), Fault> {
+        within(self.background.names.len(), limits::NAMES)
+    }
+}
+
+fn within(count: usize, limit: usize) -> Result<(), Fault> {
+    if count <= limit {
+        Ok(())
+    } else {
+        Err(Fault::Limit)
+    }
+}
+
+fn op(word: &[u8]) -> Result<Op, Fault> {
+    match word {
+        b"true" => Ok(Op::True),
+        b"iff" => Ok(Op::Iff),
+        b"eq" => Ok(Op::Eq),
+        b"and" => Ok(Op::And),
+        b"other" => Ok(Op::Other),
+        _ => Err(Fault::Form),
+    }
+}
+
+/// The pattern groups of a quantifier: how many, and for each a count and that many terms.
+fn groups(fields: &mut Fields, count: usize) -> Result<Vec<Vec<usize>>, Fault> {
+    let mut groups = Vec::new();
+    for _ in 0..fields.number(limits::NUMBER)? {
+        let mut group = Vec::new();
+        for _ in 0..fields.number(limits::NUMBER)? {
+            group.push(fields.term(count)?);
+        }
+        groups.push(group);
+    }
+    Ok(groups)
+}

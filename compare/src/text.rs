@@ -1,0 +1,119 @@
+//! Writing files line by line.
+
+use std::fmt::Display;
+
+use crate::terms::TermId;
+
+/// A file under construction, which counts its term lines.
+#[derive(Clone, Default)]
+pub struct Text {
+    bytes: Vec<u8>,
+    terms: usize,
+}
+
+impl Text {
+    /// A file with its first line.
+    pub fn ask(query: u32, options: u32) -> Self {
+        let mut text = Text::default();
+        text.line(format!("ask,{query},{options}"));
+        text
+    }
+
+    /// The bytes of the file.
+    pub fn finish(self) -> Vec<u8> {
+        self.bytes
+    }
+
+    /// How many bytes there are so far.
+    pub fn len(&self) -> usize {
+        self.bytes.len()
+    }
+
+    /// Whether there is no byte yet.
+    pub fn is_empty(&self) -> bool {
+        self.bytes.is_empty()
+    }
+
+    /// How many term lines there are so far.
+    pub fn terms(&self) -> usize {
+        self.terms
+    }
+
+    /// Adds bytes as they are.
+    pub fn raw(&mut self, bytes: &[u8]) {
+        self.bytes.extend_from_slice(bytes);
+    }
+
+    /// Adds a line that is no term line.
+    pub fn line(&mut self, line: impl AsRef<[u8]>) {
+        self.raw(line.as_ref());
+        self.bytes.push(b'\n');
+    }
+
+    fn term(&mut self, line: String) -> TermId {
+        self.line(line);
+        self.terms += 1;
+        self.terms - 1
+    }
+
+    pub fn free(&mut self, name: impl Display) -> TermId {
+        self.term(format!("free,{name}"))
+    }
+
+    pub fn leaf(&mut self) -> TermId {
+        self.term("leaf".to_owned())
+    }
+
+    pub fn call(&mut self, name: impl Display, parts: &[TermId]) -> TermId {
+        self.term(format!("call,{name}{}", fields(parts)))
+    }
+
+    pub fn op(&mut self, word: &str, parts: &[TermId]) -> TermId {
+        self.term(format!("op,{word}{}", fields(parts)))
+    }
+
+    pub fn all(&mut self, body: TermId, groups: &[Vec<TermId>]) -> TermId {
+        self.term(format!("all,{body}{}", group_fields(groups)))
+    }
+
+    pub fn some(&mut self, body: TermId, groups: &[Vec<TermId>]) -> TermId {
+        self.term(format!("some,{body}{}", group_fields(groups)))
+    }
+
+    pub fn bind(&mut self, body: TermId, parts: &[TermId]) -> TermId {
+        self.term(format!("let,{body}{}", fields(parts)))
+    }
+
+    pub fn label(&mut self, inner: TermId) -> TermId {
+        self.term(format!("label,{inner}"))
+    }
+
+    pub fn assume(&mut self, name: impl Display, flag: u32, term: TermId) {
+        self.line(format!("assume,{name},{flag},{term}"));
+    }
+
+    pub fn fun(&mut self, name: impl Display) {
+        self.line(format!("fun,{name}"));
+    }
+
+    pub fn def(&mut self, name: impl Display, term: TermId) {
+        self.line(format!("def,{name},{term}"));
+    }
+
+    pub fn root(&mut self, query: u32, name: impl Display, term: TermId) {
+        self.line(format!("root,{query},{name},{term}"));
+    }
+
+    pub fn retain<Name: Display>(&mut self, names: impl IntoIterator<Item = Name>) {
+        self.line(format!("retain{}", fields(names)));
+    }
+}
+
+fn fields<Field: Display>(fields: impl IntoIterator<Item = Field>) -> String {
+    fields.into_iter().map(|field| format!(",{field}")).collect()
+}
+
+fn group_fields(groups: &[Vec<TermId>]) -> String {
+    let groups_text = groups.iter().map(|group| format!(",{}{}", group.len(), fields(group)));
+    format!(",{}{}", groups.len(), groups_text.collect::<String>())
+}

@@ -1,0 +1,113 @@
+//! The examples and edges of document 01.
+
+use compare::{filter, filter_file, filter_in, summaries, Order, Outcome, Refusal, Trigger, LONG_ENOUGH};
+
+fn refused(number: u32, place: u32) -> Outcome<'static> {
+    Outcome::Refused { number, place }
+}
+
+/// The answer to a file that starts with `ask,0,0`.
+fn answer(rest: &str) -> String {
+    filter_file(format!("ask,0,0\n{rest}").as_bytes()).to_string()
+}
+
+#[test]
+fn the_worked_example() {
+    let file = "ask,0,4\nfree,p\nfree,q\ncall,f,0\nall,2,1,1,2\nassume,a1,0,3\nfun,f\ndef,g,1\ncall,g\nop,eq,4,1\n\
+                assume,e1,0,5\nop,and,2,4\nroot,0,r,6\n";
+    assert_eq!(filter_file(file.as_bytes()).to_string(), "kept,6,a1\nkept,11,e1\nkept,8,g\nkept,7,f\nsum,4,4,2\n");
+}
+
+#[test]
+fn names_are_parts_of_the_file() {
+    let file = b"ask,0,0\nleaf\nassume,a,0,0\n";
+    match filter_file(file) {
+        Outcome::Kept { names, .. } => assert_eq!(names[0].as_ptr(), &file[20]),
+        refused => panic!("{refused}"),
+    }
+}
+
+#[test]
+fn each_refusal_has_its_place() {
+    for (file, number, place) in [
+        ("", 1, 1),
+        ("\n", 1, 1),
+        ("ask,0,0", 1, 1),
+        ("leaf\n", 1, 1),
+        ("ask,0\n", 1, 1),
+        ("ask,0,0,0\n", 1, 1),
+        ("ask,0,0\nask,0,0\n", 1, 2),
+        ("ask,0,0\n\n", 1, 2),
+        ("ask,0,0\nleaf\nleaf", 1, 3),
+        ("ask,0,0\nop\n", 1, 2),
+        ("ask,0,0\nop,or\n", 1, 2),
+        ("ask,0,0\nfree,a b\n", 2, 2),
+        ("ask,0,0\nfree,\n", 2, 2),
+        ("ask,0,0\nretain,a,\n", 2, 2),
+        ("ask,256,0\n", 3, 1),
+        ("ask,0,8\n", 3, 1),
+        ("ask,0,0\nleaf\nassume,a,2,0\n", 3, 3),
+        ("ask,0,0\nleaf\nlabel,00\n", 3, 3),
+        ("ask,0,0\nlabel,0\n", 4, 2),
+        ("ask,0,0\nassume,a,0,0\n", 4, 2),
+        ("ask,0,0\nleaf\nassume,a,0,0\nfun,b\ndef,a,0\n", 5, 5),
+    ] {
+        assert_eq!(filter_file(file.as_bytes()), refused(number, place), "{file:?}");
+    }
+}
+
+#[test]
+fn faults_are_found_in_order() {
+    // The kind, then a fixed count, then the fields from the left, then a repeated name.
+    assert_eq!(answer("leaf\nnone,,\n"), "refused,1,3\n");
+    assert_eq!(answer("leaf\nassume,,2,9,\n"), "refused,1,3\n");
+    assert_eq!(answer("leaf\nassume,,2,9\n"), "refused,2,3\n");
+    assert_eq!(answer("leaf\nassume,a,2,9\n"), "refused,3,3\n");
+    assert_eq!(answer("leaf\nfun,a\nassume,a,0,9\n"), "refused,4,4\n");
+    assert_eq!(answer("leaf\nfun,a\nassume,a,0,0\n"), "refused,5,4\n");
+    // Where the count is not fixed, a lacking field has its turn, and one left over comes last.
+    assert_eq!(answer("leaf\nall,0,2,1,0\n"), "refused,1,3\n");
+    assert_eq!(answer("leaf\nall,1,2,1,0\n"), "refused,4,3\n");
+    assert_eq!(answer("leaf\nall,0,1,1,1,0\n"), "refused,4,3\n");
+    assert_eq!(answer("leaf\nall,0,1,1,0,x\n"), "refused,1,3\n");
+    // Lines from the first; a later line without 0A does not matter.
+    assert_eq!(answer("label,0\nleaf"), "refused,4,2\n");
+}
+
+#[test]
+fn the_callers_refusals() {
+    let file = b"ask,0,0\nleaf\nassume,a,0,0\nassume,b,0,0\n";
+    for index in 0..6 {
+        let mut works = LONG_ENOUGH;
+        works[index] -= 1;
+        assert_eq!(filter(file, works, 2), refused(7, 0));
+        assert_eq!(filter(&[0; 70_000], works, 0), refused(7, 0));
+    }
+    assert_eq!(filter(&[0; 65_536], LONG_ENOUGH, 0), refused(9, 0));
+    assert_eq!(filter(&[0; 65_535], LONG_ENOUGH, 0), refused(1, 1));
+    assert_eq!(filter(file, LONG_ENOUGH, 1), refused(8, 2));
+    assert_eq!(filter(&file[..30], LONG_ENOUGH, 0), refused(1, 4));
+    assert!(matches!(filter(file, LONG_ENOUGH, 2), Outcome::Kept { .. }));
+}
+
+#[test]
+fn definitions_and_declarations_in_both_orders() {
+    let file = b"ask,0,4\nfree,a\nfree,b\nfun,a\nfun,b\nop,other,0,1\nroot,0,r,2\n";
+    let lines = |order| match filter_in(order, file, LONG_ENOUGH, 2) {
+        Outcome::Kept { lines, .. } => lines,
+        refused => panic!("{refused}"),
+    };
+    assert_eq!(lines(Order::Source), [5, 4]);
+    assert_eq!(lines(Order::Line), [4, 5]);
+}
+
+#[test]
+fn summaries_of_a_file() {
+    let file = b"ask,0,0\nfree,q\nfree,p\nall,0,2,0,2,0,1\nassume,a,0,2\nop,true\nassume,b,0,3\n";
+    let summaries = summaries(file).unwrap();
+    assert_eq!(summaries[0].trigger, Trigger::Names(vec![vec![], vec![b"p", b"q"]]));
+    assert_eq!(summaries[0].free, [b"p", b"q"]);
+    assert_eq!(summaries[1].trigger, Trigger::Drop);
+    assert_eq!(summaries[0].to_string(), "fact,5,triggers,{},{p q} free={p q}\n");
+    assert_eq!(compare::summaries(b"ask"), Err(Refusal { number: 1, place: 1 }));
+}

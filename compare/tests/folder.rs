@@ -1,0 +1,94 @@
+//! Every `X.in` of a folder against its `X.out` and, where there is one, its `X.sum`.
+
+use std::fs;
+use std::path::Path;
+
+/// How two answers compare: the order inside the definitions and inside the declarations is free.
+#[derive(PartialEq)]
+enum Verdict {
+    Same,
+    OrderOnly,
+    Different,
+}
+
+fn compare(file: &[u8], expected: &str, actual: &str) -> Verdict {
+    if expected == actual {
+        return Verdict::Same;
+    }
+    let groups = |answer: &str| {
+        let mut lines: Vec<(u8, String)> = Vec::new();
+        for line in answer.lines() {
+            let number = line.split(',').nth(1).and_then(|number| number.parse::<usize>().ok());
+            let record = match number {
+                Some(number) if line.starts_with("kept,") => file.split(|&byte| byte == b'\n').nth(number - 1),
+                _ => None,
+            };
+            let group = match record {
+                Some(record) if record.starts_with(b"def,") => 1,
+                Some(record) if record.starts_with(b"fun,") => 2,
+                Some(_) => 0,
+                None => 3,
+            };
+            lines.push((group, line.to_owned()));
+        }
+        let in_groups = lines.windows(2).all(|pair| pair[0].0 <= pair[1].0);
+        let mut free: Vec<_> = lines.iter().filter(|line| [1, 2].contains(&line.0)).cloned().collect();
+        free.sort();
+        lines.retain(|line| ![1, 2].contains(&line.0));
+        (in_groups, lines, free)
+    };
+    if groups(expected) == groups(actual) {
+        Verdict::OrderOnly
+    } else {
+        Verdict::Different
+    }
+}
+
+fn check_folder(folder: &Path) {
+    let mut inputs: Vec<_> = fs::read_dir(folder)
+        .expect("the folder can be read")
+        .map(|entry| entry.expect("an entry").path())
+        .filter(|path| path.extension().is_some_and(|extension| extension == "in"))
+        .collect();
+    inputs.sort();
+    assert!(!inputs.is_empty(), "no case in {}", folder.display());
+
+    let (mut wrong, mut reordered, mut sums) = (Vec::new(), Vec::new(), 0);
+    for input in &inputs {
+        let name = input.file_stem().unwrap().to_string_lossy().into_owned();
+        let file = fs::read(input).expect("the file can be read");
+        let expected = fs::read_to_string(input.with_extension("out")).expect("an answer beside the file");
+        let actual = compare::filter_file(&file).to_string();
+        match compare(&file, &expected, &actual) {
+            Verdict::Same => {}
+            Verdict::OrderOnly => reordered.push(name.clone()),
+            Verdict::Different => wrong.push(format!("{name}\nexpected\n{expected}actual\n{actual}")),
+        }
+        if let Ok(expected) = fs::read_to_string(input.with_extension("sum")) {
+            sums += 1;
+            let summaries = compare::summaries(&file).expect("an accepted file");
+            let actual: String = summaries.iter().map(ToString::to_string).collect();
+            if actual != expected {
+                wrong.push(format!("{name}\nexpected\n{expected}actual\n{actual}"));
+            }
+        }
+    }
+    println!("{}: {} answers, {sums} summaries", folder.display(), inputs.len());
+    if !reordered.is_empty() {
+        println!("other order inside definitions or declarations: {}", reordered.join(" "));
+    }
+    assert!(wrong.is_empty(), "{} differ\n{}", wrong.len(), wrong.join("\n"));
+}
+
+#[test]
+fn cases_beside_the_tests() {
+    check_folder(Path::new(env!("CARGO_MANIFEST_DIR")).join("cases").as_path());
+}
+
+#[test]
+fn cases_of_the_environment() {
+    match std::env::var_os("WIMPLEJADE_CASES") {
+        Some(folder) => check_folder(Path::new(&folder)),
+        None => println!("skipped: WIMPLEJADE_CASES is not set"),
+    }
+}
