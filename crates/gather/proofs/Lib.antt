@@ -6,3 +6,4 @@ pub mod Rendering
 pub mod Reaching
 pub mod Naming
 pub mod Gather
+pub mod Fresh

@@ -378,7 +378,16 @@ fn rule_3(
     if !is_ambient_refinement(file, names, refs, rows, named, used, many, ty) {
         return Tried::No;
     }
-    Tried::Yes(Choice::Refinement(ambient_refinement_payload(file, names, refs, rows, named, used, many, ty)))
+    Tried::Yes(Choice::Refinement(ambient_refinement_payload(
+        file,
+        names,
+        refs,
+        rows,
+        named,
+        used,
+        many,
+        ty,
+    )))
 }
 
 // (4) Valid of ApplyTT of __uu__PartialApp and a token: {token}, {token less @tok}; no token, no disjunct.
@@ -414,9 +423,7 @@ fn rule_4(
     if !is_head(names, rows, function, PARTIAL_APP) {
         return Tried::No;
     }
-    Tried::Yes(token(
-        file, names, refs, rows, named, used, many, argument,
-    ))
+    Tried::Yes(token(file, names, refs, rows, named, used, many, argument))
 }
 
 // (5) Valid, IsTotFun, is-Tm_arrow of one, HasType of two: {first}.

@@ -1,45 +1,23 @@
 -- Laws of a fact's line: what summarising it asks, and that its summary leaves the tables and the lists right.
-use Prim.Native.Nat.{ℕ, _+_, _≤_, _<_}
+use Prim.Native.Nat.{ℕ, _≤_, _<_}
 use native.Mathlib.Omega.{arith}
 use mathlib.Core.Path.{_≡_, refl, sym, ap, _∙_}
-use mathlib.Core.Bool.{Bool, true, false, cond}
-use mathlib.Core.List.{List, [], _∷_, _++_}
-use lib.ListN.{length, length-append}
-use Rattle.model.specs.Lists.{fold-left}
-use Rattle.model.specs.Names.{Name, mem}
-use Rattle.model.specs.Reading.{spell}
-use Rattle.names.specs.Table.{names-of}
-use Rattle.names.proofs.Laws.{names-length}
-use Rattle.terms.proofs.Table.{rows-named}
-use Rattle.words.specs.Slices.{Same-but}
-use Rattle.gather.proofs.Walking.{rows-marked}
+use mathlib.Core.List.{List}
+use lib.ListN.{length}
+use Rattle.model.specs.Names.{Name}
+use Rattle.model.specs.Summaries.{exclude-names}
+use Rattle.names.specs.Table.{Table, Excludes}
+use Rattle.names.proofs.Excluded.{excluded-exact}
 use Rattle.summary.specs.declared.Summary.{Summary}
 use Rattle.summary.specs.declared.Summarized.{Summarized}
 use Rattle.summary.specs.declared.Summarized.the-variants as summarized
-use Rattle.summary.specs.Facts.{Asked, fact-kind, names-then, fact-summary, limited, Lists}
+use Rattle.summary.specs.Facts.{Asked, fact-summary, limited, Lists}
 use Rattle.summary.proofs.Answering.{limited-done}
 use Rattle.summaries.specs.declared.Counts.{Counts}
 use Rattle.summaries.specs.declared.Fed.the-variants as fed
 use Rattle.summaries.specs.Fed.{Spelt, Ready, Goes, line-fed}
-use Rattle.summaries.proofs.Laws.{fresh-kept, rows-spelt}
-
--- spelling takes no name away
-spell-more : (names : List Name) (name : Name) → length names ≤ length (spell names name)
-unfolding spell
-spell-more names name = go (mem name names)
-  where
-    go : (b : Bool) → length names ≤ length (cond b names (names ++ (name ∷ [])))
-    go true = omega arith
-    go false = omega (arith, length-append names (name ∷ []))
-
--- spelling several names takes none away
-fold-more : (names more : List Name) → length names ≤ length (fold-left spell names more)
-unfolding fold-left
-fold-more names [] = omega arith
-fold-more names (name ∷ more) =
-    let one = spell-more names name in
-    let rest = fold-more (spell names name) more in
-    omega arith
+use Rattle.summaries.proofs.Laws.{rows-spelt}
+use Rattle.gather.proofs.Fresh.{fresh-kept}
 
 -- the tables with the name of a fact are ready for its line
 pub ready-spelt : {file names names′ refs rows : List ℕ} {named n line : ℕ} {k : Counts} → Ready file names refs rows k line → Spelt file names names′ (k .named) named n
@@ -71,43 +49,30 @@ asked r room few name term = record {
 
 -- what summarising a fact says, where it passes no limit
 pub record Made (file names refs rows names′ rows′ out′ : List ℕ) (named used many name t mark filed uses : ℕ) (s : Summary) : Type 0 where
-  pub lists : Lists file names refs rows named used many name t names′ rows′ out′ filed uses s
-  pub is : s ≡ fact-summary file names refs rows named used many name t mark filed uses
+  pub lists : Lists exclude-names file names refs rows named used many name t names′ rows′ out′ filed uses s
+  pub is : s ≡ fact-summary exclude-names file names refs rows named used many name t mark filed uses
   pub few-entries : s .entries ≤ 2048
   pub few-uses : s .uses ≤ 6144
 
-module _ {file names refs rows names′ rows′ out′ : List ℕ} {named used many name t mark filed uses : ℕ} {s : Summary} where
-  -- its answer and its lists say that
-  pub made : {r : Summarized} → r ≡ limited (fact-summary file names refs rows named used many name t mark filed uses)
-      → ((x : Summary) → r ≡ summarized.Done x → Lists file names refs rows named used many name t names′ rows′ out′ filed uses x)
-      → r ≡ summarized.Done s → Made file names refs rows names′ rows′ out′ named used many name t mark filed uses s
-  made answer lists p =
-      let (is, n, e, u) = limited-done (fact-summary file names refs rows named used many name t mark filed uses) (sym p ∙ answer) in
-      record { lists = lists s p; is = is; few-entries = e; few-uses = u }
-
-  -- the table has no fewer names then
-  names-more : Made file names refs rows names′ rows′ out′ named used many name t mark filed uses s → named ≤ s .named
-  unfolding names-then
-  names-more a =
-      omega (
-        arith,
-        names-length file names named,
-        names-length file names′ (s .named),
-        ap length (a .lists .spelled),
-        fold-more (names-of file names named) (fact-kind file names refs rows named used many name t .trimmed),
-      )
+-- its answer and its lists say that
+pub made : {file names refs rows names′ rows′ out′ : List ℕ} {named used many name t mark filed uses : ℕ} {s : Summary} {r : Summarized} → Table file names named
+    → ((exclude : List Name) → Excludes exclude file names named → r ≡ limited (fact-summary exclude file names refs rows named used many name t mark filed uses))
+    → ((exclude : List Name) → Excludes exclude file names named → (x : Summary) → r ≡ summarized.Done x
+    → Lists exclude file names refs rows named used many name t names′ rows′ out′ filed uses x)
+    → r ≡ summarized.Done s → Made file names refs rows names′ rows′ out′ named used many name t mark filed uses s
+made {file} {names} {refs} {rows} {named = named} {used} {many} {name} {t} {mark} {filed} {uses} {s} table answer lists p =
+    let excludes = excluded-exact table in
+    let x = fact-summary exclude-names file names refs rows named used many name t mark filed uses in
+    let (is, n, e, u) = limited-done x (sym p ∙ answer exclude-names excludes) in
+    record { lists = lists exclude-names excludes s p; is = is; few-entries = e; few-uses = u }
 
 -- after a fact the tables are ready for the next line
-pub goes-fact : {file names refs rows names′ rows′ out′ : List ℕ} {k : Counts} {line name t : ℕ} {s : Summary} → Ready file names refs rows k line → Same-but 12288 4096 rows rows′
+pub goes-fact : {file names refs rows names′ rows′ out′ : List ℕ} {k : Counts} {line name t : ℕ} {s : Summary} → Ready file names refs rows k line
     → Made file names refs rows names′ rows′ out′ (k .named) (k .used) (k .many) name t (k .mark) (k .entries) (k .uses) s
     → Goes file names′ refs rows′ line (fed.On (record { named = s .named; used = k .used; many = k .many; entries = s .entries; uses = s .uses; mark = s .mark }))
 unfolding fact-summary
-goes-fact r same a = line-fed (record {
-  tables = record {
-    name-table = a .lists .table;
-    term-table = rows-marked same (rows-named (names-more a) (a .lists .table .few) (r .tables .term-table));
-    fresh = a .lists .fresh;
-  };
+goes-fact r a = line-fed (record {
+  tables = record { name-table = a .lists .tables .name-table; term-table = a .lists .tables .term-table; fresh = a .lists .fresh };
   few-entries = a .few-entries;
   few-uses = a .few-uses;
   few-marks = omega (arith, r .few-marks, ap (λ s. s .mark) (a .is), ap (λ s. s .entries) (a .is));

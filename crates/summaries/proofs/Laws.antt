@@ -24,6 +24,7 @@ use Rattle.lines.proofs.Laws.{added-in, added-full, answer-full}
 use Rattle.lines.proofs.Lines.{pushed-none, pushed-one, patterns-body, patterns-one}
 use Rattle.terms.proofs.Table.{rows-named}
 use Rattle.gather.specs.Sets.{row-mark, name-mark, Fresh}
+use Rattle.gather.proofs.Fresh.{fresh-zero, fresh-kept}
 use Rattle.summaries.specs.declared.Counts.{Counts}
 use Rattle.summaries.specs.declared.Fed.{Fed}
 use Rattle.summaries.specs.declared.Fed.the-variants as fed
@@ -202,11 +203,6 @@ grows-none {k = k} r = one-more {k′ = k} (record { table = r; names = refl; ma
 
 -- ---- tables
 
--- marks that stay are below the next mark
-pub fresh-kept : {names names′ rows rows′ : List ℕ} {mark : ℕ} → ((k : ℕ) → k < 2048 → name-mark names′ k ≡ name-mark names k) → ((t : ℕ) → t < 4096 → row-mark rows′ t ≡ row-mark rows t)
-    → Fresh names rows mark → Fresh names′ rows′ mark
-fresh-kept n r f = record { row-marks = λ t l. rw (r t l) (f .row-marks t l); name-marks = λ k l. rw (n k l) (f .name-marks k l) }
-
 -- the tables with a new row, and with the names then
 feeds : {file names names′ refs rows refs′ rows′ : List ℕ} {named : ℕ} {k : Counts} {f : Fed} → Tables file names refs rows k → Table file names′ named
     → ((n : ℕ) → n < 2048 → name-mark names′ n ≡ name-mark names n) → Grows refs′ rows rows′ named k f → Feeds file names′ refs′ rows′ k f
@@ -270,4 +266,4 @@ zeros-long n h = rw (length-replicate {A = ℕ} n 0) h
 
 -- lists of zeros have no mark above 0
 pub zeros-fresh : (m n : ℕ) → Fresh (replicate m 0) (replicate n 0) 1
-zeros-fresh m n = record { row-marks = λ t l. omega (arith, zero-at n (12288 + t)); name-marks = λ k l. omega (arith, zero-at m (8192 + k)) }
+zeros-fresh m n = fresh-zero (λ t l. zero-at n (12288 + t)) (λ k l. zero-at m (8192 + k))

@@ -403,7 +403,7 @@ fn has_number(out: &[u32], a: usize, e: usize, n: usize) -> bool
 {
     let mut i = a;
     while i < e {
-        if words::at(out, i) % 4096 == n {
+        if words::at(out, i) % triggers::LAST == n {
             return true;
         }
         i += 1;
@@ -419,7 +419,7 @@ fn put_set(file: &[u8], names: &[u32], out: &[u32], named: usize, a: usize, e: u
     let mut first = true;
     let mut r = 0;
     while r < named {
-        let n = words::at(names, 4096 + r);
+        let n = words::at(names, names::INDEX + r);
         if has_number(out, a, e, n) {
             if !first {
                 put(b" ");
@@ -439,7 +439,7 @@ fn put_disjuncts(file: &[u8], names: &[u32], out: &[u32], named: usize, a: usize
     let mut from = a;
     let mut i = a;
     while i < e {
-        if 4096 <= words::at(out, i) {
+        if triggers::LAST <= words::at(out, i) {
             put(b",");
             put_set(file, names, out, named, from, i + 1);
             from = i + 1;
@@ -486,7 +486,14 @@ fn put_summary(
     put(b"fact,");
     put_number(line);
     put_kind(kind);
-    put_disjuncts(file, names, out, named, 6144 + entries, 6144 + filed);
+    put_disjuncts(
+        file,
+        names,
+        out,
+        named,
+        triggers::ENTRIES + entries,
+        triggers::ENTRIES + filed,
+    );
     put(b" free=");
     put_set(file, names, out, named, uses, used);
     put(b"\n");

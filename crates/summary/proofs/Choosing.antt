@@ -20,7 +20,7 @@ use Rattle.gather.proofs.Walking.{excluded-same}
 use Rattle.triggers.specs.Entries.{Files, Filled}
 use Rattle.triggers.specs.Filings.{Filing, filing, file-list, file-groups, file-parts, Files-as}
 use Rattle.triggers.specs.declared.Filed.{Filed}
-use Rattle.triggers.proofs.Marked.{fresh-later}
+use Rattle.gather.proofs.Fresh.{fresh-later}
 use Rattle.rules.specs.Views.{Tables, terms-in}
 use Rattle.rules.specs.Choices.{refinement-kind, parts-kind, kinded, Within}
 use Rattle.rules.specs.declared.Choice.{Choice}
@@ -69,7 +69,7 @@ module _ {file names refs rows out names′ rows′ out′ : List ℕ} {named us
       let kept = table-marked (tables .name-table) (s .marks .names-same) in
       let d : Named exclude (name-of file names′) names named = named-of names (kept .table) (omega arith) excludes (kept .name) (λ n l. refl) in
       let q : terms-of (name-of file names′) refs rows used many ≡ terms-of (name-of file names) refs rows used many =
-          terms-named (name-of file names′) (name-of file names) (kept .name) (tables .term-table) in
+      terms-named (name-of file names′) (name-of file names) (kept .name) (tables .term-table) in
       go (rw q at (s .kinds exclude (name-of file names′) d))
     where
       go : {x : Sorted} → Kinds (name-of file names′) named (f exclude (terms-of (name-of file names) refs rows used many)) at out′ x
@@ -112,7 +112,7 @@ module _ {file names refs rows out names′ rows′ out′ : List ℕ} {named us
   unfolding Sum-triggers
   sets-chooses s c e q g k w x z = (
     sorts-chooses (λ exclude terms. Sum-triggers (s exclude terms)) c e q (λ exclude. refl)
-    (files-sorts (λ exclude name. s exclude (terms-of name refs rows used many)) k w z),
+        (files-sorts (λ exclude name. s exclude (terms-of name refs rows used many)) k w z),
     rw g (files-sorts-as named x z),
   )
 
@@ -155,7 +155,7 @@ module _ {file names refs rows out names′ rows′ out′ : List ℕ} {named us
     unfolding kinded trimmed-table refinement-kind file-choice
     choose-refinement {t} e s w = rw e (
       sorts-chooses (λ exclude terms. refinement-kind exclude terms t) (choice.Refinement t) (λ exclude. refl) refl
-      (λ exclude. let sets = triggers-of-term exclude (terms-in file names refs rows used many) t in refinement-trimmed (is-empty sets) sets) s,
+          (λ exclude. let sets = triggers-of-term exclude (terms-in file names refs rows used many) t in refinement-trimmed (is-empty sets) sets) s,
       w,
     )
 

@@ -29,7 +29,8 @@ use Rattle.gather.specs.declared.Walked.the-variants as walks
 use Rattle.words.proofs.Slices.{same-then, same-wider}
 use Rattle.gather.proofs.Walking.{rows-marked}
 use Rattle.triggers.specs.Entries.{entries-base, entries-end, entry-number, before-first, disjuncts-of-words, disjuncts-of}
-use Rattle.triggers.proofs.Marked.{terms-marked, fresh-next}
+use Rattle.triggers.proofs.Marked.{terms-marked}
+use Rattle.gather.proofs.Fresh.{fresh-next}
 use Rattle.triggers.proofs.Disjuncts.{entries-many}
 use Rattle.triggers.specs.Filings.{filing}
 use Rattle.rules.specs.Views.{Tables, terms-in}
@@ -337,7 +338,7 @@ module _ {file names refs rows out : List ℕ} {named used many name t mark file
             let ends = k .ends in
             let kind = fact-kind exclude file names refs rows named used many name t in
             let count : m ≡ length (kind .triggers) =
-                rw (made exclude) at (kinded-count exclude (terms-in file names refs rows used many) (name-of file names) chosen (ap (λ x. x .kind) (made exclude) ∙ sym (k .kind) ∙ q)) in
+            rw (made exclude) at (kinded-count exclude (terms-in file names refs rows used many) (name-of file names) chosen (ap (λ x. x .kind) (made exclude) ∙ sym (k .kind) ∙ q)) in
             omega (arith, entries-many (kind .triggers))
 
         -- the summary's lists

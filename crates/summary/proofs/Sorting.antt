@@ -25,7 +25,8 @@ use Rattle.triggers.specs.Entries.{disjuncts-of, disjuncts-of-words, Files, all
 use Rattle.triggers.specs.Filings.{filing, file-groups, file-parts, ask-empty, Asks-as, Files-as}
 use Rattle.triggers.specs.declared.Filed.{Filed}
 use Rattle.triggers.specs.declared.Filed.the-variants as files
-use Rattle.triggers.proofs.Marked.{named-marked, terms-marked, fresh-later}
+use Rattle.triggers.proofs.Marked.{named-marked, terms-marked}
+use Rattle.gather.proofs.Fresh.{fresh-later}
 use Rattle.triggers.proofs.Disjuncts.{no-entries}
 use Rattle.summary.specs.declared.Limit.{Limit}
 use Rattle.summary.specs.declared.Sorted.{Sorted}

@@ -5,7 +5,7 @@ use mathlib.Core.Path.{_≡_, refl, sym, ap, _∙_}
 use mathlib.Core.Bool.{Bool, true, false, cond}
 use mathlib.Core.List.{List, [], _∷_, List·Memᴰ·cases-cons, List·Memᴰ·not-nil, _++_}
 use mathlib.Core.Option.{none, some}
-use lib.ListN.{length, getD, take, drop, set, length-take, length-drop, length-set, length-append}
+use lib.ListN.{length, getD, take, drop, set, length-take, length-drop, length-append}
 use lib.Dec.{ltb, not-T}
 use borrow.Author.Tests.{ltb-true, le-ltb, lt-ltb}
 use Rattle.names.specs.Table.{Table, is-excluded, name-of, names-of, look-up, spell-answer, spell-table, entered}
@@ -17,14 +17,14 @@ use Rattle.names.proofs.Laws.{found-missing, names-length}
 use Rattle.names.proofs.Entering.{entered-length, entered-keeps, entered-old, entered-new}
 use Rattle.model.specs.Names.{Name, bytes, ends-with, from-list, add, mem}
 use mathlib.Core.Logic.{inl, inr, _⊎_, ⊎-elim}
-use lib.Seq.{take-take, getD-set-same, getD-set-other}
+use lib.Seq.{take-take}
 use Rattle.model.specs.Lists.{fold-left, sum, _>>=_, part}
 use Rattle.model.proofs.ListLaws.{cond-false}
 use Rattle.model.specs.Reading.{spell}
 use Rattle.model.specs.Summaries.{Sum-triggers, token-triggers, entries}
 use Rattle.model.specs.declared.AsumKind.the-variants as asum
 use Rattle.model.proofs.SetLaws.{same-eq}
-use Rattle.model.proofs.PartLaws.{part-cons, part-nil, part-one, part-two}
+use Rattle.model.proofs.PartLaws.{part-one, part-two}
 use Rattle.names.proofs.Excluded.{excluded-spelled}
 use Rattle.names.proofs.Spelling.{Spelling, spell-law, spelled-known, spelled-new, spelled-full}
 use Rattle.terms.proofs.Laws.{below}

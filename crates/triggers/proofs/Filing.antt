@@ -21,7 +21,8 @@ use Rattle.triggers.specs.declared.Filed.the-variants as filed
 use Rattle.triggers.specs.Entries.{disjuncts-of, disjuncts-of-words, filed-end, Files, all-sets, no-room, Filled, Closes, last, empty, over, Opened}
 use Rattle.triggers.specs.Filings.{Filing, filing, file-set, file-list, Files-as}
 use Rattle.triggers.proofs.Disjuncts.{sets-append, block-sets, block-entries, empty-sets, empty-entries, no-entries, entries-then, entries-append, entries-one}
-use Rattle.triggers.proofs.Marked.{named-marked, terms-marked, fresh-later, fresh-next}
+use Rattle.triggers.proofs.Marked.{named-marked, terms-marked}
+use Rattle.gather.proofs.Fresh.{fresh-later, fresh-next}
 use Rattle.triggers.proofs.Words.{after, words-over, words-closed, words-then, words-as, words-more, words-count, words-none, list-stays}
 
 -- disjuncts, by the excluded names and the names of the numbers

@@ -26,7 +26,8 @@ use Rattle.triggers.specs.declared.Filed.the-variants as filed
 use Rattle.triggers.specs.Entries.{Opened}
 use Rattle.triggers.specs.Filings.{Filing, filing, file-list, file-groups, file-parts, ask-empty, Asks-as}
 use Rattle.triggers.proofs.Disjuncts.{entries-append}
-use Rattle.triggers.proofs.Marked.{terms-marked, groups-marked, fresh-later, fresh-next, All, patterns, triggers-all, triggers-none, groups-more, groups-fewer}
+use Rattle.triggers.proofs.Marked.{terms-marked, groups-marked, All, patterns, triggers-all, triggers-none, groups-more, groups-fewer}
+use Rattle.gather.proofs.Fresh.{fresh-later, fresh-next}
 use Rattle.triggers.proofs.Words.{after, words-count, filed-group, filed-groups, filed-all, filed-none, filed-part, filed-parts, counted-more, walked-one, names-kept, out-kept}
 use Rattle.triggers.proofs.Filing.{Sets, Comes, after-full, after-sets, comes-as, comes-is, comes-more, comes-next, comes-none}
 

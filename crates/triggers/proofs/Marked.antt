@@ -17,10 +17,8 @@ use Rattle.terms.proofs.Laws.{equal, below, groups-all, groups-other}
 use Rattle.terms.proofs.Table.{bare-low}
 use Rattle.terms.proofs.Groups.{groups-count}
 use Rattle.words.specs.Slices.{Same-but}
-use Rattle.gather.specs.Sets.{Named, Fresh, Gathered}
-use Rattle.gather.specs.declared.Walked.{Walked}
+use Rattle.gather.specs.Sets.{Named}
 use Rattle.gather.proofs.Walking.{excluded-same, word-same, kind-same, start-same, extra-same, end-same, bare-same}
-
 use Rattle.triggers.specs.Filings.{groups-under}
 use Rattle.triggers.proofs.Disjuncts.{entries-append}
 
@@ -51,17 +49,6 @@ pub named-marked : {exclude : List Name} {name : ℕ → Name} {names names′ :
 named-marked s few d = record {
   distinct = d .distinct;
   excluded = λ n l. excluded-same s n (omega arith) ∙ d .excluded n l;
-}
-
--- marks below one mark are below a later one
-pub fresh-later : {names rows : List ℕ} (m n : ℕ) → m ≤ n → Fresh names rows m → Fresh names rows n
-fresh-later m n h f = record { row-marks = λ t l. omega (arith, f .row-marks t l); name-marks = λ k l. omega (arith, f .name-marks k l) }
-
--- the marks after gathering a set are below the next one
-pub fresh-next : {names rows out names′ rows′ out′ : List ℕ} {mark at room : ℕ} {r : Walked} → Fresh names rows mark → Gathered names rows out names′ rows′ out′ mark at room r → Fresh names′ rows′ (mark + 1)
-fresh-next f g = record {
-  row-marks = λ t l. ⊎-elim (λ e. omega arith) (λ e. omega (arith, f .row-marks t l)) (g .row-marks t l);
-  name-marks = λ k l. ⊎-elim (λ e. omega arith) (λ e. omega (arith, f .name-marks k l)) (g .name-marks k l);
 }
 
 -- ---- the triggers of a term

@@ -7,16 +7,23 @@ use Rattle.summaries.proofs.feed_fact.Statement.{statement}
 use Rattle.summaries.proofs.feed_fact.Tie as tie
 
 summarize-assumption-requires : tie.Need-summarize-assumption-requires
-summarize-assumption-requires c κs = asked (c .before .before .before .before .before .before .before .before .pre .0) (c .before .before .before .before .before .before .before .before .pre .1) (c .before .before .before .before .before .before .before .before .pre .2) (c .before .before .before .before .before .before .before .before .pre .3) (c .before .before .before .before .before .before .before .before .pre .4)
+summarize-assumption-requires c κs =
+    let start = c .before .before .before .before .before .before .before .before in
+    asked (start .pre .0) (start .pre .1) (start .pre .2) (start .pre .3) (start .pre .4)
 
 enum-known-s : tie.Need-enum-known-s
 enum-known-s c = c .match .keys1
 
 put-summary-requires : tie.Need-put-summary-requires
 put-summary-requires c κs =
-    let answer = c .before .before .before .before .before .before .before .before .before .before .before .summarize-assumption .ensures in
-    let fact = made (answer .0) (answer .1 .0) (c .before .before .before .s .given .1) in
-    (fact .lists .table, omega (arith, c .before .before .before .before .before .before .out .given, c .before .before .before .before .before .before .before .before .before .before .before .before .before .before .before .before .before .before .before .before .pre .1), c .before .before .before .before .before .before .before .before .before .before .before .before .before .before .before .before .before .before .before .before .pre .0 .few-entries, fact .few-entries, fact .few-uses)
+    let back = c .before .before .before .before .before .before .before .before in
+    let back2 = back .before .before .before .before .before .before .before .before in
+    let start = back2 .before .before .before .before in
+    let after-out = c .before .before .before .before .before .before .out in
+    let after-summarize-assumption = back .before .before .before .summarize-assumption in
+    let answer = after-summarize-assumption .ensures in
+    let fact = made (start .pre .0 .tables .name-table) (answer .0) (answer .1 .0) (c .before .before .before .s .given .1) in
+    (fact .lists .tables .name-table, omega (arith, after-out .given, start .pre .1), start .pre .0 .few-entries, fact .few-entries, fact .few-uses)
 
 enum-known-limit : tie.Need-enum-known-limit
 enum-known-limit c = c .match .keys2
@@ -35,9 +42,14 @@ same-length-3 c = search needs
 
 returns : tie.Need-returns
 returns c =
-    let answer = c .before .before .before .before .before .before .before .before .before .before .before .before .summarize-assumption .ensures in
-    let fact = made (answer .0) (answer .1 .0) (c .before .before .before .before .s .given .1) in
-    goes-fact (c .before .before .before .before .before .before .before .before .before .before .before .before .before .before .before .before .before .before .before .before .before .pre .0) (c .before .before .before .before .before .before .before .before .before .before .before .before .summarize-assumption .ensures .1 .1 .0 .row-words) fact
+    let back = c .before .before .before .before .before .before .before .before in
+    let back2 = back .before .before .before .before .before .before .before .before in
+    let start = back2 .before .before .before .before .before in
+    let after-s = c .before .before .before .before .s in
+    let after-summarize-assumption = back .before .before .before .before .summarize-assumption in
+    let answer = after-summarize-assumption .ensures in
+    let fact = made (start .pre .0 .tables .name-table) (answer .0) (answer .1 .0) (after-s .given .1) in
+    goes-fact (start .pre .0) fact
 
 same-length-4 : tie.Need-same-length-4
 same-length-4 c = search needs

@@ -72,8 +72,7 @@ returns-3 c =
     let one = after-if2 .left in
     let gathered = after-gather-list .ensures in
     let is = c .enum-told .given .1 in
-    let all = all-there (start .pre .0) (start .pre .2) (patterns .0) (after-if1 .left) refl (patterns .2) in
-    (
+    let all = all-there (start .pre .0) (start .pre .2) (patterns .0) (after-if1 .left) refl (patterns .2) in (
       λ exclude name d. single-empty (start .pre .0) (start .pre .2) all one (patterns .1) exclude is (gathered .0 exclude name d),
       (
         tables-gathered (start .pre .1 .fresh) (gathered .1 .0),
@@ -106,8 +105,7 @@ returns-4 c =
     let one = after-if2 .left in
     let gathered = after-gather-list .ensures in
     let is = c .enum-told2 .given .1 in
-    let all = all-there (start .pre .0) (start .pre .2) (patterns .0) (after-if1 .left) refl (patterns .2) in
-    (
+    let all = all-there (start .pre .0) (start .pre .2) (patterns .0) (after-if1 .left) refl (patterns .2) in (
       λ exclude name d. single-full (start .pre .0) (start .pre .2) all one (patterns .1) exclude is (gathered .0 exclude name d),
       (
         tables-gathered (start .pre .1 .fresh) (gathered .1 .0),
