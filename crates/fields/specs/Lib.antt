@@ -1,0 +1,3 @@
+pub mod Wording
+pub mod Pushing
+pub mod Spelling

@@ -1,0 +1,75 @@
+-- What a field says as a word: the kind of a line, and the word of an `op`.
+use Prim.Native.Nat.{ℕ, _+_}
+use Prim.Native.String.{String}
+use mathlib.Core.Bool.{Bool, cond, not}
+use mathlib.Core.List.{List, [], _∷_}
+use mathlib.Core.Option.{Option, none, some}
+use lib.ListN.{length}
+use lib.Dec.{eqb}
+use Rattle.model.specs.Lists.{holds}
+use Rattle.model.specs.Lines.{Field}
+use Rattle.model.specs.Reading.{Result, ok, refused, fixed-count}
+use Rattle.model.specs.declared.LineKind.{LineKind}
+use Rattle.model.specs.declared.LineKind.the-variants as kind
+use Rattle.model.specs.declared.Op.{Op}
+use Rattle.model.specs.declared.Refusal.the-variants as refusal
+use Rattle.fields.specs.declared.TermKind.{TermKind}
+use Rattle.fields.specs.declared.TermKind.the-variants as termed
+use Rattle.fields.specs.declared.RecordKind.{RecordKind}
+use Rattle.fields.specs.declared.RecordKind.the-variants as recorded
+use Rattle.fields.specs.declared.Kind.{Kind}
+use Rattle.fields.specs.declared.Kind.the-variants as kinded
+use Rattle.fields.specs.declared.OpWord.{OpWord}
+use Rattle.fields.specs.declared.OpWord.the-variants as worded
+
+-- what stands at a place of a list of words whose first has the place n
+unfoldable pub pick : {A : Type 0} → ℕ → List (String × A) → ℕ → Option A
+pick n [] place = none
+pick n ((w, a) ∷ ws) place = let other = pick (n + 1) ws place in cond (eqb place n) (some a) other
+
+-- the kind of a term line, as `model` has it
+unfoldable pub term-kind : TermKind → LineKind
+term-kind termed.Free = kind.Free
+term-kind termed.Leaf = kind.Leaf
+term-kind termed.Call = kind.Call
+term-kind termed.Op = kind.Op
+term-kind termed.All = kind.All
+term-kind termed.Some = kind.Some
+term-kind termed.Let = kind.Let
+term-kind termed.Label = kind.Label
+
+-- the kind of a record line
+unfoldable pub record-kind : RecordKind → LineKind
+record-kind recorded.Assume = kind.Assume
+record-kind recorded.Fun = kind.Fun
+record-kind recorded.Def = kind.Def
+record-kind recorded.Retain = kind.Retain
+record-kind recorded.Root = kind.Root
+
+-- the kind of a line; none is 1
+unfoldable pub kind-result : Kind → Result LineKind
+kind-result kinded.Ask = ok kind.Ask
+kind-result (kinded.Term t) = ok (term-kind t)
+kind-result (kinded.Record r) = ok (record-kind r)
+kind-result kinded.No = refused refusal.Form
+
+-- the fields of a line, the kind counted, where their count is fixed
+unfoldable pub fixed-of : Kind → Option ℕ
+fixed-of kinded.Ask = fixed-count kind.Ask
+fixed-of (kinded.Term t) = fixed-count (term-kind t)
+fixed-of (kinded.Record r) = fixed-count (record-kind r)
+fixed-of kinded.No = none
+
+-- a count, or 0 where there is none
+unfoldable pub count-of : Option ℕ → ℕ
+count-of none = 0
+count-of (some n) = n
+
+-- whether a line has as many fields as its kind asks for
+unfoldable pub well-counted : Kind → List Field → Bool
+well-counted k fs = not (holds (λ n. not (eqb (length fs) n)) (fixed-of k))
+
+-- an op word as an answer
+unfoldable pub as-op : Option Op → OpWord
+as-op none = worded.No
+as-op (some op) = worded.Is op
