@@ -1,0 +1,245 @@
+-- One record more: the tables stand, and are the state with the line.
+use Prim.Native.Nat.{ℕ, zero, suc, _+_, _-_, _*_, _≤_, _<_}
+use native.Mathlib.Numerals.{add-one}
+use native.Mathlib.Omega.{arith}
+use mathlib.Core.Path.{_≡_, refl, sym, ap, _∙_}
+use mathlib.Core.Bool.{true, false}
+use mathlib.Core.Logic.{_⊎_, inl, inr, ⊎-elim}
+use mathlib.Core.List.{List, [], _∷_, _++_, map}
+use lib.ListN.{length, getD, length-append}
+use Rattle.model.specs.Lists.{sum, collect, fold-left, part}
+use Rattle.model.specs.Names.{Name}
+use Rattle.model.specs.Terms.{Node, Term, add-term, unlabeled, free-top-level-names}
+use Rattle.model.specs.Reading.{Content, asked, nodes, spelled, trimmed, spell, summarize-decl, root-of, entries-of, uses-of, add-line, repeats, most-records, most-entries, most-uses}
+use Rattle.model.specs.declared.Counts.{Counts}
+use Rattle.model.specs.declared.Refusal.the-variants as refusal
+use Rattle.names.specs.Table.{Table, name-of, names-of}
+use Rattle.names.proofs.Laws.{names-length}
+use Rattle.terms.specs.Rows.{terms-of, nodes-below, node-of}
+use Rattle.terms.proofs.Table.{rows-named, terms-named}
+use Rattle.terms.proofs.Laws.{equal, below}
+use Rattle.gather.specs.Sets.{Fresh, Same-but}
+use Rattle.gather.proofs.Walking.{rows-marked}
+use Rattle.rules.specs.Views.{terms-in}
+use Rattle.triggers.specs.Entries.{disjuncts-of, entries}
+use Rattle.triggers.proofs.Marked.{terms-marked}
+use Rattle.records.specs.declared.Step.the-variants as step
+use Rattle.records.specs.Columns.{record-kind, assume-kind, retain-kind, root-kind, entry-column, last-entry, no-name, entry-word, entry-name, entry-fact}
+use Rattle.records.specs.States.{summary-at, root-at, decls-of, roots-of, ask-of, state-of}
+use Rattle.records.specs.Filing.{Records, Chained, Filing, Taken, Stocked}
+use Rattle.records.specs.Writing.{with-record, Rowed}
+use Rattle.records.specs.Adding.{excluded, Standing, judge, Adds, stops, added}
+use Rattle.records.proofs.Recording.{Agree, decls-stay, roots-stay, records-length}
+use Rattle.records.proofs.Keeping.{filing-more}
+use Rattle.records.proofs.Judging.{Within, Beyond, many-records, judged-repeated, judged-beyond, judged-within}
+
+-- ---- how many terms there are
+
+folded-length : (ts : List Term) (ns : List Node) → length (fold-left add-term ts ns) ≡ length ts + length ns
+unfolding fold-left add-term
+folded-length ts [] = omega arith
+folded-length ts (n ∷ ns) =
+    let t : Term = record { node = n; bare = unlabeled ts n; names = free-top-level-names ts n } in
+    omega (arith, folded-length (add-term ts n) ns, length-append ts (t ∷ []))
+
+nodes-length : (name : ℕ → Name) (refs rows : List ℕ) (used many n : ℕ) → length (nodes-below name refs rows used many n) ≡ n
+unfolding nodes-below
+nodes-length name refs rows used many zero = refl
+nodes-length name refs rows used many (suc n) =
+    omega (arith, length-append (nodes-below name refs rows used many n) (node-of name refs rows used many n ∷ []), nodes-length name refs rows used many n)
+
+-- the terms of a table are as many as its rows
+pub terms-length : (file names refs rows : List ℕ) (used many : ℕ) → length (terms-in file names refs rows used many) ≡ many
+unfolding terms-in terms-of
+terms-length file names refs rows used many =
+    let ns = nodes-below (name-of file names) refs rows used many many in
+    omega (arith, folded-length [] ns, nodes-length (name-of file names) refs rows used many many)
+
+-- tables that stand are within the limits
+pub standing-within : {file names refs rows recs out : List ℕ} {k : Counts} → Standing file names refs rows recs out k → Within (state-of file names refs rows recs out k)
+unfolding state-of
+standing-within {file} {names} {refs} {rows} {recs} {out} {k} st = record {
+  names = omega (arith, names-length file names (k .named), st .tables .name-table .few);
+  terms = omega (arith, terms-length file names refs rows (k .used) (k .many), st .tables .term-table .few-rows);
+  references = st .tables .term-table .few-references;
+  records = omega (arith, records-length (name-of file names) recs out (k .records), st .recorded .few);
+  entries = st .recorded .few-entries;
+  uses = st .recorded .few-uses;
+}
+
+-- ---- a record appended
+
+-- the tables with a record after those counted: more names, marks, its row, its free names, its entries, the name that it takes
+pub record Appends (file names rows recs out names′ rows′ recs′ out′ : List ℕ) (k : Counts) (named′ entries′ uses′ mark′ kind line name term flag code : ℕ) : Type 0 where
+  pub table : Table file names′ named′
+  pub more : k .named ≤ named′
+  pub same : (n : ℕ) → n < k .named → name-of file names′ n ≡ name-of file names n
+  pub row-words : Same-but 12288 4096 rows rows′
+  pub fresh : Fresh names′ rows′ mark′
+  pub few-marks : mark′ ≤ 2 * (k .records + 1) + entries′ + 1
+  pub row : Rowed recs recs′ k (with-record k named′ entries′ uses′ mark′) kind line name term flag code
+  pub small-kind : kind ≤ root-kind
+  pub known : (kind ≡ retain-kind → ⊥) → name < named′
+  pub out-length : length out′ ≡ length out
+  pub few-uses : uses′ ≤ most-uses
+  pub more-uses : k .uses ≤ uses′
+  pub old-uses : (j : ℕ) → j < k .uses → getD out′ j 0 ≡ getD out j 0
+  pub new-uses : (j : ℕ) → k .uses ≤ j → j < uses′ → getD out′ j 0 < named′
+  pub few-entries : entries′ ≤ most-entries
+  pub more-entries : k .entries ≤ entries′
+  pub old-entries : (e : ℕ) → e < k .entries → entry-word out′ e ≡ entry-word out e
+  pub old-facts : (e : ℕ) → e < k .entries → entry-fact out′ e ≡ entry-fact out e
+  pub new-entries : (e : ℕ) → k .entries ≤ e → e < entries′ → (entry-name out′ e < named′) ⊎ (entry-name out′ e ≡ no-name)
+  pub new-facts : (e : ℕ) → k .entries ≤ e → e < entries′ → entry-fact out′ e ≡ k .records
+  pub flagged : (e : ℕ) → k .entries ≤ e → e < entries′ → entry-word out′ e < last-entry + last-entry
+  pub ended : k .entries < entries′ → last-entry ≤ entry-word out′ (entries′ - 1)
+  pub sized : entries′ ≡ k .entries + entries (disjuncts-of (name-of file names′) (part out′ (entry-column + k .entries) (entry-column + entries′)))
+  pub only-facts : (kind ≡ assume-kind → ⊥) → entries′ ≡ k .entries
+  pub taken : Taken names′ recs′ (k .records + 1)
+  pub chained : Chained names′ out′ entries′
+
+-- a line says what the record after those counted is: the names that it spells, what it adds to the background, the roots, the counts
+pub record Says (file names names′ recs′ out′ : List ℕ) (terms : List Term) (k k′ : Counts) (kind line : ℕ) (c : Content) : Type 0 where
+  pub no-ask : asked c (ask-of k) ≡ ask-of k
+  pub no-term : nodes c ≡ []
+  pub spells : names-of file names′ (k′ .named) ≡ fold-left spell (names-of file names (k .named)) (spelled c ++ trimmed excluded terms c)
+  pub decls : summary-at (name-of file names′) recs′ out′ (k .records) kind ≡ summarize-decl excluded terms line c
+  pub roots : root-at (name-of file names′) recs′ out′ (k .records) kind ≡ root-of excluded terms line c
+  pub entries : k′ .entries ≡ k .entries + sum (map entries-of (summarize-decl excluded terms line c))
+  pub uses : k′ .uses ≡ k .uses + (sum (map uses-of (summarize-decl excluded terms line c)) + sum (map (λ r. length (r .free-names)) (root-of excluded terms line c)))
+
+module _ {file names refs rows recs out names′ rows′ recs′ out′ : List ℕ} {k : Counts} {named′ entries′ uses′ mark′ kind line name term flag code : ℕ}
+    (st : Standing file names refs rows recs out k) (few : k .records < most-records)
+    (a : Appends file names rows recs out names′ rows′ recs′ out′ k named′ entries′ uses′ mark′ kind line name term flag code) where
+  -- the rows of the records before
+  before : (c j : ℕ) → j < k .records → getD recs′ (c * most-records + j) 0 ≡ getD recs (c * most-records + j) 0
+  before c j l = a .row .others c j (omega arith) (λ e. omega arith)
+
+  -- what is there stays
+  pub agree : Agree (name-of file names) (name-of file names′) recs out recs′ out′ (k .named) (k .records) (k .entries) (k .uses)
+  agree = record { same = a .same; rows = before; out-length = a .out-length; use-words = a .old-uses; entry-words = a .old-entries }
+
+  -- the terms are those before
+  pub terms-stay : terms-in file names′ refs rows′ (k .used) (k .many) ≡ terms-in file names refs rows (k .used) (k .many)
+  unfolding terms-in
+  terms-stay = terms-marked (name-of file names′) (a .row-words) (st .tables .term-table)
+      ∙ terms-named (name-of file names′) (name-of file names) (a .same) (st .tables .term-table)
+
+  filing-then : Filing (name-of file names′) recs′ out′ (k .records + 1) entries′
+  filing-then = filing-more agree (st .recorded) (st .stocked .filing) (a .old-facts) (a .row .entries-from) (a .row .entries-to)
+      (rw (a .row .entries-from, a .row .entries-to) (a .sized))
+      (λ d. a .only-facts (λ e. d (a .row .kind-is ∙ e)))
+      (a .new-facts) (a .flagged) (a .ended)
+
+  records-then : Records recs′ out′ named′ (k .records + 1) entries′ uses′
+  records-then =
+      let r = st .recorded in
+      let row = a .row in
+      let x = a .more in
+      let y = a .more-uses in
+      record {
+        room = rw (row .same-length) (r .room);
+        out-room = rw (a .out-length) (r .out-room);
+        few = omega arith;
+        few-entries = a .few-entries;
+        few-uses = a .few-uses;
+        kinds = λ j l. ⊎-elim
+            (λ (e : j ≡ k .records). rw (e, row .kind-is) (a .small-kind))
+            (λ (e : j ≡ k .records → ⊥). rw (before 0 j (omega arith)) (r .kinds j (omega arith)))
+            (equal j (k .records));
+        named-in = λ j l q. ⊎-elim
+            (λ (e : j ≡ k .records). rw (e, row .name-is) (a .known (λ z. q (ap (record-kind recs′) e ∙ row .kind-is ∙ z))))
+            (λ (e : j ≡ k .records → ⊥).
+            let b : j < k .records = omega arith in
+            omega (arith, before 2 j b, r .named-in j b (λ z. q (before 0 j b ∙ z))))
+            (equal j (k .records));
+        rising = λ j l. ⊎-elim
+            (λ (e : j ≡ k .records). rw (e, row .uses-from, row .uses-to) y)
+            (λ (e : j ≡ k .records → ⊥). let b : j < k .records = omega arith in rw (before 5 j b, before 6 j b) (r .rising j b))
+            (equal j (k .records));
+        uses-in = λ j l. ⊎-elim
+            (λ (e : j ≡ k .records). rw (e, row .uses-to) (omega arith))
+            (λ (e : j ≡ k .records → ⊥). let b : j < k .records = omega arith in omega (arith, before 6 j b, r .uses-in j b))
+            (equal j (k .records));
+        entries-in = λ j l. ⊎-elim
+            (λ (e : j ≡ k .records). rw (e, row .entries-to) (omega arith))
+            (λ (e : j ≡ k .records → ⊥). let b : j < k .records = omega arith in omega (arith, before 8 j b, r .entries-in j b, a .more-entries))
+            (equal j (k .records));
+        use-words = λ j l. ⊎-elim
+            (λ (e : j < k .uses). omega (arith, a .old-uses j e, r .use-words j e))
+            (λ (e : k .uses ≤ j). a .new-uses j e l)
+            (below j (k .uses));
+        entry-words = λ e l. ⊎-elim
+            (λ (b : e < k .entries). rw (a .old-entries e b) (⊎-elim (λ (q : entry-name out e < k .named). inl (omega arith)) (λ q. inr q) (r .entry-words e b)))
+            (λ (b : k .entries ≤ e). a .new-entries e b l)
+            (below e (k .entries));
+      }
+
+  -- the tables stand
+  pub standing-then : Standing file names′ refs rows′ recs′ out′ (with-record k named′ entries′ uses′ mark′)
+  standing-then = record {
+    tables = record { name-table = a .table; term-table = rows-named (a .more) (a .table .few) (rows-marked (a .row-words) (st .tables .term-table)) };
+    recorded = records-then;
+    fresh = a .fresh;
+    few-marks = a .few-marks;
+    stocked = record { filing = filing-then; taken = a .taken; chained = a .chained };
+  }
+
+  -- the tables are the state with the line
+  state-then : {c : Content} → Says file names names′ recs′ out′ (terms-in file names refs rows (k .used) (k .many)) k (with-record k named′ entries′ uses′ mark′) kind line c
+      → add-line excluded line (state-of file names refs rows recs out k) c ≡ state-of file names′ refs rows′ recs′ out′ (with-record k named′ entries′ uses′ mark′)
+  unfolding add-line state-of decls-of roots-of fold-left collect
+  state-then s =
+      let zero-more : k .used + 0 ≡ k .used = omega arith in
+      rw (
+        s .no-ask,
+        s .no-term,
+        zero-more,
+        add-one (k .records),
+        ← s .spells,
+        ← s .entries,
+        ← s .uses,
+        ← s .decls,
+        ← s .roots,
+        a .row .kind-is,
+        decls-stay agree (st .recorded) (k .records) (omega arith),
+        roots-stay agree (st .recorded) (k .records) (omega arith),
+        terms-stay,
+      )
+
+  -- what adding the record comes to
+  pub record-added : {c : Content} → repeats excluded line (state-of file names refs rows recs out k) c ≡ false
+      → Says file names names′ recs′ out′ (terms-in file names refs rows (k .used) (k .many)) k (with-record k named′ entries′ uses′ mark′) kind line c
+      → Adds file names refs rows recs out names′ rows′ recs′ out′ k line c (step.On (with-record k named′ entries′ uses′ mark′))
+  record-added {c} new s = added {k′ = with-record k named′ entries′ uses′ mark′}
+      (judged-within line (state-of file names refs rows recs out k) c new (state-then s) (standing-within standing-then)) standing-then
+
+-- ---- a record refused
+
+module _ {file names refs rows recs out names′ rows′ recs′ out′ : List ℕ} {k : Counts} (st : Standing file names refs rows recs out k) (line : ℕ) (c : Content) where
+  -- its name is taken
+  pub record-repeated : repeats excluded line (state-of file names refs rows recs out k) c ≡ true
+      → Adds file names refs rows recs out names′ rows′ recs′ out′ k line c (step.Refused refusal.Repeated)
+  record-repeated e = stops {x = refusal.Repeated} (st .tables .name-table .few) (judged-repeated line (state-of file names refs rows recs out k) c e)
+
+  module _ (new : repeats excluded line (state-of file names refs rows recs out k) c ≡ false) where
+    -- a limit is passed
+    pub record-beyond : Beyond (add-line excluded line (state-of file names refs rows recs out k) c)
+        → Adds file names refs rows recs out names′ rows′ recs′ out′ k line c (step.Refused refusal.Limit)
+    record-beyond b = stops {x = refusal.Limit} (st .tables .name-table .few) (judged-beyond line (state-of file names refs rows recs out k) c new b)
+
+    -- there are as many records as may be
+    pub record-crowded : most-records ≤ k .records
+        → length (summarize-decl excluded (terms-in file names refs rows (k .used) (k .many)) line c) + length (root-of excluded (terms-in file names refs rows (k .used) (k .many)) line c) ≡ 1
+        → Adds file names refs rows recs out names′ rows′ recs′ out′ k line c (step.Refused refusal.Limit)
+    unfolding add-line state-of
+    record-crowded h one =
+        let terms = terms-in file names refs rows (k .used) (k .many) in
+        let decls = decls-of (name-of file names) recs out (k .records) in
+        let roots = roots-of (name-of file names) recs out (k .records) in
+        record-beyond (many-records (omega (
+          arith,
+          records-length (name-of file names) recs out (k .records),
+          length-append decls (summarize-decl excluded terms line c),
+          length-append roots (root-of excluded terms line c),
+        )))

@@ -1,0 +1,200 @@
+-- A record line judged on the state that the tables are.
+use Prim.Native.Nat.{ℕ, zero, suc, _+_, _-_, _≤_, _<_}
+use native.Mathlib.Nat.{not-suc-le-zero}
+use native.Mathlib.Omega.{arith}
+use mathlib.Core.Path.{_≡_, refl, sym, ap, _∙_}
+use mathlib.Core.Bool.{Bool, true, false, cond, _||_}
+use mathlib.Core.Logic.{_⊎_, ⊎-elim}
+use mathlib.Core.List.{List, [], _∷_, _++_, List·Memᴰ, List·Memᴰ·head, List·Memᴰ·not-nil, List·Memᴰ·eq-of-singleton, List·Memᴰ·append-cases, Memᴰ·append-left, Memᴰ·append-right}
+use lib.ListN.{length, getD, length-append}
+use lib.Dec.{T, leb, not-T}
+use borrow.Author.Tests.{le-leb, lt-leb}
+use Rattle.model.specs.Lists.{collect, any, fold-left}
+use Rattle.model.specs.Names.{Name, mem}
+use Rattle.model.specs.Terms.{Node, Term, add-term, unlabeled, free-top-level-names}
+use Rattle.model.specs.Reading.{Result, ok, refused, _>>=_, Content, State, Summary, taken-by, summarize-decl, limits, under-limits, add-line, repeats, read-line, parse, most-names, most-terms, most-references, most-records, most-entries, most-uses}
+use Rattle.model.specs.Lines.{fields}
+use Rattle.model.specs.declared.Counts.{Counts}
+use Rattle.model.specs.declared.Refusal.{Refusal}
+use Rattle.model.specs.declared.Refusal.the-variants as refusal
+use Rattle.model.proofs.ListLaws.{T-true, T-false, collect-append}
+use Rattle.model.proofs.SetLaws.{mem-intro, mem-elim}
+use Rattle.names.specs.Table.{name-of}
+use Rattle.names.proofs.Laws.{names-length, distinct}
+use Rattle.terms.specs.Rows.{terms-of, nodes-below, node-of}
+use Rattle.terms.proofs.Laws.{equal}
+use Rattle.rules.specs.Views.{terms-in}
+use Rattle.records.specs.declared.Step.the-variants as step
+use Rattle.records.specs.Columns.{record-kind, record-name, retain-kind, taken-at}
+use Rattle.records.specs.States.{decl-at, fact-at, summary-at, decls-of, roots-of, state-of}
+use Rattle.records.specs.Filing.{Taken}
+use Rattle.records.specs.Adding.{excluded, Standing, judge, Adds, full, stops, added}
+use Rattle.records.proofs.Recording.{records-length}
+
+-- ---- the limits
+
+-- every limit is kept
+pub record Within (s : State) : Type 0 where
+  pub names : length (s .names) ≤ most-names
+  pub terms : length (s .terms) ≤ most-terms
+  pub references : s .references ≤ most-references
+  pub records : length (s .decls) + length (s .roots) ≤ most-records
+  pub entries : s .entries ≤ most-entries
+  pub uses : s .uses ≤ most-uses
+
+-- one is passed
+pub data Beyond (s : State) : Type 0 where
+  many-names : most-names < length (s .names) → Beyond s
+  many-terms : most-terms < length (s .terms) → Beyond s
+  many-references : most-references < s .references → Beyond s
+  many-records : most-records < length (s .decls) + length (s .roots) → Beyond s
+  many-entries : most-entries < s .entries → Beyond s
+  many-uses : most-uses < s .uses → Beyond s
+
+-- the state is the value then
+pub within-limits : (s : State) → Within s → under-limits (limits s) s ≡ ok s
+unfolding limits under-limits
+within-limits s w =
+    rw (le-leb _ _ (w .names), le-leb _ _ (w .terms), le-leb _ _ (w .references), le-leb _ _ (w .records), le-leb _ _ (w .entries), le-leb _ _ (w .uses))
+
+module _ {A : Type 0} (counted limit : ℕ) (more : List (ℕ × ℕ × Refusal)) (a : A) where
+  -- a limit that is passed refuses
+  here : limit < counted → under-limits ((counted, limit, refusal.Limit) ∷ more) a ≡ refused refusal.Limit
+  unfolding under-limits
+  here h = rw (lt-leb counted limit h)
+
+  -- and so does a later one
+  later : under-limits more a ≡ refused refusal.Limit → under-limits ((counted, limit, refusal.Limit) ∷ more) a ≡ refused refusal.Limit
+  unfolding under-limits
+  later e = rw e (go (leb counted limit))
+    where
+      go : (b : Bool) → _≡_ {A = Result A} (cond b (refused refusal.Limit) (refused refusal.Limit)) (refused refusal.Limit)
+      go true = refl
+      go false = refl
+
+-- a refusal by limit
+pub beyond-limits : (s : State) → Beyond s → under-limits (limits s) s ≡ refused refusal.Limit
+unfolding limits
+beyond-limits s (many-names h) = here _ _ _ _ h
+beyond-limits s (many-terms h) = later _ _ _ _ (here _ _ _ _ h)
+beyond-limits s (many-references h) = later _ _ _ _ (later _ _ _ _ (here _ _ _ _ h))
+beyond-limits s (many-records h) = later _ _ _ _ (later _ _ _ _ (later _ _ _ _ (here _ _ _ _ h)))
+beyond-limits s (many-entries h) = later _ _ _ _ (later _ _ _ _ (later _ _ _ _ (later _ _ _ _ (here _ _ _ _ h))))
+beyond-limits s (many-uses h) = later _ _ _ _ (later _ _ _ _ (later _ _ _ _ (later _ _ _ _ (later _ _ _ _ (here _ _ _ _ h)))))
+
+-- ---- a line judged
+
+-- a line whose 0A is there is judged by what its fields say
+pub line-judged : (n : ℕ) (s : State) (bytes : List ℕ)
+    → read-line excluded n s (record { bytes = bytes; ended = true }) ≡ (parse n (length (s .terms)) (fields bytes) >>= judge n s)
+unfolding read-line judge
+line-judged n s bytes = go (parse n (length (s .terms)) (fields bytes))
+  where
+    pick : (b : Bool) (c : Content) (f : Content → Result State)
+        → (cond b (refused refusal.Repeated) (ok c) >>= f) ≡ cond b (refused refusal.Repeated) (f c)
+    pick true c f = refl
+    pick false c f = refl
+
+    go : (said : Result Content)
+        → (said >>= λ c. cond (repeats excluded n s c) (refused refusal.Repeated) (ok c) >>= λ d. under-limits (limits (add-line excluded n s d)) (add-line excluded n s d))
+        ≡ (said >>= judge n s)
+    go (ok c) = pick (repeats excluded n s c) c (λ d. under-limits (limits (add-line excluded n s d)) (add-line excluded n s d))
+    go (refused x) = refl
+
+module _ (n : ℕ) (s : State) (c : Content) where
+  -- 5
+  pub judged-repeated : repeats excluded n s c ≡ true → judge n s c ≡ refused refusal.Repeated
+  unfolding judge
+  judged-repeated e = rw e
+
+  -- a limit
+  pub judged-beyond : repeats excluded n s c ≡ false → Beyond (add-line excluded n s c) → judge n s c ≡ refused refusal.Limit
+  unfolding judge
+  judged-beyond e b = rw e (beyond-limits (add-line excluded n s c) b)
+
+  -- the state with the line
+  pub judged-within : repeats excluded n s c ≡ false → {t : State} → add-line excluded n s c ≡ t → Within t → judge n s c ≡ ok t
+  unfolding judge
+  judged-within e {t} is w = rw (e, is) (within-limits t w)
+
+-- ---- which names are taken
+
+module _ (name : ℕ → Name) (recs out : List ℕ) where
+  -- the name that a record takes
+  took-at : (i kind : ℕ) {y : Name} → List·Memᴰ y (collect taken-by (summary-at name recs out i kind)) → (kind < retain-kind) × (y ≡ name (record-name recs i))
+  unfolding summary-at decl-at fact-at collect taken-by
+  took-at i zero m = (omega arith, List·Memᴰ·eq-of-singleton m)
+  took-at i (suc zero) m = (omega arith, List·Memᴰ·eq-of-singleton m)
+  took-at i (suc (suc zero)) m = (omega arith, List·Memᴰ·eq-of-singleton m)
+  took-at i (suc (suc (suc zero))) m = absurd (List·Memᴰ·not-nil m)
+  took-at i (suc (suc (suc (suc k)))) m = absurd (List·Memᴰ·not-nil m)
+
+  takes-at : (i kind : ℕ) → kind < retain-kind → List·Memᴰ (name (record-name recs i)) (collect taken-by (summary-at name recs out i kind))
+  unfolding summary-at decl-at fact-at collect taken-by
+  takes-at i zero h = List·Memᴰ·head refl
+  takes-at i (suc zero) h = List·Memᴰ·head refl
+  takes-at i (suc (suc zero)) h = List·Memᴰ·head refl
+  takes-at i (suc (suc (suc k))) h = absurd (omega arith)
+
+  -- a name that is taken is that of a record
+  taken-elim : (n : ℕ) {y : Name} → List·Memᴰ y (collect taken-by (decls-of name recs out n))
+      → (i : ℕ) × (i < n) × (record-kind recs i < retain-kind) × (y ≡ name (record-name recs i))
+  unfolding decls-of collect
+  taken-elim zero m = absurd (List·Memᴰ·not-nil m)
+  taken-elim (suc n) m = ⊎-elim
+      (λ q. let (i, l, t, e) = taken-elim n q in (i, omega arith, t, e))
+      (λ q. let (t, e) = took-at n (record-kind recs n) q in (n, omega arith, t, e))
+      (List·Memᴰ·append-cases (collect taken-by (decls-of name recs out n))
+      (rw (collect-append taken-by (decls-of name recs out n) (summary-at name recs out n (record-kind recs n))) at m))
+
+  -- and the name of such a record is taken
+  taken-intro : (n i : ℕ) → i < n → record-kind recs i < retain-kind → List·Memᴰ (name (record-name recs i)) (collect taken-by (decls-of name recs out n))
+  unfolding decls-of
+  taken-intro zero i h t = absurd (not-suc-le-zero h)
+  taken-intro (suc n) i h t = rw (collect-append taken-by (decls-of name recs out n) (summary-at name recs out n (record-kind recs n)))
+      (⊎-elim
+      (λ (e : i ≡ n). Memᴰ·append-right (collect taken-by (decls-of name recs out n)) (rw e (takes-at n (record-kind recs n) (rw e at t))))
+      (λ (e : i ≡ n → ⊥). Memᴰ·append-left (collect taken-by (summary-at name recs out n (record-kind recs n))) (taken-intro n i (omega arith) t))
+      (equal i n))
+
+module _ (n : ℕ) (s : State) (c : Content) where
+  -- a line that takes no name repeats none
+  pub repeats-none : collect taken-by (summarize-decl excluded (s .terms) n c) ≡ [] → repeats excluded n s c ≡ false
+  unfolding repeats any
+  repeats-none e = rw e
+
+  -- a line that takes a name
+  repeats-one : {m : Name} → collect taken-by (summarize-decl excluded (s .terms) n c) ≡ m ∷ [] → repeats excluded n s c ≡ (mem m (collect taken-by (s .decls)) || false)
+  unfolding repeats any
+  repeats-one e = rw e
+
+module _ {file names refs rows recs out : List ℕ} {k : Counts} (st : Standing file names refs rows recs out k) (line : ℕ) (c : Content) {i : ℕ} (known : i < k .named)
+    (takes : collect taken-by (summarize-decl excluded (terms-in file names refs rows (k .used) (k .many)) line c) ≡ name-of file names i ∷ []) where
+  -- a taken name is repeated
+  pub repeats-taken : 0 < taken-at names i → repeats excluded line (state-of file names refs rows recs out k) c ≡ true
+  unfolding state-of
+  repeats-taken h =
+      let few = st .tables .name-table .few in
+      let j = taken-at names i - 1 in
+      let (kind, is) = st .stocked .taken .takes i j (omega arith) (omega arith) in
+      let low = st .stocked .taken .low i (omega arith) in
+      repeats-one line (state-of file names refs rows recs out k) c takes
+      ∙ rw (T-true (mem (name-of file names i) (collect taken-by (decls-of (name-of file names) recs out (k .records))))
+      (mem-intro (rw (ap (name-of file names) is) at (taken-intro (name-of file names) recs out (k .records) j (omega arith) kind))))
+
+  -- a free one is not
+  pub repeats-free : taken-at names i ≡ 0 → repeats excluded line (state-of file names refs rows recs out k) c ≡ false
+  unfolding state-of
+  repeats-free h =
+      repeats-one line (state-of file names refs rows recs out k) c takes
+      ∙ rw (T-false (mem (name-of file names i) taken) (not-T (mem (name-of file names i) taken) (λ t. new (mem-elim t))))
+    where
+      taken : List Name
+      taken = collect taken-by (decls-of (name-of file names) recs out (k .records))
+
+      new : List·Memᴰ (name-of file names i) taken → ⊥
+      new m =
+          let (j, l, kind, e) = taken-elim (name-of file names) recs out (k .records) m in
+          let low = st .recorded .named-in j l (λ z. omega arith) in
+          let same = distinct (st .tables .name-table) i (record-name recs j) known low e in
+          omega (arith, st .stocked .taken .took j l kind, ap (taken-at names) same)

@@ -1,0 +1,6 @@
+pub mod Rows
+pub mod Chaining
+pub mod Recording
+pub mod Keeping
+pub mod Judging
+pub mod Appending

@@ -1,0 +1,91 @@
+-- The tables as the state of `model`: the background, the roots and the counts.
+use Prim.Native.Nat.{ℕ, zero, suc, _+_}
+use mathlib.Core.List.{List, [], _∷_, _++_, map}
+use lib.Dec.{eqb}
+use Rattle.model.specs.Lists.{part}
+use Rattle.model.specs.Names.{Name, from-list}
+use Rattle.model.specs.Summaries.{Fact}
+use Rattle.model.specs.Reading.{Decl, Summary, Sum-assume, Sum-definefun, Sum-declfun, Sum-retain, Root, Ask, State}
+use Rattle.model.specs.declared.Counts.{Counts}
+use Rattle.names.specs.Table.{name-of, names-of}
+use Rattle.rules.specs.Views.{terms-in}
+use Rattle.triggers.specs.Entries.{disjuncts-of}
+use Rattle.records.specs.Columns.{record-kind, record-line, record-name, record-flag, uses-start, uses-end, entries-start, entries-end, summary-code, kind-of-code, entry-column}
+
+-- the numbers of the free names of a record
+abbrev pub uses-at : List ℕ → List ℕ → ℕ → List ℕ
+uses-at recs out i = part out (uses-start recs i) (uses-end recs i)
+
+-- the words of the trigger entries of a record
+abbrev pub entries-at : List ℕ → List ℕ → ℕ → List ℕ
+entries-at recs out i = part out (entry-column + entries-start recs i) (entry-column + entries-end recs i)
+
+module _ (name : ℕ → Name) (recs out : List ℕ) (i : ℕ) where
+  -- the free names of a record
+  unfoldable pub free-at : List Name
+  free-at = from-list (map name (uses-at recs out i))
+
+  -- the fact that a record is
+  unfoldable pub fact-at : Fact
+  fact-at = record {
+    line = record-line recs i;
+    name = name (record-name recs i);
+    free-names = free-at;
+    pretyping = eqb (record-flag recs i) 1;
+    kind = kind-of-code (summary-code recs i);
+    triggers = disjuncts-of name (entries-at recs out i);
+  }
+
+  -- the definition or declaration that a record is
+  unfoldable pub decl-at : List Name → Decl
+  decl-at free = record { line = record-line recs i; name = name (record-name recs i); free-names = free }
+
+  -- what a record of a kind adds to the background
+  unfoldable pub summary-at : ℕ → List Summary
+  summary-at zero = Sum-assume fact-at ∷ []
+  summary-at (suc zero) = Sum-declfun (decl-at []) ∷ []
+  summary-at (suc (suc zero)) = Sum-definefun (decl-at free-at) ∷ []
+  summary-at (suc (suc (suc zero))) = Sum-retain ∷ []
+  summary-at (suc (suc (suc (suc k)))) = []
+
+  -- the root that a record of a kind is
+  unfoldable pub root-at : ℕ → List Root
+  root-at zero = []
+  root-at (suc zero) = []
+  root-at (suc (suc zero)) = []
+  root-at (suc (suc (suc zero))) = []
+  root-at (suc (suc (suc (suc k)))) =
+      record { line = record-line recs i; query = record-flag recs i; name = name (record-name recs i); free-names = free-at } ∷ []
+
+module _ (name : ℕ → Name) (recs out : List ℕ) where
+  -- the background of the records before the n-th
+  unfoldable pub decls-of : ℕ → List Summary
+  decls-of zero = []
+  decls-of (suc n) = decls-of n ++ summary-at name recs out n (record-kind recs n)
+
+  -- the roots among them
+  unfoldable pub roots-of : ℕ → List Root
+  roots-of zero = []
+  roots-of (suc n) = roots-of n ++ root-at name recs out n (record-kind recs n)
+
+-- the ask of a query and an options number
+abbrev pub asks : ℕ → ℕ → Ask
+asks query options = record { query = query; options = options }
+
+-- the ask that was read
+abbrev pub ask-of : Counts → Ask
+ask-of k = asks (k .query) (k .options)
+
+-- the tables as the state of `model`
+unfoldable pub state-of : List ℕ → List ℕ → List ℕ → List ℕ → List ℕ → List ℕ → Counts → State
+state-of file names refs rows recs out k =
+    record {
+      goal = ask-of k;
+      terms = terms-in file names refs rows (k .used) (k .many);
+      names = names-of file names (k .named);
+      decls = decls-of (name-of file names) recs out (k .records);
+      roots = roots-of (name-of file names) recs out (k .records);
+      references = k .used;
+      entries = k .entries;
+      uses = k .uses;
+    }

@@ -1,0 +1,58 @@
+-- The row of a record written, and its entries put on the chains of their names.
+use Prim.Native.Nat.{ℕ, _+_, _*_, _≤_, _<_}
+use mathlib.Core.Path.{_≡_}
+use mathlib.Core.List.{List, [], _∷_}
+use lib.ListN.{length, getD, set}
+use Rattle.model.specs.Reading.{most-names, most-records}
+use Rattle.model.specs.declared.Counts.{Counts}
+use Rattle.gather.specs.Sets.{Same-but}
+use Rattle.records.specs.Columns.{record-word, record-kind, record-line, record-name, record-term, record-flag, uses-start, uses-end, entries-start, entries-end, summary-code, fact-column, next-column, first-column, entry-fact}
+use Rattle.records.specs.Filing.{Chained}
+
+-- words into the columns of a record's row, from the c-th column on
+unfoldable pub put-row : List ℕ → ℕ → ℕ → List ℕ → List ℕ
+put-row recs i c [] = recs
+put-row recs i c (v ∷ vs) = put-row (set recs (c * most-records + i) v) i (c + 1) vs
+
+-- the counts with a record more: how many names, entries and uses there are then, and the next mark
+abbrev pub with-record : Counts → ℕ → ℕ → ℕ → ℕ → Counts
+with-record k named entries uses mark = record {
+  named = named;
+  used = k .used;
+  many = k .many;
+  records = k .records + 1;
+  entries = entries;
+  uses = uses;
+  mark = mark;
+  query = k .query;
+  options = k .options;
+}
+
+-- the columns of a row
+abbrev pub row-columns : ℕ
+row-columns = 10
+
+-- the row of the record after those counted: its free names and entries are those counted since; other rows stay
+pub record Rowed (recs recs′ : List ℕ) (k k′ : Counts) (kind line name term flag code : ℕ) : Type 0 where
+  pub same-length : length recs′ ≡ length recs
+  pub others : (c j : ℕ) → j < most-records → (j ≡ k .records → ⊥) → record-word recs′ (c * most-records) j ≡ record-word recs (c * most-records) j
+  pub past : (j : ℕ) → row-columns * most-records ≤ j → getD recs′ j 0 ≡ getD recs j 0
+  pub kind-is : record-kind recs′ (k .records) ≡ kind
+  pub line-is : record-line recs′ (k .records) ≡ line
+  pub name-is : record-name recs′ (k .records) ≡ name
+  pub term-is : record-term recs′ (k .records) ≡ term
+  pub flag-is : record-flag recs′ (k .records) ≡ flag
+  pub uses-from : uses-start recs′ (k .records) ≡ k .uses
+  pub uses-to : uses-end recs′ (k .records) ≡ k′ .uses
+  pub entries-from : entries-start recs′ (k .records) ≡ k .entries
+  pub entries-to : entries-end recs′ (k .records) ≡ k′ .entries
+  pub code-is : summary-code recs′ (k .records) ≡ code
+
+-- the entries from one on up to another put on the chains of their names, as those of a record
+pub record Chains (names out names′ out′ : List ℕ) (from to fact : ℕ) : Type 0 where
+  pub chained : Chained names′ out′ to
+  pub names-same : Same-but first-column most-names names names′
+  pub out-length : length out′ ≡ length out
+  pub out-words : (i : ℕ) → (fact-column + from ≤ i → i < fact-column + to → ⊥) → (next-column + from ≤ i → i < next-column + to → ⊥)
+      → getD out′ i 0 ≡ getD out i 0
+  pub facts : (e : ℕ) → from ≤ e → e < to → entry-fact out′ e ≡ fact
