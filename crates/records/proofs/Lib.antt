@@ -4,3 +4,5 @@ pub mod Recording
 pub mod Keeping
 pub mod Judging
 pub mod Appending
+pub mod Plain
+pub mod Funs

@@ -8,8 +8,9 @@ use mathlib.Core.List.{List, [], _∷_}
 use lib.ListN.{length, getD, set, drop, length-set, drop-of-length-le}
 use lib.Seq.{getD-set-same, getD-set-other, drop-cons}
 use Rattle.model.specs.Reading.{most-records}
+use Rattle.model.specs.declared.Counts.{Counts}
 use Rattle.records.specs.Columns.{record-word}
-use Rattle.records.specs.Writing.{put-row}
+use Rattle.records.specs.Writing.{put-row, row-columns, Rowed}
 
 -- one word more
 pub put-on : (recs : List ℕ) (i c : ℕ) (row : List ℕ) → c < length row
@@ -70,3 +71,30 @@ row-here recs i c (v ∷ vs) (suc d) h l r =
     let e : c + suc d ≡ c + 1 + d = omega arith in
     let z : length (set recs (c * most-records + i) v) ≡ length recs = simp length-set in
     rw e (row-here (set recs (c * most-records + i) v) i (c + 1) vs d h (omega arith) (omega arith))
+
+-- the words of a row
+abbrev pub row-of : Counts → Counts → ℕ → ℕ → ℕ → ℕ → ℕ → ℕ → List ℕ
+row-of k k′ kind line name term flag code = kind ∷ line ∷ name ∷ term ∷ flag ∷ k .uses ∷ k′ .uses ∷ k .entries ∷ k′ .entries ∷ code ∷ []
+
+-- a row of these words
+pub rowed : {recs recs′ : List ℕ} (k k′ : Counts) (kind line name term flag code : ℕ) → k .records < most-records → 16384 ≤ length recs
+    → recs′ ≡ put-row recs (k .records) 0 (row-of k k′ kind line name term flag code) → Rowed recs recs′ k k′ kind line name term flag code
+rowed {recs} {recs′} k k′ kind line name term flag code few room is =
+    let row = row-of k k′ kind line name term flag code in
+    let here : (d : ℕ) → d < row-columns → record-word recs′ (d * most-records) (k .records) ≡ getD row d 0 =
+    λ d l. let e : 0 + d ≡ d = omega arith in rw is (rw e at (row-here recs (k .records) 0 row d few (omega arith) (omega arith))) in
+    record {
+      same-length = rw is (row-length recs (k .records) 0 row);
+      others = λ c j l e. rw is (row-other recs (k .records) 0 row c j few l e);
+      past = λ j l. rw is (row-past recs (k .records) 0 row j few l);
+      kind-is = here 0 (omega arith);
+      line-is = here 1 (omega arith);
+      name-is = here 2 (omega arith);
+      term-is = here 3 (omega arith);
+      flag-is = here 4 (omega arith);
+      uses-from = here 5 (omega arith);
+      uses-to = here 6 (omega arith);
+      entries-from = here 7 (omega arith);
+      entries-to = here 8 (omega arith);
+      code-is = here 9 (omega arith);
+    }

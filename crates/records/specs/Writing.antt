@@ -28,6 +28,19 @@ with-record k named entries uses mark = record {
   options = k .options;
 }
 
+-- numbers that fit a word
+pub record Small (k k′ : Counts) (kind line name term flag code : ℕ) : Type 0 where
+  pub small-kind : kind < 4294967296
+  pub small-line : line < 4294967296
+  pub small-name : name < 4294967296
+  pub small-term : term < 4294967296
+  pub small-flag : flag < 4294967296
+  pub small-uses : k .uses < 4294967296
+  pub small-uses′ : k′ .uses < 4294967296
+  pub small-entries : k .entries < 4294967296
+  pub small-entries′ : k′ .entries < 4294967296
+  pub small-code : code < 4294967296
+
 -- the columns of a row
 abbrev pub row-columns : ℕ
 row-columns = 10

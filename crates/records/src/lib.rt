@@ -2,11 +2,14 @@ use model::Counts;
 use model::Refusal;
 ghost use Prim.Native.Nat.{ℕ, _+_, _≤_, _<_};
 ghost use mathlib.Core.Path.{_≡_};
+ghost use mathlib.Core.List.{[]};
 ghost use lib.ListN.{length};
-ghost use Rattle.model.specs.Reading.{most-names, most-records, most-entries, no-ambients, pretyping-axioms, prune-decls};
+ghost use Rattle.model.specs.Reading.{fun, retain, most-names, most-records, most-entries, no-ambients, pretyping-axioms, prune-decls};
+ghost use Rattle.names.specs.Table.{name-of};
 ghost use Rattle.records.specs.States.{asks};
 ghost use Rattle.records.specs.Filing.{Chained};
-ghost use Rattle.records.specs.Writing.{put-row, Chains};
+ghost use Rattle.records.specs.Writing.{put-row, with-record, Small, Rowed, Chains};
+ghost use Rattle.records.specs.Adding.{Standing, Adds, Untouched};
 
 // What a line comes to: on with these counts, or its refusal.
 pub enum Step {
@@ -106,6 +109,54 @@ fn put_row(recs: &mut [u32], i: usize, row: &[u32])
     }
 }
 
+// The counts with a record more.
+fn with_record(k: Counts, named: usize, entries: usize, uses: usize, mark: usize) -> Counts
+    requires { ⌜ k .records < most-records ⌝ }
+    ensures { λ r. ⌜ r ≡ with-record k named entries uses mark ⌝ }
+{
+    Counts {
+        named,
+        used: k.used,
+        many: k.many,
+        records: k.records + 1,
+        entries,
+        uses,
+        mark,
+        query: k.query,
+        options: k.options,
+    }
+}
+
+// Writes the row of the record after those counted: its free names and entries are those from the counts `k` on up to `next`.
+fn put_record(
+    recs: &mut [u32],
+    k: Counts,
+    next: Counts,
+    kind: usize,
+    line: usize,
+    name: usize,
+    term: usize,
+    flag: usize,
+    code: usize,
+)
+    requires { ⌜ (k .records < most-records) × (16384 ≤ length (now recs)) × Small k next kind line name term flag code ⌝ }
+    ensures { λ x. ⌜ Rowed (now (recs .entry)) (now (recs .exit)) k next kind line name term flag code ⌝ }
+{
+    let row = [
+        kind as u32,
+        line as u32,
+        name as u32,
+        term as u32,
+        flag as u32,
+        k.uses as u32,
+        next.uses as u32,
+        k.entries as u32,
+        next.entries as u32,
+        code as u32,
+    ];
+    put_row(recs, k.records, &row);
+}
+
 // Puts the entries from `from` on up to `to`, which are those of the record `fact`, on the chains of their names.
 fn chain_entries(names: &mut [u32], out: &mut [u32], from: usize, to: usize, fact: usize)
     requires { ⌜ Chained (now names) (now out) from × (from ≤ to) × (to ≤ most-entries) × (fact < most-records) × (16384 ≤ length (now names)) × (16384 ≤ length (now out)) ⌝ }
@@ -123,4 +174,61 @@ fn chain_entries(names: &mut [u32], out: &mut [u32], from: usize, to: usize, fac
         out[NEXT + k] = names[FIRST + n];
         names[FIRST + n] = e as u32;
     }
+}
+
+// Adds a `retain` record.
+pub fn add_retain(
+    file: &[u8],
+    names: &[u32],
+    refs: &[u32],
+    rows: &[u32],
+    recs: &mut [u32],
+    out: &[u32],
+    k: Counts,
+    line: usize,
+) -> Step
+    requires { ⌜ (k .named ≤ most-names → Standing (now file) (now names) (now refs) (now rows) (now recs) (now out) k) × (line < 4294967296) ⌝ }
+    ensures record { λ r. ⌜ Adds (now (file .entry)) (now (names .entry)) (now (refs .entry)) (now (rows .entry)) (now (recs .entry)) (now (out .entry)) (now (names .entry)) (now (rows .entry)) (now (recs .exit)) (now (out .entry)) k line (retain []) r ⌝ }
+    ensures past { λ r. ⌜ Untouched (now (names .entry)) (now (rows .entry)) (now (recs .entry)) (now (out .entry)) (now (names .entry)) (now (rows .entry)) (now (recs .exit)) (now (out .entry)) ⌝ }
+{
+    if model::MOST_NAMES < k.named {
+        return Step::Refused(Refusal::Limit);
+    }
+    if model::MOST_RECORDS <= k.records {
+        return Step::Refused(Refusal::Limit);
+    }
+    let next = with_record(k, k.named, k.entries, k.uses, k.mark);
+    put_record(recs, k, next, RETAIN, line, 0, 0, 0, 0);
+    Step::On(next)
+}
+
+// Adds a `fun` record, its name by number.
+pub fn add_fun(
+    file: &[u8],
+    names: &mut [u32],
+    refs: &[u32],
+    rows: &[u32],
+    recs: &mut [u32],
+    out: &[u32],
+    k: Counts,
+    line: usize,
+    i: usize,
+) -> Step
+    requires { ⌜ (k .named ≤ most-names → Standing (now file) (now names) (now refs) (now rows) (now recs) (now out) k × (i < k .named)) × (line < 4294967296) ⌝ }
+    ensures record { λ r. ⌜ Adds (now (file .entry)) (now (names .entry)) (now (refs .entry)) (now (rows .entry)) (now (recs .entry)) (now (out .entry)) (now (names .exit)) (now (rows .entry)) (now (recs .exit)) (now (out .entry)) k line (fun (name-of (now (file .entry)) (now (names .entry)) i)) r ⌝ }
+    ensures past { λ r. ⌜ Untouched (now (names .entry)) (now (rows .entry)) (now (recs .entry)) (now (out .entry)) (now (names .exit)) (now (rows .entry)) (now (recs .exit)) (now (out .entry)) ⌝ }
+{
+    if model::MOST_NAMES < k.named {
+        return Step::Refused(Refusal::Limit);
+    }
+    if 0 < words::at(names, TAKEN + i) {
+        return Step::Refused(Refusal::Repeated);
+    }
+    if model::MOST_RECORDS <= k.records {
+        return Step::Refused(Refusal::Limit);
+    }
+    names[TAKEN + i] = (k.records + 1) as u32;
+    let next = with_record(k, k.named, k.entries, k.uses, k.mark);
+    put_record(recs, k, next, FUN, line, i, 0, 0, 0);
+    Step::On(next)
 }

@@ -1,0 +1,113 @@
+-- `records::add_fun` meets its contract.
+use Prim.Native.Nat.{_≤_, _<_}
+use native.Mathlib.Omega.{arith}
+use Rattle.records.specs.Adding.{full}
+use Rattle.records.proofs.Funs.{small-row, untouched, fun-repeated, fun-crowded, fun-added, fun-past}
+use borrow.Author.Needs.{needs}
+use Rattle.records.proofs.add_fun.Statement.{statement}
+use Rattle.records.proofs.add_fun.Tie as tie
+use Rattle.records.proofs.add_fun.Reads as reads
+use Rattle.records.proofs.add_fun.Lts as lts
+use Rattle.records.proofs.put_record.Reads as put-record-reads
+use Rattle.records.proofs.with_record.Reads as with-record-reads
+use Rattle.words.proofs.at.Reads as at-reads
+
+returns : tie.Need-returns
+returns c = (full (c .if1 .taken), untouched)
+
+add-at : tie.Need-add-at
+add-at c =
+    let (st, known) = c .before .before .before .before .before .before .before .before .before .pre .0 (c .before .if1 .left) in
+    omega (arith, st .tables .name-table .room, st .tables .name-table .few)
+
+at-requires : tie.Need-at-requires
+at-requires c κs =
+    let (st, known) = c .before .before .before .before .before .before .before .before .before .pre .0 (c .before .if1 .left) in
+    omega (arith, st .tables .name-table .room, st .tables .name-table .few)
+
+same-length : tie.Need-same-length
+same-length c = search needs
+
+returns-2 : tie.Need-returns-2
+returns-2 c =
+    let (st, known) = c .before .before .before .before .before .before .before .before .before .before .before .pre .0 (c .before .before .before .if1 .left) in
+    (fun-repeated st _ known (c .before .at .ensures) (c .if2 .taken), untouched)
+
+same-length-2 : tie.Need-same-length-2
+same-length-2 c = search needs
+
+returns-3 : tie.Need-returns-3
+returns-3 c =
+    let (st, known) = c .before .before .before .before .before .before .before .before .before .before .before .before .before .pre .0 (c .before .before .before .before .before .if1 .left) in
+    (fun-crowded st _ known (c .before .before .before .at .ensures) (c .before .before .if2 .left) (c .if3 .taken), untouched)
+
+add-names : tie.Need-add-names
+add-names c =
+    let (st, known) = c .before .before .before .before .before .before .before .before .before .before .before .before .before .before .pre .0 (c .before .before .before .before .before .before .if1 .left) in
+    omega (arith, st .tables .name-table .room, st .tables .name-table .few)
+
+cast-names : tie.Need-cast-names
+cast-names c =
+    let (st, known) = c .before .before .before .before .before .before .before .before .before .before .before .before .before .before .pre .0 (c .before .before .before .before .before .before .if1 .left) in
+    omega (arith, st .tables .name-table .room, st .tables .name-table .few)
+
+add-names-2 : tie.Need-add-names-2
+add-names-2 c =
+    let (st, known) = c .before .before .before .before .before .before .before .before .before .before .before .before .before .before .pre .0 (c .before .before .before .before .before .before .if1 .left) in
+    omega (arith, st .tables .name-table .room, st .tables .name-table .few)
+
+mul-names : tie.Need-mul-names
+mul-names c =
+    let (st, known) = c .before .before .before .before .before .before .before .before .before .before .before .before .before .before .pre .0 (c .before .before .before .before .before .before .if1 .left) in
+    omega (arith, st .tables .name-table .room, st .tables .name-table .few)
+
+slice-write-names : tie.Need-slice-write-names
+slice-write-names c =
+    let (st, known) = c .before .before .before .before .before .before .before .before .before .before .before .before .before .before .pre .0 (c .before .before .before .before .before .before .if1 .left) in
+    omega (arith, st .tables .name-table .room, st .tables .name-table .few)
+
+with-record-requires : tie.Need-with-record-requires
+with-record-requires c κs = search needs
+
+put-record-requires : tie.Need-put-record-requires
+put-record-requires c κs =
+    let (st, known) = c .before .before .before .before .before .before .before .before .before .before .before .before .before .before .before .before .pre .0 (c .before .before .before .before .before .before .before .before .if1 .left) in (
+      c .before .before .before .if3 .left,
+      st .recorded .room,
+      small-row _ _ _ _ _ _ _ _ _ _ st (c .before .with-record .ensures) (st .recorded .few-entries) (st .recorded .few-uses) (omega arith) (c .before .before .before .before .before .before .before .before .before .before .before .before .before .before .before .before .pre .1)
+          (omega (arith, st .tables .name-table .few)) (omega arith) (omega arith) (omega arith),
+    )
+
+same-length-3 : tie.Need-same-length-3
+same-length-3 c = search needs
+
+same-length-4 : tie.Need-same-length-4
+same-length-4 c = search needs
+
+returns-4 : tie.Need-returns-4
+returns-4 c =
+    let (st, known) = c .before .before .before .before .before .before .before .before .before .before .before .before .before .before .before .before .before .before .before .pre .0 (c .before .before .before .before .before .before .before .before .before .before .before .if1 .left) in
+    let row = c .before .before .put-record .ensures in
+    (fun-added st _ known (c .before .before .before .before .before .before .before .before .before .at .ensures) (c .before .before .before .before .before .before .before .before .if2 .left) (c .before .before .before .before .before .before .if3 .left) (c .before .before .before .before .with-record .ensures) row, fun-past st _ known (c .before .before .before .before .before .before .before .before .before .at .ensures) _ row)
+
+pub add-fun-spec : {M : Type 1} → statement M
+add-fun-spec =
+    tie.close
+    (tie.spec
+    returns
+    add-at
+    at-requires
+    same-length
+    returns-2
+    same-length-2
+    returns-3
+    add-names
+    cast-names
+    add-names-2
+    mul-names
+    slice-write-names
+    with-record-requires
+    put-record-requires
+    same-length-3
+    same-length-4
+    returns-4)

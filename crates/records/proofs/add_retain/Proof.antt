@@ -1,0 +1,42 @@
+-- `records::add_retain` meets its contract.
+use Prim.Native.Nat.{_≤_, _<_}
+use native.Mathlib.Omega.{arith}
+use Rattle.records.specs.Adding.{full}
+use Rattle.records.proofs.Funs.{same-all, untouched, row-past, small-row, retain-crowded, retain-added}
+use borrow.Author.Needs.{needs}
+use Rattle.records.proofs.add_retain.Statement.{statement}
+use Rattle.records.proofs.add_retain.Tie as tie
+use Rattle.records.proofs.add_retain.Reads as reads
+use Rattle.records.proofs.add_retain.Lts as lts
+use Rattle.records.proofs.put_record.Reads as put-record-reads
+use Rattle.records.proofs.with_record.Reads as with-record-reads
+
+returns : tie.Need-returns
+returns c = (full (c .if1 .taken), untouched)
+
+returns-2 : tie.Need-returns-2
+returns-2 c = (retain-crowded (c .before .before .before .before .before .before .before .before .before .before .pre .0 (c .before .before .if1 .left)) _ (c .if2 .taken), untouched)
+
+with-record-requires : tie.Need-with-record-requires
+with-record-requires c κs = search needs
+
+put-record-requires : tie.Need-put-record-requires
+put-record-requires c κs =
+    let st = c .before .before .before .before .before .before .before .before .before .before .before .before .pre .0 (c .before .before .before .before .if1 .left) in
+    (c .before .before .if2 .left, st .recorded .room, small-row _ _ _ _ _ _ _ _ _ _ st (c .before .with-record .ensures) (st .recorded .few-entries) (st .recorded .few-uses) (omega arith) (c .before .before .before .before .before .before .before .before .before .before .before .before .pre .1) (omega arith) (omega arith) (omega arith) (omega arith))
+
+same-length : tie.Need-same-length
+same-length c = c .before .before .put-record .ensures .same-length
+
+returns-3 : tie.Need-returns-3
+returns-3 c =
+    let st = c .before .before .before .before .before .before .before .before .before .before .before .before .before .before .before .pre .0 (c .before .before .before .before .before .before .before .if1 .left) in
+    let row = c .before .before .put-record .ensures in (
+      retain-added st _ (c .before .before .before .before .before .if2 .left) (c .before .before .before .before .with-record .ensures) row,
+      record { name-words = same-all 0 16384 _; row-words = same-all 0 16384 _; record-words = row-past row; list-words = same-all 0 16384 _ },
+    )
+
+pub add-retain-spec : {M : Type 1} → statement M
+add-retain-spec =
+    tie.close
+    (tie.spec returns returns-2 with-record-requires put-record-requires same-length returns-3)
