@@ -17,8 +17,10 @@ ghost use Rattle.model.specs.Reading.{content, parse};
 ghost use Rattle.model.specs.declared.LineKind.the-variants as kind;
 ghost use Rattle.text.specs.Parts.{Placed, fields-left};
 ghost use Rattle.fields.specs.Wording.{record-kind};
-ghost use Rattle.records.specs.Adding.{Standing};
-ghost use Rattle.reader.specs.Lines.{Line-read, Cleared, File-read};
+ghost use Rattle.records.specs.Adding.{Standing, Untouched};
+ghost use Rattle.names.specs.Table.{name-of};
+ghost use Rattle.model.specs.Reading.{most-names, most-terms};
+ghost use Rattle.reader.specs.Lines.{with-names, last-field, last-result, fact-said, root-said, kind-content, Asks, Adds-said, Line-read, Cleared, File-read};
 
 // What reading a file comes to: the counts after the last line, or a refusal and its line.
 pub enum Reading {
@@ -167,7 +169,8 @@ fn read_fact(
     c: Cursor,
 ) -> Step
     requires { ⌜ (k .named ≤ most-names → Standing (now file) (now names) (now refs) (now rows) (now recs) (now out) k × (i < k .named)) × (k .many ≤ most-terms) × Placed (now file) c × (n < 4294967296) ⌝ }
-    ensures { λ r. ⌜ Adds-fact (now (file .entry)) (now (names .entry)) (now (refs .entry)) (now (rows .entry)) (now (recs .entry)) (now (out .entry)) (now (names .exit)) (now (refs .entry)) (now (rows .exit)) (now (recs .exit)) (now (out .exit)) k n i (fields-left (now (file .entry)) c) r ⌝ }
+    ensures record { λ r. ⌜ Adds-said (now (file .entry)) (now (names .entry)) (now (refs .entry)) (now (rows .entry)) (now (recs .entry)) (now (out .entry)) (now (names .exit)) (now (rows .exit)) (now (recs .exit)) (now (out .exit)) k n (fact-said (k .many) (name-of (now (file .entry)) (now (names .entry)) i) (fields-left (now (file .entry)) c)) r ⌝ }
+    ensures past { λ r. ⌜ Untouched (now (names .entry)) (now (rows .entry)) (now (recs .entry)) (now (out .entry)) (now (names .exit)) (now (rows .exit)) (now (recs .exit)) (now (out .exit)) ⌝ }
 {
     match c.number(file, MOST_FLAG) {
         NumberStep::Number(flag, next) => match last_term(file, k.many, next) {
@@ -240,7 +243,7 @@ fn read_goal(
     c: Cursor,
 ) -> Step
     requires { ⌜ Standing (now file) (now names) (now refs) (now rows) (now recs) (now out) k × Placed (now file) c × (n < 4294967296) × (q < 256) ⌝ }
-    ensures { λ r. ⌜ Adds-root (now (file .entry)) (now (names .entry)) (now (refs .entry)) (now (rows .entry)) (now (recs .entry)) (now (out .entry)) (now (names .exit)) (now (refs .entry)) (now (rows .exit)) (now (recs .exit)) (now (out .exit)) k n q (fields-left (now (file .entry)) c) r ⌝ }
+    ensures { λ r. ⌜ Line-read (now (file .entry)) (now (names .entry)) (now (refs .entry)) (now (rows .entry)) (now (recs .entry)) (now (out .entry)) (now (names .exit)) (now (refs .entry)) (now (rows .exit)) (now (recs .exit)) (now (out .exit)) k n (root-said (k .many) q (fields-left (now (file .entry)) c)) r ⌝ }
 {
     match fields::read_name(file, names, k.named, c) {
         Word::Name(i, named, next) => match last_term(file, k.many, next) {

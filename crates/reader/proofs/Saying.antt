@@ -1,0 +1,165 @@
+-- What the fields of a record line say.
+use Prim.Native.Nat.{ℕ, _≤_, _<_}
+use mathlib.Core.Path.{_≡_, refl, sym, ap, _∙_}
+use mathlib.Core.List.{List, [], _∷_}
+use lib.Dec.{eqb}
+use Rattle.model.specs.Lists.{part}
+use Rattle.model.specs.Names.{Name}
+use Rattle.model.specs.Lines.{Field}
+use Rattle.model.specs.Reading.{Result, ok, refused, _>>=_, next, end, name-field, number-field, term-field, rest, Content, ask, assume, fun, def, retain, root, content}
+use Rattle.model.specs.declared.LineKind.the-variants as kind
+use Rattle.model.specs.declared.Refusal.{Refusal}
+use Rattle.model.specs.declared.Refusal.the-variants as refusal
+use Rattle.text.specs.declared.Cursor.{Cursor}
+use Rattle.text.specs.Parts.{fields-left}
+use Rattle.text.proofs.Laws.{left-none}
+use Rattle.fields.proofs.Pushing.{left-cons}
+use Rattle.reader.specs.Lines.{last-field, fact-said, root-said}
+
+-- ---- the end of a line
+
+-- no field is left over
+pub end-none : {A : Type 0} (a : A) (file : List ℕ) (c : Cursor) → c .end < c .at → end a (fields-left file c) ≡ ok a
+unfolding end
+end-none a file c h = rw (left-none file c h)
+
+-- one is
+pub end-more : {A : Type 0} (a : A) (file : List ℕ) (c : Cursor) → c .at ≤ c .end → end a (fields-left file c) ≡ refused refusal.Form
+unfolding end
+end-more a file c h = let (f, fs, e) = left-cons file c h in rw e
+
+-- what is made of the value at the end
+end-then : {A B : Type 0} (f : A → B) (a : A) (fs : List Field) → end (f a) fs ≡ (end a fs >>= λ x. ok (f x))
+unfolding end
+end-then f a [] = refl
+end-then f a (g ∷ gs) = refl
+
+-- what is made of the last field
+last-then : {A : Type 0} (f : ℕ → A) (r : Result (ℕ × List Field)) → (r >>= λ (t, fs). end (f t) fs) ≡ (r >>= (λ (t, fs). end t fs) >>= λ t. ok (f t))
+last-then f (ok (t, fs)) = end-then f t fs
+last-then f (refused x) = refl
+
+module _ {A : Type 0} (f : ℕ → A) (count : ℕ) (fs : List Field) where
+  -- a last field that is a term
+  pub last-said : {t : ℕ} → last-field count fs ≡ ok t → (next (term-field count) fs >>= λ (t, gs). end (f t) gs) ≡ ok (f t)
+  unfolding last-field
+  last-said e = last-then f (next (term-field count) fs) ∙ rw e
+
+  -- one that is refused
+  pub last-not : {x : Refusal} → last-field count fs ≡ refused x → (next (term-field count) fs >>= λ (t, gs). end (f t) gs) ≡ refused x
+  unfolding last-field
+  last-not e = last-then f (next (term-field count) fs) ∙ rw e
+
+-- ---- each kind of record
+
+module _ (count : ℕ) (fs : List Field) where
+  -- a `fun`
+  pub fun-said : {m : Name} {gs : List Field} → next name-field fs ≡ ok (m, gs) → end (fun m) gs ≡ ok (fun m) → content kind.Fun count fs ≡ ok (fun m)
+  unfolding content
+  fun-said a e = rw (a, e)
+
+  -- a field is left over
+  pub fun-more : {m : Name} {gs : List Field} → next name-field fs ≡ ok (m, gs) → end (fun m) gs ≡ refused refusal.Form → content kind.Fun count fs ≡ refused refusal.Form
+  unfolding content
+  fun-more a e = rw (a, e)
+
+  -- its name is refused
+  pub fun-not : {x : Refusal} → next name-field fs ≡ refused x → content kind.Fun count fs ≡ refused x
+  unfolding content
+  fun-not a = rw a
+
+  -- a `def`
+  pub def-said : {m : Name} {gs : List Field} {t : ℕ} → next name-field fs ≡ ok (m, gs) → last-field count gs ≡ ok t → content kind.Def count fs ≡ ok (def m t)
+  unfolding content
+  def-said {m} {gs} a e = rw a (last-said (def m) count gs e)
+
+  -- its term is refused
+  pub def-term-not : {m : Name} {gs : List Field} {x : Refusal} → next name-field fs ≡ ok (m, gs) → last-field count gs ≡ refused x → content kind.Def count fs ≡ refused x
+  unfolding content
+  def-term-not {m} {gs} a e = rw a (last-not (def m) count gs e)
+
+  -- its name is refused
+  pub def-not : {x : Refusal} → next name-field fs ≡ refused x → content kind.Def count fs ≡ refused x
+  unfolding content
+  def-not a = rw a
+
+  -- an `assume`, by what it says after its name
+  pub assume-said : {m : Name} {gs : List Field} → next name-field fs ≡ ok (m, gs) → content kind.Assume count fs ≡ fact-said count m gs
+  unfolding content fact-said
+  assume-said {m} {gs} a = rw a (go (next (number-field 1) gs))
+    where
+      go : (r : Result (ℕ × List Field)) → (r >>= λ (flag, hs). next (term-field count) hs >>= λ (t, is). end (assume m (eqb flag 1) t) is)
+          ≡ (r >>= λ (flag, hs). last-field count hs >>= λ t. ok (assume m (eqb flag 1) t))
+      unfolding last-field
+      go (ok (flag, hs)) = last-then (assume m (eqb flag 1)) (next (term-field count) hs)
+      go (refused x) = refl
+
+  -- its name is refused
+  pub assume-not : {x : Refusal} → next name-field fs ≡ refused x → content kind.Assume count fs ≡ refused x
+  unfolding content
+  assume-not a = rw a
+
+  -- a `root`, by what it says after its query
+  pub root-then : {q : ℕ} {gs : List Field} → next (number-field 255) fs ≡ ok (q, gs) → content kind.Root count fs ≡ root-said count q gs
+  unfolding content root-said
+  root-then {q} {gs} a = rw a (go (next name-field gs))
+    where
+      go : (r : Result (Name × List Field)) → (r >>= λ (m, hs). next (term-field count) hs >>= λ (t, is). end (root q m t) is)
+          ≡ (r >>= λ (m, hs). last-field count hs >>= λ t. ok (root q m t))
+      unfolding last-field
+      go (ok (m, hs)) = last-then (root q m) (next (term-field count) hs)
+      go (refused x) = refl
+
+  -- its query is refused
+  pub root-not : {x : Refusal} → next (number-field 255) fs ≡ refused x → content kind.Root count fs ≡ refused x
+  unfolding content
+  root-not a = rw a
+
+module _ (count : ℕ) (m : Name) (fs : List Field) where
+  -- the flag and the term of a fact
+  pub fact-is : {flag t : ℕ} {gs : List Field} → next (number-field 1) fs ≡ ok (flag, gs) → last-field count gs ≡ ok t → fact-said count m fs ≡ ok (assume m (eqb flag 1) t)
+  unfolding fact-said
+  fact-is a e = rw (a, e)
+
+  pub fact-term-not : {flag : ℕ} {gs : List Field} {x : Refusal} → next (number-field 1) fs ≡ ok (flag, gs) → last-field count gs ≡ refused x → fact-said count m fs ≡ refused x
+  unfolding fact-said
+  fact-term-not a e = rw (a, e)
+
+  pub fact-not : {x : Refusal} → next (number-field 1) fs ≡ refused x → fact-said count m fs ≡ refused x
+  unfolding fact-said
+  fact-not a = rw a
+
+module _ (count q : ℕ) (fs : List Field) where
+  -- the name and the term of a root
+  pub root-is : {m : Name} {t : ℕ} {gs : List Field} → next name-field fs ≡ ok (m, gs) → last-field count gs ≡ ok t → root-said count q fs ≡ ok (root q m t)
+  unfolding root-said
+  root-is a e = rw (a, e)
+
+  pub root-term-not : {m : Name} {gs : List Field} {x : Refusal} → next name-field fs ≡ ok (m, gs) → last-field count gs ≡ refused x → root-said count q fs ≡ refused x
+  unfolding root-said
+  root-term-not a e = rw (a, e)
+
+  pub root-name-not : {x : Refusal} → next name-field fs ≡ refused x → root-said count q fs ≡ refused x
+  unfolding root-said
+  root-name-not a = rw a
+
+-- ---- an ask
+
+module _ (count : ℕ) (fs : List Field) where
+  pub ask-is : {q options : ℕ} {gs hs : List Field} → next (number-field 255) fs ≡ ok (q, gs) → next (number-field 7) gs ≡ ok (options, hs) → end (ask q options) hs ≡ ok (ask q options)
+      → content kind.Ask count fs ≡ ok (ask q options)
+  unfolding content
+  ask-is a b e = rw (a, b, e)
+
+  pub ask-more : {q options : ℕ} {gs hs : List Field} → next (number-field 255) fs ≡ ok (q, gs) → next (number-field 7) gs ≡ ok (options, hs) → end (ask q options) hs ≡ refused refusal.Form
+      → content kind.Ask count fs ≡ refused refusal.Form
+  unfolding content
+  ask-more a b e = rw (a, b, e)
+
+  pub ask-options-not : {q : ℕ} {gs : List Field} {x : Refusal} → next (number-field 255) fs ≡ ok (q, gs) → next (number-field 7) gs ≡ refused x → content kind.Ask count fs ≡ refused x
+  unfolding content
+  ask-options-not a b = rw (a, b)
+
+  pub ask-not : {x : Refusal} → next (number-field 255) fs ≡ refused x → content kind.Ask count fs ≡ refused x
+  unfolding content
+  ask-not a = rw a

@@ -1,0 +1,174 @@
+-- A line whose name is spelled: the tables under the longer name table, and the line judged there.
+use Prim.Native.Nat.{ℕ, zero, suc, _+_, _-_, _≤_, _<_}
+use native.Mathlib.Omega.{arith}
+use mathlib.Core.Path.{_≡_, refl, sym, ap, ap₂, _∙_}
+use mathlib.Core.Bool.{Bool, true, false, cond, not, _||_}
+use mathlib.Core.List.{List, [], _∷_, _++_, append-nil, List·Memᴰ, List·Memᴰ·head, Memᴰ·append-right}
+use lib.ListN.{length, getD, length-append}
+use lib.Dec.{T, not-T, leb}
+use Rattle.model.specs.Lists.{any, collect, fold-left}
+use Rattle.model.specs.Names.{Name, mem}
+use Rattle.model.specs.Terms.{Term}
+use Rattle.model.specs.Reading.{Result, ok, refused, Content, retain, State, spell, spelled, trimmed, asked, nodes, summarize-decl, root-of, add-line, repeats, limits, under-limits, taken-by, most-names, most-records}
+use Rattle.model.specs.declared.Counts.{Counts}
+use Rattle.model.specs.declared.Refusal.{Refusal}
+use Rattle.model.specs.declared.Refusal.the-variants as refusal
+use Rattle.model.proofs.ResultLaws.{ok-eq, not-ok}
+use Rattle.model.proofs.ListLaws.{T-true, T-false, cond-true, cond-false, T-dec}
+use Rattle.model.proofs.SetLaws.{mem-intro, mem-elim}
+use Rattle.names.specs.Table.{Table, name-of, names-of}
+use Rattle.names.proofs.Laws.{names-length, names-intro}
+use Rattle.terms.proofs.Table.{rows-named, terms-named}
+use Rattle.rules.specs.Views.{Tables, terms-in}
+use Rattle.fields.specs.Spelling.{Longer}
+use Rattle.records.specs.Columns.{taken-column, first-column}
+use Rattle.records.specs.States.{state-of, decls-of, roots-of}
+use Rattle.records.specs.Adding.{excluded, Standing, judge}
+use Rattle.records.proofs.Recording.{Agree, decls-stay, roots-stay}
+use Rattle.records.proofs.Keeping.{records-named, filing-kept, taken-kept}
+use Rattle.records.proofs.Chaining.{chained-kept}
+use Rattle.reader.specs.Lines.{with-names}
+
+-- ---- spelling a name
+
+-- a name that was spelled is there
+spelled-there : (ns : List Name) (m : Name) → T (mem m (spell ns m))
+unfolding spell
+spelled-there ns m = go (mem m ns) refl
+  where
+    last : T (mem m (ns ++ (m ∷ [])))
+    last = mem-intro (Memᴰ·append-right ns (List·Memᴰ·head refl))
+
+    go : (b : Bool) → mem m ns ≡ b → T (mem m (cond b ns (ns ++ (m ∷ []))))
+    go true e = rw e tt
+    go false e = last
+
+-- a name spelled twice
+pub spell-twice : (ns : List Name) (m : Name) → spell (spell ns m) m ≡ spell ns m
+spell-twice ns m = go (spell ns m) (spelled-there ns m)
+  where
+    go : (ls : List Name) → T (mem m ls) → spell ls m ≡ ls
+    unfolding spell
+    go ls h = cond-true (mem m ls) ls (ls ++ (m ∷ [])) h
+
+-- spelling forgets no name
+spell-more : (ns : List Name) (m : Name) → length ns ≤ length (spell ns m)
+unfolding spell
+spell-more ns m = go (mem m ns)
+  where
+    go : (b : Bool) → length ns ≤ length (cond b ns (ns ++ (m ∷ [])))
+    go true = omega arith
+    go false = omega (arith, length-append ns (m ∷ []))
+
+-- nor does spelling some
+pub fold-more : (ns ms : List Name) → length ns ≤ length (fold-left spell ns ms)
+unfolding fold-left
+fold-more ns [] = omega arith
+fold-more ns (m ∷ ms) = omega (arith, spell-more ns m, fold-more (spell ns m) ms)
+
+-- a name for which there is no room is new
+pub new-name : (ns : List Name) (m : Name) → length ns < length (spell ns m) → T (mem m ns) → ⊥
+unfolding spell
+new-name ns m h t = omega (arith, ap length (cond-true (mem m ns) ns (ns ++ (m ∷ [])) t))
+
+-- ---- the tables under a longer name table
+
+module _ {file names refs rows recs out names′ : List ℕ} {k : Counts} {named′ : ℕ} (st : Standing file names refs rows recs out k)
+    (longer : Longer file names names′ (k .named) named′) where
+  -- the records are as before
+  same-records : Agree (name-of file names) (name-of file names′) recs out recs out (k .named) (k .records) (k .entries) (k .uses)
+  same-records = record {
+    same = longer .same;
+    rows = λ c i h. refl;
+    out-length = refl;
+    use-words = λ j h. refl;
+    entry-words = λ e h. refl;
+  }
+
+  -- the state with the names spelled
+  pub state-spelled : {ns : List Name} → names-of file names′ named′ ≡ ns
+      → state-of file names′ refs rows recs out (with-names k named′)
+      ≡ record {
+        goal = state-of file names refs rows recs out k .goal;
+        terms = state-of file names refs rows recs out k .terms;
+        names = ns;
+        decls = state-of file names refs rows recs out k .decls;
+        roots = state-of file names refs rows recs out k .roots;
+        references = k .used;
+        entries = k .entries;
+        uses = k .uses;
+      }
+  unfolding state-of terms-in
+  state-spelled e = rw (
+    e,
+    terms-named (name-of file names′) (name-of file names) (longer .same) (st .tables .term-table),
+    decls-stay same-records (st .recorded) (k .records) (omega arith),
+    roots-stay same-records (st .recorded) (k .records) (omega arith),
+  )
+
+  -- the tables stand
+  pub standing-spelled : Table file names′ named′ → Standing file names′ refs rows recs out (with-names k named′)
+  standing-spelled table = record {
+    tables = record { name-table = table; term-table = rows-named (longer .more) (table .few) (st .tables .term-table) };
+    recorded = records-named (longer .more) (st .recorded);
+    fresh = record {
+      row-marks = st .fresh .row-marks;
+      name-marks = λ n h. rw (longer .kept .same-words (8192 + n) (λ a b. omega arith)) (st .fresh .name-marks n h);
+    };
+    few-marks = st .few-marks;
+    stocked = record {
+      filing = filing-kept same-records (st .recorded) (st .stocked .filing) (λ e h. refl);
+      taken = taken-kept (λ c i h. refl) (st .stocked .taken)
+          (λ i h l. omega (arith, st .recorded .named-in i h (λ z. omega arith), st .tables .name-table .few))
+          (λ n h. longer .kept .same-words (taken-column + n) (λ a b. omega arith));
+      chained = chained-kept (st .stocked .chained) (λ n h. longer .kept .same-words (first-column + n) (λ a b. omega arith)) (λ e h. refl) (λ e h. refl);
+    };
+  }
+
+-- ---- a line judged in the state with its name spelled
+
+-- the state with these names
+abbrev with-spelled : State → List Name → State
+with-spelled s ns = record {
+  goal = s .goal;
+  terms = s .terms;
+  names = ns;
+  decls = s .decls;
+  roots = s .roots;
+  references = s .references;
+  entries = s .entries;
+  uses = s .uses;
+}
+
+-- a line of one name
+respelled : (n : ℕ) (s : State) (m : Name) (c : Content) → spelled c ≡ m ∷ [] → judge n s c ≡ judge n (with-spelled s (spell (s .names) m)) c
+unfolding judge repeats add-line fold-left
+respelled n s m c e = rw (e, spell-twice (s .names) m)
+
+-- a `retain`: its names are spelled, and none is left
+retained : (n : ℕ) (s : State) (ms : List Name) → judge n s (retain ms) ≡ judge n (with-spelled s (fold-left spell (s .names) ms)) (retain [])
+unfolding judge repeats add-line summarize-decl root-of spelled trimmed asked nodes fold-left
+retained n s ms = rw (append-nil ms)
+
+-- what is judged well is the state with the line
+under-ok : {A : Type 0} (ls : List (ℕ × ℕ × Refusal)) {a b : A} → under-limits ls a ≡ ok b → a ≡ b
+unfolding under-limits
+under-ok [] e = ok-eq e
+under-ok ((counted, limit, x) ∷ ls) {a} {b} e = go (leb counted limit) e
+  where
+    go : (t : Bool) → cond t (under-limits ls a) (refused x) ≡ ok b → a ≡ b
+    go true q = under-ok ls q
+    go false q = absurd (not-ok q)
+
+judge-ok : (n : ℕ) (s t : State) (c : Content) → judge n s c ≡ ok t → add-line excluded n s c ≡ t
+unfolding judge
+judge-ok n s t c e = go (repeats excluded n s c) e
+  where
+    go : (b : Bool) → cond b (refused refusal.Repeated) (under-limits (limits (add-line excluded n s c)) (add-line excluded n s c)) ≡ ok t → add-line excluded n s c ≡ t
+    go true q = absurd (not-ok q)
+    go false q = under-ok (limits (add-line excluded n s c)) q
+
+-- a line has no fewer names than before
+line-names : (n : ℕ) (s : State) (c : Content) → length (s .names) ≤ length (add-line excluded n s c .names)
+unfolding add-line
+line-names n s c = fold-more (s .names) (spelled c ++ trimmed excluded (s .terms) c)
