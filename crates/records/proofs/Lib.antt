@@ -6,3 +6,4 @@ pub mod Judging
 pub mod Appending
 pub mod Plain
 pub mod Funs
+pub mod Uses

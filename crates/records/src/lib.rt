@@ -1,10 +1,11 @@
+use gather::Walked;
 use model::Counts;
 use model::Refusal;
 ghost use Prim.Native.Nat.{ℕ, _+_, _≤_, _<_};
 ghost use mathlib.Core.Path.{_≡_};
 ghost use mathlib.Core.List.{[]};
 ghost use lib.ListN.{length};
-ghost use Rattle.model.specs.Reading.{fun, retain, most-names, most-records, most-entries, no-ambients, pretyping-axioms, prune-decls};
+ghost use Rattle.model.specs.Reading.{fun, def, retain, root, most-names, most-records, most-entries, no-ambients, pretyping-axioms, prune-decls};
 ghost use Rattle.names.specs.Table.{name-of};
 ghost use Rattle.records.specs.States.{asks};
 ghost use Rattle.records.specs.Filing.{Chained};
@@ -230,5 +231,98 @@ pub fn add_fun(
     names[TAKEN + i] = (k.records + 1) as u32;
     let next = with_record(k, k.named, k.entries, k.uses, k.mark);
     put_record(recs, k, next, FUN, line, i, 0, 0, 0);
+    Step::On(next)
+}
+
+// Adds a `def` record, its name and its term by number.
+pub fn add_def(
+    file: &[u8],
+    names: &mut [u32],
+    refs: &[u32],
+    rows: &mut [u32],
+    recs: &mut [u32],
+    out: &mut [u32],
+    k: Counts,
+    line: usize,
+    i: usize,
+    t: usize,
+) -> Step
+    requires { ⌜ (k .named ≤ most-names → Standing (now file) (now names) (now refs) (now rows) (now recs) (now out) k × (i < k .named)) × (t < k .many) × (line < 4294967296) ⌝ }
+    ensures record { λ r. ⌜ Adds (now (file .entry)) (now (names .entry)) (now (refs .entry)) (now (rows .entry)) (now (recs .entry)) (now (out .entry)) (now (names .exit)) (now (rows .exit)) (now (recs .exit)) (now (out .exit)) k line (def (name-of (now (file .entry)) (now (names .entry)) i) t) r ⌝ }
+    ensures past { λ r. ⌜ Untouched (now (names .entry)) (now (rows .entry)) (now (recs .entry)) (now (out .entry)) (now (names .exit)) (now (rows .exit)) (now (recs .exit)) (now (out .exit)) ⌝ }
+{
+    if model::MOST_NAMES < k.named {
+        return Step::Refused(Refusal::Limit);
+    }
+    if 0 < words::at(names, TAKEN + i) {
+        return Step::Refused(Refusal::Repeated);
+    }
+    if model::MOST_RECORDS <= k.records {
+        return Step::Refused(Refusal::Limit);
+    }
+    let mark = k.mark as u32;
+    let Walked::Names(uses) = gather::gather_term(
+        names,
+        refs,
+        rows,
+        out,
+        k.named,
+        k.used,
+        k.many,
+        t,
+        mark,
+        k.uses,
+        model::MOST_USES,
+    ) else {
+        return Step::Refused(Refusal::Limit);
+    };
+    names[TAKEN + i] = (k.records + 1) as u32;
+    let next = with_record(k, k.named, k.entries, uses, k.mark + 1);
+    put_record(recs, k, next, DEF, line, i, t, 0, 0);
+    Step::On(next)
+}
+
+// Adds a `root` record of a query, its name and its term by number.
+pub fn add_root(
+    file: &[u8],
+    names: &mut [u32],
+    refs: &[u32],
+    rows: &mut [u32],
+    recs: &mut [u32],
+    out: &mut [u32],
+    k: Counts,
+    line: usize,
+    query: usize,
+    i: usize,
+    t: usize,
+) -> Step
+    requires { ⌜ (k .named ≤ most-names → Standing (now file) (now names) (now refs) (now rows) (now recs) (now out) k × (i < k .named)) × (t < k .many) × (line < 4294967296) × (query < 256) ⌝ }
+    ensures record { λ r. ⌜ Adds (now (file .entry)) (now (names .entry)) (now (refs .entry)) (now (rows .entry)) (now (recs .entry)) (now (out .entry)) (now (names .exit)) (now (rows .exit)) (now (recs .exit)) (now (out .exit)) k line (root query (name-of (now (file .entry)) (now (names .entry)) i) t) r ⌝ }
+    ensures past { λ r. ⌜ Untouched (now (names .entry)) (now (rows .entry)) (now (recs .entry)) (now (out .entry)) (now (names .exit)) (now (rows .exit)) (now (recs .exit)) (now (out .exit)) ⌝ }
+{
+    if model::MOST_NAMES < k.named {
+        return Step::Refused(Refusal::Limit);
+    }
+    if model::MOST_RECORDS <= k.records {
+        return Step::Refused(Refusal::Limit);
+    }
+    let mark = k.mark as u32;
+    let Walked::Names(uses) = gather::gather_term(
+        names,
+        refs,
+        rows,
+        out,
+        k.named,
+        k.used,
+        k.many,
+        t,
+        mark,
+        k.uses,
+        model::MOST_USES,
+    ) else {
+        return Step::Refused(Refusal::Limit);
+    };
+    let next = with_record(k, k.named, k.entries, uses, k.mark + 1);
+    put_record(recs, k, next, ROOT, line, i, t, query, 0);
     Step::On(next)
 }

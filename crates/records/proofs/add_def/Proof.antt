@@ -1,0 +1,170 @@
+-- `records::add_def` meets its contract.
+use Prim.Native.Nat.{_≤_, _<_}
+use native.Mathlib.Omega.{arith}
+use Rattle.records.specs.Adding.{full}
+use Rattle.records.proofs.Funs.{same-all, row-past, small-row, untouched}
+use Rattle.records.proofs.Uses.{gathered-uses, gathered-over, gathered-past, past-taken, def-repeated, def-crowded, def-over, def-added}
+use borrow.Author.Needs.{needs}
+use Rattle.records.proofs.add_def.Statement.{statement}
+use Rattle.records.proofs.add_def.Tie as tie
+use Rattle.records.proofs.add_def.Reads as reads
+use Rattle.records.proofs.add_def.Lts as lts
+use Rattle.gather.proofs.gather_term.Reads as gather-term-reads
+use Rattle.records.proofs.put_record.Reads as put-record-reads
+use Rattle.records.proofs.with_record.Reads as with-record-reads
+use Rattle.words.proofs.at.Reads as at-reads
+
+returns : tie.Need-returns
+returns c = (full (c .if1 .taken), untouched)
+
+add-at : tie.Need-add-at
+add-at c =
+    let (st, known) = c .before .before .before .before .before .before .before .before .before .pre .0 (c .before .if1 .left) in
+    omega (arith, st .tables .name-table .room, st .tables .name-table .few, known)
+
+at-requires : tie.Need-at-requires
+at-requires c κs =
+    let (st, known) = c .before .before .before .before .before .before .before .before .before .pre .0 (c .before .if1 .left) in
+    omega (arith, st .tables .name-table .room, st .tables .name-table .few, known)
+
+same-length : tie.Need-same-length
+same-length c = search needs
+
+returns-2 : tie.Need-returns-2
+returns-2 c =
+    let (st, known) = c .before .before .before .before .before .before .before .before .before .before .before .pre .0 (c .before .before .before .if1 .left) in
+    (def-repeated st _ known (c .before .at .ensures) _ (c .if2 .taken), untouched)
+
+same-length-2 : tie.Need-same-length-2
+same-length-2 c = search needs
+
+returns-3 : tie.Need-returns-3
+returns-3 c =
+    let (st, known) = c .before .before .before .before .before .before .before .before .before .before .before .before .before .pre .0 (c .before .before .before .before .before .if1 .left) in
+    (def-crowded st _ known (c .before .before .before .at .ensures) _ (c .before .before .if2 .left) (c .if3 .taken), untouched)
+
+cast-mark : tie.Need-cast-mark
+cast-mark c =
+    let st = c .before .before .before .before .before .before .before .before .before .before .before .before .before .before .pre .0 (c .before .before .before .before .before .before .if1 .left) .0 in
+    omega (arith, st .few-marks, st .recorded .few, st .recorded .few-entries)
+
+gather-term-requires : tie.Need-gather-term-requires
+gather-term-requires c κs =
+    let st = c .before .before .before .before .before .before .before .before .before .before .before .before .before .before .before .before .before .pre .0 (c .before .before .before .before .before .before .before .before .before .if1 .left) .0 in
+    (st .tables .term-table, st .tables .name-table .room, c .before .before .before .before .before .before .before .before .before .before .before .before .before .before .before .before .before .pre .1, st .fresh, st .recorded .few-uses, omega (arith, st .recorded .out-room))
+
+enum-known-uses : tie.Need-enum-known-uses
+enum-known-uses c = c .match .keys1
+
+enum-told : tie.Need-enum-told
+enum-told c = c .match .keys2
+
+same-length-3 : tie.Need-same-length-3
+same-length-3 c = search needs
+
+same-length-4 : tie.Need-same-length-4
+same-length-4 c = search needs
+
+same-length-5 : tie.Need-same-length-5
+same-length-5 c = search needs
+
+returns-4 : tie.Need-returns-4
+returns-4 c =
+    let (st, known) = c .before .before .before .before .before .before .before .before .before .before .before .before .before .before .before .before .before .before .before .before .before .before .before .before .before .before .pre .0 (c .before .before .before .before .before .before .before .before .before .before .before .before .before .before .before .before .before .before .if1 .left) in
+    let slices = c .before .before .before .before .before .before .before .before .gather-term .ensures .1 .0 in
+    (def-over st _ known (c .before .before .before .before .before .before .before .before .before .before .before .before .before .before .before .before .at .ensures) _ (c .before .before .before .before .before .before .before .before .before .before .before .before .before .before .before .if2 .left) (gathered-over st _ (c .before .before .before .before .before .before .before .before .gather-term .ensures .0) slices (c .enum-told .given .1)),
+    gathered-past st _ (c .before .before .before .before .before .before .before .before .gather-term .ensures .0) slices (same-all 0 16384 _))
+
+add-names : tie.Need-add-names
+add-names c =
+    let (st, known) = c .before .before .before .before .before .before .before .before .before .before .before .before .before .before .before .before .before .before .before .before .before .before .before .before .before .before .before .before .pre .0 (c .before .before .before .before .before .before .before .before .before .before .before .before .before .before .before .before .before .before .before .before .if1 .left) in
+    omega (arith, st .tables .name-table .room, st .tables .name-table .few, known)
+
+cast-names : tie.Need-cast-names
+cast-names c =
+    let (st, known) = c .before .before .before .before .before .before .before .before .before .before .before .before .before .before .before .before .before .before .before .before .before .before .before .before .before .before .before .before .pre .0 (c .before .before .before .before .before .before .before .before .before .before .before .before .before .before .before .before .before .before .before .before .if1 .left) in
+    omega (arith, st .tables .name-table .room, st .tables .name-table .few, known)
+
+add-names-2 : tie.Need-add-names-2
+add-names-2 c =
+    let (st, known) = c .before .before .before .before .before .before .before .before .before .before .before .before .before .before .before .before .before .before .before .before .before .before .before .before .before .before .before .before .pre .0 (c .before .before .before .before .before .before .before .before .before .before .before .before .before .before .before .before .before .before .before .before .if1 .left) in
+    omega (arith, st .tables .name-table .room, st .tables .name-table .few, known)
+
+mul-names : tie.Need-mul-names
+mul-names c =
+    let (st, known) = c .before .before .before .before .before .before .before .before .before .before .before .before .before .before .before .before .before .before .before .before .before .before .before .before .before .before .before .before .pre .0 (c .before .before .before .before .before .before .before .before .before .before .before .before .before .before .before .before .before .before .before .before .if1 .left) in
+    omega (arith, st .tables .name-table .room, st .tables .name-table .few, known)
+
+slice-write-names : tie.Need-slice-write-names
+slice-write-names c =
+    let (st, known) = c .before .before .before .before .before .before .before .before .before .before .before .before .before .before .before .before .before .before .before .before .before .before .before .before .before .before .before .before .pre .0 (c .before .before .before .before .before .before .before .before .before .before .before .before .before .before .before .before .before .before .before .before .if1 .left) in
+    omega (arith, st .tables .name-table .room, st .tables .name-table .few, known, c .before .before .before .before .before .before .before .before .before .before .gather-term .ensures .1 .0 .names-same .same-length)
+
+add-with-record : tie.Need-add-with-record
+add-with-record c =
+    let st = c .before .before .before .before .before .before .before .before .before .before .before .before .before .before .before .before .before .before .before .before .before .before .before .before .before .before .before .before .before .pre .0 (c .before .before .before .before .before .before .before .before .before .before .before .before .before .before .before .before .before .before .before .before .before .if1 .left) .0 in
+    omega (arith, st .few-marks, st .recorded .few, st .recorded .few-entries)
+
+with-record-requires : tie.Need-with-record-requires
+with-record-requires c κs = search needs
+
+put-record-requires : tie.Need-put-record-requires
+put-record-requires c κs =
+    let (st, known) = c .before .before .before .before .before .before .before .before .before .before .before .before .before .before .before .before .before .before .before .before .before .before .before .before .before .before .before .before .before .before .before .pre .0 (c .before .before .before .before .before .before .before .before .before .before .before .before .before .before .before .before .before .before .before .before .before .before .before .if1 .left) in
+    let uses = gathered-uses st _ (c .before .before .before .before .before .before .before .before .before .before .before .before .before .gather-term .ensures .0) (c .before .before .before .before .before .before .before .before .before .before .before .before .before .gather-term .ensures .1 .0) (c .before .before .before .before .before .uses .given .1) in
+    (c .before .before .before .before .before .before .before .before .before .before .before .before .before .before .before .before .before .before .if3 .left, st .recorded .room, small-row _ _ _ _ _ _ _ _ _ _ st (c .before .with-record .ensures) (st .recorded .few-entries) (uses .fits) (omega arith) (c .before .before .before .before .before .before .before .before .before .before .before .before .before .before .before .before .before .before .before .before .before .before .before .before .before .before .before .before .before .before .before .pre .2)
+    (omega (arith, st .tables .name-table .few, known)) (omega (arith, c .before .before .before .before .before .before .before .before .before .before .before .before .before .before .before .before .before .before .before .before .before .before .before .before .before .before .before .before .before .before .before .pre .1, st .tables .term-table .few-rows)) (omega arith) (omega arith))
+
+same-length-6 : tie.Need-same-length-6
+same-length-6 c = search needs
+
+same-length-7 : tie.Need-same-length-7
+same-length-7 c = search needs
+
+same-length-8 : tie.Need-same-length-8
+same-length-8 c = search needs
+
+same-length-9 : tie.Need-same-length-9
+same-length-9 c = search needs
+
+returns-5 : tie.Need-returns-5
+returns-5 c =
+    let (st, known) = c .before .before .before .before .before .before .before .before .before .before .before .before .before .before .before .before .before .before .before .before .before .before .before .before .before .before .before .before .before .before .before .before .before .before .pre .0 (c .before .before .before .before .before .before .before .before .before .before .before .before .before .before .before .before .before .before .before .before .before .before .before .before .before .before .if1 .left) in
+    let row = c .before .before .put-record .ensures in
+    let slices = c .before .before .before .before .before .before .before .before .before .before .before .before .before .before .before .before .gather-term .ensures .1 .0 in
+    let uses = gathered-uses st _ (c .before .before .before .before .before .before .before .before .before .before .before .before .before .before .before .before .gather-term .ensures .0) slices (c .before .before .before .before .before .before .before .before .uses .given .1) in
+    (def-added st _ known (c .before .before .before .before .before .before .before .before .before .before .before .before .before .before .before .before .before .before .before .before .before .before .before .before .at .ensures) _ (c .before .before .before .before .before .before .before .before .before .before .before .before .before .before .before .before .before .before .before .before .before .before .before .if2 .left) (c .before .before .before .before .before .before .before .before .before .before .before .before .before .before .before .before .before .before .before .before .before .if3 .left) (c .before .before .before .before .with-record .ensures) row uses,
+    past-taken _ _ (omega (arith, st .tables .name-table .few, known)) (gathered-past st _ (c .before .before .before .before .before .before .before .before .before .before .before .before .before .before .before .before .gather-term .ensures .0) slices (row-past row)))
+
+pub add-def-spec : {M : Type 1} → statement M
+add-def-spec =
+    tie.close
+    (tie.spec
+    returns
+    add-at
+    at-requires
+    same-length
+    returns-2
+    same-length-2
+    returns-3
+    cast-mark
+    gather-term-requires
+    enum-known-uses
+    enum-told
+    same-length-3
+    same-length-4
+    same-length-5
+    returns-4
+    add-names
+    cast-names
+    add-names-2
+    mul-names
+    slice-write-names
+    add-with-record
+    with-record-requires
+    put-record-requires
+    same-length-6
+    same-length-7
+    same-length-8
+    same-length-9
+    returns-5)

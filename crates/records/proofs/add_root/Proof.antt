@@ -1,0 +1,113 @@
+-- `records::add_root` meets its contract.
+use Prim.Native.Nat.{_≤_, _<_}
+use native.Mathlib.Omega.{arith}
+use Rattle.records.specs.Adding.{full}
+use Rattle.records.proofs.Funs.{same-all, row-past, small-row, untouched}
+use Rattle.records.proofs.Uses.{gathered-uses, gathered-over, gathered-past, root-crowded, root-over, root-added}
+use borrow.Author.Needs.{needs}
+use Rattle.records.proofs.add_root.Statement.{statement}
+use Rattle.records.proofs.add_root.Tie as tie
+use Rattle.records.proofs.add_root.Reads as reads
+use Rattle.records.proofs.add_root.Lts as lts
+use Rattle.gather.proofs.gather_term.Reads as gather-term-reads
+use Rattle.records.proofs.put_record.Reads as put-record-reads
+use Rattle.records.proofs.with_record.Reads as with-record-reads
+
+returns : tie.Need-returns
+returns c = (full (c .if1 .taken), untouched)
+
+returns-2 : tie.Need-returns-2
+returns-2 c =
+    let (st, known) = c .before .before .before .before .before .before .before .before .before .before .pre .0 (c .before .before .if1 .left) in
+    (root-crowded st _ _ known _ (c .if2 .taken), untouched)
+
+cast-mark : tie.Need-cast-mark
+cast-mark c =
+    let st = c .before .before .before .before .before .before .before .before .before .before .before .pre .0 (c .before .before .before .if1 .left) .0 in
+    omega (arith, st .few-marks, st .recorded .few, st .recorded .few-entries)
+
+gather-term-requires : tie.Need-gather-term-requires
+gather-term-requires c κs =
+    let st = c .before .before .before .before .before .before .before .before .before .before .before .before .before .before .pre .0 (c .before .before .before .before .before .before .if1 .left) .0 in
+    (st .tables .term-table, st .tables .name-table .room, c .before .before .before .before .before .before .before .before .before .before .before .before .before .before .pre .1, st .fresh, st .recorded .few-uses, omega (arith, st .recorded .out-room))
+
+enum-known-uses : tie.Need-enum-known-uses
+enum-known-uses c = c .match .keys1
+
+enum-told : tie.Need-enum-told
+enum-told c = c .match .keys2
+
+same-length : tie.Need-same-length
+same-length c = search needs
+
+same-length-2 : tie.Need-same-length-2
+same-length-2 c = search needs
+
+same-length-3 : tie.Need-same-length-3
+same-length-3 c = search needs
+
+returns-3 : tie.Need-returns-3
+returns-3 c =
+    let (st, known) = c .before .before .before .before .before .before .before .before .before .before .before .before .before .before .before .before .before .before .before .before .before .before .before .pre .0 (c .before .before .before .before .before .before .before .before .before .before .before .before .before .before .before .if1 .left) in
+    let slices = c .before .before .before .before .before .before .before .before .gather-term .ensures .1 .0 in
+    (root-over st _ _ known _ (gathered-over st _ (c .before .before .before .before .before .before .before .before .gather-term .ensures .0) slices (c .enum-told .given .1)),
+    gathered-past st _ (c .before .before .before .before .before .before .before .before .gather-term .ensures .0) slices (same-all 0 16384 _))
+
+add-with-record : tie.Need-add-with-record
+add-with-record c =
+    let st = c .before .before .before .before .before .before .before .before .before .before .before .before .before .before .before .before .before .before .before .before .before .before .before .before .before .pre .0 (c .before .before .before .before .before .before .before .before .before .before .before .before .before .before .before .before .before .if1 .left) .0 in
+    omega (arith, st .few-marks, st .recorded .few, st .recorded .few-entries)
+
+with-record-requires : tie.Need-with-record-requires
+with-record-requires c κs = search needs
+
+put-record-requires : tie.Need-put-record-requires
+put-record-requires c κs =
+    let (st, known) = c .before .before .before .before .before .before .before .before .before .before .before .before .before .before .before .before .before .before .before .before .before .before .before .before .before .before .before .pre .0 (c .before .before .before .before .before .before .before .before .before .before .before .before .before .before .before .before .before .before .before .if1 .left) in
+    let uses = gathered-uses st _ (c .before .before .before .before .before .before .before .before .before .before .before .before .gather-term .ensures .0) (c .before .before .before .before .before .before .before .before .before .before .before .before .gather-term .ensures .1 .0) (c .before .before .before .before .uses .given .1) in
+    (c .before .before .before .before .before .before .before .before .before .before .before .before .before .before .before .before .before .if2 .left, st .recorded .room, small-row _ _ _ _ _ _ _ _ _ _ st (c .before .with-record .ensures) (st .recorded .few-entries) (uses .fits) (omega arith) (c .before .before .before .before .before .before .before .before .before .before .before .before .before .before .before .before .before .before .before .before .before .before .before .before .before .before .before .pre .2)
+    (omega (arith, st .tables .name-table .few, known)) (omega (arith, c .before .before .before .before .before .before .before .before .before .before .before .before .before .before .before .before .before .before .before .before .before .before .before .before .before .before .before .pre .1, st .tables .term-table .few-rows)) (c .before .before .before .before .before .before .before .before .before .before .before .before .before .before .before .before .before .before .before .before .before .before .before .before .before .before .before .pre .3) (omega arith))
+
+same-length-4 : tie.Need-same-length-4
+same-length-4 c = search needs
+
+same-length-5 : tie.Need-same-length-5
+same-length-5 c = search needs
+
+same-length-6 : tie.Need-same-length-6
+same-length-6 c = search needs
+
+same-length-7 : tie.Need-same-length-7
+same-length-7 c = search needs
+
+returns-4 : tie.Need-returns-4
+returns-4 c =
+    let (st, known) = c .before .before .before .before .before .before .before .before .before .before .before .before .before .before .before .before .before .before .before .before .before .before .before .before .before .before .before .before .before .before .pre .0 (c .before .before .before .before .before .before .before .before .before .before .before .before .before .before .before .before .before .before .before .before .before .before .if1 .left) in
+    let row = c .before .before .put-record .ensures in
+    let slices = c .before .before .before .before .before .before .before .before .before .before .before .before .before .before .before .gather-term .ensures .1 .0 in
+    let uses = gathered-uses st _ (c .before .before .before .before .before .before .before .before .before .before .before .before .before .before .before .gather-term .ensures .0) slices (c .before .before .before .before .before .before .before .uses .given .1) in
+    (root-added st _ _ known _ (c .before .before .before .before .before .before .before .before .before .before .before .before .before .before .before .before .before .before .before .before .if2 .left) (c .before .before .before .before .with-record .ensures) row uses,
+    gathered-past st _ (c .before .before .before .before .before .before .before .before .before .before .before .before .before .before .before .gather-term .ensures .0) slices (row-past row))
+
+pub add-root-spec : {M : Type 1} → statement M
+add-root-spec =
+    tie.close
+    (tie.spec
+    returns
+    returns-2
+    cast-mark
+    gather-term-requires
+    enum-known-uses
+    enum-told
+    same-length
+    same-length-2
+    same-length-3
+    returns-3
+    add-with-record
+    with-record-requires
+    put-record-requires
+    same-length-4
+    same-length-5
+    same-length-6
+    same-length-7
+    returns-4)
