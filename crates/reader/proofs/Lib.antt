@@ -1,3 +1,3 @@
-pub mod Spelled
+pub mod Naming
 pub mod Saying
 pub mod Lines

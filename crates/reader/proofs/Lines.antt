@@ -67,7 +67,7 @@ module _ (file : List ℕ) (a e : ℕ) (h : a ≤ e) (l : e ≤ length file) (sh
       let w = field-some file at-start (mark-at 0x2c file a e) h refl in
       let z : _≡_ {A = ℕ} 0 1 = cc in omega arith
 
-module _ (n count : ℕ) {all : List Field} {f : Field} {fs : List Field} (d : all ≡ f ∷ fs) {k : Kind} (q : kind-result k ≡ kind-field n f) where
+module _ (n count : ℕ) {all : List Field} {f : Field} {fs : List Field} (d : all ≡ f ∷ fs) (k : Kind) (q : kind-result k ≡ kind-field n f) where
   -- the number of fields is right
   pub parse-on : true ≡ well-counted k all → parse n count all ≡ kind-content k count fs
   unfolding kind-content
@@ -76,12 +76,12 @@ module _ (n count : ℕ) {all : List Field} {f : Field} {fs : List Field} (d : a
 
   -- it is not
   pub parse-count : false ≡ well-counted k all → parse n count all ≡ refused refusal.Form
+  unfolding kind-result
   parse-count c = ap (parse n count) d ∙ parse-law n count f fs k q
       ∙ ap (λ b. kind-result k >>= λ l. cond b (content l count fs) (refused refusal.Form)) (sym (c ∙ ap (well-counted k) d))
       ∙ go k
     where
       go : (k : Kind) → _≡_ {A = Result Content} (kind-result k >>= λ l. refused refusal.Form) (refused refusal.Form)
-      unfolding kind-result
       go kinded.Ask = refl
       go (kinded.Term t) = refl
       go (kinded.Record r) = refl

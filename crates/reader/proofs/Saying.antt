@@ -85,12 +85,11 @@ module _ (count : ℕ) (fs : List Field) where
 
   -- an `assume`, by what it says after its name
   pub assume-said : {m : Name} {gs : List Field} → next name-field fs ≡ ok (m, gs) → content kind.Assume count fs ≡ fact-said count m gs
-  unfolding content fact-said
+  unfolding content fact-said last-field
   assume-said {m} {gs} a = rw a (go (next (number-field 1) gs))
     where
       go : (r : Result (ℕ × List Field)) → (r >>= λ (flag, hs). next (term-field count) hs >>= λ (t, is). end (assume m (eqb flag 1) t) is)
           ≡ (r >>= λ (flag, hs). last-field count hs >>= λ t. ok (assume m (eqb flag 1) t))
-      unfolding last-field
       go (ok (flag, hs)) = last-then (assume m (eqb flag 1)) (next (term-field count) hs)
       go (refused x) = refl
 
@@ -101,12 +100,11 @@ module _ (count : ℕ) (fs : List Field) where
 
   -- a `root`, by what it says after its query
   pub root-then : {q : ℕ} {gs : List Field} → next (number-field 255) fs ≡ ok (q, gs) → content kind.Root count fs ≡ root-said count q gs
-  unfolding content root-said
+  unfolding content root-said last-field
   root-then {q} {gs} a = rw a (go (next name-field gs))
     where
       go : (r : Result (Name × List Field)) → (r >>= λ (m, hs). next (term-field count) hs >>= λ (t, is). end (root q m t) is)
           ≡ (r >>= λ (m, hs). last-field count hs >>= λ t. ok (root q m t))
-      unfolding last-field
       go (ok (m, hs)) = last-then (root q m) (next (term-field count) hs)
       go (refused x) = refl
 

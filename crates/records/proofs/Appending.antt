@@ -23,7 +23,7 @@ use Rattle.gather.proofs.Walking.{rows-marked}
 use Rattle.rules.specs.Views.{terms-in}
 use Rattle.triggers.specs.Entries.{disjuncts-of, entries}
 use Rattle.triggers.proofs.Marked.{terms-marked}
-use Rattle.records.specs.declared.Step.the-variants as step
+use Rattle.model.specs.declared.Step.the-variants as step
 use Rattle.records.specs.Columns.{record-kind, assume-kind, retain-kind, root-kind, entry-column, last-entry, no-name, entry-word, entry-name, entry-fact}
 use Rattle.records.specs.States.{summary-at, root-at, decls-of, roots-of, ask-of, state-of}
 use Rattle.records.specs.Filing.{Records, Chained, Filing, Taken, Stocked}

@@ -14,7 +14,7 @@ use Rattle.model.specs.declared.Refusal.the-variants as refusal
 use Rattle.names.specs.Table.{name-of, names-of}
 use Rattle.gather.specs.Sets.{Fresh, Same-but}
 use Rattle.rules.specs.Views.{terms-in}
-use Rattle.records.specs.declared.Step.the-variants as step
+use Rattle.model.specs.declared.Step.the-variants as step
 use Rattle.records.specs.Columns.{fun-kind, retain-kind, root-kind, taken-column, taken-at}
 use Rattle.records.specs.States.{summary-at, root-at, decl-at, state-of}
 use Rattle.records.specs.Writing.{with-record, Small, Rowed}

@@ -24,7 +24,7 @@ use Rattle.names.proofs.Laws.{names-length, distinct}
 use Rattle.terms.specs.Rows.{terms-of, nodes-below, node-of}
 use Rattle.terms.proofs.Laws.{equal}
 use Rattle.rules.specs.Views.{terms-in}
-use Rattle.records.specs.declared.Step.the-variants as step
+use Rattle.model.specs.declared.Step.the-variants as step
 use Rattle.records.specs.Columns.{record-kind, record-name, retain-kind, taken-at}
 use Rattle.records.specs.States.{decl-at, fact-at, summary-at, decls-of, roots-of, state-of}
 use Rattle.records.specs.Filing.{Taken}
@@ -137,7 +137,7 @@ module _ (name : ℕ → Name) (recs out : List ℕ) where
   takes-at i (suc (suc (suc k))) h = absurd (omega arith)
 
   -- a name that is taken is that of a record
-  taken-elim : (n : ℕ) {y : Name} → List·Memᴰ y (collect taken-by (decls-of name recs out n))
+  pub taken-elim : (n : ℕ) {y : Name} → List·Memᴰ y (collect taken-by (decls-of name recs out n))
       → (i : ℕ) × (i < n) × (record-kind recs i < retain-kind) × (y ≡ name (record-name recs i))
   unfolding decls-of collect
   taken-elim zero m = absurd (List·Memᴰ·not-nil m)
@@ -164,7 +164,7 @@ module _ (n : ℕ) (s : State) (c : Content) where
   repeats-none e = rw e
 
   -- a line that takes a name
-  repeats-one : {m : Name} → collect taken-by (summarize-decl excluded (s .terms) n c) ≡ m ∷ [] → repeats excluded n s c ≡ (mem m (collect taken-by (s .decls)) || false)
+  pub repeats-one : {m : Name} → collect taken-by (summarize-decl excluded (s .terms) n c) ≡ m ∷ [] → repeats excluded n s c ≡ (mem m (collect taken-by (s .decls)) || false)
   unfolding repeats any
   repeats-one e = rw e
 

@@ -11,8 +11,8 @@ use Rattle.model.specs.declared.Refusal.{Refusal}
 use Rattle.model.specs.declared.Refusal.the-variants as refusal
 use Rattle.gather.specs.Sets.{Fresh, Same-but}
 use Rattle.rules.specs.Views.{Tables}
-use Rattle.records.specs.declared.Step.{Step}
-use Rattle.records.specs.declared.Step.the-variants as step
+use Rattle.model.specs.declared.Step.{Step}
+use Rattle.model.specs.declared.Step.the-variants as step
 use Rattle.records.specs.States.{state-of}
 use Rattle.records.specs.Filing.{Records, Stocked}
 

@@ -1,6 +1,7 @@
 use gather::Walked;
 use model::Counts;
 use model::Refusal;
+use model::Step;
 ghost use Prim.Native.Nat.{ℕ, _+_, _≤_, _<_};
 ghost use mathlib.Core.Path.{_≡_};
 ghost use mathlib.Core.List.{[]};
@@ -11,12 +12,6 @@ ghost use Rattle.records.specs.States.{asks};
 ghost use Rattle.records.specs.Filing.{Chained};
 ghost use Rattle.records.specs.Writing.{put-row, with-record, Small, Rowed, Chains};
 ghost use Rattle.records.specs.Adding.{Standing, Adds, Untouched};
-
-// What a line comes to: on with these counts, or its refusal.
-pub enum Step {
-    On(Counts),
-    Refused(Refusal),
-}
 
 // The columns of the records slice, by the record's number.
 pub const KIND: usize = 0;

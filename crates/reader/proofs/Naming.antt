@@ -20,14 +20,19 @@ use Rattle.names.specs.Table.{Table, name-of, names-of}
 use Rattle.names.proofs.Laws.{names-length, names-intro}
 use Rattle.terms.proofs.Table.{rows-named, terms-named}
 use Rattle.rules.specs.Views.{Tables, terms-in}
-use Rattle.fields.specs.Spelling.{Longer}
-use Rattle.records.specs.Columns.{taken-column, first-column}
+use Rattle.fields.specs.Spelling.{Naming, in-table, Longer, Spelled-as}
+use Rattle.fields.proofs.Spelling.{naming-table, naming-past}
+use Rattle.records.specs.Columns.{record-name, taken-column, first-column}
 use Rattle.records.specs.States.{state-of, decls-of, roots-of}
-use Rattle.records.specs.Adding.{excluded, Standing, judge}
+use Rattle.records.specs.Adding.{excluded, Standing, judge, Adds}
+use Rattle.records.specs.Adding as adds
+use Rattle.records.proofs.Judging.{many-names, judged-beyond, repeats-one, taken-elim}
 use Rattle.records.proofs.Recording.{Agree, decls-stay, roots-stay}
 use Rattle.records.proofs.Keeping.{records-named, filing-kept, taken-kept}
 use Rattle.records.proofs.Chaining.{chained-kept}
-use Rattle.reader.specs.Lines.{with-names}
+use Rattle.model.specs.declared.Step.{Step}
+use Rattle.reader.specs.Lines.{with-names, judged, Reads}
+use Rattle.reader.specs.Lines as reads
 
 -- ---- spelling a name
 
@@ -43,13 +48,14 @@ spelled-there ns m = go (mem m ns) refl
     go true e = rw e tt
     go false e = last
 
+-- a name that is there stays as it is
+spell-known : (ns : List Name) (m : Name) → T (mem m ns) → spell ns m ≡ ns
+unfolding spell
+spell-known ns m h = cond-true (mem m ns) ns (ns ++ (m ∷ [])) h
+
 -- a name spelled twice
 pub spell-twice : (ns : List Name) (m : Name) → spell (spell ns m) m ≡ spell ns m
-spell-twice ns m = go (spell ns m) (spelled-there ns m)
-  where
-    go : (ls : List Name) → T (mem m ls) → spell ls m ≡ ls
-    unfolding spell
-    go ls h = cond-true (mem m ls) ls (ls ++ (m ∷ [])) h
+spell-twice ns m = spell-known (spell ns m) m (spelled-there ns m)
 
 -- spelling forgets no name
 spell-more : (ns : List Name) (m : Name) → length ns ≤ length (spell ns m)
@@ -68,8 +74,7 @@ fold-more ns (m ∷ ms) = omega (arith, spell-more ns m, fold-more (spell ns m) 
 
 -- a name for which there is no room is new
 pub new-name : (ns : List Name) (m : Name) → length ns < length (spell ns m) → T (mem m ns) → ⊥
-unfolding spell
-new-name ns m h t = omega (arith, ap length (cond-true (mem m ns) ns (ns ++ (m ∷ [])) t))
+new-name ns m h t = omega (arith, ap length (spell-known ns m t))
 
 -- ---- the tables under a longer name table
 
@@ -140,10 +145,24 @@ with-spelled s ns = record {
   uses = s .uses;
 }
 
+-- names spelled after one that is spelled already
+fold-again : (ns ts : List Name) (m : Name) → fold-left spell ns ((m ∷ []) ++ ts) ≡ fold-left spell (spell ns m) ((m ∷ []) ++ ts)
+unfolding fold-left
+fold-again ns ts m = ap (λ ls. fold-left spell ls ts) (sym (spell-twice ns m))
+
 -- a line of one name
+same-line : (n : ℕ) (s : State) (m : Name) (c : Content) → spelled c ≡ m ∷ []
+    → add-line excluded n s c ≡ add-line excluded n (with-spelled s (spell (s .names) m)) c
+unfolding add-line
+same-line n s m c e =
+    let same : fold-left spell (s .names) (spelled c ++ trimmed excluded (s .terms) c) ≡ fold-left spell (spell (s .names) m) (spelled c ++ trimmed excluded (s .terms) c)
+      = rw e (fold-again (s .names) (trimmed excluded (s .terms) c) m) in
+    rw same
+
+-- it is judged the same
 respelled : (n : ℕ) (s : State) (m : Name) (c : Content) → spelled c ≡ m ∷ [] → judge n s c ≡ judge n (with-spelled s (spell (s .names) m)) c
-unfolding judge repeats add-line fold-left
-respelled n s m c e = rw (e, spell-twice (s .names) m)
+unfolding judge repeats
+respelled n s m c e = rw (same-line n s m c e)
 
 -- a `retain`: its names are spelled, and none is left
 retained : (n : ℕ) (s : State) (ms : List Name) → judge n s (retain ms) ≡ judge n (with-spelled s (fold-left spell (s .names) ms)) (retain [])
@@ -154,11 +173,11 @@ retained n s ms = rw (append-nil ms)
 under-ok : {A : Type 0} (ls : List (ℕ × ℕ × Refusal)) {a b : A} → under-limits ls a ≡ ok b → a ≡ b
 unfolding under-limits
 under-ok [] e = ok-eq e
-under-ok ((counted, limit, x) ∷ ls) {a} {b} e = go (leb counted limit) e
+under-ok ((counted, limit, x) ∷ ls) {a} {b} e = go (leb counted limit) (λ q. under-ok ls q) e
   where
-    go : (t : Bool) → cond t (under-limits ls a) (refused x) ≡ ok b → a ≡ b
-    go true q = under-ok ls q
-    go false q = absurd (not-ok q)
+    go : (t : Bool) → (under-limits ls a ≡ ok b → a ≡ b) → cond t (under-limits ls a) (refused x) ≡ ok b → a ≡ b
+    go true on q = on q
+    go false on q = absurd (not-ok q)
 
 judge-ok : (n : ℕ) (s t : State) (c : Content) → judge n s c ≡ ok t → add-line excluded n s c ≡ t
 unfolding judge
@@ -172,3 +191,69 @@ judge-ok n s t c e = go (repeats excluded n s c) e
 line-names : (n : ℕ) (s : State) (c : Content) → length (s .names) ≤ length (add-line excluded n s c .names)
 unfolding add-line
 line-names n s c = fold-more (s .names) (spelled c ++ trimmed excluded (s .terms) c)
+
+-- ---- a record added after its name is spelled
+
+module _ {file names refs rows recs out names′ : List ℕ} {k : Counts} {named′ i : ℕ} {m : Name} (n : ℕ) (st : Standing file names refs rows recs out k)
+    (sp : Spelled-as file names names′ (k .named) named′ i m) (c : Content) (one : spelled c ≡ m ∷ []) where
+  -- the names of the tables before, as those of the model
+  before : Naming file names (k .named) (names-of file names (k .named))
+  before = in-table (st .tables .name-table) refl
+
+  -- the line is judged in the state with its name spelled
+  judged-there : named′ ≤ most-names → judge n (state-of file names refs rows recs out k) c ≡ judge n (state-of file names′ refs rows recs out (with-names k named′)) c
+  unfolding state-of
+  judged-there h = respelled n (state-of file names refs rows recs out k) m c one
+      ∙ ap (λ s. judge n s c) (sym (state-spelled st (sp .longer) (naming-table (sp .naming (names-of file names (k .named)) before) h .1)))
+
+  -- its name has no room
+  pub no-room : most-names < named′ → most-names < length (spell (names-of file names (k .named)) m)
+  no-room h = naming-past (sp .naming (names-of file names (k .named)) before) h
+
+  crowded : most-names < named′ → repeats excluded n (state-of file names refs rows recs out k) c ≡ false
+      → judge n (state-of file names refs rows recs out k) c ≡ refused refusal.Limit
+  unfolding state-of
+  crowded h r =
+      let s = state-of file names refs rows recs out k in
+      let then = line-names n (with-spelled s (spell (s .names) m)) c in
+      judged-beyond n s c r (many-names (omega (arith, no-room h, then, ap (λ t. length (t .names)) (same-line n s m c one))))
+
+  -- a name without room is not taken
+  pub not-taken : collect taken-by (summarize-decl excluded (terms-in file names refs rows (k .used) (k .many)) n c) ≡ m ∷ []
+      → most-names < named′ → repeats excluded n (state-of file names refs rows recs out k) c ≡ false
+  unfolding state-of
+  not-taken takes h =
+      repeats-one n (state-of file names refs rows recs out k) c takes
+      ∙ rw (T-false (mem m taken) (not-T (mem m taken) (λ t. new (mem-elim t))))
+    where
+      taken : List Name
+      taken = collect taken-by (decls-of (name-of file names) recs out (k .records))
+
+      new : List·Memᴰ m taken → ⊥
+      new x =
+          let (j, l, kind, e) = taken-elim (name-of file names) recs out (k .records) x in
+          let low = st .recorded .named-in j l (λ z. omega arith) in
+          let there = names-intro file names (k .named) (record-name recs j) low in
+          new-name (names-of file names (k .named)) m
+          (omega (arith, no-room h, names-length file names (k .named), st .tables .name-table .few)) (rw e there)
+
+  -- a line that is judged well has room for its name
+  few-names : {names″ rows″ recs″ out″ : List ℕ} {k′ : Counts}
+      → judge n (state-of file names′ refs rows recs out (with-names k named′)) c ≡ ok (state-of file names″ refs rows″ recs″ out″ k′)
+      → Standing file names″ refs rows″ recs″ out″ k′ → named′ ≤ most-names
+  unfolding state-of
+  few-names {names″} {rows″} {recs″} {out″} {k′} j s =
+      let t = state-of file names′ refs rows recs out (with-names k named′) in
+      let u = state-of file names″ refs rows″ recs″ out″ k′ in
+      omega (arith, line-names n t c, ap (λ x. length (x .names)) (judge-ok n t u c j), names-length file names′ named′,
+      names-length file names″ (k′ .named), s .tables .name-table .few)
+
+  -- what adding the record comes to, as the line has it
+  pub adds-reads : {names″ rows″ recs″ out″ : List ℕ} {said : Result Content} {r : Step}
+      → (most-names < named′ → repeats excluded n (state-of file names refs rows recs out k) c ≡ false) → said ≡ ok c
+      → Adds file names′ refs rows recs out names″ rows″ recs″ out″ (with-names k named′) n c r
+      → Reads file names″ refs rows″ recs″ out″ n (state-of file names refs rows recs out k) said r
+  unfolding judged
+  adds-reads free e (adds.full h) = reads.stops {x = refusal.Limit} (rw e (crowded h (free h)))
+  adds-reads free e (adds.stops {x} h j) = reads.stops {x = x} (rw e (judged-there h ∙ j))
+  adds-reads free e (adds.added {k′} j s) = reads.goes-on {k′ = k′} (rw e (judged-there (few-names j s) ∙ j)) s
