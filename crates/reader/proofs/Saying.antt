@@ -10,11 +10,17 @@ use Rattle.model.specs.Reading.{Result, ok, refused, _>>=_, next, end, name-fie
 use Rattle.model.specs.declared.LineKind.the-variants as kind
 use Rattle.model.specs.declared.Refusal.{Refusal}
 use Rattle.model.specs.declared.Refusal.the-variants as refusal
+use Rattle.model.specs.declared.Counts.{Counts}
+use Rattle.model.specs.declared.Step.the-variants as step
 use Rattle.text.specs.declared.Cursor.{Cursor}
-use Rattle.text.specs.Parts.{fields-left}
-use Rattle.text.proofs.Laws.{left-none}
-use Rattle.fields.proofs.Pushing.{left-cons}
-use Rattle.reader.specs.Lines.{last-field, fact-said, root-said}
+use Rattle.text.specs.declared.NumberStep.{NumberStep}
+use Rattle.text.specs.declared.NumberStep.the-variants as numbered
+use Rattle.text.specs.Parts.{Placed, fields-left, term-at, number-at}
+use Rattle.text.proofs.Laws.{left-none, number-next}
+use Rattle.fields.proofs.Pushing.{left-cons, term-read, term-not, number-read, number-not}
+use Rattle.reader.specs.declared.Last.{Last}
+use Rattle.reader.specs.declared.Last.the-variants as last
+use Rattle.reader.specs.Lines.{last-field, last-result, fact-said, root-said, with-ask, Asks, asks, not-asked}
 
 -- ---- the end of a line
 
@@ -161,3 +167,56 @@ module _ (count : ℕ) (fs : List Field) where
   pub ask-not : {x : Refusal} → next (number-field 255) fs ≡ refused x → content kind.Ask count fs ≡ refused x
   unfolding content
   ask-not a = rw a
+
+-- ---- the steps of the cursor
+
+module _ {file : List ℕ} {c : Cursor} (p : Placed file c) (count : ℕ) {r : NumberStep} (a : r ≡ term-at count file c) where
+  -- the last field is a term
+  pub last-is : {t : ℕ} {n : Cursor} → r ≡ numbered.Number t n → n .end < n .at → last-result (last.Term t) ≡ last-field count (fields-left file c)
+  unfolding last-result last-field
+  last-is {t} {n} b h = rw (term-read p count a b, end-none t file n h)
+
+  -- a field is left over
+  pub last-more : {t : ℕ} {n : Cursor} → r ≡ numbered.Number t n → n .at ≤ n .end → last-result (last.Refused refusal.Form) ≡ last-field count (fields-left file c)
+  unfolding last-result last-field
+  last-more {t} {n} b h = rw (term-read p count a b, end-more t file n h)
+
+  -- the field is refused
+  pub last-refused : {x : Refusal} → r ≡ numbered.Refused x → last-result (last.Refused x) ≡ last-field count (fields-left file c)
+  unfolding last-result last-field
+  last-refused b = rw (term-not p count a b)
+
+-- an answer of the last field
+pub last-term : {r : Last} {v : Result ℕ} {t : ℕ} → last-result r ≡ v → r ≡ last.Term t → v ≡ ok t
+unfolding last-result
+last-term a b = sym a ∙ rw b
+
+pub last-refusal : {r : Last} {v : Result ℕ} {x : Refusal} → last-result r ≡ v → r ≡ last.Refused x → v ≡ refused x
+unfolding last-result
+last-refusal a b = sym a ∙ rw b
+
+module _ {file : List ℕ} {c : Cursor} (k : Counts) (p : Placed file c) {r : NumberStep} (a : r ≡ number-at 255 file c) where
+  -- the ask's query is refused
+  pub asks-not : {x : Refusal} → r ≡ numbered.Refused x → Asks k (content kind.Ask (k .many) (fields-left file c)) (step.Refused x)
+  asks-not {x} b = not-asked {x = x} (ask-not (k .many) (fields-left file c) (number-not p 255 a b))
+
+  module _ {q : ℕ} {n : Cursor} (b : r ≡ numbered.Number q n) {s : NumberStep} (d : s ≡ number-at 7 file n) where
+    -- the cursor after the query
+    after : Placed file n
+    after = number-next file c p 255 q n (sym a ∙ b) .0 .placed
+
+    -- its options are refused
+    pub asks-options-not : {x : Refusal} → s ≡ numbered.Refused x → Asks k (content kind.Ask (k .many) (fields-left file c)) (step.Refused x)
+    asks-options-not {x} e = not-asked {x = x} (ask-options-not (k .many) (fields-left file c) (number-read p 255 a b) (number-not after 7 d e))
+
+    -- a field is left over
+    pub asks-more : {options : ℕ} {l : Cursor} → s ≡ numbered.Number options l → l .at ≤ l .end
+        → Asks k (content kind.Ask (k .many) (fields-left file c)) (step.Refused refusal.Form)
+    asks-more {options} {l} e h = not-asked {x = refusal.Form}
+        (ask-more (k .many) (fields-left file c) (number-read p 255 a b) (number-read after 7 d e) (end-more (ask q options) file l h))
+
+    -- it asks
+    pub asks-is : {options : ℕ} {l : Cursor} → s ≡ numbered.Number options l → l .end < l .at
+        → Asks k (content kind.Ask (k .many) (fields-left file c)) (step.On (with-ask k q options))
+    asks-is {options} {l} e h = asks {q = q} {options = options}
+        (ask-is (k .many) (fields-left file c) (number-read p 255 a b) (number-read after 7 d e) (end-none (ask q options) file l h))
