@@ -21,17 +21,20 @@ use Rattle.names.proofs.Laws.{names-length, names-intro}
 use Rattle.terms.proofs.Table.{rows-named, terms-named}
 use Rattle.rules.specs.Views.{Tables, terms-in}
 use Rattle.fields.specs.Spelling.{Naming, in-table, Longer, Spelled-as}
-use Rattle.fields.proofs.Spelling.{naming-table, naming-past}
+use Rattle.fields.proofs.Spelling.{begun-table, naming-table, naming-past}
 use Rattle.records.specs.Columns.{record-name, taken-column, first-column}
 use Rattle.records.specs.States.{state-of, decls-of, roots-of}
-use Rattle.records.specs.Adding.{excluded, Standing, judge, Adds}
+use Rattle.records.specs.Adding.{excluded, Standing, judge, Adds, Untouched}
 use Rattle.records.specs.Adding as adds
 use Rattle.records.proofs.Judging.{many-names, judged-beyond, repeats-one, taken-elim}
 use Rattle.records.proofs.Recording.{Agree, decls-stay, roots-stay}
 use Rattle.records.proofs.Keeping.{records-named, filing-kept, taken-kept}
 use Rattle.records.proofs.Chaining.{chained-kept}
 use Rattle.model.specs.declared.Step.{Step}
-use Rattle.reader.specs.Lines.{with-names, judged, Reads}
+use Rattle.model.specs.declared.Step.the-variants as step
+use Rattle.model.specs.Outcome.{working-words}
+use Rattle.gather.specs.Sets.{Same-but}
+use Rattle.reader.specs.Lines.{with-names, judged, Reads, Past}
 use Rattle.reader.specs.Lines as reads
 
 -- ---- spelling a name
@@ -237,23 +240,95 @@ module _ {file names refs rows recs out names′ : List ℕ} {k : Counts} {named
           new-name (names-of file names (k .named)) m
           (omega (arith, no-room h, names-length file names (k .named), st .tables .name-table .few)) (rw e there)
 
+module _ {file names refs rows recs out names′ : List ℕ} {k : Counts} {named′ i : ℕ} {m : Name} (n : ℕ) (st : Standing file names refs rows recs out k)
+    (sp : Spelled-as file names names′ (k .named) named′ i m) where
   -- a line that is judged well has room for its name
-  few-names : {names″ rows″ recs″ out″ : List ℕ} {k′ : Counts}
+  few-names : {names″ rows″ recs″ out″ : List ℕ} {k′ : Counts} (c : Content)
       → judge n (state-of file names′ refs rows recs out (with-names k named′)) c ≡ ok (state-of file names″ refs rows″ recs″ out″ k′)
       → Standing file names″ refs rows″ recs″ out″ k′ → named′ ≤ most-names
   unfolding state-of
-  few-names {names″} {rows″} {recs″} {out″} {k′} j s =
+  few-names {names″} {rows″} {recs″} {out″} {k′} c j s =
       let t = state-of file names′ refs rows recs out (with-names k named′) in
       let u = state-of file names″ refs rows″ recs″ out″ k′ in
       omega (arith, line-names n t c, ap (λ x. length (x .names)) (judge-ok n t u c j), names-length file names′ named′,
       names-length file names″ (k′ .named), s .tables .name-table .few)
 
-  -- what adding the record comes to, as the line has it
-  pub adds-reads : {names″ rows″ recs″ out″ : List ℕ} {said : Result Content} {r : Step}
-      → (most-names < named′ → repeats excluded n (state-of file names refs rows recs out k) c ≡ false) → said ≡ ok c
-      → Adds file names′ refs rows recs out names″ rows″ recs″ out″ (with-names k named′) n c r
-      → Reads file names″ refs rows″ recs″ out″ n (state-of file names refs rows recs out k) said r
-  unfolding judged
-  adds-reads free e (adds.full h) = reads.stops {x = refusal.Limit} (rw e (crowded h (free h)))
-  adds-reads free e (adds.stops {x} h j) = reads.stops {x = x} (rw e (judged-there h ∙ j))
-  adds-reads free e (adds.added {k′} j s) = reads.goes-on {k′ = k′} (rw e (judged-there (few-names j s) ∙ j)) s
+  -- the tables with the name spelled, and its number
+  pub spelled-standing : {next : Counts} → next ≡ with-names k named′ → next .named ≤ most-names
+      → Standing file names′ refs rows recs out next × (i < next .named)
+  spelled-standing q = rw q (λ h. (standing-spelled st (sp .longer) (begun-table (sp .begun) h), sp .number h .0))
+
+  -- what adding a record of the name comes to, as its line has it
+  module _ (make : Name → Content) (one : (x : Name) → spelled (make x) ≡ x ∷ []) where
+    abbrev s : State
+    s = state-of file names refs rows recs out k
+
+    abbrev s′ : State
+    s′ = state-of file names′ refs rows recs out (with-names k named′)
+
+    named-there : named′ ≤ most-names → judge n s (make m) ≡ judge n s′ (make (name-of file names′ i))
+    named-there h = judged-there n st sp (make m) (one m) h ∙ ap (λ x. judge n s′ (make x)) (sym (sp .number h .1))
+
+    pub record-reads : {names″ rows″ recs″ out″ : List ℕ} {said : Result Content} {next : Counts} {r : Step}
+        → (most-names < named′ → repeats excluded n s (make m) ≡ false) → said ≡ ok (make m) → next ≡ with-names k named′
+        → Adds file names′ refs rows recs out names″ rows″ recs″ out″ next n (make (name-of file names′ i)) r
+        → Reads file names″ refs rows″ recs″ out″ n s said r
+    unfolding judged
+    record-reads {names″} {rows″} {recs″} {out″} {said} {next} {r} free e q a = go (rw q at a)
+      where
+        go : {r : Step} → Adds file names′ refs rows recs out names″ rows″ recs″ out″ (with-names k named′) n (make (name-of file names′ i)) r
+            → Reads file names″ refs rows″ recs″ out″ n s said r
+        go (adds.full h) = reads.stops {x = refusal.Limit} (rw e (crowded n st sp (make m) (one m) h (free h)))
+        go (adds.stops {x} h j) = reads.stops {x = x} (rw e (named-there h ∙ j))
+        go (adds.added {k′} j x) = reads.goes-on {k′ = k′} (rw e (named-there (few-names (make (name-of file names′ i)) j x) ∙ j)) x
+
+-- a line that is refused by its fields
+pub reads-refused : {file names′ refs′ rows′ recs′ out′ : List ℕ} {n : ℕ} {s : State} {said : Result Content} (x : Refusal) → said ≡ refused x
+    → Reads file names′ refs′ rows′ recs′ out′ n s said (step.Refused x)
+unfolding judged
+reads-refused x e = reads.stops {x = x} (rw e refl)
+
+-- ---- words past those that a call uses
+
+-- a slice as it is
+pub same-self : (column size : ℕ) (w : List ℕ) → Same-but column size w w
+same-self column size w = record { same-length = refl; same-words = λ i h. refl }
+
+-- one change after the other
+pub same-then : {column size : ℕ} {a b c : List ℕ} → Same-but column size a b → Same-but column size b c → Same-but column size a c
+same-then p q = record { same-length = q .same-length ∙ p .same-length; same-words = λ i h. q .same-words i h ∙ p .same-words i h }
+
+-- a spelled name changes words that a call uses
+pub spelled-past : {file names names′ : List ℕ} {named named′ : ℕ} → Longer file names names′ named named′ → Same-but 0 working-words names names′
+spelled-past l = record { same-length = l .kept .same-length; same-words = λ i h. l .kept .same-words i (λ a b. h (omega arith) (omega arith)) }
+
+-- nothing is written
+pub past-none : (names refs rows recs out : List ℕ) → Past names refs rows recs out names refs rows recs out
+past-none names refs rows recs out = record {
+  name-words = same-self 0 working-words names;
+  reference-words = same-self 0 working-words refs;
+  row-words = same-self 0 working-words rows;
+  record-words = same-self 0 working-words recs;
+  list-words = same-self 0 working-words out;
+}
+
+-- only names are
+pub past-names : {names names′ : List ℕ} (refs rows recs out : List ℕ) → Same-but 0 working-words names names′ → Past names refs rows recs out names′ refs rows recs out
+past-names refs rows recs out p = record {
+  name-words = p;
+  reference-words = same-self 0 working-words refs;
+  row-words = same-self 0 working-words rows;
+  record-words = same-self 0 working-words recs;
+  list-words = same-self 0 working-words out;
+}
+
+-- names, then a record
+pub past-then : {names names′ rows recs out names″ rows″ recs″ out″ : List ℕ} (refs : List ℕ) → Same-but 0 working-words names names′
+    → Untouched names′ rows recs out names″ rows″ recs″ out″ → Past names refs rows recs out names″ refs rows″ recs″ out″
+past-then refs p u = record {
+  name-words = same-then p (u .name-words);
+  reference-words = same-self 0 working-words refs;
+  row-words = u .row-words;
+  record-words = u .record-words;
+  list-words = u .list-words;
+}

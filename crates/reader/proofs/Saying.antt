@@ -195,6 +195,10 @@ pub last-refusal : {r : Last} {v : Result ℕ} {x : Refusal} → last-result r �
 unfolding last-result
 last-refusal a b = sym a ∙ rw b
 
+-- the cursor after a number
+pub number-placed : {file : List ℕ} {c n : Cursor} {r : NumberStep} {v : ℕ} (limit : ℕ) → Placed file c → r ≡ number-at limit file c → r ≡ numbered.Number v n → Placed file n
+number-placed {file} {c} {n} {v = v} limit p a b = number-next file c p limit v n (sym a ∙ b) .0 .placed
+
 module _ {file : List ℕ} {c : Cursor} (k : Counts) (p : Placed file c) {r : NumberStep} (a : r ≡ number-at 255 file c) where
   -- the ask's query is refused
   pub asks-not : {x : Refusal} → r ≡ numbered.Refused x → Asks k (content kind.Ask (k .many) (fields-left file c)) (step.Refused x)
@@ -203,7 +207,7 @@ module _ {file : List ℕ} {c : Cursor} (k : Counts) (p : Placed file c) {r : Nu
   module _ {q : ℕ} {n : Cursor} (b : r ≡ numbered.Number q n) {s : NumberStep} (d : s ≡ number-at 7 file n) where
     -- the cursor after the query
     after : Placed file n
-    after = number-next file c p 255 q n (sym a ∙ b) .0 .placed
+    after = number-placed 255 p a b
 
     -- its options are refused
     pub asks-options-not : {x : Refusal} → s ≡ numbered.Refused x → Asks k (content kind.Ask (k .many) (fields-left file c)) (step.Refused x)

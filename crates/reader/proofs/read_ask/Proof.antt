@@ -1,7 +1,6 @@
 -- `reader::read_ask` meets its contract: by the two numbers, and whether a field is left.
 use borrow.Author.Needs.{needs}
-use Rattle.text.proofs.Laws.{number-next}
-use Rattle.reader.proofs.Saying.{asks-not, asks-options-not, asks-more, asks-is}
+use Rattle.reader.proofs.Saying.{number-placed, asks-not, asks-options-not, asks-more, asks-is}
 use Rattle.reader.proofs.read_ask.Statement.{statement}
 use Rattle.reader.proofs.read_ask.Tie as tie
 
@@ -12,7 +11,9 @@ enum-known-q : tie.Need-enum-known-q
 enum-known-q c = search needs
 
 number-requires-2 : tie.Need-number-requires-2
-number-requires-2 c κs = ?
+number-requires-2 c κs =
+    let first = c .before in
+    number-placed 255 (first .before .before .before .before .pre) (first .before .before .number .ensures) (first .q .given .1)
 
 enum-known-options : tie.Need-enum-known-options
 enum-known-options c = search needs
