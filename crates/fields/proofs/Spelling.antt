@@ -177,11 +177,11 @@ module _ {file names names′ : List ℕ} {named : ℕ} {c : Cursor} {r : Word} 
       go (name-read {name = m} d s o) = record { name = m; said = d; spelled = s; onward = o }
 
   -- and where it was
-  pub reads-not : {x : Refusal} → r ≡ word.Refused x → (next name-field (fields-left file c) ≡ refused x) × (names′ ≡ names)
+  pub reads-not : {x : Refusal} → r ≡ word.Refused x → (next name-field (fields-left file c) ≡ refused x) × Same-but 0 name-columns names names′
   reads-not {x} p = go (rw p at s)
     where
-      go : Reads-name file names names′ named c (word.Refused x) → (next name-field (fields-left file c) ≡ refused x) × (names′ ≡ names)
-      go (name-not d k) = (d, k)
+      go : Reads-name file names names′ named c (word.Refused x) → (next name-field (fields-left file c) ≡ refused x) × Same-but 0 name-columns names names′
+      go (name-not d k) = (d, rw k (same-self 0 name-columns names))
 
 -- ---- all names that are left
 
@@ -249,7 +249,7 @@ module _ {file names₀ names names′ : List ℕ} {named₀ named : ℕ} {fs₀
   pub on-not : {x : Refusal} → r ≡ word.Refused x → Spells-rest file names₀ names′ named₀ fs₀ (upto.Refused x)
   on-not {x} e =
       let (k, q) = reads-not d e in
-      rest-not {x = x} (s .run ∙ rw (spell-next (s .ns) file c h, k)) (rw q (s .longer .kept))
+      rest-not {x = x} (s .run ∙ rw (spell-next (s .ns) file c h, k)) (same-then (s .longer .kept) q)
 
 -- after the last
 pub on-last : {file names₀ names : List ℕ} {named₀ named : ℕ} {fs₀ : List Field} {c : Cursor} → Spelling-on file names₀ names named₀ named fs₀ c → c .end < c .at

@@ -1,3 +1,4 @@
 pub mod Wording
 pub mod Pushing
 pub mod Spelling
+pub mod Growing

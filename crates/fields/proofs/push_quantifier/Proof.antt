@@ -1,0 +1,137 @@
+-- `fields::push_quantifier` meets its contract.
+use mathlib.Core.Path.{sym, _∙_}
+use Rattle.text.proofs.Laws.{number-next}
+use Rattle.gather.proofs.Steps.{same-then}
+use Rattle.fields.proofs.Pushing.{run-at, run-not, pushable-then, pushable-field, number-read, number-not}
+use Rattle.fields.proofs.Lines.{end-more, end-none}
+use Rattle.fields.proofs.Quantifiers.{no-body, no-number, no-groups, groups-there, quantifies-not, quantifies-at}
+use borrow.Author.Needs.{needs}
+use native.Mathlib.Omega.{arith}
+use Rattle.fields.proofs.push_quantifier.Statement.{statement}
+use Rattle.fields.proofs.push_quantifier.Tie as tie
+
+push-term-requires : tie.Need-push-term-requires
+push-term-requires c κs = (c .before .before .before .pre, omega arith)
+
+enum-known-one : tie.Need-enum-known-one
+enum-known-one c = c .match .keys1
+
+number-requires : tie.Need-number-requires
+number-requires c κs = c .before .before .before .before .before .push-term .ensures .ahead _ _ (c .before .one .given .1) .placed
+
+enum-known-g : tie.Need-enum-known-g
+enum-known-g c = c .match2 .keys1
+
+cast-push-groups : tie.Need-cast-push-groups
+cast-push-groups c = search needs
+
+push-groups-requires : tie.Need-push-groups-requires
+push-groups-requires c κs =
+    let read = c .before .before .before .before in
+    let call = read .before .before .before .before .before .before in
+    let step = call .push-term .ensures in
+    let on = step .ahead _ _ (read .before .before .one .given .1) in
+    let next = number-next _ _ (on .placed) _ _ _ (sym (read .number .ensures) ∙ c .before .before .g .given .1) in
+    (pushable-field (pushable-then (call .before .before .before .before .pre) on (step .kept)) (next .0), next .1)
+
+enum-known-used : tie.Need-enum-known-used
+enum-known-used c = c .match3 .keys1
+
+same-length : tie.Need-same-length
+same-length c = c .before .before .before .before .before .before .refs2 .given ∙ c .before .before .before .before .before .before .before .before .before .before .before .before .before .before .before .before .before .refs .given
+
+returns : tie.Need-returns
+returns c =
+    let groups = c .before .before .before .before .before .before .before in
+    let count = groups .before .before .before .before .before in
+    let call = count .before .before .before .before .before .before in
+    let step = call .push-term .ensures in
+    let at = count .before .before .one .given .1 in
+    let number = number-read (step .ahead _ _ at .placed) _ (count .number .ensures) (groups .before .before .before .g .given .1) in
+    let whole = groups-there _ _ _ _ (run-at step at) number (run-at (groups .push-groups .ensures) (c .before .before .before .used .given .1)) in
+    quantifies-not (whole ∙ end-more _ _ _ (c .if1 .taken)) (same-then (step .kept) (groups .push-groups .ensures .kept))
+
+cast-t28 : tie.Need-cast-t28
+cast-t28 c = search needs
+
+enum-known-r : tie.Need-enum-known-r
+enum-known-r c = c .match3 .keys2
+
+enum-known-r-2 : tie.Need-enum-known-r-2
+enum-known-r-2 c = c .match2 .keys2
+
+enum-known-r-3 : tie.Need-enum-known-r-3
+enum-known-r-3 c = c .match .keys2
+
+same-length-2 : tie.Need-same-length-2
+same-length-2 c = c .before .before .before .before .before .before .refs2 .given ∙ c .before .before .before .before .before .before .before .before .before .before .before .before .before .before .before .before .before .refs .given
+
+returns-2 : tie.Need-returns-2
+returns-2 c =
+    let groups = c .before .before .before .before .before .before .before in
+    let count = groups .before .before .before .before .before in
+    let call = count .before .before .before .before .before .before in
+    let step = call .push-term .ensures in
+    let at = count .before .before .one .given .1 in
+    let number = number-read (step .ahead _ _ at .placed) _ (count .number .ensures) (groups .before .before .before .g .given .1) in
+    let whole = groups-there _ _ _ _ (run-at step at) number (run-at (groups .push-groups .ensures) (c .before .before .before .used .given .1)) in
+    let most = number-next _ _ (step .ahead _ _ at .placed) _ _ _ (sym (count .number .ensures) ∙ groups .before .before .before .g .given .1) .1 in
+    quantifies-at (whole ∙ end-none _ _ _ (c .if1 .left)) most (same-then (step .kept) (groups .push-groups .ensures .kept))
+
+same-length-3 : tie.Need-same-length-3
+same-length-3 c = c .before .before .before .before .refs2 .given ∙ c .before .before .before .before .before .before .before .before .before .before .before .before .before .before .before .refs .given
+
+returns-3 : tie.Need-returns-3
+returns-3 c =
+    let groups = c .before .before .before .before .before in
+    let count = groups .before .before .before .before .before in
+    let call = count .before .before .before .before .before .before in
+    let step = call .push-term .ensures in
+    let at = count .before .before .one .given .1 in
+    let number = number-read (step .ahead _ _ at .placed) _ (count .number .ensures) (groups .before .before .before .g .given .1) in
+    quantifies-not (no-groups _ _ _ _ (run-at step at) number (run-not (groups .push-groups .ensures) (c .before .r .given .1))) (same-then (step .kept) (groups .push-groups .ensures .kept))
+
+same-length-4 : tie.Need-same-length-4
+same-length-4 c = c .before .before .before .before .before .before .before .before .refs .given
+
+returns-4 : tie.Need-returns-4
+returns-4 c =
+    let count = c .before .before .before in
+    let call = count .before .before .before .before .before .before in
+    let step = call .push-term .ensures in
+    let at = count .before .before .one .given .1 in
+    quantifies-not (no-number _ _ _ _ (run-at step at) (number-not (step .ahead _ _ at .placed) _ (count .number .ensures) (c .before .r2 .given .1))) (step .kept)
+
+same-length-5 : tie.Need-same-length-5
+same-length-5 c = c .before .before .before .before .refs .given
+
+returns-5 : tie.Need-returns-5
+returns-5 c =
+    let call = c .before .before .before .before .before in
+    quantifies-not (no-body _ _ _ _ (run-not (call .push-term .ensures) (c .before .r3 .given .1))) (call .push-term .ensures .kept)
+
+pub push-quantifier-spec : {M : Type 1} → statement M
+push-quantifier-spec =
+    tie.close
+    (tie.spec
+    push-term-requires
+    enum-known-one
+    number-requires
+    enum-known-g
+    cast-push-groups
+    push-groups-requires
+    enum-known-used
+    same-length
+    returns
+    cast-t28
+    enum-known-r
+    enum-known-r-2
+    enum-known-r-3
+    same-length-2
+    returns-2
+    same-length-3
+    returns-3
+    same-length-4
+    returns-4
+    same-length-5
+    returns-5)

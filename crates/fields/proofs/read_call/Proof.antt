@@ -1,0 +1,143 @@
+-- `fields::read_call` meets its contract.
+use mathlib.Core.Path.{ap₂, _∙_}
+use Rattle.model.specs.Terms.{Call}
+use Rattle.model.specs.declared.LineKind.the-variants as kind
+use Rattle.gather.proofs.Steps.{same-self}
+use Rattle.fields.specs.Spelling.{table-there}
+use Rattle.fields.proofs.Pushing.{run-at, run-not}
+use Rattle.fields.proofs.Spelling.{reads-name, reads-not}
+use Rattle.fields.proofs.Runs.{rest-ran, rest-refused}
+use Rattle.fields.proofs.Terms.{pushable-start, line-not, line-over, line-few, line-pushed, line-added}
+use Rattle.fields.proofs.Lines.{call-said, name-refused, call-read, line-terms}
+use borrow.Author.Needs.{needs}
+use Rattle.fields.proofs.read_call.Statement.{statement}
+use Rattle.fields.proofs.read_call.Tie as tie
+
+read-name-requires : tie.Need-read-name-requires
+read-name-requires c κs = (table-there (c .before .before .before .before .before .pre .0 .name-table), c .before .before .before .before .before .pre .1)
+
+enum-known-n : tie.Need-enum-known-n
+enum-known-n c = c .match .keys1
+
+push-rest-requires : tie.Need-push-rest-requires
+push-rest-requires c κs =
+    let call = c .before .before .before .before .before .before in
+    let read = reads-name (call .read-name .ensures) (c .before .before .n .given .1) in
+    pushable-start (call .before .before .before .before .before .before .pre .0) (read .onward .placed)
+
+enum-known-used : tie.Need-enum-known-used
+enum-known-used c = c .match2 .keys1
+
+is-over-requires : tie.Need-is-over-requires
+is-over-requires c κs = search needs
+
+same-length : tie.Need-same-length
+same-length c = c .before .before .before .before .before .before .before .before .before .before .before .before .before .names .given
+
+same-length-2 : tie.Need-same-length-2
+same-length-2 c = c .before .before .before .before .before .before .refs .given
+
+returns : tie.Need-returns
+returns c =
+    let run = c .before .before .before .before .before .before .before in
+    let call = run .before .before .before .before .before .before .before in
+    let entry = call .before .before .before .before .before .before in
+    let t = entry .pre .0 in
+    let read = reads-name (call .read-name .ensures) (run .before .before .before .n .given .1) in
+    let run = rest-ran _ (t .term-table .few-rows) _ _ _ (run-at (run .push-rest .ensures) (c .before .before .before .used .given .1)) in
+    let line = call-read (entry .args .k) t _ read run in
+    line-over t line (c .before .is-over .ensures) (c .if1 .taken)
+
+add-call-requires : tie.Need-add-call-requires
+add-call-requires c κs =
+    let run = c .before .before .before .before .before .before .before .before .before in
+    let call = run .before .before .before .before .before .before .before in
+    let entry = call .before .before .before .before .before .before in
+    let t = entry .pre .0 in
+    let read = reads-name (call .read-name .ensures) (run .before .before .before .n .given .1) in
+    let run = rest-ran _ (t .term-table .few-rows) _ _ _ (run-at (run .push-rest .ensures) (c .before .before .before .before .before .used .given .1)) in
+    let line = call-read (entry .args .k) t _ read run in
+    let d = c .before .before .before .is-over .ensures in
+    let e = c .before .before .if1 .left in
+    (line-pushed t line d e, read .spelled .number (line-few t line d e .0) .0)
+
+grown-requires : tie.Need-grown-requires
+grown-requires c κs = c .before .before .before .before .before .before .before .before .before .before .before .before .before .before .before .before .before .before .before .before .before .before .before .before .before .pre .0 .term-table .few-rows
+
+enum-known-r : tie.Need-enum-known-r
+enum-known-r c = c .match2 .keys2
+
+enum-known-r-2 : tie.Need-enum-known-r-2
+enum-known-r-2 c = c .match .keys2
+
+same-length-3 : tie.Need-same-length-3
+same-length-3 c = c .before .before .before .before .before .before .before .before .before .before .before .before .before .before .before .before .before .before .before .names .given
+
+same-length-4 : tie.Need-same-length-4
+same-length-4 c = c .before .before .before .before .before .before .before .before .before .before .before .before .refs .given
+
+same-length-5 : tie.Need-same-length-5
+same-length-5 c = c .before .before .rows .given
+
+returns-2 : tie.Need-returns-2
+returns-2 c =
+    let run = c .before .before .before .before .before .before .before .before .before .before .before .before .before in
+    let call = run .before .before .before .before .before .before .before in
+    let entry = call .before .before .before .before .before .before in
+    let t = entry .pre .0 in
+    let read = reads-name (call .read-name .ensures) (run .before .before .before .n .given .1) in
+    let run = rest-ran _ (t .term-table .few-rows) _ _ _ (run-at (run .push-rest .ensures) (c .before .before .before .before .before .before .before .before .before .used .given .1)) in
+    let line = call-read (entry .args .k) t _ read run in
+    let d = c .before .before .before .before .before .before .before .is-over .ensures in
+    let e = c .before .before .before .before .before .before .if1 .left in
+    let name = read .spelled .number (line-few t line d e .0) .1 in
+    line-added t line d e (c .grown .ensures) (c .before .before .before .add-call .ensures) (ap₂ Call name (line-terms t d e line (run .small)))
+
+same-length-6 : tie.Need-same-length-6
+same-length-6 c = c .before .before .before .before .before .before .before .before .before .before .before .names .given
+
+same-length-7 : tie.Need-same-length-7
+same-length-7 c = c .before .before .before .before .refs .given
+
+returns-3 : tie.Need-returns-3
+returns-3 c =
+    let run = c .before .before .before .before .before in
+    let call = run .before .before .before .before .before .before .before in
+    let read = reads-name (call .read-name .ensures) (run .before .before .before .n .given .1) in
+    let refused = rest-refused _ _ _ _ (run-not (run .push-rest .ensures) (c .before .r .given .1)) in
+    line-not (call-said _ _ (read .said) ∙ rw refused) (read .spelled .longer .kept) (run .push-rest .ensures .kept)
+
+same-length-8 : tie.Need-same-length-8
+same-length-8 c = c .before .before .before .before .names .given
+
+returns-4 : tie.Need-returns-4
+returns-4 c =
+    let call = c .before .before .before .before .before in
+    let (said, kept) = reads-not (call .read-name .ensures) (c .before .r2 .given .1) in
+    line-not (name-refused _ _ said .1) kept (same-self _ _ _)
+
+pub read-call-spec : {M : Type 1} → statement M
+read-call-spec =
+    tie.close
+    (tie.spec
+    read-name-requires
+    enum-known-n
+    push-rest-requires
+    enum-known-used
+    is-over-requires
+    same-length
+    same-length-2
+    returns
+    add-call-requires
+    grown-requires
+    enum-known-r
+    enum-known-r-2
+    same-length-3
+    same-length-4
+    same-length-5
+    returns-2
+    same-length-6
+    same-length-7
+    returns-3
+    same-length-8
+    returns-4)

@@ -1,0 +1,124 @@
+-- `fields::read_op` meets its contract.
+use mathlib.Core.Path.{ap₂, _∙_}
+use Rattle.model.specs.Terms.{App}
+use Rattle.model.specs.declared.LineKind.the-variants as kind
+use Rattle.gather.proofs.Steps.{same-self}
+use Rattle.fields.proofs.Pushing.{run-at, run-not}
+use Rattle.fields.proofs.Runs.{rest-ran, rest-refused}
+use Rattle.fields.proofs.Terms.{pushable-start, line-not, line-over, line-pushed, line-added}
+use Rattle.fields.proofs.Lines.{reads-op, reads-op-not, op-code, op-said, word-refused, op-line, line-terms}
+use borrow.Author.Needs.{needs}
+use Rattle.fields.proofs.read_op.Statement.{statement}
+use Rattle.fields.proofs.read_op.Tie as tie
+
+read-op-word-requires : tie.Need-read-op-word-requires
+read-op-word-requires c κs = c .before .before .before .before .pre .1
+
+enum-known-op : tie.Need-enum-known-op
+enum-known-op c = c .match .keys1
+
+push-rest-requires : tie.Need-push-rest-requires
+push-rest-requires c κs =
+    let call = c .before .before .before .before in
+    let read = reads-op (call .read-op-word .ensures) (c .before .before .op .given .1) in
+    pushable-start (call .before .before .before .before .before .pre .0) (read .onward .placed)
+
+enum-known-used : tie.Need-enum-known-used
+enum-known-used c = c .match2 .keys1
+
+is-over-requires : tie.Need-is-over-requires
+is-over-requires c κs = search needs
+
+same-length : tie.Need-same-length
+same-length c = c .before .before .before .before .before .before .refs .given
+
+returns : tie.Need-returns
+returns c =
+    let run = c .before .before .before .before .before .before .before in
+    let call = run .before .before .before .before .before in
+    let entry = call .before .before .before .before .before in
+    let t = entry .pre .0 in
+    let read = reads-op (call .read-op-word .ensures) (run .before .before .before .op .given .1) in
+    let run = rest-ran _ (t .term-table .few-rows) _ _ _ (run-at (run .push-rest .ensures) (c .before .before .before .used .given .1)) in
+    let line = op-line (entry .args .k) t _ (read .said) run in
+    line-over t line (c .before .is-over .ensures) (c .if1 .taken)
+
+op-number-requires : tie.Need-op-number-requires
+op-number-requires c κs = search needs
+
+add-op-requires : tie.Need-add-op-requires
+add-op-requires c κs =
+    let run = c .before .before .before .before .before .before .before .before .before .before in
+    let call = run .before .before .before .before .before in
+    let entry = call .before .before .before .before .before in
+    let t = entry .pre .0 in
+    let read = reads-op (call .read-op-word .ensures) (run .before .before .before .op .given .1) in
+    let run = rest-ran _ (t .term-table .few-rows) _ _ _ (run-at (run .push-rest .ensures) (c .before .before .before .before .before .before .used .given .1)) in
+    let line = op-line (entry .args .k) t _ (read .said) run in
+    (line-pushed t line (c .before .before .before .before .is-over .ensures) (c .before .before .before .if1 .left), op-code _ (c .before .before .op-number .ensures) .0)
+
+grown-requires : tie.Need-grown-requires
+grown-requires c κs = c .before .before .before .before .before .before .before .before .before .before .before .before .before .before .before .before .before .before .before .before .before .before .before .pre .0 .term-table .few-rows
+
+enum-known-r : tie.Need-enum-known-r
+enum-known-r c = c .match2 .keys2
+
+enum-known-r-2 : tie.Need-enum-known-r-2
+enum-known-r-2 c = c .match .keys2
+
+same-length-2 : tie.Need-same-length-2
+same-length-2 c = c .before .before .before .before .before .before .before .before .before .before .before .before .before .refs .given
+
+same-length-3 : tie.Need-same-length-3
+same-length-3 c = c .before .before .rows .given
+
+returns-2 : tie.Need-returns-2
+returns-2 c =
+    let run = c .before .before .before .before .before .before .before .before .before .before .before .before .before .before in
+    let call = run .before .before .before .before .before in
+    let entry = call .before .before .before .before .before in
+    let t = entry .pre .0 in
+    let read = reads-op (call .read-op-word .ensures) (run .before .before .before .op .given .1) in
+    let run = rest-ran _ (t .term-table .few-rows) _ _ _ (run-at (run .push-rest .ensures) (c .before .before .before .before .before .before .before .before .before .before .used .given .1)) in
+    let line = op-line (entry .args .k) t _ (read .said) run in
+    let d = c .before .before .before .before .before .before .before .before .is-over .ensures in
+    let e = c .before .before .before .before .before .before .before .if1 .left in
+    let word = op-code _ (c .before .before .before .before .before .before .op-number .ensures) .1 in
+    line-added t line d e (c .grown .ensures) (c .before .before .before .add-op .ensures) (ap₂ App word (line-terms t d e line (run .small)))
+
+same-length-4 : tie.Need-same-length-4
+same-length-4 c = c .before .before .before .before .refs .given
+
+returns-3 : tie.Need-returns-3
+returns-3 c =
+    let run = c .before .before .before .before .before in
+    let call = run .before .before .before .before .before in
+    let read = reads-op (call .read-op-word .ensures) (run .before .before .before .op .given .1) in
+    let refused = rest-refused _ _ _ _ (run-not (run .push-rest .ensures) (c .before .r .given .1)) in
+    line-not (op-said _ _ (read .said) ∙ rw refused) (same-self _ _ _) (run .push-rest .ensures .kept)
+
+returns-4 : tie.Need-returns-4
+returns-4 c = line-not (word-refused _ _ (reads-op-not (c .before .before .before .read-op-word .ensures) (c .before .r2 .given .1))) (same-self _ _ _) (same-self _ _ _)
+
+pub read-op-spec : {M : Type 1} → statement M
+read-op-spec =
+    tie.close
+    (tie.spec
+    read-op-word-requires
+    enum-known-op
+    push-rest-requires
+    enum-known-used
+    is-over-requires
+    same-length
+    returns
+    op-number-requires
+    add-op-requires
+    grown-requires
+    enum-known-r
+    enum-known-r-2
+    same-length-2
+    same-length-3
+    returns-2
+    same-length-4
+    returns-3
+    returns-4)

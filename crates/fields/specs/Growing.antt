@@ -1,0 +1,133 @@
+-- A term line read into the tables: what its fields say, and the tables with its term, or the limit that it passes.
+use Prim.Native.Nat.{ℕ, _+_, _≤_, _<_}
+use mathlib.Core.Path.{_≡_}
+use mathlib.Core.Bool.{Bool, _||_}
+use mathlib.Core.List.{List}
+use lib.ListN.{length}
+use lib.Dec.{ltb}
+use Rattle.model.specs.Lists.{fold-left}
+use Rattle.model.specs.Terms.{Node, add-term, references}
+use Rattle.model.specs.Lines.{Field}
+use Rattle.model.specs.Reading.{Result, ok, refused, _>>=_, need, word, op-words, next, end, number-field, Content, term, content, spell, spelled-by, most-names, most-terms, most-references}
+use Rattle.model.specs.declared.Counts.{Counts}
+use Rattle.model.specs.declared.LineKind.{LineKind}
+use Rattle.model.specs.declared.Op.{Op}
+use Rattle.model.specs.declared.Refusal.{Refusal}
+use Rattle.model.specs.declared.Refusal.the-variants as refusal
+use Rattle.text.specs.declared.Cursor.{Cursor}
+use Rattle.text.specs.Parts.{fields-left}
+use Rattle.text.proofs.Laws.{Onward}
+use Rattle.names.specs.Table.{names-of}
+use Rattle.lines.specs.declared.Added.{Added}
+use Rattle.lines.specs.declared.Added.the-variants as adds
+use Rattle.gather.specs.Sets.{Same-but}
+use Rattle.rules.specs.Views.{Tables, terms-in}
+use Rattle.fields.specs.declared.OpStep.{OpStep}
+use Rattle.fields.specs.declared.OpStep.the-variants as worded
+use Rattle.fields.specs.declared.Quantifier.{Quantifier}
+use Rattle.fields.specs.declared.Quantifier.the-variants as quantified
+use Rattle.fields.specs.declared.Step.{Step}
+use Rattle.fields.specs.declared.Step.the-variants as step
+use Rattle.fields.specs.Pushing.{most-number, push-one, push-groups}
+use Rattle.fields.specs.Spelling.{name-columns, Longer}
+
+-- ---- op words
+
+-- a field that is an op word: 1
+unfoldable pub op-field : Field → Result Op
+op-field f = need refusal.Form (word op-words f)
+
+-- what reading an op word comes to
+pub data Reads-op (file : List ℕ) (c : Cursor) : OpStep → Type 0 where
+  op-read : {w : Op} {after : Cursor}
+      → next op-field (fields-left file c) ≡ ok (w, fields-left file after) → Onward file c after
+      → Reads-op file c (worded.Is w after)
+  op-not : {x : Refusal} → next op-field (fields-left file c) ≡ refused x → Reads-op file c (worded.Refused x)
+
+-- ---- quantifiers
+
+-- a body, a number of groups and the groups, with no field left over: the references then, how many they are, the number of groups
+unfoldable pub push-quantifier : ℕ → List ℕ → ℕ → List Field → Result (List ℕ × ℕ × ℕ)
+push-quantifier count refs used fs = do
+  (refs₁, used₁, fs₁) ← push-one count 0 refs used fs
+  (g, fs₂) ← next (number-field most-number) fs₁
+  (refs₂, used₂, fs₃) ← push-groups count 0 g refs₁ used₁ fs₂
+  end (refs₂, used₂, g) fs₃
+
+-- an answer as such a result
+unfoldable pub quantifier-result : List ℕ → Quantifier → Result (List ℕ × ℕ × ℕ)
+quantifier-result refs (quantified.Read used groups) = ok (refs, used, groups)
+quantifier-result refs (quantified.Refused r) = refused r
+
+-- what pushing a quantifier comes to
+pub record Quantifies (file refs refs′ : List ℕ) (from many : ℕ) (c : Cursor) (r : Quantifier) : Type 0 where
+  pub answer : quantifier-result refs′ r ≡ push-quantifier many refs from (fields-left file c)
+  pub groups : (used g : ℕ) → r ≡ quantified.Read used g → g ≤ most-number
+  pub kept : Same-but 0 most-references refs refs′
+
+-- ---- term lines
+
+-- whether so many names or references pass their limit
+unfoldable pub is-over : ℕ → ℕ → Bool
+is-over named used = ltb most-names named || ltb most-references used
+
+-- the counts with one term more
+unfoldable pub with-term : Counts → ℕ → ℕ → Counts
+with-term k named used =
+    record {
+      named = named;
+      used = used;
+      many = k .many + 1;
+      records = k .records;
+      entries = k .entries;
+      uses = k .uses;
+      mark = k .mark;
+      query = k .query;
+      options = k .options;
+    }
+
+-- what adding a row comes to
+unfoldable pub grown-to : Added → Counts → ℕ → ℕ → Step
+grown-to adds.Done k named used = step.On (with-term k named used)
+grown-to adds.Full k named used = step.Refused refusal.Limit
+
+-- the two tables of the counts
+abbrev pub Stands : List ℕ → List ℕ → List ℕ → List ℕ → Counts → Type 0
+Stands file names refs rows k = Tables file names refs rows (k .named) (k .used) (k .many)
+
+-- the words of the columns of the rows; from there on the marks
+abbrev pub row-columns : ℕ
+row-columns = 12288
+
+-- the slices at exit, whatever a line comes to: only the words of the tables may change
+pub record Kept (names refs rows names′ refs′ rows′ : List ℕ) : Type 0 where
+  pub names-kept : Same-but 0 name-columns names names′
+  pub refs-kept : Same-but 0 most-references refs refs′
+  pub rows-kept : Same-but 0 row-columns rows rows′
+
+module _ (file names refs rows names′ refs′ rows′ : List ℕ) (k : Counts) where
+  -- the tables with the term of a node
+  pub record Grown (node : Node) (named′ used′ : ℕ) : Type 0 where
+    pub tables : Tables file names′ refs′ rows′ named′ used′ (k .many + 1)
+    pub spelt : names-of file names′ named′ ≡ fold-left spell (names-of file names (k .named)) (spelled-by node)
+    pub terms : terms-in file names′ refs′ rows′ used′ (k .many + 1) ≡ add-term (terms-in file names refs rows (k .used) (k .many)) node
+    pub used : used′ ≡ k .used + length (references node)
+    pub longer : Longer file names names′ (k .named) named′
+
+  -- a limit that the node passes
+  pub data Passes (node : Node) : Type 0 where
+    names-passed : most-names < length (fold-left spell (names-of file names (k .named)) (spelled-by node)) → Passes node
+    terms-passed : most-terms ≤ k .many → Passes node
+    references-passed : most-references < k .used + length (references node) → Passes node
+
+  -- what a term line comes to, by what its fields say
+  pub data Grows (said : Result Content) : Step → Type 0 where
+    grown : {node : Node} {named′ used′ : ℕ}
+        → said ≡ ok (term node) → Grown node named′ used′ → Grows said (step.On (with-term k named′ used′))
+    over : {node : Node} → said ≡ ok (term node) → Passes node → Grows said (step.Refused refusal.Limit)
+    not-read : {x : Refusal} → said ≡ refused x → Grows said (step.Refused x)
+
+  -- what reading a term line of a kind comes to, from the first field after its kind on
+  pub record Reads-term (kind : LineKind) (c : Cursor) (r : Step) : Type 0 where
+    pub grows : Grows (content kind (k .many) (fields-left file c)) r
+    pub kept : Kept names refs rows names′ refs′ rows′
