@@ -31,8 +31,8 @@ use Rattle.gather.specs.Sets.{Same-but}
 use Rattle.gather.proofs.Steps.{same-self, same-then, same-set, same-wider}
 use Rattle.rules.specs.Views.{Tables, terms-in}
 use Rattle.fields.specs.declared.TermKind.{TermKind}
-use Rattle.fields.specs.declared.Step.{Step}
-use Rattle.fields.specs.declared.Step.the-variants as step
+use Rattle.model.specs.declared.Step.{Step}
+use Rattle.model.specs.declared.Step.the-variants as step
 use Rattle.fields.specs.Wording.{term-kind}
 use Rattle.fields.specs.Pushing.{push-all, Pushable}
 use Rattle.fields.specs.Spelling.{name-columns, Naming, Longer}

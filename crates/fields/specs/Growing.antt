@@ -26,8 +26,8 @@ use Rattle.fields.specs.declared.OpStep.{OpStep}
 use Rattle.fields.specs.declared.OpStep.the-variants as worded
 use Rattle.fields.specs.declared.Quantifier.{Quantifier}
 use Rattle.fields.specs.declared.Quantifier.the-variants as quantified
-use Rattle.fields.specs.declared.Step.{Step}
-use Rattle.fields.specs.declared.Step.the-variants as step
+use Rattle.model.specs.declared.Step.{Step}
+use Rattle.model.specs.declared.Step.the-variants as step
 use Rattle.fields.specs.Pushing.{most-number, push-one, push-groups}
 use Rattle.fields.specs.Spelling.{name-columns, Longer}
 

@@ -2,6 +2,7 @@ use lines::Added;
 use model::Counts;
 use model::Op;
 use model::Refusal;
+use model::Step;
 use names::Spelled;
 use text::Cursor;
 use text::FieldStep;
@@ -441,12 +442,6 @@ fn push_quantifier(file: &[u8], refs: &mut [u32], from: usize, many: usize, c: C
         },
         Upto::Refused(r) => Quantifier::Refused(r),
     }
-}
-
-// What reading a line comes to: the counts then, or its refusal.
-pub enum Step {
-    On(Counts),
-    Refused(Refusal),
 }
 
 // Whether so many names or references pass their limit.

@@ -11,7 +11,7 @@ use borrow.Author.Tests.{eq-eqb, ne-eqb}
 use Rattle.model.specs.Reading.{most-names, most-entries}
 use Rattle.gather.specs.Sets.{Same-but}
 use Rattle.terms.proofs.Laws.{equal}
-use Rattle.records.specs.Columns.{entry-column, fact-column, next-column, first-column, last-entry, no-name, entry-name, entry-fact, next-entry, first-entry}
+use Rattle.records.specs.Columns.{entry-column, fact-column, next-column, first-column, taken-column, last-entry, no-name, entry-name, entry-fact, next-entry, first-entry}
 use Rattle.records.specs.Filing.{newest, Chained}
 use Rattle.records.specs.Writing.{Chains}
 
@@ -51,6 +51,10 @@ chained-kept {names} {out} {names′} {out′} {filed} c first same next = recor
       next e l ∙ c .next e l (rw (← (same e l)) h) ∙ ap (λ n. newest (entry-name out) n e) (sym (same e l))
       ∙ sym (newest-cong (entry-name out′) (entry-name out) (entry-name out′ e) e (λ d k. same d (omega arith)));
 }
+
+-- a name taken leaves the chains
+pub chained-taken : {names out : List ℕ} {filed : ℕ} (i v : ℕ) → i < most-names → Chained names out filed → Chained (set names (taken-column + i) v) out filed
+chained-taken {names} i v h c = chained-kept c (λ n l. getD-set-other names (taken-column + i) (first-column + n) v 0 (λ q. omega arith)) (λ e l. refl) (λ e l. refl)
 
 -- no entry yet
 pub chain-start : {names out : List ℕ} {from : ℕ} (fact : ℕ) → Chained names out from → Chains names out names out from from fact

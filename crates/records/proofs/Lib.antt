@@ -7,3 +7,6 @@ pub mod Appending
 pub mod Plain
 pub mod Funs
 pub mod Uses
+pub mod Naming
+pub mod Coding
+pub mod Facts

@@ -5,7 +5,7 @@ use mathlib.Core.Path.{_≡_, refl, sym, ap, _∙_}
 use mathlib.Core.List.{List, [], _∷_, _++_, map}
 use lib.ListN.{length, getD, set, length-set}
 use lib.Seq.{getD-set-same, getD-set-other}
-use Rattle.model.specs.Lists.{sum, part}
+use Rattle.model.specs.Lists.{sum, fold-left, part}
 use Rattle.model.specs.Names.{Name, mem}
 use Rattle.model.specs.Reading.{spell, most-names, most-records, most-uses}
 use Rattle.model.specs.declared.Counts.{Counts}
@@ -30,6 +30,12 @@ unfolding spell
 spelled-again file names named i h =
     cond-true (mem (name-of file names i) (names-of file names named)) (names-of file names named) (names-of file names named ++ (name-of file names i ∷ []))
     (names-intro file names named i h)
+
+-- and others behind it
+pub spelled-before : (file names : List ℕ) (named i : ℕ) (ns : List Name) → i < named
+    → fold-left spell (names-of file names named) ((name-of file names i ∷ []) ++ ns) ≡ fold-left spell (names-of file names named) ns
+unfolding fold-left
+spelled-before file names named i ns h = ap (λ l. fold-left spell l ns) (spelled-again file names named i h)
 
 -- no entries take none
 no-entries : (name : ℕ → Name) (out : List ℕ) (a : ℕ) → entries (disjuncts-of name (part out a a)) ≡ 0

@@ -1,16 +1,24 @@
 use gather::Walked;
+use model::AsumKind;
 use model::Counts;
 use model::Refusal;
+<<<<<<< HEAD
 use model::Step;
+=======
+use summary::Summarized;
+use summary::Summary;
+>>>>>>> records
 ghost use Prim.Native.Nat.{ℕ, _+_, _≤_, _<_};
 ghost use mathlib.Core.Path.{_≡_};
 ghost use mathlib.Core.List.{[]};
 ghost use lib.ListN.{length};
-ghost use Rattle.model.specs.Reading.{fun, def, retain, root, most-names, most-records, most-entries, no-ambients, pretyping-axioms, prune-decls};
+ghost use lib.Dec.{eqb};
+ghost use Rattle.model.specs.Reading.{assume, fun, def, retain, root, most-names, most-records, most-entries, no-ambients, pretyping-axioms, prune-decls};
 ghost use Rattle.names.specs.Table.{name-of};
+ghost use Rattle.records.specs.Columns.{code-of};
 ghost use Rattle.records.specs.States.{asks};
 ghost use Rattle.records.specs.Filing.{Chained};
-ghost use Rattle.records.specs.Writing.{put-row, with-record, Small, Rowed, Chains};
+ghost use Rattle.records.specs.Writing.{put-row, with-record, Small, Rowed, Chains, Puttable, Puts};
 ghost use Rattle.records.specs.Adding.{Standing, Adds, Untouched};
 
 // The columns of the records slice, by the record's number.
@@ -320,4 +328,92 @@ pub fn add_root(
     let next = with_record(k, k.named, k.entries, uses, k.mark + 1);
     put_record(recs, k, next, ROOT, line, i, t, query, 0);
     Step::On(next)
+}
+
+// The code of a fact's kind.
+fn code(kind: AsumKind) -> usize
+    requires { ⌜ code-of kind < 4294967296 ⌝ }
+    ensures { λ r. ⌜ r ≡ code-of kind ⌝ }
+{
+    match kind {
+        AsumKind::Drop => 0,
+        AsumKind::Ambient(root) => {
+            if root {
+                return 2;
+            }
+            1
+        }
+        AsumKind::Triggers(n) => 3 + n,
+    }
+}
+
+// Puts the summary of a fact into the tables: its name is taken, its row written, its entries put on their chains.
+fn put_fact(
+    names: &mut [u32],
+    recs: &mut [u32],
+    out: &mut [u32],
+    k: Counts,
+    line: usize,
+    i: usize,
+    flag: usize,
+    t: usize,
+    s: Summary,
+) -> Counts
+    requires { ⌜ Puttable (now names) (now recs) (now out) k line i flag t s ⌝ }
+    ensures { λ r. ⌜ Puts (now (names .entry)) (now (recs .entry)) (now (out .entry)) (now (names .exit)) (now (recs .exit)) (now (out .exit)) k line i flag t s r ⌝ }
+{
+    let kind = s.kind;
+    let word = code(kind);
+    names[TAKEN + i] = (k.records + 1) as u32;
+    let next = with_record(k, s.named, s.entries, s.uses, s.mark);
+    put_record(recs, k, next, ASSUME, line, i, t, flag, word);
+    chain_entries(names, out, k.entries, s.entries, k.records);
+    next
+}
+
+// Adds the fact of an `assume` record, its name and its term by number: it is filed whether it is retainable or not.
+pub fn add_fact(
+    file: &[u8],
+    names: &mut [u32],
+    refs: &[u32],
+    rows: &mut [u32],
+    recs: &mut [u32],
+    out: &mut [u32],
+    k: Counts,
+    line: usize,
+    i: usize,
+    flag: usize,
+    t: usize,
+) -> Step
+    requires { ⌜ (k .named ≤ most-names → Standing (now file) (now names) (now refs) (now rows) (now recs) (now out) k × (i < k .named)) × (t < k .many) × (line < 4294967296) × (flag < 2) ⌝ }
+    ensures record { λ r. ⌜ Adds (now (file .entry)) (now (names .entry)) (now (refs .entry)) (now (rows .entry)) (now (recs .entry)) (now (out .entry)) (now (names .exit)) (now (rows .exit)) (now (recs .exit)) (now (out .exit)) k line (assume (name-of (now (file .entry)) (now (names .entry)) i) (eqb flag 1) t) r ⌝ }
+    ensures past { λ r. ⌜ Untouched (now (names .entry)) (now (rows .entry)) (now (recs .entry)) (now (out .entry)) (now (names .exit)) (now (rows .exit)) (now (recs .exit)) (now (out .exit)) ⌝ }
+{
+    if model::MOST_NAMES < k.named {
+        return Step::Refused(Refusal::Limit);
+    }
+    if 0 < words::at(names, TAKEN + i) {
+        return Step::Refused(Refusal::Repeated);
+    }
+    if model::MOST_RECORDS <= k.records {
+        return Step::Refused(Refusal::Limit);
+    }
+    match summary::summarize_assumption(
+        file,
+        names,
+        refs,
+        rows,
+        out,
+        k.named,
+        k.used,
+        k.many,
+        i,
+        t,
+        k.mark,
+        k.entries,
+        k.uses,
+    ) {
+        Summarized::Done(s) => Step::On(put_fact(names, recs, out, k, line, i, flag, t, s)),
+        Summarized::Over(_) => Step::Refused(Refusal::Limit),
+    }
 }

@@ -71,9 +71,10 @@ same-length-5 c = search needs
 returns-4 : tie.Need-returns-4
 returns-4 c =
     let (st, known) = c .before .before .before .before .before .before .before .before .before .before .before .before .before .before .before .before .before .before .before .before .before .before .before .before .before .before .pre .0 (c .before .before .before .before .before .before .before .before .before .before .before .before .before .before .before .before .before .before .if1 .left) in
-    let slices = c .before .before .before .before .before .before .before .before .gather-term .ensures .1 .0 in
-    (def-over st _ known (c .before .before .before .before .before .before .before .before .before .before .before .before .before .before .before .before .at .ensures) _ (c .before .before .before .before .before .before .before .before .before .before .before .before .before .before .before .if2 .left) (gathered-over st _ (c .before .before .before .before .before .before .before .before .gather-term .ensures .0) slices (c .enum-told .given .1)),
-    gathered-past st _ (c .before .before .before .before .before .before .before .before .gather-term .ensures .0) slices (same-all 0 16384 _))
+    let slices = c .before .before .before .before .before .before .before .before .gather-term .ensures .1 .0 in (
+      def-over st _ known (c .before .before .before .before .before .before .before .before .before .before .before .before .before .before .before .before .at .ensures) _ (c .before .before .before .before .before .before .before .before .before .before .before .before .before .before .before .if2 .left) (gathered-over st _ (c .before .before .before .before .before .before .before .before .gather-term .ensures .0) slices (c .enum-told .given .1)),
+      gathered-past st _ (c .before .before .before .before .before .before .before .before .gather-term .ensures .0) slices (same-all 0 16384 _),
+    )
 
 add-names : tie.Need-add-names
 add-names c =
@@ -111,9 +112,12 @@ with-record-requires c κs = search needs
 put-record-requires : tie.Need-put-record-requires
 put-record-requires c κs =
     let (st, known) = c .before .before .before .before .before .before .before .before .before .before .before .before .before .before .before .before .before .before .before .before .before .before .before .before .before .before .before .before .before .before .before .pre .0 (c .before .before .before .before .before .before .before .before .before .before .before .before .before .before .before .before .before .before .before .before .before .before .before .if1 .left) in
-    let uses = gathered-uses st _ (c .before .before .before .before .before .before .before .before .before .before .before .before .before .gather-term .ensures .0) (c .before .before .before .before .before .before .before .before .before .before .before .before .before .gather-term .ensures .1 .0) (c .before .before .before .before .before .uses .given .1) in
-    (c .before .before .before .before .before .before .before .before .before .before .before .before .before .before .before .before .before .before .if3 .left, st .recorded .room, small-row _ _ _ _ _ _ _ _ _ _ st (c .before .with-record .ensures) (st .recorded .few-entries) (uses .fits) (omega arith) (c .before .before .before .before .before .before .before .before .before .before .before .before .before .before .before .before .before .before .before .before .before .before .before .before .before .before .before .before .before .before .before .pre .2)
-    (omega (arith, st .tables .name-table .few, known)) (omega (arith, c .before .before .before .before .before .before .before .before .before .before .before .before .before .before .before .before .before .before .before .before .before .before .before .before .before .before .before .before .before .before .before .pre .1, st .tables .term-table .few-rows)) (omega arith) (omega arith))
+    let uses = gathered-uses st _ (c .before .before .before .before .before .before .before .before .before .before .before .before .before .gather-term .ensures .0) (c .before .before .before .before .before .before .before .before .before .before .before .before .before .gather-term .ensures .1 .0) (c .before .before .before .before .before .uses .given .1) in (
+      c .before .before .before .before .before .before .before .before .before .before .before .before .before .before .before .before .before .before .if3 .left,
+      st .recorded .room,
+      small-row _ _ _ _ _ _ _ _ _ _ st (c .before .with-record .ensures) (st .recorded .few-entries) (uses .fits) (omega arith) (c .before .before .before .before .before .before .before .before .before .before .before .before .before .before .before .before .before .before .before .before .before .before .before .before .before .before .before .before .before .before .before .pre .2)
+          (omega (arith, st .tables .name-table .few, known)) (omega (arith, c .before .before .before .before .before .before .before .before .before .before .before .before .before .before .before .before .before .before .before .before .before .before .before .before .before .before .before .before .before .before .before .pre .1, st .tables .term-table .few-rows)) (omega arith) (omega arith),
+    )
 
 same-length-6 : tie.Need-same-length-6
 same-length-6 c = search needs
@@ -132,9 +136,10 @@ returns-5 c =
     let (st, known) = c .before .before .before .before .before .before .before .before .before .before .before .before .before .before .before .before .before .before .before .before .before .before .before .before .before .before .before .before .before .before .before .before .before .before .pre .0 (c .before .before .before .before .before .before .before .before .before .before .before .before .before .before .before .before .before .before .before .before .before .before .before .before .before .before .if1 .left) in
     let row = c .before .before .put-record .ensures in
     let slices = c .before .before .before .before .before .before .before .before .before .before .before .before .before .before .before .before .gather-term .ensures .1 .0 in
-    let uses = gathered-uses st _ (c .before .before .before .before .before .before .before .before .before .before .before .before .before .before .before .before .gather-term .ensures .0) slices (c .before .before .before .before .before .before .before .before .uses .given .1) in
-    (def-added st _ known (c .before .before .before .before .before .before .before .before .before .before .before .before .before .before .before .before .before .before .before .before .before .before .before .before .at .ensures) _ (c .before .before .before .before .before .before .before .before .before .before .before .before .before .before .before .before .before .before .before .before .before .before .before .if2 .left) (c .before .before .before .before .before .before .before .before .before .before .before .before .before .before .before .before .before .before .before .before .before .if3 .left) (c .before .before .before .before .with-record .ensures) row uses,
-    past-taken _ _ (omega (arith, st .tables .name-table .few, known)) (gathered-past st _ (c .before .before .before .before .before .before .before .before .before .before .before .before .before .before .before .before .gather-term .ensures .0) slices (row-past row)))
+    let uses = gathered-uses st _ (c .before .before .before .before .before .before .before .before .before .before .before .before .before .before .before .before .gather-term .ensures .0) slices (c .before .before .before .before .before .before .before .before .uses .given .1) in (
+      def-added st _ known (c .before .before .before .before .before .before .before .before .before .before .before .before .before .before .before .before .before .before .before .before .before .before .before .before .at .ensures) _ (c .before .before .before .before .before .before .before .before .before .before .before .before .before .before .before .before .before .before .before .before .before .before .before .if2 .left) (c .before .before .before .before .before .before .before .before .before .before .before .before .before .before .before .before .before .before .before .before .before .if3 .left) (c .before .before .before .before .with-record .ensures) row uses,
+      past-taken _ _ (omega (arith, st .tables .name-table .few, known)) (gathered-past st _ (c .before .before .before .before .before .before .before .before .before .before .before .before .before .before .before .before .gather-term .ensures .0) slices (row-past row)),
+    )
 
 pub add-def-spec : {M : Type 1} → statement M
 add-def-spec =

@@ -49,9 +49,10 @@ same-length-3 c = search needs
 returns-3 : tie.Need-returns-3
 returns-3 c =
     let (st, known) = c .before .before .before .before .before .before .before .before .before .before .before .before .before .before .before .before .before .before .before .before .before .before .before .pre .0 (c .before .before .before .before .before .before .before .before .before .before .before .before .before .before .before .if1 .left) in
-    let slices = c .before .before .before .before .before .before .before .before .gather-term .ensures .1 .0 in
-    (root-over st _ _ known _ (gathered-over st _ (c .before .before .before .before .before .before .before .before .gather-term .ensures .0) slices (c .enum-told .given .1)),
-    gathered-past st _ (c .before .before .before .before .before .before .before .before .gather-term .ensures .0) slices (same-all 0 16384 _))
+    let slices = c .before .before .before .before .before .before .before .before .gather-term .ensures .1 .0 in (
+      root-over st _ _ known _ (gathered-over st _ (c .before .before .before .before .before .before .before .before .gather-term .ensures .0) slices (c .enum-told .given .1)),
+      gathered-past st _ (c .before .before .before .before .before .before .before .before .gather-term .ensures .0) slices (same-all 0 16384 _),
+    )
 
 add-with-record : tie.Need-add-with-record
 add-with-record c =
@@ -64,9 +65,12 @@ with-record-requires c κs = search needs
 put-record-requires : tie.Need-put-record-requires
 put-record-requires c κs =
     let (st, known) = c .before .before .before .before .before .before .before .before .before .before .before .before .before .before .before .before .before .before .before .before .before .before .before .before .before .before .before .pre .0 (c .before .before .before .before .before .before .before .before .before .before .before .before .before .before .before .before .before .before .before .if1 .left) in
-    let uses = gathered-uses st _ (c .before .before .before .before .before .before .before .before .before .before .before .before .gather-term .ensures .0) (c .before .before .before .before .before .before .before .before .before .before .before .before .gather-term .ensures .1 .0) (c .before .before .before .before .uses .given .1) in
-    (c .before .before .before .before .before .before .before .before .before .before .before .before .before .before .before .before .before .if2 .left, st .recorded .room, small-row _ _ _ _ _ _ _ _ _ _ st (c .before .with-record .ensures) (st .recorded .few-entries) (uses .fits) (omega arith) (c .before .before .before .before .before .before .before .before .before .before .before .before .before .before .before .before .before .before .before .before .before .before .before .before .before .before .before .pre .2)
-    (omega (arith, st .tables .name-table .few, known)) (omega (arith, c .before .before .before .before .before .before .before .before .before .before .before .before .before .before .before .before .before .before .before .before .before .before .before .before .before .before .before .pre .1, st .tables .term-table .few-rows)) (c .before .before .before .before .before .before .before .before .before .before .before .before .before .before .before .before .before .before .before .before .before .before .before .before .before .before .before .pre .3) (omega arith))
+    let uses = gathered-uses st _ (c .before .before .before .before .before .before .before .before .before .before .before .before .gather-term .ensures .0) (c .before .before .before .before .before .before .before .before .before .before .before .before .gather-term .ensures .1 .0) (c .before .before .before .before .uses .given .1) in (
+      c .before .before .before .before .before .before .before .before .before .before .before .before .before .before .before .before .before .if2 .left,
+      st .recorded .room,
+      small-row _ _ _ _ _ _ _ _ _ _ st (c .before .with-record .ensures) (st .recorded .few-entries) (uses .fits) (omega arith) (c .before .before .before .before .before .before .before .before .before .before .before .before .before .before .before .before .before .before .before .before .before .before .before .before .before .before .before .pre .2)
+          (omega (arith, st .tables .name-table .few, known)) (omega (arith, c .before .before .before .before .before .before .before .before .before .before .before .before .before .before .before .before .before .before .before .before .before .before .before .before .before .before .before .pre .1, st .tables .term-table .few-rows)) (c .before .before .before .before .before .before .before .before .before .before .before .before .before .before .before .before .before .before .before .before .before .before .before .before .before .before .before .pre .3) (omega arith),
+    )
 
 same-length-4 : tie.Need-same-length-4
 same-length-4 c = search needs
@@ -85,9 +89,10 @@ returns-4 c =
     let (st, known) = c .before .before .before .before .before .before .before .before .before .before .before .before .before .before .before .before .before .before .before .before .before .before .before .before .before .before .before .before .before .before .pre .0 (c .before .before .before .before .before .before .before .before .before .before .before .before .before .before .before .before .before .before .before .before .before .before .if1 .left) in
     let row = c .before .before .put-record .ensures in
     let slices = c .before .before .before .before .before .before .before .before .before .before .before .before .before .before .before .gather-term .ensures .1 .0 in
-    let uses = gathered-uses st _ (c .before .before .before .before .before .before .before .before .before .before .before .before .before .before .before .gather-term .ensures .0) slices (c .before .before .before .before .before .before .before .uses .given .1) in
-    (root-added st _ _ known _ (c .before .before .before .before .before .before .before .before .before .before .before .before .before .before .before .before .before .before .before .before .if2 .left) (c .before .before .before .before .with-record .ensures) row uses,
-    gathered-past st _ (c .before .before .before .before .before .before .before .before .before .before .before .before .before .before .before .gather-term .ensures .0) slices (row-past row))
+    let uses = gathered-uses st _ (c .before .before .before .before .before .before .before .before .before .before .before .before .before .before .before .gather-term .ensures .0) slices (c .before .before .before .before .before .before .before .uses .given .1) in (
+      root-added st _ _ known _ (c .before .before .before .before .before .before .before .before .before .before .before .before .before .before .before .before .before .before .before .before .if2 .left) (c .before .before .before .before .with-record .ensures) row uses,
+      gathered-past st _ (c .before .before .before .before .before .before .before .before .before .before .before .before .before .before .before .gather-term .ensures .0) slices (row-past row),
+    )
 
 pub add-root-spec : {M : Type 1} → statement M
 add-root-spec =
