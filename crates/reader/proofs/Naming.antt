@@ -20,7 +20,7 @@ use Rattle.names.specs.Table.{Table, name-of, names-of}
 use Rattle.names.proofs.Laws.{names-length, names-intro}
 use Rattle.terms.proofs.Table.{rows-named, terms-named}
 use Rattle.rules.specs.Views.{Tables, terms-in}
-use Rattle.fields.specs.Spelling.{Naming, in-table, Longer, Spelled-as}
+use Rattle.fields.specs.Spelling.{name-columns, Naming, in-table, Longer, Spelled-as}
 use Rattle.fields.proofs.Spelling.{begun-table, naming-table, naming-past}
 use Rattle.records.specs.Columns.{record-name, taken-column, first-column}
 use Rattle.records.specs.States.{state-of, decls-of, roots-of}
@@ -84,7 +84,7 @@ new-name ns m h t = omega (arith, ap length (spell-known ns m t))
 module _ {file names refs rows recs out names′ : List ℕ} {k : Counts} {named′ : ℕ} (st : Standing file names refs rows recs out k)
     (longer : Longer file names names′ (k .named) named′) where
   -- the records are as before
-  same-records : Agree (name-of file names) (name-of file names′) recs out recs out (k .named) (k .records) (k .entries) (k .uses)
+  pub same-records : Agree (name-of file names) (name-of file names′) recs out recs out (k .named) (k .records) (k .entries) (k .uses)
   same-records = record {
     same = longer .same;
     rows = λ c i h. refl;
@@ -136,7 +136,7 @@ module _ {file names refs rows recs out names′ : List ℕ} {k : Counts} {named
 -- ---- a line judged in the state with its name spelled
 
 -- the state with these names
-abbrev with-spelled : State → List Name → State
+abbrev pub with-spelled : State → List Name → State
 with-spelled s ns = record {
   goal = s .goal;
   terms = s .terms;
@@ -159,7 +159,7 @@ same-line : (n : ℕ) (s : State) (m : Name) (c : Content) → spelled c ≡ m �
 unfolding add-line
 same-line n s m c e =
     let same : fold-left spell (s .names) (spelled c ++ trimmed excluded (s .terms) c) ≡ fold-left spell (spell (s .names) m) (spelled c ++ trimmed excluded (s .terms) c)
-      = rw e (fold-again (s .names) (trimmed excluded (s .terms) c) m) in
+    = rw e (fold-again (s .names) (trimmed excluded (s .terms) c) m) in
     rw same
 
 -- it is judged the same
@@ -168,7 +168,7 @@ unfolding judge repeats
 respelled n s m c e = rw (same-line n s m c e)
 
 -- a `retain`: its names are spelled, and none is left
-retained : (n : ℕ) (s : State) (ms : List Name) → judge n s (retain ms) ≡ judge n (with-spelled s (fold-left spell (s .names) ms)) (retain [])
+pub retained : (n : ℕ) (s : State) (ms : List Name) → judge n s (retain ms) ≡ judge n (with-spelled s (fold-left spell (s .names) ms)) (retain [])
 unfolding judge repeats add-line summarize-decl root-of spelled trimmed asked nodes fold-left
 retained n s ms = rw (append-nil ms)
 
@@ -191,7 +191,7 @@ judge-ok n s t c e = go (repeats excluded n s c) e
     go false q = under-ok (limits (add-line excluded n s c)) q
 
 -- a line has no fewer names than before
-line-names : (n : ℕ) (s : State) (c : Content) → length (s .names) ≤ length (add-line excluded n s c .names)
+pub line-names : (n : ℕ) (s : State) (c : Content) → length (s .names) ≤ length (add-line excluded n s c .names)
 unfolding add-line
 line-names n s c = fold-more (s .names) (spelled c ++ trimmed excluded (s .terms) c)
 
@@ -243,15 +243,21 @@ module _ {file names refs rows recs out names′ : List ℕ} {k : Counts} {named
 module _ {file names refs rows recs out names′ : List ℕ} {k : Counts} {named′ i : ℕ} {m : Name} (n : ℕ) (st : Standing file names refs rows recs out k)
     (sp : Spelled-as file names names′ (k .named) named′ i m) where
   -- a line that is judged well has room for its name
-  few-names : {names″ rows″ recs″ out″ : List ℕ} {k′ : Counts} (c : Content)
+  pub few-names : {names″ rows″ recs″ out″ : List ℕ} {k′ : Counts} (c : Content)
       → judge n (state-of file names′ refs rows recs out (with-names k named′)) c ≡ ok (state-of file names″ refs rows″ recs″ out″ k′)
       → Standing file names″ refs rows″ recs″ out″ k′ → named′ ≤ most-names
   unfolding state-of
   few-names {names″} {rows″} {recs″} {out″} {k′} c j s =
       let t = state-of file names′ refs rows recs out (with-names k named′) in
       let u = state-of file names″ refs rows″ recs″ out″ k′ in
-      omega (arith, line-names n t c, ap (λ x. length (x .names)) (judge-ok n t u c j), names-length file names′ named′,
-      names-length file names″ (k′ .named), s .tables .name-table .few)
+      omega (
+        arith,
+        line-names n t c,
+        ap (λ x. length (x .names)) (judge-ok n t u c j),
+        names-length file names′ named′,
+        names-length file names″ (k′ .named),
+        s .tables .name-table .few,
+      )
 
   -- the tables with the name spelled, and its number
   pub spelled-standing : {next : Counts} → next ≡ with-names k named′ → next .named ≤ most-names
@@ -298,9 +304,13 @@ same-self column size w = record { same-length = refl; same-words = λ i h. refl
 pub same-then : {column size : ℕ} {a b c : List ℕ} → Same-but column size a b → Same-but column size b c → Same-but column size a c
 same-then p q = record { same-length = q .same-length ∙ p .same-length; same-words = λ i h. q .same-words i h ∙ p .same-words i h }
 
--- a spelled name changes words that a call uses
+-- the columns of the name table are words that a call uses
+pub table-past : {names names′ : List ℕ} → Same-but 0 name-columns names names′ → Same-but 0 working-words names names′
+table-past s = record { same-length = s .same-length; same-words = λ i h. s .same-words i (λ a b. h (omega arith) (omega arith)) }
+
+-- a spelled name changes no others
 pub spelled-past : {file names names′ : List ℕ} {named named′ : ℕ} → Longer file names names′ named named′ → Same-but 0 working-words names names′
-spelled-past l = record { same-length = l .kept .same-length; same-words = λ i h. l .kept .same-words i (λ a b. h (omega arith) (omega arith)) }
+spelled-past l = table-past (l .kept)
 
 -- nothing is written
 pub past-none : (names refs rows recs out : List ℕ) → Past names refs rows recs out names refs rows recs out

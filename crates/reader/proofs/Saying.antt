@@ -1,8 +1,11 @@
 -- What the fields of a record line say.
 use Prim.Native.Nat.{ℕ, _≤_, _<_}
 use mathlib.Core.Path.{_≡_, refl, sym, ap, _∙_}
+use native.Mathlib.Omega.{arith}
+use mathlib.Core.Bool.{Bool, true, false, cond}
 use mathlib.Core.List.{List, [], _∷_}
-use lib.Dec.{eqb}
+use lib.Dec.{eqb, ltb}
+use borrow.Author.Tests.{ltb-true}
 use Rattle.model.specs.Lists.{part}
 use Rattle.model.specs.Names.{Name}
 use Rattle.model.specs.Lines.{Field}
@@ -10,6 +13,7 @@ use Rattle.model.specs.Reading.{Result, ok, refused, _>>=_, next, end, name-fie
 use Rattle.model.specs.declared.LineKind.the-variants as kind
 use Rattle.model.specs.declared.Refusal.{Refusal}
 use Rattle.model.specs.declared.Refusal.the-variants as refusal
+use Rattle.model.proofs.ResultLaws.{ok-eq, not-ok}
 use Rattle.model.specs.declared.Counts.{Counts}
 use Rattle.model.specs.declared.Step.the-variants as step
 use Rattle.text.specs.declared.Cursor.{Cursor}
@@ -21,6 +25,10 @@ use Rattle.fields.proofs.Pushing.{left-cons, term-read, term-not, number-read, 
 use Rattle.reader.specs.declared.Last.{Last}
 use Rattle.reader.specs.declared.Last.the-variants as last
 use Rattle.reader.specs.Lines.{last-field, last-result, fact-said, root-said, with-ask, Asks, asks, not-asked}
+
+-- a term and the fields after it
+abbrev and-after : List Field → ℕ → Result (ℕ × List Field)
+and-after fs a = ok (a, fs)
 
 -- ---- the end of a line
 
@@ -55,6 +63,33 @@ module _ {A : Type 0} (f : ℕ → A) (count : ℕ) (fs : List Field) where
   pub last-not : {x : Refusal} → last-field count fs ≡ refused x → (next (term-field count) fs >>= λ (t, gs). end (f t) gs) ≡ refused x
   unfolding last-field
   last-not e = last-then f (next (term-field count) fs) ∙ rw e
+
+-- a field that is one of so many terms is below them
+term-below : (count : ℕ) (f : Field) {t : ℕ} → term-field count f ≡ ok t → t < count
+unfolding term-field
+term-below count f {t} e = go (number-field 65535 f) e
+  where
+    pick : (n : ℕ) (b : Bool) → ltb n count ≡ b → cond b (ok n) (refused refusal.Term) ≡ ok t → t < count
+    pick n true q x = let z = ok-eq x in let l = ltb-true n count q in omega arith
+    pick n false q x = absurd (not-ok x)
+
+    go : (r : Result ℕ) → (r >>= λ n. cond (ltb n count) (ok n) (refused refusal.Term)) ≡ ok t → t < count
+    go (ok n) x = pick n (ltb n count) refl x
+    go (refused y) x = absurd (not-ok x)
+
+-- and so is the last
+pub last-below : (count : ℕ) (fs : List Field) {t : ℕ} → last-field count fs ≡ ok t → t < count
+unfolding last-field next end
+last-below count [] e = absurd (not-ok e)
+last-below count (f ∷ fs) {t} e = go (term-field count f) refl e
+  where
+    alone : (u : ℕ) (gs : List Field) → end u gs ≡ ok t → u ≡ t
+    alone u [] x = ok-eq x
+    alone u (g ∷ gs) x = absurd (not-ok x)
+
+    go : (r : Result ℕ) → term-field count f ≡ r → (r >>= (λ a. and-after fs a) >>= λ (u, gs). end u gs) ≡ ok t → t < count
+    go (ok u) q x = let z = alone u fs x in let l = term-below count f q in omega arith
+    go (refused y) q x = absurd (not-ok x)
 
 -- ---- each kind of record
 

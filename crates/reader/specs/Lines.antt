@@ -15,6 +15,7 @@ use Rattle.model.specs.declared.Step.the-variants as step
 use Rattle.gather.specs.Sets.{Same-but}
 use Rattle.fields.specs.declared.Kind.{Kind}
 use Rattle.fields.specs.Wording.{kind-result}
+use Rattle.names.specs.Table.{name-of}
 use Rattle.records.specs.States.{state-of}
 use Rattle.records.specs.Macros.{Filled}
 use Rattle.records.specs.Adding.{excluded, Standing, judge, Adds}
@@ -91,11 +92,13 @@ pub data Asks (k : Counts) (said : Result Content) : Step → Type 0 where
   asks : {q options : ℕ} → said ≡ ok (ask q options) → Asks k said (step.On (with-ask k q options))
   not-asked : {x : Refusal} → said ≡ refused x → Asks k said (step.Refused x)
 
--- what adding the record that fields say comes to, its name spelled
-pub data Adds-said (file names refs rows recs out names′ rows′ recs′ out′ : List ℕ) (k : Counts) (n : ℕ) (said : Result Content) (r : Step) : Type 0 where
-  said-adds : {c : Content} → said ≡ ok c → Adds file names refs rows recs out names′ rows′ recs′ out′ k n c r
-      → Adds-said file names refs rows recs out names′ rows′ recs′ out′ k n said r
-  said-not : {x : Refusal} → said ≡ refused x → r ≡ step.Refused x → Adds-said file names refs rows recs out names′ rows′ recs′ out′ k n said r
+-- what reading the flag and the term of a fact comes to, its name spelled
+pub data Adds-fact (file names refs rows recs out names′ rows′ recs′ out′ : List ℕ) (k : Counts) (n i : ℕ) (fs : List Field) (r : Step) : Type 0 where
+  fact-adds : (flag : ℕ) {t : ℕ} → ((m : Name) → fact-said (k .many) m fs ≡ ok (assume m (eqb flag 1) t))
+      → Adds file names refs rows recs out names′ rows′ recs′ out′ k n (assume (name-of file names i) (eqb flag 1) t) r
+      → Adds-fact file names refs rows recs out names′ rows′ recs′ out′ k n i fs r
+  fact-stops : {x : Refusal} → ((m : Name) → fact-said (k .many) m fs ≡ refused x) → r ≡ step.Refused x
+      → Adds-fact file names refs rows recs out names′ rows′ recs′ out′ k n i fs r
 
 -- what a line comes to: the tables with it, or its refusal
 pub data Reads (file names′ refs′ rows′ recs′ out′ : List ℕ) (n : ℕ) (s : State) (said : Result Content) : Step → Type 0 where

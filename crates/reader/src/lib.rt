@@ -18,9 +18,8 @@ ghost use Rattle.model.specs.declared.LineKind.the-variants as kind;
 ghost use Rattle.text.specs.Parts.{Placed, fields-left};
 ghost use Rattle.fields.specs.Wording.{record-kind};
 ghost use Rattle.records.specs.Adding.{Standing, Untouched};
-ghost use Rattle.names.specs.Table.{name-of};
 ghost use Rattle.model.specs.Reading.{most-names, most-terms};
-ghost use Rattle.reader.specs.Lines.{with-names, last-field, last-result, fact-said, root-said, kind-content, Asks, Adds-said, Line-read, Cleared, File-read};
+ghost use Rattle.reader.specs.Lines.{with-names, last-field, last-result, root-said, kind-content, Asks, Adds-fact, Line-read, Cleared, File-read};
 
 // What reading a file comes to: the counts after the last line, or a refusal and its line.
 pub enum Reading {
@@ -128,4 +127,3 @@ fn read_fun(
         Word::Refused(r) => Step::Refused(r),
     }
 }
-

@@ -2,12 +2,9 @@ use gather::Walked;
 use model::AsumKind;
 use model::Counts;
 use model::Refusal;
-<<<<<<< HEAD
 use model::Step;
-=======
 use summary::Summarized;
 use summary::Summary;
->>>>>>> records
 ghost use Prim.Native.Nat.{ℕ, _+_, _≤_, _<_};
 ghost use mathlib.Core.Path.{_≡_};
 ghost use mathlib.Core.List.{[]};
