@@ -36,7 +36,7 @@ use Rattle.records.proofs.Judging.{Beyond, many-names, many-terms, many-referen
 use Rattle.records.proofs.Appending.{terms-length, standing-within}
 use Rattle.records.proofs.Funs.{same-wider}
 use Rattle.reader.specs.Lines.{with-names, with-ask, judged, Asks, asks, not-asked, Reads, goes-on, stops, Past, Line-read}
-use Rattle.reader.proofs.Naming.{fold-more, same-records, state-spelled, standing-spelled, retained, line-names, few-names, reads-refused, same-self, spelled-past, past-none, past-names, past-then}
+use Rattle.reader.proofs.Naming.{fold-more, same-records, state-spelled, standing-spelled, retained, line-names, few-names, reads-refused, same-self, table-past, spelled-past, past-none, past-names, past-then}
 
 -- ---- a term line
 
@@ -216,3 +216,66 @@ retain-refused count ns fs {x} e = go (rest name-field fs) (sym (spell-law ns fs
     go : (r : Result (List Name)) → (r >>= λ ms. ok (fold-left spell ns ms)) ≡ refused x → (r >>= λ names. ok (retain names)) ≡ refused x
     go (ok ms) q = absurd (not-ok (sym q))
     go (refused y) q = cc
+
+module _ {file names refs rows recs out names′ : List ℕ} {k : Counts} (n : ℕ) (st : Standing file names refs rows recs out k) where
+  -- the names then, as those of the model
+  retain-there : {named′ : ℕ} {ns : List Name} (ms : List Name) → Naming file names′ named′ ns → Longer file names names′ (k .named) named′
+      → fold-left spell (names-of file names (k .named)) ms ≡ ns → named′ ≤ most-names
+      → judge n (state-of file names refs rows recs out k) (retain ms) ≡ judge n (state-of file names′ refs rows recs out (with-names k named′)) (retain [])
+  unfolding state-of
+  retain-there ms naming longer e h =
+      retained n (state-of file names refs rows recs out k) ms
+      ∙ ap (λ t. judge n t (retain [])) (sym (state-spelled st longer (naming-table naming h .1 ∙ sym e)))
+
+  -- more names than may be
+  retain-crowded : {named′ : ℕ} {ns : List Name} (ms : List Name) → Naming file names′ named′ ns → fold-left spell (names-of file names (k .named)) ms ≡ ns
+      → most-names < named′ → judge n (state-of file names refs rows recs out k) (retain ms) ≡ refused refusal.Limit
+  unfolding state-of add-line spelled trimmed
+  retain-crowded ms naming e h =
+      judged-beyond n (state-of file names refs rows recs out k) (retain ms) (repeats-none n (state-of file names refs rows recs out k) (retain ms) (retain-takes _ n ms))
+      (many-names (rw (append-nil ms, e) (naming-past naming h)))
+
+module _ {file names refs rows recs out names′ : List ℕ} {k : Counts} (n : ℕ) {fs : List Field} (st : Standing file names refs rows recs out k) where
+  -- the tables with the names spelled
+  pub rest-standing : {u : Upto} {named′ : ℕ} {after : Cursor} {next : Counts} → Spells-rest file names names′ (k .named) fs u → u ≡ upto.At named′ after
+      → next ≡ with-names k named′ → next .named ≤ most-names → Standing file names′ refs rows recs out next
+  rest-standing {u} {named′} {after} {next} r e q = go (rw e at r) q
+    where
+      go : Spells-rest file names names′ (k .named) fs (upto.At named′ after) → next ≡ with-names k named′
+          → next .named ≤ most-names → Standing file names′ refs rows recs out next
+      go (all-spelt run naming longer) d = rw d (λ h. standing-spelled st longer (naming-table naming h .0))
+
+  -- a `retain`
+  pub retain-line : {u : Upto} {named′ : ℕ} {after : Cursor} {next : Counts} {recs″ : List ℕ} {f : Step}
+      → Spells-rest file names names′ (k .named) fs u → u ≡ upto.At named′ after → next ≡ with-names k named′
+      → Adds file names′ refs rows recs out names′ rows recs″ out next n (retain []) f → Untouched names′ rows recs out names′ rows recs″ out
+      → Line-read file names refs rows recs out names′ refs rows recs″ out k n (content kind.Retain (k .many) fs) f
+  unfolding judged
+  retain-line {u} {named′} {after} {next} {recs″} r e q a x = go (rw e at r) (rw q at a)
+    where
+      reads : {f : Step} {ns : List Name} (ms : List Name) → Naming file names′ named′ ns → Longer file names names′ (k .named) named′
+          → content kind.Retain (k .many) fs ≡ ok (retain ms) → fold-left spell (names-of file names (k .named)) ms ≡ ns
+          → Adds file names′ refs rows recs out names′ rows recs″ out (with-names k named′) n (retain []) f
+          → Reads file names′ refs rows recs″ out n (state-of file names refs rows recs out k) (content kind.Retain (k .many) fs) f
+      reads ms naming longer d z (adds.full h) = stops {x = refusal.Limit} (rw d (retain-crowded n st ms naming z h))
+      reads ms naming longer d z (adds.stops {x} h j) = stops {x = x} (rw d (retain-there n st ms naming longer z h ∙ j))
+      reads ms naming longer d z (adds.added {k′} j y) = goes-on {k′ = k′} (rw d (retain-there n st ms naming longer z (few-names file names′ refs rows recs out k named′ n (retain []) j y) ∙ j)) y
+
+      go : {f : Step} → Spells-rest file names names′ (k .named) fs (upto.At named′ after)
+          → Adds file names′ refs rows recs out names′ rows recs″ out (with-names k named′) n (retain []) f
+          → Line-read file names refs rows recs out names′ refs rows recs″ out k n (content kind.Retain (k .many) fs) f
+      go (all-spelt {ns} run naming longer) b =
+          let (ms, d, z) = retain-said (k .many) (names-of file names (k .named)) fs run in
+          record { reads = reads ms naming longer d z b; past = past-then refs (spelled-past longer) x }
+
+  -- a name is refused
+  pub retain-not : {u : Upto} {x : Refusal} → Spells-rest file names names′ (k .named) fs u → u ≡ upto.Refused x
+      → Line-read file names refs rows recs out names′ refs rows recs out k n (content kind.Retain (k .many) fs) (step.Refused x)
+  retain-not {u} {x} r e = go (rw e at r)
+    where
+      go : Spells-rest file names names′ (k .named) fs (upto.Refused x)
+          → Line-read file names refs rows recs out names′ refs rows recs out k n (content kind.Retain (k .many) fs) (step.Refused x)
+      go (rest-not d y) = record {
+        reads = reads-refused x (retain-refused (k .many) (names-of file names (k .named)) fs d);
+        past = past-names refs rows recs out (table-past y);
+      }

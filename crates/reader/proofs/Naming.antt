@@ -9,7 +9,7 @@ use lib.Dec.{T, not-T, leb}
 use Rattle.model.specs.Lists.{any, collect, fold-left}
 use Rattle.model.specs.Names.{Name, mem}
 use Rattle.model.specs.Terms.{Term}
-use Rattle.model.specs.Reading.{Result, ok, refused, Content, retain, State, spell, spelled, trimmed, asked, nodes, summarize-decl, root-of, add-line, repeats, limits, under-limits, taken-by, most-names, most-records}
+use Rattle.model.specs.Reading.{Result, ok, refused, Content, retain, State, spell, spelled, trimmed, asked, nodes, summarize-decl, root-of, add-line, repeats, limits, under-limits, taken-by, most-names, most-terms, most-records}
 use Rattle.model.specs.declared.Counts.{Counts}
 use Rattle.model.specs.declared.Refusal.{Refusal}
 use Rattle.model.specs.declared.Refusal.the-variants as refusal
@@ -240,25 +240,19 @@ module _ {file names refs rows recs out names′ : List ℕ} {k : Counts} {named
           new-name (names-of file names (k .named)) m
           (omega (arith, no-room h, names-length file names (k .named), st .tables .name-table .few)) (rw e there)
 
+-- a line that is judged well has room for its names
+pub few-names : (file names′ refs rows recs out : List ℕ) (k : Counts) (named′ n : ℕ) {names″ rows″ recs″ out″ : List ℕ} {k′ : Counts} (c : Content)
+    → judge n (state-of file names′ refs rows recs out (with-names k named′)) c ≡ ok (state-of file names″ refs rows″ recs″ out″ k′)
+    → Standing file names″ refs rows″ recs″ out″ k′ → named′ ≤ most-names
+unfolding state-of
+few-names file names′ refs rows recs out k named′ n {names″} {rows″} {recs″} {out″} {k′} c j s =
+    let t = state-of file names′ refs rows recs out (with-names k named′) in
+    let u = state-of file names″ refs rows″ recs″ out″ k′ in
+    omega (arith, line-names n t c, ap (λ x. length (x .names)) (judge-ok n t u c j), names-length file names′ named′,
+    names-length file names″ (k′ .named), s .tables .name-table .few)
+
 module _ {file names refs rows recs out names′ : List ℕ} {k : Counts} {named′ i : ℕ} {m : Name} (n : ℕ) (st : Standing file names refs rows recs out k)
     (sp : Spelled-as file names names′ (k .named) named′ i m) where
-  -- a line that is judged well has room for its name
-  pub few-names : {names″ rows″ recs″ out″ : List ℕ} {k′ : Counts} (c : Content)
-      → judge n (state-of file names′ refs rows recs out (with-names k named′)) c ≡ ok (state-of file names″ refs rows″ recs″ out″ k′)
-      → Standing file names″ refs rows″ recs″ out″ k′ → named′ ≤ most-names
-  unfolding state-of
-  few-names {names″} {rows″} {recs″} {out″} {k′} c j s =
-      let t = state-of file names′ refs rows recs out (with-names k named′) in
-      let u = state-of file names″ refs rows″ recs″ out″ k′ in
-      omega (
-        arith,
-        line-names n t c,
-        ap (λ x. length (x .names)) (judge-ok n t u c j),
-        names-length file names′ named′,
-        names-length file names″ (k′ .named),
-        s .tables .name-table .few,
-      )
-
   -- the tables with the name spelled, and its number
   pub spelled-standing : {next : Counts} → next ≡ with-names k named′ → next .named ≤ most-names
       → Standing file names′ refs rows recs out next × (i < next .named)
@@ -286,7 +280,14 @@ module _ {file names refs rows recs out names′ : List ℕ} {k : Counts} {named
             → Reads file names″ refs rows″ recs″ out″ n s said r
         go (adds.full h) = reads.stops {x = refusal.Limit} (rw e (crowded n st sp (make m) (one m) h (free h)))
         go (adds.stops {x} h j) = reads.stops {x = x} (rw e (named-there h ∙ j))
-        go (adds.added {k′} j x) = reads.goes-on {k′ = k′} (rw e (named-there (few-names (make (name-of file names′ i)) j x) ∙ j)) x
+        go (adds.added {k′} j x) = reads.goes-on {k′ = k′} (rw e (named-there (few-names file names′ refs rows recs out k named′ n (make (name-of file names′ i)) j x) ∙ j)) x
+
+-- as many terms as before
+pub many-below : (k : Counts) {next : Counts} {named t : ℕ} → next ≡ with-names k named → t < k .many → t < next .many
+many-below k q h = rw q h
+
+pub many-few : {file names refs rows recs out : List ℕ} {k next : Counts} {named : ℕ} → Standing file names refs rows recs out k → next ≡ with-names k named → next .many ≤ most-terms
+many-few st q = rw q (st .tables .term-table .few-rows)
 
 -- a line that is refused by its fields
 pub reads-refused : {file names′ refs′ rows′ recs′ out′ : List ℕ} {n : ℕ} {s : State} {said : Result Content} (x : Refusal) → said ≡ refused x
@@ -327,6 +328,15 @@ pub past-names : {names names′ : List ℕ} (refs rows recs out : List ℕ) →
 past-names refs rows recs out p = record {
   name-words = p;
   reference-words = same-self 0 working-words refs;
+  row-words = same-self 0 working-words rows;
+  record-words = same-self 0 working-words recs;
+  list-words = same-self 0 working-words out;
+}
+
+-- nothing is written of a record
+pub untouched : {names rows recs out : List ℕ} → Untouched names rows recs out names rows recs out
+untouched {names} {rows} {recs} {out} = record {
+  name-words = same-self 0 working-words names;
   row-words = same-self 0 working-words rows;
   record-words = same-self 0 working-words recs;
   list-words = same-self 0 working-words out;

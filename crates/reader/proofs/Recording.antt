@@ -20,6 +20,8 @@ use Rattle.model.specs.declared.Step.the-variants as step
 use Rattle.text.specs.declared.Cursor.{Cursor}
 use Rattle.text.specs.Parts.{Placed, fields-left}
 use Rattle.names.specs.Table.{name-of}
+use Rattle.fields.specs.declared.RecordKind.{RecordKind}
+use Rattle.fields.specs.Wording.{record-kind}
 use Rattle.fields.specs.declared.Word.{Word}
 use Rattle.fields.specs.declared.Word.the-variants as word
 use Rattle.fields.specs.Spelling.{Begun, table-there, Reads-name}
@@ -75,6 +77,17 @@ begins st = table-there (st .tables .name-table)
 pub line-not : (file names refs rows recs out : List ℕ) (k : Counts) (n : ℕ) {said : Result Content} (x : Refusal) → said ≡ refused x
     → Line-read file names refs rows recs out names refs rows recs out k n said (step.Refused x)
 line-not file names refs rows recs out k n x e = record { reads = reads-refused x e; past = past-none names refs rows recs out }
+
+-- what the fields say, said otherwise
+pub line-said : {file names refs rows recs out names′ refs′ rows′ recs′ out′ : List ℕ} {k : Counts} {n : ℕ} {said other : Result Content} {r : Step} → said ≡ other
+    → Line-read file names refs rows recs out names′ refs′ rows′ recs′ out′ k n other r → Line-read file names refs rows recs out names′ refs′ rows′ recs′ out′ k n said r
+line-said e l = rw e l
+
+-- a record line by its kind
+pub record-line : {file names refs rows recs out names′ refs′ rows′ recs′ out′ : List ℕ} {k : Counts} {n : ℕ} (count : ℕ) (fs : List Field) {kind known : RecordKind} {r : Step} → kind ≡ known
+    → Line-read file names refs rows recs out names′ refs′ rows′ recs′ out′ k n (content (record-kind known) count fs) r
+    → Line-read file names refs rows recs out names′ refs′ rows′ recs′ out′ k n (content (record-kind kind) count fs) r
+record-line count fs e l = rw e l
 
 module _ {file names refs rows recs out : List ℕ} {k : Counts} (n : ℕ) {c : Cursor} (st : Standing file names refs rows recs out k) where
   -- the name is refused

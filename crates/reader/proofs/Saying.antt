@@ -1,5 +1,5 @@
 -- What the fields of a record line say.
-use Prim.Native.Nat.{ℕ, _≤_, _<_}
+use Prim.Native.Nat.{ℕ, _+_, _≤_, _<_}
 use mathlib.Core.Path.{_≡_, refl, sym, ap, _∙_}
 use native.Mathlib.Omega.{arith}
 use mathlib.Core.Bool.{Bool, true, false, cond}
@@ -233,6 +233,10 @@ last-refusal a b = sym a ∙ rw b
 -- the cursor after a number
 pub number-placed : {file : List ℕ} {c n : Cursor} {r : NumberStep} {v : ℕ} (limit : ℕ) → Placed file c → r ≡ number-at limit file c → r ≡ numbered.Number v n → Placed file n
 number-placed {file} {c} {n} {v = v} limit p a b = number-next file c p limit v n (sym a ∙ b) .0 .placed
+
+-- a number is at most its limit
+pub number-below : {file : List ℕ} {c n : Cursor} {r : NumberStep} {v : ℕ} (limit : ℕ) → Placed file c → r ≡ number-at limit file c → r ≡ numbered.Number v n → v < limit + 1
+number-below {file} {c} {n} {v = v} limit p a b = omega (arith, number-next file c p limit v n (sym a ∙ b) .1)
 
 module _ {file : List ℕ} {c : Cursor} (k : Counts) (p : Placed file c) {r : NumberStep} (a : r ≡ number-at 255 file c) where
   -- the ask's query is refused
