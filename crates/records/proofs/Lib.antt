@@ -11,3 +11,5 @@ pub mod Naming
 pub mod Coding
 pub mod Facts
 pub mod Opening
+pub mod Standing
+pub mod Spelling
