@@ -10,3 +10,6 @@ pub mod Uses
 pub mod Naming
 pub mod Coding
 pub mod Facts
+pub mod Opening
+pub mod Standing
+pub mod Spelling

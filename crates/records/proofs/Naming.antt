@@ -49,6 +49,10 @@ spells-longer l (n ∷ ns) =
     let y = b .more in
     record { more = omega arith; same = λ j h. b .same j (omega arith) ∙ a .same j h }
 
+-- spelling makes no list shorter
+pub spells-more : (l ns : List Name) → length l ≤ length (fold-left spell l ns)
+spells-more l ns = spells-longer l ns .more
+
 -- a table with names spelled behind those of another
 module _ (file w w′ : List ℕ) (named named′ : ℕ) (ns : List Name) (e : names-of file w′ named′ ≡ fold-left spell (names-of file w named) ns) where
   longer : Longer (names-of file w named) (names-of file w′ named′)

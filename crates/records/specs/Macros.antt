@@ -5,9 +5,12 @@ use mathlib.Core.Path.{_≡_}
 use mathlib.Core.Bool.{Bool, cond, _&&_}
 use mathlib.Core.List.{List, [], _∷_}
 use lib.Dec.{eqb, leb, ltb}
+use lib.ListN.{length, getD}
+use Rattle.model.specs.Reading.{most-names}
 use Rattle.model.specs.declared.Counts.{Counts}
 use Rattle.names.specs.Table.{Table}
-use Rattle.records.specs.Columns.{record-kind, def-kind, taken-at, macro-at, name-code}
+use Rattle.gather.specs.Sets.{Same-but}
+use Rattle.records.specs.Columns.{record-kind, def-kind, macro-column, taken-at, macro-at, name-code}
 use Rattle.records.specs.States.{uses-at}
 use Rattle.records.specs.Filing.{Records, newest, Stocked}
 
@@ -23,6 +26,10 @@ first-macro = 10
 abbrev pub macro-count : ℕ
 macro-count = 5
 
+-- the head code of the name that the first one opens to
+abbrev pub first-opened : ℕ
+first-opened = 15
+
 -- the macro word for a number and one, if there is one
 unfoldable pub opened : ℕ → ℕ
 opened zero = 0
@@ -31,7 +38,7 @@ opened (suc n) = opened-word + n
 -- the macro word of a macro of the start, by its head code
 unfoldable pub start-word : List ℕ → ℕ → ℕ → ℕ
 start-word names named code =
-    cond (leb first-macro code && ltb code (first-macro + macro-count)) (opened (newest (name-code names) (code + macro-count) named)) 0
+    cond (leb first-macro code && ltb code first-opened) (opened (newest (name-code names) (code + macro-count) named)) 0
 
 -- whether a word of the taken column is that of a def
 unfoldable pub is-def : List ℕ → ℕ → Bool
@@ -45,6 +52,24 @@ macro-word names recs named n =
 -- the numbers of the names that a macro word opens to
 unfoldable pub opens-at : List ℕ → List ℕ → ℕ → List ℕ
 opens-at recs out word = cond (eqb word 0) [] (cond (ltb word opened-word) (uses-at recs out (word - 1)) ((word - opened-word) ∷ []))
+
+-- for each macro of the start, the number and one of the name that it opens to
+pub record Found (names : List ℕ) (named : ℕ) (found : List ℕ) : Type 0 where
+  pub size : length found ≡ macro-count
+  pub numbers : (j : ℕ) → j < macro-count → getD found j 0 ≡ newest (name-code names) (first-opened + j) named
+
+-- the macro word of a macro of the start, by its head code, from these numbers
+unfoldable pub found-word : List ℕ → ℕ → ℕ
+found-word found code = cond (leb first-macro code && ltb code first-opened) (opened (getD found (code - first-macro) 0)) 0
+
+-- the macro word of a name, from these numbers
+unfoldable pub word-from : List ℕ → List ℕ → List ℕ → ℕ → ℕ
+word-from names recs found n = cond (is-def recs (taken-at names n)) (taken-at names n) (found-word found (name-code names n))
+
+-- the macro column filled up to the n-th name, and nothing else changed
+pub record Opens (names recs names′ : List ℕ) (named n : ℕ) : Type 0 where
+  pub same : Same-but macro-column most-names names names′
+  pub macros : (m : ℕ) → m < n → macro-at names′ m ≡ macro-word names recs named m
 
 -- the tables after the last line, with the macro column filled: all that a run asks
 pub record Filled (file names recs out : List ℕ) (k : Counts) : Type 0 where

@@ -1,0 +1,34 @@
+-- `records::found_word` meets its contract.
+use native.Mathlib.Omega.{arith}
+use Rattle.records.proofs.Opening.{number-low, word-below, word-above, word-missing, word-there}
+use borrow.Author.Needs.{needs}
+use Rattle.records.proofs.found_word.Statement.{statement}
+use Rattle.records.proofs.found_word.Tie as tie
+use Rattle.records.proofs.found_word.Reads as reads
+use Rattle.records.proofs.found_word.Lts as lts
+use Rattle.words.proofs.at.Reads as at-reads
+
+returns : tie.Need-returns
+returns c = word-below _ _ (c .if1 .taken)
+
+returns-2 : tie.Need-returns-2
+returns-2 c = word-above _ _ (c .if2 .taken)
+
+at-requires : tie.Need-at-requires
+at-requires c κs = omega (arith, c .before .before .before .pre .0)
+
+returns-3 : tie.Need-returns-3
+returns-3 c = word-missing _ _ (c .before .before .before .if1 .left) (c .before .before .if2 .left) (c .before .at .ensures) (c .if3 .taken)
+
+sub-result : tie.Need-sub-result
+sub-result c = omega arith
+
+add-result : tie.Need-add-result
+add-result c = omega (arith, number-low (c .before .before .before .before .before .args .found .now) (c .before .at .ensures) (c .before .before .before .before .before .pre .1) (c .before .before .before .if1 .left) (c .before .before .if2 .left))
+
+returns-4 : tie.Need-returns-4
+returns-4 c = word-there _ _ (c .before .before .before .if1 .left) (c .before .before .if2 .left) (c .before .at .ensures) (c .if3 .left) (number-low (c .before .before .before .before .before .args .found .now) (c .before .at .ensures) (c .before .before .before .before .before .pre .1) (c .before .before .before .if1 .left) (c .before .before .if2 .left))
+
+pub found-word-spec : {M : Type 1} → statement M
+found-word-spec =
+    tie.close (tie.spec returns returns-2 at-requires returns-3 sub-result add-result returns-4)

@@ -1,0 +1,49 @@
+-- `records::macro_word` meets its contract.
+use native.Mathlib.Omega.{arith}
+use mathlib.Core.Path.{_∙_}
+use Rattle.records.proofs.Opening.{word-def, word-other}
+use borrow.Author.Needs.{needs}
+use Rattle.records.proofs.macro_word.Statement.{statement}
+use Rattle.records.proofs.macro_word.Tie as tie
+use Rattle.records.proofs.macro_word.Reads as reads
+use Rattle.records.proofs.macro_word.Lts as lts
+use Rattle.records.proofs.found_word.Reads as found-word-reads
+use Rattle.records.proofs.is_def.Reads as is-def-reads
+use Rattle.words.proofs.at.Reads as at-reads
+
+add-at : tie.Need-add-at
+add-at c = omega arith
+
+at-requires : tie.Need-at-requires
+at-requires c κs = omega arith
+
+is-def-requires : tie.Need-is-def-requires
+is-def-requires c κs = (omega (arith, c .at .ensures, c .before .before .before .before .pre .3), c .before .before .before .before .pre .2)
+
+returns : tie.Need-returns
+returns c = word-def _ _ _ _ (c .before .before .at .ensures) (c .before .is-def .ensures) (c .if1 .taken) (omega (arith, c .before .before .at .ensures, c .before .before .before .before .before .before .pre .3))
+
+add-at-2 : tie.Need-add-at-2
+add-at-2 c = omega arith
+
+at-requires-2 : tie.Need-at-requires-2
+at-requires-2 c κs = omega arith
+
+found-word-requires : tie.Need-found-word-requires
+found-word-requires c κs = (c .before .before .before .before .before .before .before .pre .4, c .before .before .before .before .before .before .before .pre .5)
+
+returns-2 : tie.Need-returns-2
+returns-2 c = word-other _ _ _ _ (c .before .before .before .before .at .ensures) (c .before .before .before .is-def .ensures) (c .before .before .if1 .left) (c .before .at2 .ensures) (c .found-word .ensures)
+
+pub macro-word-spec : {M : Type 1} → statement M
+macro-word-spec =
+    tie.close
+    (tie.spec
+    add-at
+    at-requires
+    is-def-requires
+    returns
+    add-at-2
+    at-requires-2
+    found-word-requires
+    returns-2)
