@@ -19,7 +19,7 @@ use Rattle.text.specs.declared.Cursor.{Cursor}
 use Rattle.text.specs.declared.FieldStep.{FieldStep}
 use Rattle.text.specs.declared.FieldStep.the-variants as field
 use Rattle.text.specs.Parts.{mark-at, Placed, fields-left, field-at, field-result}
-use Rattle.text.proofs.Laws.{field-law, field-some, left-some, line-ended, line-last, line-none, mark-from}
+use Rattle.text.proofs.Laws.{field-law, field-some, left-some, field-next, line-ended, line-last, line-none, mark-from}
 use Rattle.names.specs.Table.{Table, name-of, names-of}
 use Rattle.names.proofs.Laws.{empty-table}
 use Rattle.terms.specs.Rows.{terms-of, nodes-below}
@@ -32,7 +32,13 @@ use Rattle.fields.specs.Wording.{kind-result, well-counted}
 use Rattle.fields.proofs.Words.{parse-law}
 use Rattle.records.specs.States.{decls-of, roots-of, state-of}
 use Rattle.records.specs.Filing.{Records, newest}
-use Rattle.records.specs.Macros.{Filled}
+use Rattle.records.specs.Columns.{taken-column, first-column}
+use Rattle.records.specs.Macros.{Opens, Filled}
+use Rattle.records.proofs.Standing.{Beside, standing-start, decls-longer, roots-longer, standing-filled}
+use Rattle.records.proofs.Funs.{same-wider}
+use Rattle.names.proofs.Coded.{table-kept}
+use Rattle.terms.proofs.Table.{terms-named}
+use Rattle.reader.proofs.Naming.{same-then}
 use Rattle.records.specs.Adding.{excluded, Standing, judge}
 use Rattle.records.proofs.Judging.{line-judged}
 use Rattle.records.proofs.Appending.{terms-length}
@@ -66,6 +72,29 @@ module _ (file : List ℕ) (a e : ℕ) (h : a ≤ e) (l : e ≤ length file) (sh
   field-there p q =
       let w = field-some file at-start (mark-at 0x2c file a e) h refl in
       let z : _≡_ {A = ℕ} 0 1 = cc in omega arith
+
+-- the first field lies in the line, and the next cursor past it
+pub field-placed : {file : List ℕ} {a e s t : ℕ} {n : Cursor} {r : FieldStep} → a ≤ e → e ≤ length file → length file ≤ most-bytes
+    → r ≡ field-at file (record { at = a; end = e }) → r ≡ field.Part s t n → Placed file n × (s ≤ t) × (t ≤ length file)
+field-placed {file} {a} {e} {s} {t} {n} h l short p q =
+    let x = field-next file (record { at = a; end = e }) (record { inside = l; short = short }) s t n (sym p ∙ q) in
+    (x .onward .placed, x .ordered, x .inside)
+
+-- a test whose opposite holds fails
+pub not-true : {x b : Bool} → x ≡ b → not x ≡ true → false ≡ b
+not-true {x} {b} e h = go x e h
+  where
+    go : (x : Bool) → x ≡ b → not x ≡ true → false ≡ b
+    go true q z = let w : _≡_ {A = ℕ} 0 1 = cc in absurd (omega arith)
+    go false q z = q
+
+-- and one whose opposite fails holds
+pub not-false : {x b : Bool} → x ≡ b → not x ≡ false → true ≡ b
+not-false {x} {b} e h = go x e h
+  where
+    go : (x : Bool) → x ≡ b → not x ≡ false → true ≡ b
+    go true q z = q
+    go false q z = let w : _≡_ {A = ℕ} 0 1 = cc in absurd (omega arith)
 
 module _ (n count : ℕ) {all : List Field} {f : Field} {fs : List Field} (d : all ≡ f ∷ fs) (k : Kind) (q : kind-result k ≡ kind-field n f) where
   -- the number of fields is right
@@ -186,3 +215,40 @@ module _ {file names refs rows recs out : List ℕ} {k : Counts} {n from : ℕ} 
             → Reads-file file names′ refs′ rows′ recs′ out′ (answer.Refused x n)
         go (stops d) = read-stops {x = x} {n = n}
             (o .run ∙ one-refused file from end n (state-of file names refs rows recs out k) (line-ended file from end h e l) (line-is ∙ d))
+
+-- at most, and not the same
+pub lower : (m n : ℕ) → m ≤ n → (m ≡ n → ⊥) → m < n
+lower m n h e = omega arith
+
+-- cleared slices stand
+pub cleared-standing : {file names refs rows recs out : List ℕ} → Cleared file names refs rows recs out → Standing file names refs rows recs out none-yet
+cleared-standing {file} {names} {refs} {rows} {recs} {out} m =
+    standing-start file names refs rows recs out (m .short) (m .name-room) (m .reference-room) (m .row-room) (m .record-room) (m .list-room) (m .name-zero) (m .row-zero)
+
+-- the macro column changes no state
+opened-state : {file names refs rows recs out names′ : List ℕ} {k : Counts} → Standing file names refs rows recs out k → Opens names recs names′ (k .named) (k .named)
+    → state-of file names refs rows recs out k ≡ state-of file names′ refs rows recs out k
+unfolding state-of terms-in
+opened-state {file} {names} {refs} {rows} {recs} {out} {names′} {k} st o =
+    let kept = table-kept (st .tables .name-table) (o .same .same-length) (λ i l. o .same .same-words i (λ a b. omega arith)) in
+    let beside : Beside file names names′ (k .named) = record {
+      same = kept .name;
+      taken = λ n l. o .same .same-words (taken-column + n) (λ a b. omega arith);
+      first = λ n l. o .same .same-words (first-column + n) (λ a b. omega arith);
+    } in
+    rw (kept .names, decls-longer st beside, roots-longer st beside, terms-named (name-of file names′) (name-of file names) (kept .name) (st .tables .term-table))
+
+-- all lines are read, and the macro column is filled
+pub opened-read : {file names refs rows recs out names₀ refs₀ rows₀ recs₀ out₀ names′ : List ℕ} {k : Counts} {n from : ℕ} → Reading-on file names refs rows recs out k n from
+    → length file ≤ from → Past names₀ refs₀ rows₀ recs₀ out₀ names refs rows recs out → Opens names recs names′ (k .named) (k .named)
+    → File-read file names₀ refs₀ rows₀ recs₀ out₀ names′ refs rows recs out (answer.Read k)
+opened-read {k = k} o h p x = record {
+  reads = all-read {k = k} (on-last o h ∙ ap read (opened-state (o .standing) x)) (standing-filled (o .standing) x);
+  past = record {
+    name-words = same-then (p .name-words) (same-wider (omega arith) (omega arith) (x .same));
+    reference-words = p .reference-words;
+    row-words = p .row-words;
+    record-words = p .record-words;
+    list-words = p .list-words;
+  };
+}

@@ -352,3 +352,13 @@ past-then refs p u = record {
   record-words = u .record-words;
   list-words = u .list-words;
 }
+
+-- one line after the others
+pub past-more : {a b c d e a′ b′ c′ d′ e′ a″ b″ c″ d″ e″ : List ℕ} → Past a b c d e a′ b′ c′ d′ e′ → Past a′ b′ c′ d′ e′ a″ b″ c″ d″ e″ → Past a b c d e a″ b″ c″ d″ e″
+past-more p q = record {
+  name-words = same-then (p .name-words) (q .name-words);
+  reference-words = same-then (p .reference-words) (q .reference-words);
+  row-words = same-then (p .row-words) (q .row-words);
+  record-words = same-then (p .record-words) (q .record-words);
+  list-words = same-then (p .list-words) (q .list-words);
+}

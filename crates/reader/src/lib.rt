@@ -348,3 +348,104 @@ fn read_record(
         RecordKind::Root => read_root(file, names, refs, rows, recs, out, k, n, c),
     }
 }
+
+// Reads a line of a kind, from the field after the kind on.
+fn read_kind(
+    file: &[u8],
+    names: &mut [u32],
+    refs: &mut [u32],
+    rows: &mut [u32],
+    recs: &mut [u32],
+    out: &mut [u32],
+    k: Counts,
+    n: usize,
+    kind: Kind,
+    c: Cursor,
+) -> Step
+    requires { ⌜ Standing (now file) (now names) (now refs) (now rows) (now recs) (now out) k × Placed (now file) c × (n < 4294967296) ⌝ }
+    ensures { λ r. ⌜ Line-read (now (file .entry)) (now (names .entry)) (now (refs .entry)) (now (rows .entry)) (now (recs .entry)) (now (out .entry)) (now (names .exit)) (now (refs .exit)) (now (rows .exit)) (now (recs .exit)) (now (out .exit)) k n (kind-content kind (k .many) (fields-left (now (file .entry)) c)) r ⌝ }
+{
+    match kind {
+        Kind::Ask => read_ask(file, k, c),
+        Kind::Term(t) => fields::read_term(file, names, refs, rows, k, t, c),
+        Kind::Record(r) => read_record(file, names, refs, rows, recs, out, k, n, r, c),
+        Kind::No => Step::Refused(Refusal::Form),
+    }
+}
+
+// Reads the n-th line, from `a` up to `e`, where its 0A stands.
+fn read_line(
+    file: &[u8],
+    names: &mut [u32],
+    refs: &mut [u32],
+    rows: &mut [u32],
+    recs: &mut [u32],
+    out: &mut [u32],
+    k: Counts,
+    n: usize,
+    a: usize,
+    e: usize,
+) -> Step
+    requires { ⌜ Standing (now file) (now names) (now refs) (now rows) (now recs) (now out) k × (a ≤ e) × (e ≤ length (now file)) × (n < 4294967296) ⌝ }
+    ensures { λ r. ⌜ Line-read (now (file .entry)) (now (names .entry)) (now (refs .entry)) (now (rows .entry)) (now (recs .entry)) (now (out .entry)) (now (names .exit)) (now (refs .exit)) (now (rows .exit)) (now (recs .exit)) (now (out .exit)) k n (parse n (k .many) (fields (part (now (file .entry)) a e))) r ⌝ }
+{
+    let c = Cursor { at: a, end: e };
+    match c.field(file) {
+        FieldStep::Part { start, end, next } => {
+            let kind = fields::line_kind(file, n, start, end);
+            if !fields::counted(file, kind, a, e) {
+                return Step::Refused(Refusal::Form);
+            }
+            read_kind(file, names, refs, rows, recs, out, k, n, kind, next)
+        }
+        FieldStep::Refused(r) => Step::Refused(r),
+    }
+}
+
+// Reads a file, line after line, and fills the macro column.
+pub fn read_file(
+    file: &[u8],
+    names: &mut [u32],
+    refs: &mut [u32],
+    rows: &mut [u32],
+    recs: &mut [u32],
+    out: &mut [u32],
+) -> Reading
+    requires { ⌜ Cleared (now file) (now names) (now refs) (now rows) (now recs) (now out) ⌝ }
+    ensures { λ r. ⌜ File-read (now (file .entry)) (now (names .entry)) (now (refs .entry)) (now (rows .entry)) (now (recs .entry)) (now (out .entry)) (now (names .exit)) (now (refs .exit)) (now (rows .exit)) (now (recs .exit)) (now (out .exit)) r ⌝ }
+{
+    if file.len() == 0 {
+        return Reading::Refused(Refusal::Form, 1);
+    }
+    let mut k = Counts {
+        named: 0,
+        used: 0,
+        many: 0,
+        records: 0,
+        entries: 0,
+        uses: 0,
+        mark: 1,
+        query: 0,
+        options: 0,
+    };
+    let mut n: usize = 1;
+    let mut from: usize = 0;
+    while from < file.len() {
+        let end = text::find(file, b'\n', from, file.len());
+        if end == file.len() {
+            return Reading::Refused(Refusal::Form, n);
+        }
+        match read_line(file, names, refs, rows, recs, out, k, n, from, end) {
+            Step::On(next) => {
+                k = next;
+            }
+            Step::Refused(r) => {
+                return Reading::Refused(r, n);
+            }
+        }
+        n += 1;
+        from = end + 1;
+    }
+    records::open_macros(names, recs, k.named);
+    Reading::Read(k)
+}
