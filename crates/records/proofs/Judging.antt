@@ -19,8 +19,8 @@ use Rattle.model.specs.declared.Refusal.{Refusal}
 use Rattle.model.specs.declared.Refusal.the-variants as refusal
 use Rattle.model.proofs.ListLaws.{T-true, T-false, collect-append}
 use Rattle.model.proofs.SetLaws.{mem-intro, mem-elim}
-use Rattle.names.specs.Table.{name-of}
-use Rattle.names.proofs.Laws.{names-length, distinct}
+use Rattle.names.specs.Table.{name-of, names-of}
+use Rattle.names.proofs.Laws.{names-intro, distinct}
 use Rattle.terms.specs.Rows.{terms-of, nodes-below, node-of}
 use Rattle.terms.proofs.Laws.{equal}
 use Rattle.rules.specs.Views.{terms-in}
@@ -137,7 +137,7 @@ module _ (name : ℕ → Name) (recs out : List ℕ) where
   takes-at i (suc (suc (suc k))) h = absurd (omega arith)
 
   -- a name that is taken is that of a record
-  taken-elim : (n : ℕ) {y : Name} → List·Memᴰ y (collect taken-by (decls-of name recs out n))
+  pub taken-elim : (n : ℕ) {y : Name} → List·Memᴰ y (collect taken-by (decls-of name recs out n))
       → (i : ℕ) × (i < n) × (record-kind recs i < retain-kind) × (y ≡ name (record-name recs i))
   unfolding decls-of collect
   taken-elim zero m = absurd (List·Memᴰ·not-nil m)
@@ -164,7 +164,7 @@ module _ (n : ℕ) (s : State) (c : Content) where
   repeats-none e = rw e
 
   -- a line that takes a name
-  repeats-one : {m : Name} → collect taken-by (summarize-decl excluded (s .terms) n c) ≡ m ∷ [] → repeats excluded n s c ≡ (mem m (collect taken-by (s .decls)) || false)
+  pub repeats-one : {m : Name} → collect taken-by (summarize-decl excluded (s .terms) n c) ≡ m ∷ [] → repeats excluded n s c ≡ (mem m (collect taken-by (s .decls)) || false)
   unfolding repeats any
   repeats-one e = rw e
 
@@ -198,3 +198,16 @@ module _ {file names refs rows recs out : List ℕ} {k : Counts} (st : Standing 
           let low = st .recorded .named-in j l (λ z. omega arith) in
           let same = distinct (st .tables .name-table) i (record-name recs j) known low e in
           omega (arith, st .stocked .taken .took j l kind, ap (taken-at names) same)
+
+-- a name that the table does not have is not repeated
+pub repeats-new : {file names refs rows recs out : List ℕ} {k : Counts} → Standing file names refs rows recs out k → (line : ℕ) (c : Content) {m : Name}
+    → collect taken-by (summarize-decl excluded (terms-in file names refs rows (k .used) (k .many)) line c) ≡ m ∷ []
+    → (T (mem m (names-of file names (k .named))) → ⊥) → repeats excluded line (state-of file names refs rows recs out k) c ≡ false
+unfolding state-of
+repeats-new {file} {names} {refs} {rows} {recs} {out} {k} st line c {m} takes absent =
+    let taken = collect taken-by (decls-of (name-of file names) recs out (k .records)) in
+    let new : List·Memᴰ m taken → ⊥ = λ h.
+    let (j, l, kind, e) = taken-elim (name-of file names) recs out (k .records) h in
+    absent (rw e (names-intro file names (k .named) (record-name recs j) (st .recorded .named-in j l (λ z. omega arith)))) in
+    repeats-one line (state-of file names refs rows recs out k) c takes
+    ∙ rw (T-false (mem m taken) (not-T (mem m taken) (λ t. new (mem-elim t))))

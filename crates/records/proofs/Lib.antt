@@ -10,3 +10,4 @@ pub mod Uses
 pub mod Coding
 pub mod Facts
 pub mod Opening
+pub mod Standing

@@ -29,6 +29,38 @@ with-record k named entries uses mark = record {
   options = k .options;
 }
 
+-- the counts before the first line; the first mark is 1, since a cleared slice has marks 0
+abbrev pub no-counts : Counts
+no-counts = record { named = 0; used = 0; many = 0; records = 0; entries = 0; uses = 0; mark = 1; query = 0; options = 0 }
+
+-- the counts with the ask
+abbrev pub with-ask : Counts → ℕ → ℕ → Counts
+with-ask k query options = record {
+  named = k .named;
+  used = k .used;
+  many = k .many;
+  records = k .records;
+  entries = k .entries;
+  uses = k .uses;
+  mark = k .mark;
+  query = query;
+  options = options;
+}
+
+-- the counts with more names, references and terms
+abbrev pub with-terms : Counts → ℕ → ℕ → ℕ → Counts
+with-terms k named used many = record {
+  named = named;
+  used = used;
+  many = many;
+  records = k .records;
+  entries = k .entries;
+  uses = k .uses;
+  mark = k .mark;
+  query = k .query;
+  options = k .options;
+}
+
 -- numbers that fit a word
 pub record Small (k k′ : Counts) (kind line name term flag code : ℕ) : Type 0 where
   pub small-kind : kind < 4294967296

@@ -1,0 +1,5 @@
+pub mod Naming
+pub mod Saying
+pub mod Recording
+pub mod Lifting
+pub mod Lines

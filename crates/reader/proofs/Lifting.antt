@@ -1,0 +1,282 @@
+-- Term lines, `ask` and `retain` as `read-line` has them.
+use Prim.Native.Nat.{ℕ, _+_, _≤_, _<_}
+use native.Mathlib.Omega.{arith}
+use mathlib.Core.Path.{_≡_, refl, sym, ap, _∙_}
+use mathlib.Core.Bool.{false}
+use mathlib.Core.List.{List, [], _∷_, _++_, append-nil}
+use lib.ListN.{length, length-append}
+use Rattle.model.specs.Lists.{collect, fold-left, sum}
+use Rattle.model.specs.Names.{Name}
+use Rattle.model.specs.Lines.{Field}
+use Rattle.model.specs.Terms.{Node, Term, add-term, references}
+use Rattle.model.specs.Reading.{Result, ok, refused, _>>=_, rest, name-field, Content, ask, term, retain, content, State, spell, spelled, spelled-by, trimmed, asked, nodes, summarize-decl, root-of, taken-by, add-line, repeats, most-names}
+use Rattle.model.specs.Outcome.{working-words}
+use Rattle.model.specs.declared.Counts.{Counts}
+use Rattle.model.specs.declared.LineKind.{LineKind}
+use Rattle.model.specs.declared.LineKind.the-variants as kind
+use Rattle.model.specs.declared.Refusal.{Refusal}
+use Rattle.model.specs.declared.Refusal.the-variants as refusal
+use Rattle.model.specs.declared.Step.{Step}
+use Rattle.model.specs.declared.Step.the-variants as step
+use Rattle.model.proofs.ResultLaws.{ok-eq, not-ok}
+use Rattle.text.specs.declared.Cursor.{Cursor}
+use Rattle.text.specs.Parts.{fields-left}
+use Rattle.names.specs.Table.{name-of, names-of}
+use Rattle.rules.specs.Views.{terms-in}
+use Rattle.fields.specs.declared.Upto.{Upto}
+use Rattle.fields.specs.declared.Upto.the-variants as upto
+use Rattle.fields.specs.Spelling.{Naming, in-table, Longer, spell-fields, Spells-rest, all-spelt, rest-not}
+use Rattle.fields.specs.Growing.{with-term, Grown, Passes, names-passed, terms-passed, references-passed, Kept, Grows, grown, over, not-read, Reads-term}
+use Rattle.fields.proofs.Spelling.{naming-table, naming-past, spell-law}
+use Rattle.words.proofs.Slices.{same-self}
+use Rattle.records.specs.States.{state-of, decls-of, roots-of}
+use Rattle.records.specs.Adding.{excluded, Standing, judge, Adds, Untouched}
+use Rattle.records.specs.Adding as adds
+use Rattle.records.proofs.Recording.{decls-stay, roots-stay}
+use Rattle.records.proofs.Judging.{Beyond, many-names, many-terms, many-references, judged-beyond, judged-within, repeats-none}
+use Rattle.records.proofs.Appending.{terms-length, standing-within}
+use Rattle.records.proofs.Funs.{same-wider}
+use Rattle.reader.specs.Lines.{with-names, with-ask, judged, Asks, asks, not-asked, Reads, goes-on, stops, Past, Line-read}
+use Rattle.reader.proofs.Naming.{fold-more, same-records, state-spelled, standing-spelled, retained, line-names, few-names, reads-refused, table-past, spelled-past, past-none, past-names, past-then}
+
+-- ---- a term line
+
+-- a term line takes no name
+term-takes : (ts : List Term) (n : ℕ) (node : Node) → collect taken-by (summarize-decl excluded ts n (term node)) ≡ []
+unfolding collect summarize-decl
+term-takes ts n node = refl
+
+-- the state with a term line
+term-line : (n : ℕ) (s : State) (node : Node) → add-line excluded n s (term node) ≡ record {
+  goal = s .goal;
+  terms = add-term (s .terms) node;
+  names = fold-left spell (s .names) (spelled-by node);
+  decls = s .decls;
+  roots = s .roots;
+  references = s .references + length (references node);
+  entries = s .entries;
+  uses = s .uses;
+}
+unfolding add-line asked nodes spelled trimmed summarize-decl root-of fold-left collect sum
+term-line n s node =
+    let a : s .entries + 0 ≡ s .entries = omega arith in
+    let b : s .uses + (0 + 0) ≡ s .uses = omega arith in
+    rw (append-nil (spelled-by node), append-nil (s .decls), append-nil (s .roots), append-nil (references node), a, b)
+
+-- one term more
+one-more : (ts : List Term) (node : Node) → length (add-term ts node) ≡ length ts + 1
+unfolding add-term
+one-more ts node = simp length-append
+
+module _ {file names refs rows recs out names′ refs′ rows′ : List ℕ} {k : Counts} (n : ℕ) (st : Standing file names refs rows recs out k) where
+  -- the state then
+  grown-state : {node : Node} {named′ used′ : ℕ} → Grown file names refs rows names′ refs′ rows′ k node named′ used′
+      → add-line excluded n (state-of file names refs rows recs out k) (term node) ≡ state-of file names′ refs′ rows′ recs out (with-term k named′ used′)
+  unfolding state-of with-term
+  grown-state {node} g =
+      term-line n (state-of file names refs rows recs out k) node
+      ∙ rw (
+        g .terms,
+        g .spelt,
+        g .used,
+        decls-stay (same-records st (g .longer)) (st .recorded) (k .records) (omega arith),
+        roots-stay (same-records st (g .longer)) (st .recorded) (k .records) (omega arith),
+      )
+
+  line-beyond : {node : Node} → Passes file names refs rows names′ refs′ rows′ k node → Beyond (add-line excluded n (state-of file names refs rows recs out k) (term node))
+  unfolding state-of
+  line-beyond {node} (names-passed h) = rw (term-line n (state-of file names refs rows recs out k) node) (many-names h)
+  line-beyond {node} (terms-passed h) = rw (term-line n (state-of file names refs rows recs out k) node)
+      (many-terms (omega (arith, one-more (terms-in file names refs rows (k .used) (k .many)) node, terms-length file names refs rows (k .used) (k .many))))
+  line-beyond {node} (references-passed h) = rw (term-line n (state-of file names refs rows recs out k) node) (many-references h)
+
+  -- a limit that is passed
+  grown-beyond : {node : Node} → Passes file names refs rows names′ refs′ rows′ k node → judge n (state-of file names refs rows recs out k) (term node) ≡ refused refusal.Limit
+  grown-beyond {node} p = judged-beyond n (state-of file names refs rows recs out k) (term node)
+      (repeats-none n (state-of file names refs rows recs out k) (term node) (term-takes _ n node))
+      (line-beyond p)
+
+  -- the tables stand
+  grown-standing : {node : Node} {named′ used′ : ℕ} → Grown file names refs rows names′ refs′ rows′ k node named′ used′ → Kept names refs rows names′ refs′ rows′
+      → Standing file names′ refs′ rows′ recs out (with-term k named′ used′)
+  unfolding with-term
+  grown-standing g kept =
+      let s = standing-spelled st (g .longer) (g .tables .name-table) in
+      record {
+        tables = g .tables;
+        recorded = s .recorded;
+        fresh = record {
+          row-marks = λ t l. rw (kept .rows-kept .same-words (12288 + t) (λ a b. omega arith)) (st .fresh .row-marks t l);
+          name-marks = s .fresh .name-marks;
+        };
+        few-marks = s .few-marks;
+        stocked = s .stocked;
+      }
+
+  -- what reading a term line comes to
+  term-reads : {said : Result Content} {f : Step} → Kept names refs rows names′ refs′ rows′ → Grows file names refs rows names′ refs′ rows′ k said f
+      → Reads file names′ refs′ rows′ recs out n (state-of file names refs rows recs out k) said f
+  unfolding judged
+  term-reads kept (grown {node} {named′} {used′} e g) = goes-on {k′ = with-term k named′ used′}
+      (rw e (judged-within n (state-of file names refs rows recs out k) (term node)
+      (repeats-none n (state-of file names refs rows recs out k) (term node) (term-takes _ n node))
+      (grown-state g) (standing-within (grown-standing g kept))))
+      (grown-standing g kept)
+  term-reads kept (over {node} e p) = stops {x = refusal.Limit} (rw e (grown-beyond p))
+  term-reads kept (not-read {x} e) = reads-refused x e
+
+  pub term-read : {said : LineKind} {c : Cursor} {f : Step} → Reads-term file names refs rows names′ refs′ rows′ k said c f
+      → Line-read file names refs rows recs out names′ refs′ rows′ recs out k n (content said (k .many) (fields-left file c)) f
+  term-read r = record {
+    reads = term-reads (r .kept) (r .grows);
+    past = record {
+      name-words = same-wider (omega arith) (omega arith) (r .kept .names-kept);
+      reference-words = r .kept .refs-kept;
+      row-words = same-wider (omega arith) (omega arith) (r .kept .rows-kept);
+      record-words = same-self 0 working-words recs;
+      list-words = same-self 0 working-words out;
+    };
+  }
+
+-- ---- an ask
+
+-- an ask takes no name
+ask-takes : (ts : List Term) (n q options : ℕ) → collect taken-by (summarize-decl excluded ts n (ask q options)) ≡ []
+unfolding collect summarize-decl
+ask-takes ts n q options = refl
+
+-- the state with an ask
+ask-line : (n : ℕ) (s : State) (q options : ℕ) → add-line excluded n s (ask q options) ≡ record {
+  goal = record { query = q; options = options };
+  terms = s .terms;
+  names = s .names;
+  decls = s .decls;
+  roots = s .roots;
+  references = s .references;
+  entries = s .entries;
+  uses = s .uses;
+}
+unfolding add-line asked nodes spelled trimmed summarize-decl root-of fold-left collect sum
+ask-line n s q options =
+    let a : s .entries + 0 ≡ s .entries = omega arith in
+    let b : s .uses + (0 + 0) ≡ s .uses = omega arith in
+    let c : s .references + 0 ≡ s .references = omega arith in
+    rw (append-nil (s .decls), append-nil (s .roots), a, b, c)
+
+module _ {file names refs rows recs out : List ℕ} {k : Counts} (n : ℕ) (st : Standing file names refs rows recs out k) where
+  -- the tables stand under another ask
+  ask-standing : (q options : ℕ) → Standing file names refs rows recs out (with-ask k q options)
+  ask-standing q options = record {
+    tables = st .tables;
+    recorded = st .recorded;
+    fresh = st .fresh;
+    few-marks = st .few-marks;
+    stocked = st .stocked;
+  }
+
+  ask-state : (q options : ℕ) → add-line excluded n (state-of file names refs rows recs out k) (ask q options) ≡ state-of file names refs rows recs out (with-ask k q options)
+  unfolding state-of
+  ask-state q options = ask-line n (state-of file names refs rows recs out k) q options
+
+  -- what reading an ask comes to
+  pub ask-read : {said : Result Content} {f : Step} → Asks k said f → Line-read file names refs rows recs out names refs rows recs out k n said f
+  unfolding judged
+  ask-read a = record { reads = go a; past = past-none names refs rows recs out }
+    where
+      go : {said : Result Content} {f : Step} → Asks k said f → Reads file names refs rows recs out n (state-of file names refs rows recs out k) said f
+      go (asks {q} {options} e) = goes-on {k′ = with-ask k q options}
+          (ap (λ r. judged n (state-of file names refs rows recs out k) r) e
+          ∙ judged-within n (state-of file names refs rows recs out k) (ask q options)
+          (repeats-none n (state-of file names refs rows recs out k) (ask q options) (ask-takes _ n q options))
+          (ask-state q options) (standing-within (ask-standing q options)))
+          (ask-standing q options)
+      go (not-asked {x} e) = reads-refused x e
+
+-- ---- a retain
+
+-- a retain takes no name
+retain-takes : (ts : List Term) (n : ℕ) (ms : List Name) → collect taken-by (summarize-decl excluded ts n (retain ms)) ≡ []
+unfolding collect taken-by summarize-decl
+retain-takes ts n ms = refl
+
+-- the names that were spelled, as the line says them
+retain-said : (count : ℕ) (ns : List Name) (fs : List Field) {ls : List Name} → spell-fields ns fs ≡ ok ls
+    → (ms : List Name) × (content kind.Retain count fs ≡ ok (retain ms)) × (fold-left spell ns ms ≡ ls)
+unfolding content
+retain-said count ns fs {ls} e = go (rest name-field fs) refl (sym (spell-law ns fs) ∙ e)
+  where
+    go : (r : Result (List Name)) → rest name-field fs ≡ r → (r >>= λ ms. ok (fold-left spell ns ms)) ≡ ok ls
+        → (ms : List Name) × ((rest name-field fs >>= λ names. ok (retain names)) ≡ ok (retain ms)) × (fold-left spell ns ms ≡ ls)
+    go (ok ms) q x = (ms, rw q refl, ok-eq x)
+    go (refused y) q x = absurd (not-ok x)
+
+retain-refused : (count : ℕ) (ns : List Name) (fs : List Field) {x : Refusal} → spell-fields ns fs ≡ refused x → content kind.Retain count fs ≡ refused x
+unfolding content
+retain-refused count ns fs {x} e = go (rest name-field fs) (sym (spell-law ns fs) ∙ e)
+  where
+    go : (r : Result (List Name)) → (r >>= λ ms. ok (fold-left spell ns ms)) ≡ refused x → (r >>= λ names. ok (retain names)) ≡ refused x
+    go (ok ms) q = absurd (not-ok (sym q))
+    go (refused y) q = cc
+
+module _ {file names refs rows recs out names′ : List ℕ} {k : Counts} (n : ℕ) (st : Standing file names refs rows recs out k) where
+  -- the names then, as those of the model
+  retain-there : {named′ : ℕ} {ns : List Name} (ms : List Name) → Naming file names′ named′ ns → Longer file names names′ (k .named) named′
+      → fold-left spell (names-of file names (k .named)) ms ≡ ns → named′ ≤ most-names
+      → judge n (state-of file names refs rows recs out k) (retain ms) ≡ judge n (state-of file names′ refs rows recs out (with-names k named′)) (retain [])
+  unfolding state-of
+  retain-there ms naming longer e h =
+      retained n (state-of file names refs rows recs out k) ms
+      ∙ ap (λ t. judge n t (retain [])) (sym (state-spelled st longer (naming-table naming h .1 ∙ sym e)))
+
+  -- more names than may be
+  retain-crowded : {named′ : ℕ} {ns : List Name} (ms : List Name) → Naming file names′ named′ ns → fold-left spell (names-of file names (k .named)) ms ≡ ns
+      → most-names < named′ → judge n (state-of file names refs rows recs out k) (retain ms) ≡ refused refusal.Limit
+  unfolding state-of add-line spelled trimmed
+  retain-crowded ms naming e h =
+      judged-beyond n (state-of file names refs rows recs out k) (retain ms) (repeats-none n (state-of file names refs rows recs out k) (retain ms) (retain-takes _ n ms))
+      (many-names (rw (append-nil ms, e) (naming-past naming h)))
+
+module _ {file names refs rows recs out names′ : List ℕ} {k : Counts} (n : ℕ) {fs : List Field} (st : Standing file names refs rows recs out k) where
+  -- the tables with the names spelled
+  pub rest-standing : {u : Upto} {named′ : ℕ} {after : Cursor} {next : Counts} → Spells-rest file names names′ (k .named) fs u → u ≡ upto.At named′ after
+      → next ≡ with-names k named′ → next .named ≤ most-names → Standing file names′ refs rows recs out next
+  rest-standing {u} {named′} {after} {next} r e q = go (rw e at r) q
+    where
+      go : Spells-rest file names names′ (k .named) fs (upto.At named′ after) → next ≡ with-names k named′
+          → next .named ≤ most-names → Standing file names′ refs rows recs out next
+      go (all-spelt run naming longer) d = rw d (λ h. standing-spelled st longer (naming-table naming h .0))
+
+  -- a `retain`
+  pub retain-line : {u : Upto} {named′ : ℕ} {after : Cursor} {next : Counts} {recs″ : List ℕ} {f : Step}
+      → Spells-rest file names names′ (k .named) fs u → u ≡ upto.At named′ after → next ≡ with-names k named′
+      → Adds file names′ refs rows recs out names′ rows recs″ out next n (retain []) f → Untouched names′ rows recs out names′ rows recs″ out
+      → Line-read file names refs rows recs out names′ refs rows recs″ out k n (content kind.Retain (k .many) fs) f
+  unfolding judged
+  retain-line {u} {named′} {after} {next} {recs″} r e q a x = go (rw e at r) (rw q at a)
+    where
+      reads : {f : Step} {ns : List Name} (ms : List Name) → Naming file names′ named′ ns → Longer file names names′ (k .named) named′
+          → content kind.Retain (k .many) fs ≡ ok (retain ms) → fold-left spell (names-of file names (k .named)) ms ≡ ns
+          → Adds file names′ refs rows recs out names′ rows recs″ out (with-names k named′) n (retain []) f
+          → Reads file names′ refs rows recs″ out n (state-of file names refs rows recs out k) (content kind.Retain (k .many) fs) f
+      reads ms naming longer d z (adds.full h) = stops {x = refusal.Limit} (rw d (retain-crowded n st ms naming z h))
+      reads ms naming longer d z (adds.stops {x} h j) = stops {x = x} (rw d (retain-there n st ms naming longer z h ∙ j))
+      reads ms naming longer d z (adds.added {k′} j y) = goes-on {k′ = k′} (rw d (retain-there n st ms naming longer z (few-names file names′ refs rows recs out k named′ n (retain []) j y) ∙ j)) y
+
+      go : {f : Step} → Spells-rest file names names′ (k .named) fs (upto.At named′ after)
+          → Adds file names′ refs rows recs out names′ rows recs″ out (with-names k named′) n (retain []) f
+          → Line-read file names refs rows recs out names′ refs rows recs″ out k n (content kind.Retain (k .many) fs) f
+      go (all-spelt {ns} run naming longer) b =
+          let (ms, d, z) = retain-said (k .many) (names-of file names (k .named)) fs run in
+          record { reads = reads ms naming longer d z b; past = past-then refs (spelled-past longer) x }
+
+  -- a name is refused
+  pub retain-not : {u : Upto} {x : Refusal} → Spells-rest file names names′ (k .named) fs u → u ≡ upto.Refused x
+      → Line-read file names refs rows recs out names′ refs rows recs out k n (content kind.Retain (k .many) fs) (step.Refused x)
+  retain-not {u} {x} r e = go (rw e at r)
+    where
+      go : Spells-rest file names names′ (k .named) fs (upto.Refused x)
+          → Line-read file names refs rows recs out names′ refs rows recs out k n (content kind.Retain (k .many) fs) (step.Refused x)
+      go (rest-not d y) = record {
+        reads = reads-refused x (retain-refused (k .many) (names-of file names (k .named)) fs d);
+        past = past-names refs rows recs out (table-past y);
+      }

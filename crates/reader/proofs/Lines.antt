@@ -1,0 +1,256 @@
+-- The form of a line, and the loop over the lines of a file.
+use Prim.Native.Nat.{ℕ, zero, suc, _+_, _-_, _≤_, _<_}
+use native.Mathlib.Omega.{arith}
+use mathlib.Core.Path.{_≡_, refl, sym, ap, ap₂, _∙_}
+use mathlib.Core.Bool.{Bool, true, false, cond, not}
+use mathlib.Core.List.{List, [], _∷_, _++_}
+use lib.ListN.{length, getD, drop}
+use Rattle.model.specs.Lists.{fold-left, part}
+use Rattle.model.specs.Lines.{Line, lines, Field, fields}
+use Rattle.model.specs.Reading.{Result, ok, refused, _>>=_, next, kind-field, content, parse, State, start, Reading, read, refused-at, go-on, read-line, read-lines, read-file, Content}
+use Rattle.model.specs.Outcome.{most-bytes, working-words}
+use Rattle.model.specs.declared.Counts.{Counts}
+use Rattle.model.specs.declared.Refusal.{Refusal}
+use Rattle.model.specs.declared.Refusal.the-variants as refusal
+use Rattle.model.specs.declared.Step.{Step}
+use Rattle.model.specs.declared.Step.the-variants as step
+use Rattle.model.proofs.ResultLaws.{ok-eq, not-ok}
+use Rattle.text.specs.declared.Cursor.{Cursor}
+use Rattle.text.specs.declared.FieldStep.{FieldStep}
+use Rattle.text.specs.declared.FieldStep.the-variants as field
+use Rattle.text.specs.Parts.{mark-at, Placed, fields-left, field-at, field-result}
+use Rattle.text.proofs.Laws.{field-law, field-some, left-some, field-next, line-ended, line-last, line-none, mark-from}
+use Rattle.names.specs.Table.{Table, name-of, names-of}
+use Rattle.names.proofs.Laws.{empty-table}
+use Rattle.terms.specs.Rows.{terms-of, nodes-below}
+use Rattle.terms.proofs.Table.{empty-rows}
+use Rattle.words.specs.Slices.{Same-but}
+use Rattle.gather.specs.Sets.{Fresh}
+use Rattle.rules.specs.Views.{Tables, terms-in}
+use Rattle.fields.specs.declared.Kind.{Kind}
+use Rattle.fields.specs.declared.Kind.the-variants as kinded
+use Rattle.fields.specs.Wording.{kind-result, well-counted}
+use Rattle.fields.proofs.Words.{parse-law}
+use Rattle.words.proofs.Slices.{same-then}
+use Rattle.records.specs.States.{decls-of, roots-of, state-of}
+use Rattle.records.specs.Filing.{Records, newest}
+use Rattle.records.specs.Columns.{taken-column, first-column}
+use Rattle.records.specs.Macros.{Opens, Filled}
+use Rattle.records.proofs.Standing.{Beside, standing-start, decls-longer, roots-longer, standing-filled}
+use Rattle.records.proofs.Funs.{same-wider}
+use Rattle.names.proofs.Coded.{table-kept}
+use Rattle.terms.proofs.Table.{terms-named}
+
+use Rattle.records.specs.Adding.{excluded, Standing, judge}
+use Rattle.records.proofs.Judging.{line-judged}
+use Rattle.records.proofs.Appending.{terms-length}
+use Rattle.reader.specs.declared.Reading.{Reading as Answer}
+use Rattle.reader.specs.declared.Reading.the-variants as answer
+use Rattle.reader.specs.Lines.{judged, kind-content, none-yet, Reads, goes-on, stops, Past, Line-read, Cleared, Reads-file, all-read, read-stops, File-read}
+
+-- ---- the form of a line
+
+-- a field that is next is the first
+next-first : (fs : List Field) {f : Field} {gs : List Field} → next ok fs ≡ ok (f, gs) → fs ≡ f ∷ gs
+unfolding next
+next-first [] e = absurd (not-ok e)
+next-first (x ∷ xs) e = let q = ok-eq e in ap₂ _∷_ (ap (λ y. y .0) q) (ap (λ y. y .1) q)
+
+module _ (file : List ℕ) (a e : ℕ) (h : a ≤ e) (l : e ≤ length file) (short : length file ≤ most-bytes) where
+  -- the cursor at the start of the line
+  abbrev at-start : Cursor
+  at-start = record { at = a; end = e }
+
+  -- the fields of a line: the first, and those after it
+  pub fields-first : {s t : ℕ} {n : Cursor} {r : FieldStep} → r ≡ field-at file at-start → r ≡ field.Part s t n
+      → fields (part file a e) ≡ part file s t ∷ fields-left file n
+  unfolding field-result
+  fields-first p q = sym (left-some file at-start h)
+      ∙ next-first (fields-left file at-start)
+      (sym (field-law file at-start (record { inside = l; short = short })) ∙ ap (field-result file) (sym p ∙ q))
+
+  -- there is one
+  pub field-there : {x : Refusal} {r : FieldStep} → r ≡ field-at file at-start → r ≡ field.Refused x → ⊥
+  field-there p q =
+      let w = field-some file at-start (mark-at 0x2c file a e) h refl in
+      let z : _≡_ {A = ℕ} 0 1 = cc in omega arith
+
+-- the first field lies in the line, and the next cursor past it
+pub field-placed : {file : List ℕ} {a e s t : ℕ} {n : Cursor} {r : FieldStep} → a ≤ e → e ≤ length file → length file ≤ most-bytes
+    → r ≡ field-at file (record { at = a; end = e }) → r ≡ field.Part s t n → Placed file n × (s ≤ t) × (t ≤ length file)
+field-placed {file} {a} {e} {s} {t} {n} h l short p q =
+    let x = field-next file (record { at = a; end = e }) (record { inside = l; short = short }) s t n (sym p ∙ q) in
+    (x .onward .placed, x .ordered, x .inside)
+
+-- a test whose opposite holds fails
+pub not-true : {x b : Bool} → x ≡ b → not x ≡ true → false ≡ b
+not-true {x} {b} e h = go x e h
+  where
+    go : (x : Bool) → x ≡ b → not x ≡ true → false ≡ b
+    go true q z = let w : _≡_ {A = ℕ} 0 1 = cc in absurd (omega arith)
+    go false q z = q
+
+-- and one whose opposite fails holds
+pub not-false : {x b : Bool} → x ≡ b → not x ≡ false → true ≡ b
+not-false {x} {b} e h = go x e h
+  where
+    go : (x : Bool) → x ≡ b → not x ≡ false → true ≡ b
+    go true q z = q
+    go false q z = let w : _≡_ {A = ℕ} 0 1 = cc in absurd (omega arith)
+
+module _ (n count : ℕ) {all : List Field} {f : Field} {fs : List Field} (d : all ≡ f ∷ fs) (k : Kind) (q : kind-result k ≡ kind-field n f) where
+  -- the number of fields is right
+  pub parse-on : true ≡ well-counted k all → parse n count all ≡ kind-content k count fs
+  unfolding kind-content
+  parse-on c = ap (parse n count) d ∙ parse-law n count f fs k q
+      ∙ ap (λ b. kind-result k >>= λ l. cond b (content l count fs) (refused refusal.Form)) (sym (c ∙ ap (well-counted k) d))
+
+  -- it is not
+  pub parse-count : false ≡ well-counted k all → parse n count all ≡ refused refusal.Form
+  unfolding kind-result
+  parse-count c = ap (parse n count) d ∙ parse-law n count f fs k q
+      ∙ ap (λ b. kind-result k >>= λ l. cond b (content l count fs) (refused refusal.Form)) (sym (c ∙ ap (well-counted k) d))
+      ∙ go k
+    where
+      go : (k : Kind) → _≡_ {A = Result Content} (kind-result k >>= λ l. refused refusal.Form) (refused refusal.Form)
+      go kinded.Ask = refl
+      go (kinded.Term t) = refl
+      go (kinded.Record r) = refl
+      go kinded.No = refl
+
+-- ---- the loop over lines
+
+-- the lines of a file that has some
+file-lines : (file : List ℕ) → (length file ≡ 0 → ⊥) → read-file excluded file ≡ read-lines excluded 1 start (lines file)
+unfolding read-file
+file-lines [] h = absurd (h refl)
+file-lines (b ∷ bs) h = refl
+
+-- no line
+pub no-lines : (file : List ℕ) → length file ≡ 0 → read-file excluded file ≡ refused-at refusal.Form 1
+unfolding read-file
+no-lines [] h = refl
+no-lines (b ∷ bs) h = absurd (omega arith)
+
+-- the state before line 1
+start-state : (file names refs rows recs out : List ℕ) → start ≡ state-of file names refs rows recs out none-yet
+unfolding start state-of terms-in terms-of nodes-below fold-left names-of decls-of roots-of
+start-state file names refs rows recs out = refl
+
+-- one line of some
+one-line : (file : List ℕ) (from end n : ℕ) (s : State) {s′ : State}
+    → lines (drop from file) ≡ record { bytes = part file from end; ended = true } ∷ lines (drop (end + 1) file)
+    → read-line excluded n s (record { bytes = part file from end; ended = true }) ≡ ok s′
+    → read-lines excluded n s (lines (drop from file)) ≡ read-lines excluded (n + 1) s′ (lines (drop (end + 1) file))
+unfolding read-lines go-on
+one-line file from end n s p q = rw (p, q)
+
+-- a line that is refused
+one-refused : (file : List ℕ) (from end n : ℕ) (s : State) {x : Refusal}
+    → lines (drop from file) ≡ record { bytes = part file from end; ended = true } ∷ lines (drop (end + 1) file)
+    → read-line excluded n s (record { bytes = part file from end; ended = true }) ≡ refused x
+    → read-lines excluded n s (lines (drop from file)) ≡ refused-at x n
+unfolding read-lines go-on
+one-refused file from end n s p q = rw (p, q)
+
+-- the loop's state: what is left to read, from the tables as they are
+pub record Reading-on (file names refs rows recs out : List ℕ) (k : Counts) (n from : ℕ) : Type 0 where
+  pub run : read-file excluded file ≡ read-lines excluded n (state-of file names refs rows recs out k) (lines (drop from file))
+  pub standing : Standing file names refs rows recs out k
+  pub inside : from ≤ length file
+  pub counts : n ≤ from + 1
+  pub short : length file ≤ most-bytes
+
+-- before the first line of cleared slices
+pub on-first : {file names refs rows recs out : List ℕ} → Cleared file names refs rows recs out → Standing file names refs rows recs out none-yet → (length file ≡ 0 → ⊥)
+    → Reading-on file names refs rows recs out none-yet 1 0
+on-first {file} {names} {refs} {rows} {recs} {out} m st h = record {
+  run = file-lines file h ∙ ap (λ s. read-lines excluded 1 s (lines file)) (start-state file names refs rows recs out);
+  standing = st;
+  inside = omega arith;
+  counts = omega arith;
+  short = m .short;
+}
+
+module _ {file names refs rows recs out : List ℕ} {k : Counts} {n from : ℕ} (o : Reading-on file names refs rows recs out k n from) where
+  -- no line is left
+  pub on-last : length file ≤ from → read-file excluded file ≡ read (state-of file names refs rows recs out k)
+  unfolding read-lines
+  on-last h = o .run ∙ rw (line-none file from h)
+
+  -- a last line without its 0A
+  pub on-open : {end : ℕ} → from < length file → end ≡ mark-at 0x0a file from (length file) → end ≡ length file
+      → Reads-file file names refs rows recs out (answer.Refused refusal.Form n)
+  unfolding read-lines read-line go-on
+  on-open {end} h e l = read-stops {x = refusal.Form} {n = n} (o .run ∙ rw (line-last file from end h e l))
+
+  module _ {end : ℕ} (h : from < length file) (e : end ≡ mark-at 0x0a file from (length file)) (l : end < length file)
+      {names′ refs′ rows′ recs′ out′ : List ℕ} {f : Step}
+      (r : Reads file names′ refs′ rows′ recs′ out′ n (state-of file names refs rows recs out k) (parse n (k .many) (fields (part file from end))) f) where
+    -- what the line comes to
+    line-is : read-line excluded n (state-of file names refs rows recs out k) (record { bytes = part file from end; ended = true })
+        ≡ judged n (state-of file names refs rows recs out k) (parse n (k .many) (fields (part file from end)))
+    unfolding state-of judged
+    line-is = line-judged n (state-of file names refs rows recs out k) (part file from end)
+        ∙ ap (λ m. parse n m (fields (part file from end)) >>= judge n (state-of file names refs rows recs out k))
+        (terms-length file names refs rows (k .used) (k .many))
+
+    -- on with the next line
+    pub on-next : {k′ : Counts} → f ≡ step.On k′ → Reading-on file names′ refs′ rows′ recs′ out′ k′ (n + 1) (end + 1)
+    on-next {k′} q = go (rw q at r)
+      where
+        go : Reads file names′ refs′ rows′ recs′ out′ n (state-of file names refs rows recs out k) (parse n (k .many) (fields (part file from end))) (step.On k′)
+            → Reading-on file names′ refs′ rows′ recs′ out′ k′ (n + 1) (end + 1)
+        go (goes-on d y) = record {
+          run = o .run ∙ one-line file from end n (state-of file names refs rows recs out k) (line-ended file from end h e l) (line-is ∙ d);
+          standing = y;
+          inside = omega arith;
+          counts = omega (arith, o .counts, mark-from end 0x0a file from (length file) e);
+          short = o .short;
+        }
+
+    -- the line is refused
+    pub on-refused : {x : Refusal} → f ≡ step.Refused x → Reads-file file names′ refs′ rows′ recs′ out′ (answer.Refused x n)
+    on-refused {x} q = go (rw q at r)
+      where
+        go : Reads file names′ refs′ rows′ recs′ out′ n (state-of file names refs rows recs out k) (parse n (k .many) (fields (part file from end))) (step.Refused x)
+            → Reads-file file names′ refs′ rows′ recs′ out′ (answer.Refused x n)
+        go (stops d) = read-stops {x = x} {n = n}
+            (o .run ∙ one-refused file from end n (state-of file names refs rows recs out k) (line-ended file from end h e l) (line-is ∙ d))
+
+-- at most, and not the same
+pub lower : (m n : ℕ) → m ≤ n → (m ≡ n → ⊥) → m < n
+lower m n h e = omega arith
+
+-- cleared slices stand
+pub cleared-standing : {file names refs rows recs out : List ℕ} → Cleared file names refs rows recs out → Standing file names refs rows recs out none-yet
+cleared-standing {file} {names} {refs} {rows} {recs} {out} m =
+    standing-start file names refs rows recs out (m .short) (m .name-room) (m .reference-room) (m .row-room) (m .record-room) (m .list-room) (m .name-zero) (m .row-zero)
+
+-- the macro column changes no state
+opened-state : {file names refs rows recs out names′ : List ℕ} {k : Counts} → Standing file names refs rows recs out k → Opens names recs names′ (k .named) (k .named)
+    → state-of file names refs rows recs out k ≡ state-of file names′ refs rows recs out k
+unfolding state-of terms-in
+opened-state {file} {names} {refs} {rows} {recs} {out} {names′} {k} st o =
+    let kept = table-kept (st .tables .name-table) (o .same .same-length) (λ i l. o .same .same-words i (λ a b. omega arith)) in
+    let beside : Beside file names names′ (k .named) = record {
+      same = kept .name;
+      taken = λ n l. o .same .same-words (taken-column + n) (λ a b. omega arith);
+      first = λ n l. o .same .same-words (first-column + n) (λ a b. omega arith);
+    } in
+    rw (kept .names, decls-longer st beside, roots-longer st beside, terms-named (name-of file names′) (name-of file names) (kept .name) (st .tables .term-table))
+
+-- all lines are read, and the macro column is filled
+pub opened-read : {file names refs rows recs out names₀ refs₀ rows₀ recs₀ out₀ names′ : List ℕ} {k : Counts} {n from : ℕ} → Reading-on file names refs rows recs out k n from
+    → length file ≤ from → Past names₀ refs₀ rows₀ recs₀ out₀ names refs rows recs out → Opens names recs names′ (k .named) (k .named)
+    → File-read file names₀ refs₀ rows₀ recs₀ out₀ names′ refs rows recs out (answer.Read k)
+opened-read {k = k} o h p x = record {
+  reads = all-read {k = k} (on-last o h ∙ ap read (opened-state (o .standing) x)) (standing-filled (o .standing) x);
+  past = record {
+    name-words = same-then (p .name-words) (same-wider (omega arith) (omega arith) (x .same));
+    reference-words = p .reference-words;
+    row-words = p .row-words;
+    record-words = p .record-words;
+    list-words = p .list-words;
+  };
+}

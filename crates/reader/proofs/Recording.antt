@@ -1,0 +1,172 @@
+-- The record lines as `read-line` has them: what is left of a line after its name, and the record that it adds.
+use Prim.Native.Nat.{ℕ, _+_, _≤_, _<_}
+use native.Mathlib.Omega.{arith}
+use mathlib.Core.Path.{_≡_, refl, sym, ap, _∙_}
+use mathlib.Core.Bool.{Bool, false}
+use mathlib.Core.List.{List, [], _∷_}
+use lib.ListN.{length}
+use lib.Dec.{eqb}
+use Rattle.model.specs.Lists.{collect}
+use Rattle.model.specs.Names.{Name}
+use Rattle.model.specs.Lines.{Field}
+use Rattle.model.specs.Terms.{Term}
+use Rattle.model.specs.Reading.{Result, ok, refused, next, name-field, Content, assume, fun, def, root, content, State, spelled, taken-by, summarize-decl, repeats, most-names}
+use Rattle.model.specs.declared.Counts.{Counts}
+use Rattle.model.specs.declared.LineKind.the-variants as kind
+use Rattle.model.specs.declared.Refusal.{Refusal}
+use Rattle.model.specs.declared.Refusal.the-variants as refusal
+use Rattle.model.specs.declared.Step.{Step}
+use Rattle.model.specs.declared.Step.the-variants as step
+use Rattle.text.specs.declared.Cursor.{Cursor}
+use Rattle.text.specs.Parts.{Placed, fields-left}
+use Rattle.names.specs.Table.{name-of}
+use Rattle.fields.specs.declared.Kind.{Kind}
+use Rattle.fields.specs.declared.Kind.the-variants as kinded
+use Rattle.fields.specs.declared.TermKind.{TermKind}
+use Rattle.fields.specs.declared.RecordKind.{RecordKind}
+use Rattle.fields.specs.Wording.{kind-result, term-kind, record-kind}
+use Rattle.fields.specs.declared.Word.{Word}
+use Rattle.fields.specs.declared.Word.the-variants as word
+use Rattle.fields.specs.Spelling.{Begun, table-there, Reads-name}
+use Rattle.fields.proofs.Spelling.{Name-read, reads-name, reads-not}
+use Rattle.words.proofs.Slices.{same-self}
+use Rattle.records.specs.States.{state-of}
+use Rattle.records.specs.Adding.{excluded, Standing, Adds, Untouched}
+use Rattle.records.proofs.Judging.{repeats-none}
+use Rattle.reader.specs.Lines.{with-names, kind-content, last-field, fact-said, root-said, Adds-fact, fact-adds, fact-stops, Reads, Past, Line-read}
+use Rattle.reader.proofs.Naming.{not-taken, record-reads, reads-refused, table-past, spelled-past, past-none, past-names, past-then}
+use Rattle.reader.proofs.Saying.{end-none, end-more, fun-said, fun-more, fun-not, def-said, def-term-not, def-not, assume-said, assume-not, root-is, root-term-not, root-name-not}
+
+-- ---- the name that a record spells and takes
+
+fun-name : (x : Name) → spelled (fun x) ≡ x ∷ []
+unfolding spelled
+fun-name x = refl
+
+def-name : (t : ℕ) (x : Name) → spelled (def x t) ≡ x ∷ []
+unfolding spelled
+def-name t x = refl
+
+assume-name : (flag : Bool) (t : ℕ) (x : Name) → spelled (assume x flag t) ≡ x ∷ []
+unfolding spelled
+assume-name flag t x = refl
+
+root-name : (q t : ℕ) (x : Name) → spelled (root q x t) ≡ x ∷ []
+unfolding spelled
+root-name q t x = refl
+
+fun-takes : (terms : List Term) (n : ℕ) (x : Name) → collect taken-by (summarize-decl excluded terms n (fun x)) ≡ x ∷ []
+unfolding collect taken-by summarize-decl
+fun-takes terms n x = refl
+
+def-takes : (terms : List Term) (n t : ℕ) (x : Name) → collect taken-by (summarize-decl excluded terms n (def x t)) ≡ x ∷ []
+unfolding collect taken-by summarize-decl
+def-takes terms n t x = refl
+
+assume-takes : (terms : List Term) (n : ℕ) (flag : Bool) (t : ℕ) (x : Name) → collect taken-by (summarize-decl excluded terms n (assume x flag t)) ≡ x ∷ []
+unfolding collect taken-by summarize-decl Rattle.model.specs.Summaries.summarize-assumption
+assume-takes terms n flag t x = refl
+
+root-takes : (terms : List Term) (n q t : ℕ) (x : Name) → collect taken-by (summarize-decl excluded terms n (root q x t)) ≡ []
+unfolding collect summarize-decl
+root-takes terms n q t x = refl
+
+-- ---- the lines
+
+-- a name is read from the table
+pub begins : {file names refs rows recs out : List ℕ} {k : Counts} → Standing file names refs rows recs out k → Begun file names (k .named)
+begins st = table-there (st .tables .name-table)
+
+-- nothing is written where fields are refused
+pub line-not : (file names refs rows recs out : List ℕ) (k : Counts) (n : ℕ) {said : Result Content} (x : Refusal) → said ≡ refused x
+    → Line-read file names refs rows recs out names refs rows recs out k n said (step.Refused x)
+line-not file names refs rows recs out k n x e = record { reads = reads-refused x e; past = past-none names refs rows recs out }
+
+-- what the fields say, said otherwise
+pub line-said : {file names refs rows recs out names′ refs′ rows′ recs′ out′ : List ℕ} {k : Counts} {n : ℕ} {said other : Result Content} {r : Step} → said ≡ other
+    → Line-read file names refs rows recs out names′ refs′ rows′ recs′ out′ k n other r → Line-read file names refs rows recs out names′ refs′ rows′ recs′ out′ k n said r
+line-said e l = rw e l
+
+-- what a line of a kind says
+module _ (count : ℕ) (fs : List Field) {k : Kind} where
+  pub kind-ask : k ≡ kinded.Ask → kind-content k count fs ≡ content kind.Ask count fs
+  unfolding kind-content kind-result
+  kind-ask e = rw e
+
+  pub kind-term : {t : TermKind} → k ≡ kinded.Term t → kind-content k count fs ≡ content (term-kind t) count fs
+  unfolding kind-content kind-result
+  kind-term e = rw e
+
+  pub kind-record : {r : RecordKind} → k ≡ kinded.Record r → kind-content k count fs ≡ content (record-kind r) count fs
+  unfolding kind-content kind-result
+  kind-record e = rw e
+
+  pub kind-none : k ≡ kinded.No → kind-content k count fs ≡ refused refusal.Form
+  unfolding kind-content kind-result
+  kind-none e = rw e
+
+-- a record line by its kind
+pub record-line : {file names refs rows recs out names′ refs′ rows′ recs′ out′ : List ℕ} {k : Counts} {n : ℕ} (count : ℕ) (fs : List Field) {kind known : RecordKind} {r : Step} → kind ≡ known
+    → Line-read file names refs rows recs out names′ refs′ rows′ recs′ out′ k n (content (record-kind known) count fs) r
+    → Line-read file names refs rows recs out names′ refs′ rows′ recs′ out′ k n (content (record-kind kind) count fs) r
+record-line count fs e l = rw e l
+
+module _ {file names refs rows recs out : List ℕ} {k : Counts} (n : ℕ) {c : Cursor} (st : Standing file names refs rows recs out k) where
+  -- the name is refused
+  pub name-not : {names′ : List ℕ} {w : Word} {x : Refusal} {said : Result Content} → Reads-name file names names′ (k .named) c w → w ≡ word.Refused x
+      → (next name-field (fields-left file c) ≡ refused x → said ≡ refused x)
+      → Line-read file names refs rows recs out names′ refs rows recs out k n said (step.Refused x)
+  name-not {x = x} r e says =
+      let (d, q) = reads-not r e in
+      record { reads = reads-refused x (says d); past = past-names refs rows recs out (table-past q) }
+
+  module _ {names′ : List ℕ} {named′ i : ℕ} {last : Cursor} (r : Name-read file names names′ (k .named) named′ i c last) where
+    -- a field after the name is refused
+    pub rest-not : {said : Result Content} (x : Refusal) → said ≡ refused x → Line-read file names refs rows recs out names′ refs rows recs out k n said (step.Refused x)
+    rest-not x e = record { reads = reads-refused x e; past = past-names refs rows recs out (spelled-past (r .spelled .longer)) }
+
+    module _ {names″ rows″ recs″ out″ : List ℕ} {next : Counts} {s : Step} (q : next ≡ with-names k named′) (u : Untouched names′ rows recs out names″ rows″ recs″ out″) where
+      -- a `fun`
+      pub fun-line : last .end < last .at → Adds file names′ refs rows recs out names″ rows″ recs″ out″ next n (fun (name-of file names′ i)) s
+          → Line-read file names refs rows recs out names″ refs rows″ recs″ out″ k n (content kind.Fun (k .many) (fields-left file c)) s
+      fun-line h a = record {
+        reads = record-reads n st (r .spelled) fun fun-name
+            (not-taken n st (r .spelled) (fun (r .name)) (fun-name (r .name)) (fun-takes _ n (r .name)))
+            (fun-said (k .many) (fields-left file c) (r .said) (end-none (fun (r .name)) file last h)) q a;
+        past = past-then refs (spelled-past (r .spelled .longer)) u;
+      }
+
+      -- a `def`
+      pub def-line : {t : ℕ} → last-field (k .many) (fields-left file last) ≡ ok t
+          → Adds file names′ refs rows recs out names″ rows″ recs″ out″ next n (def (name-of file names′ i) t) s
+          → Line-read file names refs rows recs out names″ refs rows″ recs″ out″ k n (content kind.Def (k .many) (fields-left file c)) s
+      def-line {t} h a = record {
+        reads = record-reads n st (r .spelled) (λ x. def x t) (def-name t)
+            (not-taken n st (r .spelled) (def (r .name) t) (def-name t (r .name)) (def-takes _ n t (r .name)))
+            (def-said (k .many) (fields-left file c) (r .said) h) q a;
+        past = past-then refs (spelled-past (r .spelled .longer)) u;
+      }
+
+      -- a `root`
+      pub root-line : {query t : ℕ} → last-field (k .many) (fields-left file last) ≡ ok t
+          → Adds file names′ refs rows recs out names″ rows″ recs″ out″ next n (root query (name-of file names′ i) t) s
+          → Line-read file names refs rows recs out names″ refs rows″ recs″ out″ k n (root-said (k .many) query (fields-left file c)) s
+      root-line {query} {t} h a = record {
+        reads = record-reads n st (r .spelled) (λ x. root query x t) (root-name query t)
+            (λ l. repeats-none n (state-of file names refs rows recs out k) (root query (r .name) t) (root-takes _ n query t (r .name)))
+            (root-is (k .many) query (fields-left file c) (r .said) h) q a;
+        past = past-then refs (spelled-past (r .spelled .longer)) u;
+      }
+
+      -- an `assume`
+      pub assume-line : Adds-fact file names′ refs rows recs out names″ rows″ recs″ out″ next n i (fields-left file last) s
+          → Line-read file names refs rows recs out names″ refs rows″ recs″ out″ k n (content kind.Assume (k .many) (fields-left file c)) s
+      assume-line a = record { reads = go (rw q at a); past = past-then refs (spelled-past (r .spelled .longer)) u }
+        where
+          go : Adds-fact file names′ refs rows recs out names″ rows″ recs″ out″ (with-names k named′) n i (fields-left file last) s
+              → Reads file names″ refs rows″ recs″ out″ n (state-of file names refs rows recs out k) (content kind.Assume (k .many) (fields-left file c)) s
+          go (fact-adds flag {t} e b) =
+              record-reads n st (r .spelled) (λ x. assume x (eqb flag 1) t) (assume-name (eqb flag 1) t)
+              (not-taken n st (r .spelled) (assume (r .name) (eqb flag 1) t) (assume-name (eqb flag 1) t (r .name)) (assume-takes _ n (eqb flag 1) t (r .name)))
+              (assume-said (k .many) (fields-left file c) (r .said) ∙ e (r .name)) refl b
+          go (fact-stops {x} e b) = rw b (reads-refused x (assume-said (k .many) (fields-left file c) (r .said) ∙ e (r .name)))

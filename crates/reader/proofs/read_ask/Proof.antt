@@ -1,0 +1,74 @@
+-- `reader::read_ask` meets its contract: by the two numbers, and whether a field is left.
+use borrow.Author.Needs.{needs}
+use Rattle.reader.proofs.Saying.{number-placed, asks-not, asks-options-not, asks-more, asks-is}
+use Rattle.reader.proofs.read_ask.Statement.{statement}
+use Rattle.reader.proofs.read_ask.Tie as tie
+
+number-requires : tie.Need-number-requires
+number-requires c κs = search needs
+
+enum-known-q : tie.Need-enum-known-q
+enum-known-q c = search needs
+
+number-requires-2 : tie.Need-number-requires-2
+number-requires-2 c κs =
+    let first = c .before in
+    number-placed 255 (first .before .before .before .before .pre) (first .before .before .number .ensures) (first .q .given .1)
+
+enum-known-options : tie.Need-enum-known-options
+enum-known-options c = search needs
+
+returns : tie.Need-returns
+returns c =
+    let second = c .before .before .before in
+    let first = second .before .before .before .before in
+    asks-more _ (first .before .before .before .before .pre) (first .before .before .number .ensures) (first .q .given .1)
+    (second .before .before .number2 .ensures) (second .options .given .1) (c .if1 .taken)
+
+cast-t16 : tie.Need-cast-t16
+cast-t16 c = search needs
+
+cast-t17 : tie.Need-cast-t17
+cast-t17 c = search needs
+
+enum-known-r : tie.Need-enum-known-r
+enum-known-r c = search needs
+
+enum-known-r-2 : tie.Need-enum-known-r-2
+enum-known-r-2 c = search needs
+
+returns-2 : tie.Need-returns-2
+returns-2 c =
+    let second = c .before .before .before in
+    let first = second .before .before .before .before in
+    asks-is _ (first .before .before .before .before .pre) (first .before .before .number .ensures) (first .q .given .1)
+    (second .before .before .number2 .ensures) (second .options .given .1) (c .if1 .left)
+
+returns-3 : tie.Need-returns-3
+returns-3 c =
+    let second = c .before in
+    let first = second .before .before .before .before in
+    asks-options-not _ (first .before .before .before .before .pre) (first .before .before .number .ensures) (first .q .given .1)
+    (second .before .before .number2 .ensures) (second .r .given .1)
+
+returns-4 : tie.Need-returns-4
+returns-4 c =
+    let first = c .before in
+    asks-not _ (first .before .before .before .before .pre) (first .before .before .number .ensures) (first .r2 .given .1)
+
+pub read-ask-spec : {M : Type 1} → statement M
+read-ask-spec =
+    tie.close
+    (tie.spec
+    number-requires
+    enum-known-q
+    number-requires-2
+    enum-known-options
+    returns
+    cast-t16
+    cast-t17
+    enum-known-r
+    enum-known-r-2
+    returns-2
+    returns-3
+    returns-4)

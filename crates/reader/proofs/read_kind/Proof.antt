@@ -1,0 +1,105 @@
+-- `reader::read_kind` meets its contract: each sort of line by its own.
+use Rattle.model.specs.declared.Refusal.the-variants as refusal
+use Rattle.fields.specs.Wording.{kind-result}
+use Rattle.reader.specs.Lines.{kind-content}
+use Rattle.reader.proofs.Lifting.{ask-read, term-read}
+use Rattle.reader.proofs.Recording.{line-not, kind-ask, kind-term, kind-record, kind-none, line-said}
+use borrow.Author.Needs.{needs}
+use Rattle.reader.proofs.read_kind.Statement.{statement}
+use Rattle.reader.proofs.read_kind.Tie as tie
+
+enum-told : tie.Need-enum-told
+enum-told c = c .match .keys1
+
+read-ask-requires : tie.Need-read-ask-requires
+read-ask-requires c κs =
+    let entry = c .before .before .before .before .before .before .before .before in
+    entry .pre .1
+
+enum-known-kind : tie.Need-enum-known-kind
+enum-known-kind c = c .match .keys2
+
+read-term-requires : tie.Need-read-term-requires
+read-term-requires c κs =
+    let entry = c .before .before .before .before .before .before .before .before .before .before .before .before in
+    (entry .pre .0 .tables, entry .pre .1)
+
+enum-known-kind-2 : tie.Need-enum-known-kind-2
+enum-known-kind-2 c = c .match .keys3
+
+read-record-requires : tie.Need-read-record-requires
+read-record-requires c κs =
+    let entry = c .before .before .before .before .before .before .before .before .before .before .before .before .before .before in
+    entry .pre
+
+enum-told-2 : tie.Need-enum-told-2
+enum-told-2 c = c .match .keys4
+
+returns : tie.Need-returns
+returns c =
+    let entry = c .before .before .before .before .before .before .before .before .before in
+    line-said (kind-ask _ _ (c .before .enum-told .given .1)) (ask-read _ (entry .pre .0) (c .read-ask .ensures))
+
+same-length : tie.Need-same-length
+same-length c = search needs
+
+same-length-2 : tie.Need-same-length-2
+same-length-2 c = search needs
+
+same-length-3 : tie.Need-same-length-3
+same-length-3 c = search needs
+
+returns-2 : tie.Need-returns-2
+returns-2 c =
+    let at-read-term = c .before .before .before .before .before .before in
+    let at-kind = at-read-term .before .before .before .before .before in
+    let entry = at-kind .before .before .before .before .before .before .before .before in
+    line-said (kind-term _ _ (at-kind .kind .given .1)) (term-read _ (entry .pre .0) (at-read-term .read-term .ensures))
+
+same-length-4 : tie.Need-same-length-4
+same-length-4 c = search needs
+
+same-length-5 : tie.Need-same-length-5
+same-length-5 c = search needs
+
+same-length-6 : tie.Need-same-length-6
+same-length-6 c = search needs
+
+same-length-7 : tie.Need-same-length-7
+same-length-7 c = search needs
+
+same-length-8 : tie.Need-same-length-8
+same-length-8 c = search needs
+
+returns-3 : tie.Need-returns-3
+returns-3 c =
+    let at-read-record = c .before .before .before .before .before .before .before .before in
+    let at-kind2 = at-read-record .before .before .before .before .before .before .before in
+    line-said (kind-record _ _ (at-kind2 .kind2 .given .1)) (at-read-record .read-record .ensures)
+
+returns-4 : tie.Need-returns-4
+returns-4 c = line-not _ _ _ _ _ _ _ _ refusal.Form (kind-none _ _ (c .enum-told2 .given .1))
+
+pub read-kind-spec : {M : Type 1} → statement M
+read-kind-spec =
+    tie.close
+    (tie.spec
+    enum-told
+    read-ask-requires
+    enum-known-kind
+    read-term-requires
+    enum-known-kind-2
+    read-record-requires
+    enum-told-2
+    returns
+    same-length
+    same-length-2
+    same-length-3
+    returns-2
+    same-length-4
+    same-length-5
+    same-length-6
+    same-length-7
+    same-length-8
+    returns-3
+    returns-4)

@@ -1,0 +1,171 @@
+-- Tables that stand: before the first line, with the ask, with more names and terms, and with the macro column filled.
+use Prim.Native.Nat.{ℕ, zero, suc, _+_, _*_, _≤_, _<_}
+use native.Mathlib.Omega.{arith}
+use mathlib.Core.Path.{_≡_, refl, sym, ap, _∙_}
+use mathlib.Core.List.{List, []}
+use lib.ListN.{length, getD}
+use Rattle.model.specs.Lists.{fold-left}
+use Rattle.model.specs.Reading.{start, most-names, most-terms, most-records}
+use Rattle.model.specs.declared.Counts.{Counts}
+use Rattle.names.specs.Table.{Table, name-of, names-of}
+use Rattle.names.proofs.Laws.{empty-table}
+use Rattle.names.proofs.Coded.{table-kept}
+use Rattle.terms.specs.Rows.{terms-of, nodes-below}
+use Rattle.terms.proofs.Table.{empty-rows}
+use Rattle.words.specs.Slices.{Same-but}
+use Rattle.gather.specs.Sets.{name-mark, row-mark}
+use Rattle.rules.specs.Views.{Tables, terms-in}
+use Rattle.records.specs.Columns.{record-kind, record-name, retain-kind, taken-column, macro-column, first-column, taken-at, first-entry, name-code}
+use Rattle.records.specs.States.{decls-of, roots-of, state-of}
+use Rattle.records.specs.Filing.{newest, entries-before, Records, Stocked}
+use Rattle.records.specs.Macros.{macro-count, start-word, macro-word, Opens, Filled}
+use Rattle.records.specs.Writing.{no-counts, with-ask, with-terms}
+use Rattle.records.specs.Adding.{Standing}
+use Rattle.records.proofs.Chaining.{newest-cong, chained-kept}
+use Rattle.records.proofs.Recording.{Agree, decls-stay, roots-stay}
+use Rattle.records.proofs.Keeping.{records-named, filing-kept, taken-kept}
+
+-- ---- before the first line
+
+module _ (file names refs rows recs out : List ℕ) (short : length file ≤ 65535) (name-room : 16384 ≤ length names) (ref-room : 16384 ≤ length refs) (row-room : 16384 ≤ length rows)
+    (record-room : 16384 ≤ length recs) (out-room : 16384 ≤ length out) (names-zero : (i : ℕ) → i < 16384 → getD names i 0 ≡ 0) (rows-zero : (i : ℕ) → i < 16384 → getD rows i 0 ≡ 0) where
+  stocked-start : Stocked file names recs out 0 0
+  unfolding entries-before newest
+  stocked-start = record {
+    filing = record {
+      starts = λ i h. absurd (omega arith);
+      whole = refl;
+      sized = λ i h. absurd (omega arith);
+      only-facts = λ i h d. absurd (omega arith);
+      facts = λ i e h a b. absurd (omega arith);
+      flagged = λ e h. absurd (omega arith);
+      ended = λ i h l. absurd (omega arith);
+    };
+    taken = record {
+      took = λ i h k. absurd (omega arith);
+      low = λ n l. omega (arith, names-zero (taken-column + n) (omega arith));
+      takes = λ n i l e. absurd (omega (arith, names-zero (taken-column + n) (omega arith)));
+    };
+    chained = record { first = λ n l. names-zero (first-column + n) (omega arith); next = λ e h l. absurd (omega arith) };
+  }
+
+  -- cleared slices stand
+  pub standing-start : Standing file names refs rows recs out no-counts
+  standing-start = record {
+    tables = record { name-table = empty-table file names name-room short; term-table = empty-rows refs rows 0 ref-room row-room (omega arith) };
+    recorded = record {
+      room = record-room;
+      out-room = out-room;
+      few = omega arith;
+      few-entries = omega arith;
+      few-uses = omega arith;
+      kinds = λ i h. absurd (omega arith);
+      named-in = λ i h q. absurd (omega arith);
+      rising = λ i h. absurd (omega arith);
+      uses-in = λ i h. absurd (omega arith);
+      entries-in = λ i h. absurd (omega arith);
+      use-words = λ j h. absurd (omega arith);
+      entry-words = λ e h. absurd (omega arith);
+    };
+    fresh = record {
+      row-marks = λ t l. omega (arith, rows-zero (12288 + t) (omega arith));
+      name-marks = λ n l. omega (arith, names-zero (8192 + n) (omega arith));
+    };
+    few-marks = omega arith;
+    stocked = stocked-start;
+  }
+
+-- they are the state before line 1
+pub state-start : (file names refs rows recs out : List ℕ) → state-of file names refs rows recs out no-counts ≡ start
+unfolding state-of start terms-in terms-of nodes-below names-of decls-of roots-of fold-left
+state-start file names refs rows recs out = refl
+
+-- ---- with the ask
+
+pub standing-asked : {file names refs rows recs out : List ℕ} {k : Counts} (query options : ℕ) → Standing file names refs rows recs out k
+    → Standing file names refs rows recs out (with-ask k query options)
+standing-asked query options st = record { tables = st .tables; recorded = st .recorded; fresh = st .fresh; few-marks = st .few-marks; stocked = st .stocked }
+
+-- ---- with more names and terms
+
+-- a slice with the same names, taken and first words
+pub record Beside (file names names′ : List ℕ) (named : ℕ) : Type 0 where
+  pub same : (n : ℕ) → n < named → name-of file names′ n ≡ name-of file names n
+  pub taken : (n : ℕ) → n < most-names → taken-at names′ n ≡ taken-at names n
+  pub first : (n : ℕ) → n < most-names → first-entry names′ n ≡ first-entry names n
+
+module _ {file names refs rows recs out names′ : List ℕ} {k : Counts} (st : Standing file names refs rows recs out k) (b : Beside file names names′ (k .named)) where
+  -- the records stay
+  agree : Agree (name-of file names) (name-of file names′) recs out recs out (k .named) (k .records) (k .entries) (k .uses)
+  agree = record { same = b .same; rows = λ c i h. refl; out-length = refl; use-words = λ j h. refl; entry-words = λ e h. refl }
+
+  -- so does what is filed
+  pub stocked-longer : Stocked file names′ recs out (k .records) (k .entries)
+  stocked-longer =
+      let small : (i : ℕ) → i < k .records → record-kind recs i < retain-kind → record-name recs i < most-names =
+      λ i l h. omega (arith, st .recorded .named-in i l (λ z. omega arith), st .tables .name-table .few) in
+      record {
+        filing = filing-kept agree (st .recorded) (st .stocked .filing) (λ e h. refl);
+        taken = taken-kept (λ c i h. refl) (st .stocked .taken) small (b .taken);
+        chained = chained-kept (st .stocked .chained) (b .first) (λ e l. refl) (λ e l. refl);
+      }
+
+  -- and the background and the roots
+  pub decls-longer : decls-of (name-of file names′) recs out (k .records) ≡ decls-of (name-of file names) recs out (k .records)
+  decls-longer = decls-stay agree (st .recorded) (k .records) (omega arith)
+
+  pub roots-longer : roots-of (name-of file names′) recs out (k .records) ≡ roots-of (name-of file names) recs out (k .records)
+  roots-longer = roots-stay agree (st .recorded) (k .records) (omega arith)
+
+  -- the tables stand with more names and terms
+  pub standing-longer : {refs′ rows′ : List ℕ} {named′ used′ many′ : ℕ} → k .named ≤ named′ → Tables file names′ refs′ rows′ named′ used′ many′
+      → ((n : ℕ) → n < most-names → name-mark names′ n ≡ name-mark names n) → ((t : ℕ) → t < most-terms → row-mark rows′ t ≡ row-mark rows t)
+      → Standing file names′ refs′ rows′ recs out (with-terms k named′ used′ many′)
+  standing-longer more tables names-marked rows-marked = record {
+    tables = tables;
+    recorded = records-named more (st .recorded);
+    fresh = record {
+      row-marks = λ t l. rw (rows-marked t l) (st .fresh .row-marks t l);
+      name-marks = λ n l. rw (names-marked n l) (st .fresh .name-marks n l);
+    };
+    few-marks = st .few-marks;
+    stocked = stocked-longer;
+  }
+
+-- ---- with the macro column
+
+-- the words of macros do not depend on the column
+macro-same : {names names′ : List ℕ} (recs : List ℕ) (named n : ℕ) → named ≤ most-names → n < most-names → Same-but macro-column most-names names names′
+    → macro-word names′ recs named n ≡ macro-word names recs named n
+unfolding macro-word start-word
+macro-same {names} {names′} recs named n few low s =
+    let code : (m : ℕ) → m < most-names → name-code names′ m ≡ name-code names m = λ m l. s .same-words (6144 + m) (λ a b. omega arith) in
+    rw (
+      s .same-words (taken-column + n) (λ a b. omega arith),
+      code n low,
+      newest-cong (name-code names′) (name-code names) (name-code names n + macro-count) named (λ m l. code m (omega arith)),
+    )
+
+module _ {file names refs rows recs out : List ℕ} {k : Counts} (st : Standing file names refs rows recs out k) where
+  -- what filling it asks
+  pub standing-opens : (k .named ≤ most-names) × (16384 ≤ length names) × (16384 ≤ length recs) × ((n : ℕ) → n < k .named → taken-at names n ≤ most-records)
+  standing-opens =
+      let few = st .tables .name-table .few in
+      (few, st .tables .name-table .room, st .recorded .room, λ n l. omega (arith, st .stocked .taken .low n (omega arith), st .recorded .few))
+
+  -- the tables are then as a run asks
+  pub standing-filled : {names′ : List ℕ} → Opens names recs names′ (k .named) (k .named) → Filled file names′ recs out k
+  standing-filled {names′} o =
+      let few = st .tables .name-table .few in
+      let kept = table-kept (st .tables .name-table) (o .same .same-length) (λ i l. o .same .same-words i (λ a b. omega arith)) in
+      let beside : Beside file names names′ (k .named) = record {
+        same = kept .name;
+        taken = λ n l. o .same .same-words (taken-column + n) (λ a b. omega arith);
+        first = λ n l. o .same .same-words (first-column + n) (λ a b. omega arith);
+      } in
+      record {
+        table = kept .table;
+        recorded = st .recorded;
+        stocked = stocked-longer st beside;
+        macros = λ n l. o .macros n l ∙ sym (macro-same recs (k .named) n few (omega arith) (o .same));
+      }
