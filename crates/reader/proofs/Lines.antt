@@ -40,7 +40,6 @@ use Rattle.records.proofs.Standing.{Beside, standing-start, decls-longer, roots
 use Rattle.records.proofs.Funs.{same-wider}
 use Rattle.names.proofs.Coded.{table-kept}
 use Rattle.terms.proofs.Table.{terms-named}
-
 use Rattle.records.specs.Adding.{excluded, Standing, judge}
 use Rattle.records.proofs.Judging.{line-judged}
 use Rattle.records.proofs.Appending.{terms-length}

@@ -249,8 +249,14 @@ unfolding state-of
 few-names file names′ refs rows recs out k named′ n {names″} {rows″} {recs″} {out″} {k′} c j s =
     let t = state-of file names′ refs rows recs out (with-names k named′) in
     let u = state-of file names″ refs rows″ recs″ out″ k′ in
-    omega (arith, line-names n t c, ap (λ x. length (x .names)) (judge-ok n t u c j), names-length file names′ named′,
-    names-length file names″ (k′ .named), s .tables .name-table .few)
+    omega (
+      arith,
+      line-names n t c,
+      ap (λ x. length (x .names)) (judge-ok n t u c j),
+      names-length file names′ named′,
+      names-length file names″ (k′ .named),
+      s .tables .name-table .few,
+    )
 
 module _ {file names refs rows recs out names′ : List ℕ} {k : Counts} {named′ i : ℕ} {m : Name} (n : ℕ) (st : Standing file names refs rows recs out k)
     (sp : Spelled-as file names names′ (k .named) named′ i m) where
