@@ -22,7 +22,7 @@ use Rattle.gather.specs.Sets.{Fresh, Named, Gathers, all-names, no-room, Gather
 use Rattle.gather.specs.declared.Walked.{Walked}
 use Rattle.gather.specs.declared.Walked.the-variants as walks
 use Rattle.rules.specs.Views.{terms-in}
-use Rattle.triggers.proofs.Marked.{fresh-next}
+use Rattle.gather.proofs.Fresh.{fresh-next}
 use Rattle.model.specs.declared.Step.the-variants as step
 use Rattle.records.specs.Columns.{def-kind, root-kind, taken-column, taken-at}
 use Rattle.records.specs.States.{free-at, summary-at, root-at, decl-at, state-of}
