@@ -43,7 +43,7 @@ fn meet(run: &mut [u32], n: usize, round: usize)
 }
 
 // Meets the names of a part of the uses.
-fn meet_part(out: &[u32], run: &mut [u32], a: usize, e: usize, round: usize)
+pub fn meet_part(out: &[u32], run: &mut [u32], a: usize, e: usize, round: usize)
     requires { ⌜ (a ≤ e) × (e ≤ length (now out)) × ((i : ℕ) → a ≤ i → i < e → getD (now out) i 0 < length (now run)) × (round < 4294967296) ⌝ }
     ensures { λ r. ⌜ now (run .exit) ≡ marks round (now (run .entry)) (part (now (out .entry)) a e) ⌝ }
 {

@@ -1,11 +1,14 @@
 -- Laws of slices that differ at most in a column.
 use Prim.Native.Nat.{ℕ, _+_, _≤_, _<_}
 use native.Mathlib.Omega.{arith}
-use mathlib.Core.Path.{refl, sym, _∙_}
+use mathlib.Core.Path.{_≡_, refl, sym, _∙_}
+use mathlib.Core.Bool.{Bool, true, false}
 use mathlib.Core.List.{List}
-use lib.ListN.{set, length-set}
-use lib.Seq.{getD-set-other}
-use Rattle.words.specs.Slices.{Same-but}
+use lib.Dec.{ltb}
+use lib.ListN.{length, getD, set, length-set}
+use lib.Seq.{getD-set-same, getD-set-other}
+use borrow.Author.Tests.{ltb-true, ltb-false}
+use Rattle.words.specs.Slices.{Same-but, Zeroed}
 
 -- a slice is the same as itself
 pub same-self : (column size : ℕ) (l : List ℕ) → Same-but column size l l
@@ -32,3 +35,34 @@ same-set column size l i v p q = record {
   same-length = length-set l i v;
   same-words = λ j h. getD-set-other l i j v 0 (λ e. h (omega arith) (omega arith));
 }
+
+-- a column set to zero up to a place
+pub record Zeroing (column size : ℕ) (before after : List ℕ) (i : ℕ) : Type 0 where
+  pub low : column ≤ i
+  pub high : i ≤ column + size
+  pub same : Same-but column size before after
+  pub zero : (j : ℕ) → column ≤ j → j < i → getD after j 0 ≡ 0
+
+pub zeroing-start : (column size : ℕ) (w : List ℕ) → Zeroing column size w w column
+zeroing-start column size w =
+    record { low = omega arith; high = omega arith; same = same-self column size w; zero = λ j a b. absurd (omega arith) }
+
+-- one word more
+pub zeroing-next : {column size : ℕ} {before after : List ℕ} {i : ℕ}
+    → Zeroing column size before after i → i < column + size → column + size ≤ length before → Zeroing column size before (set after i 0) (i + 1)
+zeroing-next {column} {size} {before} {after} {i} z h room = record {
+  low = omega (arith, z .low);
+  high = omega arith;
+  same = same-then (z .same) (same-set column size after i 0 (z .low) h);
+  zero = λ j a b. go j a b (ltb j i) refl;
+}
+  where
+    go : (j : ℕ) → column ≤ j → j < i + 1 → (b : Bool) → ltb j i ≡ b → getD (set after i 0) j 0 ≡ 0
+    go j a b true e = let l = ltb-true j i e in getD-set-other after i j 0 0 (λ q. omega arith) ∙ z .zero j a l
+    go j a b false e =
+        let l = ltb-false j i e in
+        let p : j ≡ i = omega arith in
+        rw p (getD-set-same after i 0 0 (omega (arith, z .same .same-length)))
+
+pub zeroing-end : {column size : ℕ} {before after : List ℕ} {i : ℕ} → Zeroing column size before after i → column + size ≤ i → Zeroed column size before after
+zeroing-end z h = record { same = z .same; zero = λ j a b. z .zero j a (omega arith) }

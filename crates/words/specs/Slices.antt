@@ -12,3 +12,8 @@ word-limit = 4294967296
 pub record Same-but (column size : ℕ) (before after : List ℕ) : Type 0 where
   pub same-length : length after ≡ length before
   pub same-words : (i : ℕ) → (column ≤ i → i < column + size → ⊥) → getD after i 0 ≡ getD before i 0
+
+-- a column of a slice set to zero
+pub record Zeroed (column size : ℕ) (before after : List ℕ) : Type 0 where
+  pub same : Same-but column size before after
+  pub zero : (i : ℕ) → column ≤ i → i < column + size → getD after i 0 ≡ 0
