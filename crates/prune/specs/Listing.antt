@@ -1,0 +1,102 @@
+-- The kept list on numbers of records. A rank is a name's place in byte order; an item is a kept fact or a root of the query.
+use Prim.Native.Nat.{ℕ, zero, suc, _+_, _-_}
+use mathlib.Core.Bool.{Bool, cond, _&&_}
+use mathlib.Core.List.{List, [], _∷_, _++_, map}
+use lib.Dec.{eqb}
+use lib.ListN.{length}
+use Rattle.model.specs.Lists.{any, keep, collect}
+use Rattle.model.specs.Reading.{no-ambients, prune-decls}
+use Rattle.model.specs.Rounds.{is-ambient}
+use Rattle.model.specs.declared.Counts.{Counts}
+use Rattle.names.specs.Table.{ranked}
+use Rattle.records.specs.Columns.{record-kind, record-flag, summary-code, kind-of-code, assume-kind, fun-kind, def-kind, root-kind, taken-at}
+use Rattle.records.specs.States.{uses-at, ask-of}
+use Rattle.scan.specs.Held.{upto}
+use Rattle.scan.specs.Steps.{is-reached}
+
+-- n numbers from i on
+unfoldable pub from : ℕ → ℕ → List ℕ
+from i zero = []
+from i (suc n) = i ∷ from (i + 1) n
+
+-- a record by its number and one; none by 0
+unfoldable pub one : ℕ → List ℕ
+one t = cond (eqb t 0) [] ((t - 1) ∷ [])
+
+-- the records that a function picks
+unfoldable pub picked : (ℕ → ℕ) → List ℕ → List ℕ
+picked pick l = collect (λ r. one (pick r)) l
+
+-- the assume, fun or def that took the name of a rank, and one; or 0
+abbrev pub taker : List ℕ → ℕ → ℕ
+taker names r = taken-at names (ranked names r)
+
+-- the same where the record is reached
+unfoldable pub reached-at : List ℕ → List ℕ → ℕ → ℕ
+reached-at names run r = cond (eqb (taker names r) 0) 0 (cond (is-reached run (taker names r - 1)) (taker names r) 0)
+
+-- the same where the record is of a kind
+unfoldable pub kind-at : List ℕ → List ℕ → ℕ → ℕ → ℕ
+kind-at names recs kind r = cond (eqb (taker names r) 0) 0 (cond (eqb (record-kind recs (taker names r - 1)) kind) (taker names r) 0)
+
+-- the number of an ambient and one; or 0
+unfoldable pub ambient-at : List ℕ → ℕ → ℕ
+ambient-at recs i = cond (eqb (record-kind recs i) assume-kind) (cond (is-ambient (kind-of-code (summary-code recs i))) (i + 1) 0) 0
+
+-- whether a record is a root of the query
+unfoldable pub is-goal : List ℕ → Counts → ℕ → Bool
+is-goal recs k i = eqb (record-kind recs i) root-kind && eqb (record-flag recs i) (k .query)
+
+-- the reached facts by name in byte order
+abbrev pub reached-records : List ℕ → List ℕ → ℕ → List ℕ
+reached-records names run named = picked (reached-at names run) (from 0 named)
+
+-- the ambients, last filed first; none with option 1
+unfoldable pub ambient-records : List ℕ → Counts → List ℕ
+ambient-records recs k = cond (no-ambients (ask-of k)) [] (picked (ambient-at recs) (upto (k .records)))
+
+-- the kept facts
+unfoldable pub fact-records : List ℕ → List ℕ → List ℕ → Counts → List ℕ
+fact-records names recs run k = reached-records names run (k .named) ++ ambient-records recs k
+
+-- the roots of the query by line
+abbrev pub goal-records : List ℕ → Counts → List ℕ
+goal-records recs k = keep (is-goal recs k) (from 0 (k .records))
+
+-- the items: the kept facts as listed, then the roots of the query
+unfoldable pub items : List ℕ → List ℕ → List ℕ → Counts → List ℕ
+items names recs run k = fact-records names recs run k ++ goal-records recs k
+
+-- whether a number is in a list
+unfoldable pub has : ℕ → List ℕ → Bool
+has n l = any (λ m. eqb m n) l
+
+-- the place, counted from s, of the first list that has the number; 0 where none has
+unfoldable pub stamped : ℕ → List (List ℕ) → ℕ → ℕ
+stamped s [] n = 0
+stamped s (l ∷ ls) n = let later = stamped (s + 1) ls n in cond (has n l) s later
+
+module _ (names recs : List ℕ) (named : ℕ) (stamp : ℕ → ℕ) (kind : ℕ) where
+  -- the definitions, or the declarations, of the names whose ranks have a stamp, last name first
+  unfoldable pub stamp-records : ℕ → List ℕ
+  stamp-records s = picked (kind-at names recs kind) (keep (λ r. eqb (stamp r) s) (upto named))
+
+  -- those of the stamps from 1 up to s, the last first
+  unfoldable pub kind-records : ℕ → List ℕ
+  kind-records s = collect (λ j. stamp-records (j + 1)) (upto s)
+
+-- definitions, then declarations
+unfoldable pub decl-records : List ℕ → List ℕ → ℕ → (ℕ → ℕ) → ℕ → List ℕ
+decl-records names recs named stamp s = kind-records names recs named stamp def-kind s ++ kind-records names recs named stamp fun-kind s
+
+-- the stamp of the name of a rank: the place of the item that first has it, from 1
+unfoldable pub item-stamp : List ℕ → List ℕ → List ℕ → List ℕ → Counts → ℕ → ℕ
+item-stamp names recs out run k r = stamped 1 (map (uses-at recs out) (items names recs run k)) (ranked names r)
+
+-- the kept records: the facts, and with option 4 definitions and then declarations
+unfoldable pub kept-records : List ℕ → List ℕ → List ℕ → List ℕ → Counts → List ℕ
+kept-records names recs out run k =
+    fact-records names recs run k
+    ++ cond (prune-decls (ask-of k))
+    (decl-records names recs (k .named) (item-stamp names recs out run k) (length (items names recs run k)))
+    []

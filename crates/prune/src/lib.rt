@@ -1,0 +1,323 @@
+use model::Counts;
+ghost use Prim.Native.Nat.{ℕ, _+_, _≤_, _<_};
+ghost use mathlib.Core.Path.{_≡_};
+ghost use mathlib.Core.List.{map};
+ghost use lib.ListN.{length, getD};
+ghost use Rattle.model.specs.Lists.{part};
+ghost use Rattle.model.specs.Reading.{most-names, most-records};
+ghost use Rattle.model.specs.Outcome.{working-words};
+ghost use Rattle.records.specs.Columns.{record-line};
+ghost use Rattle.records.specs.States.{uses-at};
+ghost use Rattle.scan.specs.Steps.{marks};
+ghost use Rattle.prune.specs.Listing.{taker, reached-at, kind-at, ambient-at, is-goal, reached-records, ambient-records, fact-records, goal-records, stamp-records, kind-records, decl-records};
+ghost use Rattle.prune.specs.Loops.{kept-column, most-stamps, stamp-in, Index, Lists, noted, Notes, Linked, Links, Listable, Listed};
+ghost use Rattle.prune.specs.Kept.{Run-over, Pruned};
+
+// The columns of the run's slice behind those of the run: the kept list; by rank, the next lower rank of the same stamp, and one;
+// by stamp, counted from 0, its highest rank and one. A stamp is the place of the item that first has a name, counted from 1: it
+// stands in the column of met names. A rank is a name's place in byte order.
+pub const KEPT: usize = 5120;
+
+const BELOW: usize = 6144;
+
+const LAST: usize = 8192;
+
+// How many stamps there may be: the kept facts and the roots.
+const MOST_STAMPS: usize = 2048;
+
+// The summary codes of ambients: the first, and the first past them.
+const AMBIENT: usize = 1;
+
+const PAST_AMBIENT: usize = 3;
+
+// The assume, fun or def that took the name of a rank, and one; 0 if none did.
+fn taker(names: &[u32], named: usize, r: usize) -> usize
+    requires { ⌜ Index (now names) named × (r < named) ⌝ }
+    ensures { λ t. ⌜ (t ≡ taker (now (names .entry)) r) × (t ≤ most-records) ⌝ }
+{
+    let n = words::at(names, names::INDEX + r);
+    words::at(names, records::TAKEN + n)
+}
+
+// The same where the record is reached.
+fn reached_at(names: &[u32], run: &[u32], named: usize, r: usize) -> usize
+    requires { ⌜ Index (now names) named × (working-words ≤ length (now run)) × (r < named) ⌝ }
+    ensures { λ t. ⌜ (t ≡ reached-at (now (names .entry)) (now (run .entry)) r) × (t ≤ most-records) ⌝ }
+{
+    let t = taker(names, named, r);
+    if t == 0 {
+        return 0;
+    }
+    if words::at(run, scan::REACHED + (t - 1)) == 0 {
+        return 0;
+    }
+    t
+}
+
+// Lists the reached facts by name in byte order.
+fn list_reached(names: &[u32], run: &mut [u32], named: usize) -> usize
+    requires { ⌜ Index (now names) named × (working-words ≤ length (now run)) × (length (reached-records (now names) (now run) named) ≤ most-records) ⌝ }
+    ensures { λ to. ⌜ Lists (now (run .entry)) 0 (reached-records (now (names .entry)) (now (run .entry)) named) (now (run .exit)) to ⌝ }
+{
+    let mut to = 0;
+    let mut r = 0;
+    while r < named {
+        let t = reached_at(names, run, named, r);
+        r += 1;
+        if t == 0 {
+            continue;
+        }
+        run[KEPT + to] = (t - 1) as u32;
+        to += 1;
+    }
+    to
+}
+
+// The number of an ambient and one; 0 for another record.
+fn ambient_at(recs: &[u32], i: usize) -> usize
+    requires { ⌜ (working-words ≤ length (now recs)) × (i < most-records) ⌝ }
+    ensures { λ t. ⌜ t ≡ ambient-at (now (recs .entry)) i ⌝ }
+{
+    if words::at(recs, records::KIND + i) != records::ASSUME {
+        return 0;
+    }
+    let summary = words::at(recs, records::SUMMARY + i);
+    if summary < AMBIENT {
+        return 0;
+    }
+    if PAST_AMBIENT <= summary {
+        return 0;
+    }
+    i + 1
+}
+
+// Lists the ambients, last filed first; none with option 1.
+fn list_ambients(recs: &[u32], run: &mut [u32], k: Counts, m: usize) -> usize
+    requires { ⌜ (working-words ≤ length (now recs)) × (working-words ≤ length (now run)) × (k .records ≤ most-records) × (m + length (ambient-records (now recs) k) ≤ most-records) ⌝ }
+    ensures { λ to. ⌜ Lists (now (run .entry)) m (ambient-records (now (recs .entry)) k) (now (run .exit)) to ⌝ }
+{
+    let mut to = m;
+    if records::no_ambients(k.options) {
+        return to;
+    }
+    let mut i = k.records;
+    while 0 < i {
+        i -= 1;
+        let t = ambient_at(recs, i);
+        if t == 0 {
+            continue;
+        }
+        run[KEPT + to] = (t - 1) as u32;
+        to += 1;
+    }
+    to
+}
+
+// Lists the kept facts.
+fn list_facts(names: &[u32], recs: &[u32], run: &mut [u32], k: Counts) -> usize
+    requires { ⌜ Index (now names) (k .named) × (working-words ≤ length (now recs)) × (working-words ≤ length (now run)) × (k .records ≤ most-records) × (length (fact-records (now names) (now recs) (now run) k) ≤ most-records) ⌝ }
+    ensures { λ to. ⌜ Lists (now (run .entry)) 0 (fact-records (now (names .entry)) (now (recs .entry)) (now (run .entry)) k) (now (run .exit)) to ⌝ }
+{
+    let reached = list_reached(names, run, k.named);
+    list_ambients(recs, run, k, reached)
+}
+
+// Notes the free names of a record with a stamp, those that have none yet.
+fn note_record(recs: &[u32], out: &[u32], run: &mut [u32], k: Counts, i: usize, stamp: usize)
+    requires { ⌜ Notes (now recs) (now out) (now run) k × (i < k .records) × (stamp ≤ most-stamps) ⌝ }
+    ensures { λ r. ⌜ now (run .exit) ≡ marks stamp (now (run .entry)) (uses-at (now (recs .entry)) (now (out .entry)) i) ⌝ }
+{
+    let a = words::at(recs, records::USES_START + i);
+    let e = words::at(recs, records::USES_END + i);
+    scan::meet_part(out, run, a, e, stamp);
+}
+
+// Notes the names of the kept facts, as listed.
+fn note_facts(recs: &[u32], out: &[u32], run: &mut [u32], k: Counts, count: usize)
+    requires { ⌜ Notes (now recs) (now out) (now run) k × (count ≤ most-records) × ((j : ℕ) → j < count → getD (now run) (kept-column + j) 0 < k .records) ⌝ }
+    ensures { λ r. ⌜ now (run .exit) ≡ noted 1 (now (run .entry)) (map (uses-at (now (recs .entry)) (now (out .entry))) (part (now (run .entry)) kept-column (kept-column + count))) ⌝ }
+{
+    let mut j = 0;
+    while j < count {
+        let i = words::at(run, KEPT + j);
+        j += 1;
+        note_record(recs, out, run, k, i, j);
+    }
+}
+
+// Whether a record is a root of the query.
+fn is_goal(recs: &[u32], k: Counts, i: usize) -> bool
+    requires { ⌜ (working-words ≤ length (now recs)) × (i < most-records) ⌝ }
+    ensures { λ r. ⌜ r ≡ is-goal (now (recs .entry)) k i ⌝ }
+{
+    if words::at(recs, records::KIND + i) != records::ROOT {
+        return false;
+    }
+    words::at(recs, records::FLAG + i) == k.query
+}
+
+// Notes the names of the roots of the query, by line; says the last stamp.
+fn note_roots(recs: &[u32], out: &[u32], run: &mut [u32], k: Counts, m: usize) -> usize
+    requires { ⌜ Notes (now recs) (now out) (now run) k × (m ≤ most-records) ⌝ }
+    ensures noted { λ s. ⌜ now (run .exit) ≡ noted (m + 1) (now (run .entry)) (map (uses-at (now (recs .entry)) (now (out .entry))) (goal-records (now (recs .entry)) k)) ⌝ }
+    ensures stamps { λ s. ⌜ s ≡ m + length (goal-records (now (recs .entry)) k) ⌝ }
+{
+    let count = k.records;
+    let mut stamp = m;
+    let mut i = 0;
+    while i < count {
+        let j = i;
+        i += 1;
+        if !is_goal(recs, k, j) {
+            continue;
+        }
+        stamp += 1;
+        note_record(recs, out, run, k, j, stamp);
+    }
+    stamp
+}
+
+// Puts the ranks on the chains of their stamps.
+fn link_names(names: &[u32], run: &mut [u32], named: usize)
+    requires { ⌜ Index (now names) named × (working-words ≤ length (now run)) × ((r : ℕ) → r < named → stamp-in (now names) (now run) r ≤ most-stamps) ⌝ }
+    ensures { λ r. ⌜ Links (now (names .entry)) (now (run .entry)) (now (run .exit)) named ⌝ }
+{
+    words::clear(run, LAST, MOST_STAMPS);
+    let mut r = 0;
+    while r < named {
+        let rank = r;
+        r += 1;
+        let stamp = words::at(run, words::at(names, names::INDEX + rank));
+        if stamp == 0 {
+            continue;
+        }
+        run[BELOW + rank] = run[LAST + (stamp - 1)];
+        run[LAST + (stamp - 1)] = r as u32;
+    }
+}
+
+// The definition, or the declaration, that took the name of a rank, and one; 0 if none did.
+fn kind_at(names: &[u32], recs: &[u32], named: usize, kind: usize, r: usize) -> usize
+    requires { ⌜ Index (now names) named × (working-words ≤ length (now recs)) × (r < named) ⌝ }
+    ensures { λ t. ⌜ (t ≡ kind-at (now (names .entry)) (now (recs .entry)) kind r) × (t ≤ most-records) ⌝ }
+{
+    let t = taker(names, named, r);
+    if t == 0 {
+        return 0;
+    }
+    if words::at(recs, records::KIND + (t - 1)) != kind {
+        return 0;
+    }
+    t
+}
+
+// Lists the definitions, or the declarations, of the names with a stamp, last name first.
+fn list_stamp(
+    names: &[u32],
+    recs: &[u32],
+    run: &mut [u32],
+    named: usize,
+    kind: usize,
+    stamp: usize,
+    m: usize,
+) -> usize
+    requires { ⌜ Index (now names) named × (working-words ≤ length (now recs)) × (working-words ≤ length (now run)) × Linked (stamp-in (now names) (now run)) named (now run) × (0 < stamp) × (stamp ≤ most-stamps) × (m + length (stamp-records (now names) (now recs) named (stamp-in (now names) (now run)) kind stamp) ≤ most-records) ⌝ }
+    ensures { λ to. ⌜ Lists (now (run .entry)) m (stamp-records (now (names .entry)) (now (recs .entry)) named (stamp-in (now (names .entry)) (now (run .entry))) kind stamp) (now (run .exit)) to ⌝ }
+{
+    let mut to = m;
+    let mut next = words::at(run, LAST + (stamp - 1));
+    while next != 0 {
+        let t = kind_at(names, recs, named, kind, next - 1);
+        next = words::at(run, BELOW + (next - 1));
+        if t == 0 {
+            continue;
+        }
+        run[KEPT + to] = (t - 1) as u32;
+        to += 1;
+    }
+    to
+}
+
+// Lists the definitions, or the declarations, of the names with the stamps up to `stamps`, last noted first.
+fn list_kind(
+    names: &[u32],
+    recs: &[u32],
+    run: &mut [u32],
+    named: usize,
+    kind: usize,
+    stamps: usize,
+    m: usize,
+) -> usize
+    requires { ⌜ Index (now names) named × (working-words ≤ length (now recs)) × (working-words ≤ length (now run)) × Linked (stamp-in (now names) (now run)) named (now run) × (stamps ≤ most-stamps) × (m + length (kind-records (now names) (now recs) named (stamp-in (now names) (now run)) kind stamps) ≤ most-records) ⌝ }
+    ensures { λ to. ⌜ Lists (now (run .entry)) m (kind-records (now (names .entry)) (now (recs .entry)) named (stamp-in (now (names .entry)) (now (run .entry))) kind stamps) (now (run .exit)) to ⌝ }
+{
+    let mut to = m;
+    let mut s = stamps;
+    while 0 < s {
+        to = list_stamp(names, recs, run, named, kind, s, to);
+        s -= 1;
+    }
+    to
+}
+
+// Lists the definitions and then the declarations of the names with the stamps up to `stamps`.
+fn list_decls(
+    names: &[u32],
+    recs: &[u32],
+    run: &mut [u32],
+    named: usize,
+    stamps: usize,
+    m: usize,
+) -> usize
+    requires { ⌜ Index (now names) named × (working-words ≤ length (now recs)) × (working-words ≤ length (now run)) × Linked (stamp-in (now names) (now run)) named (now run) × (stamps ≤ most-stamps) × (m + length (decl-records (now names) (now recs) named (stamp-in (now names) (now run)) stamps) ≤ most-records) ⌝ }
+    ensures { λ to. ⌜ Lists (now (run .entry)) m (decl-records (now (names .entry)) (now (recs .entry)) named (stamp-in (now (names .entry)) (now (run .entry))) stamps) (now (run .exit)) to ⌝ }
+{
+    let defs = list_kind(names, recs, run, named, records::DEF, stamps, m);
+    list_kind(names, recs, run, named, records::FUN, stamps, defs)
+}
+
+// Puts the line of each kept record in its place.
+fn put_lines(recs: &[u32], run: &mut [u32], count: usize)
+    requires { ⌜ (working-words ≤ length (now recs)) × (working-words ≤ length (now run)) × (count ≤ most-records) × ((j : ℕ) → j < count → getD (now run) (kept-column + j) 0 < most-records) ⌝ }
+    ensures { λ r. ⌜ Lists (now (run .entry)) 0 (map (record-line (now (recs .entry))) (part (now (run .entry)) kept-column (kept-column + count))) (now (run .exit)) count ⌝ }
+{
+    let mut j = 0;
+    while j < count {
+        let i = words::at(run, KEPT + j);
+        run[KEPT + j] = recs[records::LINE + i];
+        j += 1;
+    }
+}
+
+// Lists the kept records: the facts, and with option 4 definitions and then declarations.
+fn list_records(names: &[u32], recs: &[u32], out: &[u32], run: &mut [u32], k: Counts) -> usize
+    requires { ⌜ Listable (now names) (now recs) (now out) (now run) k ⌝ }
+    ensures { λ to. ⌜ Listed (now (names .entry)) (now (recs .entry)) (now (out .entry)) (now (run .entry)) (now (run .exit)) k to ⌝ }
+{
+    let facts = list_facts(names, recs, run, k);
+    if !records::prune_decls(k.options) {
+        return facts;
+    }
+    words::clear(run, 0, model::MOST_NAMES);
+    note_facts(recs, out, run, k, facts);
+    let stamps = note_roots(recs, out, run, k, facts);
+    link_names(names, run, k.named);
+    list_decls(names, recs, run, k.named, stamps, facts)
+}
+
+// Lists the kept lines.
+pub fn prune(
+    file: &[u8],
+    names: &[u32],
+    recs: &[u32],
+    out: &[u32],
+    run: &mut [u32],
+    k: Counts,
+) -> usize
+    requires { ⌜ Run-over (now file) (now names) (now recs) (now out) (now run) k ⌝ }
+    ensures { λ r. ⌜ Pruned (now (file .entry)) (now (names .entry)) (now (recs .entry)) (now (out .entry)) (now (run .entry)) (now (run .exit)) k r ⌝ }
+{
+    let count = list_records(names, recs, out, run, k);
+    put_lines(recs, run, count);
+    count
+}
