@@ -1,0 +1,255 @@
+-- The slices of a call: cleared, copied, left.
+use Prim.Native.Nat.{ℕ, zero, suc, _+_, _-_, _≤_, _<_}
+use native.Mathlib.Omega.{arith}
+use native.Mathlib.Numerals.{add-one}
+use mathlib.Core.Path.{_≡_, refl, sym, _∙_, ap}
+use mathlib.Core.Bool.{Bool, true, false, cond, _||_}
+use mathlib.Core.List.{List, [], _∷_, _++_}
+use lib.Dec.{ltb, leb}
+use lib.ListN.{length, take, drop, getD, set, replicate, length-drop, length-append, length-replicate, getD-replicate}
+use lib.Seq.{length-take-le, getD-drop, getD-append-add, ext-getD, take-append-seam, getD-take}
+use borrow.Author.Tests.{lt-ltb, le-ltb, le-leb, lt-leb, ltb-false, ltb-true}
+use Rattle.model.specs.Lists.{any}
+use Rattle.model.specs.Reading.{most-records}
+use Rattle.model.specs.Outcome.{Outcome, refusal-at, list, fitting, judged, outcome, working-words, most-bytes, answer, result-after, work-after, is-working, refusal-number}
+use Rattle.model.specs.declared.Answer.{Answer}
+use Rattle.model.specs.declared.Refusal.{Refusal}
+use Rattle.model.specs.declared.Refusal.the-variants as refusal
+use Rattle.model.specs.declared.Verdict.the-variants.{Refused}
+use Rattle.words.specs.Slices.{Same-but, Zeroed}
+use Rattle.words.proofs.Slices.{same-then}
+use Rattle.demands.proofs.Room.{judged-not-7}
+use Rattle.prune.specs.Loops.{kept-column}
+use Rattle.filter.specs.Call.{lengths, Gives, Leaves, Long, Rest, Cleared-all, lines-of, Replied, Settles}
+
+-- ---- clearing
+
+-- the first n words zero and the rest as they were
+pub cleared-is : (n : ℕ) (w u x : List ℕ) → n ≤ length w → Same-but 0 n w u → Zeroed 0 n u x → x ≡ replicate n 0 ++ drop n w
+cleared-is n w u x room s z = ext-getD 0 x (replicate n 0 ++ drop n w) sizes words
+  where
+    sizes : length x ≡ length (replicate n 0 ++ drop n w)
+    sizes =
+        omega
+        (arith,
+          z .same .same-length,
+          s .same-length,
+          length-append (replicate n 0) (drop n w),
+          length-replicate {A = ℕ} n 0,
+          length-drop n w)
+
+    low : (i : ℕ) → i < n → getD (replicate n 0 ++ drop n w) i 0 ≡ 0
+    low i h =
+        sym (getD-take n (replicate n 0 ++ drop n w) i 0 h)
+        ∙ ap (λ (l : List ℕ). getD l i 0) (ap (λ (m : ℕ). take m (replicate n 0 ++ drop n w)) (sym (length-replicate {A = ℕ} n 0)) ∙ take-append-seam (replicate n 0) (drop n w))
+        ∙ getD-replicate n i 0 0 h
+
+    high : (i : ℕ) → getD (replicate n 0 ++ drop n w) (n + i) 0 ≡ getD w (n + i) 0
+    high i =
+        ap (λ (m : ℕ). getD (replicate n 0 ++ drop n w) (m + i) 0) (sym (length-replicate {A = ℕ} n 0))
+        ∙ getD-append-add (replicate n 0) (drop n w) i 0
+        ∙ getD-drop n w i 0
+
+    at-least : (i : ℕ) → n ≤ i → getD (replicate n 0 ++ drop n w) i 0 ≡ getD w i 0
+    at-least i h = rw (let e : i ≡ n + (i - n) = omega arith in e) (high (i - n))
+
+    words : (i : ℕ) → i < length x → getD x i 0 ≡ getD (replicate n 0 ++ drop n w) i 0
+    words i h = go (ltb i n) refl
+      where
+        go : (b : Bool) → ltb i n ≡ b → getD x i 0 ≡ getD (replicate n 0 ++ drop n w) i 0
+        go true e = let l = ltb-true i n e in z .zero i (omega arith) (omega arith) ∙ sym (low i l)
+        go false e =
+            let l = ltb-false i n e in
+            z .same .same-words i (λ a b. omega arith) ∙ s .same-words i (λ a b. omega arith) ∙ sym (at-least i l)
+
+-- ---- copying
+
+copy-suc : (n : ℕ) (s d : List ℕ) → n < length s → n < length d
+    → set (take n s ++ drop n d) n (getD s n 0) ≡ take (suc n) s ++ drop (suc n) d
+copy-suc n [] d h k = absurd (omega arith)
+copy-suc n (x ∷ s) [] h k = absurd (omega arith)
+copy-suc zero (x ∷ s) (y ∷ d) h k = refl
+copy-suc (suc n) (x ∷ s) (y ∷ d) h k = ap (x ∷_) (copy-suc n s d (omega arith) (omega arith))
+
+-- the first i of the n words copied
+pub record Copying (s d : List ℕ) (n : ℕ) (v : List ℕ) (i : ℕ) : Type 0 where
+  pub some : i ≤ n
+  pub there : n ≤ length s
+  pub room : n ≤ length d
+  pub copied : v ≡ take i s ++ drop i d
+
+pub copying-start : (s d : List ℕ) (n : ℕ) → n ≤ length s → n ≤ length d → Copying s d n d 0
+copying-start s d n h k = record { some = omega arith; there = h; room = k; copied = refl }
+
+pub copying-length : {s d : List ℕ} {n : ℕ} {v : List ℕ} {i : ℕ} → Copying s d n v i → length v ≡ length d
+copying-length {s} {d} {i} c =
+    let a = length-append (take i s) (drop i d) in
+    let b = length-take-le i s (omega (arith, c .some, c .there)) in
+    let e = length-drop i d in
+    let f = ap length (c .copied) in
+    omega (arith, c .some, c .room)
+
+-- one word more
+pub copying-next : {w d : List ℕ} {n : ℕ} {v : List ℕ} {i : ℕ} (a x : ℕ)
+    → Copying (drop a w) d n v i → i < n → x ≡ getD w (a + i) 0 → Copying (drop a w) d n (set v i x) (i + 1)
+copying-next {w} {d} {n} {v} {i} a x c h e = record {
+  some = omega arith;
+  there = c .there;
+  room = c .room;
+  copied =
+    rw (add-one i, c .copied, e ∙ sym (getD-drop a w i 0))
+    (copy-suc i (drop a w) d (omega (arith, c .there)) (omega (arith, c .room)));
+}
+
+pub copying-end : {s d : List ℕ} {n : ℕ} {v : List ℕ} {i : ℕ} → Copying s d n v i → n ≤ i → v ≡ take n s ++ drop n d
+copying-end {s} {d} {n} {i = i} c h = c .copied ∙ ap (λ (j : ℕ). take j s ++ drop j d) (let e : i ≡ n = omega (arith, c .some) in e)
+
+-- a place of the copied words is one of the slice
+pub copying-place : (w : List ℕ) (a i n : ℕ) → i < n → n ≤ length (drop a w) → a + i < length w
+copying-place w a i n h k = omega (arith, length-drop a w)
+
+-- ---- short slices
+
+module _ (n0 n1 n2 n3 n4 n5 : ℕ) where
+  abbrev any-short : Bool
+  any-short = any (λ (n : ℕ). ltb n working-words) (n0 ∷ n1 ∷ n2 ∷ n3 ∷ n4 ∷ n5 ∷ [])
+
+  pub short-0 : n0 < working-words → true ≡ any-short
+  unfolding any
+  short-0 h = rw (lt-ltb n0 working-words h)
+
+  pub short-1 : working-words ≤ n0 → n1 < working-words → true ≡ any-short
+  unfolding any
+  short-1 a h = rw (le-ltb n0 working-words a, lt-ltb n1 working-words h)
+
+  pub short-2 : working-words ≤ n0 → working-words ≤ n1 → n2 < working-words → true ≡ any-short
+  unfolding any
+  short-2 a b h = rw (le-ltb n0 working-words a, le-ltb n1 working-words b, lt-ltb n2 working-words h)
+
+  pub short-3 : working-words ≤ n0 → working-words ≤ n1 → working-words ≤ n2 → n3 < working-words → true ≡ any-short
+  unfolding any
+  short-3 a b c h = rw (le-ltb n0 working-words a, le-ltb n1 working-words b, le-ltb n2 working-words c, lt-ltb n3 working-words h)
+
+  pub short-4 : working-words ≤ n0 → working-words ≤ n1 → working-words ≤ n2 → working-words ≤ n3 → n4 < working-words → true ≡ any-short
+  unfolding any
+  short-4 a b c d h =
+      rw (le-ltb n0 working-words a, le-ltb n1 working-words b, le-ltb n2 working-words c, le-ltb n3 working-words d, lt-ltb n4 working-words h)
+
+  or-false : (b : Bool) → b ≡ (b || false)
+  or-false true = refl
+  or-false false = refl
+
+  pub short-5 : working-words ≤ n0 → working-words ≤ n1 → working-words ≤ n2 → working-words ≤ n3 → working-words ≤ n4
+      → ltb n5 working-words ≡ any-short
+  unfolding any
+  short-5 a b c d e =
+      rw (le-ltb n0 working-words a, le-ltb n1 working-words b, le-ltb n2 working-words c, le-ltb n3 working-words d, le-ltb n4 working-words e)
+      (or-false (ltb n5 working-words))
+
+or-left : (a b : Bool) → (a || b) ≡ false → a ≡ false
+or-left true b e = e
+or-left false b e = refl
+
+or-right : (a b : Bool) → (a || b) ≡ false → b ≡ false
+or-right true b e = absurd (let z : _≡_ {A = ℕ} 0 1 = cc in omega arith)
+or-right false b e = e
+
+-- none is short
+pub long : (w0 w1 w2 w3 w4 w5 : List ℕ)
+    → any-short (length w0) (length w1) (length w2) (length w3) (length w4) (length w5) ≡ false → Long w0 w1 w2 w3 w4 w5
+unfolding any
+long w0 w1 w2 w3 w4 w5 e =
+    let e1 = or-right (ltb (length w0) working-words) _ e in
+    let e2 = or-right (ltb (length w1) working-words) _ e1 in
+    let e3 = or-right (ltb (length w2) working-words) _ e2 in
+    let e4 = or-right (ltb (length w3) working-words) _ e3 in
+    let e5 = or-right (ltb (length w4) working-words) _ e4 in
+    record {
+      long-0 = ltb-false (length w0) working-words (or-left _ _ e);
+      long-1 = ltb-false (length w1) working-words (or-left _ _ e1);
+      long-2 = ltb-false (length w2) working-words (or-left _ _ e2);
+      long-3 = ltb-false (length w3) working-words (or-left _ _ e3);
+      long-4 = ltb-false (length w4) working-words (or-left _ _ e4);
+      long-5 = ltb-false (length w5) working-words (or-left _ _ e5);
+    }
+
+-- slices that keep their lengths stay long
+pub rest-long : {w0 w1 w2 w3 w4 w5 v0 v1 v2 v3 v4 v5 : List ℕ}
+    → Long w0 w1 w2 w3 w4 w5 → Rest w0 w1 w2 w3 w4 w5 v0 v1 v2 v3 v4 v5 → Long v0 v1 v2 v3 v4 v5
+rest-long l r = record {
+  long-0 = omega (arith, l .long-0, r .rest-0 .same-length);
+  long-1 = omega (arith, l .long-1, r .rest-1 .same-length);
+  long-2 = omega (arith, l .long-2, r .rest-2 .same-length);
+  long-3 = omega (arith, l .long-3, r .rest-3 .same-length);
+  long-4 = omega (arith, l .long-4, r .rest-4 .same-length);
+  long-5 = omega (arith, l .long-5, r .rest-5 .same-length);
+}
+
+-- ---- what a call leaves
+
+-- 7
+pub leaves-7 : (file w0 w1 w2 w3 w4 w5 out : List ℕ) (a : Answer)
+    → any-short (length w0) (length w1) (length w2) (length w3) (length w4) (length w5) ≡ true
+    → a ≡ answer (refusal-at refusal.Working 0)
+    → Leaves (outcome file (lengths w0 w1 w2 w3 w4 w5) (length out)) w0 w1 w2 w3 w4 w5 out a w0 w1 w2 w3 w4 w5 out
+unfolding outcome result-after work-after is-working refusal-number
+leaves-7 file w0 w1 w2 w3 w4 w5 out a e h =
+    rw e
+    (record {
+      gives = record { answered = h; result = refl };
+      work-0 = refl;
+      work-1 = refl;
+      work-2 = refl;
+      work-3 = refl;
+      work-4 = refl;
+      work-5 = refl;
+    })
+
+-- not 7
+pub leaves-judged : (file w0 w1 w2 w3 w4 w5 v0 v1 v2 v3 v4 v5 out out′ : List ℕ) (a : Answer)
+    → any-short (length w0) (length w1) (length w2) (length w3) (length w4) (length w5) ≡ false
+    → Leaves (judged file (length out)) w0 w1 w2 w3 w4 w5 out a v0 v1 v2 v3 v4 v5 out′
+    → Leaves (outcome file (lengths w0 w1 w2 w3 w4 w5) (length out)) w0 w1 w2 w3 w4 w5 out a v0 v1 v2 v3 v4 v5 out′
+unfolding outcome
+leaves-judged file w0 w1 w2 w3 w4 w5 v0 v1 v2 v3 v4 v5 out out′ a e l = rw e l
+
+-- an outcome other than 7 leaves a slice cleared
+work-cleared : (o : Outcome) → ((place : ℕ) → o ≡ refusal-at refusal.Working place → ⊥)
+    → (w : List ℕ) → replicate working-words 0 ++ drop working-words w ≡ work-after o w
+unfolding work-after is-working refusal-number
+work-cleared (refusal-at refusal.Form place) n w = refl
+work-cleared (refusal-at refusal.Name place) n w = refl
+work-cleared (refusal-at refusal.Number place) n w = refl
+work-cleared (refusal-at refusal.Term place) n w = refl
+work-cleared (refusal-at refusal.Repeated place) n w = refl
+work-cleared (refusal-at refusal.Limit place) n w = refl
+work-cleared (refusal-at refusal.Working place) n w = absurd (n place refl)
+work-cleared (refusal-at refusal.Room place) n w = refl
+work-cleared (refusal-at refusal.Size place) n w = refl
+work-cleared (list lines seen turns) n w = refl
+
+-- an outcome other than 7, the slices written and cleared
+leaves-cleared : (o : Outcome) {w0 w1 w2 w3 w4 w5 u0 u1 u2 u3 u4 u5 v0 v1 v2 v3 v4 v5 out out′ : List ℕ} {a : Answer}
+    → ((place : ℕ) → o ≡ refusal-at refusal.Working place → ⊥)
+    → Long w0 w1 w2 w3 w4 w5 → Rest w0 w1 w2 w3 w4 w5 u0 u1 u2 u3 u4 u5
+    → Cleared-all u0 u1 u2 u3 u4 u5 v0 v1 v2 v3 v4 v5 → Gives o out a out′
+    → Leaves o w0 w1 w2 w3 w4 w5 out a v0 v1 v2 v3 v4 v5 out′
+leaves-cleared o {w0} {w1} {w2} {w3} {w4} {w5} {u0} {u1} {u2} {u3} {u4} {u5} {v0} {v1} {v2} {v3} {v4} {v5} n l r c g = record {
+  gives = g;
+  work-0 = cleared-is working-words w0 u0 v0 (l .long-0) (r .rest-0) (c .cleared-0) ∙ work-cleared o n w0;
+  work-1 = cleared-is working-words w1 u1 v1 (l .long-1) (r .rest-1) (c .cleared-1) ∙ work-cleared o n w1;
+  work-2 = cleared-is working-words w2 u2 v2 (l .long-2) (r .rest-2) (c .cleared-2) ∙ work-cleared o n w2;
+  work-3 = cleared-is working-words w3 u3 v3 (l .long-3) (r .rest-3) (c .cleared-3) ∙ work-cleared o n w3;
+  work-4 = cleared-is working-words w4 u4 v4 (l .long-4) (r .rest-4) (c .cleared-4) ∙ work-cleared o n w4;
+  work-5 = cleared-is working-words w5 u5 v5 (l .long-5) (r .rest-5) (c .cleared-5) ∙ work-cleared o n w5;
+}
+
+-- 9
+pub leaves-9 : (file : List ℕ) {w0 w1 w2 w3 w4 w5 v0 v1 v2 v3 v4 v5 : List ℕ} (out : List ℕ) {a : Answer}
+    → most-bytes < length file → Long w0 w1 w2 w3 w4 w5 → Rest w0 w1 w2 w3 w4 w5 w0 w1 w2 w3 w4 w5
+    → Cleared-all w0 w1 w2 w3 w4 w5 v0 v1 v2 v3 v4 v5 → a ≡ answer (refusal-at refusal.Size 0)
+    → Leaves (judged file (length out)) w0 w1 w2 w3 w4 w5 out a v0 v1 v2 v3 v4 v5 out
+leaves-9 file out h l r c e = leaves-cleared (judged file (length out)) (judged-not-7 file (length out)) l r c (gives-9 file out h e)
+  where
+    gives-9 : (file out : List ℕ) {a : Answer} → most-bytes < length file → a ≡ answer (refusal-at refusal.Size 0) → Gives (judged file (length out)) out a out
+    gives-9 file out h e = size-gives file out (lt-ltb most-bytes (length file) h) e
