@@ -10,17 +10,18 @@ use lib.ListN.{length, take, drop, getD, set, replicate, length-drop, length-app
 use lib.Seq.{length-take-le, getD-drop, getD-append-add, ext-getD, take-append-seam, getD-take}
 use borrow.Author.Tests.{lt-ltb, le-ltb, le-leb, lt-leb, ltb-false, ltb-true}
 use Rattle.model.specs.Lists.{any}
-use Rattle.model.specs.Reading.{most-records}
-use Rattle.model.specs.Outcome.{Outcome, refusal-at, list, fitting, judged, outcome, working-words, most-bytes, answer, result-after, work-after, is-working, refusal-number}
+use Rattle.model.specs.Summaries.{exclude-names}
+use Rattle.model.specs.Reading.{most-records, read-file}
+use Rattle.model.specs.Outcome.{Outcome, refusal-at, list, of-reading, fitting, judged, outcome, working-words, most-bytes, answer, result-after, work-after, is-working, refusal-number}
 use Rattle.model.specs.declared.Answer.{Answer}
 use Rattle.model.specs.declared.Refusal.{Refusal}
 use Rattle.model.specs.declared.Refusal.the-variants as refusal
 use Rattle.model.specs.declared.Verdict.the-variants.{Refused}
 use Rattle.words.specs.Slices.{Same-but, Zeroed}
-use Rattle.words.proofs.Slices.{same-then}
+use Rattle.words.proofs.Slices.{same-self, same-then}
 use Rattle.demands.proofs.Room.{judged-not-7}
 use Rattle.prune.specs.Loops.{kept-column}
-use Rattle.filter.specs.Call.{lengths, Gives, Leaves, Long, Rest, Cleared-all, lines-of, Replied, Settles}
+use Rattle.filter.specs.Call.{lengths, Gives, Leaves, Long, Rest, Cleared-all, lines-of, Replied, Settles, Lent}
 
 -- ---- clearing
 
@@ -30,13 +31,14 @@ cleared-is n w u x room s z = ext-getD 0 x (replicate n 0 ++ drop n w) sizes wor
   where
     sizes : length x ≡ length (replicate n 0 ++ drop n w)
     sizes =
-        omega
-        (arith,
+        omega (
+          arith,
           z .same .same-length,
           s .same-length,
           length-append (replicate n 0) (drop n w),
           length-replicate {A = ℕ} n 0,
-          length-drop n w)
+          length-drop n w,
+        )
 
     low : (i : ℕ) → i < n → getD (replicate n 0 ++ drop n w) i 0 ≡ 0
     low i h =
@@ -90,15 +92,15 @@ copying-length {s} {d} {i} c =
     omega (arith, c .some, c .room)
 
 -- one word more
-pub copying-next : {w d : List ℕ} {n : ℕ} {v : List ℕ} {i : ℕ} (a x : ℕ)
+pub copying-next : (w : List ℕ) {d : List ℕ} {n : ℕ} {v : List ℕ} {i : ℕ} (a x : ℕ)
     → Copying (drop a w) d n v i → i < n → x ≡ getD w (a + i) 0 → Copying (drop a w) d n (set v i x) (i + 1)
-copying-next {w} {d} {n} {v} {i} a x c h e = record {
+copying-next w {d} {n} {v} {i} a x c h e = record {
   some = omega arith;
   there = c .there;
   room = c .room;
   copied =
-    rw (add-one i, c .copied, e ∙ sym (getD-drop a w i 0))
-    (copy-suc i (drop a w) d (omega (arith, c .there)) (omega (arith, c .room)));
+      rw (add-one i, c .copied, e ∙ sym (getD-drop a w i 0))
+      (copy-suc i (drop a w) d (omega (arith, c .there)) (omega (arith, c .room)));
 }
 
 pub copying-end : {s d : List ℕ} {n : ℕ} {v : List ℕ} {i : ℕ} → Copying s d n v i → n ≤ i → v ≡ take n s ++ drop n d
@@ -185,6 +187,35 @@ rest-long l r = record {
   long-5 = omega (arith, l .long-5, r .rest-5 .same-length);
 }
 
+-- what the reading asks, after the rows and the names are cleared
+pub lent : {file w0 w1 w2 w3 w4 w5 v1 v2 : List ℕ} → Long w0 w1 w2 w3 w4 w5 → length file ≤ most-bytes
+    → Zeroed 0 working-words w1 v1 → Zeroed 0 working-words w2 v2 → Lent file w0 v1 v2 w3 w4 w5
+lent l h y z = record {
+  cleared = record {
+    short = h;
+    name-room = omega (arith, l .long-2, z .same .same-length);
+    reference-room = l .long-0;
+    row-room = omega (arith, l .long-1, y .same .same-length);
+    record-room = l .long-3;
+    list-room = l .long-4;
+    name-zero = λ i k. z .zero i (omega arith) (omega arith);
+    row-zero = λ i k. y .zero i (omega arith) (omega arith);
+  };
+  room = l .long-5;
+}
+
+-- clearing them and reading
+pub rest-read : {w0 w1 w2 w3 w4 w5 v1 v2 u0 u1 u2 u3 u4 u5 : List ℕ} → Zeroed 0 working-words w1 v1 → Zeroed 0 working-words w2 v2
+    → Rest w0 v1 v2 w3 w4 w5 u0 u1 u2 u3 u4 u5 → Rest w0 w1 w2 w3 w4 w5 u0 u1 u2 u3 u4 u5
+rest-read y z r = record {
+  rest-0 = r .rest-0;
+  rest-1 = same-then (y .same) (r .rest-1);
+  rest-2 = same-then (z .same) (r .rest-2);
+  rest-3 = r .rest-3;
+  rest-4 = r .rest-4;
+  rest-5 = r .rest-5;
+}
+
 -- ---- what a call leaves
 
 -- 7
@@ -228,6 +259,11 @@ work-cleared (refusal-at refusal.Room place) n w = refl
 work-cleared (refusal-at refusal.Size place) n w = refl
 work-cleared (list lines seen turns) n w = refl
 
+-- where the file is not too large
+judged-is : (file : List ℕ) (room : ℕ) → length file ≤ most-bytes → judged file room ≡ fitting room (of-reading (read-file exclude-names file))
+unfolding judged
+judged-is file room h = rw (le-ltb most-bytes (length file) h)
+
 -- an outcome other than 7, the slices written and cleared
 leaves-cleared : (o : Outcome) {w0 w1 w2 w3 w4 w5 u0 u1 u2 u3 u4 u5 v0 v1 v2 v3 v4 v5 out out′ : List ℕ} {a : Answer}
     → ((place : ℕ) → o ≡ refusal-at refusal.Working place → ⊥)
@@ -246,10 +282,84 @@ leaves-cleared o {w0} {w1} {w2} {w3} {w4} {w5} {u0} {u1} {u2} {u3} {u4} {u5} {v0
 
 -- 9
 pub leaves-9 : (file : List ℕ) {w0 w1 w2 w3 w4 w5 v0 v1 v2 v3 v4 v5 : List ℕ} (out : List ℕ) {a : Answer}
-    → most-bytes < length file → Long w0 w1 w2 w3 w4 w5 → Rest w0 w1 w2 w3 w4 w5 w0 w1 w2 w3 w4 w5
-    → Cleared-all w0 w1 w2 w3 w4 w5 v0 v1 v2 v3 v4 v5 → a ≡ answer (refusal-at refusal.Size 0)
+    → most-bytes < length file → Long w0 w1 w2 w3 w4 w5 → Cleared-all w0 w1 w2 w3 w4 w5 v0 v1 v2 v3 v4 v5
+    → a ≡ answer (refusal-at refusal.Size 0)
     → Leaves (judged file (length out)) w0 w1 w2 w3 w4 w5 out a v0 v1 v2 v3 v4 v5 out
-leaves-9 file out h l r c e = leaves-cleared (judged file (length out)) (judged-not-7 file (length out)) l r c (gives-9 file out h e)
+unfolding judged result-after refusal-number
+leaves-9 file {w0} {w1} {w2} {w3} {w4} {w5} out h l c e =
+    rw (lt-ltb most-bytes (length file) h)
+    (leaves-cleared (refusal-at refusal.Size 0) not-7 l all-same c (record { answered = e; result = refl }))
   where
-    gives-9 : (file out : List ℕ) {a : Answer} → most-bytes < length file → a ≡ answer (refusal-at refusal.Size 0) → Gives (judged file (length out)) out a out
-    gives-9 file out h e = size-gives file out (lt-ltb most-bytes (length file) h) e
+    number : Outcome → ℕ
+    number (refusal-at r place) = refusal-number r
+    number (list lines seen turns) = 0
+
+    not-7 : (place : ℕ) → refusal-at refusal.Size 0 ≡ refusal-at refusal.Working place → ⊥
+    not-7 place e = let z : _≡_ {A = ℕ} 9 7 = ap number e in omega arith
+
+    all-same : Rest w0 w1 w2 w3 w4 w5 w0 w1 w2 w3 w4 w5
+    all-same = record {
+      rest-0 = same-self 0 working-words w0;
+      rest-1 = same-self 0 working-words w1;
+      rest-2 = same-self 0 working-words w2;
+      rest-3 = same-self 0 working-words w3;
+      rest-4 = same-self 0 working-words w4;
+      rest-5 = same-self 0 working-words w5;
+    }
+
+-- any other
+pub leaves-read : (file : List ℕ) {w0 w1 w2 w3 w4 w5 u0 u1 u2 u3 u4 u5 v0 v1 v2 v3 v4 v5 : List ℕ} {out out′ : List ℕ} {a r : Answer}
+    → length file ≤ most-bytes → Long w0 w1 w2 w3 w4 w5 → Rest w0 w1 w2 w3 w4 w5 u0 u1 u2 u3 u4 u5
+    → Replied (of-reading (read-file exclude-names file)) r u5 → Settles r u5 out a out′
+    → Cleared-all u0 u1 u2 u3 u4 u5 v0 v1 v2 v3 v4 v5
+    → Leaves (judged file (length out)) w0 w1 w2 w3 w4 w5 out a v0 v1 v2 v3 v4 v5 out′
+leaves-read file {out = out} {out′} {a} h l r p s c =
+    leaves-cleared (judged file (length out)) (judged-not-7 file (length out)) l r c (gives file out out′ a h (s .settled (of-reading (read-file exclude-names file)) p))
+  where
+    gives : (file out out′ : List ℕ) (a : Answer) → length file ≤ most-bytes
+        → Gives (fitting (length out) (of-reading (read-file exclude-names file))) out a out′ → Gives (judged file (length out)) out a out′
+    gives file out out′ a h g = rw (judged-is file (length out) h) g
+
+-- ---- 8, or the lines
+
+room-8 : (o : Outcome) (a r : Answer) (run out : List ℕ) → length out < a .kept → r ≡ answer (refusal-at refusal.Room (a .kept))
+    → Replied o a run → Gives (fitting (length out) o) out r out
+unfolding fitting result-after answer
+room-8 (refusal-at x place) a r run out k e p = absurd (let z : a .kept ≡ 0 = ap (λ (b : Answer). b .kept) (p .answered) in omega arith)
+room-8 (list l v t) a r run out k e p =
+    let n : a .kept ≡ length l = ap (λ (b : Answer). b .kept) (p .answered) in
+    rw (lt-leb (length l) (length out) (rw n at k)) (record { answered = rw n at e; result = refl })
+
+pub settle-8 : {a r : Answer} {run out : List ℕ} → length out < a .kept → r ≡ answer (refusal-at refusal.Room (a .kept)) → Settles a run out r out
+settle-8 {a} {r} {run} {out} k e = record { settled = λ o p. room-8 o a r run out k e p; same-length = refl }
+
+listed-all : (o : Outcome) (a : Answer) (run out v : List ℕ) → a .kept ≤ length out
+    → v ≡ take (a .kept) (drop kept-column run) ++ drop (a .kept) out → Replied o a run → Gives (fitting (length out) o) out a v
+unfolding fitting result-after lines-of answer
+listed-all (refusal-at x place) a run out v k e p =
+    let z : a .kept ≡ 0 = ap (λ (b : Answer). b .kept) (p .answered) in
+    record { answered = p .answered; result = rw z at e }
+listed-all (list l x t) a run out v k e p =
+    let n : a .kept ≡ length l = ap (λ (b : Answer). b .kept) (p .answered) in
+    rw (le-leb (length l) (length out) (rw n at k))
+    (record {
+      answered = p .answered;
+      result = e ∙ ap (λ (x : List ℕ). x ++ drop (a .kept) out) (sym (p .listed)) ∙ ap (λ (j : ℕ). l ++ drop j out) n;
+    })
+
+pub settle-list : {a : Answer} {run out v : List ℕ} → a .kept ≤ length (drop kept-column run) → a .kept ≤ length out
+    → v ≡ take (a .kept) (drop kept-column run) ++ drop (a .kept) out → Settles a run out a v
+settle-list {a} {run} {out} {v} h k e =
+    record {
+      settled = λ o p. listed-all o a run out v k e p;
+      same-length = copying-length {s = drop kept-column run} {d = out} {n = a .kept} {v = v} {i = a .kept} (record { some = omega arith; there = h; room = k; copied = e });
+    }
+
+-- the kept lines lie in the run's slice
+pub kept-there : (run : List ℕ) (n : ℕ) → n ≤ most-records → working-words ≤ length run → n ≤ length (drop kept-column run)
+kept-there run n h k = omega (arith, length-drop kept-column run)
+
+-- a refused answer
+pub refused-is : (r : Refusal) (place : ℕ) → record { verdict = Refused r; place = place; kept = 0; visits = 0; rounds = 0 } ≡ answer (refusal-at r place)
+unfolding answer
+refused-is r place = refl

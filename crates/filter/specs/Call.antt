@@ -13,6 +13,7 @@ use Rattle.names.specs.Table.{name-of}
 use Rattle.words.specs.Slices.{Same-but, Zeroed}
 use Rattle.records.specs.States.{decls-of, roots-of, ask-of}
 use Rattle.records.specs.Macros.{Filled}
+use Rattle.reader.specs.Lines.{Cleared}
 use Rattle.scan.specs.Runs.{run-of}
 use Rattle.prune.specs.Loops.{kept-column}
 
@@ -87,6 +88,11 @@ outcome-of file names recs out k =
     (kept (ask-of k) decls (roots-of (name-of file names) recs out (k .records)) (r .reached))
     (visits (r .met) (facts decls))
     (r .rounds)
+
+-- what the reading, the run and the list ask together
+pub record Lent (file refs rows names recs lists run : List ℕ) : Type 0 where
+  pub cleared : Cleared file names refs rows recs lists
+  pub room : working-words ≤ length run
 
 -- what the run and the list ask: tables filled from the file, a slice for the run, no more lines than records
 pub record Runs (file names recs out run : List ℕ) (k : Counts) : Type 0 where

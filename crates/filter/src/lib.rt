@@ -13,9 +13,8 @@ ghost use Rattle.model.specs.Summaries.{exclude-names};
 ghost use Rattle.model.specs.Reading.{most-records, read-file};
 ghost use Rattle.model.specs.Outcome.{answer, refusal-at, of-reading, judged, outcome, working-words};
 ghost use Rattle.words.specs.Slices.{Same-but};
-ghost use Rattle.reader.specs.Lines.{Cleared};
 ghost use Rattle.prune.specs.Loops.{kept-column};
-ghost use Rattle.filter.specs.Call.{lengths, Leaves, Long, Rest, Cleared-all, Replied, Settles, outcome-of, Runs};
+ghost use Rattle.filter.specs.Call.{lengths, Leaves, Long, Rest, Cleared-all, Replied, Settles, outcome-of, Lent, Runs};
 
 // A refused answer: its place, and every count 0.
 fn refused(r: Refusal, place: u32) -> Answer
@@ -106,7 +105,7 @@ fn answer_file(
     lists: &mut [u32],
     run: &mut [u32],
 ) -> Answer
-    requires { ⌜ Cleared (now file) (now names) (now refs) (now rows) (now recs) (now lists) × (working-words ≤ length (now run)) ⌝ }
+    requires { ⌜ Lent (now file) (now refs) (now rows) (now names) (now recs) (now lists) (now run) ⌝ }
     ensures replied { λ a. ⌜ Replied (of-reading (read-file exclude-names (now (file .entry)))) a (now (run .exit)) ⌝ }
     ensures rest { λ a. ⌜ Rest (now (refs .entry)) (now (rows .entry)) (now (names .entry)) (now (recs .entry)) (now (lists .entry)) (now (run .entry)) (now (refs .exit)) (now (rows .exit)) (now (names .exit)) (now (recs .exit)) (now (lists .exit)) (now (run .exit)) ⌝ }
 {

@@ -1,0 +1,11 @@
+-- `filter::refused` meets its contract.
+use Rattle.filter.proofs.Laws.{refused-is}
+use Rattle.filter.proofs.refused.Statement.{statement}
+use Rattle.filter.proofs.refused.Tie as tie
+
+returns : tie.Need-returns
+returns c = refused-is _ _
+
+pub refused-spec : {M : Type 1} → statement M
+refused-spec =
+    tie.close (tie.spec returns)
