@@ -1,2 +1,4 @@
 pub mod Ranges
 pub mod Order
+pub mod Filed
+pub mod Takers
