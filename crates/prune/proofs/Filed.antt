@@ -1,5 +1,5 @@
 -- The facts, the definitions, the declarations and the roots of the tables, as lists over the numbers of the records.
-use Prim.Native.Nat.{ℕ, zero, suc, _+_, _-_, _≤_, _<_}
+use Prim.Native.Nat.{ℕ, zero, suc, _+_}
 use native.Mathlib.Omega.{arith}
 use mathlib.Core.Path.{_≡_, refl, sym, ap, ap₂, _∙_}
 use mathlib.Core.Bool.{Bool, true, false, cond}
@@ -43,6 +43,7 @@ module _ (name : ℕ → Name) (recs out : List ℕ) where
   abbrev pub fun-at : ℕ → Decl
   fun-at i = decl-at name recs out i []
 
+  -- what a record adds to the declarations
   record-funs : (i kind : ℕ) → declarations (summary-at name recs out i kind) ≡ cond (eqb kind fun-kind) (fun-at i ∷ []) []
   unfolding summary-at declarations
   record-funs i zero = refl
@@ -51,6 +52,7 @@ module _ (name : ℕ → Name) (recs out : List ℕ) where
   record-funs i (suc (suc (suc zero))) = refl
   record-funs i (suc (suc (suc (suc k)))) = rw (ne-eqb (suc (suc (suc (suc k)))) 1 (λ e. omega arith))
 
+  -- the declarations of one record more
   next-funs : (n : ℕ)
       → declarations (decls-of name recs out (suc n)) ≡ declarations (decls-of name recs out n) ++ cond (is-declaration recs n) (fun-at n ∷ []) []
   unfolding decls-of
@@ -58,20 +60,25 @@ module _ (name : ℕ → Name) (recs out : List ℕ) where
       declarations-append (decls-of name recs out n) (summary-at name recs out n (record-kind recs n))
       ∙ ap (declarations (decls-of name recs out n) ++_) (record-funs n (record-kind recs n))
 
+  -- those of none
   no-funs : declarations (decls-of name recs out 0) ≡ []
   unfolding decls-of declarations
   no-funs = refl
 
+  -- the facts by record
   pub facts-are : (n : ℕ) → facts (decls-of name recs out n) ≡ map (fact-at name recs out) (keep (is-fact recs) (from 0 n))
   facts-are =
       over-from (λ n. facts (decls-of name recs out n)) (is-fact recs) (fact-at name recs out) (no-facts name recs out) (next-facts name recs out)
 
+  -- the definitions by record
   pub definitions-are : (n : ℕ) → definitions (decls-of name recs out n) ≡ map (def-at name recs out) (keep (is-definition recs) (from 0 n))
   definitions-are =
       over-from (λ n. definitions (decls-of name recs out n)) (is-definition recs) (def-at name recs out) (no-defs name recs out) (next-defs name recs out)
 
+  -- the declarations by record
   pub declarations-are : (n : ℕ) → declarations (decls-of name recs out n) ≡ map fun-at (keep (is-declaration recs) (from 0 n))
   declarations-are = over-from (λ n. declarations (decls-of name recs out n)) (is-declaration recs) fun-at no-funs next-funs
 
+  -- the roots by record
   pub roots-are : (n : ℕ) → roots-of name recs out n ≡ map (root-of name recs out) (keep (is-root recs) (from 0 n))
   roots-are = over-from (roots-of name recs out) (is-root recs) (root-of name recs out) (no-roots name recs out) (next-roots name recs out)

@@ -2,3 +2,4 @@ pub mod Ranges
 pub mod Order
 pub mod Filed
 pub mod Takers
+pub mod Linking

@@ -4,10 +4,10 @@ use native.Mathlib.Omega.{arith}
 use mathlib.Core.Path.{_≡_, refl, sym, ap, ap₂, _∙_}
 use mathlib.Core.Logic.{⊎-elim}
 use mathlib.Core.Bool.{Bool, true, false, cond, _&&_}
-use mathlib.Core.List.{List, [], _∷_, _++_, map, map-append, reverse, reverse-cons, reverse-append, append-nil, append-assoc, List·Memᴰ, List·Memᴰ·head, List·Memᴰ·tail, List·Memᴰ·not-nil, List·Memᴰ·cases-cons}
+use mathlib.Core.List.{List, [], _∷_, _++_, map, reverse, reverse-cons, reverse-append, append-nil, List·Memᴰ, List·Memᴰ·head, List·Memᴰ·tail, List·Memᴰ·not-nil, List·Memᴰ·cases-cons}
 use lib.Dec.{T, not-T}
 use Rattle.model.specs.Lists.{keep, collect}
-use Rattle.model.proofs.ListLaws.{true-T, false-T, cond-true, cond-false, keep-none, keep-append, collect-append, collect-cong, map-reverse}
+use Rattle.model.proofs.ListLaws.{cond-true, cond-false, keep-none, keep-append, collect-append}
 use Rattle.terms.proofs.Laws.{equal}
 use Rattle.scan.specs.Held.{upto}
 use Rattle.prune.specs.Listing.{from}
@@ -87,10 +87,12 @@ collect-collect g f (x ∷ l) = collect-append g (f x) (collect f l) ∙ ap (col
 
 -- ---- numbers in order
 
+-- where the n numbers from a on stand
 pub from-elim : (a n : ℕ) {i : ℕ} → List·Memᴰ i (from a n) → (a ≤ i) × (i < a + n)
 unfolding from
 from-elim a zero m = absurd (List·Memᴰ·not-nil m)
-from-elim a (suc n) m = ⊎-elim (λ e. (omega arith, omega arith)) (λ k. let (h, l) = from-elim (a + 1) n k in (omega arith, omega arith)) (List·Memᴰ·cases-cons m)
+from-elim a (suc n) m =
+    ⊎-elim (λ e. (omega arith, omega arith)) (λ k. let (h, l) = from-elim (a + 1) n k in (omega arith, omega arith)) (List·Memᴰ·cases-cons m)
 
 -- a number of the first n
 pub from-below : (n : ℕ) {i : ℕ} → List·Memᴰ i (from 0 n) → i < n

@@ -1,15 +1,15 @@
 -- The records that took the names: that of a name is what `model` finds by the name; all numbers listed are those of records.
-use Prim.Native.Nat.{ℕ, zero, suc, _+_, _-_, _≤_, _<_}
+use Prim.Native.Nat.{ℕ, zero, suc, _+_, _-_, _<_}
 use native.Mathlib.Numerals.{add-one}
 use native.Mathlib.Omega.{arith}
 use mathlib.Core.Path.{_≡_, refl, sym, ap, _∙_, subst}
-use mathlib.Core.Logic.{_⊎_, inl, inr, ⊎-elim}
+use mathlib.Core.Logic.{⊎-elim}
 use mathlib.Core.Bool.{Bool, true, false, cond, not, _&&_}
-use mathlib.Core.List.{List, [], _∷_, _++_, List·Memᴰ, List·Memᴰ·not-nil, List·Memᴰ·append-cases}
+use mathlib.Core.List.{List, [], _∷_, List·Memᴰ, List·Memᴰ·not-nil, List·Memᴰ·append-cases}
 use lib.ListN.{length}
 use lib.Dec.{T, eqb, eqb→eq, not-T, T-not}
 use borrow.Author.Tests.{eq-eqb, ne-eqb}
-use Rattle.model.specs.Lists.{keep, collect}
+use Rattle.model.specs.Lists.{keep}
 use Rattle.model.specs.Names.{Name, same, mem}
 use Rattle.model.specs.Reading.{no-ambients, prune-decls}
 use Rattle.model.specs.Rounds.{is-ambient}
@@ -26,23 +26,28 @@ use Rattle.scan.specs.Held.{upto}
 use Rattle.scan.specs.Steps.{is-reached}
 use Rattle.scan.proofs.Numbers.{set-intro, set-elim, upto-elim}
 use Rattle.scan.proofs.Background.{only}
-use Rattle.prune.specs.Listing.{from, one, picked, taker, reached-at, kind-at, ambient-at, is-goal, reached-records, ambient-records, fact-records, goal-records, items, stamp-records, kind-records, decl-records, item-stamp, kept-records}
+use Rattle.prune.specs.Listing.{from, one, picked, taker, reached-at, kind-at, ambient-at, is-goal, reached-records, ambient-records, fact-records, items, stamp-records, kind-records, decl-records, item-stamp, kept-records}
 use Rattle.prune.specs.Kept.{reached-of}
 use Rattle.prune.proofs.Ranges.{keep-keep, keep-only, from-below}
 
--- ---- a record by its number and one
+-- ---- a record listed by its number and one
 
+-- none by 0
 pub one-zero : (t : ℕ) → t ≡ 0 → one t ≡ []
 unfolding one
 one-zero t e = rw (eq-eqb t 0 e)
 
+-- one by another number
 pub one-suc : (t i : ℕ) → t ≡ suc i → one t ≡ i ∷ []
 unfolding one
-one-suc t i e = cond-false (eqb t 0) [] ((t - 1) ∷ []) (not-T (eqb t 0) (λ u. omega (arith, eqb→eq t 0 u))) ∙ ap (_∷ []) (let z : t - 1 ≡ i = omega arith in z)
+one-suc t i e =
+    cond-false (eqb t 0) [] ((t - 1) ∷ []) (not-T (eqb t 0) (λ u. omega (arith, eqb→eq t 0 u))) ∙ ap (_∷ []) (let z : t - 1 ≡ i = omega arith in z)
 
+-- a number after another is not 0
 nonzero : (i : ℕ) → eqb (suc i) 0 ≡ false
 nonzero i = ne-eqb (suc i) 0 (λ e. omega arith)
 
+-- the number that a record was listed by
 one-elim : (t : ℕ) {i : ℕ} → List·Memᴰ i (one t) → t ≡ suc i
 one-elim t {i} m =
     ⊎-elim
@@ -53,6 +58,7 @@ one-elim t {i} m =
     omega arith)
     (equal t 0)
 
+-- the number that a picked record was picked by
 picked-elim : (pick : ℕ → ℕ) (l : List ℕ) {i : ℕ} → List·Memᴰ i (picked pick l) → (r : ℕ) × List·Memᴰ r l × (pick r ≡ suc i)
 unfolding picked
 picked-elim pick l m = let (r, a, b) = collect-elim (λ r. one (pick r)) l m in (r, a, one-elim (pick r) b)
@@ -62,19 +68,23 @@ cond-suc : (b : Bool) (t : ℕ) {i : ℕ} → cond b t 0 ≡ suc i → t ≡ suc
 cond-suc true t e = e
 cond-suc false t e = absurd (omega arith)
 
+-- the same with the branches turned round
 cond-zero : (b : Bool) (t : ℕ) {i : ℕ} → cond b 0 t ≡ suc i → t ≡ suc i
 cond-zero true t e = absurd (omega arith)
 cond-zero false t e = e
 
+-- a reached record of a rank is its taker
 reached-taker : (names run : List ℕ) (r : ℕ) {i : ℕ} → reached-at names run r ≡ suc i → taker names r ≡ suc i
 unfolding reached-at
 reached-taker names run r e = cond-suc (is-reached run (taker names r - 1)) (taker names r) (cond-zero (eqb (taker names r) 0) _ e)
 
+-- a record of a kind of a rank is its taker
 kind-taker : (names recs : List ℕ) (kind r : ℕ) {i : ℕ} → kind-at names recs kind r ≡ suc i → taker names r ≡ suc i
 unfolding kind-at
 kind-taker names recs kind r e =
     cond-suc (eqb (record-kind recs (taker names r - 1)) kind) (taker names r) (cond-zero (eqb (taker names r) 0) _ e)
 
+-- an ambient is picked by its own number
 ambient-self : (recs : List ℕ) (j : ℕ) {i : ℕ} → ambient-at recs j ≡ suc i → j ≡ i
 unfolding ambient-at
 ambient-self recs j e =
@@ -87,10 +97,11 @@ none-elim true m = absurd (List·Memᴰ·not-nil m)
 none-elim false m = m
 
 module _ {file names recs out : List ℕ} {k : Counts} (x : Filled file names recs out k) where
-  -- the record that took a name
+  -- what took a name is a record
   taken-low : (n i : ℕ) → n < k .named → taken-at names n ≡ suc i → i < k .records
   taken-low n i h e = omega (arith, x .stocked .taken .low n (omega (arith, x .table .few)))
 
+  -- the same by rank
   pub taker-low : (r i : ℕ) → r < k .named → taker names r ≡ suc i → i < k .records
   taker-low r i h e = taken-low (ranked names r) i (x .table .numbers r h) e
 
@@ -103,7 +114,8 @@ module _ {file names recs out : List ℕ} {k : Counts} (x : Filled file names re
 
   -- the record of a kind that is found by a name is the taker of it
   pub by-name : (kind r : ℕ) → kind < retain-kind → r < k .named
-      → keep (λ i. same (name-of file names (record-name recs i)) (name-of file names (ranked names r))) (keep (λ i. eqb (record-kind recs i) kind) (from 0 (k .records)))
+      → keep (λ i. same (name-of file names (record-name recs i)) (name-of file names (ranked names r)))
+      (keep (λ i. eqb (record-kind recs i) kind) (from 0 (k .records)))
       ≡ one (kind-at names recs kind r)
   unfolding kind-at
   by-name kind r l h =
@@ -191,27 +203,32 @@ module _ {file names recs out : List ℕ} {k : Counts} (x : Filled file names re
 
   -- ---- all numbers listed are those of records
 
+  -- the reached
   reached-small : (run : List ℕ) (i : ℕ) → List·Memᴰ i (picked (reached-at names run) (from 0 (k .named))) → i < k .records
   reached-small run i m =
       let (r, a, b) = picked-elim (reached-at names run) (from 0 (k .named)) m in
       taker-low r i (from-below (k .named) a) (reached-taker names run r b)
 
+  -- the ambients
   ambient-small : (i : ℕ) → List·Memᴰ i (ambient-records recs k) → i < k .records
   unfolding ambient-records
   ambient-small i m =
       let (j, a, b) = picked-elim (ambient-at recs) (upto (k .records)) (none-elim (no-ambients (ask-of k)) m) in
       rw (← (ambient-self recs j b)) (upto-elim (k .records) a)
 
+  -- the kept facts
   pub facts-small : (run : List ℕ) (i : ℕ) → List·Memᴰ i (fact-records names recs run k) → i < k .records
   unfolding fact-records
   facts-small run i m = ⊎-elim (reached-small run i) (ambient-small i) (List·Memᴰ·append-cases (reached-records names run (k .named)) m)
 
+  -- the items
   pub items-small : (run : List ℕ) (i : ℕ) → List·Memᴰ i (items names recs run k) → i < k .records
   unfolding items
   items-small run i m =
       ⊎-elim (facts-small run i) (λ n. from-below (k .records) (keep-elim (is-goal recs k) (from 0 (k .records)) n .0))
       (List·Memᴰ·append-cases (fact-records names recs run k) m)
 
+  -- the definitions, or the declarations
   kinds-small : (stamp : ℕ → ℕ) (kind s i : ℕ) → List·Memᴰ i (kind-records names recs (k .named) stamp kind s) → i < k .records
   unfolding kind-records stamp-records
   kinds-small stamp kind s i m =
@@ -219,6 +236,7 @@ module _ {file names recs out : List ℕ} {k : Counts} (x : Filled file names re
       let (r, c, d) = picked-elim (kind-at names recs kind) (keep (λ r. eqb (stamp r) (j + 1)) (upto (k .named))) b in
       taker-low r i (upto-elim (k .named) (keep-elim (λ r. eqb (stamp r) (j + 1)) (upto (k .named)) c .0)) (kind-taker names recs kind r d)
 
+  -- the kept records
   pub records-small : (run : List ℕ) (i : ℕ) → List·Memᴰ i (kept-records names recs out run k) → i < k .records
   unfolding kept-records decl-records
   records-small run i m =
