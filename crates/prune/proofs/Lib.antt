@@ -1,0 +1,5 @@
+pub mod Ranges
+pub mod Order
+pub mod Filed
+pub mod Takers
+pub mod Linking

@@ -58,15 +58,15 @@ module _ {A : Type 0} (list : ℕ → List A) (test : ℕ → Bool) (one : ℕ �
       (equal i n))
 
 -- whether a record is a fact
-abbrev is-fact : List ℕ → ℕ → Bool
+abbrev pub is-fact : List ℕ → ℕ → Bool
 is-fact recs i = eqb (record-kind recs i) assume-kind
 
 -- whether it is a definition
-abbrev is-definition : List ℕ → ℕ → Bool
+abbrev pub is-definition : List ℕ → ℕ → Bool
 is-definition recs i = eqb (record-kind recs i) def-kind
 
 -- whether it is a root
-abbrev is-root : List ℕ → ℕ → Bool
+abbrev pub is-root : List ℕ → ℕ → Bool
 is-root recs i = ltb retain-kind (record-kind recs i)
 
 module _ (name : ℕ → Name) (recs out : List ℕ) where
@@ -88,13 +88,13 @@ module _ (name : ℕ → Name) (recs out : List ℕ) where
   record-facts i (suc (suc (suc zero))) = refl
   record-facts i (suc (suc (suc (suc k)))) = rw (ne-eqb (suc (suc (suc (suc k)))) 0 (λ e. omega arith))
 
-  next-facts : (n : ℕ) → facts (decls-of name recs out (suc n)) ≡ facts (decls-of name recs out n) ++ cond (is-fact recs n) (fact-at name recs out n ∷ []) []
+  pub next-facts : (n : ℕ) → facts (decls-of name recs out (suc n)) ≡ facts (decls-of name recs out n) ++ cond (is-fact recs n) (fact-at name recs out n ∷ []) []
   unfolding decls-of
   next-facts n =
       facts-append (decls-of name recs out n) (summary-at name recs out n (record-kind recs n))
       ∙ ap (facts (decls-of name recs out n) ++_) (record-facts n (record-kind recs n))
 
-  no-facts : facts (decls-of name recs out 0) ≡ []
+  pub no-facts : facts (decls-of name recs out 0) ≡ []
   unfolding decls-of facts
   no-facts = refl
 
@@ -127,13 +127,13 @@ module _ (name : ℕ → Name) (recs out : List ℕ) where
   record-defs i (suc (suc (suc zero))) = refl
   record-defs i (suc (suc (suc (suc k)))) = rw (ne-eqb (suc (suc (suc (suc k)))) 2 (λ e. omega arith))
 
-  next-defs : (n : ℕ) → definitions (decls-of name recs out (suc n)) ≡ definitions (decls-of name recs out n) ++ cond (is-definition recs n) (def-at n ∷ []) []
+  pub next-defs : (n : ℕ) → definitions (decls-of name recs out (suc n)) ≡ definitions (decls-of name recs out n) ++ cond (is-definition recs n) (def-at n ∷ []) []
   unfolding decls-of
   next-defs n =
       definitions-append (decls-of name recs out n) (summary-at name recs out n (record-kind recs n))
       ∙ ap (definitions (decls-of name recs out n) ++_) (record-defs n (record-kind recs n))
 
-  no-defs : definitions (decls-of name recs out 0) ≡ []
+  pub no-defs : definitions (decls-of name recs out 0) ≡ []
   unfolding decls-of definitions
   no-defs = refl
 
@@ -153,11 +153,11 @@ module _ (name : ℕ → Name) (recs out : List ℕ) where
   record-roots i (suc (suc (suc zero))) = refl
   record-roots i (suc (suc (suc (suc k)))) = rw (lt-ltb 3 (suc (suc (suc (suc k)))) (omega arith))
 
-  next-roots : (n : ℕ) → roots-of name recs out (suc n) ≡ roots-of name recs out n ++ cond (is-root recs n) (root-of n ∷ []) []
+  pub next-roots : (n : ℕ) → roots-of name recs out (suc n) ≡ roots-of name recs out n ++ cond (is-root recs n) (root-of n ∷ []) []
   unfolding roots-of
   next-roots n = ap (roots-of name recs out n ++_) (record-roots n (record-kind recs n))
 
-  no-roots : roots-of name recs out 0 ≡ []
+  pub no-roots : roots-of name recs out 0 ≡ []
   unfolding roots-of
   no-roots = refl
 

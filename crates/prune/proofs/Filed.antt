@@ -1,0 +1,84 @@
+-- The facts, the definitions, the declarations and the roots of the tables, as lists over the numbers of the records.
+use Prim.Native.Nat.{ℕ, zero, suc, _+_}
+use native.Mathlib.Omega.{arith}
+use mathlib.Core.Path.{_≡_, refl, sym, ap, ap₂, _∙_}
+use mathlib.Core.Bool.{Bool, true, false, cond}
+use mathlib.Core.List.{List, [], _∷_, _++_, map, map-append}
+use lib.Dec.{eqb}
+use borrow.Author.Tests.{ne-eqb}
+use Rattle.model.specs.Lists.{keep}
+use Rattle.model.specs.Names.{Name}
+use Rattle.model.specs.Reading.{Decl}
+use Rattle.model.specs.Rounds.{facts, definitions, declarations}
+use Rattle.model.proofs.ListLaws.{keep-append}
+use Rattle.demands.proofs.Records.{declarations-append}
+use Rattle.records.specs.Columns.{record-kind, fun-kind}
+use Rattle.records.specs.States.{fact-at, decl-at, summary-at, decls-of, roots-of}
+use Rattle.scan.proofs.Background.{is-fact, is-definition, is-root, def-at, root-of, no-facts, next-facts, no-defs, next-defs, no-roots, next-roots}
+use Rattle.prune.specs.Listing.{from}
+use Rattle.prune.proofs.Ranges.{from-snoc}
+
+-- a list to which each number adds one element or none
+over-from : {A : Type 0} (list : ℕ → List A) (test : ℕ → Bool) (one : ℕ → A) → list 0 ≡ []
+    → ((n : ℕ) → list (suc n) ≡ list n ++ cond (test n) (one n ∷ []) []) → (n : ℕ) → list n ≡ map one (keep test (from 0 n))
+unfolding keep from
+over-from list test one start next zero = start
+over-from list test one start next (suc n) =
+    next n
+    ∙ ap₂ _++_ (over-from list test one start next n) (last (test n))
+    ∙ sym (map-append one (keep test (from 0 n)) (keep test (n ∷ [])))
+    ∙ ap (map one) (sym (keep-append test (from 0 n) (n ∷ [])))
+    ∙ ap (λ l. map one (keep test l)) (sym (from-snoc 0 n ∙ ap (λ i. from 0 n ++ (i ∷ [])) (let e : 0 + n ≡ n = omega arith in e)))
+  where
+    last : (b : Bool) → cond b (one n ∷ []) [] ≡ map one (cond b (n ∷ []) [])
+    last true = refl
+    last false = refl
+
+-- whether a record is a declaration
+abbrev pub is-declaration : List ℕ → ℕ → Bool
+is-declaration recs i = eqb (record-kind recs i) fun-kind
+
+module _ (name : ℕ → Name) (recs out : List ℕ) where
+  -- the declaration of a record
+  abbrev pub fun-at : ℕ → Decl
+  fun-at i = decl-at name recs out i []
+
+  -- what a record adds to the declarations
+  record-funs : (i kind : ℕ) → declarations (summary-at name recs out i kind) ≡ cond (eqb kind fun-kind) (fun-at i ∷ []) []
+  unfolding summary-at declarations
+  record-funs i zero = refl
+  record-funs i (suc zero) = refl
+  record-funs i (suc (suc zero)) = refl
+  record-funs i (suc (suc (suc zero))) = refl
+  record-funs i (suc (suc (suc (suc k)))) = rw (ne-eqb (suc (suc (suc (suc k)))) 1 (λ e. omega arith))
+
+  -- the declarations of one record more
+  next-funs : (n : ℕ)
+      → declarations (decls-of name recs out (suc n)) ≡ declarations (decls-of name recs out n) ++ cond (is-declaration recs n) (fun-at n ∷ []) []
+  unfolding decls-of
+  next-funs n =
+      declarations-append (decls-of name recs out n) (summary-at name recs out n (record-kind recs n))
+      ∙ ap (declarations (decls-of name recs out n) ++_) (record-funs n (record-kind recs n))
+
+  -- those of none
+  no-funs : declarations (decls-of name recs out 0) ≡ []
+  unfolding decls-of declarations
+  no-funs = refl
+
+  -- the facts by record
+  pub facts-are : (n : ℕ) → facts (decls-of name recs out n) ≡ map (fact-at name recs out) (keep (is-fact recs) (from 0 n))
+  facts-are =
+      over-from (λ n. facts (decls-of name recs out n)) (is-fact recs) (fact-at name recs out) (no-facts name recs out) (next-facts name recs out)
+
+  -- the definitions by record
+  pub definitions-are : (n : ℕ) → definitions (decls-of name recs out n) ≡ map (def-at name recs out) (keep (is-definition recs) (from 0 n))
+  definitions-are =
+      over-from (λ n. definitions (decls-of name recs out n)) (is-definition recs) (def-at name recs out) (no-defs name recs out) (next-defs name recs out)
+
+  -- the declarations by record
+  pub declarations-are : (n : ℕ) → declarations (decls-of name recs out n) ≡ map fun-at (keep (is-declaration recs) (from 0 n))
+  declarations-are = over-from (λ n. declarations (decls-of name recs out n)) (is-declaration recs) fun-at no-funs next-funs
+
+  -- the roots by record
+  pub roots-are : (n : ℕ) → roots-of name recs out n ≡ map (root-of name recs out) (keep (is-root recs) (from 0 n))
+  roots-are = over-from (roots-of name recs out) (is-root recs) (root-of name recs out) (no-roots name recs out) (next-roots name recs out)
