@@ -1,0 +1,86 @@
+// Document 01's program: reads a file from standard input and prints the kept records, or the refusal. A refusal is said in
+// words on standard error too.
+use libc::STDERR_FILENO;
+use libc::STDIN_FILENO;
+use libc::STDOUT_FILENO;
+use model::Answer;
+use model::Verdict;
+
+// What reading standard input comes to: so many bytes to its end or up to a full buffer, or a read that failed.
+enum Input {
+    Bytes(usize),
+    Failed,
+}
+
+// Reads standard input to its end, or until the buffer is full.
+fn read_input(buffer: &mut [u8]) -> Input {
+    let mut n: usize = 0;
+    while n < buffer.len() {
+        let got = libc::read(STDIN_FILENO, &mut buffer[n..]);
+        if got < 0 {
+            return Input::Failed;
+        }
+        let more = io::count(got, &buffer[n..]);
+        if more == 0 {
+            return Input::Bytes(n);
+        }
+        n += more;
+    }
+    Input::Bytes(n)
+}
+
+// Prints the lines of an answer; whether each was written.
+fn print(file: &[u8], a: Answer, out: &[u32]) -> bool {
+    let mut starts = [0u32; 65536];
+    let mut text = [0u8; 65600];
+    let many = printing::line_starts(file, &mut starts);
+    let kept = a.kept as usize;
+    let mut i: usize = 0;
+    while i <= kept {
+        let n = printing::answer_line(file, &starts, many, a, out, i, &mut text);
+        if !io::write_all(STDOUT_FILENO, &text[..n]) {
+            return false;
+        }
+        i += 1;
+    }
+    true
+}
+
+// Says a refusal in words on standard error.
+fn explain(a: Answer) {
+    let v = a.verdict;
+    if let Verdict::Refused(r) = v {
+        let mut text = [0u8; 128];
+        let n = printing::reason_line(r, a.place, &mut text);
+        io::write_all(STDERR_FILENO, &text[..n]);
+    }
+}
+
+// Filters a file over slices that are long enough for every accepted one, and prints the answer.
+fn run(file: &[u8]) {
+    let mut w0 = [0u32; model::WORKING_WORDS];
+    let mut w1 = [0u32; model::WORKING_WORDS];
+    let mut w2 = [0u32; model::WORKING_WORDS];
+    let mut w3 = [0u32; model::WORKING_WORDS];
+    let mut w4 = [0u32; model::WORKING_WORDS];
+    let mut w5 = [0u32; model::WORKING_WORDS];
+    let mut out = [0u32; model::MOST_RECORDS];
+    let a = filter::filter(
+        file, &mut w0, &mut w1, &mut w2, &mut w3, &mut w4, &mut w5, &mut out,
+    );
+    if !print(file, a, &out) {
+        io::write_all(STDERR_FILENO, b"standard output cannot be written\n");
+        return;
+    }
+    explain(a);
+}
+
+fn main() {
+    let mut buffer = io::large_buffer();
+    match read_input(&mut buffer) {
+        Input::Bytes(n) => run(&buffer[..n]),
+        Input::Failed => {
+            io::write_all(STDERR_FILENO, b"standard input cannot be read\n");
+        }
+    }
+}

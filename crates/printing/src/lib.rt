@@ -1,0 +1,166 @@
+// The printed form of an answer: document 01's lines, one at a time into a lent slice, and a refusal in words.
+use model::Answer;
+use model::Refusal;
+use model::Verdict;
+
+// Document 01's number of a refusal.
+pub fn refusal_number(r: Refusal) -> u32
+{
+    match r {
+        Refusal::Form => 1,
+        Refusal::Name => 2,
+        Refusal::Number => 3,
+        Refusal::Term => 4,
+        Refusal::Repeated => 5,
+        Refusal::Limit => 6,
+        Refusal::Working => 7,
+        Refusal::Room => 8,
+        Refusal::Size => 9,
+    }
+}
+
+// Writes bytes from a place on; where they end.
+fn put(text: &mut [u8], at: usize, bytes: &[u8]) -> usize
+{
+    let mut i = 0;
+    while i < bytes.len() {
+        text[at + i] = bytes[i];
+        i += 1;
+    }
+    at + bytes.len()
+}
+
+// Writes a number in decimal from a place on; where it ends.
+fn put_number(text: &mut [u8], at: usize, n: u32) -> usize
+{
+    let mut digits = [0u8; 20];
+    let k = io::decimal(n as u64, &mut digits);
+    put(text, at, &digits[..k])
+}
+
+// Where each line of a file starts; how many lines there are.
+pub fn line_starts(file: &[u8], starts: &mut [u32]) -> usize
+{
+    let mut many: usize = 0;
+    let mut from: usize = 0;
+    while from < file.len() {
+        starts[many] = from as u32;
+        many += 1;
+        from = text::find(file, b'\n', from, file.len()) + 1;
+    }
+    many
+}
+
+// The second field of a part of the file.
+fn second_field(file: &[u8], start: usize, end: usize) -> &[u8]
+{
+    let comma = text::find(file, b',', start, end);
+    if comma == end {
+        return &file[end..end];
+    }
+    let from = comma + 1;
+    let upto = text::find(file, b',', from, end);
+    &file[from..upto]
+}
+
+// The name on a line, its second field.
+pub fn name_on<'a>(file: &'a [u8], starts: &[u32], many: usize, line: u32) -> &'a [u8]
+{
+    let n = line as usize;
+    if n == 0 {
+        return &file[..0];
+    }
+    if many < n {
+        return &file[..0];
+    }
+    let start = starts[n - 1] as usize;
+    let end = text::find(file, b'\n', start, file.len());
+    second_field(file, start, end)
+}
+
+// Writes the line of a kept record; its length.
+pub fn kept_line(file: &[u8], starts: &[u32], many: usize, line: u32, text: &mut [u8]) -> usize
+{
+    let name = name_on(file, starts, many, line);
+    let mut at = put(text, 0, b"kept,");
+    at = put_number(text, at, line);
+    at = put(text, at, b",");
+    at = put(text, at, name);
+    put(text, at, b"\n")
+}
+
+// Writes the last line of a list; its length.
+pub fn sum_line(kept: u32, visits: u32, rounds: u32, text: &mut [u8]) -> usize
+{
+    let mut at = put(text, 0, b"sum,");
+    at = put_number(text, at, kept);
+    at = put(text, at, b",");
+    at = put_number(text, at, visits);
+    at = put(text, at, b",");
+    at = put_number(text, at, rounds);
+    put(text, at, b"\n")
+}
+
+// Writes the line of a refusal; its length.
+pub fn refused_line(r: Refusal, place: u32, text: &mut [u8]) -> usize
+{
+    let mut at = put(text, 0, b"refused,");
+    at = put_number(text, at, refusal_number(r));
+    at = put(text, at, b",");
+    at = put_number(text, at, place);
+    put(text, at, b"\n")
+}
+
+// Writes a line of the printed form of an answer: the kept lines, then their sum; or the refusal. Its length.
+pub fn answer_line(
+    file: &[u8],
+    starts: &[u32],
+    many: usize,
+    a: Answer,
+    out: &[u32],
+    i: usize,
+    text: &mut [u8],
+) -> usize
+{
+    let v = a.verdict;
+    match v {
+        Verdict::Accepted => {
+            let kept = a.kept;
+            if i < kept as usize {
+                return kept_line(file, starts, many, out[i], text);
+            }
+            sum_line(kept, a.visits, a.rounds, text)
+        }
+        Verdict::Refused(r) => refused_line(r, a.place, text),
+    }
+}
+
+// Writes why a refusal is given from a place on; where it ends.
+fn put_reason(text: &mut [u8], at: usize, r: Refusal) -> usize
+{
+    match r {
+        Refusal::Form => put(text, at, b"not a line of a fact file"),
+        Refusal::Name => put(text, at, b"a field is no name"),
+        Refusal::Number => put(text, at, b"a field is no number, or one out of its range"),
+        Refusal::Term => put(text, at, b"no term line before has this number"),
+        Refusal::Repeated => put(text, at, b"the name is taken by an earlier assume, fun or def"),
+        Refusal::Limit => put(text, at, b"the line passes a limit"),
+        Refusal::Working => put(text, at, b"a working slice is too short"),
+        Refusal::Room => put(text, at, b"the result slice is too short"),
+        Refusal::Size => put(text, at, b"the file has more than 65,535 bytes"),
+    }
+}
+
+// Writes a refusal in words, with its line where it has one; the length.
+pub fn reason_line(r: Refusal, place: u32, text: &mut [u8]) -> usize
+{
+    if 6 < refusal_number(r) {
+        let at = put_reason(text, 0, r);
+        return put(text, at, b"\n");
+    }
+    let mut at = put(text, 0, b"line ");
+    at = put_number(text, at, place);
+    at = put(text, at, b": ");
+    at = put_reason(text, at, r);
+    put(text, at, b"\n")
+}
