@@ -9,14 +9,14 @@ use model::Verdict;
 // The longest head line, file, working slice and result slice of a case.
 const MOST_HEAD: usize = 512;
 
-const MOST_FILE: usize = 65600;
+const MOST_FILE: usize = 131072;
 
 const MOST_WORK: usize = 16400;
 
 const MOST_ROOM: usize = 1040;
 
 // The bytes of standard input that are held at a time: more than a case can have.
-const WINDOW: usize = 131072;
+const WINDOW: usize = 262144;
 
 // The most cases of a run.
 const MOST_CASES: usize = 1000000;
@@ -128,7 +128,7 @@ fn put_wrong(good: bool, slice: &[u8]) {
 // Prints the lines of an answer.
 fn print(file: &[u8], a: Answer, out: &[u32]) {
     let mut starts = [0u32; MOST_FILE];
-    let mut text = [0u8; 65700];
+    let mut text = [0u8; 131200];
     let many = printing::line_starts(file, &mut starts);
     let kept = a.kept as usize;
     let mut i: usize = 0;

@@ -2,9 +2,17 @@
 use model::Answer;
 use model::Refusal;
 use model::Verdict;
+ghost use Prim.Native.Nat.{_+_, _≤_, _<_};
+ghost use mathlib.Core.Path.{_≡_};
+ghost use lib.ListN.{length, getD};
+ghost use Rattle.model.specs.Lists.{part};
+ghost use Rattle.model.specs.Lines.{fields};
+ghost use Rattle.model.specs.Outcome.{refusal-number};
+ghost use Rattle.printing.specs.Printed.{show, Puts, Holds, Starts, second, name-on, kept-line, sum-line, refused-line, reason, reason-line, Answered, outcome-line};
 
 // Document 01's number of a refusal.
 pub fn refusal_number(r: Refusal) -> u32
+    ensures { λ n. ⌜ n ≡ refusal-number r ⌝ }
 {
     match r {
         Refusal::Form => 1,
@@ -21,6 +29,8 @@ pub fn refusal_number(r: Refusal) -> u32
 
 // Writes bytes from a place on; where they end.
 fn put(text: &mut [u8], at: usize, bytes: &[u8]) -> usize
+    requires { ⌜ at + length (now bytes) ≤ length (now text) ⌝ }
+    ensures { λ r. ⌜ Puts at (now (bytes .entry)) (now (text .entry)) (now (text .exit)) r ⌝ }
 {
     let mut i = 0;
     while i < bytes.len() {
@@ -32,6 +42,8 @@ fn put(text: &mut [u8], at: usize, bytes: &[u8]) -> usize
 
 // Writes a number in decimal from a place on; where it ends.
 fn put_number(text: &mut [u8], at: usize, n: u32) -> usize
+    requires { ⌜ at + 20 ≤ length (now text) ⌝ }
+    ensures { λ r. ⌜ Puts at (show n) (now (text .entry)) (now (text .exit)) r × (r ≤ at + 20) ⌝ }
 {
     let mut digits = [0u8; 20];
     let k = io::decimal(n as u64, &mut digits);
@@ -40,6 +52,8 @@ fn put_number(text: &mut [u8], at: usize, n: u32) -> usize
 
 // Where each line of a file starts; how many lines there are.
 pub fn line_starts(file: &[u8], starts: &mut [u32]) -> usize
+    requires { ⌜ (length (now file) ≤ length (now starts)) × (length (now file) < 4294967296) ⌝ }
+    ensures { λ r. ⌜ Starts (now (file .entry)) (now (starts .exit)) r ⌝ }
 {
     let mut many: usize = 0;
     let mut from: usize = 0;
@@ -53,6 +67,8 @@ pub fn line_starts(file: &[u8], starts: &mut [u32]) -> usize
 
 // The second field of a part of the file.
 fn second_field(file: &[u8], start: usize, end: usize) -> &[u8]
+    requires { ⌜ (start ≤ end) × (end ≤ length (now file)) ⌝ }
+    ensures { λ r. ⌜ (now r ≡ second (fields (part (now (file .entry)) start end))) × (length (now r) ≤ length (now (file .entry))) ⌝ }
 {
     let comma = text::find(file, b',', start, end);
     if comma == end {
@@ -65,6 +81,8 @@ fn second_field(file: &[u8], start: usize, end: usize) -> &[u8]
 
 // The name on a line, its second field.
 pub fn name_on<'a>(file: &'a [u8], starts: &[u32], many: usize, line: u32) -> &'a [u8]
+    requires { ⌜ Starts (now file) (now starts) many ⌝ }
+    ensures { λ r. ⌜ (now r ≡ name-on (now (file .entry)) line) × (length (now r) ≤ length (now (file .entry))) ⌝ }
 {
     let n = line as usize;
     if n == 0 {
@@ -80,6 +98,8 @@ pub fn name_on<'a>(file: &'a [u8], starts: &[u32], many: usize, line: u32) -> &'
 
 // Writes the line of a kept record; its length.
 pub fn kept_line(file: &[u8], starts: &[u32], many: usize, line: u32, text: &mut [u8]) -> usize
+    requires { ⌜ Starts (now file) (now starts) many × (length (now file) + 64 ≤ length (now text)) ⌝ }
+    ensures { λ r. ⌜ Holds (kept-line (now (file .entry)) line) (now (text .exit)) r ⌝ }
 {
     let name = name_on(file, starts, many, line);
     let mut at = put(text, 0, b"kept,");
@@ -91,6 +111,8 @@ pub fn kept_line(file: &[u8], starts: &[u32], many: usize, line: u32, text: &mut
 
 // Writes the last line of a list; its length.
 pub fn sum_line(kept: u32, visits: u32, rounds: u32, text: &mut [u8]) -> usize
+    requires { ⌜ 128 ≤ length (now text) ⌝ }
+    ensures { λ r. ⌜ Holds (sum-line kept visits rounds) (now (text .exit)) r ⌝ }
 {
     let mut at = put(text, 0, b"sum,");
     at = put_number(text, at, kept);
@@ -103,6 +125,8 @@ pub fn sum_line(kept: u32, visits: u32, rounds: u32, text: &mut [u8]) -> usize
 
 // Writes the line of a refusal; its length.
 pub fn refused_line(r: Refusal, place: u32, text: &mut [u8]) -> usize
+    requires { ⌜ 128 ≤ length (now text) ⌝ }
+    ensures { λ n. ⌜ Holds (refused-line r place) (now (text .exit)) n ⌝ }
 {
     let mut at = put(text, 0, b"refused,");
     at = put_number(text, at, refusal_number(r));
@@ -121,6 +145,8 @@ pub fn answer_line(
     i: usize,
     text: &mut [u8],
 ) -> usize
+    requires { ⌜ Starts (now file) (now starts) many × (length (now file) + 128 ≤ length (now text)) × (a .kept ≤ length (now out)) ⌝ }
+    ensures { λ n. ⌜ Answered (now (file .entry)) a (now (out .entry)) i (now (text .exit)) n ⌝ }
 {
     let v = a.verdict;
     match v {
@@ -137,6 +163,8 @@ pub fn answer_line(
 
 // Writes why a refusal is given from a place on; where it ends.
 fn put_reason(text: &mut [u8], at: usize, r: Refusal) -> usize
+    requires { ⌜ at + 64 ≤ length (now text) ⌝ }
+    ensures { λ n. ⌜ Puts at (reason r) (now (text .entry)) (now (text .exit)) n × (n ≤ at + 64) ⌝ }
 {
     match r {
         Refusal::Form => put(text, at, b"not a line of a fact file"),
@@ -153,6 +181,8 @@ fn put_reason(text: &mut [u8], at: usize, r: Refusal) -> usize
 
 // Writes a refusal in words, with its line where it has one; the length.
 pub fn reason_line(r: Refusal, place: u32, text: &mut [u8]) -> usize
+    requires { ⌜ 128 ≤ length (now text) ⌝ }
+    ensures { λ n. ⌜ Holds (reason-line r place) (now (text .exit)) n ⌝ }
 {
     if 6 < refusal_number(r) {
         let at = put_reason(text, 0, r);

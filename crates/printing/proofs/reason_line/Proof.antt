@@ -1,0 +1,67 @@
+-- `printing::reason_line` meets its contract.
+use Rattle.model.specs.Names.{bytes}
+use Rattle.printing.proofs.Texts.{puts-then, held, reason-parts, reason-alone}
+use borrow.Author.Needs.{needs}
+use native.Mathlib.Omega.{arith}
+use Rattle.printing.proofs.reason_line.Statement.{statement}
+use Rattle.printing.proofs.reason_line.Tie as tie
+
+refusal-number-requires : tie.Need-refusal-number-requires
+refusal-number-requires c κs = search needs
+put-reason-requires : tie.Need-put-reason-requires
+put-reason-requires c κs = search needs
+slice-aggregate-put : tie.Need-slice-aggregate-put
+slice-aggregate-put c = search needs
+put-requires : tie.Need-put-requires
+put-requires c κs = search needs
+same-length : tie.Need-same-length
+same-length c = search needs
+returns : tie.Need-returns
+unfolding bytes
+returns c =
+    let text = puts-then (c .before .before .before .before .before .before .before .put-reason .ensures .0) (c .before .before .put .ensures) in
+    held text (reason-alone _ _ _ (c .before .before .before .before .before .before .before .before .before .before .refusal-number .ensures) (c .before .before .before .before .before .before .before .before .before .if1 .taken))
+slice-aggregate-put-2 : tie.Need-slice-aggregate-put-2
+slice-aggregate-put-2 c = search needs
+put-requires-2 : tie.Need-put-requires-2
+put-requires-2 c κs = search needs
+put-number-requires : tie.Need-put-number-requires
+put-number-requires c κs = search needs
+slice-aggregate-put-3 : tie.Need-slice-aggregate-put-3
+slice-aggregate-put-3 c = search needs
+put-requires-3 : tie.Need-put-requires-3
+put-requires-3 c κs = search needs
+put-reason-requires-2 : tie.Need-put-reason-requires-2
+put-reason-requires-2 c κs = search needs
+slice-aggregate-put-4 : tie.Need-slice-aggregate-put-4
+slice-aggregate-put-4 c = search needs
+put-requires-4 : tie.Need-put-requires-4
+put-requires-4 c κs = search needs
+same-length-2 : tie.Need-same-length-2
+same-length-2 c = search needs
+returns-2 : tie.Need-returns-2
+unfolding bytes
+returns-2 c =
+    let text = puts-then (puts-then (puts-then (puts-then (c .before .before .before .before .before .before .before .before .before .before .before .before .before .before .before .before .before .before .before .before .put2 .ensures) (c .before .before .before .before .before .before .before .before .before .before .before .before .before .before .before .before .put-number .ensures .0)) (c .before .before .before .before .before .before .before .before .before .before .before .put3 .ensures)) (c .before .before .before .before .before .before .before .put-reason2 .ensures .0)) (c .before .before .put4 .ensures) in
+    held text (reason-parts _ _ _ (c .before .before .before .before .before .before .before .before .before .before .before .before .before .before .before .before .before .before .before .before .before .before .before .before .refusal-number .ensures) (c .before .before .before .before .before .before .before .before .before .before .before .before .before .before .before .before .before .before .before .before .before .before .before .if1 .left))
+
+pub reason-line-spec : {M : Type 1} → statement M
+reason-line-spec =
+    tie.close
+    (tie.spec
+    refusal-number-requires
+    put-reason-requires
+    slice-aggregate-put
+    put-requires
+    same-length
+    returns
+    slice-aggregate-put-2
+    put-requires-2
+    put-number-requires
+    slice-aggregate-put-3
+    put-requires-3
+    put-reason-requires-2
+    slice-aggregate-put-4
+    put-requires-4
+    same-length-2
+    returns-2)
