@@ -66,7 +66,14 @@ fn run(file: &[u8]) {
     let mut w5 = [0u32; model::WORKING_WORDS];
     let mut out = [0u32; model::MOST_RECORDS];
     let a = filter::filter(
-        file, &mut w0, &mut w1, &mut w2, &mut w3, &mut w4, &mut w5, &mut out,
+        file,
+        &mut w0,
+        &mut w1,
+        &mut w2,
+        &mut w3,
+        &mut w4,
+        &mut w5,
+        &mut out,
     );
     if !print(file, a, &out) {
         io::write_all(STDERR_FILENO, b"standard output cannot be written\n");

@@ -58,7 +58,7 @@ starting-next file starts many from e s h room d =
       each = below-more (λ k. drop k (lines file) ≡ lines (drop (getD (set starts many from) k 0) file)) many (λ k l. rw (other k l) (s .each k l)) (rw same (s .here));
       here = sym (drop-drop 1 many (lines file)) ∙ ap (drop 1) (s .here) ∙ line-here file from e h d .1;
       few = omega (arith, s .few, mark-from e 0x0a file from (length file) d);
-      bounded = omega (arith, s .few)
+      bounded = omega (arith, s .few);
     }
 
 -- all lines
@@ -69,7 +69,7 @@ starting-end file starts many from s h room =
       room = room;
       inside = s .inside;
       each = s .each;
-      all = omega (arith, simp length-drop at (ap length none))
+      all = omega (arith, simp length-drop at (ap length none));
     }
 
 -- ---- the second field

@@ -30,7 +30,7 @@ putting-start at new before =
     record {
       few = omega arith;
       same-length = refl;
-      written = rw (add-zero at, append-nil (take at before))
+      written = rw (add-zero at, append-nil (take at before));
     }
 
 -- one more is put
@@ -43,7 +43,7 @@ putting-next at new before text i p h room =
       few = omega arith;
       same-length = length-set text (at + i) (getD new i 0) ∙ p .same-length;
       written =
-        rw (n, take-suc-set text (at + i) (getD new i 0) k, p .written, add-one i, take-suc new i 0 h, append-assoc)
+          rw (n, take-suc-set text (at + i) (getD new i 0) k, p .written, add-one i, take-suc new i 0 h, append-assoc);
     }
 
 -- all are put
@@ -59,7 +59,7 @@ puts-then {at} {a} {b} {t0} p q =
     record {
       ends = rw (length-append a b) (omega (arith, p .ends, q .ends));
       written = q .written ∙ ap (_++ b) (p .written) ∙ append-assoc (take at t0) a b;
-      inside = q .inside
+      inside = q .inside;
     }
 
 -- the same bytes

@@ -171,7 +171,11 @@ fn put_reason(text: &mut [u8], at: usize, r: Refusal) -> usize
         Refusal::Name => put(text, at, b"a field is no name"),
         Refusal::Number => put(text, at, b"a field is no number, or one out of its range"),
         Refusal::Term => put(text, at, b"no term line before has this number"),
-        Refusal::Repeated => put(text, at, b"the name is taken by an earlier assume, fun or def"),
+        Refusal::Repeated => put(
+            text,
+            at,
+            b"the name is taken by an earlier assume, fun or def",
+        ),
         Refusal::Limit => put(text, at, b"the line passes a limit"),
         Refusal::Working => put(text, at, b"a working slice is too short"),
         Refusal::Room => put(text, at, b"the result slice is too short"),

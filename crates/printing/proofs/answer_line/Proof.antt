@@ -1,40 +1,50 @@
-use native.Mathlib.Omega.{arith}
+-- `printing::answer_line` meets its contract.
+use Rattle.printing.proofs.Answers.{refused-answered, kept-answered, sum-answered}
 use borrow.Author.Needs.{needs}
 use Rattle.printing.proofs.answer_line.Statement.{statement}
 use Rattle.printing.proofs.answer_line.Tie as tie
-use Rattle.printing.proofs.answer_line.Reads as reads
-use Rattle.printing.proofs.answer_line.Lts as lts
-use Rattle.printing.proofs.kept_line.Reads as kept-line-reads
-use Rattle.printing.proofs.refused_line.Reads as refused-line-reads
-use Rattle.printing.proofs.sum_line.Reads as sum-line-reads
+
 enum-told : tie.Need-enum-told
-enum-told c = search needs
+enum-told c = c .match .keys1
+
 cast-if1 : tie.Need-cast-if1
 cast-if1 c = search needs
+
 mul-kept-line : tie.Need-mul-kept-line
 mul-kept-line c = search needs
+
 shared-slice-read-kept-line : tie.Need-shared-slice-read-kept-line
 shared-slice-read-kept-line c = search needs
+
 kept-line-requires : tie.Need-kept-line-requires
 kept-line-requires c κs = search needs
+
 same-length : tie.Need-same-length
 same-length c = search needs
+
 returns : tie.Need-returns
-returns c = ?
+returns c = kept-answered _ _ _ _ _ _ (c .before .before .before .before .before .before .enum-told .given .1) (c .before .before .before .before .before .if1 .taken) (c .before .before .kept-line .ensures)
+
 sum-line-requires : tie.Need-sum-line-requires
 sum-line-requires c κs = search needs
+
 enum-known-v : tie.Need-enum-known-v
-enum-known-v c = search needs
+enum-known-v c = c .match .keys2
+
 refused-line-requires : tie.Need-refused-line-requires
 refused-line-requires c κs = search needs
+
 same-length-2 : tie.Need-same-length-2
 same-length-2 c = search needs
+
 returns-2 : tie.Need-returns-2
-returns-2 c = ?
+returns-2 c = sum-answered _ _ _ _ _ _ (c .before .before .before .before .before .enum-told .given .1) (c .before .before .before .before .if1 .left) (c .before .before .sum-line .ensures)
+
 same-length-3 : tie.Need-same-length-3
 same-length-3 c = search needs
+
 returns-3 : tie.Need-returns-3
-returns-3 c = ?
+returns-3 c = refused-answered _ _ _ _ _ _ _ (c .before .before .before .before .before .v .given .1) (c .before .before .refused-line .ensures)
 
 pub answer-line-spec : {M : Type 1} → statement M
 answer-line-spec =

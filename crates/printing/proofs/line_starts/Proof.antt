@@ -14,34 +14,45 @@ Inv-loop file starts₀ many₀ from₀ starts many from = (length starts ≡ le
 
 abbrev μ-loop : tie.MeasureT-loop
 μ-loop file starts₀ many₀ from₀ starts many from = length file - from
+
 loop-holds : tie.Need-loop-holds Inv-loop μ-loop
 loop-holds c = (refl, starting-start _ _)
+
 cast-starts : tie.Need-cast-starts Inv-loop μ-loop
 cast-starts c = omega (arith, c .before .before .before .before .pre .1)
+
 mul-starts : tie.Need-mul-starts Inv-loop μ-loop
 mul-starts c = search needs
+
 slice-write-starts : tie.Need-slice-write-starts Inv-loop μ-loop
 slice-write-starts c = omega (arith, c .before .loop .inv .0, c .before .loop .inv .1 .few, c .before .before .before .before .pre .0)
+
 add-many : tie.Need-add-many Inv-loop μ-loop
 add-many c = omega (arith, c .before .loop .inv .1 .few)
+
 find-requires : tie.Need-find-requires Inv-loop μ-loop
 find-requires c κs = (omega arith, omega arith)
+
 add-from : tie.Need-add-from Inv-loop μ-loop
 add-from c =
     let loop = c .before .before in
     let end = mark-to _ _ _ _ _ (c .find .ensures) (omega arith) (omega arith) in
     omega arith
+
 loop-less : tie.Need-loop-less Inv-loop μ-loop
 loop-less c =
     let begin = mark-from _ _ _ _ _ (c .find .ensures) in
     omega arith
+
 loop-again : tie.Need-loop-again Inv-loop μ-loop
 loop-again c =
     let loop = c .before .before .loop in
     let room = c .before .before .before .before .before .pre .0 in
     (length-set (loop .starts) (loop .many) (loop .from) ∙ loop .inv .0, starting-next _ _ _ _ _ (loop .inv .1) (omega arith) (omega (arith, loop .inv .1 .few, loop .inv .0)) (c .find .ensures))
+
 same-length : tie.Need-same-length Inv-loop μ-loop
 same-length c = c .before .loop .inv .0
+
 returns : tie.Need-returns Inv-loop μ-loop
 returns c =
     let loop = c .before .loop in

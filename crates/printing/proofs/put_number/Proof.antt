@@ -8,16 +8,21 @@ use Rattle.printing.proofs.put_number.Tie as tie
 
 decimal-requires : tie.Need-decimal-requires
 decimal-requires c κs = search needs
+
 array-share-prefix-digits : tie.Need-array-share-prefix-digits
 array-share-prefix-digits c = search needs
+
 slice-aggregate-put : tie.Need-slice-aggregate-put
 slice-aggregate-put c = search needs
+
 put-requires : tie.Need-put-requires
 put-requires c κs =
     let few = few-digits _ _ (c .before .before .decimal .ensures .1 .0) (omega arith) in
     omega arith
+
 same-length : tie.Need-same-length
 same-length c = search needs
+
 returns : tie.Need-returns
 returns c =
     let few = few-digits _ _ (c .before .before .before .before .before .decimal .ensures .1 .0) (omega arith) in

@@ -8,37 +8,52 @@ use Rattle.printing.proofs.reason_line.Tie as tie
 
 refusal-number-requires : tie.Need-refusal-number-requires
 refusal-number-requires c κs = search needs
+
 put-reason-requires : tie.Need-put-reason-requires
 put-reason-requires c κs = search needs
+
 slice-aggregate-put : tie.Need-slice-aggregate-put
 slice-aggregate-put c = search needs
+
 put-requires : tie.Need-put-requires
 put-requires c κs = search needs
+
 same-length : tie.Need-same-length
 same-length c = search needs
+
 returns : tie.Need-returns
 unfolding bytes
 returns c =
     let text = puts-then (c .before .before .before .before .before .before .before .put-reason .ensures .0) (c .before .before .put .ensures) in
     held text (reason-alone _ _ _ (c .before .before .before .before .before .before .before .before .before .before .refusal-number .ensures) (c .before .before .before .before .before .before .before .before .before .if1 .taken))
+
 slice-aggregate-put-2 : tie.Need-slice-aggregate-put-2
 slice-aggregate-put-2 c = search needs
+
 put-requires-2 : tie.Need-put-requires-2
 put-requires-2 c κs = search needs
+
 put-number-requires : tie.Need-put-number-requires
 put-number-requires c κs = search needs
+
 slice-aggregate-put-3 : tie.Need-slice-aggregate-put-3
 slice-aggregate-put-3 c = search needs
+
 put-requires-3 : tie.Need-put-requires-3
 put-requires-3 c κs = search needs
+
 put-reason-requires-2 : tie.Need-put-reason-requires-2
 put-reason-requires-2 c κs = search needs
+
 slice-aggregate-put-4 : tie.Need-slice-aggregate-put-4
 slice-aggregate-put-4 c = search needs
+
 put-requires-4 : tie.Need-put-requires-4
 put-requires-4 c κs = search needs
+
 same-length-2 : tie.Need-same-length-2
 same-length-2 c = search needs
+
 returns-2 : tie.Need-returns-2
 unfolding bytes
 returns-2 c =

@@ -9,32 +9,42 @@ use Rattle.printing.proofs.second_field.Tie as tie
 
 find-requires : tie.Need-find-requires
 find-requires c κs = search needs
+
 sub-result : tie.Need-sub-result
 sub-result c = search needs
+
 part-result-start : tie.Need-part-result-start
 part-result-start c = search needs
+
 part-result-end : tie.Need-part-result-end
 part-result-end c = search needs
+
 returns : tie.Need-returns
 returns c =
     let args = c .before .before .before .before in
     (second-none _ _ _ _ (c .before .before .find .ensures) (omega arith), part-short _ (args .args .end) (args .args .end) (args .pre .1))
+
 add-from : tie.Need-add-from
 add-from c =
     let end = mark-to _ _ _ _ _ (c .before .find .ensures) (omega arith) (omega arith) in
     omega arith
+
 find-requires-2 : tie.Need-find-requires-2
 find-requires-2 c κs =
     let end = mark-to _ _ _ _ _ (c .before .find .ensures) (omega arith) (omega arith) in
     (omega arith, omega arith)
+
 sub-result-2 : tie.Need-sub-result-2
 sub-result-2 c = mark-from _ _ _ _ _ (c .find2 .ensures)
+
 part-result-start-2 : tie.Need-part-result-start-2
 part-result-start-2 c = mark-from _ _ _ _ _ (c .find2 .ensures)
+
 part-result-end-2 : tie.Need-part-result-end-2
 part-result-end-2 c =
     let first = mark-to _ _ _ _ _ (c .before .before .find .ensures) (omega arith) (omega arith) in
     omega (arith, mark-to _ _ _ _ _ (c .find2 .ensures) (omega arith) (omega arith))
+
 returns-2 : tie.Need-returns-2
 returns-2 c =
     let args = c .before .before .before .before .before in
