@@ -5,6 +5,10 @@ use libc::STDOUT_FILENO;
 use model::Answer;
 use model::Refusal;
 use model::Verdict;
+ghost use Prim.Native.Nat.{_+_, _≤_, _<_};
+ghost use mathlib.Core.Path.{_≡_};
+ghost use lib.ListN.{length};
+ghost use Rattle.cases.specs.Heads.{most-file, most-work, most-room, Sized, Within, Lent, Fits, Placed};
 
 // The longest head line, file, working slice and result slice of a case.
 const MOST_HEAD: usize = 512;
@@ -115,18 +119,23 @@ fn zeros_refused(r: Refusal) -> usize {
     }
 }
 
-// Says that a slice is wrong, or nothing.
-fn put_wrong(good: bool, slice: &[u8]) {
+// Says that a slice is wrong, if it is; how many are.
+fn put_wrong(good: bool, slice: &[u8]) -> usize
+    ensures { λ r. ⌜ r ≤ 1 ⌝ }
+{
     if good {
-        return;
+        return 0;
     }
     put(b"slices,wrong,");
     put(slice);
     put(b"\n");
+    1
 }
 
 // Prints the lines of an answer.
-fn print(file: &[u8], a: Answer, out: &[u32]) {
+fn print(file: &[u8], a: Answer, out: &[u32])
+    requires { ⌜ (length (now file) ≤ most-file) × (a .kept ≤ length (now out)) ⌝ }
+{
     let mut starts = [0u32; MOST_FILE];
     let mut text = [0u8; 131200];
     let many = printing::line_starts(file, &mut starts);
@@ -139,8 +148,68 @@ fn print(file: &[u8], a: Answer, out: &[u32]) {
     }
 }
 
+// Calls the filter over slices of a case's lengths.
+fn call(
+    file: &[u8],
+    w0: &mut [u32],
+    w1: &mut [u32],
+    w2: &mut [u32],
+    w3: &mut [u32],
+    w4: &mut [u32],
+    w5: &mut [u32],
+    out: &mut [u32],
+    s: Sizes,
+) -> Answer
+    requires { ⌜ Lent (now w0) (now w1) (now w2) (now w3) (now w4) (now w5) (now out) s ⌝ }
+    ensures { λ a. ⌜ a .kept ≤ length (now (out .entry)) ⌝ }
+{
+    let n0 = s.n0;
+    let n1 = s.n1;
+    let n2 = s.n2;
+    let n3 = s.n3;
+    let n4 = s.n4;
+    let n5 = s.n5;
+    let room = s.room;
+    filter::filter(
+        file,
+        &mut w0[..n0],
+        &mut w1[..n1],
+        &mut w2[..n2],
+        &mut w3[..n3],
+        &mut w4[..n4],
+        &mut w5[..n5],
+        &mut out[..room],
+    )
+}
+
+// Prints whether the slices came back as document 01 says.
+fn put_slices(
+    w0: &[u32],
+    w1: &[u32],
+    w2: &[u32],
+    w3: &[u32],
+    w4: &[u32],
+    w5: &[u32],
+    out: &[u32],
+    a: Answer,
+) {
+    let zeros = zeros_after(a);
+    let mut wrong = put_wrong(is_left(w0, 0, zeros), b"0");
+    wrong += put_wrong(is_left(w1, 1, zeros), b"1");
+    wrong += put_wrong(is_left(w2, 2, zeros), b"2");
+    wrong += put_wrong(is_left(w3, 3, zeros), b"3");
+    wrong += put_wrong(is_left(w4, 4, zeros), b"4");
+    wrong += put_wrong(is_left(w5, 5, zeros), b"5");
+    wrong += put_wrong(is_left_from(out, 6, a.kept as usize), b"result");
+    if wrong == 0 {
+        put(b"slices,ok\n");
+    }
+}
+
 // Runs a case and prints its answer and how the slices came back.
-fn run(file: &[u8], s: Sizes) {
+fn run(file: &[u8], s: Sizes)
+    requires { ⌜ (length (now file) ≤ most-file) × Sized s ⌝ }
+{
     let mut w0 = [0u32; MOST_WORK];
     let mut w1 = [0u32; MOST_WORK];
     let mut w2 = [0u32; MOST_WORK];
@@ -155,46 +224,26 @@ fn run(file: &[u8], s: Sizes) {
     soil(&mut w4, 4);
     soil(&mut w5, 5);
     soil(&mut out, 6);
-    let n0 = s.n0;
-    let n1 = s.n1;
-    let n2 = s.n2;
-    let n3 = s.n3;
-    let n4 = s.n4;
-    let n5 = s.n5;
-    let room = s.room;
-    let a = filter::filter(
+    let a = call(
         file,
-        &mut w0[..n0],
-        &mut w1[..n1],
-        &mut w2[..n2],
-        &mut w3[..n3],
-        &mut w4[..n4],
-        &mut w5[..n5],
-        &mut out[..room],
+        &mut w0,
+        &mut w1,
+        &mut w2,
+        &mut w3,
+        &mut w4,
+        &mut w5,
+        &mut out,
+        s,
     );
     print(file, a, &out);
-    let zeros = zeros_after(a);
-    let good0 = is_left(&w0, 0, zeros);
-    let good1 = is_left(&w1, 1, zeros);
-    let good2 = is_left(&w2, 2, zeros);
-    let good3 = is_left(&w3, 3, zeros);
-    let good4 = is_left(&w4, 4, zeros);
-    let good5 = is_left(&w5, 5, zeros);
-    let good6 = is_left_from(&out, 6, a.kept as usize);
-    put_wrong(good0, b"0");
-    put_wrong(good1, b"1");
-    put_wrong(good2, b"2");
-    put_wrong(good3, b"3");
-    put_wrong(good4, b"4");
-    put_wrong(good5, b"5");
-    put_wrong(good6, b"result");
-    if good0 && good1 && good2 && good3 && good4 && good5 && good6 {
-        put(b"slices,ok\n");
-    }
+    put_slices(&w0, &w1, &w2, &w3, &w4, &w5, &out, a);
 }
 
 // The number of the field that starts at a place, at most `most`.
-fn size_at(head: &[u8], at: usize, most: usize) -> Size {
+fn size_at(head: &[u8], at: usize, most: usize) -> Size
+    requires { ⌜ most ≤ 1000000 ⌝ }
+    ensures { λ r. ⌜ Within most r ⌝ }
+{
     let mut n: usize = 0;
     let mut i = at;
     while i < head.len() {
@@ -218,7 +267,9 @@ fn size_at(head: &[u8], at: usize, most: usize) -> Size {
 }
 
 // The sizes of a head line from a place on.
-fn sizes_at(head: &[u8], start: usize, end: usize, at: usize) -> Head {
+fn sizes_at(head: &[u8], start: usize, end: usize, at: usize) -> Head
+    ensures { λ r. ⌜ Fits start end r ⌝ }
+{
     let Size::Words(length, i0) = size_at(head, at, MOST_FILE) else {
         return Head::Bad;
     };
@@ -260,7 +311,9 @@ fn sizes_at(head: &[u8], start: usize, end: usize, at: usize) -> Head {
 }
 
 // Reads a head line.
-fn head_of(head: &[u8]) -> Head {
+fn head_of(head: &[u8]) -> Head
+    ensures { λ r. ⌜ Placed (length (now (head .entry))) r ⌝ }
+{
     if MOST_HEAD < head.len() {
         return Head::Bad;
     }
@@ -278,14 +331,16 @@ fn head_of(head: &[u8]) -> Head {
     sizes_at(head, kind + 1, end, end + 1)
 }
 
-// Runs the case at a place of the window; where the next one starts, or the end of the window where there is no case.
-fn one_case(window: &[u8], from: usize) -> usize {
-    let end = text::find(window, b'\n', from, window.len());
-    if end == window.len() {
+// Runs the case at the start of the window; where the next one starts, or the end of the window where there is no case.
+fn one_case(window: &[u8]) -> usize
+    ensures { λ r. ⌜ r ≤ length (now (window .entry)) ⌝ }
+{
+    let end = text::find(window, b'\n', 0, window.len());
+    if window.len() <= end {
         put(b"no case\n");
         return window.len();
     }
-    let head = &window[from..end];
+    let head = &window[..end];
     match head_of(head) {
         Head::Case(a, e, s) => {
             let start = end + 1;
@@ -309,7 +364,10 @@ fn one_case(window: &[u8], from: usize) -> usize {
 }
 
 // Moves the bytes from a place up to another to the start of the window and reads more behind them; how many there are.
-fn refill(window: &mut [u8], from: usize, to: usize) -> usize {
+fn refill(window: &mut [u8], from: usize, to: usize) -> usize
+    requires { ⌜ (from ≤ to) × (to ≤ length (now window)) ⌝ }
+    ensures { λ r. ⌜ r ≤ length (now (window .entry)) ⌝ }
+{
     let kept = to - from;
     let mut i: usize = 0;
     while i < kept {
@@ -326,14 +384,11 @@ fn main() {
     let mut to: usize = 0;
     let mut left: usize = MOST_CASES;
     while 0 < left {
-        if to - from < MOST_HEAD + MOST_FILE + 1 {
-            to = refill(&mut window, from, to);
-            from = 0;
-        }
-        if from == to {
+        to = refill(&mut window, from, to);
+        if to == 0 {
             return;
         }
-        from = one_case(&window[..to], from);
+        from = one_case(&window[..to]);
         left -= 1;
     }
 }

@@ -5,6 +5,9 @@ use libc::STDIN_FILENO;
 use libc::STDOUT_FILENO;
 use model::Answer;
 use model::Verdict;
+ghost use Prim.Native.Nat.{_≤_};
+ghost use lib.ListN.{length};
+ghost use Rattle.factfilter.specs.Input.{bytes-read};
 
 // What reading standard input comes to: so many bytes to its end or up to a full buffer, or a read that failed.
 enum Input {
@@ -13,7 +16,9 @@ enum Input {
 }
 
 // Reads standard input to its end, or until the buffer is full.
-fn read_input(buffer: &mut [u8]) -> Input {
+fn read_input(buffer: &mut [u8]) -> Input
+    ensures { λ r. ⌜ bytes-read r ≤ length (now (buffer .exit)) ⌝ }
+{
     let mut n: usize = 0;
     while n < buffer.len() {
         let got = libc::read(STDIN_FILENO, &mut buffer[n..]);
@@ -30,9 +35,11 @@ fn read_input(buffer: &mut [u8]) -> Input {
 }
 
 // Prints the lines of an answer; whether each was written.
-fn print(file: &[u8], a: Answer, out: &[u32]) -> bool {
+fn print(file: &[u8], a: Answer, out: &[u32]) -> bool
+    requires { ⌜ (length (now file) ≤ 65536) × (a .kept ≤ length (now out)) ⌝ }
+{
     let mut starts = [0u32; 65536];
-    let mut text = [0u8; 65600];
+    let mut text = [0u8; 65664];
     let many = printing::line_starts(file, &mut starts);
     let kept = a.kept as usize;
     let mut i: usize = 0;
@@ -57,7 +64,9 @@ fn explain(a: Answer) {
 }
 
 // Filters a file over slices that are long enough for every accepted one, and prints the answer.
-fn run(file: &[u8]) {
+fn run(file: &[u8])
+    requires { ⌜ length (now file) ≤ 65536 ⌝ }
+{
     let mut w0 = [0u32; model::WORKING_WORDS];
     let mut w1 = [0u32; model::WORKING_WORDS];
     let mut w2 = [0u32; model::WORKING_WORDS];

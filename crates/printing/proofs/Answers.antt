@@ -2,13 +2,19 @@
 use Prim.Native.Nat.{ℕ, _≤_, _<_}
 use native.Mathlib.Omega.{arith}
 use mathlib.Core.Path.{_≡_, refl, sym, ap, _∙_}
+use mathlib.Core.Bool.{Bool, true, false, cond}
 use mathlib.Core.List.{List, _++_}
+use lib.Dec.{leb, ltb}
 use lib.ListN.{length, take, drop, getD}
 use lib.Seq.{getD-take, take-at}
-use borrow.Author.Tests.{lt-ltb, le-ltb}
-use Rattle.model.specs.Outcome.{Outcome, refusal-at, list, answer, result-after}
+use borrow.Author.Tests.{lt-ltb, le-ltb, leb-true}
+use Rattle.model.specs.Lists.{any}
+use Rattle.model.specs.Summaries.{exclude-names}
+use Rattle.model.specs.Reading.{read-file}
+use Rattle.model.specs.Outcome.{Outcome, refusal-at, list, of-reading, fitting, most-bytes, working-words, judged, outcome, answer, result-after}
 use Rattle.model.specs.declared.Answer.{Answer}
 use Rattle.model.specs.declared.Refusal.{Refusal}
+use Rattle.model.specs.declared.Refusal.the-variants.{Working, Room, Size}
 use Rattle.model.specs.declared.Verdict.{Verdict}
 use Rattle.model.specs.declared.Verdict.the-variants.{Accepted, Refused}
 use Rattle.printing.specs.Printed.{Holds, kept-line, sum-line, refused-line, outcome-line, Answered}
@@ -59,3 +65,34 @@ sum-answered file a out i text n v l h = record { inside = h .inside; prints = �
         let s : a .visits ≡ visits = ap (λ (b : Answer). b .visits) e in
         let t : a .rounds ≡ rounds = ap (λ (b : Answer). b .rounds) e in
         rw (le-ltb i (length lines) (omega arith)) (rw (k, s, t) at h)
+
+-- ---- room
+
+-- one of two outcomes keeps no more lines than both
+either-fits : (room : ℕ) (t : Bool) (o p : Outcome) → answer o .kept ≤ room → answer p .kept ≤ room → answer (cond t o p) .kept ≤ room
+either-fits room true o p h k = h
+either-fits room false o p h k = k
+
+-- no more lines are kept than the result slice has room for, or 8
+fitting-fits : (room : ℕ) (o : Outcome) → answer (fitting room o) .kept ≤ room
+unfolding answer fitting
+fitting-fits room (refusal-at r place) = omega arith
+fitting-fits room (list lines visits rounds) = go (leb (length lines) room) refl
+  where
+    go : (t : Bool) → leb (length lines) room ≡ t
+        → answer (cond t (list lines visits rounds) (refusal-at Room (length lines))) .kept ≤ room
+    go true t = leb-true (length lines) room t
+    go false t = omega arith
+
+-- no call keeps more lines than its result slice has room for
+kept-fits : (file works : List ℕ) (room : ℕ) → answer (outcome file works room) .kept ≤ room
+unfolding answer outcome judged
+kept-fits file works room =
+    let read = fitting room (of-reading (read-file exclude-names file)) in
+    either-fits room (any (λ n. ltb n working-words) works) (refusal-at Working 0) (judged file room) (omega arith)
+    (either-fits room (ltb most-bytes (length file)) (refusal-at Size 0) read (omega arith)
+    (fitting-fits room (of-reading (read-file exclude-names file))))
+
+-- the same of an answer
+pub kept-room : (file works : List ℕ) (room : ℕ) (a : Answer) → a ≡ answer (outcome file works room) → a .kept ≤ room
+kept-room file works room a e = rw e (kept-fits file works room)

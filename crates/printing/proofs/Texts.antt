@@ -7,7 +7,7 @@ use mathlib.Core.Path.{_≡_, refl, sym, ap, _∙_}
 use mathlib.Core.Bool.{Bool, true, false, cond}
 use mathlib.Core.List.{List, [], _∷_, _++_, append-assoc, append-nil}
 use lib.Dec.{leb}
-use lib.ListN.{length, take, drop, getD, set, length-append, length-set}
+use lib.ListN.{length, take, drop, getD, set, length-append, length-set, length-take}
 use lib.Seq.{take-suc, take-suc-set, take-all}
 use borrow.Author.Tests.{lt-ltb, le-ltb, leb-true, leb-false}
 use Rattle.io.specs.Digits as io
@@ -71,6 +71,10 @@ pub held : {a b t0 t1 : List ℕ} {e : ℕ} → Puts 0 a t0 t1 e → a ≡ b →
 held {a} {b} p q =
     let same : length a ≡ length b = ap length q in
     record { sized = omega (arith, p .ends); begins = p .written ∙ q; inside = p .inside }
+
+-- how long the first bytes of a text are
+pub counted : (n : ℕ) (text : List ℕ) → n ≤ length text → n ≡ length (take n text)
+counted n text h = rw (length-take n text) (omega arith)
 
 -- ---- numbers
 
