@@ -1,3 +1,4 @@
 pub mod Picking
 pub mod Writing
 pub mod Walking
+pub mod Facts

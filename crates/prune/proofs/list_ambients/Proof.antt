@@ -9,10 +9,10 @@ use Rattle.prune.proofs.list_ambients.Statement.{statement}
 use Rattle.prune.proofs.list_ambients.Tie as tie
 
 abbrev Inv-loop : tie.InvT-loop
-Inv-loop recs run₀ k m to₀ i₀ run to i = Falling run₀ m (ambient-at recs) (k .records) run to i
+Inv-loop recs run₀ m to₀ i₀ run to i = Falling run₀ m (ambient-at recs) i₀ run to i
 
 abbrev μ-loop : tie.MeasureT-loop
-μ-loop recs run₀ k m to₀ i₀ run to i = i
+μ-loop recs run₀ m to₀ i₀ run to i = i
 
 no-ambients-requires : tie.Need-no-ambients-requires Inv-loop μ-loop
 no-ambients-requires c κs = search needs
