@@ -2,3 +2,5 @@ pub mod Picking
 pub mod Writing
 pub mod Walking
 pub mod Facts
+pub mod Noting
+pub mod Chains

@@ -125,10 +125,20 @@ unfolding picked from collect
 from-end pick r n h = ap (λ (k : ℕ). picked pick (from r k)) (let e : n - r ≡ 0 = omega arith in e)
 
 -- the first of the numbers left, kept or not
-pub kept-next : (test : ℕ → Bool) (i n : ℕ) → i < n
+kept-next : (test : ℕ → Bool) (i n : ℕ) → i < n
     → keep test (from i (n - i)) ≡ cond (test i) (i ∷ keep test (from (i + 1) (n - (i + 1)))) (keep test (from (i + 1) (n - (i + 1))))
 unfolding from keep
 kept-next test i n h = ap (λ (k : ℕ). keep test (from i k)) (let e : n - i ≡ suc (n - (i + 1)) = omega arith in e)
+
+pub kept-skip : (test : ℕ → Bool) (i n : ℕ) → i < n → test i ≡ false → keep test (from i (n - i)) ≡ keep test (from (i + 1) (n - (i + 1)))
+kept-skip test i n h e =
+    kept-next test i n h
+    ∙ ap (λ (b : Bool). cond b (i ∷ keep test (from (i + 1) (n - (i + 1)))) (keep test (from (i + 1) (n - (i + 1))))) e
+
+pub kept-take : (test : ℕ → Bool) (i n : ℕ) → i < n → test i ≡ true → keep test (from i (n - i)) ≡ i ∷ keep test (from (i + 1) (n - (i + 1)))
+kept-take test i n h e =
+    kept-next test i n h
+    ∙ ap (λ (b : Bool). cond b (i ∷ keep test (from (i + 1) (n - (i + 1)))) (keep test (from (i + 1) (n - (i + 1))))) e
 
 pub kept-end : (test : ℕ → Bool) (i n : ℕ) → n ≤ i → keep test (from i (n - i)) ≡ []
 unfolding from keep
