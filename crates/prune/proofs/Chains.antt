@@ -13,6 +13,7 @@ use Rattle.model.specs.Lists.{keep, collect}
 use Rattle.model.specs.Reading.{most-names, most-records}
 use Rattle.model.specs.Outcome.{working-words}
 use Rattle.model.proofs.ListLaws.{keep-cong, collect-cong}
+use Rattle.names.specs.Table.{ranked}
 use Rattle.words.specs.Slices.{Same-but, Zeroed}
 use Rattle.words.proofs.Slices.{same-then, same-wider, same-set}
 use Rattle.terms.proofs.Laws.{equal}
@@ -41,6 +42,9 @@ linked-same {f} {g} {n} {w} {v} c stamps words few = record {
 
 -- ---- a rank put on a chain
 
+pub cleared-room : {before w : List ℕ} → Zeroed last-column most-stamps before w → working-words ≤ length before → working-words ≤ length w
+cleared-room z h = let e = z .same .same-length in omega arith
+
 -- the ranks below r are on their chains
 pub record Links-to (names : List ℕ) (named : ℕ) (w₀ w : List ℕ) (r : ℕ) : Type 0 where
   pub high : r ≤ named
@@ -49,7 +53,7 @@ pub record Links-to (names : List ℕ) (named : ℕ) (w₀ w : List ℕ) (r : �
 
 module _ {names : List ℕ} {named : ℕ} (index : Index names named) where
   -- a word of the met column is none of the chains
-  number-low : {r : ℕ} → r < named → getD names (4096 + r) 0 < below-column
+  number-low : {r : ℕ} → r < named → ranked names r < below-column
   number-low {r} h = let a = index .numbers r h in let b = index .few in omega arith
 
   -- the chains are cleared
@@ -61,8 +65,17 @@ module _ {names : List ℕ} {named : ℕ} (index : Index names named) where
     linked = record { last = λ s h. z .zero (last-column + s) (omega arith) (omega arith); below = λ r h p. absurd (omega arith) };
   }
 
+  -- the stamps are none of what is cleared
+  pub cleared-stamps : {before w : List ℕ} → Zeroed last-column most-stamps before w
+      → ((q : ℕ) → q < named → stamp-in names before q ≤ most-stamps) → (q : ℕ) → q < named → stamp-in names w q ≤ most-stamps
+  cleared-stamps z low q h =
+      let l = number-low h in
+      let e = z .same .same-words (ranked names q) (λ a b. omega arith) in
+      let d = low q h in
+      omega arith
+
   module _ {w₀ w : List ℕ} {r : ℕ} (room : working-words ≤ length w₀) (stamps : (q : ℕ) → q < named → stamp-in names w₀ q ≤ most-stamps)
-      (c : Links-to names named w₀ w r) (h : r < named) {n x : ℕ} (e : n ≡ getD names (4096 + r) 0) (d : x ≡ getD w n 0) where
+      (c : Links-to names named w₀ w r) (h : r < named) {n x : ℕ} (e : n ≡ ranked names r) (d : x ≡ getD w n 0) where
     -- the stamp is that of the start
     pub stamp-is : x ≡ stamp-in names w₀ r
     stamp-is =
@@ -130,7 +143,115 @@ module _ {names : List ℕ} {named : ℕ} (index : Index names named) where
       let e : r ≡ named = omega arith in
       record {
         linked = linked-same (subst (λ (n : ℕ). Linked (stamp-in names w₀) n w) e (c .linked))
-            (λ q l. sym (z .same .same-words (getD names (4096 + q) 0) (λ a d. let k = number-low l in omega arith)))
+            (λ q l. sym (z .same .same-words (ranked names q) (λ a d. let k = number-low l in omega arith)))
             (λ j l. refl) (index .few);
         same = same-then (same-wider below-column (most-names + most-stamps) (omega arith) (omega arith) (z .same)) (c .same);
       }
+
+-- ---- the ranks of a stamp listed
+
+module _ (f : ℕ → ℕ) (n : ℕ) where
+  -- the numbers of a value are those up to the newest
+  newest-kept : (k : ℕ) → keep (λ d. eqb (f d) n) (upto k) ≡ keep (λ d. eqb (f d) n) (upto (newest f n k))
+  unfolding newest upto keep
+  newest-kept zero = refl
+  newest-kept (suc k) = go (eqb (f k) n) refl (newest-kept k)
+    where
+      go : (b : Bool) → eqb (f k) n ≡ b → keep (λ d. eqb (f d) n) (upto k) ≡ keep (λ d. eqb (f d) n) (upto (newest f n k))
+          → keep (λ d. eqb (f d) n) (upto (suc k)) ≡ keep (λ d. eqb (f d) n) (upto (cond b (suc k) (newest f n k)))
+      go true e w = refl
+      go false e w = rw e w
+
+  -- the newest has it
+  newest-has : (k : ℕ) → 0 < newest f n k → f (newest f n k - 1) ≡ n
+  newest-has k l = newest-at f n k (newest f n k - 1) (omega arith) .1
+
+  -- the first of them
+  kept-first : (p : ℕ) → 0 < p → f (p - 1) ≡ n → keep (λ d. eqb (f d) n) (upto p) ≡ (p - 1) ∷ keep (λ d. eqb (f d) n) (upto (p - 1))
+  unfolding upto keep
+  kept-first zero l e = absurd (let z : _<_ 0 0 = l in omega arith)
+  kept-first (suc p) l e =
+      let z : suc p - 1 ≡ p = omega arith in
+      rw z (rw (eq-eqb (f p) n (subst (λ x. f x ≡ n) z e)))
+
+-- the ranks of a stamp below p, and the records that they pick
+abbrev chain : (ℕ → ℕ) → (ℕ → ℕ) → ℕ → ℕ → List ℕ
+chain pick f n p = picked pick (keep (λ d. eqb (f d) n) (upto p))
+
+-- the chain of a stamp is listed down to rank p
+pub record Listed-to (pick f : ℕ → ℕ) (named s : ℕ) (w : List ℕ) (m : ℕ) (v : List ℕ) (to p : ℕ) : Type 0 where
+  pub high : p ≤ named
+  pub on : 0 < p → f (p - 1) ≡ s
+  pub going : Going w m (picked pick (keep (λ d. eqb (f d) s) (upto named))) v to (picked pick (keep (λ d. eqb (f d) s) (upto p)))
+
+module _ (pick : ℕ → ℕ) {f : ℕ → ℕ} {named : ℕ} {w : List ℕ} (c : Linked f named w) where
+  pub chain-start : {s p : ℕ} (m : ℕ) → 0 < s → s ≤ most-stamps → p ≡ getD w (last-column + (s - 1)) 0 → Listed-to pick f named s w m w m p
+  chain-start {s} {p} m h l e =
+      let z : s - 1 + 1 ≡ s = omega arith in
+      let q : p ≡ newest f s named = e ∙ c .last (s - 1) (omega arith) ∙ ap (λ (t : ℕ). newest f t named) z in
+      let low = newest-low f s named in
+      record {
+        high = omega arith;
+        on = λ g. subst (λ (x : ℕ). f (x - 1) ≡ s) (sym q) (newest-has f s named (omega arith));
+        going = subst (λ (l : List ℕ). Going w m (chain pick f s named) w m l)
+            (ap (picked pick) (newest-kept f s named ∙ ap (λ (x : ℕ). keep (λ d. eqb (f d) s) (upto x)) (sym q)))
+            (going-start w m (chain pick f s named));
+      }
+
+  module _ {s m : ℕ} {v : List ℕ} {to p : ℕ} (fits : m + length (picked pick (keep (λ d. eqb (f d) s) (upto named))) ≤ most-records)
+      (few : named ≤ most-names) (pos : 0 < s) (g : Listed-to pick f named s w m v to p) (h : p ≡ 0 → ⊥) {q : ℕ} (e : q ≡ getD v (below-column + (p - 1)) 0) where
+    -- the next rank on the chain
+    next-is : q ≡ newest f s (p - 1)
+    next-is =
+        let b = g .high in
+        let o = g .on (omega (arith, h)) in
+        e ∙ going-above (g .going) fits (below-column + (p - 1)) (omega arith) ∙ c .below (p - 1) (omega (arith, h)) (omega arith)
+        ∙ ap (λ (t : ℕ). newest f t (p - 1)) o
+
+    pub chain-less : q < p
+    chain-less = let a = next-is in let b = newest-low f s (p - 1) in omega (arith, h)
+
+    -- what is left starts with that rank
+    left-is : chain pick f s p ≡ one (pick (p - 1)) ++ chain pick f s q
+    unfolding picked collect
+    left-is =
+        ap (picked pick) (kept-first f s p (omega (arith, h)) (g .on (omega (arith, h))))
+        ∙ ap (λ (l : List ℕ). one (pick (p - 1)) ++ picked pick l)
+        (newest-kept f s (p - 1) ∙ ap (λ (x : ℕ). keep (λ d. eqb (f d) s) (upto x)) (sym next-is))
+
+    next-on : 0 < q → f (q - 1) ≡ s
+    next-on l = subst (λ (x : ℕ). f (x - 1) ≡ s) (sym next-is) (newest-has f s (p - 1) (let a = next-is in omega arith))
+
+    module _ {t : ℕ} (d : t ≡ pick (p - 1)) where
+      pub chain-none : t ≡ 0 → Listed-to pick f named s w m v to q
+      chain-none z =
+          let a = chain-less in
+          let b = g .high in
+          record { high = omega arith; on = next-on; going = pick-none (chain pick f s q) (g .going) left-is d z }
+
+      pub chain-one : (t ≡ 0 → ⊥) → Listed-to pick f named s w m (set v (kept-column + to) (t - 1)) (to + 1) q
+      chain-one z =
+          let a = chain-less in
+          let b = g .high in
+          record { high = omega arith; on = next-on; going = pick-one (chain pick f s q) (g .going) left-is d z }
+
+      pub chain-room : (t ≡ 0 → ⊥) → to < most-records
+      chain-room z = pick-room (chain pick f s q) (g .going) left-is d z fits
+
+  pub chain-end : {s m : ℕ} {v : List ℕ} {to p : ℕ} → Listed-to pick f named s w m v to p → p ≡ 0
+      → Lists w m (picked pick (keep (λ d. eqb (f d) s) (upto named))) v to
+  unfolding picked collect keep upto
+  chain-end {s} g z = going-end (g .going) (ap (λ (p : ℕ). chain pick f s p) z)
+
+-- ---- as the definitions have it
+
+module _ (names recs : List ℕ) (named : ℕ) (stamp : ℕ → ℕ) (kind s : ℕ) where
+  pub stamp-fits : (m : ℕ) → m + length (stamp-records names recs named stamp kind s) ≤ most-records
+      → m + length (picked (kind-at names recs kind) (keep (λ r. eqb (stamp r) s) (upto named))) ≤ most-records
+  unfolding stamp-records
+  stamp-fits m h = h
+
+  pub stamp-listed : {w v : List ℕ} {m to : ℕ} → Lists w m (picked (kind-at names recs kind) (keep (λ r. eqb (stamp r) s) (upto named))) v to
+      → Lists w m (stamp-records names recs named stamp kind s) v to
+  unfolding stamp-records
+  stamp-listed p = p
