@@ -4,9 +4,9 @@ use native.Mathlib.Omega.{arith}
 use mathlib.Core.Path.{_≡_, refl, sym, _∙_, ap, subst}
 use mathlib.Core.Bool.{Bool, true, false, cond}
 use mathlib.Core.Logic.{⊎-elim}
-use mathlib.Core.List.{List, [], _∷_, _++_}
+use mathlib.Core.List.{List, [], _∷_, _++_, append-nil}
 use lib.Dec.{eqb}
-use lib.ListN.{length, getD, set, length-set}
+use lib.ListN.{length, getD, set, length-set, length-append}
 use lib.Seq.{getD-set-same, getD-set-other}
 use borrow.Author.Tests.{eq-eqb}
 use Rattle.model.specs.Lists.{keep, collect}
@@ -17,6 +17,7 @@ use Rattle.names.specs.Table.{ranked}
 use Rattle.words.specs.Slices.{Same-but, Zeroed}
 use Rattle.words.proofs.Slices.{same-then, same-wider, same-set}
 use Rattle.terms.proofs.Laws.{equal}
+use Rattle.records.specs.Columns.{def-kind, fun-kind}
 use Rattle.records.specs.Filing.{newest}
 use Rattle.records.proofs.Chaining.{newest-cong, newest-here, newest-other, newest-low}
 use Rattle.scan.specs.Held.{upto}
@@ -25,7 +26,7 @@ use Rattle.scan.proofs.Visited.{newest-at}
 use Rattle.prune.specs.Listing.{one, picked, kind-at, stamp-records, kind-records, decl-records}
 use Rattle.prune.specs.Loops.{kept-column, below-column, last-column, most-stamps, stamp-in, Index, Lists, Linked, Links}
 use Rattle.prune.proofs.Picking.{collect-next, collect-end}
-use Rattle.prune.proofs.Writing.{Going, going-start, going-length, going-below, going-above, going-end, going-list, list-room, pick-none, pick-one, pick-room}
+use Rattle.prune.proofs.Writing.{Going, going-start, going-length, going-below, going-above, going-end, going-list, lists-both, list-room, pick-none, pick-one, pick-room}
 
 -- ---- chains stay
 
@@ -255,3 +256,113 @@ module _ (names recs : List ℕ) (named : ℕ) (stamp : ℕ → ℕ) (kind s : �
       → Lists w m (stamp-records names recs named stamp kind s) v to
   unfolding stamp-records
   stamp-listed p = p
+
+-- what is listed depends on the stamps of the ranks only
+module _ (names recs : List ℕ) (named : ℕ) {f g : ℕ → ℕ} (same : (r : ℕ) → r < named → g r ≡ f r) where
+  pub stamp-same : (kind s : ℕ) → stamp-records names recs named g kind s ≡ stamp-records names recs named f kind s
+  unfolding stamp-records
+  stamp-same kind s =
+      ap (picked (kind-at names recs kind))
+      (keep-cong (λ r. eqb (g r) s) (λ r. eqb (f r) s) (upto named) (λ r m. ap (λ (x : ℕ). eqb x s) (same r (upto-elim named m))))
+
+  pub kinds-same : (kind s : ℕ) → kind-records names recs named g kind s ≡ kind-records names recs named f kind s
+  unfolding kind-records
+  kinds-same kind s =
+      collect-cong (λ j. stamp-records names recs named g kind (j + 1)) (λ j. stamp-records names recs named f kind (j + 1)) (upto s)
+      (λ j m. stamp-same kind (j + 1))
+
+  pub decls-same : (s : ℕ) → decl-records names recs named g s ≡ decl-records names recs named f s
+  unfolding decl-records
+  decls-same s = rw (kinds-same def-kind s, kinds-same fun-kind s)
+
+-- ---- stamp after stamp
+
+-- words of the slice outside the kept list are those of the start
+pub record Apart (w v : List ℕ) : Type 0 where
+  pub size : length v ≡ length w
+  pub low : (j : ℕ) → j < kept-column → getD v j 0 ≡ getD w j 0
+  pub high : (j : ℕ) → below-column ≤ j → getD v j 0 ≡ getD w j 0
+
+pub going-apart : {w : List ℕ} {m : ℕ} {whole v : List ℕ} {to : ℕ} {rest : List ℕ} → Going w m whole v to rest → m + length whole ≤ most-records → Apart w v
+going-apart g f = record { size = going-length g; low = going-below g; high = going-above g f }
+
+module _ {names w v : List ℕ} {named : ℕ} (index : Index names named) (apart : Apart w v) where
+  -- the stamps of the ranks stay
+  pub stamps-apart : (r : ℕ) → r < named → stamp-in names v r ≡ stamp-in names w r
+  stamps-apart r h = apart .low (ranked names r) (let l = number-low index h in omega (arith, index .numbers r h, index .few))
+
+  -- and the chains
+  pub linked-apart : Linked (stamp-in names w) named w → Linked (stamp-in names v) named v
+  linked-apart c = linked-same c stamps-apart (apart .high) (index .few)
+
+-- the stamps from s downward are left
+pub record Kinds-to (names recs : List ℕ) (named kind stamps : ℕ) (w : List ℕ) (m : ℕ) (v : List ℕ) (to s : ℕ) : Type 0 where
+  pub high : s ≤ stamps
+  pub going : Going w m (kind-records names recs named (stamp-in names w) kind stamps) v to (kind-records names recs named (stamp-in names w) kind s)
+
+pub kinds-start : (names recs : List ℕ) (named kind stamps : ℕ) (w : List ℕ) (m : ℕ) → Kinds-to names recs named kind stamps w m w m stamps
+kinds-start names recs named kind stamps w m =
+    record { high = omega arith; going = going-start w m (kind-records names recs named (stamp-in names w) kind stamps) }
+
+module _ {names recs : List ℕ} {named kind stamps : ℕ} {w : List ℕ} {m : ℕ} {v : List ℕ} {to s : ℕ} (index : Index names named)
+    (fits : m + length (kind-records names recs named (stamp-in names w) kind stamps) ≤ most-records)
+    (g : Kinds-to names recs named kind stamps w m v to s) where
+  pub kinds-apart : Apart w v
+  kinds-apart = going-apart (g .going) fits
+
+  -- the list of the last stamp left, then the others
+  left-kinds : 0 < s → kind-records names recs named (stamp-in names w) kind s
+      ≡ stamp-records names recs named (stamp-in names v) kind s ++ kind-records names recs named (stamp-in names w) kind (s - 1)
+  unfolding kind-records
+  left-kinds h =
+      collect-next (λ j. stamp-records names recs named (stamp-in names w) kind (j + 1)) s h
+      ∙ ap (λ (l : List ℕ). l ++ collect (λ j. stamp-records names recs named (stamp-in names w) kind (j + 1)) (upto (s - 1)))
+      (ap (stamp-records names recs named (stamp-in names w) kind) (let e : s - 1 + 1 ≡ s = omega arith in e)
+      ∙ sym (stamp-same names recs named (stamps-apart index kinds-apart) kind s))
+
+  pub kinds-room : 0 < s → to + length (stamp-records names recs named (stamp-in names v) kind s) ≤ most-records
+  kinds-room h =
+      list-room (stamp-records names recs named (stamp-in names v) kind s) (kind-records names recs named (stamp-in names w) kind (s - 1)) (g .going)
+      (left-kinds h) fits
+
+  pub kinds-next : {u : List ℕ} {next : ℕ} → 0 < s → Lists v to (stamp-records names recs named (stamp-in names v) kind s) u next
+      → Kinds-to names recs named kind stamps w m u next (s - 1)
+  kinds-next h p = let b = g .high in record { high = omega arith; going = going-list (g .going) (left-kinds h) p }
+
+  pub kinds-end : s ≤ 0 → Lists w m (kind-records names recs named (stamp-in names w) kind stamps) v to
+  unfolding kind-records
+  kinds-end h = going-end (g .going) (collect-end (λ j. stamp-records names recs named (stamp-in names w) kind (j + 1)) s h)
+
+-- ---- definitions, then declarations
+
+pub lists-apart : {w : List ℕ} {m : ℕ} {l v : List ℕ} {to : ℕ} → Lists w m l v to → m + length l ≤ most-records → Apart w v
+lists-apart {w} {m} {l} {v} {to} p f = going-apart {rest = []} (going-list {rest = []} (going-start w m l) (sym (append-nil l)) p) f
+
+module _ (names recs : List ℕ) {named : ℕ} (s : ℕ) (w : List ℕ) (m : ℕ) (index : Index names named)
+    (fits : m + length (decl-records names recs named (stamp-in names w) s) ≤ most-records) where
+  -- there is room for the definitions
+  pub defs-fit : m + length (kind-records names recs named (stamp-in names w) def-kind s) ≤ most-records
+  unfolding decl-records
+  defs-fit =
+      let e = length-append (kind-records names recs named (stamp-in names w) def-kind s) (kind-records names recs named (stamp-in names w) fun-kind s) in
+      omega arith
+
+  module _ {v : List ℕ} {to : ℕ} (p : Lists w m (kind-records names recs named (stamp-in names w) def-kind s) v to) where
+    pub defs-apart : Apart w v
+    defs-apart = lists-apart p defs-fit
+
+    -- and for the declarations
+    pub funs-fit : to + length (kind-records names recs named (stamp-in names v) fun-kind s) ≤ most-records
+    unfolding decl-records
+    funs-fit =
+        let e = length-append (kind-records names recs named (stamp-in names w) def-kind s) (kind-records names recs named (stamp-in names w) fun-kind s) in
+        let d = ap length (kinds-same names recs named (stamps-apart index defs-apart) fun-kind s) in
+        let c = p .count in
+        omega arith
+
+    pub decls-listed : {u : List ℕ} {next : ℕ} → Lists v to (kind-records names recs named (stamp-in names v) fun-kind s) u next
+        → Lists w m (decl-records names recs named (stamp-in names w) s) u next
+    unfolding decl-records
+    decls-listed {u} {next} q =
+        lists-both p
+        (subst (λ (l : List ℕ). Lists v to l u next) (kinds-same names recs named (stamps-apart index defs-apart) fun-kind s) q)

@@ -4,3 +4,4 @@ pub mod Walking
 pub mod Facts
 pub mod Noting
 pub mod Chains
+pub mod Lines

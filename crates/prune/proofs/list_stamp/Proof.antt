@@ -72,9 +72,8 @@ loop-less c =
     let loop = c .before .before .before .before .before .loop in
     let args = c .before .before .before .before .before .before .before .before .before .before .before .args in
     let pre = c .before .before .before .before .before .before .before .before .before .before .before .pre in
-    let pick = kind-at (args .names .now) (args .recs .now) (args .kind) in
     let fits = stamp-fits (args .names .now) (args .recs .now) (args .named) (stamp-in (args .names .now) (args .run .now)) (args .kind) (args .stamp) (args .m) (pre .6) in
-    chain-less pick (pre .3) fits (pre .0 .few) (pre .4) (loop .inv) (loop-test .taken) (at2 .ensures)
+    chain-less _ (pre .3) fits (pre .0 .few) (pre .4) (loop .inv) (loop-test .taken) (at2 .ensures)
 
 loop-again : tie.Need-loop-again Inv-loop μ-loop
 loop-again c =
@@ -85,9 +84,8 @@ loop-again c =
     let loop = c .before .before .before .before .before .loop in
     let args = c .before .before .before .before .before .before .before .before .before .before .before .args in
     let pre = c .before .before .before .before .before .before .before .before .before .before .before .pre in
-    let pick = kind-at (args .names .now) (args .recs .now) (args .kind) in
     let fits = stamp-fits (args .names .now) (args .recs .now) (args .named) (stamp-in (args .names .now) (args .run .now)) (args .kind) (args .stamp) (args .m) (pre .6) in
-    chain-none pick (pre .3) fits (pre .0 .few) (pre .4) (loop .inv) (loop-test .taken) (at2 .ensures) (kind-at .ensures .0) (if1 .taken)
+    chain-none _ (pre .3) fits (pre .0 .few) (pre .4) (loop .inv) (loop-test .taken) (at2 .ensures) (kind-at .ensures .0) (if1 .taken)
 
 sub-run : tie.Need-sub-run Inv-loop μ-loop
 sub-run c =
@@ -108,9 +106,8 @@ add-run c =
     let loop = c .before .before .before .before .before .loop in
     let args = c .before .before .before .before .before .before .before .before .before .before .before .args in
     let pre = c .before .before .before .before .before .before .before .before .before .before .before .pre in
-    let pick = kind-at (args .names .now) (args .recs .now) (args .kind) in
     let fits = stamp-fits (args .names .now) (args .recs .now) (args .named) (stamp-in (args .names .now) (args .run .now)) (args .kind) (args .stamp) (args .m) (pre .6) in
-    let room = chain-room pick (pre .3) fits (pre .0 .few) (pre .4) (loop .inv) (loop-test .taken) (at2 .ensures) (kind-at .ensures .0) (if1 .left) in
+    let room = chain-room _ (pre .3) fits (pre .0 .few) (pre .4) (loop .inv) (loop-test .taken) (at2 .ensures) (kind-at .ensures .0) (if1 .left) in
     omega (arith, room)
 
 mul-run : tie.Need-mul-run Inv-loop μ-loop
@@ -122,9 +119,8 @@ mul-run c =
     let loop = c .before .before .before .before .before .loop in
     let args = c .before .before .before .before .before .before .before .before .before .before .before .args in
     let pre = c .before .before .before .before .before .before .before .before .before .before .before .pre in
-    let pick = kind-at (args .names .now) (args .recs .now) (args .kind) in
     let fits = stamp-fits (args .names .now) (args .recs .now) (args .named) (stamp-in (args .names .now) (args .run .now)) (args .kind) (args .stamp) (args .m) (pre .6) in
-    let room = chain-room pick (pre .3) fits (pre .0 .few) (pre .4) (loop .inv) (loop-test .taken) (at2 .ensures) (kind-at .ensures .0) (if1 .left) in
+    let room = chain-room _ (pre .3) fits (pre .0 .few) (pre .4) (loop .inv) (loop-test .taken) (at2 .ensures) (kind-at .ensures .0) (if1 .left) in
     omega (arith, room)
 
 slice-write-run : tie.Need-slice-write-run Inv-loop μ-loop
@@ -136,9 +132,8 @@ slice-write-run c =
     let loop = c .before .before .before .before .before .loop in
     let args = c .before .before .before .before .before .before .before .before .before .before .before .args in
     let pre = c .before .before .before .before .before .before .before .before .before .before .before .pre in
-    let pick = kind-at (args .names .now) (args .recs .now) (args .kind) in
     let fits = stamp-fits (args .names .now) (args .recs .now) (args .named) (stamp-in (args .names .now) (args .run .now)) (args .kind) (args .stamp) (args .m) (pre .6) in
-    let room = chain-room pick (pre .3) fits (pre .0 .few) (pre .4) (loop .inv) (loop-test .taken) (at2 .ensures) (kind-at .ensures .0) (if1 .left) in
+    let room = chain-room _ (pre .3) fits (pre .0 .few) (pre .4) (loop .inv) (loop-test .taken) (at2 .ensures) (kind-at .ensures .0) (if1 .left) in
     omega (arith, room, pre .2, going-length (loop .inv .going))
 
 add-to : tie.Need-add-to Inv-loop μ-loop
@@ -150,9 +145,8 @@ add-to c =
     let loop = c .before .before .before .before .before .loop in
     let args = c .before .before .before .before .before .before .before .before .before .before .before .args in
     let pre = c .before .before .before .before .before .before .before .before .before .before .before .pre in
-    let pick = kind-at (args .names .now) (args .recs .now) (args .kind) in
     let fits = stamp-fits (args .names .now) (args .recs .now) (args .named) (stamp-in (args .names .now) (args .run .now)) (args .kind) (args .stamp) (args .m) (pre .6) in
-    let room = chain-room pick (pre .3) fits (pre .0 .few) (pre .4) (loop .inv) (loop-test .taken) (at2 .ensures) (kind-at .ensures .0) (if1 .left) in
+    let room = chain-room _ (pre .3) fits (pre .0 .few) (pre .4) (loop .inv) (loop-test .taken) (at2 .ensures) (kind-at .ensures .0) (if1 .left) in
     omega (arith, room)
 
 loop-less-2 : tie.Need-loop-less-2 Inv-loop μ-loop
@@ -162,9 +156,8 @@ loop-less-2 c =
     let loop = c .before .before .before .before .before .loop in
     let args = c .before .before .before .before .before .before .before .before .before .before .before .args in
     let pre = c .before .before .before .before .before .before .before .before .before .before .before .pre in
-    let pick = kind-at (args .names .now) (args .recs .now) (args .kind) in
     let fits = stamp-fits (args .names .now) (args .recs .now) (args .named) (stamp-in (args .names .now) (args .run .now)) (args .kind) (args .stamp) (args .m) (pre .6) in
-    chain-less pick (pre .3) fits (pre .0 .few) (pre .4) (loop .inv) (loop-test .taken) (at2 .ensures)
+    chain-less _ (pre .3) fits (pre .0 .few) (pre .4) (loop .inv) (loop-test .taken) (at2 .ensures)
 
 loop-again-2 : tie.Need-loop-again-2 Inv-loop μ-loop
 loop-again-2 c =
@@ -175,9 +168,8 @@ loop-again-2 c =
     let loop = c .before .before .before .before .before .loop in
     let args = c .before .before .before .before .before .before .before .before .before .before .before .args in
     let pre = c .before .before .before .before .before .before .before .before .before .before .before .pre in
-    let pick = kind-at (args .names .now) (args .recs .now) (args .kind) in
     let fits = stamp-fits (args .names .now) (args .recs .now) (args .named) (stamp-in (args .names .now) (args .run .now)) (args .kind) (args .stamp) (args .m) (pre .6) in
-    chain-one pick (pre .3) fits (pre .0 .few) (pre .4) (loop .inv) (loop-test .taken) (at2 .ensures) (kind-at .ensures .0) (if1 .left)
+    chain-one _ (pre .3) fits (pre .0 .few) (pre .4) (loop .inv) (loop-test .taken) (at2 .ensures) (kind-at .ensures .0) (if1 .left)
 
 same-length : tie.Need-same-length Inv-loop μ-loop
 same-length c =
