@@ -5,3 +5,4 @@ pub mod Facts
 pub mod Noting
 pub mod Chains
 pub mod Lines
+pub mod Gathering
