@@ -187,3 +187,173 @@ module _ {names recs out w : List ℕ} {k : Counts} (t : Listable names recs out
     listed-facts e z =
         let q = kept-off names recs out w k (sym e ∙ z) in
         record { records = facts-first ∙ sym q; count = facts-count ∙ ap length (sym q); same = facts-same }
+
+    -- ---- the met column cleared
+
+    module _ {w₂ : List ℕ} (z : Zeroed 0 most-names w₁ w₂) where
+      cleared-length : length w₂ ≡ length w
+      cleared-length = z .same .same-length ∙ lists-length p
+
+      pub cleared-notes : Notes recs out w₂ k
+      cleared-notes = notes-then (t .notes) cleared-length
+
+      facts-there : part w₂ kept-column (kept-column + f) ≡ fact-records names recs w k
+      facts-there =
+          let a = few-facts in
+          let r = t .notes .room in
+          let c = lists-length p in
+          let d = cleared-length in
+          part-agree w₁ w₂ f kept-column (kept-column + f) (omega arith) (omega arith) (omega arith)
+          (λ i x y. z .same .same-words i (λ g h. omega arith))
+          ∙ facts-first
+
+      -- the facts listed are records
+      pub facts-in : (j : ℕ) → j < f → getD w₂ (kept-column + j) 0 < k .records
+      facts-in j h =
+          let a = few-facts in
+          let r = t .notes .room in
+          let d = cleared-length in
+          facts-small
+          (subst (λ (l : List ℕ). List·Memᴰ (getD w₂ (kept-column + j) 0) l) facts-there
+          (part-intro w₂ kept-column (kept-column + f) (kept-column + j) (omega arith) (omega arith) (omega arith)))
+
+      -- ---- the names noted
+
+      module _ {w₃ : List ℕ} (n : w₃ ≡ noted 1 w₂ (map (uses-at recs out) (part w₂ kept-column (kept-column + f)))) where
+        pub noted-notes : Notes recs out w₃ k
+        noted-notes =
+            notes-then cleared-notes
+            (ap length n ∙ noted-length 1 w₂ (map (uses-at recs out) (part w₂ kept-column (kept-column + f))))
+
+        module _ {w₄ : List ℕ} {s : ℕ} (q : w₄ ≡ noted (f + 1) w₃ (map (uses-at recs out) (goal-records recs k)))
+            (c : s ≡ f + length (goal-records recs k)) where
+          -- those of all items
+          all-noted : w₄ ≡ noted 1 w₂ (map (uses-at recs out) (items names recs w k))
+          unfolding items
+          all-noted =
+              let u : ℕ → List ℕ = uses-at recs out in
+              let a = facts-count in
+              let b = length-map (fact-records names recs w k) u in
+              q
+              ∙ ap₂ (λ (m : ℕ) (v : List ℕ). noted m v (map u (goal-records recs k)))
+              (let e : f + 1 ≡ 1 + length (map u (fact-records names recs w k)) = omega arith in e)
+              (n ∙ ap (λ (l : List ℕ). noted 1 w₂ (map u l)) facts-there)
+              ∙ sym (noted-append 1 w₂ (map u (fact-records names recs w k)) (map u (goal-records recs k)))
+              ∙ ap (noted 1 w₂) (sym (map-append u (fact-records names recs w k) (goal-records recs k)))
+
+          noted-size : length w₄ ≡ length w
+          noted-size = ap length all-noted ∙ noted-length 1 w₂ (map (uses-at recs out) (items names recs w k)) ∙ cleared-length
+
+          -- words of no name stay
+          noted-same : (i : ℕ) → k .named ≤ i → getD w₄ i 0 ≡ getD w₂ i 0
+          noted-same i h =
+              ap (λ (v : List ℕ). getD v i 0) all-noted
+              ∙ noted-out 1 w₂ (map (uses-at recs out) (items names recs w k)) i (λ l m o. let b = names-small l m o in omega arith)
+
+          pub stamps-are : (r : ℕ) → r < k .named → stamp-in names w₄ r ≡ item-stamp names recs out w k r
+          unfolding item-stamp
+          stamps-are r h =
+              let a = t .index .numbers r h in
+              let b = t .index .few in
+              let e = t .notes .room in
+              let d = cleared-length in
+              ap (λ (v : List ℕ). getD v (ranked names r) 0) all-noted
+              ∙ noted-stamped 1 w₂ (map (uses-at recs out) (items names recs w k)) (ranked names r) (omega arith) (omega arith)
+              (z .zero (ranked names r) (omega arith) (omega arith))
+
+          stamps-count : s ≡ length (items names recs w k)
+          unfolding items
+          stamps-count =
+              let a = facts-count in
+              let b = length-append (fact-records names recs w k) (goal-records recs k) in
+              omega arith
+
+          pub few-stamps : s ≤ most-stamps
+          few-stamps =
+              let a = few-facts in
+              let b = kept-few (is-goal recs k) 0 (k .records) in
+              let d = t .notes .recorded .few in
+              omega arith
+
+          pub stamps-low : (r : ℕ) → r < k .named → stamp-in names w₄ r ≤ most-stamps
+          unfolding item-stamp
+          stamps-low r h =
+              let a = stamps-are r h in
+              let b = stamped-low 1 (map (uses-at recs out) (items names recs w k)) (ranked names r) (omega arith) in
+              let d = length-map (items names recs w k) (uses-at recs out) in
+              let e = stamps-count in
+              let g = few-stamps in
+              omega arith
+
+          pub noted-room : working-words ≤ length w₄
+          noted-room = let a = noted-size in let b = t .notes .room in omega arith
+
+          -- ---- the ranks linked
+
+          module _ {w₅ : List ℕ} (l : Links names w₄ w₅ (k .named)) where
+            linked-stamps : (r : ℕ) → r < k .named → stamp-in names w₅ r ≡ stamp-in names w₄ r
+            linked-stamps r h =
+                let a = t .index .numbers r h in
+                let b = t .index .few in
+                l .same .same-words (ranked names r) (λ x y. omega arith)
+
+            pub all-linked : Linked (stamp-in names w₅) (k .named) w₅
+            all-linked = linked-same (l .linked) linked-stamps (λ j h. refl) (t .index .few)
+
+            pub linked-room : working-words ≤ length w₅
+            linked-room = let a = l .same .same-length in let b = noted-room in omega arith
+
+            -- ---- the records of the names
+
+            decls-are : decl-records names recs (k .named) (stamp-in names w₅) s
+                ≡ decl-records names recs (k .named) (item-stamp names recs out w k) (length (items names recs w k))
+            decls-are =
+                decls-same names recs (k .named) (λ r h. linked-stamps r h ∙ stamps-are r h) s
+                ∙ ap (decl-records names recs (k .named) (item-stamp names recs out w k)) stamps-count
+
+            module _ {x : Bool} (e : x ≡ prune-decls (ask-of k)) (on : x ≡ true) where
+              kept-are : kept-records names recs out w k
+                  ≡ fact-records names recs w k ++ decl-records names recs (k .named) (stamp-in names w₅) s
+              kept-are = kept-on names recs out w k (sym e ∙ on) ∙ ap (λ (d : List ℕ). fact-records names recs w k ++ d) (sym decls-are)
+
+              pub decls-fit : f + length (decl-records names recs (k .named) (stamp-in names w₅) s) ≤ most-records
+              decls-fit =
+                  let a = facts-count in
+                  let b = t .fits in
+                  let g = ap length kept-are in
+                  let h = length-append (fact-records names recs w k) (decl-records names recs (k .named) (stamp-in names w₅) s) in
+                  omega arith
+
+              pub listed-all : {w₆ : List ℕ} {to : ℕ} → Lists w₅ f (decl-records names recs (k .named) (stamp-in names w₅) s) w₆ to
+                  → Listed names recs out w w₆ k to
+              listed-all {w₆} {to} d =
+                  let few = few-facts in
+                  let fit = decls-fit in
+                  let count = facts-count in
+                  let room = linked-room in
+                  let many = d .count in
+                  let names-few = t .index .few in
+                  let size : length w₅ ≡ length w = l .same .same-length ∙ noted-size in
+                  let D : List ℕ = decl-records names recs (k .named) (stamp-in names w₅) s in
+                  let there : part w₅ kept-column (kept-column + f) ≡ fact-records names recs w k =
+                  part-agree w₂ w₅ f kept-column (kept-column + f) (omega arith) (omega (arith, cleared-length)) (omega arith)
+                  (λ i g h. l .same .same-words i (λ a b. omega arith) ∙ noted-same i (omega arith))
+                  ∙ facts-there in
+                  record {
+                    records = ap₂ (λ (v : List ℕ) (b : ℕ). part v kept-column b) (d .written)
+                        (let y : kept-column + to ≡ kept-column + f + length D = omega arith in y)
+                        ∙ part-behind w₅ kept-column (kept-column + f) (fact-records names recs w k) D (omega arith) there (omega arith)
+                        ∙ sym kept-are;
+                    count =
+                        let g = ap length kept-are in
+                        let h = length-append (fact-records names recs w k) D in
+                        omega arith;
+                    same = record {
+                      same-length = lists-length d ∙ size;
+                      same-words = λ i h.
+                          let far : working-words ≤ i = omega (arith, h (omega arith)) in
+                          ap (λ (v : List ℕ). getD v i 0) (d .written) ∙ sets-above w₅ (kept-column + f) D i (omega arith)
+                          ∙ l .same .same-words i (λ a b. omega arith) ∙ noted-same i (omega arith)
+                          ∙ z .same .same-words i (λ a b. omega arith) ∙ facts-same .same-words i h;
+                    };
+                  }
