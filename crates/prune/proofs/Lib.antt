@@ -6,3 +6,5 @@ pub mod Noting
 pub mod Chains
 pub mod Lines
 pub mod Gathering
+pub mod Linking
+pub mod Pruning
