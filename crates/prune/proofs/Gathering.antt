@@ -4,30 +4,25 @@ use native.Mathlib.Omega.{arith}
 use mathlib.Core.Path.{_≡_, refl, sym, _∙_, ap, ap₂, subst}
 use mathlib.Core.Bool.{Bool, true, false, cond}
 use mathlib.Core.Logic.{⊎-elim}
-use mathlib.Core.List.{List, [], _∷_, _++_, map, map-append, append-nil, append-assoc, List·Memᴰ, List·Memᴰ·not-nil, List·Memᴰ·cases-cons, List·Memᴰ·append-cases}
-use lib.Dec.{eqb}
+use mathlib.Core.List.{List, [], _++_, map, map-append, append-nil, append-assoc, List·Memᴰ, List·Memᴰ·append-cases}
 use lib.ListN.{length, getD, take, drop, length-append, length-map}
 use lib.Seq.{sets, sets-eq, length-sets, length-take-le, drop-at, take-at}
-use borrow.Author.Tests.{eqb-false}
-use Rattle.model.specs.Lists.{keep, collect, part}
-use Rattle.model.specs.Reading.{no-ambients, prune-decls, most-names, most-records}
+use Rattle.model.specs.Lists.{keep, part}
+use Rattle.model.specs.Reading.{prune-decls, most-names, most-records}
 use Rattle.model.specs.Outcome.{working-words}
 use Rattle.model.specs.declared.Counts.{Counts}
-use Rattle.model.proofs.ListLaws.{cond-case, keep-elim, collect-elim, map-elim}
+use Rattle.model.proofs.ListLaws.{cond-case, map-elim}
 use Rattle.model.proofs.PartLaws.{part-agree, part-split, part-intro}
 use Rattle.names.specs.Table.{ranked}
 use Rattle.words.specs.Slices.{Same-but, Zeroed}
-use Rattle.records.specs.Columns.{taken-at}
 use Rattle.records.specs.States.{uses-at, ask-of}
-use Rattle.scan.specs.Held.{upto}
-use Rattle.scan.specs.Steps.{is-reached}
-use Rattle.scan.proofs.Numbers.{upto-elim}
-use Rattle.prune.specs.Listing.{from, one, picked, taker, reached-at, ambient-at, is-goal, reached-records, ambient-records, fact-records, goal-records, items, stamped, decl-records, item-stamp, kept-records}
-use Rattle.prune.specs.Loops.{kept-column, below-column, most-stamps, stamp-in, Index, Lists, noted, Notes, Linked, Links, Listable, Listed}
-use Rattle.prune.proofs.Picking.{ambient-small}
+use Rattle.prune.specs.Listing.{from, is-goal, reached-records, fact-records, goal-records, items, decl-records, item-stamp, kept-records}
+use Rattle.prune.specs.Loops.{kept-column, most-stamps, stamp-in, Index, Lists, noted, Notes, Linked, Links, Listable, Listed}
 use Rattle.prune.proofs.Writing.{sets-below, sets-above, lists-length}
 use Rattle.prune.proofs.Noting.{notes-then, uses-small, noted-length, noted-append, noted-out, noted-stamped, stamped-low}
-use Rattle.prune.proofs.Chains.{linked-same, decls-same}
+use Rattle.prune.proofs.Chains.{linked-same}
+use Rattle.prune.proofs.Stamps.{decls-same}
+use Rattle.prune.proofs.Members.{reached-small, ambients-small, goals-small}
 
 -- ---- a list just written
 
@@ -50,49 +45,6 @@ part-behind w a b l k e p h =
     ∙ ap₂ _++_
     (part-agree w (sets w b k) (b - a) a b refl (omega arith) (omega arith) (λ i x y. sets-below w b k i y) ∙ p)
     (part-sets w b k h)
-
--- ---- the records of the items are records of the table
-
-one-elim : (t : ℕ) {x : ℕ} → List·Memᴰ x (one t) → (t ≡ 0 → ⊥) × (x ≡ t - 1)
-unfolding one
-one-elim t {x} m = go (eqb t 0) refl m
-  where
-    go : (b : Bool) → eqb t 0 ≡ b → List·Memᴰ x (cond b [] ((t - 1) ∷ [])) → (t ≡ 0 → ⊥) × (x ≡ t - 1)
-    go true e m = absurd (List·Memᴰ·not-nil m)
-    go false e m = (eqb-false t 0 e, ⊎-elim (λ q. q) (λ q. absurd (List·Memᴰ·not-nil q)) (List·Memᴰ·cases-cons m))
-
--- what is picked of numbers that pick records below a bound
-picked-small : (pick : ℕ → ℕ) (l : List ℕ) (n : ℕ) → ((r : ℕ) → List·Memᴰ r l → pick r ≤ n) → {x : ℕ} → List·Memᴰ x (picked pick l) → x < n
-unfolding picked
-picked-small pick l n low {x} m =
-    let (r, i, o) = collect-elim (λ r. one (pick r)) l m in
-    let (d, e) = one-elim (pick r) o in
-    let b = low r i in
-    omega (arith, d)
-
-from-elim : (s n : ℕ) {k : ℕ} → List·Memᴰ k (from s n) → k < s + n
-unfolding from
-from-elim s zero m = absurd (List·Memᴰ·not-nil m)
-from-elim s (suc n) m = ⊎-elim (λ e. omega arith) (λ i. let h = from-elim (s + 1) n i in omega arith) (List·Memᴰ·cases-cons m)
-
-reached-low : (names run : List ℕ) (r : ℕ) → reached-at names run r ≤ taker names r
-unfolding reached-at
-reached-low names run r =
-    cond-case (λ x. x ≤ taker names r) (eqb (taker names r) 0) (omega arith)
-    (cond-case (λ x. x ≤ taker names r) (is-reached run (taker names r - 1)) (omega arith) (omega arith))
-
-ambients-small : (recs : List ℕ) (k : Counts) {x : ℕ} → List·Memᴰ x (ambient-records recs k) → x < k .records
-unfolding ambient-records
-ambients-small recs k {x} m = go (no-ambients (ask-of k)) m
-  where
-    go : (b : Bool) → List·Memᴰ x (cond b [] (picked (ambient-at recs) (upto (k .records)))) → x < k .records
-    go true m = absurd (List·Memᴰ·not-nil m)
-    go false m =
-        picked-small (ambient-at recs) (upto (k .records)) (k .records)
-        (λ r i. let a = ambient-small recs r refl in let b = upto-elim (k .records) i in omega arith) m
-
-goals-small : (recs : List ℕ) (k : Counts) {x : ℕ} → List·Memᴰ x (goal-records recs k) → x < k .records
-goals-small recs k m = let a = from-elim 0 (k .records) (keep-elim (is-goal recs k) (from 0 (k .records)) m .0) in omega arith
 
 -- how many roots there may be
 kept-few : (test : ℕ → Bool) (i n : ℕ) → length (keep test (from i n)) ≤ n
@@ -132,12 +84,7 @@ module _ {names recs out w : List ℕ} {k : Counts} (t : Listable names recs out
   unfolding fact-records
   facts-small m =
       ⊎-elim
-      (λ q. picked-small (reached-at names w) (from 0 (k .named)) (k .records)
-      (λ r i.
-      let a = reached-low names w r in
-      let l : r < k .named = (let b = from-elim 0 (k .named) i in omega arith) in
-      let b = t .took (ranked names r) (t .index .numbers r l) in
-      omega arith) q)
+      (λ q. reached-small names w (k .named) (k .records) (λ r h. t .took (ranked names r) (t .index .numbers r h)) q)
       (λ q. ambients-small recs k q)
       (List·Memᴰ·append-cases (reached-records names w (k .named)) m)
 
@@ -250,7 +197,7 @@ module _ {names recs out w : List ℕ} {k : Counts} (t : Listable names recs out
               ap (λ (v : List ℕ). getD v i 0) all-noted
               ∙ noted-out 1 w₂ (map (uses-at recs out) (items names recs w k)) i (λ l m o. let b = names-small l m o in omega arith)
 
-          pub stamps-are : (r : ℕ) → r < k .named → stamp-in names w₄ r ≡ item-stamp names recs out w k r
+          stamps-are : (r : ℕ) → r < k .named → stamp-in names w₄ r ≡ item-stamp names recs out w k r
           unfolding item-stamp
           stamps-are r h =
               let a = t .index .numbers r h in
@@ -268,14 +215,14 @@ module _ {names recs out w : List ℕ} {k : Counts} (t : Listable names recs out
               let b = length-append (fact-records names recs w k) (goal-records recs k) in
               omega arith
 
-          pub few-stamps : s ≤ most-stamps
+          few-stamps : s ≤ most-stamps
           few-stamps =
               let a = few-facts in
               let b = kept-few (is-goal recs k) 0 (k .records) in
               let d = t .notes .recorded .few in
               omega arith
 
-          pub stamps-low : (r : ℕ) → r < k .named → stamp-in names w₄ r ≤ most-stamps
+          stamps-low : (r : ℕ) → r < k .named → stamp-in names w₄ r ≤ most-stamps
           unfolding item-stamp
           stamps-low r h =
               let a = stamps-are r h in
@@ -285,8 +232,12 @@ module _ {names recs out w : List ℕ} {k : Counts} (t : Listable names recs out
               let g = few-stamps in
               omega arith
 
-          pub noted-room : working-words ≤ length w₄
+          noted-room : working-words ≤ length w₄
           noted-room = let a = noted-size in let b = t .notes .room in omega arith
+
+          -- what linking asks
+          pub link-asks : Index names (k .named) × (working-words ≤ length w₄) × ((r : ℕ) → r < k .named → stamp-in names w₄ r ≤ most-stamps)
+          link-asks = (t .index, noted-room, stamps-low)
 
           -- ---- the ranks linked
 
@@ -297,10 +248,10 @@ module _ {names recs out w : List ℕ} {k : Counts} (t : Listable names recs out
                 let b = t .index .few in
                 l .same .same-words (ranked names r) (λ x y. omega arith)
 
-            pub all-linked : Linked (stamp-in names w₅) (k .named) w₅
+            all-linked : Linked (stamp-in names w₅) (k .named) w₅
             all-linked = linked-same (l .linked) linked-stamps (λ j h. refl) (t .index .few)
 
-            pub linked-room : working-words ≤ length w₅
+            linked-room : working-words ≤ length w₅
             linked-room = let a = l .same .same-length in let b = noted-room in omega arith
 
             -- ---- the records of the names
@@ -316,13 +267,19 @@ module _ {names recs out w : List ℕ} {k : Counts} (t : Listable names recs out
                   ≡ fact-records names recs w k ++ decl-records names recs (k .named) (stamp-in names w₅) s
               kept-are = kept-on names recs out w k (sym e ∙ on) ∙ ap (λ (d : List ℕ). fact-records names recs w k ++ d) (sym decls-are)
 
-              pub decls-fit : f + length (decl-records names recs (k .named) (stamp-in names w₅) s) ≤ most-records
+              decls-fit : f + length (decl-records names recs (k .named) (stamp-in names w₅) s) ≤ most-records
               decls-fit =
                   let a = facts-count in
                   let b = t .fits in
                   let g = ap length kept-are in
                   let h = length-append (fact-records names recs w k) (decl-records names recs (k .named) (stamp-in names w₅) s) in
                   omega arith
+
+              -- what listing them asks
+              pub decls-ask : Index names (k .named) × (working-words ≤ length recs) × (working-words ≤ length w₅)
+                  × Linked (stamp-in names w₅) (k .named) w₅ × (s ≤ most-stamps)
+                  × (f + length (decl-records names recs (k .named) (stamp-in names w₅) s) ≤ most-records)
+              decls-ask = (t .index, t .notes .recorded .room, linked-room, all-linked, few-stamps, decls-fit)
 
               pub listed-all : {w₆ : List ℕ} {to : ℕ} → Lists w₅ f (decl-records names recs (k .named) (stamp-in names w₅) s) w₆ to
                   → Listed names recs out w w₆ k to

@@ -4,7 +4,9 @@ pub mod Walking
 pub mod Facts
 pub mod Noting
 pub mod Chains
-pub mod Lines
+pub mod Stamps
+pub mod Members
 pub mod Gathering
+pub mod Lines
 pub mod Linking
 pub mod Pruning

@@ -1,17 +1,17 @@
 -- Records become lines in place.
-use Prim.Native.Nat.{ℕ, _+_, _-_, _≤_, _<_}
+use Prim.Native.Nat.{ℕ, _+_, _≤_, _<_}
 use native.Mathlib.Omega.{arith}
-use mathlib.Core.Path.{_≡_, refl, sym, _∙_, ap, subst}
-use mathlib.Core.List.{List, [], _∷_, _++_, map}
-use lib.ListN.{length, getD, set, length-map}
+use mathlib.Core.Path.{_≡_, refl, _∙_, ap, subst}
+use mathlib.Core.List.{List, [], _∷_, map}
+use lib.ListN.{length, getD, set}
 use lib.Seq.{getD-set-other}
 use Rattle.model.specs.Lists.{part}
 use Rattle.model.specs.Reading.{most-records}
 use Rattle.model.specs.Outcome.{working-words}
-use Rattle.model.proofs.PartLaws.{part-cons, part-nil, part-length}
+use Rattle.model.proofs.PartLaws.{part-cons, part-nil}
 use Rattle.records.specs.Columns.{record-line}
 use Rattle.prune.specs.Loops.{kept-column, Lists}
-use Rattle.prune.proofs.Writing.{Going, going-start, going-length, going-end, going-list}
+use Rattle.prune.proofs.Writing.{Going, going-start, going-end, going-list}
 
 -- the records from place j on are left
 pub record Lines-to (recs w : List ℕ) (count : ℕ) (v : List ℕ) (j : ℕ) : Type 0 where

@@ -3,16 +3,14 @@ use Prim.Native.Nat.{ℕ, suc, _+_, _-_, _≤_, _<_}
 use native.Mathlib.Omega.{arith}
 use mathlib.Core.Path.{_≡_, refl, sym, _∙_, ap}
 use mathlib.Core.Bool.{Bool, true, false, cond}
-use mathlib.Core.Logic.{⊎-elim}
 use mathlib.Core.List.{List, [], _∷_, _++_, map, List·Memᴰ, List·Memᴰ·head, List·Memᴰ·tail, Memᴰ·cast}
 use lib.Dec.{T, eqb, ltb, not-T, eqb→eq, ltb→lt}
 use lib.ListN.{length, getD}
 use borrow.Author.Tests.{eq-eqb}
-use Rattle.model.specs.Lists.{any, keep, part}
-use Rattle.model.specs.Reading.{most-names, most-records, most-uses}
-use Rattle.model.specs.Outcome.{working-words}
+use Rattle.model.specs.Lists.{keep, part}
+use Rattle.model.specs.Reading.{most-records}
 use Rattle.model.specs.declared.Counts.{Counts}
-use Rattle.model.proofs.ListLaws.{cond-case, true-T, any-intro, any-elim, map-elim}
+use Rattle.model.proofs.ListLaws.{cond-case, true-T, any-intro, any-elim}
 use Rattle.model.proofs.PartLaws.{part-cons, part-nil, part-elim}
 use Rattle.words.specs.Slices.{word-limit}
 use Rattle.records.specs.Columns.{uses-start, uses-end}

@@ -1,16 +1,14 @@
 -- What `prune` leaves: the lines of the kept records in the slice.
-use Prim.Native.Nat.{ℕ, _+_, _-_, _≤_, _<_}
+use Prim.Native.Nat.{ℕ, _+_, _≤_, _<_}
 use native.Mathlib.Omega.{arith}
-use mathlib.Core.Path.{_≡_, refl, sym, _∙_, ap, ap₂, subst}
+use mathlib.Core.Path.{_≡_, _∙_, ap, ap₂, subst}
 use mathlib.Core.List.{List, map, List·Memᴰ}
 use lib.ListN.{length, getD, length-map}
-use lib.Seq.{sets}
 use Rattle.model.specs.Lists.{part}
 use Rattle.model.specs.Reading.{most-records}
 use Rattle.model.specs.Outcome.{working-words}
 use Rattle.model.specs.declared.Counts.{Counts}
 use Rattle.model.proofs.PartLaws.{part-intro}
-use Rattle.words.specs.Slices.{Same-but}
 use Rattle.records.specs.Columns.{record-line}
 use Rattle.prune.specs.Listing.{kept-records}
 use Rattle.prune.specs.Loops.{kept-column, Lists, Listable, Listed}

@@ -1,15 +1,15 @@
 -- The loops that list what is picked of the numbers below n, upward or downward.
 use Prim.Native.Nat.{ℕ, _+_, _-_, _≤_, _<_}
 use native.Mathlib.Omega.{arith}
-use mathlib.Core.Path.{_≡_, refl, sym, _∙_, ap}
+use mathlib.Core.Path.{_≡_}
 use mathlib.Core.Bool.{Bool, true, false}
-use mathlib.Core.List.{List, []}
+use mathlib.Core.List.{List}
 use lib.ListN.{length, set}
 use Rattle.model.specs.Reading.{no-ambients, most-records}
 use Rattle.model.specs.declared.Counts.{Counts}
 use Rattle.records.specs.States.{ask-of}
 use Rattle.scan.specs.Held.{upto}
-use Rattle.prune.specs.Listing.{from, one, picked, ambient-at, ambient-records}
+use Rattle.prune.specs.Listing.{from, picked, ambient-at, ambient-records}
 use Rattle.prune.specs.Loops.{kept-column, Lists}
 use Rattle.prune.proofs.Picking.{from-next, from-end, picked-next, picked-end}
 use Rattle.prune.proofs.Writing.{Going, going-start, going-end, lists-none, pick-none, pick-one, pick-room}

@@ -12,9 +12,8 @@ at-requires c κs = search needs
 
 returns : tie.Need-returns
 returns c =
-    let if1 = c .if1 in
-    let at = c .before .at in
-    goal-other _ _ _ _ (at .ensures) (if1 .taken)
+    let at = c .before in
+    goal-other _ _ _ _ (at .at .ensures) (c .if1 .taken)
 
 add-at-2 : tie.Need-add-at-2
 add-at-2 c = search needs
@@ -24,10 +23,10 @@ at-requires-2 c κs = search needs
 
 returns-2 : tie.Need-returns-2
 returns-2 c =
-    let at2 = c .before .at2 in
-    let if1 = c .before .before .if1 in
-    let at = c .before .before .before .at in
-    goal-root _ _ _ _ (at .ensures) (if1 .left) _ (at2 .ensures)
+    let at2 = c .before in
+    let if1 = at2 .before in
+    let at = if1 .before in
+    goal-root _ _ _ _ (at .at .ensures) (if1 .if1 .left) _ (at2 .at2 .ensures)
 
 pub is-goal-spec : {M : Type 1} → statement M
 is-goal-spec =

@@ -1,7 +1,7 @@
 -- `prune::list_kind` meets its contract. The loop's invariant: the stamps that are left.
 use native.Mathlib.Omega.{arith}
 use Rattle.prune.proofs.Writing.{going-length}
-use Rattle.prune.proofs.Chains.{linked-apart, Kinds-to, kinds-start, kinds-apart, kinds-room, kinds-next, kinds-end}
+use Rattle.prune.proofs.Stamps.{linked-apart, Kinds-to, kinds-start, kinds-apart, kinds-room, kinds-next, kinds-end}
 use Rattle.prune.proofs.list_kind.Statement.{statement}
 use Rattle.prune.proofs.list_kind.Tie as tie
 
@@ -16,49 +16,47 @@ loop-holds c = kinds-start _ _ _ _ _ _ _
 
 list-stamp-requires : tie.Need-list-stamp-requires Inv-loop μ-loop
 list-stamp-requires c κs =
-    let loop-test = c .before .loop-test in
-    let loop = c .before .before .loop in
-    let pre = c .before .before .before .before .before .before .pre in
-    let apart = kinds-apart (pre .0) (pre .5) (loop .inv) in
-    (
-      pre .0,
-      pre .1,
-      omega (arith, pre .2, apart .size),
-      linked-apart (pre .0) apart (pre .3),
-      loop-test .taken,
-      omega (arith, loop .inv .high, pre .4),
-      kinds-room (pre .0) (pre .5) (loop .inv) (loop-test .taken),
+    let loop-test = c .before in
+    let loop = loop-test .before in
+    let entry = loop .before .before .before .before in
+    let apart = kinds-apart (entry .pre .0) (entry .pre .5) (loop .loop .inv) in (
+      entry .pre .0,
+      entry .pre .1,
+      omega (arith, entry .pre .2, apart .size),
+      linked-apart (entry .pre .0) apart (entry .pre .3),
+      loop-test .loop-test .taken,
+      omega (arith, loop .loop .inv .high, entry .pre .4),
+      kinds-room (entry .pre .0) (entry .pre .5) (loop .loop .inv) (loop-test .loop-test .taken),
     )
 
 sub-s : tie.Need-sub-s Inv-loop μ-loop
 sub-s c =
-    let loop-test = c .before .before .before .before .loop-test in
-    omega (arith, loop-test .taken)
+    let loop-test = c .before .before .before .before in
+    omega (arith, loop-test .loop-test .taken)
 
 loop-less : tie.Need-loop-less Inv-loop μ-loop
 loop-less c =
-    let loop-test = c .before .before .before .before .loop-test in
-    omega (arith, loop-test .taken)
+    let loop-test = c .before .before .before .before in
+    omega (arith, loop-test .loop-test .taken)
 
 loop-again : tie.Need-loop-again Inv-loop μ-loop
 loop-again c =
-    let list-stamp = c .before .before .list-stamp in
-    let loop-test = c .before .before .before .before .loop-test in
-    let loop = c .before .before .before .before .before .loop in
-    let pre = c .before .before .before .before .before .before .before .before .before .pre in
-    kinds-next (pre .0) (pre .5) (loop .inv) (loop-test .taken) (list-stamp .ensures)
+    let list-stamp = c .before .before in
+    let loop-test = list-stamp .before .before in
+    let loop = loop-test .before in
+    let entry = loop .before .before .before .before in
+    kinds-next (entry .pre .0) (entry .pre .5) (loop .loop .inv) (loop-test .loop-test .taken) (list-stamp .list-stamp .ensures)
 
 same-length : tie.Need-same-length Inv-loop μ-loop
 same-length c =
-    let loop = c .before .loop in
-    going-length (loop .inv .going)
+    let loop = c .before in
+    going-length (loop .loop .inv .going)
 
 returns : tie.Need-returns Inv-loop μ-loop
 returns c =
-    let loop-test = c .loop-test in
-    let loop = c .before .loop in
-    let pre = c .before .before .before .before .before .pre in
-    kinds-end (pre .0) (pre .5) (loop .inv) (loop-test .left)
+    let loop = c .before in
+    let entry = loop .before .before .before .before in
+    kinds-end (entry .pre .0) (entry .pre .5) (loop .loop .inv) (c .loop-test .left)
 
 pub list-kind-spec : {M : Type 1} → statement M
 list-kind-spec =

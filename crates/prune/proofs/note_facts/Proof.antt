@@ -16,60 +16,60 @@ loop-holds c = facts-start _ _ _ _ _
 
 add-at : tie.Need-add-at Inv-loop μ-loop
 add-at c =
-    let loop-test = c .before .loop-test in
-    let pre = c .before .before .before .before .before .before .pre in
-    omega (arith, pre .1, loop-test .taken)
+    let loop-test = c .before in
+    let entry = loop-test .before .before .before .before .before in
+    omega (arith, entry .pre .1, loop-test .loop-test .taken)
 
 at-requires : tie.Need-at-requires Inv-loop μ-loop
 at-requires c κs =
-    let loop-test = c .before .loop-test in
-    let loop = c .before .before .loop in
-    let pre = c .before .before .before .before .before .before .pre in
-    omega (arith, pre .1, pre .0 .room, loop .inv .same-length, loop-test .taken)
+    let loop-test = c .before in
+    let loop = loop-test .before in
+    let entry = loop .before .before .before .before in
+    omega (arith, entry .pre .1, entry .pre .0 .room, loop .loop .inv .same-length, loop-test .loop-test .taken)
 
 add-j : tie.Need-add-j Inv-loop μ-loop
 add-j c =
-    let loop-test = c .before .before .loop-test in
-    let pre = c .before .before .before .before .before .before .before .pre in
-    omega (arith, pre .1, loop-test .taken)
+    let loop-test = c .before .before in
+    let entry = loop-test .before .before .before .before .before in
+    omega (arith, entry .pre .1, loop-test .loop-test .taken)
 
 note-record-requires : tie.Need-note-record-requires Inv-loop μ-loop
 note-record-requires c κs =
-    let at = c .before .at in
-    let loop-test = c .before .before .before .loop-test in
-    let loop = c .before .before .before .before .loop in
-    let pre = c .before .before .before .before .before .before .before .before .pre in
-    let small = pre .2 _ (loop-test .taken) in
-    let there = fact-there (pre .0) (pre .1) (loop .inv) (at .ensures) in
-    (notes-then (pre .0) (loop .inv .same-length), omega (arith, small, there), omega (arith, pre .1, loop-test .taken))
+    let at = c .before in
+    let loop-test = at .before .before in
+    let loop = loop-test .before in
+    let entry = loop .before .before .before .before in
+    let small = entry .pre .2 _ (loop-test .loop-test .taken) in
+    let there = fact-there (entry .pre .0) (entry .pre .1) (loop .loop .inv) (at .at .ensures) in
+    (notes-then (entry .pre .0) (loop .loop .inv .same-length), omega (arith, small, there), omega (arith, entry .pre .1, loop-test .loop-test .taken))
 
 loop-less : tie.Need-loop-less Inv-loop μ-loop
 loop-less c =
-    let loop-test = c .before .before .before .before .before .before .loop-test in
-    omega (arith, loop-test .taken)
+    let loop-test = c .before .before .before .before .before .before in
+    omega (arith, loop-test .loop-test .taken)
 
 loop-again : tie.Need-loop-again Inv-loop μ-loop
 loop-again c =
-    let note-record = c .before .before .note-record in
-    let at = c .before .before .before .before .at in
-    let loop-test = c .before .before .before .before .before .before .loop-test in
-    let loop = c .before .before .before .before .before .before .before .loop in
-    let pre = c .before .before .before .before .before .before .before .before .before .before .before .pre in
-    let small = pre .2 _ (loop-test .taken) in
-    let there = fact-there (pre .0) (pre .1) (loop .inv) (at .ensures) in
-    facts-next (pre .0) (pre .1) (loop .inv) (loop-test .taken) (at .ensures) (omega (arith, small, there)) (note-record .ensures)
+    let note-record = c .before .before in
+    let at = note-record .before .before in
+    let loop-test = at .before .before in
+    let loop = loop-test .before in
+    let entry = loop .before .before .before .before in
+    let small = entry .pre .2 _ (loop-test .loop-test .taken) in
+    let there = fact-there (entry .pre .0) (entry .pre .1) (loop .loop .inv) (at .at .ensures) in
+    facts-next (entry .pre .0) (entry .pre .1) (loop .loop .inv) (loop-test .loop-test .taken) (at .at .ensures) (omega (arith, small, there))
+    (note-record .note-record .ensures)
 
 same-length : tie.Need-same-length Inv-loop μ-loop
 same-length c =
-    let loop = c .before .loop in
-    loop .inv .same-length
+    let loop = c .before in
+    loop .loop .inv .same-length
 
 returns : tie.Need-returns Inv-loop μ-loop
 returns c =
-    let loop-test = c .loop-test in
-    let loop = c .before .loop in
-    let pre = c .before .before .before .before .before .pre in
-    facts-end (pre .0) (pre .1) (loop .inv) (loop-test .left)
+    let loop = c .before in
+    let entry = loop .before .before .before .before in
+    facts-end (entry .pre .0) (entry .pre .1) (loop .loop .inv) (c .loop-test .left)
 
 pub note-facts-spec : {M : Type 1} → statement M
 note-facts-spec =

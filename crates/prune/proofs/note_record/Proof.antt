@@ -9,43 +9,43 @@ use Rattle.prune.proofs.note_record.Tie as tie
 
 add-at : tie.Need-add-at
 add-at c =
-    let pre = c .before .before .before .pre in
-    omega (arith, pre .0 .recorded .few)
+    let entry = c .before .before .before in
+    omega (arith, entry .pre .0 .recorded .few)
 
 at-requires : tie.Need-at-requires
 at-requires c κs =
-    let pre = c .before .before .before .pre in
-    omega (arith, pre .0 .recorded .few, pre .0 .recorded .room, pre .1)
+    let entry = c .before .before .before in
+    omega (arith, entry .pre .0 .recorded .few, entry .pre .0 .recorded .room, entry .pre .1)
 
 add-at-2 : tie.Need-add-at-2
 add-at-2 c =
-    let pre = c .before .before .before .before .pre in
-    omega (arith, pre .0 .recorded .few)
+    let entry = c .before .before .before .before in
+    omega (arith, entry .pre .0 .recorded .few)
 
 at-requires-2 : tie.Need-at-requires-2
 at-requires-2 c κs =
-    let pre = c .before .before .before .before .pre in
-    omega (arith, pre .0 .recorded .few, pre .0 .recorded .room, pre .1)
+    let entry = c .before .before .before .before in
+    omega (arith, entry .pre .0 .recorded .few, entry .pre .0 .recorded .room, entry .pre .1)
 
 meet-part-requires : tie.Need-meet-part-requires
 meet-part-requires c κs =
-    let at2 = c .before .at2 in
-    let at = c .before .before .at in
-    let pre = c .before .before .before .before .before .before .pre in
-    uses-place (pre .0) (pre .1) (at .ensures) (at2 .ensures) (pre .2)
+    let at2 = c .before in
+    let at = at2 .before in
+    let entry = at .before .before .before .before in
+    uses-place (entry .pre .0) (entry .pre .1) (at .at .ensures) (at2 .at2 .ensures) (entry .pre .2)
 
 same-length : tie.Need-same-length
 same-length c =
-    let meet-part = c .before .before .meet-part in
-    ap length (meet-part .ensures) ∙ marks-length _ _ _
+    let meet-part = c .before .before in
+    ap length (meet-part .meet-part .ensures) ∙ marks-length _ _ _
 
 returns : tie.Need-returns
 returns c =
-    let meet-part = c .before .before .meet-part in
-    let at2 = c .before .before .before .before .at2 in
-    let at = c .before .before .before .before .before .at in
-    let args = c .before .before .before .before .before .before .before .before .before .args in
-    record-noted (args .recs .now) _ _ _ (args .i) _ _ _ (at .ensures) (at2 .ensures) (meet-part .ensures)
+    let meet-part = c .before .before in
+    let at2 = meet-part .before .before in
+    let at = at2 .before in
+    let entry = at .before .before .before .before in
+    record-noted (entry .args .recs .now) _ _ _ (entry .args .i) _ _ _ (at .at .ensures) (at2 .at2 .ensures) (meet-part .meet-part .ensures)
 
 pub note-record-spec : {M : Type 1} → statement M
 note-record-spec =

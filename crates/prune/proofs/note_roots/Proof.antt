@@ -17,67 +17,64 @@ loop-holds c = roots-start _ _ _ _ _
 
 add-i : tie.Need-add-i Inv-loop μ-loop
 add-i c =
-    let loop-test = c .loop-test in
-    let pre = c .before .before .before .before .before .pre in
-    omega (arith, pre .0 .recorded .few, loop-test .taken)
+    let entry = c .before .before .before .before .before in
+    omega (arith, entry .pre .0 .recorded .few, c .loop-test .taken)
 
 is-goal-requires : tie.Need-is-goal-requires Inv-loop μ-loop
 is-goal-requires c κs =
-    let loop-test = c .loop-test in
-    let pre = c .before .before .before .before .before .pre in
-    (pre .0 .recorded .room, omega (arith, pre .0 .recorded .few, loop-test .taken))
+    let entry = c .before .before .before .before .before in
+    (entry .pre .0 .recorded .room, omega (arith, entry .pre .0 .recorded .few, c .loop-test .taken))
 
 loop-less : tie.Need-loop-less Inv-loop μ-loop
 loop-less c =
-    let loop-test = c .before .before .loop-test in
-    omega (arith, loop-test .taken)
+    let loop-test = c .before .before in
+    omega (arith, loop-test .loop-test .taken)
 
 loop-again : tie.Need-loop-again Inv-loop μ-loop
 loop-again c =
-    let if1 = c .if1 in
-    let is-goal = c .before .is-goal in
-    let loop-test = c .before .before .loop-test in
-    let loop = c .before .before .before .loop in
-    roots-skip (loop .inv) (loop-test .taken) (is-goal .ensures) (not-true _ (if1 .taken))
+    let is-goal = c .before in
+    let loop-test = is-goal .before in
+    let loop = loop-test .before in
+    roots-skip (loop .loop .inv) (loop-test .loop-test .taken) (is-goal .is-goal .ensures) (not-true _ (c .if1 .taken))
 
 add-stamp : tie.Need-add-stamp Inv-loop μ-loop
 add-stamp c =
-    let loop-test = c .before .before .loop-test in
-    let loop = c .before .before .before .loop in
-    let pre = c .before .before .before .before .before .before .before .pre in
-    omega (arith, loop .inv .low, pre .1, pre .0 .recorded .few, loop-test .taken)
+    let loop-test = c .before .before in
+    let loop = loop-test .before in
+    let entry = loop .before .before .before .before in
+    omega (arith, loop .loop .inv .low, entry .pre .1, entry .pre .0 .recorded .few, loop-test .loop-test .taken)
 
 note-record-requires : tie.Need-note-record-requires Inv-loop μ-loop
 note-record-requires c κs =
-    let loop-test = c .before .before .before .loop-test in
-    let loop = c .before .before .before .before .loop in
-    let pre = c .before .before .before .before .before .before .before .before .pre in
-    (notes-then (pre .0) (loop .inv .same-length), loop-test .taken, omega (arith, loop .inv .low, pre .1, pre .0 .recorded .few, loop-test .taken))
+    let loop-test = c .before .before .before in
+    let loop = loop-test .before in
+    let entry = loop .before .before .before .before in
+    (notes-then (entry .pre .0) (loop .loop .inv .same-length), loop-test .loop-test .taken, omega (arith, loop .loop .inv .low, entry .pre .1, entry .pre .0 .recorded .few, loop-test .loop-test .taken))
 
 loop-less-2 : tie.Need-loop-less-2 Inv-loop μ-loop
 loop-less-2 c =
-    let loop-test = c .before .before .before .before .before .before .loop-test in
-    omega (arith, loop-test .taken)
+    let loop-test = c .before .before .before .before .before .before in
+    omega (arith, loop-test .loop-test .taken)
 
 loop-again-2 : tie.Need-loop-again-2 Inv-loop μ-loop
 loop-again-2 c =
-    let note-record = c .before .before .note-record in
-    let if1 = c .before .before .before .before .if1 in
-    let is-goal = c .before .before .before .before .before .is-goal in
-    let loop-test = c .before .before .before .before .before .before .loop-test in
-    let loop = c .before .before .before .before .before .before .before .loop in
-    roots-next (loop .inv) (loop-test .taken) (is-goal .ensures) (not-false _ (if1 .left)) (note-record .ensures)
+    let note-record = c .before .before in
+    let if1 = note-record .before .before in
+    let is-goal = if1 .before in
+    let loop-test = is-goal .before in
+    let loop = loop-test .before in
+    roots-next (loop .loop .inv) (loop-test .loop-test .taken) (is-goal .is-goal .ensures) (not-false _ (if1 .if1 .left))
+    (note-record .note-record .ensures)
 
 same-length : tie.Need-same-length Inv-loop μ-loop
 same-length c =
-    let loop = c .before .loop in
-    loop .inv .same-length
+    let loop = c .before in
+    loop .loop .inv .same-length
 
 returns : tie.Need-returns Inv-loop μ-loop
 returns c =
-    let loop-test = c .loop-test in
-    let loop = c .before .loop in
-    (roots-end (loop .inv) (loop-test .left), roots-stamps (loop .inv) (loop-test .left))
+    let loop = c .before in
+    (roots-end (loop .loop .inv) (c .loop-test .left), roots-stamps (loop .loop .inv) (c .loop-test .left))
 
 pub note-roots-spec : {M : Type 1} → statement M
 note-roots-spec =

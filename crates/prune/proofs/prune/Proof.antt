@@ -7,27 +7,27 @@ use Rattle.prune.proofs.prune.Tie as tie
 
 list-records-requires : tie.Need-list-records-requires
 list-records-requires c κs =
-    let pre = c .before .before .before .before .before .before .pre in
-    tables-fit pre
+    let entry = c .before .before .before .before .before .before in
+    tables-fit (entry .pre)
 
 put-lines-requires : tie.Need-put-lines-requires
 put-lines-requires c κs =
-    let list-records = c .before .before .before .list-records in
-    let pre = c .before .before .before .before .before .before .before .before .before .before .pre in
-    (pre .filled .recorded .room, listed-room pre (list-records .ensures), few-kept pre (list-records .ensures), records-in pre (list-records .ensures))
+    let list-records = c .before .before .before in
+    let entry = list-records .before .before .before .before .before .before .before in
+    (entry .pre .filled .recorded .room, listed-room (entry .pre) (list-records .list-records .ensures), few-kept (entry .pre) (list-records .list-records .ensures), records-in (entry .pre) (list-records .list-records .ensures))
 
 same-length : tie.Need-same-length
 same-length c =
-    let put-lines = c .before .before .put-lines in
-    let list-records = c .before .before .before .before .before .before .list-records in
-    lists-length (put-lines .ensures) ∙ list-records .ensures .same .same-length
+    let put-lines = c .before .before in
+    let list-records = put-lines .before .before .before .before in
+    lists-length (put-lines .put-lines .ensures) ∙ list-records .list-records .ensures .same .same-length
 
 returns : tie.Need-returns
 returns c =
-    let put-lines = c .before .before .put-lines in
-    let list-records = c .before .before .before .before .before .before .list-records in
-    let pre = c .before .before .before .before .before .before .before .before .before .before .before .before .before .pre in
-    pruned pre (list-records .ensures) (put-lines .ensures)
+    let put-lines = c .before .before in
+    let list-records = put-lines .before .before .before .before in
+    let entry = list-records .before .before .before .before .before .before .before in
+    pruned (entry .pre) (list-records .list-records .ensures) (put-lines .put-lines .ensures)
 
 pub prune-spec : {M : Type 1} → statement M
 prune-spec =

@@ -17,95 +17,92 @@ loop-holds c = lines-start _ _ _
 
 add-at : tie.Need-add-at Inv-loop μ-loop
 add-at c =
-    let loop-test = c .before .loop-test in
-    let pre = c .before .before .before .before .before .pre in
-    omega (arith, pre .2, loop-test .taken)
+    let loop-test = c .before in
+    let entry = loop-test .before .before .before .before in
+    omega (arith, entry .pre .2, loop-test .loop-test .taken)
 
 at-requires : tie.Need-at-requires Inv-loop μ-loop
 at-requires c κs =
-    let loop-test = c .before .loop-test in
-    let loop = c .before .before .loop in
-    let pre = c .before .before .before .before .before .pre in
-    omega (arith, pre .1, going-length (loop .inv .going), pre .2, loop-test .taken)
+    let loop-test = c .before in
+    let loop = loop-test .before in
+    let entry = loop .before .before .before in
+    omega (arith, entry .pre .1, going-length (loop .loop .inv .going), entry .pre .2, loop-test .loop-test .taken)
 
 add-run : tie.Need-add-run Inv-loop μ-loop
 add-run c =
-    let at = c .at in
-    let loop-test = c .before .before .loop-test in
-    let loop = c .before .before .before .loop in
-    let pre = c .before .before .before .before .before .before .pre in
-    let small = pre .3 _ (loop-test .taken) in
-    let there = record-there (loop .inv) (at .ensures) in
+    let loop-test = c .before .before in
+    let loop = loop-test .before in
+    let entry = loop .before .before .before in
+    let small = entry .pre .3 _ (loop-test .loop-test .taken) in
+    let there = record-there (loop .loop .inv) (c .at .ensures) in
     omega (arith, small, there)
 
 mul-run : tie.Need-mul-run Inv-loop μ-loop
 mul-run c =
-    let at = c .at in
-    let loop-test = c .before .before .loop-test in
-    let loop = c .before .before .before .loop in
-    let pre = c .before .before .before .before .before .before .pre in
-    let small = pre .3 _ (loop-test .taken) in
-    let there = record-there (loop .inv) (at .ensures) in
+    let loop-test = c .before .before in
+    let loop = loop-test .before in
+    let entry = loop .before .before .before in
+    let small = entry .pre .3 _ (loop-test .loop-test .taken) in
+    let there = record-there (loop .loop .inv) (c .at .ensures) in
     omega (arith, small, there)
 
 shared-slice-read-run : tie.Need-shared-slice-read-run Inv-loop μ-loop
 shared-slice-read-run c =
-    let at = c .before .at in
-    let loop-test = c .before .before .before .loop-test in
-    let loop = c .before .before .before .before .loop in
-    let pre = c .before .before .before .before .before .before .before .pre in
-    let small = pre .3 _ (loop-test .taken) in
-    let there = record-there (loop .inv) (at .ensures) in
-    omega (arith, small, there, pre .0)
+    let at = c .before in
+    let loop-test = at .before .before in
+    let loop = loop-test .before in
+    let entry = loop .before .before .before in
+    let small = entry .pre .3 _ (loop-test .loop-test .taken) in
+    let there = record-there (loop .loop .inv) (at .at .ensures) in
+    omega (arith, small, there, entry .pre .0)
 
 add-run-2 : tie.Need-add-run-2 Inv-loop μ-loop
 add-run-2 c =
-    let loop-test = c .before .before .before .loop-test in
-    let pre = c .before .before .before .before .before .before .before .pre in
-    omega (arith, pre .2, loop-test .taken)
+    let loop-test = c .before .before .before in
+    let entry = loop-test .before .before .before .before in
+    omega (arith, entry .pre .2, loop-test .loop-test .taken)
 
 mul-run-2 : tie.Need-mul-run-2 Inv-loop μ-loop
 mul-run-2 c =
-    let loop-test = c .before .before .before .loop-test in
-    let pre = c .before .before .before .before .before .before .before .pre in
-    omega (arith, pre .2, loop-test .taken)
+    let loop-test = c .before .before .before in
+    let entry = loop-test .before .before .before .before in
+    omega (arith, entry .pre .2, loop-test .loop-test .taken)
 
 slice-write-run : tie.Need-slice-write-run Inv-loop μ-loop
 slice-write-run c =
-    let loop-test = c .before .before .before .loop-test in
-    let loop = c .before .before .before .before .loop in
-    let pre = c .before .before .before .before .before .before .before .pre in
-    omega (arith, pre .1, going-length (loop .inv .going), pre .2, loop-test .taken)
+    let loop-test = c .before .before .before in
+    let loop = loop-test .before in
+    let entry = loop .before .before .before in
+    omega (arith, entry .pre .1, going-length (loop .loop .inv .going), entry .pre .2, loop-test .loop-test .taken)
 
 add-j : tie.Need-add-j Inv-loop μ-loop
 add-j c =
-    let loop-test = c .before .before .before .loop-test in
-    let pre = c .before .before .before .before .before .before .before .pre in
-    omega (arith, pre .2, loop-test .taken)
+    let loop-test = c .before .before .before in
+    let entry = loop-test .before .before .before .before in
+    omega (arith, entry .pre .2, loop-test .loop-test .taken)
 
 loop-less : tie.Need-loop-less Inv-loop μ-loop
 loop-less c =
-    let loop-test = c .before .before .before .loop-test in
-    omega (arith, loop-test .taken)
+    let loop-test = c .before .before .before in
+    omega (arith, loop-test .loop-test .taken)
 
 loop-again : tie.Need-loop-again Inv-loop μ-loop
 loop-again c =
-    let at = c .before .at in
-    let loop-test = c .before .before .before .loop-test in
-    let loop = c .before .before .before .before .loop in
-    let pre = c .before .before .before .before .before .before .before .pre in
-    lines-next (loop .inv) (pre .1) (pre .2) (loop-test .taken) (at .ensures)
+    let at = c .before in
+    let loop-test = at .before .before in
+    let loop = loop-test .before in
+    let entry = loop .before .before .before in
+    lines-next (loop .loop .inv) (entry .pre .1) (entry .pre .2) (loop-test .loop-test .taken) (at .at .ensures)
 
 same-length : tie.Need-same-length Inv-loop μ-loop
 same-length c =
-    let loop = c .before .loop in
-    going-length (loop .inv .going)
+    let loop = c .before in
+    going-length (loop .loop .inv .going)
 
 returns : tie.Need-returns Inv-loop μ-loop
 returns c =
-    let loop-test = c .loop-test in
-    let loop = c .before .loop in
-    lines-end (loop .inv) (loop-test .left)
+    let loop = c .before in
+    lines-end (loop .loop .inv) (c .loop-test .left)
 
 pub put-lines-spec : {M : Type 1} → statement M
 put-lines-spec =
