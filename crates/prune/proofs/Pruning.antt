@@ -19,7 +19,7 @@ use Rattle.prune.proofs.Linking.{kept-lines, records-small}
 
 module _ {file names recs out w : List ℕ} {k : Counts} (t : Run-over file names recs out w k) where
   lines-are : map (record-line recs) (kept-records names recs out w k) ≡ kept-of file names recs out w k
-  lines-are = kept-lines w (t .filled) (t .only-facts)
+  lines-are = kept-lines (t .filled) w (t .only-facts)
 
   -- as many records as lines
   records-fit : length (kept-records names recs out w k) ≤ most-records
@@ -62,7 +62,7 @@ module _ {file names recs out w : List ℕ} {k : Counts} (t : Run-over file name
         let r = listed-room in
         let many = t .filled .recorded .few in
         let m = part-intro v kept-column (kept-column + count) (kept-column + j) (omega arith) (omega arith) (omega arith) in
-        let b = records-small w (t .filled) (getD v (kept-column + j) 0)
+        let b = records-small (t .filled) w (getD v (kept-column + j) 0)
         (subst (λ (x : List ℕ). List·Memᴰ (getD v (kept-column + j) 0) x) (l .records) m) in
         omega arith
 
