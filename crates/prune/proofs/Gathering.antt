@@ -37,7 +37,7 @@ part-sets w a l h =
     ∙ take-at l (drop (a + length l) w) (length l) refl
 
 -- and behind what stood before it
-pub part-behind : (w : List ℕ) (a b : ℕ) (l k : List ℕ) → b ≡ a + length l → part w a b ≡ l → b + length k ≤ length w
+part-behind : (w : List ℕ) (a b : ℕ) (l k : List ℕ) → b ≡ a + length l → part w a b ≡ l → b + length k ≤ length w
     → part (sets w b k) a (b + length k) ≡ l ++ k
 part-behind w a b l k e p h =
     let size = length-sets w b k in
@@ -80,7 +80,7 @@ front-low : (l m : List ℕ) → length (l ++ m) ≤ most-records → length l �
 front-low l m h = let e = length-append l m in omega arith
 
 module _ {names recs out w : List ℕ} {k : Counts} (t : Listable names recs out w k) where
-  pub facts-small : {x : ℕ} → List·Memᴰ x (fact-records names recs w k) → x < k .records
+  facts-small : {x : ℕ} → List·Memᴰ x (fact-records names recs w k) → x < k .records
   unfolding fact-records
   facts-small m =
       ⊎-elim
@@ -105,7 +105,7 @@ module _ {names recs out w : List ℕ} {k : Counts} (t : Listable names recs out
   -- ---- the facts listed
 
   module _ {w₁ : List ℕ} {f : ℕ} (p : Lists w 0 (fact-records names recs w k) w₁ f) where
-    pub facts-count : f ≡ length (fact-records names recs w k)
+    facts-count : f ≡ length (fact-records names recs w k)
     facts-count = let c = p .count in omega arith
 
     pub few-facts : f ≤ most-records

@@ -126,13 +126,13 @@ module _ {names recs : List ℕ} {f : ℕ → ℕ} {named kind : ℕ} {w : List 
 
 -- what is listed depends on the stamps of the ranks only
 module _ (names recs : List ℕ) (named : ℕ) {f g : ℕ → ℕ} (same : (r : ℕ) → r < named → g r ≡ f r) where
-  pub stamp-same : (kind s : ℕ) → stamp-records names recs named g kind s ≡ stamp-records names recs named f kind s
+  stamp-same : (kind s : ℕ) → stamp-records names recs named g kind s ≡ stamp-records names recs named f kind s
   unfolding stamp-records
   stamp-same kind s =
       ap (picked (kind-at names recs kind))
       (keep-cong (λ r. eqb (g r) s) (λ r. eqb (f r) s) (upto named) (λ r m. ap (λ (x : ℕ). eqb x s) (same r (upto-elim named m))))
 
-  pub kinds-same : (kind s : ℕ) → kind-records names recs named g kind s ≡ kind-records names recs named f kind s
+  kinds-same : (kind s : ℕ) → kind-records names recs named g kind s ≡ kind-records names recs named f kind s
   unfolding kind-records
   kinds-same kind s =
       collect-cong (λ j. stamp-records names recs named g kind (j + 1)) (λ j. stamp-records names recs named f kind (j + 1)) (upto s)
@@ -150,13 +150,13 @@ pub record Apart (w v : List ℕ) : Type 0 where
   pub low : (j : ℕ) → j < kept-column → getD v j 0 ≡ getD w j 0
   pub high : (j : ℕ) → below-column ≤ j → getD v j 0 ≡ getD w j 0
 
-pub going-apart : {w : List ℕ} {m : ℕ} {whole v : List ℕ} {to : ℕ} {rest : List ℕ} → Going w m whole v to rest
+going-apart : {w : List ℕ} {m : ℕ} {whole v : List ℕ} {to : ℕ} {rest : List ℕ} → Going w m whole v to rest
     → m + length whole ≤ most-records → Apart w v
 going-apart g f = record { size = going-length g; low = going-below g; high = going-above g f }
 
 module _ {names w v : List ℕ} {named : ℕ} (index : Index names named) (apart : Apart w v) where
   -- the stamps of the ranks stay
-  pub stamps-apart : (r : ℕ) → r < named → stamp-in names v r ≡ stamp-in names w r
+  stamps-apart : (r : ℕ) → r < named → stamp-in names v r ≡ stamp-in names w r
   stamps-apart r h = apart .low (ranked names r) (omega (arith, index .numbers r h, index .few))
 
   -- and the chains
@@ -204,7 +204,7 @@ module _ {names recs : List ℕ} {named kind stamps : ℕ} {w : List ℕ} {m : �
 
 -- ---- definitions, then declarations
 
-pub lists-apart : {w : List ℕ} {m : ℕ} {l v : List ℕ} {to : ℕ} → Lists w m l v to → m + length l ≤ most-records → Apart w v
+lists-apart : {w : List ℕ} {m : ℕ} {l v : List ℕ} {to : ℕ} → Lists w m l v to → m + length l ≤ most-records → Apart w v
 lists-apart {w} {m} {l} {v} {to} p f = going-apart {rest = []} (going-list {rest = []} (going-start w m l) (sym (append-nil l)) p) f
 
 module _ (names recs : List ℕ) {named : ℕ} (s : ℕ) (w : List ℕ) (m : ℕ) (index : Index names named)

@@ -80,7 +80,7 @@ module _ (recs : List ℕ) (k : Counts) {x : Bool} (e : x ≡ no-ambients (ask-o
   ambients-off w m t = rw (← e, t) (lists-none w m)
 
   -- without it they are those picked
-  pub ambients-on : x ≡ false → ambient-records recs k ≡ picked (ambient-at recs) (upto (k .records))
+  ambients-on : x ≡ false → ambient-records recs k ≡ picked (ambient-at recs) (upto (k .records))
   unfolding ambient-records
   ambients-on t = rw (← e, t)
 

@@ -21,7 +21,7 @@ sets-above w a [] j h = refl
 sets-above w a (x ∷ l) j h = sets-above (set w a x) (suc a) l j (omega arith) ∙ getD-set-other w a j x 0 (λ e. omega arith)
 
 -- one list after the other
-pub sets-append : (w : List ℕ) (a : ℕ) (l k : List ℕ) → sets w a (l ++ k) ≡ sets (sets w a l) (a + length l) k
+sets-append : (w : List ℕ) (a : ℕ) (l k : List ℕ) → sets w a (l ++ k) ≡ sets (sets w a l) (a + length l) k
 sets-append w a [] k = ap (λ (b : ℕ). sets w b k) (omega arith)
 sets-append w a (x ∷ l) k = sets-append (set w a x) (suc a) l k ∙ ap (λ (b : ℕ). sets (sets (set w a x) (suc a) l) b k) (omega arith)
 

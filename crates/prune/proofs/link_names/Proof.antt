@@ -47,7 +47,8 @@ at-requires-2 c κs =
     let loop = loop-test .before in
     let clear = loop .before .before .before in
     let entry = clear .before .before .before .before in
-    omega (arith, entry .pre .1, clear .clear .ensures .same .same-length, loop .loop .inv .same .same-length, entry .pre .0 .few, number-in (entry .pre .0) (loop-test .loop-test .taken) (c .at .ensures))
+    let small = number-in (entry .pre .0) (loop-test .loop-test .taken) (c .at .ensures) in
+    omega (arith, small, entry .pre .1, clear .clear .ensures .same .same-length, loop .loop .inv .same .same-length, entry .pre .0 .few)
 
 loop-less : tie.Need-loop-less Inv-loop μ-loop
 loop-less c =

@@ -9,7 +9,9 @@ use Rattle.prune.proofs.list_decls.Tie as tie
 list-kind-requires : tie.Need-list-kind-requires
 list-kind-requires c κs =
     let entry = c .before .before .before .before in
-    (entry .pre .0, entry .pre .1, entry .pre .2, entry .pre .3, entry .pre .4, defs-fit (entry .args .names .now) (entry .args .recs .now) (entry .args .stamps) (entry .args .run .now) (entry .args .m) (entry .pre .0) (entry .pre .5))
+    let fits = defs-fit (entry .args .names .now) (entry .args .recs .now) (entry .args .stamps) (entry .args .run .now) (entry .args .m) (entry .pre .0)
+    (entry .pre .5) in
+    (entry .pre .0, entry .pre .1, entry .pre .2, entry .pre .3, entry .pre .4, fits)
 
 list-kind-requires-2 : tie.Need-list-kind-requires-2
 list-kind-requires-2 c κs =

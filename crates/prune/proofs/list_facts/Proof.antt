@@ -8,14 +8,19 @@ use Rattle.prune.proofs.list_facts.Tie as tie
 
 list-reached-requires : tie.Need-list-reached-requires
 list-reached-requires c κs =
-    let entry = c .before .before .before .before in
-    (entry .pre .0, entry .pre .2, reached-fit (entry .args .names .now) (entry .args .recs .now) (entry .args .run .now) (entry .args .k) (entry .pre .4))
+    let entry = c .before .before .before .before in (
+      entry .pre .0,
+      entry .pre .2,
+      reached-fit (entry .args .names .now) (entry .args .recs .now) (entry .args .run .now) (entry .args .k) (entry .pre .4),
+    )
 
 list-ambients-requires : tie.Need-list-ambients-requires
 list-ambients-requires c κs =
     let list-reached = c .before .before .before in
     let entry = list-reached .before .before .before .before .before in
-    (entry .pre .1, omega (arith, entry .pre .2, lists-length (list-reached .list-reached .ensures)), entry .pre .3, ambients-after (entry .args .names .now) (entry .args .recs .now) (entry .args .run .now) (entry .args .k) (entry .pre .4) (list-reached .list-reached .ensures))
+    let fits = ambients-after (entry .args .names .now) (entry .args .recs .now) (entry .args .run .now) (entry .args .k) (entry .pre .4)
+    (list-reached .list-reached .ensures) in
+    (entry .pre .1, omega (arith, entry .pre .2, lists-length (list-reached .list-reached .ensures)), entry .pre .3, fits)
 
 same-length : tie.Need-same-length
 same-length c =

@@ -37,16 +37,21 @@ note-facts-requires : tie.Need-note-facts-requires
 note-facts-requires c κs =
     let clear = c .before .before .before in
     let list-facts = clear .before .before .before .before .before .before in
-    let entry = list-facts .before .before .before .before .before .before in
-    (cleared-notes (entry .pre) (list-facts .list-facts .ensures) (clear .clear .ensures), few-facts (entry .pre) (list-facts .list-facts .ensures), facts-in (entry .pre) (list-facts .list-facts .ensures) (clear .clear .ensures))
+    let entry = list-facts .before .before .before .before .before .before in (
+      cleared-notes (entry .pre) (list-facts .list-facts .ensures) (clear .clear .ensures),
+      few-facts (entry .pre) (list-facts .list-facts .ensures),
+      facts-in (entry .pre) (list-facts .list-facts .ensures) (clear .clear .ensures),
+    )
 
 note-roots-requires : tie.Need-note-roots-requires
 note-roots-requires c κs =
     let note-facts = c .before .before .before in
     let clear = note-facts .before .before .before .before in
     let list-facts = clear .before .before .before .before .before .before in
-    let entry = list-facts .before .before .before .before .before .before in
-    (noted-notes (entry .pre) (list-facts .list-facts .ensures) (clear .clear .ensures) (note-facts .note-facts .ensures), few-facts (entry .pre) (list-facts .list-facts .ensures))
+    let entry = list-facts .before .before .before .before .before .before in (
+      noted-notes (entry .pre) (list-facts .list-facts .ensures) (clear .clear .ensures) (note-facts .note-facts .ensures),
+      few-facts (entry .pre) (list-facts .list-facts .ensures),
+    )
 
 link-names-requires : tie.Need-link-names-requires
 link-names-requires c κs =

@@ -48,8 +48,11 @@ note-record-requires : tie.Need-note-record-requires Inv-loop μ-loop
 note-record-requires c κs =
     let loop-test = c .before .before .before in
     let loop = loop-test .before in
-    let entry = loop .before .before .before .before in
-    (notes-then (entry .pre .0) (loop .loop .inv .same-length), loop-test .loop-test .taken, omega (arith, loop .loop .inv .low, entry .pre .1, entry .pre .0 .recorded .few, loop-test .loop-test .taken))
+    let entry = loop .before .before .before .before in (
+      notes-then (entry .pre .0) (loop .loop .inv .same-length),
+      loop-test .loop-test .taken,
+      omega (arith, loop .loop .inv .low, entry .pre .1, entry .pre .0 .recorded .few, loop-test .loop-test .taken),
+    )
 
 loop-less-2 : tie.Need-loop-less-2 Inv-loop μ-loop
 loop-less-2 c =

@@ -13,8 +13,12 @@ list-records-requires c κs =
 put-lines-requires : tie.Need-put-lines-requires
 put-lines-requires c κs =
     let list-records = c .before .before .before in
-    let entry = list-records .before .before .before .before .before .before .before in
-    (entry .pre .filled .recorded .room, listed-room (entry .pre) (list-records .list-records .ensures), few-kept (entry .pre) (list-records .list-records .ensures), records-in (entry .pre) (list-records .list-records .ensures))
+    let entry = list-records .before .before .before .before .before .before .before in (
+      entry .pre .filled .recorded .room,
+      listed-room (entry .pre) (list-records .list-records .ensures),
+      few-kept (entry .pre) (list-records .list-records .ensures),
+      records-in (entry .pre) (list-records .list-records .ensures),
+    )
 
 same-length : tie.Need-same-length
 same-length c =

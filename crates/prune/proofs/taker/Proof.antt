@@ -27,8 +27,10 @@ at-requires-2 c κs =
 returns : tie.Need-returns
 returns c =
     let at = c .before in
-    let entry = at .before .before in
-    (taker-is (entry .args .names .now) (entry .args .r) (at .at .ensures) (c .at2 .ensures), omega (arith, c .at2 .ensures, entry .pre .0 .takers _ (number-in (entry .pre .0) (entry .pre .1) (at .at .ensures))))
+    let entry = at .before .before in (
+      taker-is (entry .args .names .now) (entry .args .r) (at .at .ensures) (c .at2 .ensures),
+      omega (arith, c .at2 .ensures, entry .pre .0 .takers _ (number-in (entry .pre .0) (entry .pre .1) (at .at .ensures))),
+    )
 
 pub taker-spec : {M : Type 1} → statement M
 taker-spec =
