@@ -2,17 +2,10 @@
 use Prim.Native.Nat.{ℕ}
 use mathlib.Core.Path.{_≡_}
 use mathlib.Core.List.{List}
-use Rattle.model.specs.Outcome.{Outcome, refusal-number, answer}
+use Rattle.model.specs.Outcome.{Outcome, answer}
 use Rattle.model.specs.declared.Answer.{Answer}
-use Rattle.model.specs.declared.Verdict.{Verdict}
-use Rattle.model.specs.declared.Verdict.the-variants as verdict
-use Rattle.filter.specs.Call.{Leaves}
+use Rattle.filter.specs.Call.{verdict-number, Leaves}
 use Rattle.wimplejade.specs.declared.Reply.{Reply}
-
--- document 01's number of the refusal, 0 for a list
-unfoldable pub verdict-number : Verdict → ℕ
-verdict-number verdict.Accepted = 0
-verdict-number (verdict.Refused r) = refusal-number r
 
 -- an answer in numbers
 unfoldable pub in-numbers : Answer → Reply

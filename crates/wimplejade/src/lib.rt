@@ -4,8 +4,8 @@ use model::Verdict;
 ghost use mathlib.Core.Path.{_≡_};
 ghost use lib.ListN.{length};
 ghost use Rattle.model.specs.Outcome.{outcome};
-ghost use Rattle.filter.specs.Call.{lengths};
-ghost use Rattle.wimplejade.specs.Reply.{verdict-number, in-numbers, Replies};
+ghost use Rattle.filter.specs.Call.{lengths, verdict-number};
+ghost use Rattle.wimplejade.specs.Reply.{in-numbers, Replies};
 
 // The answer of a call: document 01's number of the refusal, 0 for a list; its place; the counts.
 #[repr(C)]
