@@ -28,15 +28,15 @@ use Rattle.fields.specs.declared.Upto.the-variants as upto
 use Rattle.fields.specs.Spelling.{Naming, in-table, Longer, spell-fields, Spells-rest, all-spelt, rest-not}
 use Rattle.fields.specs.Growing.{with-term, Grown, Passes, names-passed, terms-passed, references-passed, Kept, Grows, grown, over, not-read, Reads-term}
 use Rattle.fields.proofs.Spelling.{naming-table, naming-past, spell-law}
-use Rattle.words.proofs.Slices.{same-self}
+use Rattle.words.proofs.Slices.{same-self, same-wider}
 use Rattle.records.specs.States.{state-of, decls-of, roots-of}
 use Rattle.records.specs.Adding.{excluded, Standing, judge, Adds, Untouched}
 use Rattle.records.specs.Adding as adds
 use Rattle.records.proofs.Recording.{decls-stay, roots-stay}
 use Rattle.records.proofs.Judging.{Beyond, many-names, many-terms, many-references, judged-beyond, judged-within, repeats-none}
 use Rattle.records.proofs.Appending.{terms-length, standing-within}
-use Rattle.records.proofs.Funs.{same-wider}
-use Rattle.reader.specs.Lines.{with-names, with-ask, judged, Asks, asks, not-asked, Reads, goes-on, stops, Past, Line-read}
+use Rattle.records.specs.Writing.{with-ask}
+use Rattle.reader.specs.Lines.{with-names, judged, Asks, asks, not-asked, Reads, goes-on, stops, Past, Line-read}
 use Rattle.reader.proofs.Naming.{fold-more, same-records, state-spelled, standing-spelled, retained, line-names, few-names, reads-refused, table-past, spelled-past, past-none, past-names, past-then}
 
 -- ---- a term line
@@ -130,9 +130,9 @@ module _ {file names refs rows recs out names′ refs′ rows′ : List ℕ} {k 
   term-read r = record {
     reads = term-reads (r .kept) (r .grows);
     past = record {
-      name-words = same-wider (omega arith) (omega arith) (r .kept .names-kept);
+      name-words = same-wider 0 working-words (omega arith) (omega arith) (r .kept .names-kept);
       reference-words = r .kept .refs-kept;
-      row-words = same-wider (omega arith) (omega arith) (r .kept .rows-kept);
+      row-words = same-wider 0 working-words (omega arith) (omega arith) (r .kept .rows-kept);
       record-words = same-self 0 working-words recs;
       list-words = same-self 0 working-words out;
     };

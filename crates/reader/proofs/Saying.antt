@@ -22,9 +22,10 @@ use Rattle.text.specs.declared.NumberStep.the-variants as numbered
 use Rattle.text.specs.Parts.{Placed, fields-left, term-at, number-at}
 use Rattle.text.proofs.Laws.{left-none, number-next}
 use Rattle.fields.proofs.Pushing.{left-cons, term-read, term-not, number-read, number-not}
+use Rattle.records.specs.Writing.{with-ask}
 use Rattle.reader.specs.declared.Last.{Last}
 use Rattle.reader.specs.declared.Last.the-variants as last
-use Rattle.reader.specs.Lines.{last-field, last-result, fact-said, root-said, with-ask, Asks, asks, not-asked}
+use Rattle.reader.specs.Lines.{last-field, last-result, fact-said, root-said, Asks, asks, not-asked}
 
 -- a term and the fields after it
 abbrev and-after : List Field → ℕ → Result (ℕ × List Field)

@@ -23,10 +23,10 @@ use Rattle.words.specs.Slices.{Same-but}
 use Rattle.gather.specs.Sets.{Fresh}
 use Rattle.gather.proofs.Walking.{rows-marked}
 use Rattle.rules.specs.Views.{terms-in}
-use Rattle.triggers.specs.Entries.{disjuncts-of}
+use Rattle.triggers.specs.Entries.{disjuncts-of, entries-base, last-flag, no-name}
 use Rattle.triggers.proofs.Marked.{terms-marked}
 use Rattle.model.specs.declared.Step.the-variants as step
-use Rattle.records.specs.Columns.{record-kind, assume-kind, retain-kind, root-kind, entry-column, last-entry, no-name, entry-word, entry-name, entry-fact}
+use Rattle.records.specs.Columns.{record-kind, assume-kind, retain-kind, root-kind, entry-word, entry-name, entry-fact}
 use Rattle.records.specs.States.{summary-at, root-at, decls-of, roots-of, ask-of, state-of}
 use Rattle.records.specs.Filing.{Records, Chained, Filing, Taken, Stocked}
 use Rattle.records.specs.Writing.{with-record, Rowed}
@@ -93,9 +93,9 @@ pub record Appends (file names rows recs out names′ rows′ recs′ out′ : L
   pub old-facts : (e : ℕ) → e < k .entries → entry-fact out′ e ≡ entry-fact out e
   pub new-entries : (e : ℕ) → k .entries ≤ e → e < entries′ → (entry-name out′ e < named′) ⊎ (entry-name out′ e ≡ no-name)
   pub new-facts : (e : ℕ) → k .entries ≤ e → e < entries′ → entry-fact out′ e ≡ k .records
-  pub flagged : (e : ℕ) → k .entries ≤ e → e < entries′ → entry-word out′ e < last-entry + last-entry
-  pub ended : k .entries < entries′ → last-entry ≤ entry-word out′ (entries′ - 1)
-  pub sized : entries′ ≡ k .entries + entries (disjuncts-of (name-of file names′) (part out′ (entry-column + k .entries) (entry-column + entries′)))
+  pub flagged : (e : ℕ) → k .entries ≤ e → e < entries′ → entry-word out′ e < last-flag + last-flag
+  pub ended : k .entries < entries′ → last-flag ≤ entry-word out′ (entries′ - 1)
+  pub sized : entries′ ≡ k .entries + entries (disjuncts-of (name-of file names′) (part out′ (entries-base + k .entries) (entries-base + entries′)))
   pub only-facts : (kind ≡ assume-kind → ⊥) → entries′ ≡ k .entries
   pub taken : Taken names′ recs′ (k .records + 1)
   pub chained : Chained names′ out′ entries′

@@ -9,9 +9,11 @@ use lib.ListN.{length, getD, set, length-set}
 use lib.Seq.{getD-set-same, getD-set-other}
 use borrow.Author.Tests.{eq-eqb, ne-eqb}
 use Rattle.model.specs.Reading.{most-names, most-entries}
+use Rattle.model.specs.Outcome.{working-words}
 use Rattle.words.specs.Slices.{Same-but}
 use Rattle.terms.proofs.Laws.{equal}
-use Rattle.records.specs.Columns.{entry-column, fact-column, next-column, first-column, taken-column, last-entry, no-name, entry-name, entry-fact, next-entry, first-entry}
+use Rattle.triggers.specs.Entries.{entries-base, last-flag, no-name}
+use Rattle.records.specs.Columns.{fact-column, next-column, first-column, taken-column, entry-name, entry-fact, next-entry, first-entry}
 use Rattle.records.specs.Filing.{newest, Chained}
 use Rattle.records.specs.Writing.{Chains}
 
@@ -76,7 +78,7 @@ module _ {names out names′ out′ : List ℕ} {from e fact : ℕ} (c : Chains 
       → Chains names out names″ out″ from (e + 1) fact
   chain-more {names″} {out″} names-same size same here link others first =
       let name : (d : ℕ) → d < most-entries → entry-name out″ d ≡ entry-name out′ d =
-      λ d k. ap (λ w. w % last-entry) (same (entry-column + d) (λ z. omega arith) (λ z. omega arith)) in
+      λ d k. ap (λ w. w % last-flag) (same (entries-base + d) (λ z. omega arith) (λ z. omega arith)) in
       let kept : Chained names′ out″ e =
       chained-kept (c .chained) (λ n k. refl) (λ d k. name d (omega arith)) (λ d k. same (next-column + d) (λ z. omega arith) (λ z. omega arith)) in
       record {
@@ -108,7 +110,7 @@ module _ {names out names′ out′ : List ℕ} {from e fact : ℕ} (c : Chains 
             (equal d e);
       }
 
-  module _ (room : 16384 ≤ length out) (n : ℕ) (is : n ≡ entry-name out′ e) where
+  module _ (room : working-words ≤ length out) (n : ℕ) (is : n ≡ entry-name out′ e) where
     -- the entry of an empty disjunct
     pub chain-none : no-name ≤ n → Chains names out names′ (set out′ (fact-column + e) fact) from (e + 1) fact
     chain-none h =
@@ -118,7 +120,7 @@ module _ {names out names′ out′ : List ℕ} {from e fact : ℕ} (c : Chains 
         (λ k. absurd (omega arith)) (λ m k q. refl) (λ k. absurd (omega arith))
 
     -- the entry of a name
-    pub chain-one : 16384 ≤ length names → n < no-name
+    pub chain-one : working-words ≤ length names → n < no-name
         → Chains names out (set names′ (first-column + n) (e + 1)) (set (set out′ (fact-column + e) fact) (next-column + e) (first-entry names′ n)) from (e + 1) fact
     chain-one name-room h =
         let mid = set out′ (fact-column + e) fact in

@@ -20,8 +20,9 @@ use Rattle.names.specs.Table.{Excludes, Table, name-of, names-of}
 use Rattle.names.proofs.Excluded.{excluded-exact}
 use Rattle.names.proofs.Coded.{Kept, table-kept}
 use Rattle.words.specs.Slices.{Same-but}
+use Rattle.words.proofs.Slices.{same-wider}
 use Rattle.rules.specs.Views.{terms-in}
-use Rattle.triggers.specs.Entries.{disjuncts-of, Entries}
+use Rattle.triggers.specs.Entries.{disjuncts-of, Entries, entries-base, last-flag, no-name}
 use Rattle.summary.specs.declared.Limit.{Limit}
 use Rattle.summary.specs.declared.Limit.the-variants as limit
 use Rattle.summary.specs.declared.Summary.{Summary}
@@ -29,7 +30,8 @@ use Rattle.summary.specs.declared.Summarized.the-variants as summarized
 use Rattle.summary.specs.Facts.{Asked, fact-kind, fact-names, names-then, fact-summary, limited, Lists, Slices}
 use Rattle.summary.proofs.Answering.{over-none, limited-done}
 use Rattle.model.specs.declared.Step.the-variants as step
-use Rattle.records.specs.Columns.{assume-kind, code-of, entry-column, fact-column, next-column, first-column, taken-column, last-entry, no-name, entry-word, entry-name, entry-fact, taken-at}
+use Rattle.model.specs.Outcome.{working-words}
+use Rattle.records.specs.Columns.{assume-kind, code-of, fact-column, next-column, first-column, taken-column, entry-word, entry-name, entry-fact, taken-at}
 use Rattle.records.specs.States.{free-at, fact-at, summary-at, root-at, state-of}
 use Rattle.records.specs.Writing.{with-record, Rowed, Puttable, Puts}
 use Rattle.records.specs.Adding.{excluded, Standing, Adds, Untouched}
@@ -38,22 +40,22 @@ use Rattle.records.proofs.Recording.{names-stay, disjuncts-stay}
 use Rattle.records.proofs.Judging.{many-names, many-entries, many-uses, repeats-taken, repeats-free}
 use Rattle.records.proofs.Appending.{Appends, Says, record-added, record-repeated, record-crowded, record-beyond}
 use Rattle.records.proofs.Plain.{spelled-before, is-taken}
-use Rattle.records.proofs.Funs.{same-wider, row-past, taken-put, small-row}
+use Rattle.records.proofs.Funs.{row-past, taken-put, small-row}
 use Rattle.records.proofs.Coding.{code-kind, code-low}
 
 -- ---- the words of a fact's entries
 
-module _ {named : ℕ} (out : List ℕ) (a e : ℕ) (room : entry-column + e ≤ length out) (h : Entries named (part out (entry-column + a) (entry-column + e))) where
+module _ {named : ℕ} (out : List ℕ) (a e : ℕ) (room : entries-base + e ≤ length out) (h : Entries named (part out (entries-base + a) (entries-base + e))) where
   -- an entry is among them
-  among : (j : ℕ) → a ≤ j → j < e → List·Memᴰ (entry-word out j) (part out (entry-column + a) (entry-column + e))
-  among j l u = part-intro out (entry-column + a) (entry-column + e) (entry-column + j) room (omega arith) (omega arith)
+  among : (j : ℕ) → a ≤ j → j < e → List·Memᴰ (entry-word out j) (part out (entries-base + a) (entries-base + e))
+  among j l u = part-intro out (entries-base + a) (entries-base + e) (entries-base + j) room (omega arith) (omega arith)
 
   -- the last ends its disjunct
-  last-ends : a < e → last-entry ≤ entry-word out (e - 1)
+  last-ends : a < e → last-flag ≤ entry-word out (e - 1)
   last-ends l =
-      let n : e - 1 - a + 1 ≡ length (part out (entry-column + a) (entry-column + e)) = omega (arith, part-length out (entry-column + a) (entry-column + e) room) in
-      let p : entry-column + (e - 1) - (entry-column + a) ≡ e - 1 - a = omega arith in
-      let q = part-at out (entry-column + a) (entry-column + e) (entry-column + (e - 1)) (omega arith) (omega arith) in
+      let n : e - 1 - a + 1 ≡ length (part out (entries-base + a) (entries-base + e)) = omega (arith, part-length out (entries-base + a) (entries-base + e) room) in
+      let p : entries-base + (e - 1) - (entries-base + a) ≡ e - 1 - a = omega arith in
+      let q = part-at out (entries-base + a) (entries-base + e) (entries-base + (e - 1)) (omega arith) (omega arith) in
       rw (← q, p) (h .closed (e - 1 - a) n)
 
 -- ---- the summary's limits
@@ -156,19 +158,19 @@ module _ {file names refs rows recs out names₁ rows′ out₁ names′ recs′
   list-words : (j : ℕ) → j < fact-column → getD out′ j 0 ≡ getD out₁ j 0
   list-words j l = puts .chains .out-words j (λ a b. omega arith) (λ a b. omega arith)
 
-  room : 16384 ≤ length out₁
+  room : working-words ≤ length out₁
   room = omega (arith, slices .out-length, st .recorded .out-room)
 
   size : length out′ ≡ length out₁
   size = puts .chains .out-length
 
-  sets : disjuncts-of (name-of file names′) (part out′ (entry-column + k .entries) (entry-column + x .entries)) ≡ fact-kind excluded file names refs rows (k .named) (k .used) (k .many) i t .triggers
+  sets : disjuncts-of (name-of file names′) (part out′ (entries-base + k .entries) (entries-base + x .entries)) ≡ fact-kind excluded file names refs rows (k .named) (k .used) (k .many) i t .triggers
   sets =
-      let a = entry-column + k .entries in
-      let e = entry-column + x .entries in
+      let a = entries-base + k .entries in
+      let e = entries-base + x .entries in
       let high : e ≤ length out₁ = omega (arith, room, within .2) in
-      let word : (w : ℕ) → List·Memᴰ w (part out₁ a e) → w % last-entry < no-name → name-of file names′ (w % last-entry) ≡ name-of file names₁ (w % last-entry) =
-      λ w m s. ⊎-elim (λ (q : w % last-entry < x .named). still .name (w % last-entry) q) (λ (q : w % last-entry ≡ no-name). absurd (omega arith)) (lists .entry-words .small w m) in
+      let word : (w : ℕ) → List·Memᴰ w (part out₁ a e) → w % last-flag < no-name → name-of file names′ (w % last-flag) ≡ name-of file names₁ (w % last-flag) =
+      λ w m s. ⊎-elim (λ (q : w % last-flag < x .named). still .name (w % last-flag) q) (λ (q : w % last-flag ≡ no-name). absurd (omega arith)) (lists .entry-words .small w m) in
       rw (part-agree out₁ out′ (e - a) a e refl high (omega (arith, high, size)) (λ j l u. list-words j (omega (arith, within .2))))
       (disjuncts-stay (name-of file names′) (name-of file names₁) (part out₁ a e) word ∙ lists .disjuncts)
 
@@ -178,7 +180,7 @@ module _ {file names refs rows recs out names₁ rows′ out₁ names′ recs′
   -- the record is appended
   appends : Appends file names rows recs out names′ rows′ recs′ out′ k (x .named) (x .entries) (x .uses) (x .mark) assume-kind line i t flag (code-of (x .kind))
   appends =
-      let high : entry-column + x .entries ≤ length out₁ = omega (arith, room, within .2) in
+      let high : entries-base + x .entries ≤ length out₁ = omega (arith, room, within .2) in
       let rise = entries-are in
       let grow = uses-are in
       let here : taken-at names′ i ≡ k .records + 1 =
@@ -203,16 +205,16 @@ module _ {file names refs rows recs out names₁ rows′ out₁ names′ recs′
         new-uses = λ j l u. rw (list-words j (omega (arith, within .3))) (omega (arith, lists .use-words j l u, more));
         few-entries = within .2;
         more-entries = omega arith;
-        old-entries = λ e l. list-words (entry-column + e) (omega (arith, st .recorded .few-entries)) ∙ slices .out-words (entry-column + e) (λ a b. omega arith) (λ a b. omega arith);
+        old-entries = λ e l. list-words (entries-base + e) (omega (arith, st .recorded .few-entries)) ∙ slices .out-words (entries-base + e) (λ a b. omega arith) (λ a b. omega arith);
         old-facts = λ e l.
             puts .chains .out-words (fact-column + e) (λ a b. omega arith) (λ a b. omega (arith, st .recorded .few-entries))
             ∙ slices .out-words (fact-column + e) (λ a b. omega arith) (λ a b. omega arith);
-        new-entries = λ e l u. rw (list-words (entry-column + e) (omega (arith, within .2)))
+        new-entries = λ e l u. rw (list-words (entries-base + e) (omega (arith, within .2)))
             (lists .entry-words .small (entry-word out₁ e) (among out₁ (k .entries) (x .entries) high (lists .entry-words) e l u));
         new-facts = puts .chains .facts;
-        flagged = λ e l u. rw (list-words (entry-column + e) (omega (arith, within .2)))
+        flagged = λ e l u. rw (list-words (entries-base + e) (omega (arith, within .2)))
             (lists .entry-words .flagged (entry-word out₁ e) (among out₁ (k .entries) (x .entries) high (lists .entry-words) e l u));
-        ended = λ l. rw (list-words (entry-column + (x .entries - 1)) (omega (arith, within .2))) (last-ends out₁ (k .entries) (x .entries) high (lists .entry-words) l);
+        ended = λ l. rw (list-words (entries-base + (x .entries - 1)) (omega (arith, within .2))) (last-ends out₁ (k .entries) (x .entries) high (lists .entry-words) l);
         sized = entries-are ∙ ap (λ s. k .entries + entries s) (sym sets);
         only-facts = λ d. absurd (d refl);
         taken = is-taken st few row low free here others (omega arith);
@@ -285,7 +287,7 @@ module _ {file names refs rows recs out : List ℕ} {k : Counts} (st : Standing 
       let code : code-of (x .kind) ≤ 3 + x .entries = code-low (x .kind) (x .entries) (λ m e. omega (arith, lists .few-sets m e)) in
       record {
         chained = chained-kept (st .stocked .chained) (λ n l. slices .name-words .same-words (first-column + n) (λ a b. omega arith))
-            (λ e l. ap (λ w. w % last-entry) (slices .out-words (entry-column + e) (λ a b. omega arith) (λ a b. omega arith)))
+            (λ e l. ap (λ w. w % last-flag) (slices .out-words (entries-base + e) (λ a b. omega arith) (λ a b. omega arith)))
             (λ e l. slices .out-words (next-column + e) (λ a b. omega arith) (λ a b. omega arith));
         name-room = omega (arith, slices .name-words .same-length, st .tables .name-table .room);
         record-room = st .recorded .room;
@@ -301,8 +303,8 @@ module _ {file names refs rows recs out : List ℕ} {k : Counts} (st : Standing 
 -- words past the tables stay where a fact is refused
 pub over-past : {names rows recs out names₁ rows₁ out₁ : List ℕ} {filed uses : ℕ} → Slices names rows out names₁ rows₁ out₁ filed uses → Untouched names rows recs out names₁ rows₁ recs out₁
 over-past s = record {
-  name-words = same-wider (omega arith) (omega arith) (s .name-words);
-  row-words = same-wider (omega arith) (omega arith) (s .row-words);
+  name-words = same-wider 0 working-words (omega arith) (omega arith) (s .name-words);
+  row-words = same-wider 0 working-words (omega arith) (omega arith) (s .row-words);
   record-words = record { same-length = refl; same-words = λ i h. refl };
   list-words = record { same-length = s .out-length; same-words = λ i h. s .out-words i (λ a b. h (omega arith) (omega arith)) (λ a b. h (omega arith) (omega arith)) };
 }
@@ -320,7 +322,7 @@ fact-past {names₁ = names₁} {i = i} {k = k} s few low p =
             p .chains .names-same .same-words j (λ a b. h (omega arith) (omega arith)) ∙ put .same-words j (λ a b. h (omega arith) (omega arith))
             ∙ s .name-words .same-words j (λ a b. h (omega arith) (omega arith));
       };
-      row-words = same-wider (omega arith) (omega arith) (s .row-words);
+      row-words = same-wider 0 working-words (omega arith) (omega arith) (s .row-words);
       record-words = row-past (p .row);
       list-words = record {
         same-length = p .chains .out-length ∙ s .out-length;

@@ -11,11 +11,12 @@ use lib.Dec.{eqb, leb, ltb}
 use borrow.Author.Tests.{lt-ltb, le-ltb, le-leb, lt-leb, ltb-true, leb-true}
 use Rattle.model.specs.Reading.{most-names, most-records}
 use Rattle.model.specs.declared.Counts.{Counts}
-use Rattle.names.specs.Table.{Table}
+use Rattle.model.specs.Outcome.{working-words}
+use Rattle.names.specs.Table.{Table, name-code}
 use Rattle.names.proofs.Coded.{table-kept}
 use Rattle.words.specs.Slices.{Same-but}
 use Rattle.terms.proofs.Laws.{equal}
-use Rattle.records.specs.Columns.{record-kind, def-kind, taken-column, macro-column, first-column, taken-at, macro-at, name-code}
+use Rattle.records.specs.Columns.{record-kind, def-kind, taken-column, macro-column, first-column, taken-at, macro-at}
 use Rattle.records.specs.Filing.{newest, Records, Stocked}
 use Rattle.records.specs.Macros.{opened-word, first-macro, macro-count, first-opened, opened, start-word, is-def, macro-word, Found, found-word, word-from, Opens, Filled}
 use Rattle.records.proofs.Chaining.{newest-here, newest-other, newest-low, newest-cong, chained-kept}
@@ -161,7 +162,7 @@ module _ {names recs names′ found : List ℕ} {named n : ℕ} (o : Opens names
   word-same =
       rw (o .same .same-words (taken-column + n) (λ a b. omega arith), o .same .same-words (6144 + n) (λ a b. omega arith), found-start f (name-code names n))
 
-  pub opens-more : {w : ℕ} → 16384 ≤ length names → w ≡ word-from names′ recs found n → Opens names recs (set names′ (macro-column + n) w) named (n + 1)
+  pub opens-more : {w : ℕ} → working-words ≤ length names → w ≡ word-from names′ recs found n → Opens names recs (set names′ (macro-column + n) w) named (n + 1)
   opens-more {w} room is =
       let other : (i : ℕ) → (i ≡ macro-column + n → ⊥) → getD (set names′ (macro-column + n) w) i 0 ≡ getD names′ i 0 = λ i d. getD-set-other names′ (macro-column + n) i w 0 d in
       record {

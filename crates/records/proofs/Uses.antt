@@ -18,12 +18,14 @@ use Rattle.names.proofs.Laws.{distinct}
 use Rattle.names.proofs.Excluded.{excluded-exact}
 use Rattle.terms.specs.Rows.{terms-of}
 use Rattle.words.specs.Slices.{Same-but}
+use Rattle.words.proofs.Slices.{same-wider}
 use Rattle.gather.specs.Sets.{Fresh, Named, Gathers, all-names, no-room, Gathered, ended}
 use Rattle.gather.specs.declared.Walked.{Walked}
 use Rattle.gather.specs.declared.Walked.the-variants as walks
 use Rattle.rules.specs.Views.{terms-in}
 use Rattle.gather.proofs.Fresh.{fresh-next}
 use Rattle.model.specs.declared.Step.the-variants as step
+use Rattle.model.specs.Outcome.{working-words}
 use Rattle.records.specs.Columns.{def-kind, root-kind, taken-column, taken-at}
 use Rattle.records.specs.States.{free-at, summary-at, root-at, decl-at, state-of}
 use Rattle.records.specs.Writing.{with-record, Rowed}
@@ -32,7 +34,7 @@ use Rattle.records.proofs.Recording.{names-stay}
 use Rattle.records.proofs.Judging.{many-uses, repeats-none, repeats-taken, repeats-free}
 use Rattle.records.proofs.Appending.{Says, record-added, record-repeated, record-crowded, record-beyond}
 use Rattle.records.proofs.Plain.{spelled-again, kept, not-taken, is-taken, plain}
-use Rattle.records.proofs.Funs.{same-wider, row-past, taken-put, fresh-taken}
+use Rattle.records.proofs.Funs.{row-past, taken-put, fresh-taken}
 
 -- the numbers of a set of names among the uses from those counted on up to n, and the slices then
 pub record Uses (file names rows out names′ rows′ out′ : List ℕ) (k : Counts) (set : List Name) (n : ℕ) : Type 0 where
@@ -81,12 +83,12 @@ module _ {file names refs rows recs out names′ rows′ out′ : List ℕ} {k :
       go (no-room h small) = omega arith
 
   -- the words past the tables stay, also with a row written
-  pub gathered-past : {recs′ : List ℕ} → Same-but 0 16384 recs recs′ → Untouched names rows recs out names′ rows′ recs′ out′
+  pub gathered-past : {recs′ : List ℕ} → Same-but 0 working-words recs recs′ → Untouched names rows recs out names′ rows′ recs′ out′
   gathered-past same = record {
-    name-words = same-wider (omega arith) (omega arith) (slices .names-same);
-    row-words = same-wider (omega arith) (omega arith) (slices .rows-same);
+    name-words = same-wider 0 working-words (omega arith) (omega arith) (slices .names-same);
+    row-words = same-wider 0 working-words (omega arith) (omega arith) (slices .rows-same);
     record-words = same;
-    list-words = same-wider (omega arith) (omega (arith, slices .grows, slices .fits)) (slices .out-same);
+    list-words = same-wider 0 working-words (omega arith) (omega (arith, slices .grows, slices .fits)) (slices .out-same);
   }
 
 -- and with a name taken
@@ -197,7 +199,7 @@ module _ {file names refs rows recs out : List ℕ} {k : Counts} (st : Standing 
       → Adds file names refs rows recs out names′ rows′ recs′ out′ k line (root query (name-of file names i) t) (step.On next)
   unfolding asked nodes spelled trimmed summarize-decl root-of entries-of uses-of sum fold-left summary-at root-at
   root-added {names′} {recs′ = recs′} {next = next} {n} few e row u =
-      let words : Same-but 8192 4096 names names′ = same-wider (omega arith) (omega arith) (u .name-words) in
+      let words : Same-but 8192 4096 names names′ = same-wider 8192 4096 (omega arith) (omega arith) (u .name-words) in
       let row′ : Rowed recs recs′ k (with-record k (k .named) (k .entries) n (k .mark + 1)) root-kind line i t query 0 = rw e at row in
       let taken = not-taken st few row′ (λ m l. u .name-words .same-words (taken-column + m) (λ a b. omega arith)) (omega arith) in
       let more = plain st words (u .row-words) (u .fresh) (omega arith) row′ (λ q. omega arith) (omega arith) (λ q. known) (u .out-words)

@@ -20,9 +20,6 @@ pub const REACHED: usize = 2048;
 
 const WORK: usize = 3072;
 
-// The summary code of an ambient root.
-const AMBIENT_ROOT: usize = 2;
-
 // The state of a run: the part of the worklist that the next round scans, the visits, the rounds, and whether the last round
 // triggered a fact.
 pub struct Scan {
@@ -180,7 +177,7 @@ fn starts(recs: &[u32], k: Counts, i: usize) -> bool
     if kind != records::ASSUME {
         return false;
     }
-    if words::at(recs, records::SUMMARY + i) != AMBIENT_ROOT {
+    if words::at(recs, records::SUMMARY + i) != records::AMBIENT_ROOT {
         return false;
     }
     !records::no_ambients(k.options)

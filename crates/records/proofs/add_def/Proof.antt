@@ -1,8 +1,9 @@
 -- `records::add_def` meets its contract.
 use Prim.Native.Nat.{_≤_, _<_}
 use native.Mathlib.Omega.{arith}
+use Rattle.model.specs.Outcome.{working-words}
 use Rattle.records.specs.Adding.{full}
-use Rattle.records.proofs.Funs.{same-all, row-past, small-row, untouched}
+use Rattle.records.proofs.Funs.{row-past, small-row, untouched}
 use Rattle.records.proofs.Uses.{gathered-uses, gathered-over, gathered-past, past-taken, def-repeated, def-crowded, def-over, def-added}
 use borrow.Author.Needs.{needs}
 use Rattle.records.proofs.add_def.Statement.{statement}
@@ -13,6 +14,7 @@ use Rattle.gather.proofs.gather_term.Reads as gather-term-reads
 use Rattle.records.proofs.put_record.Reads as put-record-reads
 use Rattle.records.proofs.with_record.Reads as with-record-reads
 use Rattle.words.proofs.at.Reads as at-reads
+use Rattle.words.proofs.Slices.{same-self}
 
 returns : tie.Need-returns
 returns c = (full (c .if1 .taken), untouched)
@@ -73,7 +75,7 @@ returns-4 c =
     let (st, known) = c .before .before .before .before .before .before .before .before .before .before .before .before .before .before .before .before .before .before .before .before .before .before .before .before .before .before .pre .0 (c .before .before .before .before .before .before .before .before .before .before .before .before .before .before .before .before .before .before .if1 .left) in
     let slices = c .before .before .before .before .before .before .before .before .gather-term .ensures .1 .0 in (
       def-over st _ known (c .before .before .before .before .before .before .before .before .before .before .before .before .before .before .before .before .at .ensures) _ (c .before .before .before .before .before .before .before .before .before .before .before .before .before .before .before .if2 .left) (gathered-over st _ (c .before .before .before .before .before .before .before .before .gather-term .ensures .0) slices (c .enum-told .given .1)),
-      gathered-past st _ (c .before .before .before .before .before .before .before .before .gather-term .ensures .0) slices (same-all 0 16384 _),
+      gathered-past st _ (c .before .before .before .before .before .before .before .before .gather-term .ensures .0) slices (same-self 0 working-words _),
     )
 
 add-names : tie.Need-add-names

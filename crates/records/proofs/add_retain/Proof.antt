@@ -1,8 +1,10 @@
 -- `records::add_retain` meets its contract.
 use Prim.Native.Nat.{_≤_, _<_}
 use native.Mathlib.Omega.{arith}
+use Rattle.model.specs.Outcome.{working-words}
+use Rattle.words.proofs.Slices.{same-self}
 use Rattle.records.specs.Adding.{full}
-use Rattle.records.proofs.Funs.{same-all, untouched, row-past, small-row, retain-crowded, retain-added}
+use Rattle.records.proofs.Funs.{untouched, row-past, small-row, retain-crowded, retain-added}
 use borrow.Author.Needs.{needs}
 use Rattle.records.proofs.add_retain.Statement.{statement}
 use Rattle.records.proofs.add_retain.Tie as tie
@@ -33,7 +35,7 @@ returns-3 c =
     let st = c .before .before .before .before .before .before .before .before .before .before .before .before .before .before .before .pre .0 (c .before .before .before .before .before .before .before .if1 .left) in
     let row = c .before .before .put-record .ensures in (
       retain-added st _ (c .before .before .before .before .before .if2 .left) (c .before .before .before .before .with-record .ensures) row,
-      record { name-words = same-all 0 16384 _; row-words = same-all 0 16384 _; record-words = row-past row; list-words = same-all 0 16384 _ },
+      record { name-words = same-self 0 working-words _; row-words = same-self 0 working-words _; record-words = row-past row; list-words = same-self 0 working-words _ },
     )
 
 pub add-retain-spec : {M : Type 1} → statement M

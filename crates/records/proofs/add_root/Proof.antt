@@ -1,8 +1,10 @@
 -- `records::add_root` meets its contract.
 use Prim.Native.Nat.{_≤_, _<_}
 use native.Mathlib.Omega.{arith}
+use Rattle.model.specs.Outcome.{working-words}
+use Rattle.words.proofs.Slices.{same-self}
 use Rattle.records.specs.Adding.{full}
-use Rattle.records.proofs.Funs.{same-all, row-past, small-row, untouched}
+use Rattle.records.proofs.Funs.{row-past, small-row, untouched}
 use Rattle.records.proofs.Uses.{gathered-uses, gathered-over, gathered-past, root-crowded, root-over, root-added}
 use borrow.Author.Needs.{needs}
 use Rattle.records.proofs.add_root.Statement.{statement}
@@ -51,7 +53,7 @@ returns-3 c =
     let (st, known) = c .before .before .before .before .before .before .before .before .before .before .before .before .before .before .before .before .before .before .before .before .before .before .before .pre .0 (c .before .before .before .before .before .before .before .before .before .before .before .before .before .before .before .if1 .left) in
     let slices = c .before .before .before .before .before .before .before .before .gather-term .ensures .1 .0 in (
       root-over st _ _ known _ (gathered-over st _ (c .before .before .before .before .before .before .before .before .gather-term .ensures .0) slices (c .enum-told .given .1)),
-      gathered-past st _ (c .before .before .before .before .before .before .before .before .gather-term .ensures .0) slices (same-all 0 16384 _),
+      gathered-past st _ (c .before .before .before .before .before .before .before .before .gather-term .ensures .0) slices (same-self 0 working-words _),
     )
 
 add-with-record : tie.Need-add-with-record
