@@ -360,19 +360,19 @@ fn put_fact(
     out: &mut [u32],
     k: Counts,
     line: usize,
-    i: usize,
+    name: usize,
     flag: usize,
     t: usize,
     s: Summary,
 ) -> Counts
-    requires { ⌜ Puttable (now names) (now recs) (now out) k line i flag t s ⌝ }
-    ensures { λ r. ⌜ Puts (now (names .entry)) (now (recs .entry)) (now (out .entry)) (now (names .exit)) (now (recs .exit)) (now (out .exit)) k line i flag t s r ⌝ }
+    requires { ⌜ Puttable (now names) (now recs) (now out) k line name flag t s ⌝ }
+    ensures { λ r. ⌜ Puts (now (names .entry)) (now (recs .entry)) (now (out .entry)) (now (names .exit)) (now (recs .exit)) (now (out .exit)) k line name flag t s r ⌝ }
 {
     let kind = s.kind;
     let word = code(kind);
-    names[TAKEN + i] = (k.records + 1) as u32;
+    names[TAKEN + name] = (k.records + 1) as u32;
     let next = with_record(k, s.named, s.entries, s.uses, s.mark);
-    put_record(recs, k, next, ASSUME, line, i, t, flag, word);
+    put_record(recs, k, next, ASSUME, line, name, t, flag, word);
     chain_entries(names, out, k.entries, s.entries, k.records);
     next
 }
@@ -387,21 +387,22 @@ pub fn add_fact(
     out: &mut [u32],
     k: Counts,
     line: usize,
-    i: usize,
+    name: usize,
     flag: usize,
     t: usize,
 ) -> Step
-    requires { ⌜ (k .named ≤ most-names → Standing (now file) (now names) (now refs) (now rows) (now recs) (now out) k × (i < k .named)) × (t < k .many) × (line < 4294967296) × (flag < 2) ⌝ }
-    ensures record { λ r. ⌜ Adds (now (file .entry)) (now (names .entry)) (now (refs .entry)) (now (rows .entry)) (now (recs .entry)) (now (out .entry)) (now (names .exit)) (now (rows .exit)) (now (recs .exit)) (now (out .exit)) k line (assume (name-of (now (file .entry)) (now (names .entry)) i) (eqb flag 1) t) r ⌝ }
+    requires { ⌜ (k .named ≤ most-names → Standing (now file) (now names) (now refs) (now rows) (now recs) (now out) k × (name < k .named)) × (t < k .many) × (line < 4294967296) × (flag < 2) ⌝ }
+    ensures record { λ r. ⌜ Adds (now (file .entry)) (now (names .entry)) (now (refs .entry)) (now (rows .entry)) (now (recs .entry)) (now (out .entry)) (now (names .exit)) (now (rows .exit)) (now (recs .exit)) (now (out .exit)) k line (assume (name-of (now (file .entry)) (now (names .entry)) name) (eqb flag 1) t) r ⌝ }
     ensures past { λ r. ⌜ Untouched (now (names .entry)) (now (rows .entry)) (now (recs .entry)) (now (out .entry)) (now (names .exit)) (now (rows .exit)) (now (recs .exit)) (now (out .exit)) ⌝ }
 {
+    let count = k.records;
     if model::MOST_NAMES < k.named {
         return Step::Refused(Refusal::Limit);
     }
-    if 0 < words::at(names, TAKEN + i) {
+    if 0 < words::at(names, TAKEN + name) {
         return Step::Refused(Refusal::Repeated);
     }
-    if model::MOST_RECORDS <= k.records {
+    if model::MOST_RECORDS <= count {
         return Step::Refused(Refusal::Limit);
     }
     match summary::summarize_assumption(
@@ -413,13 +414,13 @@ pub fn add_fact(
         k.named,
         k.used,
         k.many,
-        i,
+        name,
         t,
         k.mark,
         k.entries,
         k.uses,
     ) {
-        Summarized::Done(s) => Step::On(put_fact(names, recs, out, k, line, i, flag, t, s)),
+        Summarized::Done(s) => Step::On(put_fact(names, recs, out, k, line, name, flag, t, s)),
         Summarized::Over(_) => Step::Refused(Refusal::Limit),
     }
 }
