@@ -161,7 +161,8 @@ pub record Reading-on (file names refs rows recs out : List ℕ) (k : Counts) (n
   pub short : length file ≤ most-bytes
 
 -- before the first line of cleared slices
-pub on-first : {file names refs rows recs out : List ℕ} → Cleared file names refs rows recs out → Standing file names refs rows recs out no-counts → (length file ≡ 0 → ⊥)
+pub on-first : {file names refs rows recs out : List ℕ} → Cleared file names refs rows recs out → Standing file names refs rows recs out no-counts
+    → (length file ≡ 0 → ⊥)
     → Reading-on file names refs rows recs out no-counts 1 0
 on-first {file} {names} {refs} {rows} {recs} {out} m st h = record {
   run = file-lines file h ∙ ap (λ s. read-lines excluded 1 s (lines file)) (start-state file names refs rows recs out);
@@ -198,7 +199,8 @@ module _ {file names refs rows recs out : List ℕ} {k : Counts} {n from : ℕ} 
     pub on-next : {k′ : Counts} → f ≡ step.On k′ → Reading-on file names′ refs′ rows′ recs′ out′ k′ (n + 1) (end + 1)
     on-next {k′} q = go (rw q at r)
       where
-        go : Reads file names′ refs′ rows′ recs′ out′ n (state-of file names refs rows recs out k) (parse n (k .many) (fields (part file from end))) (step.On k′)
+        go : Reads file names′ refs′ rows′ recs′ out′ n (state-of file names refs rows recs out k) (parse n (k .many) (fields (part file from end)))
+            (step.On k′)
             → Reading-on file names′ refs′ rows′ recs′ out′ k′ (n + 1) (end + 1)
         go (goes-on d y) = record {
           run = o .run ∙ one-line file from end n (state-of file names refs rows recs out k) (line-ended file from end h e l) (line-is ∙ d);
@@ -212,7 +214,8 @@ module _ {file names refs rows recs out : List ℕ} {k : Counts} {n from : ℕ} 
     pub on-refused : {x : Refusal} → f ≡ step.Refused x → Reads-file file names′ refs′ rows′ recs′ out′ (answer.Refused x n)
     on-refused {x} q = go (rw q at r)
       where
-        go : Reads file names′ refs′ rows′ recs′ out′ n (state-of file names refs rows recs out k) (parse n (k .many) (fields (part file from end))) (step.Refused x)
+        go : Reads file names′ refs′ rows′ recs′ out′ n (state-of file names refs rows recs out k) (parse n (k .many) (fields (part file from end)))
+            (step.Refused x)
             → Reads-file file names′ refs′ rows′ recs′ out′ (answer.Refused x n)
         go (stops d) = read-stops {x = x} {n = n}
             (o .run ∙ one-refused file from end n (state-of file names refs rows recs out k) (line-ended file from end h e l) (line-is ∙ d))
@@ -224,10 +227,12 @@ lower m n h e = omega arith
 -- cleared slices stand
 pub cleared-standing : {file names refs rows recs out : List ℕ} → Cleared file names refs rows recs out → Standing file names refs rows recs out no-counts
 cleared-standing {file} {names} {refs} {rows} {recs} {out} m =
-    standing-start file names refs rows recs out (m .short) (m .name-room) (m .reference-room) (m .row-room) (m .record-room) (m .list-room) (m .name-zero) (m .row-zero)
+    standing-start file names refs rows recs out (m .short) (m .name-room) (m .reference-room) (m .row-room) (m .record-room) (m .list-room) (m .name-zero)
+    (m .row-zero)
 
 -- the macro column changes no state
-opened-state : {file names refs rows recs out names′ : List ℕ} {k : Counts} → Standing file names refs rows recs out k → Opens names recs names′ (k .named) (k .named)
+opened-state : {file names refs rows recs out names′ : List ℕ} {k : Counts} → Standing file names refs rows recs out k
+    → Opens names recs names′ (k .named) (k .named)
     → state-of file names refs rows recs out k ≡ state-of file names′ refs rows recs out k
 unfolding state-of terms-in
 opened-state {file} {names} {refs} {rows} {recs} {out} {names′} {k} st o =
@@ -237,10 +242,17 @@ opened-state {file} {names} {refs} {rows} {recs} {out} {names′} {k} st o =
       taken = λ n l. o .same .same-words (taken-column + n) (λ a b. omega arith);
       first = λ n l. o .same .same-words (first-column + n) (λ a b. omega arith);
     } in
-    rw (kept .names, decls-longer st beside, roots-longer st beside, terms-named (name-of file names′) (name-of file names) (kept .name) (st .tables .term-table))
+    rw (
+      kept .names,
+      decls-longer st beside,
+      roots-longer st beside,
+      terms-named (name-of file names′) (name-of file names) (kept .name)
+          (st .tables .term-table),
+    )
 
 -- all lines are read, and the macro column is filled
-pub opened-read : {file names refs rows recs out names₀ refs₀ rows₀ recs₀ out₀ names′ : List ℕ} {k : Counts} {n from : ℕ} → Reading-on file names refs rows recs out k n from
+pub opened-read : {file names refs rows recs out names₀ refs₀ rows₀ recs₀ out₀ names′ : List ℕ} {k : Counts} {n from : ℕ}
+    → Reading-on file names refs rows recs out k n from
     → length file ≤ from → Past names₀ refs₀ rows₀ recs₀ out₀ names refs rows recs out → Opens names recs names′ (k .named) (k .named)
     → File-read file names₀ refs₀ rows₀ recs₀ out₀ names′ refs rows recs out (answer.Read k)
 opened-read {k = k} o h p x = record {

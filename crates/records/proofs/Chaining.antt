@@ -56,7 +56,8 @@ chained-kept {names} {out} {names′} {out′} {filed} c first same next = recor
 
 -- a name taken leaves the chains
 pub chained-taken : {names out : List ℕ} {filed : ℕ} (i v : ℕ) → i < most-names → Chained names out filed → Chained (set names (taken-column + i) v) out filed
-chained-taken {names} i v h c = chained-kept c (λ n l. getD-set-other names (taken-column + i) (first-column + n) v 0 (λ q. omega arith)) (λ e l. refl) (λ e l. refl)
+chained-taken {names} i v h c = chained-kept c (λ n l. getD-set-other names (taken-column + i) (first-column + n) v 0 (λ q. omega arith)) (λ e l. refl)
+    (λ e l. refl)
 
 -- no entry yet
 pub chain-start : {names out : List ℕ} {from : ℕ} (fact : ℕ) → Chained names out from → Chains names out names out from from fact
@@ -121,7 +122,8 @@ module _ {names out names′ out′ : List ℕ} {from e fact : ℕ} (c : Chains 
 
     -- the entry of a name
     pub chain-one : working-words ≤ length names → n < no-name
-        → Chains names out (set names′ (first-column + n) (e + 1)) (set (set out′ (fact-column + e) fact) (next-column + e) (first-entry names′ n)) from (e + 1) fact
+        → Chains names out (set names′ (first-column + n) (e + 1)) (set (set out′ (fact-column + e) fact) (next-column + e) (first-entry names′ n)) from
+        (e + 1) fact
     chain-one name-room h =
         let mid = set out′ (fact-column + e) fact in
         let w = first-entry names′ n in
@@ -132,11 +134,13 @@ module _ {names out names′ out′ : List ℕ} {from e fact : ℕ} (c : Chains 
         λ i d. getD-set-other names′ (first-column + n) i (e + 1) 0 d in
         chain-more (record { same-length = simp length-set; same-words = λ i k. other i (λ z. k (omega arith) (omega arith)) }) (simp length-set)
         (λ i a b. getD-set-other mid (next-column + e) i w 0 b ∙ getD-set-other out′ (fact-column + e) i fact 0 a)
-        (getD-set-other mid (next-column + e) (fact-column + e) w 0 (λ z. omega arith) ∙ getD-set-same out′ (fact-column + e) fact 0 (omega (arith, c .out-length)))
+        (getD-set-other mid (next-column + e) (fact-column + e) w 0 (λ z. omega arith)
+        ∙ getD-set-same out′ (fact-column + e) fact 0 (omega (arith, c .out-length)))
         (λ k. rw (← is) (getD-set-same mid (next-column + e) w 0 (omega (arith, c .out-length))))
         (λ m k q. other (first-column + m) (λ z. q (sym is ∙ omega arith)))
         (λ k. rw (← is) first)
 
 -- the last entry
-pub chain-end : {names out names′ out′ : List ℕ} {from e to fact : ℕ} → Chains names out names′ out′ from e fact → e ≤ to → to ≤ e → Chains names out names′ out′ from to fact
+pub chain-end : {names out names′ out′ : List ℕ} {from e to fact : ℕ} → Chains names out names′ out′ from e fact → e ≤ to → to ≤ e
+    → Chains names out names′ out′ from to fact
 chain-end {names} {out} {names′} {out′} {from} {e} {to} {fact} c a b = let z : e ≡ to = omega arith in subst (λ k. Chains names out names′ out′ from k fact) z c

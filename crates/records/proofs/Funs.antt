@@ -30,10 +30,16 @@ use Rattle.records.proofs.Plain.{spelled-again, kept, not-taken, is-tak
 
 -- slices that stay
 pub untouched : {names rows recs out : List ℕ} → Untouched names rows recs out names rows recs out
-untouched = record { name-words = same-self 0 working-words _; row-words = same-self 0 working-words _; record-words = same-self 0 working-words _; list-words = same-self 0 working-words _ }
+untouched = record {
+  name-words = same-self 0 working-words _;
+  row-words = same-self 0 working-words _;
+  record-words = same-self 0 working-words _;
+  list-words = same-self 0 working-words _;
+}
 
 -- the words past a row stay
-pub row-past : {recs recs′ : List ℕ} {k k′ : Counts} {kind line name term flag code : ℕ} → Rowed recs recs′ k k′ kind line name term flag code → Same-but 0 working-words recs recs′
+pub row-past : {recs recs′ : List ℕ} {k k′ : Counts} {kind line name term flag code : ℕ} → Rowed recs recs′ k k′ kind line name term flag code
+    → Same-but 0 working-words recs recs′
 row-past r = record { same-length = r .same-length; same-words = λ i h. r .past i (past i (λ l. h (omega arith) l)) }
   where
     past : (i : ℕ) → (i < working-words → ⊥) → 10240 ≤ i
@@ -51,7 +57,8 @@ pub fresh-taken : {names rows names′ : List ℕ} {mark : ℕ} → Same-but tak
 fresh-taken s f = record { row-marks = f .row-marks; name-marks = λ n l. rw (s .same-words (8192 + n) (λ a b. omega arith)) (f .name-marks n l) }
 
 -- a row's words fit
-pub small-row : {file names refs rows recs out : List ℕ} {k next : Counts} (named entries uses mark : ℕ) (kind line name term flag code : ℕ) → Standing file names refs rows recs out k
+pub small-row : {file names refs rows recs out : List ℕ} {k next : Counts} (named entries uses mark : ℕ) (kind line name term flag code : ℕ)
+    → Standing file names refs rows recs out k
     → next ≡ with-record k named entries uses mark → entries ≤ most-entries → uses ≤ most-uses
     → kind ≤ root-kind → line < 4294967296 → name < most-names → term < most-terms → flag < 256 → code < 4294967296 → Small k next kind line name term flag code
 small-row {k = k} {next} named entries uses mark kind line name term flag code st e h₁ h₂ h₃ h₄ h₅ h₆ h₇ h₈ = rw e (record {
@@ -75,7 +82,8 @@ module _ {file names refs rows recs out : List ℕ} {k : Counts} (st : Standing 
   retain-new = repeats-none line (state-of file names refs rows recs out k) (retain []) refl
 
   -- as many records as may be
-  pub retain-crowded : {recs′ : List ℕ} → most-records ≤ k .records → Adds file names refs rows recs out names rows recs′ out k line (retain []) (step.Refused refusal.Limit)
+  pub retain-crowded : {recs′ : List ℕ} → most-records ≤ k .records
+      → Adds file names refs rows recs out names rows recs′ out k line (retain []) (step.Refused refusal.Limit)
   unfolding summarize-decl root-of
   retain-crowded h = record-crowded st line (retain []) retain-new h refl
 
@@ -86,7 +94,8 @@ module _ {file names refs rows recs out : List ℕ} {k : Counts} (st : Standing 
   retain-added {recs′} {next} few e row =
       let same = same-self 8192 4096 names in
       let row′ : Rowed recs recs′ k (with-record k (k .named) (k .entries) (k .uses) (k .mark)) retain-kind line 0 0 0 0 = rw e at row in
-      let more = plain st same (same-self 12288 4096 rows) (st .fresh) (omega arith) row′ (λ z. omega arith) (omega arith) (λ z. absurd (z refl)) (same-self (k .uses) (k .uses - k .uses) out)
+      let more = plain st same (same-self 12288 4096 rows) (st .fresh) (omega arith) row′ (λ z. omega arith) (omega arith) (λ z. absurd (z refl))
+      (same-self (k .uses) (k .uses - k .uses) out)
       (omega arith) (st .recorded .few-uses) (λ j a b. absurd (omega arith)) (not-taken st few row′ (λ n l. refl) (omega arith)) in
       rw e (record-added st few more retain-new (record {
         no-ask = refl;
@@ -100,18 +109,21 @@ module _ {file names refs rows recs out : List ℕ} {k : Counts} (st : Standing 
 
 -- ---- fun
 
-module _ {file names refs rows recs out : List ℕ} {k : Counts} (st : Standing file names refs rows recs out k) (line : ℕ) {i : ℕ} (known : i < k .named) {w : ℕ} (is : w ≡ taken-at names i) where
+module _ {file names refs rows recs out : List ℕ} {k : Counts} (st : Standing file names refs rows recs out k) (line : ℕ) {i : ℕ}
+    (known : i < k .named) {w : ℕ} (is : w ≡ taken-at names i) where
   fun-new : w ≤ 0 → repeats excluded line (state-of file names refs rows recs out k) (fun (name-of file names i)) ≡ false
   unfolding summarize-decl collect taken-by
   fun-new h = repeats-free st line (fun (name-of file names i)) known refl (omega arith)
 
   -- the name is taken
-  pub fun-repeated : {names′ recs′ : List ℕ} → 0 < w → Adds file names refs rows recs out names′ rows recs′ out k line (fun (name-of file names i)) (step.Refused refusal.Repeated)
+  pub fun-repeated : {names′ recs′ : List ℕ} → 0 < w → Adds file names refs rows recs out names′ rows recs′ out k line (fun (name-of file names i))
+      (step.Refused refusal.Repeated)
   unfolding summarize-decl collect taken-by
   fun-repeated h = record-repeated st line (fun (name-of file names i)) (repeats-taken st line (fun (name-of file names i)) known refl (omega arith))
 
   -- as many records as may be
-  pub fun-crowded : {names′ recs′ : List ℕ} → w ≤ 0 → most-records ≤ k .records → Adds file names refs rows recs out names′ rows recs′ out k line (fun (name-of file names i)) (step.Refused refusal.Limit)
+  pub fun-crowded : {names′ recs′ : List ℕ} → w ≤ 0 → most-records ≤ k .records
+      → Adds file names refs rows recs out names′ rows recs′ out k line (fun (name-of file names i)) (step.Refused refusal.Limit)
   unfolding summarize-decl root-of
   fun-crowded z h = record-crowded st line (fun (name-of file names i)) (fun-new z) h refl
 
@@ -125,9 +137,11 @@ module _ {file names refs rows recs out : List ℕ} {k : Counts} (st : Standing 
       let put = taken-put {names = names} i (k .records + 1) low in
       let words = same-wider 8192 4096 (omega arith) (omega arith) put in
       let row′ : Rowed recs recs′ k (with-record k (k .named) (k .entries) (k .uses) (k .mark)) fun-kind line i 0 0 0 = rw e at row in
-      let taken = is-taken st few row′ low (omega arith) (getD-set-same names (taken-column + i) (k .records + 1) 0 (omega (arith, st .tables .name-table .room)))
+      let taken = is-taken st few row′ low (omega arith) (getD-set-same names (taken-column + i) (k .records + 1) 0
+      (omega (arith, st .tables .name-table .room)))
       (λ n l d. getD-set-other names (taken-column + i) (taken-column + n) (k .records + 1) 0 (λ q. d (omega arith))) (omega arith) in
-      let more = plain st words (same-self 12288 4096 rows) (fresh-taken put (st .fresh)) (omega arith) row′ (λ q. omega arith) (omega arith) (λ q. known) (same-self (k .uses) (k .uses - k .uses) out)
+      let more = plain st words (same-self 12288 4096 rows) (fresh-taken put (st .fresh)) (omega arith) row′ (λ q. omega arith) (omega arith) (λ q. known)
+      (same-self (k .uses) (k .uses - k .uses) out)
       (omega arith) (st .recorded .few-uses) (λ j a b. absurd (omega arith)) taken in
       rw e (record-added st few more (fun-new z) (record {
         no-ask = refl;

@@ -36,8 +36,10 @@ records-named {out = out} {named} h r = record {
 
 -- ---- the entries of the records
 
-module _ {name name′ : ℕ → Name} {recs out recs′ out′ : List ℕ} {named records filed uses : ℕ} (a : Agree name name′ recs out recs′ out′ named records filed uses)
-    (r : Records recs out named records filed uses) (g : Filing name recs out records filed) (fact : (e : ℕ) → e < filed → entry-fact out′ e ≡ entry-fact out e) where
+module _ {name name′ : ℕ → Name} {recs out recs′ out′ : List ℕ} {named records filed uses : ℕ}
+    (a : Agree name name′ recs out recs′ out′ named records filed uses)
+    (r : Records recs out named records filed uses) (g : Filing name recs out records filed)
+    (fact : (e : ℕ) → e < filed → entry-fact out′ e ≡ entry-fact out e) where
   before-stays : (n : ℕ) → n ≤ records → entries-before recs′ n ≡ entries-before recs n
   unfolding entries-before
   before-stays zero h = refl
@@ -121,7 +123,8 @@ module _ {name name′ : ℕ → Name} {recs out recs′ out′ : List ℕ} {nam
 
 -- ---- the taken column
 
-module _ {names names′ recs recs′ : List ℕ} {records : ℕ} (rows : (c i : ℕ) → i < records → record-word recs′ (c * most-records) i ≡ record-word recs (c * most-records) i)
+module _ {names names′ recs recs′ : List ℕ} {records : ℕ} (rows : (c i : ℕ) → i < records → record-word recs′ (c * most-records) i
+    ≡ record-word recs (c * most-records) i)
     (t : Taken names recs records) (small : (i : ℕ) → i < records → record-kind recs i < retain-kind → record-name recs i < most-names) where
   -- where the column stays
   pub taken-kept : ((n : ℕ) → n < most-names → taken-at names′ n ≡ taken-at names n) → Taken names′ recs′ records

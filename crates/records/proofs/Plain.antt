@@ -57,7 +57,8 @@ module _ {file names refs rows recs out recs′ : List ℕ} {k k′ : Counts} {k
   small i l h = omega (arith, st .recorded .named-in i l (λ z. omega arith), st .tables .name-table .few)
 
   -- a record that takes no name
-  pub not-taken : {names′ : List ℕ} → ((n : ℕ) → n < most-names → taken-at names′ n ≡ taken-at names n) → retain-kind ≤ kind → Taken names′ recs′ (k .records + 1)
+  pub not-taken : {names′ : List ℕ} → ((n : ℕ) → n < most-names → taken-at names′ n ≡ taken-at names n) → retain-kind ≤ kind
+      → Taken names′ recs′ (k .records + 1)
   not-taken same h = taken-none before (st .stocked .taken) small same (λ l. omega (arith, row .kind-is))
 
   -- a record that takes its name, which was free
@@ -67,7 +68,8 @@ module _ {file names refs rows recs out recs′ : List ℕ} {k k′ : Counts} {k
 
 -- ---- the tables with the record
 
-module _ {file names refs rows recs out names′ : List ℕ} {k : Counts} (st : Standing file names refs rows recs out k) (name-words : Same-but 8192 4096 names names′) where
+module _ {file names refs rows recs out names′ : List ℕ} {k : Counts} (st : Standing file names refs rows recs out k)
+    (name-words : Same-but 8192 4096 names names′) where
   -- the names are those before
   pub kept : Kept file names names′ (k .named)
   kept = table-kept (st .tables .name-table) (name-words .same-length) (λ i l. name-words .same-words i (λ a b. omega arith))

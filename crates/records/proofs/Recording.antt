@@ -76,7 +76,8 @@ pub record Agree (name name′ : ℕ → Name) (recs out recs′ out′ : List �
   pub use-words : (j : ℕ) → j < uses → getD out′ j 0 ≡ getD out j 0
   pub entry-words : (e : ℕ) → e < filed → entry-word out′ e ≡ entry-word out e
 
-module _ {name name′ : ℕ → Name} {recs out recs′ out′ : List ℕ} {named records filed uses : ℕ} (a : Agree name name′ recs out recs′ out′ named records filed uses)
+module _ {name name′ : ℕ → Name} {recs out recs′ out′ : List ℕ} {named records filed uses : ℕ}
+    (a : Agree name name′ recs out recs′ out′ named records filed uses)
     (r : Records recs out named records filed uses) where
   -- the name of a record
   name-stays : (i : ℕ) → i < records → (record-kind recs i ≡ retain-kind → ⊥) → name′ (record-name recs′ i) ≡ name (record-name recs i)

@@ -101,9 +101,11 @@ rowed {recs} {recs′} k k′ kind line name term flag code few room is =
     }
 
 -- a row for the same counts and code
-pub small-as : {k k′ next : Counts} {kind line name term flag code word : ℕ} → next ≡ k′ → word ≡ code → Small k k′ kind line name term flag code → Small k next kind line name term flag word
+pub small-as : {k k′ next : Counts} {kind line name term flag code word : ℕ} → next ≡ k′ → word ≡ code → Small k k′ kind line name term flag code
+    → Small k next kind line name term flag word
 small-as e f s = rw (e, f) s
 
-pub rowed-as : {recs recs′ : List ℕ} {k k′ : Counts} {kind line name term flag code word : ℕ} → word ≡ code → Rowed recs recs′ k k′ kind line name term flag word
+pub rowed-as : {recs recs′ : List ℕ} {k k′ : Counts} {kind line name term flag code word : ℕ} → word ≡ code
+    → Rowed recs recs′ k k′ kind line name term flag word
     → Rowed recs recs′ k k′ kind line name term flag code
 rowed-as f s = rw f at s

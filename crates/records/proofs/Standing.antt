@@ -28,8 +28,10 @@ use Rattle.records.proofs.Keeping.{records-named, filing-kept, taken-ke
 
 -- ---- before the first line
 
-module _ (file names refs rows recs out : List ℕ) (short : length file ≤ 65535) (name-room : working-words ≤ length names) (ref-room : working-words ≤ length refs) (row-room : working-words ≤ length rows)
-    (record-room : working-words ≤ length recs) (out-room : working-words ≤ length out) (names-zero : (i : ℕ) → i < working-words → getD names i 0 ≡ 0) (rows-zero : (i : ℕ) → i < working-words → getD rows i 0 ≡ 0) where
+module _ (file names refs rows recs out : List ℕ) (short : length file ≤ 65535) (name-room : working-words ≤ length names)
+    (ref-room : working-words ≤ length refs) (row-room : working-words ≤ length rows)
+    (record-room : working-words ≤ length recs) (out-room : working-words ≤ length out) (names-zero : (i : ℕ) → i < working-words → getD names i 0 ≡ 0)
+    (rows-zero : (i : ℕ) → i < working-words → getD rows i 0 ≡ 0) where
   stocked-start : Stocked file names recs out 0 0
   unfolding entries-before newest
   stocked-start = record {
@@ -95,7 +97,8 @@ pub record Beside (file names names′ : List ℕ) (named : ℕ) : Type 0 where
   pub taken : (n : ℕ) → n < most-names → taken-at names′ n ≡ taken-at names n
   pub first : (n : ℕ) → n < most-names → first-entry names′ n ≡ first-entry names n
 
-module _ {file names refs rows recs out names′ : List ℕ} {k : Counts} (st : Standing file names refs rows recs out k) (b : Beside file names names′ (k .named)) where
+module _ {file names refs rows recs out names′ : List ℕ} {k : Counts} (st : Standing file names refs rows recs out k)
+    (b : Beside file names names′ (k .named)) where
   -- the records stay
   agree : Agree (name-of file names) (name-of file names′) recs out recs out (k .named) (k .records) (k .entries) (k .uses)
   agree = record { same = b .same; rows = λ c i h. refl; out-length = refl; use-words = λ j h. refl; entry-words = λ e h. refl }
@@ -149,7 +152,8 @@ macro-same {names} {names′} recs named n few low s =
 
 module _ {file names refs rows recs out : List ℕ} {k : Counts} (st : Standing file names refs rows recs out k) where
   -- what filling it asks
-  pub standing-opens : (k .named ≤ most-names) × (working-words ≤ length names) × (working-words ≤ length recs) × ((n : ℕ) → n < k .named → taken-at names n ≤ most-records)
+  pub standing-opens : (k .named ≤ most-names) × (working-words ≤ length names) × (working-words ≤ length recs)
+      × ((n : ℕ) → n < k .named → taken-at names n ≤ most-records)
   standing-opens =
       let few = st .tables .name-table .few in
       (few, st .tables .name-table .room, st .recorded .room, λ n l. omega (arith, st .stocked .taken .low n (omega arith), st .recorded .few))

@@ -52,14 +52,17 @@ named-here : {file names : List ℕ} {named : ℕ} → Table file names named �
 named-here table = record { distinct = distinct table; excluded = excluded-exact table }
 
 module _ {file names refs rows recs out names′ rows′ out′ : List ℕ} {k : Counts} (st : Standing file names refs rows recs out k) (t : ℕ) {r : Walked}
-    (gathers : (exclude : List Name) (name : ℕ → Name) → Named exclude name names (k .named) → Gathers name (k .named) (free-top-level-names exclude (terms-of name refs rows (k .used) (k .many)) t) (k .uses) most-uses out′ r)
+    (gathers : (exclude : List Name) (name : ℕ → Name) → Named exclude name names (k .named) → Gathers name (k .named)
+    (free-top-level-names exclude (terms-of name refs rows (k .used) (k .many)) t) (k .uses) most-uses out′ r)
     (slices : Gathered names rows out names′ rows′ out′ (k .mark) (k .uses) most-uses r) where
   -- all the names have room
-  pub gathered-uses : {n : ℕ} → r ≡ walks.Names n → Uses file names rows out names′ rows′ out′ k (free-top-level-names excluded (terms-in file names refs rows (k .used) (k .many)) t) n
+  pub gathered-uses : {n : ℕ} → r ≡ walks.Names n → Uses file names rows out names′ rows′ out′ k
+      (free-top-level-names excluded (terms-in file names refs rows (k .used) (k .many)) t) n
   unfolding terms-in ended
   gathered-uses {n} e = go (rw e at (gathers excluded (name-of file names) (named-here (st .tables .name-table)))) (rw e at slices)
     where
-      go : Gathers (name-of file names) (k .named) (free-top-level-names excluded (terms-of (name-of file names) refs rows (k .used) (k .many)) t) (k .uses) most-uses out′ (walks.Names n)
+      go : Gathers (name-of file names) (k .named) (free-top-level-names excluded (terms-of (name-of file names) refs rows (k .used) (k .many)) t)
+          (k .uses) most-uses out′ (walks.Names n)
           → Gathered names rows out names′ rows′ out′ (k .mark) (k .uses) most-uses (walks.Names n)
           → Uses file names rows out names′ rows′ out′ k (free-top-level-names excluded (terms-of (name-of file names) refs rows (k .used) (k .many)) t) n
       go (all-names is count fits small) s = record {
@@ -78,7 +81,8 @@ module _ {file names refs rows recs out names′ rows′ out′ : List ℕ} {k :
   unfolding terms-in
   gathered-over e = go (rw e at (gathers excluded (name-of file names) (named-here (st .tables .name-table))))
     where
-      go : Gathers (name-of file names) (k .named) (free-top-level-names excluded (terms-of (name-of file names) refs rows (k .used) (k .many)) t) (k .uses) most-uses out′ walks.Full
+      go : Gathers (name-of file names) (k .named) (free-top-level-names excluded (terms-of (name-of file names) refs rows (k .used) (k .many)) t)
+          (k .uses) most-uses out′ walks.Full
           → most-uses < k .uses + length (free-top-level-names excluded (terms-of (name-of file names) refs rows (k .used) (k .many)) t)
       go (no-room h small) = omega arith
 
@@ -120,7 +124,8 @@ module _ {file names refs rows recs out names′ rows′ recs′ out′ names″
 
 -- ---- def
 
-module _ {file names refs rows recs out : List ℕ} {k : Counts} (st : Standing file names refs rows recs out k) (line : ℕ) {i : ℕ} (known : i < k .named) {w : ℕ} (is : w ≡ taken-at names i) (t : ℕ) where
+module _ {file names refs rows recs out : List ℕ} {k : Counts} (st : Standing file names refs rows recs out k) (line : ℕ) {i : ℕ}
+    (known : i < k .named) {w : ℕ} (is : w ≡ taken-at names i) (t : ℕ) where
   def-new : w ≤ 0 → repeats excluded line (state-of file names refs rows recs out k) (def (name-of file names i) t) ≡ false
   unfolding summarize-decl collect taken-by
   def-new h = repeats-free st line (def (name-of file names i) t) known refl (omega arith)
@@ -133,7 +138,8 @@ module _ {file names refs rows recs out : List ℕ} {k : Counts} (st : Standing 
 
   module _ {names′ rows′ recs′ out′ : List ℕ} (free : w ≤ 0) where
     -- as many records as may be
-    pub def-crowded : most-records ≤ k .records → Adds file names refs rows recs out names′ rows′ recs′ out′ k line (def (name-of file names i) t) (step.Refused refusal.Limit)
+    pub def-crowded : most-records ≤ k .records → Adds file names refs rows recs out names′ rows′ recs′ out′ k line (def (name-of file names i) t)
+        (step.Refused refusal.Limit)
     unfolding summarize-decl root-of
     def-crowded h = record-crowded st line (def (name-of file names i) t) (def-new free) h refl
 
@@ -147,7 +153,8 @@ module _ {file names refs rows recs out : List ℕ} {k : Counts} (st : Standing 
     pub def-added : {next : Counts} {n : ℕ} → k .records < most-records → next ≡ with-record k (k .named) (k .entries) n (k .mark + 1)
         → Rowed recs recs′ k next def-kind line i t 0 0
         → Uses file names rows out names′ rows′ out′ k (free-top-level-names excluded (terms-in file names refs rows (k .used) (k .many)) t) n
-        → Adds file names refs rows recs out (set names′ (taken-column + i) (k .records + 1)) rows′ recs′ out′ k line (def (name-of file names i) t) (step.On next)
+        → Adds file names refs rows recs out (set names′ (taken-column + i) (k .records + 1)) rows′ recs′ out′ k line (def (name-of file names i) t)
+        (step.On next)
     unfolding asked nodes spelled trimmed summarize-decl root-of entries-of uses-of sum fold-left summary-at root-at decl-at
     def-added {next} {n} few e row u =
         let low : i < most-names = omega (arith, st .tables .name-table .few) in
@@ -160,7 +167,8 @@ module _ {file names refs rows recs out : List ℕ} {k : Counts} (st : Standing 
         let row′ : Rowed recs recs′ k (with-record k (k .named) (k .entries) n (k .mark + 1)) def-kind line i t 0 0 = rw e at row in
         let taken = is-taken st few row′ low (omega arith)
         (getD-set-same names′ (taken-column + i) (k .records + 1) 0 (omega (arith, st .tables .name-table .room, marks .same-length)))
-        (λ m l d. getD-set-other names′ (taken-column + i) (taken-column + m) (k .records + 1) 0 (λ q. d (omega arith)) ∙ marks .same-words (taken-column + m) (λ a b. omega arith))
+        (λ m l d. getD-set-other names′ (taken-column + i) (taken-column + m) (k .records + 1) 0 (λ q. d (omega arith))
+        ∙ marks .same-words (taken-column + m) (λ a b. omega arith))
         (omega arith) in
         let more = plain st words (u .row-words) (fresh-taken put (u .fresh)) (omega arith) row′ (λ q. omega arith) (omega arith) (λ q. known) (u .out-words)
         (omega (arith, u .size)) (u .fits) (u .words) taken in
@@ -176,24 +184,28 @@ module _ {file names refs rows recs out : List ℕ} {k : Counts} (st : Standing 
 
 -- ---- root
 
-module _ {file names refs rows recs out : List ℕ} {k : Counts} (st : Standing file names refs rows recs out k) (line query : ℕ) {i : ℕ} (known : i < k .named) (t : ℕ) where
+module _ {file names refs rows recs out : List ℕ} {k : Counts} (st : Standing file names refs rows recs out k) (line query : ℕ) {i : ℕ} (known : i < k .named)
+    (t : ℕ) where
   root-new : repeats excluded line (state-of file names refs rows recs out k) (root query (name-of file names i) t) ≡ false
   unfolding state-of summarize-decl collect taken-by
   root-new = repeats-none line (state-of file names refs rows recs out k) (root query (name-of file names i) t) refl
 
   -- as many records as may be
-  pub root-crowded : {names′ rows′ recs′ out′ : List ℕ} → most-records ≤ k .records → Adds file names refs rows recs out names′ rows′ recs′ out′ k line (root query (name-of file names i) t) (step.Refused refusal.Limit)
+  pub root-crowded : {names′ rows′ recs′ out′ : List ℕ} → most-records ≤ k .records
+      → Adds file names refs rows recs out names′ rows′ recs′ out′ k line (root query (name-of file names i) t) (step.Refused refusal.Limit)
   unfolding summarize-decl root-of
   root-crowded h = record-crowded st line (root query (name-of file names i) t) root-new h refl
 
   -- more uses than may be
-  pub root-over : {names′ rows′ recs′ out′ : List ℕ} → most-uses < k .uses + length (free-top-level-names excluded (terms-in file names refs rows (k .used) (k .many)) t)
+  pub root-over : {names′ rows′ recs′ out′ : List ℕ} → most-uses < k .uses
+      + length (free-top-level-names excluded (terms-in file names refs rows (k .used) (k .many)) t)
       → Adds file names refs rows recs out names′ rows′ recs′ out′ k line (root query (name-of file names i) t) (step.Refused refusal.Limit)
   unfolding add-line state-of summarize-decl root-of uses-of sum
   root-over h = record-beyond st line (root query (name-of file names i) t) root-new (many-uses (omega arith))
 
   -- the record is there
-  pub root-added : {names′ rows′ recs′ out′ : List ℕ} {next : Counts} {n : ℕ} → k .records < most-records → next ≡ with-record k (k .named) (k .entries) n (k .mark + 1)
+  pub root-added : {names′ rows′ recs′ out′ : List ℕ} {next : Counts} {n : ℕ} → k .records < most-records
+      → next ≡ with-record k (k .named) (k .entries) n (k .mark + 1)
       → Rowed recs recs′ k next root-kind line i t query 0
       → Uses file names rows out names′ rows′ out′ k (free-top-level-names excluded (terms-in file names refs rows (k .used) (k .many)) t) n
       → Adds file names refs rows recs out names′ rows′ recs′ out′ k line (root query (name-of file names i) t) (step.On next)
