@@ -266,8 +266,7 @@ module _ {file names refs rows recs out names₁ rows′ out₁ names′ recs′
     row .entries-to,
     row .code-is,
     same i known,
-    code-kind
-        (x .kind),
+    code-kind (x .kind),
     kind-is,
     sets,
   )
