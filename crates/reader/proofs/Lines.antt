@@ -246,8 +246,7 @@ opened-state {file} {names} {refs} {rows} {recs} {out} {names′} {k} st o =
       kept .names,
       decls-longer st beside,
       roots-longer st beside,
-      terms-named (name-of file names′) (name-of file names) (kept .name)
-          (st .tables .term-table),
+      terms-named (name-of file names′) (name-of file names) (kept .name) (st .tables .term-table),
     )
 
 -- all lines are read, and the macro column is filled

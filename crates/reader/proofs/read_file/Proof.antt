@@ -124,18 +124,21 @@ returns-3 c =
 
 add-n : tie.Need-add-n Inv-loop μ-loop
 add-n c =
-    let at-loop = c .before .before .before .before .before .before .before .before .before .before .before .before .before .before .before .before .before .before .before .before .before .before in
+    let up = c .before .before .before .before .before .before .before .before .before .before .before .before in
+    let at-loop = up .before .before .before .before .before .before .before .before .before .before in
     omega (arith, at-loop .loop .inv .0 .counts, at-loop .loop .inv .0 .inside, at-loop .loop .inv .0 .short)
 
 add-from : tie.Need-add-from Inv-loop μ-loop
 add-from c =
-    let at-find = c .before .before .before .before .before .before .before .before .before .before .before .before .before .before .before .before .before .before .before .before in
+    let up = c .before .before .before .before .before .before .before .before .before .before .before .before in
+    let at-find = up .before .before .before .before .before .before .before .before in
     let at-loop = at-find .before .before in
     omega (arith, mark-to _ _ _ _ _ (at-find .find .ensures) (at-loop .loop .inv .0 .inside) (omega arith), at-loop .loop .inv .0 .short)
 
 loop-less : tie.Need-loop-less Inv-loop μ-loop
 loop-less c =
-    let at-find = c .before .before .before .before .before .before .before .before .before .before .before .before .before .before .before .before .before .before .before .before in
+    let up = c .before .before .before .before .before .before .before .before .before .before .before .before in
+    let at-find = up .before .before .before .before .before .before .before .before in
     let at-loop-test = at-find .before in
     omega (arith, mark-from _ _ _ _ _ (at-find .find .ensures), at-loop-test .loop-test .taken)
 
