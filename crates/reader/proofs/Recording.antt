@@ -83,8 +83,10 @@ pub line-not : (file names refs rows recs out : List ℕ) (k : Counts) (n : ℕ)
 line-not file names refs rows recs out k n x e = record { reads = reads-refused x e; past = past-none names refs rows recs out }
 
 -- what the fields say, said otherwise
-pub line-said : {file names refs rows recs out names′ refs′ rows′ recs′ out′ : List ℕ} {k : Counts} {n : ℕ} {said other : Result Content} {r : Step} → said ≡ other
-    → Line-read file names refs rows recs out names′ refs′ rows′ recs′ out′ k n other r → Line-read file names refs rows recs out names′ refs′ rows′ recs′ out′ k n said r
+pub line-said : {file names refs rows recs out names′ refs′ rows′ recs′ out′ : List ℕ} {k : Counts} {n : ℕ} {said other : Result Content} {r : Step}
+    → said ≡ other
+    → Line-read file names refs rows recs out names′ refs′ rows′ recs′ out′ k n other r
+    → Line-read file names refs rows recs out names′ refs′ rows′ recs′ out′ k n said r
 line-said e l = rw e l
 
 -- what a line of a kind says
@@ -106,7 +108,8 @@ module _ (count : ℕ) (fs : List Field) {k : Kind} where
   kind-none e = rw e
 
 -- a record line by its kind
-pub record-line : {file names refs rows recs out names′ refs′ rows′ recs′ out′ : List ℕ} {k : Counts} {n : ℕ} (count : ℕ) (fs : List Field) {kind known : RecordKind} {r : Step} → kind ≡ known
+pub record-line : {file names refs rows recs out names′ refs′ rows′ recs′ out′ : List ℕ} {k : Counts} {n : ℕ} (count : ℕ)
+    (fs : List Field) {kind known : RecordKind} {r : Step} → kind ≡ known
     → Line-read file names refs rows recs out names′ refs′ rows′ recs′ out′ k n (content (record-kind known) count fs) r
     → Line-read file names refs rows recs out names′ refs′ rows′ recs′ out′ k n (content (record-kind kind) count fs) r
 record-line count fs e l = rw e l
@@ -122,10 +125,12 @@ module _ {file names refs rows recs out : List ℕ} {k : Counts} (n : ℕ) {c : 
 
   module _ {names′ : List ℕ} {named′ i : ℕ} {last : Cursor} (r : Name-read file names names′ (k .named) named′ i c last) where
     -- a field after the name is refused
-    pub rest-not : {said : Result Content} (x : Refusal) → said ≡ refused x → Line-read file names refs rows recs out names′ refs rows recs out k n said (step.Refused x)
+    pub rest-not : {said : Result Content} (x : Refusal) → said ≡ refused x
+        → Line-read file names refs rows recs out names′ refs rows recs out k n said (step.Refused x)
     rest-not x e = record { reads = reads-refused x e; past = past-names refs rows recs out (spelled-past (r .spelled .longer)) }
 
-    module _ {names″ rows″ recs″ out″ : List ℕ} {next : Counts} {s : Step} (q : next ≡ with-names k named′) (u : Untouched names′ rows recs out names″ rows″ recs″ out″) where
+    module _ {names″ rows″ recs″ out″ : List ℕ} {next : Counts} {s : Step} (q : next ≡ with-names k named′)
+        (u : Untouched names′ rows recs out names″ rows″ recs″ out″) where
       -- a `fun`
       pub fun-line : last .end < last .at → Adds file names′ refs rows recs out names″ rows″ recs″ out″ next n (fun (name-of file names′ i)) s
           → Line-read file names refs rows recs out names″ refs rows″ recs″ out″ k n (content kind.Fun (k .many) (fields-left file c)) s

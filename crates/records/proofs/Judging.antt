@@ -96,7 +96,8 @@ line-judged n s bytes = go (parse n (length (s .terms)) (fields bytes))
     pick false c f = refl
 
     go : (said : Result Content)
-        → (said >>= λ c. cond (repeats excluded n s c) (refused refusal.Repeated) (ok c) >>= λ d. under-limits (limits (add-line excluded n s d)) (add-line excluded n s d))
+        → (said >>= λ c. cond (repeats excluded n s c) (refused refusal.Repeated) (ok c) >>= λ d. under-limits (limits (add-line excluded n s d))
+        (add-line excluded n s d))
         ≡ (said >>= judge n s)
     go (ok c) = pick (repeats excluded n s c) c (λ d. under-limits (limits (add-line excluded n s d)) (add-line excluded n s d))
     go (refused x) = refl
@@ -164,11 +165,13 @@ module _ (n : ℕ) (s : State) (c : Content) where
   repeats-none e = rw e
 
   -- a line that takes a name
-  pub repeats-one : {m : Name} → collect taken-by (summarize-decl excluded (s .terms) n c) ≡ m ∷ [] → repeats excluded n s c ≡ (mem m (collect taken-by (s .decls)) || false)
+  pub repeats-one : {m : Name} → collect taken-by (summarize-decl excluded (s .terms) n c) ≡ m ∷ []
+      → repeats excluded n s c ≡ (mem m (collect taken-by (s .decls)) || false)
   unfolding repeats any
   repeats-one e = rw e
 
-module _ {file names refs rows recs out : List ℕ} {k : Counts} (st : Standing file names refs rows recs out k) (line : ℕ) (c : Content) {i : ℕ} (known : i < k .named)
+module _ {file names refs rows recs out : List ℕ} {k : Counts} (st : Standing file names refs rows recs out k) (line : ℕ) (c : Content) {i : ℕ}
+    (known : i < k .named)
     (takes : collect taken-by (summarize-decl excluded (terms-in file names refs rows (k .used) (k .many)) line c) ≡ name-of file names i ∷ []) where
   -- a taken name is repeated
   pub repeats-taken : 0 < taken-at names i → repeats excluded line (state-of file names refs rows recs out k) c ≡ true

@@ -45,7 +45,10 @@ loop-less : tie.Need-loop-less Inv-loop μ-loop
 loop-less c = omega arith
 
 loop-again : tie.Need-loop-again Inv-loop μ-loop
-loop-again c = (c .before .before .loop .inv .0 ∙ put-on _ _ _ _ (c .before .loop-test .taken), search needs, omega arith)
+loop-again c =
+    let at-loop-test = c .before in
+    let at-loop = at-loop-test .before in
+    (at-loop .loop .inv .0 ∙ put-on _ _ _ _ (at-loop-test .loop-test .taken), search needs, omega arith)
 
 same-length : tie.Need-same-length Inv-loop μ-loop
 same-length c = omega arith
