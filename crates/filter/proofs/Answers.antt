@@ -32,11 +32,12 @@ use Rattle.reader.specs.Lines.{Reads-file, all-read, read-stops}
 use Rattle.reader.specs.declared.Reading.{Reading as Reading′}
 use Rattle.reader.specs.declared.Reading.the-variants as reading
 use Rattle.scan.specs.Held.{upto}
+use Rattle.scan.specs.Steps.{run-end}
 use Rattle.scan.specs.Tables.{held-of}
 use Rattle.scan.specs.Runs.{run-of, Ran}
 use Rattle.scan.specs.declared.Scan.{Scan}
 use Rattle.scan.proofs.Joining.{holds}
-use Rattle.prune.specs.Loops.{kept-column}
+use Rattle.prune.specs.Loops.{kept-column, prune-end}
 use Rattle.prune.specs.Kept.{reached-of, kept-of, Run-over, Pruned}
 use Rattle.filter.specs.Call.{lines-of, Replied, outcome-of, Runs}
 
@@ -168,6 +169,11 @@ run-over r s = record {
   only-facts = s .only-facts;
   fits = rw (s .reached) (r .fits);
 }
+
+-- the run and the list write no word past those that a call uses
+pub slice-rest : {before mid after : List ℕ} → Same-but 0 run-end before mid → Same-but 0 prune-end mid after → Same-but 0 working-words before after
+slice-rest s t =
+    same-then (same-wider 0 working-words (omega arith) (omega arith) s) (same-wider 0 working-words (omega arith) (omega arith) t)
 
 -- a part of a slice from a place on
 part-take : (l : List ℕ) (a n : ℕ) → part l a (a + n) ≡ take n (drop a l)

@@ -17,7 +17,7 @@ use Rattle.names.specs.Table.{ranked}
 use Rattle.words.specs.Slices.{Same-but, Zeroed}
 use Rattle.records.specs.States.{uses-at, ask-of}
 use Rattle.prune.specs.Listing.{from, is-goal, reached-records, fact-records, goal-records, items, decl-records, item-stamp, kept-records}
-use Rattle.prune.specs.Loops.{kept-column, most-stamps, stamp-in, Index, Lists, noted, Notes, Linked, Links, Listable, Listed}
+use Rattle.prune.specs.Loops.{kept-column, prune-end, most-stamps, stamp-in, Index, Lists, noted, Notes, Linked, Links, Listable, Listed}
 use Rattle.prune.proofs.Writing.{sets-below, sets-above, lists-length}
 use Rattle.prune.proofs.Noting.{notes-then, uses-small, noted-length, noted-append, noted-out, noted-stamped, stamped-low}
 use Rattle.prune.proofs.Chains.{linked-same}
@@ -120,7 +120,7 @@ module _ {names recs out w : List ℕ} {k : Counts} (t : Listable names recs out
         ∙ part-sets w kept-column (fact-records names recs w k) (omega arith)
 
     -- and nothing else changes
-    facts-same : Same-but 0 working-words w w₁
+    facts-same : Same-but 0 prune-end w w₁
     facts-same = record {
       same-length = lists-length p;
       same-words = λ i h.
@@ -129,11 +129,14 @@ module _ {names recs out w : List ℕ} {k : Counts} (t : Listable names recs out
           ∙ sets-above w kept-column (fact-records names recs w k) i (omega (arith, h (omega arith)));
     }
 
+    facts-below : (i : ℕ) → i < kept-column → getD w₁ i 0 ≡ getD w i 0
+    facts-below i h = ap (λ (v : List ℕ). getD v i 0) (p .written) ∙ sets-below w kept-column (fact-records names recs w k) i h
+
     -- without option 4 that is all
     pub listed-facts : {x : Bool} → x ≡ prune-decls (ask-of k) → x ≡ false → Listed names recs out w w₁ k f
     listed-facts e z =
         let q = kept-off names recs out w k (sym e ∙ z) in
-        record { records = facts-first ∙ sym q; count = facts-count ∙ ap length (sym q); same = facts-same }
+        record { records = facts-first ∙ sym q; count = facts-count ∙ ap length (sym q); same = facts-same; run-same = λ i g h. facts-below i h }
 
     -- ---- the met column cleared
 
@@ -308,9 +311,13 @@ module _ {names recs out w : List ℕ} {k : Counts} (t : Listable names recs out
                     same = record {
                       same-length = lists-length d ∙ size;
                       same-words = λ i h.
-                          let far : working-words ≤ i = omega (arith, h (omega arith)) in
+                          let far : prune-end ≤ i = omega (arith, h (omega arith)) in
                           ap (λ (v : List ℕ). getD v i 0) (d .written) ∙ sets-above w₅ (kept-column + f) D i (omega arith)
                           ∙ l .same .same-words i (λ a b. omega arith) ∙ noted-same i (omega arith)
                           ∙ z .same .same-words i (λ a b. omega arith) ∙ facts-same .same-words i h;
                     };
+                    run-same = λ i g h.
+                        ap (λ (v : List ℕ). getD v i 0) (d .written) ∙ sets-below w₅ (kept-column + f) D i (omega arith)
+                        ∙ l .same .same-words i (λ a b. omega arith) ∙ noted-same i (omega arith)
+                        ∙ z .same .same-words i (λ a b. omega arith) ∙ facts-below i h;
                   }

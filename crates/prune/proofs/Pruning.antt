@@ -11,9 +11,9 @@ use Rattle.model.specs.declared.Counts.{Counts}
 use Rattle.model.proofs.PartLaws.{part-intro}
 use Rattle.records.specs.Columns.{record-line}
 use Rattle.prune.specs.Listing.{kept-records}
-use Rattle.prune.specs.Loops.{kept-column, Lists, Listable, Listed}
+use Rattle.prune.specs.Loops.{kept-column, prune-end, Lists, Listable, Listed}
 use Rattle.prune.specs.Kept.{kept-of, Run-over, Pruned}
-use Rattle.prune.proofs.Writing.{sets-above, lists-length}
+use Rattle.prune.proofs.Writing.{sets-below, sets-above, lists-length}
 use Rattle.prune.proofs.Gathering.{part-sets}
 use Rattle.prune.proofs.Linking.{kept-lines, records-small}
 
@@ -81,7 +81,9 @@ module _ {file names recs out w : List ℕ} {k : Counts} (t : Run-over file name
           same = record {
             same-length = lists-length p ∙ l .same .same-length;
             same-words = λ i h.
-                let far : working-words ≤ i = omega (arith, h (omega arith)) in
+                let far : prune-end ≤ i = omega (arith, h (omega arith)) in
                 ap (λ (x : List ℕ). getD x i 0) (p .written) ∙ sets-above v kept-column lines i (omega arith) ∙ l .same .same-words i h;
           };
+          run-same = λ i g h.
+              ap (λ (x : List ℕ). getD x i 0) (p .written) ∙ sets-below v kept-column lines i h ∙ l .run-same i g h;
         }

@@ -18,7 +18,7 @@ use Rattle.scan.specs.Held.{upto}
 use Rattle.scan.proofs.Numbers.{upto-elim}
 use Rattle.scan.proofs.Visited.{newest-at}
 use Rattle.prune.specs.Listing.{one, picked, kind-at, stamp-records, kind-records, decl-records}
-use Rattle.prune.specs.Loops.{kept-column, below-column, last-column, most-stamps, stamp-in, Index, Lists, Linked}
+use Rattle.prune.specs.Loops.{kept-column, below-column, highest-column, most-stamps, stamp-in, Index, Lists, Linked}
 use Rattle.prune.proofs.Chains.{linked-same}
 use Rattle.prune.proofs.Picking.{collect-next, collect-end}
 use Rattle.prune.proofs.Writing.{Going, going-start, going-length, going-below, going-above, going-end, going-list, lists-both, list-room, pick-none, pick-one, pick-room}
@@ -71,7 +71,7 @@ module _ (names recs : List ℕ) (kind : ℕ) (f : ℕ → ℕ) where
       ∙ ap (λ (l : List ℕ). one (kind-at names recs kind (p - 1)) ++ l) (up-to-newest s (p - 1) q n)
 
 module _ {names recs : List ℕ} {f : ℕ → ℕ} {named kind : ℕ} {w : List ℕ} (c : Linked f named w) where
-  pub chain-start : {s p : ℕ} (m : ℕ) → 0 < s → s ≤ most-stamps → p ≡ getD w (last-column + (s - 1)) 0
+  pub chain-start : {s p : ℕ} (m : ℕ) → 0 < s → s ≤ most-stamps → p ≡ getD w (highest-column + (s - 1)) 0
       → Listed-to names recs f named kind s w m w m p
   chain-start {s} {p} m h l e =
       let z : s - 1 + 1 ≡ s = omega arith in

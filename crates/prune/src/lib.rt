@@ -20,9 +20,9 @@ pub const KEPT: usize = 5120;
 
 const BELOW: usize = 6144;
 
-const LAST: usize = 8192;
+const HIGHEST: usize = 8192;
 
-// How many stamps there may be: the kept facts and the roots.
+// The room for stamps: the kept facts and the roots.
 const MOST_STAMPS: usize = 2048;
 
 // The summary codes of ambients: the first, and the first past them.
@@ -156,7 +156,7 @@ fn is_goal(recs: &[u32], k: Counts, i: usize) -> bool
     words::at(recs, records::FLAG + i) == k.query
 }
 
-// Notes the names of the roots of the query, by line; says the last stamp.
+// Notes the names of the roots of the query, by line, and gives the last stamp.
 fn note_roots(recs: &[u32], out: &[u32], run: &mut [u32], k: Counts, m: usize) -> usize
     requires { ⌜ Notes (now recs) (now out) (now run) k × (m ≤ most-records) ⌝ }
     ensures noted { λ s. ⌜ now (run .exit) ≡ noted (m + 1) (now (run .entry)) (map (uses-at (now (recs .entry)) (now (out .entry))) (goal-records (now (recs .entry)) k)) ⌝ }
@@ -182,7 +182,7 @@ fn link_names(names: &[u32], run: &mut [u32], named: usize)
     requires { ⌜ Index (now names) named × (working-words ≤ length (now run)) × ((r : ℕ) → r < named → stamp-in (now names) (now run) r ≤ most-stamps) ⌝ }
     ensures { λ r. ⌜ Links (now (names .entry)) (now (run .entry)) (now (run .exit)) named ⌝ }
 {
-    words::clear(run, LAST, MOST_STAMPS);
+    words::clear(run, HIGHEST, MOST_STAMPS);
     let mut r = 0;
     while r < named {
         let rank = r;
@@ -191,8 +191,8 @@ fn link_names(names: &[u32], run: &mut [u32], named: usize)
         if stamp == 0 {
             continue;
         }
-        run[BELOW + rank] = run[LAST + (stamp - 1)];
-        run[LAST + (stamp - 1)] = r as u32;
+        run[BELOW + rank] = run[HIGHEST + (stamp - 1)];
+        run[HIGHEST + (stamp - 1)] = r as u32;
     }
 }
 
@@ -225,7 +225,7 @@ fn list_stamp(
     ensures { λ to. ⌜ Lists (now (run .entry)) m (stamp-records (now (names .entry)) (now (recs .entry)) named (stamp-in (now (names .entry)) (now (run .entry))) kind stamp) (now (run .exit)) to ⌝ }
 {
     let mut to = m;
-    let mut next = words::at(run, LAST + (stamp - 1));
+    let mut next = words::at(run, HIGHEST + (stamp - 1));
     while next != 0 {
         let t = kind_at(names, recs, named, kind, next - 1);
         next = words::at(run, BELOW + (next - 1));
