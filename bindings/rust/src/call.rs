@@ -2,14 +2,20 @@
 
 use crate::Refusal;
 
-/// The answer of the C function, as `wimplejade.h` declares it.
+/// The answer as the library gives it. After a refusal `kept`, `visits` and `rounds` are 0.
 #[repr(C)]
-struct Answer {
-    refusal: u32,
-    place: u32,
-    kept: u32,
-    visits: u32,
-    rounds: u32,
+#[derive(Clone, Copy, Debug, PartialEq, Eq)]
+pub struct Answer {
+    /// The number of the refusal, 0 if the call is accepted.
+    pub refusal: u32,
+    /// The place of the refusal.
+    pub place: u32,
+    /// How many lines are kept.
+    pub kept: u32,
+    /// The filed trigger entries whose name was met.
+    pub visits: u32,
+    /// The rounds of the run.
+    pub rounds: u32,
 }
 
 extern "C" {
@@ -44,7 +50,7 @@ pub struct Counts {
     pub rounds: u32,
 }
 
-/// Filters a file with lent slices: the proved call itself.
+/// Filters a file with lent slices.
 ///
 /// The six working slices may hold anything. The kept line numbers are written from the start of the result slice, and
 /// nothing beyond them. After the call the first [`WORKING_WORDS`](crate::WORKING_WORDS) words of each working slice are
@@ -54,11 +60,21 @@ pub struct Counts {
 ///
 /// The call is refused: see [`Refusal`]. The result slice is untouched then.
 pub fn filter(file: &[u8], working: [&mut [u32]; 6], result: &mut [u32]) -> Result<Counts, Refusal> {
+    let answer = answer(file, working, result);
+    match answer.refusal {
+        0 => Ok(Counts { kept: answer.kept, visits: answer.visits, rounds: answer.rounds }),
+        number => Err(Refusal::of(number, answer.place).expect("a refusal is one of nine")),
+    }
+}
+
+/// Filters a file with lent slices, as [`filter`] does, and hands on the answer as the library gives it: the proved call
+/// itself.
+pub fn answer(file: &[u8], working: [&mut [u32]; 6], result: &mut [u32]) -> Answer {
     let [working0, working1, working2, working3, working4, working5] = working;
     // SAFETY: the function has no precondition but those of `wimplejade.h`: each pointer is that of a slice, so it is not
     // null, aligned, and points to as many initialised elements as are said; the seven `&mut` slices overlap neither each
     // other nor the file, and nobody else can use them meanwhile.
-    let answer = unsafe {
+    unsafe {
         wimplejade_filter(
             file.as_ptr(),
             file.len(),
@@ -77,9 +93,5 @@ pub fn filter(file: &[u8], working: [&mut [u32]; 6], result: &mut [u32]) -> Resu
             result.as_mut_ptr(),
             result.len(),
         )
-    };
-    match answer.refusal {
-        0 => Ok(Counts { kept: answer.kept, visits: answer.visits, rounds: answer.rounds }),
-        number => Err(Refusal::of(number, answer.place).expect("a refusal is one of nine")),
     }
 }

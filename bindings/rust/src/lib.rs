@@ -19,8 +19,9 @@
 //! # Ok::<(), wimplejade::Refusal>(())
 //! ```
 //!
-//! What is proved is the call, [`filter`], over slices that its caller lends. [`Filter`] lends it slices of its own and
-//! finds the names of the kept lines; this and the declaration of the C function are plain Rust.
+//! What is proved is the call, [`answer`], over slices that its caller lends. [`filter`] gives its answer as a `Result`,
+//! [`Filter`] lends it slices of its own and finds the names of the kept lines; these and the declaration of the C function
+//! are plain Rust.
 //!
 //! # Stack
 //!
@@ -31,7 +32,7 @@
 mod call;
 mod refusal;
 
-pub use call::{filter, Counts};
+pub use call::{answer, filter, Answer, Counts};
 pub use refusal::Refusal;
 
 use std::fmt;
