@@ -384,8 +384,9 @@ impl<'r> Grower<'r> {
         if self.random.chance(60) {
             self.text.root(self.query, start, term);
         }
-        for _ in 0..self.random.within(1..=8) {
-            let symbol = self.symbol();
+        let long = self.random.chance(4);
+        for step in 0..self.random.within(if long { 20..=200 } else { 1..=8 }) {
+            let symbol = if long { format!("step{step}") } else { self.symbol() };
             let next = self.named(&symbol);
             let mut groups = vec![vec![term]];
             if self.random.chance(30) {
@@ -395,7 +396,7 @@ impl<'r> Grower<'r> {
                 groups.insert(0, Vec::new());
             }
             let fact = self.text.all(next, &groups);
-            let (name, flag) = (self.record_name(""), self.flag());
+            let (name, flag) = (self.record_name(""), if long { 0 } else { self.flag() });
             self.text.assume(name, flag, fact);
             term = next;
             if self.random.chance(25) && self.taken.insert(symbol.clone()) {
