@@ -1,6 +1,6 @@
 //! Links the archive of the proved library.
 //!
-//! `WIMPLEJADE_LIB` names an archive to take. Without it the script runs `rt staticlib wimplejade` in the repository, which
+//! `WIMPLEJADE_LIB` names an archive to take, by its whole path. Without it the script runs `rt staticlib wimplejade` in the repository, which
 //! proves the library first: some ten minutes from nothing, seconds once it is proved.
 
 use std::env;
@@ -13,6 +13,10 @@ const ARCHIVE: &str = "target/staticlib/libwimplejade.a";
 
 fn main() {
     println!("cargo:rerun-if-env-changed=WIMPLEJADE_LIB");
+    let target = env::var("TARGET").expect("cargo sets TARGET");
+    if !target.starts_with("x86_64-") || !target.contains("-linux-") {
+        fail(&format!("the archive is for x86-64 Linux, not for {target}"));
+    }
     let archive = match env::var_os("WIMPLEJADE_LIB") {
         Some(path) => PathBuf::from(path),
         None => proved(&Path::new(env!("CARGO_MANIFEST_DIR")).join("../..")),
