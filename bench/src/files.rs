@@ -51,8 +51,9 @@ pub fn real(folder: &Path) -> io::Result<Vec<Sample>> {
 
 /// Files that ask for much work.
 pub fn ugly() -> Vec<Sample> {
-    let files: [(&str, Vec<u8>); 8] = [
+    let files: [(&str, Vec<u8>); 9] = [
         ("a deep chain named by a thousand records", deep_chain()),
+        ("a wide term named by a thousand records", wide_term()),
         ("an `and` of references to a run of labels", labels()),
         ("1,024 rounds", rounds()),
         ("names in descending order", descending()),
@@ -75,6 +76,18 @@ fn deep_chain() -> Vec<u8> {
         text.assume(format!("a{index}"), 0, last);
         text.root(0, "r", last);
     }
+    text.finish()
+}
+
+/// A term that names another 16,000 times, and each record names it.
+fn wide_term() -> Vec<u8> {
+    let mut text = Text::ask(0, 4);
+    let part = text.free("p");
+    let wide = text.op("and", &vec![part; 16_000]);
+    for index in 0..1_000 {
+        text.assume(format!("a{index}"), 0, wide);
+    }
+    text.root(0, "r", part);
     text.finish()
 }
 
