@@ -92,12 +92,21 @@ fn random_files(options: &Options) -> io::Result<bool> {
     thread::scope(|scope| {
         let workers: Vec<_> = (0..options.jobs)
             .map(|job| thread::Builder::new().stack_size(STACK_BYTES).spawn_scoped(scope, move || work(job)))
-            .collect::<Result<_, _>>()?;
+            .collect::<io::Result<_>>()?;
         while !workers.iter().all(|worker| worker.is_finished()) {
             thread::sleep(Duration::from_millis(200));
             progress.show();
         }
-        Ok::<(), io::Error>(())
+        for (job, worker) in workers.into_iter().enumerate() {
+            if worker.join().is_err() {
+                let index = progress.at[job].load(Ordering::Relaxed);
+                let seed = options.seed;
+                return Err(io::Error::other(format!(
+                    "a panic: try it again by --seed {seed} --from {index} --files 1"
+                )));
+            }
+        }
+        Ok(())
     })?;
     progress.finish();
     let failures = failures.into_inner().unwrap();
@@ -116,6 +125,7 @@ fn worker(options: &Options, job: u64, progress: &Progress) -> Option<Failure> {
         if progress.stop.load(Ordering::Relaxed) {
             return None;
         }
+        progress.at[job as usize].store(index, Ordering::Relaxed);
         let case = generate::case(options.seed, index);
         let mut random = Random::new(!options.seed).after(index);
         let outcome = filter_file(&case.file);
@@ -199,9 +209,15 @@ struct Progress {
     answers: [AtomicU64; 10],
     most_rounds: AtomicU64,
     most_kept: AtomicU64,
+    /// The file that each job is at.
+    at: Vec<AtomicU64>,
     stop: AtomicBool,
-    shown: bool,
+    terminal: bool,
+    shown: Mutex<Instant>,
 }
+
+/// How often the progress is shown where it cannot be written over.
+const SELDOM: Duration = Duration::from_secs(60);
 
 impl Progress {
     fn new(options: &Options) -> Self {
@@ -212,8 +228,10 @@ impl Progress {
             answers: Default::default(),
             most_rounds: AtomicU64::new(0),
             most_kept: AtomicU64::new(0),
+            at: (0..options.jobs).map(|_| AtomicU64::new(options.from)).collect(),
             stop: AtomicBool::new(false),
-            shown: io::stderr().is_terminal(),
+            terminal: io::stderr().is_terminal(),
+            shown: Mutex::new(Instant::now()),
         }
     }
 
@@ -238,17 +256,21 @@ impl Progress {
         format!("seed {}: {done} of {} files, {:.0} a second", self.seed, self.files, done as f64 / seconds)
     }
 
-    /// The progress line, where somebody sees it.
+    /// The progress line: over and over on a terminal, else now and then.
     fn show(&self) {
-        if self.shown {
+        let mut shown = self.shown.lock().unwrap();
+        if self.terminal {
             eprint!("\r{}   ", self.line());
             let _ = io::stderr().flush();
+        } else if shown.elapsed() > SELDOM {
+            *shown = Instant::now();
+            eprintln!("{}", self.line());
         }
     }
 
     /// What was tried, by answer.
     fn finish(&self) {
-        if self.shown {
+        if self.terminal {
             eprintln!();
         }
         println!("{}", self.line());
