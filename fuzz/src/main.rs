@@ -13,8 +13,9 @@ use std::sync::Mutex;
 use std::thread;
 use std::time::{Duration, Instant};
 
+use compare::case::Case;
 use compare::random::Random;
-use compare::{filter_file, generate, Outcome};
+use compare::{edges, filter_file, generate, Outcome};
 use fuzz::shrink::shrink;
 use fuzz::{difference, expected, with_lengths, Lender, Lengths};
 use wimplejade::Filter;
@@ -117,33 +118,56 @@ fn random_files(options: &Options) -> io::Result<bool> {
     Ok(same)
 }
 
-/// Tries every file of a job until one differs.
+/// Tries every file of a job until one differs. The first job has the edges of document 01 before the files of the seed.
 fn worker(options: &Options, job: u64, progress: &Progress) -> Option<Failure> {
-    let mut lender = Lender::new(options.seed ^ job);
-    let mut filter = Filter::new();
+    let mut trial = Trial { lender: Lender::new(options.seed ^ job), filter: Filter::new(), progress };
+    if (job, options.from) == (0, 0) {
+        let mut random = Random::new(options.seed);
+        for edge in edges::edges() {
+            if let Some(failure) = trial.run(edge.case, &mut random, true) {
+                return Some(failure);
+            }
+        }
+    }
     for index in (options.from..options.from + options.files).skip(job as usize).step_by(options.jobs as usize) {
         if progress.stop.load(Ordering::Relaxed) {
             return None;
         }
         progress.at[job as usize].store(index, Ordering::Relaxed);
-        let case = generate::case(options.seed, index);
         let mut random = Random::new(!options.seed).after(index);
+        let case = generate::case(options.seed, index);
+        if let Some(failure) = trial.run(case, &mut random, index % BY_INTERFACE == 0) {
+            return Some(failure);
+        }
+    }
+    None
+}
+
+/// What a job tries files with.
+struct Trial<'p> {
+    lender: Lender,
+    filter: Filter,
+    progress: &'p Progress,
+}
+
+impl Trial<'_> {
+    /// Tries a case, also by the safe interface if asked to.
+    fn run(&mut self, case: Case, random: &mut Random, by_interface: bool) -> Option<Failure> {
         let outcome = filter_file(&case.file);
         let kept = match &outcome {
             Outcome::Kept { lines, .. } => lines.len(),
             Outcome::Refused { .. } => 0,
         };
-        let lengths = Lengths::of(&case, kept, &mut random);
+        let lengths = Lengths::of(&case, kept, random);
         let lent = with_lengths(&outcome, &case.file, lengths);
-        let why = difference(wimplejade::answer, &mut lender, &case.file, lengths, &lent).or_else(|| {
-            (index % BY_INTERFACE == 0).then(|| interface_difference(&mut filter, &case.file, &outcome)).flatten()
-        });
-        progress.count(&lent);
-        if let Some(why) = why {
-            return Some(Failure { name: case.name, file: case.file, lengths, why });
+        let mut why = difference(wimplejade::answer, &mut self.lender, &case.file, lengths, &lent);
+        if by_interface {
+            why = why.or_else(|| interface_difference(&mut self.filter, &case.file, &outcome));
         }
+        self.progress.count(&lent);
+        let why = why?;
+        Some(Failure { name: case.name, file: case.file, lengths, why })
     }
-    None
 }
 
 /// How the safe interface differs, if it does.
@@ -191,7 +215,7 @@ fn given_files(paths: &[PathBuf]) -> io::Result<bool> {
 }
 
 fn given_differences(file: &[u8]) -> Option<String> {
-    let case = compare::case::Case::new("", file.to_vec());
+    let case = Case::new("", file.to_vec());
     let kept = match filter_file(file) {
         Outcome::Kept { lines, .. } => lines.len(),
         Outcome::Refused { .. } => 0,
@@ -203,6 +227,7 @@ fn given_differences(file: &[u8]) -> Option<String> {
 /// What was tried so far.
 struct Progress {
     seed: u64,
+    /// How many files there are, the edges among them.
     files: u64,
     started: Instant,
     /// How often each answer was given: 0 is a list, 1 to 9 the refusals.
@@ -223,7 +248,7 @@ impl Progress {
     fn new(options: &Options) -> Self {
         Progress {
             seed: options.seed,
-            files: options.files,
+            files: options.files + if options.from == 0 { edges::edges().len() as u64 } else { 0 },
             started: Instant::now(),
             answers: Default::default(),
             most_rounds: AtomicU64::new(0),
