@@ -14,8 +14,9 @@ use std::thread;
 use std::time::{Duration, Instant};
 
 use compare::case::Case;
+use compare::edges::{self, Edge};
 use compare::random::Random;
-use compare::{edges, filter_file, generate, Outcome};
+use compare::{filter_file, generate, Outcome};
 use fuzz::shrink::shrink;
 use fuzz::{difference, expected, with_lengths, Lender, Lengths};
 use wimplejade::Filter;
@@ -122,9 +123,9 @@ fn random_files(options: &Options) -> io::Result<bool> {
 fn worker(options: &Options, job: u64, progress: &Progress) -> Option<Failure> {
     let mut trial = Trial { lender: Lender::new(options.seed ^ job), filter: Filter::new(), progress };
     if (job, options.from) == (0, 0) {
-        let mut random = Random::new(options.seed);
-        for edge in edges::edges() {
-            if let Some(failure) = trial.run(edge.case, &mut random, true) {
+        for Edge { case, .. } in edges::edges() {
+            let lengths = Lengths { works: case.works, room: case.room };
+            if let Some(failure) = trial.run(case, |_, _| lengths, true) {
                 return Some(failure);
             }
         }
@@ -135,8 +136,8 @@ fn worker(options: &Options, job: u64, progress: &Progress) -> Option<Failure> {
         }
         progress.at[job as usize].store(index, Ordering::Relaxed);
         let mut random = Random::new(!options.seed).after(index);
-        let case = generate::case(options.seed, index);
-        if let Some(failure) = trial.run(case, &mut random, index % BY_INTERFACE == 0) {
+        let lengths = |case: &Case, kept| Lengths::of(case, kept, &mut random);
+        if let Some(failure) = trial.run(generate::case(options.seed, index), lengths, index % BY_INTERFACE == 0) {
             return Some(failure);
         }
     }
@@ -151,14 +152,19 @@ struct Trial<'p> {
 }
 
 impl Trial<'_> {
-    /// Tries a case, also by the safe interface if asked to.
-    fn run(&mut self, case: Case, random: &mut Random, by_interface: bool) -> Option<Failure> {
+    /// Tries a case with slices of lengths that may depend on how much it keeps, also by the safe interface if asked to.
+    fn run(
+        &mut self,
+        case: Case,
+        lengths: impl FnOnce(&Case, usize) -> Lengths,
+        by_interface: bool,
+    ) -> Option<Failure> {
         let outcome = filter_file(&case.file);
         let kept = match &outcome {
             Outcome::Kept { lines, .. } => lines.len(),
             Outcome::Refused { .. } => 0,
         };
-        let lengths = Lengths::of(&case, kept, random);
+        let lengths = lengths(&case, kept);
         let lent = with_lengths(&outcome, &case.file, lengths);
         let mut why = difference(wimplejade::answer, &mut self.lender, &case.file, lengths, &lent);
         if by_interface {
