@@ -21,15 +21,15 @@ static uint32_t result[WIMPLEJADE_MOST_KEPT];
 static const char *words(uint32_t refusal)
 {
     switch (refusal) {
-    case WIMPLEJADE_FORM: return "not a line of this form";
+    case WIMPLEJADE_FORM: return "not a line of a fact file";
     case WIMPLEJADE_NAME: return "a field is no name";
-    case WIMPLEJADE_NUMBER: return "a field is no number, or outside its range";
-    case WIMPLEJADE_TERM: return "a term number that is not there yet";
-    case WIMPLEJADE_REPEATED: return "the name of an earlier assume, fun or def";
+    case WIMPLEJADE_NUMBER: return "a field is no number, or one out of its range";
+    case WIMPLEJADE_TERM: return "no term line before has this number";
+    case WIMPLEJADE_REPEATED: return "the name is taken by an earlier assume, fun or def";
     case WIMPLEJADE_LIMIT: return "the line passes a limit";
     case WIMPLEJADE_WORKING: return "a working slice is too short";
-    case WIMPLEJADE_ROOM: return "the result slice is shorter than the kept lines";
-    case WIMPLEJADE_SIZE: return "the file has more than 65535 bytes";
+    case WIMPLEJADE_ROOM: return "the result slice is too short";
+    case WIMPLEJADE_SIZE: return "the file has more than 65,535 bytes";
     default: return "no refusal";
     }
 }

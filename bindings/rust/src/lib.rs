@@ -15,7 +15,7 @@
 //! assert_eq!((kept.visits, kept.rounds), (1, 2));
 //!
 //! let refusal = filter.run(b"ask,0,8\n").unwrap_err();
-//! assert_eq!(refusal.to_string(), "line 1: a field is no number, or outside its range");
+//! assert_eq!(refusal.to_string(), "line 1: a field is no number, or one out of its range");
 //! # Ok::<(), wimplejade::Refusal>(())
 //! ```
 //!

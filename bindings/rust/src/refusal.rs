@@ -90,15 +90,15 @@ impl fmt::Display for Refusal {
             write!(out, "line {line}: ")?;
         }
         match self {
-            Refusal::Form { .. } => write!(out, "not a line of this form"),
+            Refusal::Form { .. } => write!(out, "not a line of a fact file"),
             Refusal::Name { .. } => write!(out, "a field is no name"),
-            Refusal::Number { .. } => write!(out, "a field is no number, or outside its range"),
-            Refusal::Term { .. } => write!(out, "a term number that is not there yet"),
-            Refusal::Repeated { .. } => write!(out, "the name of an earlier assume, fun or def"),
+            Refusal::Number { .. } => write!(out, "a field is no number, or one out of its range"),
+            Refusal::Term { .. } => write!(out, "no term line before has this number"),
+            Refusal::Repeated { .. } => write!(out, "the name is taken by an earlier assume, fun or def"),
             Refusal::Limit { .. } => write!(out, "the line passes a limit"),
             Refusal::Working => write!(out, "a working slice is too short"),
-            Refusal::Room { kept } => write!(out, "the result slice is shorter than the {kept} kept lines"),
-            Refusal::Size => write!(out, "the file has more than 65535 bytes"),
+            Refusal::Room { kept } => write!(out, "the result slice is too short for {kept} kept lines"),
+            Refusal::Size => write!(out, "the file has more than 65,535 bytes"),
         }
     }
 }
@@ -124,7 +124,7 @@ mod tests {
     #[test]
     fn in_words() {
         assert_eq!(Refusal::Name { line: 7 }.to_string(), "line 7: a field is no name");
-        assert_eq!(Refusal::Room { kept: 3 }.to_string(), "the result slice is shorter than the 3 kept lines");
-        assert_eq!(Refusal::Size.to_string(), "the file has more than 65535 bytes");
+        assert_eq!(Refusal::Room { kept: 3 }.to_string(), "the result slice is too short for 3 kept lines");
+        assert_eq!(Refusal::Size.to_string(), "the file has more than 65,535 bytes");
     }
 }
