@@ -12,17 +12,18 @@ pub struct Times {
     pub independent: f64,
 }
 
-/// Turns of both sides, and how long one takes at least.
-const TURNS: usize = 25;
-const TURN: Duration = Duration::from_millis(10);
+/// How long a side calls in its turn at least. Turns are short, so that some of them are not disturbed.
+const TURN: Duration = Duration::from_millis(1);
+
+/// The turns of each side: so many at least, and then as many as there is time for.
+const FEWEST_TURNS: usize = 5;
+const ALL_TURNS: Duration = Duration::from_secs(2);
 
 /// The same to see that all works.
-const QUICK_TURNS: usize = 3;
-const QUICK_TURN: Duration = Duration::from_millis(1);
+const QUICK_TURNS: Duration = Duration::from_millis(50);
 
 /// Times calls on a file. In turns each side makes as many calls as fill a turn; of the turns the best counts.
 pub fn time(file: &[u8], quick: bool) -> Times {
-    let (turns, turn) = if quick { (QUICK_TURNS, QUICK_TURN) } else { (TURNS, TURN) };
     let mut library = Library::new();
     let mut by_library = || {
         let _ = black_box(library.call(black_box(file)));
@@ -30,19 +31,22 @@ pub fn time(file: &[u8], quick: bool) -> Times {
     let mut by_independent = || {
         black_box(independent(black_box(file)));
     };
-    let (library_calls, independent_calls) = (calls(turn, &mut by_library), calls(turn, &mut by_independent));
+    let (library_calls, independent_calls) = (calls(&mut by_library), calls(&mut by_independent));
     let mut best = Times { library: f64::INFINITY, independent: f64::INFINITY };
-    for _ in 0..turns {
+    let (start, most) = (Instant::now(), if quick { QUICK_TURNS } else { ALL_TURNS });
+    let mut turns = 0;
+    while turns < FEWEST_TURNS || start.elapsed() < most {
         best.library = best.library.min(microseconds(library_calls, &mut by_library));
         best.independent = best.independent.min(microseconds(independent_calls, &mut by_independent));
+        turns += 1;
     }
     best
 }
 
 /// How many calls fill a turn.
-fn calls(turn: Duration, call: &mut impl FnMut()) -> u32 {
+fn calls(call: &mut impl FnMut()) -> u32 {
     let mut calls = 1;
-    while microseconds(calls, call) * f64::from(calls) < turn.as_secs_f64() * 1e6 {
+    while microseconds(calls, call) * f64::from(calls) < TURN.as_secs_f64() * 1e6 {
         calls *= 2;
     }
     calls
