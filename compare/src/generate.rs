@@ -11,7 +11,7 @@ use crate::text::Text;
 use crate::{filter, Outcome, LONG_ENOUGH};
 
 /// Names with a meaning of their own.
-const SPECIAL: [&str; 27] = [
+const SPECIAL: [&str; 29] = [
     "SFuel",
     "ZFuel",
     "HasType",
@@ -38,6 +38,8 @@ const SPECIAL: [&str; 27] = [
     "is-BoxString",
     "BoxString",
     "is-BoxReal",
+    "BoxReal",
+    "is-BoxProp",
     "BoxProp",
 ];
 
@@ -101,10 +103,11 @@ impl<'r> Grower<'r> {
         let query = if random.chance(90) { random.below(3) } else { random.below(256) } as u32;
         let options = random.below(8) as u32;
         let pool = (0..random.within(1..=60))
-            .map(|index| match random.pick(&STEMS) {
-                stem if random.chance(10) => format!("{stem}{index}@tok"),
-                stem if random.chance(15) => stem.to_owned(),
-                stem => format!("{stem}{index}"),
+            .flat_map(|index| match random.pick(&STEMS) {
+                // A token and the name that it trims to.
+                stem if random.chance(10) => vec![format!("{stem}{index}@tok"), format!("{stem}{index}")],
+                stem if random.chance(15) => vec![stem.to_owned()],
+                stem => vec![format!("{stem}{index}")],
             })
             .collect();
         Grower { random, text: Text::ask(query, options), query, pool, taken: HashSet::new() }
