@@ -2,14 +2,13 @@
 use Prim.Native.Nat.{ℕ, _+_, _≤_, _<_}
 use native.Mathlib.Omega.{arith}
 use mathlib.Core.Path.{_≡_, refl, sym, ap, _∙_}
-use mathlib.Core.Bool.{false}
-use mathlib.Core.List.{List, [], _∷_, _++_, append-nil}
+use mathlib.Core.List.{List, [], append-nil}
 use lib.ListN.{length, length-append}
 use Rattle.model.specs.Lists.{collect, fold-left, sum}
 use Rattle.model.specs.Names.{Name}
 use Rattle.model.specs.Lines.{Field}
 use Rattle.model.specs.Terms.{Node, Term, add-term, references}
-use Rattle.model.specs.Reading.{Result, ok, refused, _>>=_, rest, name-field, Content, ask, term, retain, content, State, spell, spelled, spelled-by, trimmed, asked, nodes, summarize-decl, root-of, taken-by, add-line, repeats, most-names}
+use Rattle.model.specs.Reading.{Result, ok, refused, _>>=_, rest, name-field, Content, ask, term, retain, content, State, spell, spelled, spelled-by, trimmed, asked, nodes, summarize-decl, root-of, taken-by, add-line, most-names}
 use Rattle.model.specs.Outcome.{working-words}
 use Rattle.model.specs.declared.Counts.{Counts}
 use Rattle.model.specs.declared.LineKind.{LineKind}
@@ -21,23 +20,23 @@ use Rattle.model.specs.declared.Step.the-variants as step
 use Rattle.model.proofs.ResultLaws.{ok-eq, not-ok}
 use Rattle.text.specs.declared.Cursor.{Cursor}
 use Rattle.text.specs.Parts.{fields-left}
-use Rattle.names.specs.Table.{name-of, names-of}
+use Rattle.names.specs.Table.{names-of}
 use Rattle.rules.specs.Views.{terms-in}
 use Rattle.fields.specs.declared.Upto.{Upto}
 use Rattle.fields.specs.declared.Upto.the-variants as upto
-use Rattle.fields.specs.Spelling.{Naming, in-table, Longer, spell-fields, Spells-rest, all-spelt, rest-not}
+use Rattle.fields.specs.Spelling.{Naming, Longer, spell-fields, Spells-rest, all-spelt, rest-not}
 use Rattle.fields.specs.Growing.{with-term, Grown, Passes, names-passed, terms-passed, references-passed, Kept, Grows, grown, over, not-read, Reads-term}
 use Rattle.fields.proofs.Spelling.{naming-table, naming-past, spell-law}
 use Rattle.words.proofs.Slices.{same-self, same-wider}
-use Rattle.records.specs.States.{state-of, decls-of, roots-of}
+use Rattle.records.specs.States.{state-of}
 use Rattle.records.specs.Adding.{excluded, Standing, judge, Adds, Untouched}
 use Rattle.records.specs.Adding as adds
 use Rattle.records.proofs.Recording.{decls-stay, roots-stay}
 use Rattle.records.proofs.Judging.{Beyond, many-names, many-terms, many-references, judged-beyond, judged-within, repeats-none}
 use Rattle.records.proofs.Appending.{terms-length, standing-within}
 use Rattle.records.specs.Writing.{with-ask}
-use Rattle.reader.specs.Lines.{with-names, judged, Asks, asks, not-asked, Reads, goes-on, stops, Past, Line-read}
-use Rattle.reader.proofs.Naming.{fold-more, same-records, state-spelled, standing-spelled, retained, line-names, few-names, reads-refused, table-past, spelled-past, past-none, past-names, past-then}
+use Rattle.reader.specs.Lines.{with-names, judged, Asks, asks, not-asked, Reads, goes-on, stops, Line-read}
+use Rattle.reader.proofs.Naming.{same-records, state-spelled, standing-spelled, retained, few-names, reads-refused, table-past, spelled-past, past-none, past-names, past-then}
 
 -- ---- a term line
 

@@ -1,13 +1,13 @@
 -- The form of a line, and the loop over the lines of a file.
-use Prim.Native.Nat.{ℕ, zero, suc, _+_, _-_, _≤_, _<_}
+use Prim.Native.Nat.{ℕ, _+_, _≤_, _<_}
 use native.Mathlib.Omega.{arith}
 use mathlib.Core.Path.{_≡_, refl, sym, ap, ap₂, _∙_}
 use mathlib.Core.Bool.{Bool, true, false, cond, not}
-use mathlib.Core.List.{List, [], _∷_, _++_}
-use lib.ListN.{length, getD, drop}
+use mathlib.Core.List.{List, [], _∷_}
+use lib.ListN.{length, drop}
 use Rattle.model.specs.Lists.{fold-left, part}
-use Rattle.model.specs.Lines.{Line, lines, Field, fields}
-use Rattle.model.specs.Reading.{Result, ok, refused, _>>=_, next, kind-field, content, parse, State, start, Reading, read, refused-at, go-on, read-line, read-lines, read-file, Content}
+use Rattle.model.specs.Lines.{lines, Field, fields}
+use Rattle.model.specs.Reading.{Result, ok, refused, _>>=_, next, kind-field, content, parse, State, start, read, refused-at, go-on, read-line, read-lines, read-file, Content}
 use Rattle.model.specs.Outcome.{most-bytes, working-words}
 use Rattle.model.specs.declared.Counts.{Counts}
 use Rattle.model.specs.declared.Refusal.{Refusal}
@@ -20,22 +20,17 @@ use Rattle.text.specs.declared.FieldStep.{FieldStep}
 use Rattle.text.specs.declared.FieldStep.the-variants as field
 use Rattle.text.specs.Parts.{mark-at, Placed, fields-left, field-at, field-result}
 use Rattle.text.proofs.Laws.{field-law, field-some, left-some, field-next, line-ended, line-last, line-none, mark-from}
-use Rattle.names.specs.Table.{Table, name-of, names-of}
-use Rattle.names.proofs.Laws.{empty-table}
+use Rattle.names.specs.Table.{name-of, names-of}
 use Rattle.terms.specs.Rows.{terms-of, nodes-below}
-use Rattle.terms.proofs.Table.{empty-rows}
-use Rattle.words.specs.Slices.{Same-but}
-use Rattle.gather.specs.Sets.{Fresh}
-use Rattle.rules.specs.Views.{Tables, terms-in}
+use Rattle.rules.specs.Views.{terms-in}
 use Rattle.fields.specs.declared.Kind.{Kind}
 use Rattle.fields.specs.declared.Kind.the-variants as kinded
 use Rattle.fields.specs.Wording.{kind-result, well-counted}
 use Rattle.fields.proofs.Words.{parse-law}
 use Rattle.words.proofs.Slices.{same-then, same-wider}
 use Rattle.records.specs.States.{decls-of, roots-of, state-of}
-use Rattle.records.specs.Filing.{Records, newest}
 use Rattle.records.specs.Columns.{taken-column, first-column}
-use Rattle.records.specs.Macros.{Opens, Filled}
+use Rattle.records.specs.Macros.{Opens}
 use Rattle.records.proofs.Standing.{Beside, standing-start, decls-longer, roots-longer, standing-filled}
 use Rattle.names.proofs.Coded.{table-kept}
 use Rattle.terms.proofs.Table.{terms-named}
@@ -43,9 +38,8 @@ use Rattle.records.specs.Adding.{excluded, Standing, judge}
 use Rattle.records.proofs.Judging.{line-judged}
 use Rattle.records.proofs.Appending.{terms-length}
 use Rattle.records.specs.Writing.{no-counts}
-use Rattle.reader.specs.declared.Reading.{Reading as Answer}
 use Rattle.reader.specs.declared.Reading.the-variants as answer
-use Rattle.reader.specs.Lines.{judged, kind-content, Reads, goes-on, stops, Past, Line-read, Cleared, Reads-file, all-read, read-stops, File-read}
+use Rattle.reader.specs.Lines.{judged, kind-content, Reads, goes-on, stops, Past, Cleared, Reads-file, all-read, read-stops, File-read}
 
 -- ---- the form of a line
 

@@ -1,29 +1,28 @@
 -- A line whose name is spelled: the tables under the longer name table, and the line judged there.
-use Prim.Native.Nat.{ℕ, zero, suc, _+_, _-_, _≤_, _<_}
+use Prim.Native.Nat.{ℕ, _+_, _≤_, _<_}
 use native.Mathlib.Omega.{arith}
-use mathlib.Core.Path.{_≡_, refl, sym, ap, ap₂, _∙_}
-use mathlib.Core.Bool.{Bool, true, false, cond, not, _||_}
+use mathlib.Core.Path.{_≡_, refl, sym, ap, _∙_}
+use mathlib.Core.Bool.{Bool, true, false, cond}
 use mathlib.Core.List.{List, [], _∷_, _++_, append-nil, List·Memᴰ, List·Memᴰ·head, Memᴰ·append-right}
-use lib.ListN.{length, getD, length-append}
+use lib.ListN.{length, length-append}
 use lib.Dec.{T, not-T, leb}
-use Rattle.model.specs.Lists.{any, collect, fold-left}
+use Rattle.model.specs.Lists.{collect, fold-left}
 use Rattle.model.specs.Names.{Name, mem}
-use Rattle.model.specs.Terms.{Term}
-use Rattle.model.specs.Reading.{Result, ok, refused, Content, retain, State, spell, spelled, trimmed, asked, nodes, summarize-decl, root-of, add-line, repeats, limits, under-limits, taken-by, most-names, most-terms, most-records}
+use Rattle.model.specs.Reading.{Result, ok, refused, Content, retain, State, spell, spelled, trimmed, asked, nodes, summarize-decl, root-of, add-line, repeats, limits, under-limits, taken-by, most-names, most-terms}
 use Rattle.model.specs.declared.Counts.{Counts}
 use Rattle.model.specs.declared.Refusal.{Refusal}
 use Rattle.model.specs.declared.Refusal.the-variants as refusal
 use Rattle.model.proofs.ResultLaws.{ok-eq, not-ok}
-use Rattle.model.proofs.ListLaws.{T-true, T-false, cond-true, cond-false, T-dec}
+use Rattle.model.proofs.ListLaws.{T-false, cond-true}
 use Rattle.model.proofs.SetLaws.{mem-intro, mem-elim}
 use Rattle.names.specs.Table.{Table, name-of, names-of}
 use Rattle.names.proofs.Laws.{names-length, names-intro}
 use Rattle.terms.proofs.Table.{rows-named, terms-named}
-use Rattle.rules.specs.Views.{Tables, terms-in}
+use Rattle.rules.specs.Views.{terms-in}
 use Rattle.fields.specs.Spelling.{name-columns, Naming, in-table, Longer, Spelled-as}
 use Rattle.fields.proofs.Spelling.{begun-table, naming-table, naming-past}
 use Rattle.records.specs.Columns.{record-name, taken-column, first-column}
-use Rattle.records.specs.States.{state-of, decls-of, roots-of}
+use Rattle.records.specs.States.{state-of, decls-of}
 use Rattle.records.specs.Adding.{excluded, Standing, judge, Adds, Untouched}
 use Rattle.records.specs.Adding as adds
 use Rattle.records.proofs.Judging.{many-names, judged-beyond, repeats-one, taken-elim}

@@ -2,7 +2,7 @@
 use Prim.Native.Nat.{ℕ, zero, suc, _+_, _-_, _*_, _≤_, _<_}
 use native.Mathlib.Numerals.{add-one}
 use native.Mathlib.Omega.{arith}
-use mathlib.Core.Path.{_≡_, refl, sym, ap, _∙_}
+use mathlib.Core.Path.{_≡_, refl, ap, _∙_}
 use mathlib.Core.Bool.{true, false}
 use mathlib.Core.Logic.{_⊎_, inl, inr, ⊎-elim}
 use mathlib.Core.List.{List, [], _∷_, _++_, map}
@@ -28,9 +28,9 @@ use Rattle.triggers.proofs.Marked.{terms-marked}
 use Rattle.model.specs.declared.Step.the-variants as step
 use Rattle.records.specs.Columns.{record-kind, assume-kind, retain-kind, root-kind, entry-word, entry-name, entry-fact}
 use Rattle.records.specs.States.{summary-at, root-at, decls-of, roots-of, ask-of, state-of}
-use Rattle.records.specs.Filing.{Records, Chained, Filing, Taken, Stocked}
+use Rattle.records.specs.Filing.{Records, Chained, Filing, Taken}
 use Rattle.records.specs.Writing.{with-record, Rowed}
-use Rattle.records.specs.Adding.{excluded, Standing, judge, Adds, stops, added}
+use Rattle.records.specs.Adding.{excluded, Standing, Adds, stops, added}
 use Rattle.records.proofs.Recording.{Agree, decls-stay, roots-stay, records-length}
 use Rattle.records.proofs.Keeping.{filing-more}
 use Rattle.records.proofs.Judging.{Within, Beyond, many-records, judged-repeated, judged-beyond, judged-within}

@@ -1,25 +1,24 @@
 -- A fact added: what its summary and the chaining of its entries promise is a record appended.
-use Prim.Native.Nat.{ℕ, zero, suc, _+_, _-_, _*_, _%_, _≤_, _<_}
+use Prim.Native.Nat.{ℕ, _+_, _-_, _%_, _≤_, _<_}
 use native.Mathlib.Omega.{arith}
 use mathlib.Core.Path.{_≡_, refl, sym, ap, _∙_}
 use mathlib.Core.Bool.{Bool, true, false, cond}
 use mathlib.Core.Logic.{_⊎_, inl, inr, ⊎-elim}
-use mathlib.Core.List.{List, [], _∷_, _++_, map, List·Memᴰ}
-use lib.ListN.{length, getD, set, length-set}
+use mathlib.Core.List.{List, List·Memᴰ}
+use lib.ListN.{length, getD, length-set}
 use lib.Seq.{getD-set-same, getD-set-other}
 use lib.Dec.{eqb, ltb}
 use borrow.Author.Tests.{ltb-true}
 use Rattle.model.specs.Lists.{sum, collect, fold-left, part}
-use Rattle.model.specs.Names.{Name, from-list}
-use Rattle.model.specs.Reading.{assume, spell, asked, nodes, spelled, trimmed, summarize-decl, root-of, taken-by, entries-of, uses-of, add-line, repeats, most-names, most-terms, most-records, most-entries, most-uses}
-use Rattle.model.specs.Summaries.{entries, summarize-assumption, summarize-kind, free-top-level-names}
+use Rattle.model.specs.Names.{from-list}
+use Rattle.model.specs.Reading.{assume, asked, nodes, spelled, trimmed, summarize-decl, root-of, taken-by, entries-of, uses-of, add-line, repeats, most-names, most-records, most-entries, most-uses}
+use Rattle.model.specs.Summaries.{entries, summarize-assumption}
 use Rattle.model.specs.declared.Counts.{Counts}
 use Rattle.model.specs.declared.Refusal.the-variants as refusal
 use Rattle.model.proofs.PartLaws.{part-agree, part-elim, part-intro, part-length, part-at}
-use Rattle.names.specs.Table.{Excludes, Table, name-of, names-of}
+use Rattle.names.specs.Table.{Excludes, name-of}
 use Rattle.names.proofs.Excluded.{excluded-exact}
 use Rattle.names.proofs.Coded.{Kept, table-kept}
-use Rattle.words.specs.Slices.{Same-but}
 use Rattle.words.proofs.Slices.{same-wider}
 use Rattle.rules.specs.Views.{terms-in}
 use Rattle.triggers.specs.Entries.{disjuncts-of, Entries, entries-base, last-flag, no-name}
@@ -31,14 +30,14 @@ use Rattle.summary.specs.Facts.{Asked, fact-kind, fact-names, names-then, fact-
 use Rattle.summary.proofs.Answering.{over-none, limited-done}
 use Rattle.model.specs.declared.Step.the-variants as step
 use Rattle.model.specs.Outcome.{working-words}
-use Rattle.records.specs.Columns.{assume-kind, code-of, fact-column, next-column, first-column, taken-column, entry-word, entry-name, entry-fact, taken-at}
+use Rattle.records.specs.Columns.{assume-kind, code-of, fact-column, next-column, first-column, taken-column, entry-word, taken-at}
 use Rattle.records.specs.States.{free-at, fact-at, summary-at, root-at, state-of}
 use Rattle.records.specs.Writing.{with-record, Rowed, Puttable, Puts}
 use Rattle.records.specs.Adding.{excluded, Standing, Adds, Untouched}
 use Rattle.records.proofs.Chaining.{chained-kept}
 use Rattle.records.proofs.Recording.{names-stay, disjuncts-stay}
 use Rattle.records.proofs.Judging.{many-names, many-entries, many-uses, repeats-taken, repeats-free}
-use Rattle.records.proofs.Appending.{Appends, Says, record-added, record-repeated, record-crowded, record-beyond}
+use Rattle.records.proofs.Appending.{Appends, record-added, record-repeated, record-crowded, record-beyond}
 use Rattle.records.proofs.Plain.{spelled-before, is-taken}
 use Rattle.records.proofs.Funs.{row-past, taken-put, small-row}
 use Rattle.records.proofs.Coding.{code-kind, code-low}

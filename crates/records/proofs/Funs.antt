@@ -1,21 +1,19 @@
 -- A `retain` and a `fun` added: records without a term.
-use Prim.Native.Nat.{ℕ, zero, suc, _+_, _-_, _≤_, _<_}
+use Prim.Native.Nat.{ℕ, _+_, _-_, _≤_, _<_}
 use native.Mathlib.Omega.{arith}
-use mathlib.Core.Path.{_≡_, refl, sym, ap, _∙_}
-use mathlib.Core.Bool.{true, false}
-use mathlib.Core.List.{List, [], _∷_, _++_, map}
-use lib.ListN.{length, getD, set, length-set}
+use mathlib.Core.Path.{_≡_, refl, sym, _∙_}
+use mathlib.Core.Bool.{false}
+use mathlib.Core.List.{List, []}
+use lib.ListN.{set, length-set}
 use lib.Seq.{getD-set-same, getD-set-other}
 use Rattle.model.specs.Lists.{sum, collect, fold-left}
-use Rattle.model.specs.Names.{Name}
-use Rattle.model.specs.Reading.{fun, retain, spell, asked, nodes, spelled, trimmed, summarize-decl, root-of, taken-by, entries-of, uses-of, repeats, most-names, most-terms, most-records, most-entries, most-uses}
+use Rattle.model.specs.Reading.{fun, retain, asked, nodes, spelled, trimmed, summarize-decl, root-of, taken-by, entries-of, uses-of, repeats, most-names, most-terms, most-records, most-entries, most-uses}
 use Rattle.model.specs.declared.Counts.{Counts}
 use Rattle.model.specs.declared.Refusal.the-variants as refusal
-use Rattle.names.specs.Table.{name-of, names-of}
+use Rattle.names.specs.Table.{name-of}
 use Rattle.words.specs.Slices.{Same-but}
 use Rattle.words.proofs.Slices.{same-self, same-wider}
 use Rattle.gather.specs.Sets.{Fresh}
-use Rattle.rules.specs.Views.{terms-in}
 use Rattle.model.specs.declared.Step.the-variants as step
 use Rattle.model.specs.Outcome.{working-words}
 use Rattle.records.specs.Columns.{fun-kind, retain-kind, root-kind, taken-column, taken-at}
@@ -23,7 +21,7 @@ use Rattle.records.specs.States.{summary-at, root-at, decl-at, state-of}
 use Rattle.records.specs.Writing.{with-record, Small, Rowed}
 use Rattle.records.specs.Adding.{excluded, Standing, Adds, Untouched}
 use Rattle.records.proofs.Judging.{repeats-none, repeats-taken, repeats-free}
-use Rattle.records.proofs.Appending.{Says, record-added, record-repeated, record-crowded}
+use Rattle.records.proofs.Appending.{record-added, record-repeated, record-crowded}
 use Rattle.records.proofs.Plain.{spelled-again, kept, not-taken, is-taken, plain}
 
 -- ---- what stays

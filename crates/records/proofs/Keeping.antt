@@ -5,13 +5,12 @@ use native.Mathlib.Omega.{arith}
 use mathlib.Core.Path.{_≡_, refl, sym, ap, _∙_}
 use mathlib.Core.Logic.{_⊎_, inl, inr, ⊎-elim}
 use mathlib.Core.List.{List}
-use lib.ListN.{getD}
 use Rattle.model.specs.Names.{Name}
 use Rattle.model.specs.Summaries.{entries}
 use Rattle.model.specs.Reading.{most-names, most-records}
 use Rattle.terms.proofs.Laws.{equal, below}
-use Rattle.triggers.specs.Entries.{disjuncts-of, last-flag, no-name}
-use Rattle.records.specs.Columns.{record-word, record-kind, record-name, uses-start, uses-end, entries-start, entries-end, assume-kind, retain-kind, entry-word, entry-name, entry-fact, taken-at}
+use Rattle.triggers.specs.Entries.{disjuncts-of, last-flag}
+use Rattle.records.specs.Columns.{record-word, record-kind, record-name, entries-start, entries-end, assume-kind, retain-kind, entry-word, entry-name, entry-fact, taken-at}
 use Rattle.records.specs.States.{entries-at}
 use Rattle.records.specs.Filing.{Records, entries-before, Filing, Taken}
 use Rattle.records.proofs.Recording.{Agree, sets-stay}

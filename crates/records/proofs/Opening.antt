@@ -10,16 +10,13 @@ use lib.Seq.{getD-set-same, getD-set-other}
 use lib.Dec.{eqb, leb, ltb}
 use borrow.Author.Tests.{lt-ltb, le-ltb, le-leb, lt-leb, ltb-true, leb-true}
 use Rattle.model.specs.Reading.{most-names, most-records}
-use Rattle.model.specs.declared.Counts.{Counts}
 use Rattle.model.specs.Outcome.{working-words}
-use Rattle.names.specs.Table.{Table, name-code}
-use Rattle.names.proofs.Coded.{table-kept}
-use Rattle.words.specs.Slices.{Same-but}
+use Rattle.names.specs.Table.{name-code}
 use Rattle.terms.proofs.Laws.{equal}
-use Rattle.records.specs.Columns.{record-kind, def-kind, taken-column, macro-column, first-column, taken-at, macro-at}
-use Rattle.records.specs.Filing.{newest, Records, Stocked}
-use Rattle.records.specs.Macros.{opened-word, first-macro, macro-count, first-opened, opened, start-word, is-def, macro-word, Found, found-word, word-from, Opens, Filled}
-use Rattle.records.proofs.Chaining.{newest-here, newest-other, newest-low, newest-cong, chained-kept}
+use Rattle.records.specs.Columns.{record-kind, def-kind, taken-column, macro-column, taken-at}
+use Rattle.records.specs.Filing.{newest}
+use Rattle.records.specs.Macros.{opened-word, first-macro, macro-count, first-opened, opened, start-word, is-def, macro-word, Found, found-word, word-from, Opens}
+use Rattle.records.proofs.Chaining.{newest-here, newest-other, newest-low}
 
 -- ---- the numbers that the macros of the start open to
 

@@ -1,10 +1,9 @@
 -- A record without entries: fun, def, retain and root.
-use Prim.Native.Nat.{ℕ, zero, suc, _+_, _-_, _*_, _≤_, _<_}
+use Prim.Native.Nat.{ℕ, _+_, _-_, _*_, _≤_, _<_}
 use native.Mathlib.Omega.{arith}
-use mathlib.Core.Path.{_≡_, refl, sym, ap, _∙_}
-use mathlib.Core.List.{List, [], _∷_, _++_, map}
-use lib.ListN.{length, getD, set, length-set}
-use lib.Seq.{getD-set-same, getD-set-other}
+use mathlib.Core.Path.{_≡_, refl, ap}
+use mathlib.Core.List.{List, [], _∷_, _++_}
+use lib.ListN.{getD}
 use Rattle.model.specs.Lists.{sum, fold-left, part}
 use Rattle.model.specs.Names.{Name, mem}
 use Rattle.model.specs.Summaries.{entries}
@@ -18,7 +17,7 @@ use Rattle.names.proofs.Coded.{Kept, table-kept}
 use Rattle.words.specs.Slices.{Same-but}
 use Rattle.gather.specs.Sets.{Fresh}
 use Rattle.triggers.specs.Entries.{disjuncts-of, disjuncts-of-words, entries-base}
-use Rattle.records.specs.Columns.{record-kind, record-name, assume-kind, retain-kind, root-kind, fact-column, next-column, first-column, taken-column, taken-at}
+use Rattle.records.specs.Columns.{record-kind, record-name, assume-kind, retain-kind, root-kind, fact-column, next-column, first-column, taken-at}
 use Rattle.records.specs.Filing.{Taken}
 use Rattle.records.specs.Writing.{with-record, Rowed}
 use Rattle.records.specs.Adding.{Standing}

@@ -1,14 +1,14 @@
 -- Tables that stand: before the first line, with the ask, with more names and terms, and with the macro column filled.
-use Prim.Native.Nat.{ℕ, zero, suc, _+_, _*_, _≤_, _<_}
+use Prim.Native.Nat.{ℕ, _+_, _≤_, _<_}
 use native.Mathlib.Omega.{arith}
-use mathlib.Core.Path.{_≡_, refl, sym, ap, _∙_}
-use mathlib.Core.List.{List, []}
+use mathlib.Core.Path.{_≡_, refl, sym, _∙_}
+use mathlib.Core.List.{List}
 use lib.ListN.{length, getD}
 use Rattle.model.specs.Lists.{fold-left}
 use Rattle.model.specs.Reading.{start, most-names, most-terms, most-records}
 use Rattle.model.specs.declared.Counts.{Counts}
 use Rattle.model.specs.Outcome.{working-words}
-use Rattle.names.specs.Table.{Table, name-of, names-of, name-code}
+use Rattle.names.specs.Table.{name-of, names-of, name-code}
 use Rattle.names.proofs.Laws.{empty-table}
 use Rattle.names.proofs.Coded.{table-kept}
 use Rattle.terms.specs.Rows.{terms-of, nodes-below}
@@ -18,7 +18,7 @@ use Rattle.gather.specs.Sets.{name-mark, row-mark}
 use Rattle.rules.specs.Views.{Tables, terms-in}
 use Rattle.records.specs.Columns.{record-kind, record-name, retain-kind, taken-column, macro-column, first-column, taken-at, first-entry}
 use Rattle.records.specs.States.{decls-of, roots-of, state-of}
-use Rattle.records.specs.Filing.{newest, entries-before, Records, Stocked}
+use Rattle.records.specs.Filing.{newest, entries-before, Stocked}
 use Rattle.records.specs.Macros.{macro-count, start-word, macro-word, Opens, Filled}
 use Rattle.records.specs.Writing.{no-counts, with-ask, with-terms}
 use Rattle.records.specs.Adding.{Standing}

@@ -1,19 +1,19 @@
 -- A `def` and a `root` added: records with the free names of a term.
-use Prim.Native.Nat.{ℕ, zero, suc, _+_, _-_, _*_, _≤_, _<_}
+use Prim.Native.Nat.{ℕ, _+_, _-_, _≤_, _<_}
 use native.Mathlib.Omega.{arith}
 use mathlib.Core.Path.{_≡_, refl, sym, ap, _∙_}
-use mathlib.Core.Bool.{true, false}
-use mathlib.Core.List.{List, [], _∷_, _++_, map, List·Memᴰ}
-use lib.ListN.{length, getD, set, length-set}
+use mathlib.Core.Bool.{false}
+use mathlib.Core.List.{List, map, List·Memᴰ}
+use lib.ListN.{length, getD, set}
 use lib.Seq.{getD-set-same, getD-set-other}
 use Rattle.model.specs.Lists.{sum, collect, fold-left, part}
 use Rattle.model.specs.Names.{Name, from-list}
-use Rattle.model.specs.Reading.{Content, def, root, spell, asked, nodes, spelled, trimmed, summarize-decl, root-of, taken-by, entries-of, uses-of, add-line, repeats, most-names, most-records, most-uses}
+use Rattle.model.specs.Reading.{def, root, asked, nodes, spelled, trimmed, summarize-decl, root-of, taken-by, entries-of, uses-of, add-line, repeats, most-names, most-records, most-uses}
 use Rattle.model.specs.Summaries.{free-top-level-names}
 use Rattle.model.specs.declared.Counts.{Counts}
 use Rattle.model.specs.declared.Refusal.the-variants as refusal
 use Rattle.model.proofs.PartLaws.{part-elim}
-use Rattle.names.specs.Table.{Table, name-of, names-of}
+use Rattle.names.specs.Table.{Table, name-of}
 use Rattle.names.proofs.Laws.{distinct}
 use Rattle.names.proofs.Excluded.{excluded-exact}
 use Rattle.terms.specs.Rows.{terms-of}
@@ -32,9 +32,9 @@ use Rattle.records.specs.Writing.{with-record, Rowed}
 use Rattle.records.specs.Adding.{excluded, Standing, Adds, Untouched}
 use Rattle.records.proofs.Recording.{names-stay}
 use Rattle.records.proofs.Judging.{many-uses, repeats-none, repeats-taken, repeats-free}
-use Rattle.records.proofs.Appending.{Says, record-added, record-repeated, record-crowded, record-beyond}
+use Rattle.records.proofs.Appending.{record-added, record-repeated, record-crowded, record-beyond}
 use Rattle.records.proofs.Plain.{spelled-again, kept, not-taken, is-taken, plain}
-use Rattle.records.proofs.Funs.{row-past, taken-put, fresh-taken}
+use Rattle.records.proofs.Funs.{taken-put, fresh-taken}
 
 -- the numbers of a set of names among the uses from those counted on up to n, and the slices then
 pub record Uses (file names rows out names′ rows′ out′ : List ℕ) (k : Counts) (set : List Name) (n : ℕ) : Type 0 where

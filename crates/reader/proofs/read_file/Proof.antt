@@ -7,7 +7,6 @@ use Rattle.records.proofs.Standing.{standing-opens}
 use Rattle.reader.specs.Lines.{Past, read-stops}
 use Rattle.reader.proofs.Naming.{past-none, past-more}
 use Rattle.reader.proofs.Lines.{Reading-on, no-lines, on-first, cleared-standing, on-open, on-next, on-refused, opened-read, lower}
-use borrow.Author.Needs.{needs}
 use Rattle.reader.proofs.read_file.Statement.{statement}
 use Rattle.reader.proofs.read_file.Tie as tie
 

@@ -1,5 +1,4 @@
 -- `records::add_def` meets its contract.
-use Prim.Native.Nat.{_≤_, _<_}
 use native.Mathlib.Omega.{arith}
 use Rattle.model.specs.Outcome.{working-words}
 use Rattle.records.specs.Adding.{full}

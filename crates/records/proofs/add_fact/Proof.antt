@@ -1,6 +1,6 @@
 -- `records::add_fact` meets its contract.
 use native.Mathlib.Omega.{arith}
-use mathlib.Core.Path.{_≡_, sym, _∙_}
+use mathlib.Core.Path.{sym, _∙_}
 use Rattle.records.specs.Adding.{full, excluded}
 use Rattle.summary.proofs.Answering.{limited-done}
 use Rattle.records.proofs.Funs.{untouched}

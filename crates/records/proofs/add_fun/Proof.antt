@@ -1,5 +1,4 @@
 -- `records::add_fun` meets its contract.
-use Prim.Native.Nat.{_≤_, _<_}
 use native.Mathlib.Omega.{arith}
 use Rattle.records.specs.Adding.{full}
 use Rattle.records.proofs.Funs.{small-row, untouched, fun-repeated, fun-crowded, fun-added, fun-past}

@@ -1,11 +1,10 @@
 -- `records::chain_entries` meets its contract. The loop's invariant: the entries up to `e` are on their chains.
-use Prim.Native.Nat.{ℕ, _+_, _-_, _%_, _≤_, _<_}
-use mathlib.Core.Path.{_≡_, refl, sym, _∙_, ap}
-use lib.ListN.{length, getD, length-set}
+use Prim.Native.Nat.{_-_, _%_, _≤_}
+use mathlib.Core.Path.{ap}
+use lib.ListN.{length-set}
 use Rattle.triggers.specs.Entries.{last-flag}
 use Rattle.records.specs.Writing.{Chains}
 use Rattle.records.proofs.Chaining.{chain-start, chain-none, chain-one, chain-end}
-use borrow.Author.Needs.{needs}
 use native.Mathlib.Omega.{arith}
 use Rattle.records.proofs.chain_entries.Statement.{statement}
 use Rattle.records.proofs.chain_entries.Tie as tie

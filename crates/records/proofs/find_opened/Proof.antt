@@ -1,12 +1,10 @@
 -- `records::find_opened` meets its contract. The loop's invariant: the numbers among the names before the n-th are found.
 use native.Mathlib.Omega.{arith}
-use Prim.Native.Nat.{_+_, _-_, _≤_, _<_}
+use Prim.Native.Nat.{_-_, _≤_}
 use mathlib.Core.Path.{_≡_, refl}
 use mathlib.Core.Logic.{inl, inr}
 use lib.ListN.{length, length-set}
-use Rattle.records.specs.Macros.{macro-count}
 use Rattle.records.proofs.Opening.{Finding, finding-none, finding-other, finding-one, finding-end}
-use borrow.Author.Needs.{needs}
 use native.Mathlib.Omega.{arith}
 use Rattle.records.proofs.find_opened.Statement.{statement}
 use Rattle.records.proofs.find_opened.Tie as tie

@@ -1,7 +1,6 @@
 -- `records::found_word` meets its contract.
 use native.Mathlib.Omega.{arith}
 use Rattle.records.proofs.Opening.{number-low, word-below, word-above, word-missing, word-there}
-use borrow.Author.Needs.{needs}
 use Rattle.records.proofs.found_word.Statement.{statement}
 use Rattle.records.proofs.found_word.Tie as tie
 use Rattle.records.proofs.found_word.Reads as reads

@@ -1,8 +1,6 @@
 -- `records::macro_word` meets its contract.
 use native.Mathlib.Omega.{arith}
-use mathlib.Core.Path.{_∙_}
 use Rattle.records.proofs.Opening.{word-def, word-other}
-use borrow.Author.Needs.{needs}
 use Rattle.records.proofs.macro_word.Statement.{statement}
 use Rattle.records.proofs.macro_word.Tie as tie
 use Rattle.records.proofs.macro_word.Reads as reads

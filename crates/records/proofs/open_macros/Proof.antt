@@ -1,12 +1,10 @@
 -- `records::open_macros` meets its contract. The loop's invariant: the words of the names before the n-th are written.
 use native.Mathlib.Omega.{arith}
 use Prim.Native.Nat.{_-_, _≤_}
-use mathlib.Core.Path.{_≡_, refl, sym, _∙_}
-use lib.ListN.{length-set}
+use mathlib.Core.Path.{refl, sym}
 use Rattle.model.proofs.ListLaws.{zero-at}
 use Rattle.records.specs.Macros.{macro-count, Found, Opens}
 use Rattle.records.proofs.Opening.{found-low, opens-none, opens-more, taken-low, opens-end}
-use borrow.Author.Needs.{needs}
 use native.Mathlib.Omega.{arith}
 use Rattle.records.proofs.open_macros.Statement.{statement}
 use Rattle.records.proofs.open_macros.Tie as tie

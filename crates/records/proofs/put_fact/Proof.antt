@@ -1,6 +1,6 @@
 -- `records::put_fact` meets its contract.
 use native.Mathlib.Omega.{arith}
-use mathlib.Core.Path.{_≡_, sym, _∙_}
+use mathlib.Core.Path.{_∙_}
 use lib.ListN.{length-set}
 use Rattle.records.proofs.Chaining.{chained-taken}
 use Rattle.records.proofs.Rows.{small-as, rowed-as}

@@ -1,5 +1,5 @@
 -- `records::put_row` meets its contract. The loop's invariant: what is left to write comes to the row.
-use Prim.Native.Nat.{_+_, _-_, _≤_}
+use Prim.Native.Nat.{_-_, _≤_}
 use mathlib.Core.Path.{_≡_, refl, sym, _∙_}
 use lib.ListN.{length, drop}
 use Rattle.records.specs.Writing.{put-row}
