@@ -1,7 +1,6 @@
 -- `summaries::put_facts` is safe and ends. The loop's invariant: the number is at most how many records there are.
 use Prim.Native.Nat.{_-_, _≤_}
 use borrow.Author.Needs.{needs}
-use native.Mathlib.Omega.{arith}
 use Rattle.summaries.proofs.Laws.{printable}
 use Rattle.summaries.proofs.put_facts.Statement.{statement}
 use Rattle.summaries.proofs.put_facts.Tie as tie
