@@ -25,11 +25,6 @@ const HIGHEST: usize = 8192;
 // The room for stamps: the kept facts and the roots.
 const MOST_STAMPS: usize = 2048;
 
-// The summary codes of ambients: the first, and the first past them.
-const AMBIENT: usize = 1;
-
-const PAST_AMBIENT: usize = 3;
-
 // The assume, fun or def that took the name of a rank, and one; 0 if none did.
 fn taker(names: &[u32], named: usize, r: usize) -> usize
     requires { ⌜ Index (now names) named × (r < named) ⌝ }
@@ -82,10 +77,10 @@ fn ambient_at(recs: &[u32], i: usize) -> usize
         return 0;
     }
     let summary = words::at(recs, records::SUMMARY + i);
-    if summary < AMBIENT {
+    if summary < records::AMBIENT {
         return 0;
     }
-    if PAST_AMBIENT <= summary {
+    if records::TRIGGERS <= summary {
         return 0;
     }
     i + 1
