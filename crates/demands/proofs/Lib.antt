@@ -34,3 +34,4 @@ pub mod Pruned
 pub mod Demand2
 pub mod Room
 pub mod Order
+pub mod OrderCases
