@@ -1,7 +1,8 @@
--- Change 3: the definitions and the declarations on the kept list are those whose name is walked, each last met first.
+-- Change 3: the definitions and the declarations on the kept list are those whose name is walked, each last met first; no
+-- other list is so.
 use Prim.Native.Nat.{ℕ, suc, _<_}
 use native.Mathlib.Omega.{arith}
-use mathlib.Core.Path.{_≡_, refl, sym, _∙_, ap}
+use mathlib.Core.Path.{_≡_, refl, sym, _∙_, ap, ap₂}
 use mathlib.Core.Logic.{_↔_, ⊎-elim}
 use mathlib.Core.Bool.{Bool, true, false, cond, not}
 use mathlib.Core.List.{List, [], _∷_, _++_, map, reverse, reverse-cons, List·Memᴰ, List·Memᴰ·head, List·Memᴰ·tail, List·Memᴰ·cases-cons, List·Memᴰ·not-nil, List·Memᴰ·append-cases, List·Memᴰ·eq-of-singleton, Memᴰ·cast}
@@ -18,7 +19,7 @@ use Rattle.demands.specs.Accepted.{Distinct, none as no-more, one-more}
 use Rattle.demands.specs.Demand2.{kept-list}
 use Rattle.demands.specs.Demand3.{run-of}
 use Rattle.demands.specs.FileOrder.{Rising, none as none-rise, one as one-rises, more as more-rise}
-use Rattle.demands.specs.Order.{first-place, Falling, none, one, more, Last-met-first, listed-facts, Decls-in-order}
+use Rattle.demands.specs.Order.{first-place, Falling, none, one, more, Last-met-first, listed-facts, Decls-in-order, Order-fixed}
 use Rattle.demands.proofs.Distinct.{distinct-map-keep}
 use Rattle.demands.proofs.ListedLaws.{kept-facts-elim, kept-decls-elim}
 use Rattle.demands.proofs.WellFormed.{accepted-well-formed}
@@ -59,12 +60,45 @@ ordered-reverse {R} (ahead {x} {l} f p) =
     rw reverse-cons (ordered-append {R = λ x y. R y x} (ordered-reverse p) (ahead (λ y i. absurd (List·Memᴰ·not-nil i)) end)
     (λ y z i j. rw (List·Memᴰ·eq-of-singleton j) (f y (reverse-elim l i))))
 
+-- lists so ordered with the same members are equal, where no two are related both ways
+ordered-unique : {A : Type 0} {R : A → A → Type 0} → ((x y : A) → R x y → R y x → ⊥)
+    → {l m : List A} → Ordered R l → Ordered R m → ((x : A) → List·Memᴰ x l ↔ List·Memᴰ x m) → l ≡ m
+ordered-unique apart end end h = refl
+ordered-unique apart end (ahead {x} g q) h = absurd (List·Memᴰ·not-nil (h x .1 (List·Memᴰ·head refl)))
+ordered-unique apart (ahead {x} f p) end h = absurd (List·Memᴰ·not-nil (h x .0 (List·Memᴰ·head refl)))
+ordered-unique {A} {R} apart (ahead {x} {l} f p) (ahead {x = y} {l = m} g q) h =
+    let e : x ≡ y = ⊎-elim (λ e. e)
+    (λ i. ⊎-elim sym (λ j. absurd (apart x y (f y j) (g x i))) (List·Memᴰ·cases-cons (h y .1 (List·Memᴰ·head refl))))
+    (List·Memᴰ·cases-cons (h x .0 (List·Memᴰ·head refl))) in
+    ap₂ _∷_ e (ordered-unique apart p q (λ z. (
+      λ i. ⊎-elim (λ k. absurd (twice x (f x (Memᴰ·cast (e ∙ sym k) i)))) (λ j. j) (List·Memᴰ·cases-cons (h z .0 (List·Memᴰ·tail i))),
+      λ i. ⊎-elim (λ k. absurd (twice y (g y (Memᴰ·cast (sym e ∙ sym k) i)))) (λ j. j) (List·Memᴰ·cases-cons (h z .1 (List·Memᴰ·tail i))),
+    )))
+  where
+    twice : (z : A) → R z z → ⊥
+    twice z r = apart z z r r
+
+-- the first of falling numbers is above the others
+falling-head : {n : ℕ} {l : List ℕ} → Falling (n ∷ l) → (k : ℕ) → List·Memᴰ k l → k < n
+falling-head one k i = absurd (List·Memᴰ·not-nil i)
+falling-head (more {m} h r) k i = ⊎-elim (λ (e : k ≡ m). omega arith) (λ j. omega (arith, falling-head r k j)) (List·Memᴰ·cases-cons i)
+
+-- the others of falling numbers fall
+falling-tail : {n : ℕ} {l : List ℕ} → Falling (n ∷ l) → Falling l
+falling-tail one = none
+falling-tail (more h r) = r
+
 module _ {A : Type 0} (key : A → ℕ) where
   -- elements ordered by falling keys have falling keys
   ordered-falling : {l : List A} → Ordered (λ x y. key y < key x) l → Falling (map key l)
   ordered-falling end = none
   ordered-falling (ahead f end) = one
-  ordered-falling (ahead f (ahead {x = y} g p)) = more (f y (List·Memᴰ·head refl)) (ordered-falling (ahead g p))
+  ordered-falling (ahead {x} f (ahead {x = y} g p)) = more {n = key x} {m = key y} (f y (List·Memᴰ·head refl)) (ordered-falling (ahead g p))
+
+  -- and back
+  falling-ordered : (l : List A) → Falling (map key l) → Ordered (λ x y. key y < key x) l
+  falling-ordered [] r = end
+  falling-ordered (x ∷ l) r = ahead (λ y i. falling-head r (key y) (map-intro key i)) (falling-ordered l (falling-tail r))
 
   -- elements ordered by rising keys have rising keys
   ordered-rising : {l : List A} → Ordered (λ x y. key x < key y) l → Rising (map key l)
@@ -222,3 +256,23 @@ decls-in-order file s e =
       list = ap (map (λ (f : Fact). f .line) (listed-facts s) ++_)
           (lines-apart (prune-decls a) (kept-decls names (definitions (s .decls))) (kept-decls names (declarations (s .decls))));
     }
+
+-- what is said of the listed definitions, or declarations, leaves one list
+last-met-unique : {option-4 : Bool} {names : List Name} {ds l m : List Decl}
+    → Last-met-first option-4 names ds l → Last-met-first option-4 names ds m → l ≡ m
+last-met-unique {names} {l} {m} p q =
+    let key : Decl → ℕ = λ d. first-place names (d .name) in
+    ordered-unique (λ c d h k. omega arith) (falling-ordered key l (p .last-first)) (falling-ordered key m (q .last-first))
+    (λ d. (λ i. q .noted d .1 (p .noted d .0 i), λ i. p .noted d .1 (q .noted d .0 i)))
+
+-- no other list is in the one order
+pub order-fixed : Order-fixed
+order-fixed file s e lines p =
+    let q = decls-in-order file s e in
+    let line : Root → ℕ = λ r. r .line in
+    let roots : p .roots ≡ q .roots =
+    ordered-unique (λ x y h k. omega arith) (rising-ordered line (p .roots) (p .by-line)) (rising-ordered line (q .roots) (q .by-line))
+    (λ r. (λ i. q .of-query r .1 (p .of-query r .0 i), λ i. p .of-query r .1 (q .of-query r .0 i))) in
+    let defs : p .defs ≡ q .defs = last-met-unique (rw roots at (p .defs-listed)) (q .defs-listed) in
+    let funs : p .funs ≡ q .funs = last-met-unique (rw roots at (p .funs-listed)) (q .funs-listed) in
+    p .list ∙ rw (defs, funs) (sym (q .list))

@@ -45,8 +45,8 @@ pub record Last-met-first (option-4 : Bool) (names : List Name) (all listed : Li
 abbrev pub listed-facts : State → List Fact
 listed-facts s = kept-facts (s .goal) (facts (s .decls)) (run-of s .reached)
 
--- Change 3 of a file that was read
-pub record One-order (s : State) : Type 0 where
+-- Change 3 of a file that was read, and of a list of lines
+pub record One-order (s : State) (lines : List ℕ) : Type 0 where
   -- "then the roots of q"
   pub roots : List Root
   pub of-query : (r : Root) → List·Memᴰ r roots ↔ (List·Memᴰ r (s .roots) × (r .query ≡ s .goal .query))
@@ -61,7 +61,12 @@ pub record One-order (s : State) : Type 0 where
   pub defs-listed : Last-met-first (prune-decls (s .goal)) (walked (listed-facts s) roots) (definitions (s .decls)) defs
   pub funs-listed : Last-met-first (prune-decls (s .goal)) (walked (listed-facts s) roots) (declarations (s .decls)) funs
   -- "Defs come first, then funs", after the facts
-  pub list : kept-list s ≡ map (λ (f : Fact). f .line) (listed-facts s) ++ map (λ (d : Decl). d .line) (defs ++ funs)
+  pub list : lines ≡ map (λ (f : Fact). f .line) (listed-facts s) ++ map (λ (d : Decl). d .line) (defs ++ funs)
 
+-- the kept list is so
 abbrev pub Decls-in-order : Type 0
-Decls-in-order = (file : List ℕ) (s : State) → Accepted file s → One-order s
+Decls-in-order = (file : List ℕ) (s : State) → Accepted file s → One-order s (kept-list s)
+
+-- "fixed": no other list is
+abbrev pub Order-fixed : Type 0
+Order-fixed = (file : List ℕ) (s : State) → Accepted file s → (lines : List ℕ) → One-order s lines → lines ≡ kept-list s
