@@ -9,3 +9,4 @@ pub mod Demand1
 pub mod Slices
 pub mod FileOrder
 pub mod Counts
+pub mod Order
