@@ -24,6 +24,7 @@ use Rattle.demands.specs.Demand3.{run-of}
 use Rattle.demands.specs.Slices.{Cleared}
 use Rattle.demands.proofs.Demand1.{refusals-1-to-4, refusal-5, refusal-6, refusal-7, refusal-8, refusal-9, list-given}
 use Rattle.demands.proofs.Demand2.{kept-is-pruned, kept-once}
+use Rattle.demands.proofs.Order.{decls-in-order}
 use Rattle.demands.proofs.Demand3.{reached-closed, reached-least, reached-listed, visits-exact, rounds-exact, rounds-bound}
 use Rattle.demands.proofs.FileOrder.{file-order}
 use Rattle.demands.proofs.Slices.{slices-exact}
@@ -281,6 +282,7 @@ module _ (c : Call) (left : Left c) where
         count = t .kept-is ∙ ap length same;
         result = t .result-is ∙ ap (λ (m : List ℕ). m ++ drop (length m) (c .out)) same;
         once = rw same at (kept-once (c .file) (t .state) (t .accepted));
+        one-order = rw same at (decls-in-order (c .file) (t .state) (t .accepted));
       }
 
   demand-3 : (t : Told) → Demand-3 c (t .state)

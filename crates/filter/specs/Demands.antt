@@ -21,6 +21,7 @@ use Rattle.demands.specs.Demand1.{Lines-judged, Of-fields, When-1-to-4, When-5,
 use Rattle.demands.specs.Slices.{Cleared}
 use Rattle.demands.specs.FileOrder.{In-order}
 use Rattle.demands.specs.Demand2.{kept-list, pruned}
+use Rattle.demands.specs.Order.{One-order}
 use Rattle.demands.specs.Demand3.{Closed, met-by, run-of, reached, Listed}
 use Rattle.demands.specs.Fuel.{Ends}
 use Rattle.demands.specs.Queries.{Alike}
@@ -90,12 +91,15 @@ pub record Demand-1 (c : Call) : Type 0 where
   pub back-5 : Comes-back c (c .w5) (c .v5)
 
 -- "Whenever the call accepts a file, each fact's summary, the kept list and its order equal what Pruning.fst computes, read as
--- definitions over lists": the result slice begins with that list and is as it was behind it
+-- definitions over lists", the order of the definitions and of the declarations too: the result slice begins with that list and
+-- is as it was behind it
 pub record Demand-2 (c : Call) (s : State) : Type 0 where
   pub summaries : In-order (c .file) s
   pub count : c .answer .kept ≡ length (pruned s)
   pub result : c .out′ ≡ pruned s ++ drop (length (pruned s)) (c .out)
   pub once : Distinct (pruned s)
+  -- the order in the words of document 02, Change 3
+  pub one-order : One-order s (pruned s)
 
 -- "Whenever the call accepts a file, the reached facts are a closed set and every closed set contains them; they are the facts
 -- on the kept list that are not ambient, each once and in the order of document 01. The visits reported are exactly the filed
