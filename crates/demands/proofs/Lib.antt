@@ -35,3 +35,4 @@ pub mod Demand2
 pub mod Room
 pub mod Order
 pub mod OrderCases
+pub mod Options

@@ -10,3 +10,4 @@ pub mod Slices
 pub mod FileOrder
 pub mod Counts
 pub mod Order
+pub mod Options
