@@ -92,7 +92,8 @@ fn list_ambients(recs: &[u32], run: &mut [u32], k: Counts, m: usize) -> usize
     ensures { λ to. ⌜ Lists (now (run .entry)) m (ambient-records (now (recs .entry)) k) (now (run .exit)) to ⌝ }
 {
     let mut to = m;
-    if records::no_ambients(k.options) {
+    let options = records::options_of(k.options);
+    if options.no_ambients {
         return to;
     }
     let mut i = k.records;
@@ -290,7 +291,8 @@ fn list_records(names: &[u32], recs: &[u32], out: &[u32], run: &mut [u32], k: Co
     ensures { λ to. ⌜ Listed (now (names .entry)) (now (recs .entry)) (now (out .entry)) (now (run .entry)) (now (run .exit)) k to ⌝ }
 {
     let facts = list_facts(names, recs, run, k);
-    if !records::prune_decls(k.options) {
+    let options = records::options_of(k.options);
+    if !options.prune_decls {
         return facts;
     }
     words::clear(run, 0, model::MOST_NAMES);

@@ -10,11 +10,12 @@ ghost use mathlib.Core.Path.{_≡_};
 ghost use mathlib.Core.List.{[]};
 ghost use lib.ListN.{length, getD};
 ghost use lib.Dec.{eqb};
-ghost use Rattle.model.specs.Reading.{assume, fun, def, retain, root, most-names, most-records, most-entries, no-ambients, pretyping-axioms, prune-decls};
+ghost use Rattle.model.specs.Reading.{assume, fun, def, retain, root, most-names, most-records, most-entries};
 ghost use Rattle.model.specs.Outcome.{working-words};
 ghost use Rattle.names.specs.Table.{name-of};
 ghost use Rattle.records.specs.Columns.{code-of, taken-at};
 ghost use Rattle.records.specs.States.{asks};
+ghost use Rattle.records.specs.Options.{most-options, options-value, Options-of};
 ghost use Rattle.records.specs.Filing.{Chained};
 ghost use Rattle.records.specs.Macros.{macro-count, is-def, found-word, word-from, Found, Opens};
 ghost use Rattle.records.specs.Writing.{put-row, with-record, Small, Rowed, Chains, Puttable, Puts};
@@ -86,25 +87,23 @@ const FIRST_OPENED: usize = 15;
 
 const PAST_OPENED: usize = 20;
 
-// Option 1, `no_ambients`.
-pub fn no_ambients(options: usize) -> bool
-    ensures { λ r. ⌜ ((q : ℕ) → r ≡ no-ambients (asks q options)) ⌝ }
-{
-    options % 2 == 1
+// The options of an ask: 1, `no_ambients`; 2, `pretyping_axioms`; 4, `prune_decls`.
+pub struct Options {
+    pub no_ambients: bool,
+    pub pretyping_axioms: bool,
+    pub prune_decls: bool,
 }
 
-// Option 2, `pretyping_axioms`.
-pub fn pretyping_axioms(options: usize) -> bool
-    ensures { λ r. ⌜ ((q : ℕ) → r ≡ pretyping-axioms (asks q options)) ⌝ }
+// The options of an options number: what remains by 2 after the halvings of each one's place.
+pub fn options_of(number: usize) -> Options
+    ensures on { λ r. ⌜ ((q : ℕ) → Options-of (asks q number) r) ⌝ }
+    ensures sum { λ r. ⌜ (number ≤ most-options → options-value r ≡ number) ⌝ }
 {
-    options / 2 % 2 == 1
-}
-
-// Option 4, `prune_decls`.
-pub fn prune_decls(options: usize) -> bool
-    ensures { λ r. ⌜ ((q : ℕ) → r ≡ prune-decls (asks q options)) ⌝ }
-{
-    options / 4 % 2 == 1
+    Options {
+        no_ambients: number % 2 == 1,
+        pretyping_axioms: number / 2 % 2 == 1,
+        prune_decls: number / 4 % 2 == 1,
+    }
 }
 
 // Writes the row of a record: a word for each of its ten columns.

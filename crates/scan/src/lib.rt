@@ -162,7 +162,8 @@ fn retained(recs: &[u32], k: Counts, i: usize) -> bool
     if words::at(recs, records::FLAG + i) != 1 {
         return true;
     }
-    records::pretyping_axioms(k.options)
+    let options = records::options_of(k.options);
+    options.pretyping_axioms
 }
 
 // Whether round 1 scans a record: a root of the query or, without option 1, an ambient root.
@@ -180,7 +181,8 @@ fn starts(recs: &[u32], k: Counts, i: usize) -> bool
     if words::at(recs, records::SUMMARY + i) != records::AMBIENT_ROOT {
         return false;
     }
-    !records::no_ambients(k.options)
+    let options = records::options_of(k.options);
+    !options.no_ambients
 }
 
 impl Scan {

@@ -14,14 +14,14 @@ Inv-loop recs run₀ m to₀ i₀ run to i = Falling run₀ m (ambient-at recs) 
 abbrev μ-loop : tie.MeasureT-loop
 μ-loop recs run₀ m to₀ i₀ run to i = i
 
-no-ambients-requires : tie.Need-no-ambients-requires Inv-loop μ-loop
-no-ambients-requires c κs = search needs
+options-of-requires : tie.Need-options-of-requires Inv-loop μ-loop
+options-of-requires c κs = search needs
 
 returns : tie.Need-returns Inv-loop μ-loop
 returns c =
-    let no-ambients = c .before in
-    let entry = no-ambients .before .before .before in
-    ambients-off (entry .args .recs .now) (entry .args .k) (no-ambients .no-ambients .ensures (entry .args .k .query)) _ _ (c .if1 .taken)
+    let options-of = c .before in
+    let entry = options-of .before .before .before in
+    ambients-off (entry .args .recs .now) (entry .args .k) (options-of .options-of .ensures .0 (entry .args .k .query) .no-ambients-is) _ _ (c .if1 .taken)
 
 loop-holds : tie.Need-loop-holds Inv-loop μ-loop
 loop-holds c = falling-start _ _ _ _
@@ -64,9 +64,9 @@ add-run c =
     let loop-test = ambient-at .before in
     let loop = loop-test .before in
     let if1 = loop .before in
-    let no-ambients = if1 .before in
-    let entry = no-ambients .before .before .before in
-    let fits = ambients-fit (entry .args .recs .now) (entry .args .k) (no-ambients .no-ambients .ensures (entry .args .k .query)) (entry .args .m)
+    let options-of = if1 .before in
+    let entry = options-of .before .before .before in
+    let fits = ambients-fit (entry .args .recs .now) (entry .args .k) (options-of .options-of .ensures .0 (entry .args .k .query) .no-ambients-is) (entry .args .m)
     (if1 .if1 .left) (entry .pre .3) in
     let room = falling-room (loop .loop .inv) (loop-test .loop-test .taken) (ambient-at .ambient-at .ensures) (c .if2 .left) fits in
     omega (arith, room)
@@ -77,9 +77,9 @@ mul-run c =
     let loop-test = ambient-at .before in
     let loop = loop-test .before in
     let if1 = loop .before in
-    let no-ambients = if1 .before in
-    let entry = no-ambients .before .before .before in
-    let fits = ambients-fit (entry .args .recs .now) (entry .args .k) (no-ambients .no-ambients .ensures (entry .args .k .query)) (entry .args .m)
+    let options-of = if1 .before in
+    let entry = options-of .before .before .before in
+    let fits = ambients-fit (entry .args .recs .now) (entry .args .k) (options-of .options-of .ensures .0 (entry .args .k .query) .no-ambients-is) (entry .args .m)
     (if1 .if1 .left) (entry .pre .3) in
     let room = falling-room (loop .loop .inv) (loop-test .loop-test .taken) (ambient-at .ambient-at .ensures) (c .if2 .left) fits in
     omega (arith, room)
@@ -90,9 +90,9 @@ slice-write-run c =
     let loop-test = ambient-at .before in
     let loop = loop-test .before in
     let if1 = loop .before in
-    let no-ambients = if1 .before in
-    let entry = no-ambients .before .before .before in
-    let fits = ambients-fit (entry .args .recs .now) (entry .args .k) (no-ambients .no-ambients .ensures (entry .args .k .query)) (entry .args .m)
+    let options-of = if1 .before in
+    let entry = options-of .before .before .before in
+    let fits = ambients-fit (entry .args .recs .now) (entry .args .k) (options-of .options-of .ensures .0 (entry .args .k .query) .no-ambients-is) (entry .args .m)
     (if1 .if1 .left) (entry .pre .3) in
     let room = falling-room (loop .loop .inv) (loop-test .loop-test .taken) (ambient-at .ambient-at .ensures) (c .if2 .left) fits in
     omega (arith, room, entry .pre .1, going-length (loop .loop .inv .going))
@@ -103,9 +103,9 @@ add-to c =
     let loop-test = ambient-at .before in
     let loop = loop-test .before in
     let if1 = loop .before in
-    let no-ambients = if1 .before in
-    let entry = no-ambients .before .before .before in
-    let fits = ambients-fit (entry .args .recs .now) (entry .args .k) (no-ambients .no-ambients .ensures (entry .args .k .query)) (entry .args .m)
+    let options-of = if1 .before in
+    let entry = options-of .before .before .before in
+    let fits = ambients-fit (entry .args .recs .now) (entry .args .k) (options-of .options-of .ensures .0 (entry .args .k .query) .no-ambients-is) (entry .args .m)
     (if1 .if1 .left) (entry .pre .3) in
     let room = falling-room (loop .loop .inv) (loop-test .loop-test .taken) (ambient-at .ambient-at .ensures) (c .if2 .left) fits in
     omega (arith, room)
@@ -131,13 +131,13 @@ returns-2 : tie.Need-returns-2 Inv-loop μ-loop
 returns-2 c =
     let loop = c .before in
     let if1 = loop .before in
-    let no-ambients = if1 .before in
-    let entry = no-ambients .before .before .before in
-    ambients-listed (entry .args .recs .now) (entry .args .k) (no-ambients .no-ambients .ensures (entry .args .k .query)) (if1 .if1 .left)
+    let options-of = if1 .before in
+    let entry = options-of .before .before .before in
+    ambients-listed (entry .args .recs .now) (entry .args .k) (options-of .options-of .ensures .0 (entry .args .k .query) .no-ambients-is) (if1 .if1 .left)
     (falling-end (loop .loop .inv) (c .loop-test .left))
 
 pub list-ambients-spec : {M : Type 1} → statement M
 list-ambients-spec =
     tie.close
-    (tie.spec Inv-loop μ-loop no-ambients-requires returns loop-holds sub-i ambient-at-requires loop-less loop-again sub-run
+    (tie.spec Inv-loop μ-loop options-of-requires returns loop-holds sub-i ambient-at-requires loop-less loop-again sub-run
     cast-run add-run mul-run slice-write-run add-to loop-less-2 loop-again-2 same-length returns-2)

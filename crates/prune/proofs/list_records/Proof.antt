@@ -12,8 +12,8 @@ list-facts-requires c κs =
     let entry = c .before .before .before .before .before in
     (entry .pre .index, entry .pre .notes .recorded .room, entry .pre .notes .room, entry .pre .notes .recorded .few, facts-fit (entry .pre))
 
-prune-decls-requires : tie.Need-prune-decls-requires
-prune-decls-requires c κs = search needs
+options-of-requires : tie.Need-options-of-requires
+options-of-requires c κs = search needs
 
 same-length : tie.Need-same-length
 same-length c =
@@ -22,10 +22,10 @@ same-length c =
 
 returns : tie.Need-returns
 returns c =
-    let prune-decls = c .before in
-    let list-facts = prune-decls .before .before .before in
+    let options-of = c .before in
+    let list-facts = options-of .before .before .before in
     let entry = list-facts .before .before .before .before .before .before in
-    listed-facts (entry .pre) (list-facts .list-facts .ensures) (prune-decls .prune-decls .ensures (entry .args .k .query)) (not-true _ (c .if1 .taken))
+    listed-facts (entry .pre) (list-facts .list-facts .ensures) (options-of .options-of .ensures .0 (entry .args .k .query) .prune-decls-is) (not-true _ (c .if1 .taken))
 
 clear-requires : tie.Need-clear-requires
 clear-requires c κs =
@@ -70,12 +70,12 @@ list-decls-requires c κs =
     let note-facts = note-roots .before .before .before .before in
     let clear = note-facts .before .before .before .before in
     let if1 = clear .before .before in
-    let prune-decls = if1 .before in
-    let list-facts = prune-decls .before .before .before in
+    let options-of = if1 .before in
+    let list-facts = options-of .before .before .before in
     let entry = list-facts .before .before .before .before .before .before in
     decls-ask (entry .pre) (list-facts .list-facts .ensures) (clear .clear .ensures) (note-facts .note-facts .ensures)
     (note-roots .note-roots .ensures .0) (note-roots .note-roots .ensures .1) (link-names .link-names .ensures)
-    (prune-decls .prune-decls .ensures (entry .args .k .query)) (not-false _ (if1 .if1 .left))
+    (options-of .options-of .ensures .0 (entry .args .k .query) .prune-decls-is) (not-false _ (if1 .if1 .left))
 
 same-length-2 : tie.Need-same-length-2
 same-length-2 c =
@@ -85,12 +85,12 @@ same-length-2 c =
     let note-facts = note-roots .before .before .before .before in
     let clear = note-facts .before .before .before .before in
     let if1 = clear .before .before in
-    let prune-decls = if1 .before in
-    let list-facts = prune-decls .before .before .before in
+    let options-of = if1 .before in
+    let list-facts = options-of .before .before .before in
     let entry = list-facts .before .before .before .before .before .before in
     listed-all (entry .pre) (list-facts .list-facts .ensures) (clear .clear .ensures) (note-facts .note-facts .ensures)
     (note-roots .note-roots .ensures .0) (note-roots .note-roots .ensures .1) (link-names .link-names .ensures)
-    (prune-decls .prune-decls .ensures (entry .args .k .query)) (not-false _ (if1 .if1 .left)) (list-decls .list-decls .ensures) .same .same-length
+    (options-of .options-of .ensures .0 (entry .args .k .query) .prune-decls-is) (not-false _ (if1 .if1 .left)) (list-decls .list-decls .ensures) .same .same-length
 
 returns-2 : tie.Need-returns-2
 returns-2 c =
@@ -100,15 +100,15 @@ returns-2 c =
     let note-facts = note-roots .before .before .before .before in
     let clear = note-facts .before .before .before .before in
     let if1 = clear .before .before in
-    let prune-decls = if1 .before in
-    let list-facts = prune-decls .before .before .before in
+    let options-of = if1 .before in
+    let list-facts = options-of .before .before .before in
     let entry = list-facts .before .before .before .before .before .before in
     listed-all (entry .pre) (list-facts .list-facts .ensures) (clear .clear .ensures) (note-facts .note-facts .ensures)
     (note-roots .note-roots .ensures .0) (note-roots .note-roots .ensures .1) (link-names .link-names .ensures)
-    (prune-decls .prune-decls .ensures (entry .args .k .query)) (not-false _ (if1 .if1 .left)) (list-decls .list-decls .ensures)
+    (options-of .options-of .ensures .0 (entry .args .k .query) .prune-decls-is) (not-false _ (if1 .if1 .left)) (list-decls .list-decls .ensures)
 
 pub list-records-spec : {M : Type 1} → statement M
 list-records-spec =
     tie.close
-    (tie.spec list-facts-requires prune-decls-requires same-length returns clear-requires note-facts-requires
+    (tie.spec list-facts-requires options-of-requires same-length returns clear-requires note-facts-requires
     note-roots-requires link-names-requires list-decls-requires same-length-2 returns-2)
