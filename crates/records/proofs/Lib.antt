@@ -1,4 +1,4 @@
-pub mod Options
+pub mod OptionsOf
 pub mod Rows
 pub mod Chaining
 pub mod Recording

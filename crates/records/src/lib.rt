@@ -15,7 +15,7 @@ ghost use Rattle.model.specs.Outcome.{working-words};
 ghost use Rattle.names.specs.Table.{name-of};
 ghost use Rattle.records.specs.Columns.{code-of, taken-at};
 ghost use Rattle.records.specs.States.{asks};
-ghost use Rattle.records.specs.Options.{most-options, options-value, Options-of};
+ghost use Rattle.records.specs.OptionsOf.{most-options, options-value, Options-of};
 ghost use Rattle.records.specs.Filing.{Chained};
 ghost use Rattle.records.specs.Macros.{macro-count, is-def, found-word, word-from, Found, Opens};
 ghost use Rattle.records.specs.Writing.{put-row, with-record, Small, Rowed, Chains, Puttable, Puts};

@@ -1,5 +1,5 @@
 -- `records::options_of` meets its contract.
-use Rattle.records.proofs.Options.{options-are, options-add}
+use Rattle.records.proofs.OptionsOf.{options-are, options-add}
 use Rattle.records.proofs.options_of.Statement.{statement}
 use Rattle.records.proofs.options_of.Tie as tie
 

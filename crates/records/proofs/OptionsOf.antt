@@ -5,7 +5,7 @@ use lib.Dec.{eqb}
 use Rattle.model.specs.Reading.{no-ambients, pretyping-axioms, prune-decls}
 use Rattle.demands.proofs.Options.{options-sum}
 use Rattle.records.specs.States.{asks}
-use Rattle.records.specs.Options.{most-options, options-value, Options-of}
+use Rattle.records.specs.OptionsOf.{most-options, options-value, Options-of}
 use Rattle.records.specs.declared.Options.{Options}
 
 -- the struct of a number
