@@ -10,7 +10,7 @@ use Rattle.records.specs.declared.Options.{Options}
 
 -- the struct of a number
 abbrev taken-apart : ℕ → Options
-taken-apart n = record { no-ambients = eqb (n % 2) 1; pretyping-axioms = eqb (n / 2 % 2) 1; prune-decls = eqb (n / 4 % 2) 1 }
+taken-apart n = record { «no_ambients» = eqb (n % 2) 1; «pretyping_axioms» = eqb (n / 2 % 2) 1; «prune_decls» = eqb (n / 4 % 2) 1 }
 
 pub options-are : (q n : ℕ) → Options-of (asks q n) (taken-apart n)
 unfolding no-ambients pretyping-axioms prune-decls

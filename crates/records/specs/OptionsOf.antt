@@ -11,10 +11,10 @@ most-options = 7
 
 -- the options that are on, each at its value
 unfoldable pub options-value : Options → ℕ
-options-value r = cond (r .no-ambients) 1 0 + cond (r .pretyping-axioms) 2 0 + cond (r .prune-decls) 4 0
+options-value r = cond (r .«no_ambients») 1 0 + cond (r .«pretyping_axioms») 2 0 + cond (r .«prune_decls») 4 0
 
 -- the options of an ask
 pub record Options-of (a : Ask) (r : Options) : Type 0 where
-  pub no-ambients-is : r .no-ambients ≡ no-ambients a
-  pub pretyping-axioms-is : r .pretyping-axioms ≡ pretyping-axioms a
-  pub prune-decls-is : r .prune-decls ≡ prune-decls a
+  pub no-ambients-is : r .«no_ambients» ≡ no-ambients a
+  pub pretyping-axioms-is : r .«pretyping_axioms» ≡ pretyping-axioms a
+  pub prune-decls-is : r .«prune_decls» ≡ prune-decls a
