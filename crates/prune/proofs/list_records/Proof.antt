@@ -17,26 +17,26 @@ options-of-requires c κs = search needs
 
 same-length : tie.Need-same-length
 same-length c =
-    let list-facts = c .before .before .before .before in
+    let list-facts = c .before .before .before .before .before in
     lists-length (list-facts .list-facts .ensures)
 
 returns : tie.Need-returns
 returns c =
-    let options-of = c .before in
+    let options-of = c .before .before in
     let list-facts = options-of .before .before .before in
     let entry = list-facts .before .before .before .before .before .before in
     listed-facts (entry .pre) (list-facts .list-facts .ensures) (options-of .options-of .ensures .0 (entry .args .k .query) .prune-decls-is) (not-true _ (c .if1 .taken))
 
 clear-requires : tie.Need-clear-requires
 clear-requires c κs =
-    let list-facts = c .before .before .before .before .before in
+    let list-facts = c .before .before .before .before .before .before in
     let entry = list-facts .before .before .before .before .before .before in
     omega (arith, entry .pre .notes .room, lists-length (list-facts .list-facts .ensures))
 
 note-facts-requires : tie.Need-note-facts-requires
 note-facts-requires c κs =
     let clear = c .before .before .before in
-    let list-facts = clear .before .before .before .before .before .before in
+    let list-facts = clear .before .before .before .before .before .before .before in
     let entry = list-facts .before .before .before .before .before .before in (
       cleared-notes (entry .pre) (list-facts .list-facts .ensures) (clear .clear .ensures),
       few-facts (entry .pre) (list-facts .list-facts .ensures),
@@ -47,7 +47,7 @@ note-roots-requires : tie.Need-note-roots-requires
 note-roots-requires c κs =
     let note-facts = c .before .before .before in
     let clear = note-facts .before .before .before .before in
-    let list-facts = clear .before .before .before .before .before .before in
+    let list-facts = clear .before .before .before .before .before .before .before in
     let entry = list-facts .before .before .before .before .before .before in (
       noted-notes (entry .pre) (list-facts .list-facts .ensures) (clear .clear .ensures) (note-facts .note-facts .ensures),
       few-facts (entry .pre) (list-facts .list-facts .ensures),
@@ -58,7 +58,7 @@ link-names-requires c κs =
     let note-roots = c .before .before .before in
     let note-facts = note-roots .before .before .before .before in
     let clear = note-facts .before .before .before .before in
-    let list-facts = clear .before .before .before .before .before .before in
+    let list-facts = clear .before .before .before .before .before .before .before in
     let entry = list-facts .before .before .before .before .before .before in
     link-asks (entry .pre) (list-facts .list-facts .ensures) (clear .clear .ensures) (note-facts .note-facts .ensures)
     (note-roots .note-roots .ensures .0) (note-roots .note-roots .ensures .1)
@@ -70,7 +70,7 @@ list-decls-requires c κs =
     let note-facts = note-roots .before .before .before .before in
     let clear = note-facts .before .before .before .before in
     let if1 = clear .before .before in
-    let options-of = if1 .before in
+    let options-of = if1 .before .before in
     let list-facts = options-of .before .before .before in
     let entry = list-facts .before .before .before .before .before .before in
     decls-ask (entry .pre) (list-facts .list-facts .ensures) (clear .clear .ensures) (note-facts .note-facts .ensures)
@@ -85,7 +85,7 @@ same-length-2 c =
     let note-facts = note-roots .before .before .before .before in
     let clear = note-facts .before .before .before .before in
     let if1 = clear .before .before in
-    let options-of = if1 .before in
+    let options-of = if1 .before .before in
     let list-facts = options-of .before .before .before in
     let entry = list-facts .before .before .before .before .before .before in
     listed-all (entry .pre) (list-facts .list-facts .ensures) (clear .clear .ensures) (note-facts .note-facts .ensures)
@@ -100,7 +100,7 @@ returns-2 c =
     let note-facts = note-roots .before .before .before .before in
     let clear = note-facts .before .before .before .before in
     let if1 = clear .before .before in
-    let options-of = if1 .before in
+    let options-of = if1 .before .before in
     let list-facts = options-of .before .before .before in
     let entry = list-facts .before .before .before .before .before .before in
     listed-all (entry .pre) (list-facts .list-facts .ensures) (clear .clear .ensures) (note-facts .note-facts .ensures)
