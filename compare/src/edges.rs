@@ -28,6 +28,7 @@ pub fn edges() -> Vec<Edge> {
     uses(&mut edges);
     bytes(&mut edges);
     ugly(&mut edges);
+    costly(&mut edges);
     slices(&mut edges);
     edges
 }
@@ -398,6 +399,41 @@ fn records(edges: &mut Vec<Edge>) {
         term = next;
     }
     add(edges, "records-1024-chain", 0, text);
+}
+
+/// Files whose run takes the most steps: 1,024 rounds, 2,048 entries on one name, 1,024 disjuncts that share a name.
+fn costly(edges: &mut Vec<Edge>) {
+    let mut text = Text::ask(0, 0);
+    let start = text.free("p0");
+    let mut term = start;
+    for index in 0..limits::RECORDS - 1 {
+        let next = text.free(format!("p{}", index + 1));
+        let fact = text.all(next, &[vec![term]]);
+        text.assume(format!("a{index}"), 0, fact);
+        term = next;
+    }
+    text.root(0, "r", start);
+    add(edges, "costly-1024-rounds", 0, text);
+
+    let mut text = Text::ask(0, 0);
+    let term = text.free("p");
+    let twice = text.all(term, &[vec![term], vec![term]]);
+    let often = text.all(term, &[vec![term], vec![term], vec![term], vec![term]]);
+    for index in 0..limits::RECORDS - 2 {
+        text.assume(format!("a{index}"), 0, twice);
+    }
+    text.assume("b", 0, often);
+    text.root(0, "r", term);
+    add(edges, "costly-2048-entries-on-one-name", 0, text);
+
+    let mut text = Text::ask(0, 0);
+    let shared = text.free("p");
+    let groups: Vec<Vec<TermId>> =
+        (0..limits::ENTRIES / 2).map(|index| vec![shared, text.free(format!("q{index}"))]).collect();
+    let fact = text.all(shared, &groups);
+    text.assume("a", 0, fact);
+    text.root(0, "r", shared);
+    add(edges, "costly-1024-disjuncts-share-a-name", 0, text);
 }
 
 /// 2,048 trigger entries and the next.

@@ -11,7 +11,7 @@ use crate::text::Text;
 use crate::{filter, Outcome, LONG_ENOUGH};
 
 /// Names with a meaning of their own.
-const SPECIAL: [&str; 27] = [
+const SPECIAL: [&str; 29] = [
     "SFuel",
     "ZFuel",
     "HasType",
@@ -38,6 +38,8 @@ const SPECIAL: [&str; 27] = [
     "is-BoxString",
     "BoxString",
     "is-BoxReal",
+    "BoxReal",
+    "is-BoxProp",
     "BoxProp",
 ];
 
@@ -49,20 +51,22 @@ const STEMS: [&str; 12] = ["p", "q", "pq", "f", "g", "Prims.op_Equals", "T", "~"
 
 /// So many cases of a seed.
 pub fn cases(seed: u64, count: usize) -> impl Iterator<Item = Case> {
-    let mut seeds = Random::new(seed);
-    (0..count).map(move |index| {
-        let mut random = Random::new(seeds.bits());
-        let case = any(&mut random);
-        Case { name: format!("{seed}-{index}-{}", case.name), ..case }
-    })
+    (0..count as u64).map(move |index| case(seed, index))
+}
+
+/// The case of a seed at an index.
+pub fn case(seed: u64, index: u64) -> Case {
+    let mut random = Random::new(Random::new(seed).after(index).bits());
+    let case = any(&mut random);
+    Case { name: format!("{seed}-{index}-{}", case.name), ..case }
 }
 
 fn any(random: &mut Random) -> Case {
     match random.below(100) {
         0..=49 => Case::new("formed", formed(random)),
-        50..=74 => Case::new("damaged", damaged(random)),
-        75..=79 => Case::new("raw", raw(random)),
-        80..=89 => Case::new("near", near_a_limit(random)),
+        50..=77 => Case::new("damaged", damaged(random)),
+        78..=85 => Case::new("raw", raw(random)),
+        86..=88 => Case::new("near", near_a_limit(random)),
         _ => lent(random),
     }
 }
@@ -99,10 +103,11 @@ impl<'r> Grower<'r> {
         let query = if random.chance(90) { random.below(3) } else { random.below(256) } as u32;
         let options = random.below(8) as u32;
         let pool = (0..random.within(1..=60))
-            .map(|index| match random.pick(&STEMS) {
-                stem if random.chance(10) => format!("{stem}{index}@tok"),
-                stem if random.chance(15) => stem.to_owned(),
-                stem => format!("{stem}{index}"),
+            .flat_map(|index| match random.pick(&STEMS) {
+                // A token and the name that it trims to.
+                stem if random.chance(10) => vec![format!("{stem}{index}@tok"), format!("{stem}{index}")],
+                stem if random.chance(15) => vec![stem.to_owned()],
+                stem => vec![format!("{stem}{index}")],
             })
             .collect();
         Grower { random, text: Text::ask(query, options), query, pool, taken: HashSet::new() }
@@ -382,8 +387,9 @@ impl<'r> Grower<'r> {
         if self.random.chance(60) {
             self.text.root(self.query, start, term);
         }
-        for _ in 0..self.random.within(1..=8) {
-            let symbol = self.symbol();
+        let long = self.random.chance(4);
+        for step in 0..self.random.within(if long { 20..=200 } else { 1..=8 }) {
+            let symbol = if long { format!("step{step}") } else { self.symbol() };
             let next = self.named(&symbol);
             let mut groups = vec![vec![term]];
             if self.random.chance(30) {
@@ -393,7 +399,7 @@ impl<'r> Grower<'r> {
                 groups.insert(0, Vec::new());
             }
             let fact = self.text.all(next, &groups);
-            let (name, flag) = (self.record_name(""), self.flag());
+            let (name, flag) = (self.record_name(""), if long { 0 } else { self.flag() });
             self.text.assume(name, flag, fact);
             term = next;
             if self.random.chance(25) && self.taken.insert(symbol.clone()) {

@@ -6,6 +6,7 @@
 
 pub mod case;
 pub mod edges;
+pub mod export;
 mod fields;
 pub mod generate;
 pub mod limits;

@@ -2,6 +2,9 @@
 
 use std::ops::RangeInclusive;
 
+/// The step from one state to the next.
+const STEP: u64 = 0x9e37_79b9_7f4a_7c15;
+
 /// The same seed gives the same numbers.
 #[derive(Clone)]
 pub struct Random(u64);
@@ -13,11 +16,16 @@ impl Random {
 
     /// The next 64 bits.
     pub fn bits(&mut self) -> u64 {
-        self.0 = self.0.wrapping_add(0x9e37_79b9_7f4a_7c15);
+        self.0 = self.0.wrapping_add(STEP);
         let mut mixed = self.0;
         mixed = (mixed ^ (mixed >> 30)).wrapping_mul(0xbf58_476d_1ce4_e5b9);
         mixed = (mixed ^ (mixed >> 27)).wrapping_mul(0x94d0_49bb_1331_11eb);
         mixed ^ (mixed >> 31)
+    }
+
+    /// The generator that has given so many numbers already.
+    pub fn after(&self, count: u64) -> Self {
+        Random(self.0.wrapping_add(STEP.wrapping_mul(count)))
     }
 
     /// A number below `count`, which is not 0.

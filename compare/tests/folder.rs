@@ -86,6 +86,11 @@ fn cases_beside_the_tests() {
 }
 
 #[test]
+fn examples() {
+    check_folder(Path::new(env!("CARGO_MANIFEST_DIR")).join("../examples").as_path());
+}
+
+#[test]
 fn cases_of_the_environment() {
     match std::env::var_os("WIMPLEJADE_CASES") {
         Some(folder) => check_folder(Path::new(&folder)),

@@ -33,3 +33,6 @@ pub mod ScanFile
 pub mod Pruned
 pub mod Demand2
 pub mod Room
+pub mod Order
+pub mod OrderCases
+pub mod Options

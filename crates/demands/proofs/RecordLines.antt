@@ -49,9 +49,14 @@ rising-end (one {n}) below = more (below n (List·Memᴰ·head refl)) one
 rising-end (more h r) below = more h (rising-end r (λ k i. below k (List·Memᴰ·tail i)))
 
 -- the first of ascending numbers is below the others
-rising-head : {n : ℕ} {l : List ℕ} → Rising (n ∷ l) → (k : ℕ) → List·Memᴰ k l → n < k
+pub rising-head : {n : ℕ} {l : List ℕ} → Rising (n ∷ l) → (k : ℕ) → List·Memᴰ k l → n < k
 rising-head one k i = absurd (List·Memᴰ·not-nil i)
 rising-head (more {m} h r) k i = ⊎-elim (λ (e : k ≡ m). omega arith) (λ j. omega (arith, rising-head r k j)) (List·Memᴰ·cases-cons i)
+
+-- the others of ascending numbers ascend
+pub rising-tail : {n : ℕ} {l : List ℕ} → Rising (n ∷ l) → Rising l
+rising-tail one = none
+rising-tail (more h r) = r
 
 -- ascending numbers are distinct
 rising-distinct : {l : List ℕ} → Rising l → Distinct l

@@ -25,17 +25,20 @@ abbrev pub Short-slice : List ℕ → Type 0
 Short-slice works = (n : ℕ) × List·Memᴰ n works × (n < 16384)
 
 -- "7: a working slice is too short; place 0"
+abbrev pub When-7 : List ℕ → ℕ → Type 0
+When-7 works place = (place ≡ 0) × Short-slice works
+
 abbrev pub Refusal-7 : Type 0
 Refusal-7 =
-    (file works : List ℕ) (room place : ℕ)
-    → (outcome file works room ≡ refusal-at refusal.Working place) ↔ ((place ≡ 0) × Short-slice works)
+    (file works : List ℕ) (room place : ℕ) → (outcome file works room ≡ refusal-at refusal.Working place) ↔ When-7 works place
 
 -- "9: the file passes 65,535 bytes", "for 9, 0", and "Order: 7, 9, .."
+abbrev pub When-9 : List ℕ → List ℕ → ℕ → Type 0
+When-9 file works place = (place ≡ 0) × (Short-slice works → ⊥) × (65535 < length file)
+
 abbrev pub Refusal-9 : Type 0
 Refusal-9 =
-    (file works : List ℕ) (room place : ℕ)
-    → (outcome file works room ≡ refusal-at refusal.Size place)
-    ↔ ((place ≡ 0) × (Short-slice works → ⊥) × (65535 < length file))
+    (file works : List ℕ) (room place : ℕ) → (outcome file works room ≡ refusal-at refusal.Size place) ↔ When-9 file works place
 
 -- "Order: 7, 9, then lines from the first": neither 7 nor 9 applies
 pub record Lines-judged (file works : List ℕ) : Type 0 where
@@ -43,22 +46,28 @@ pub record Lines-judged (file works : List ℕ) : Type 0 where
   pub fits : length file ≤ 65535
 
 -- "8: the result slice is shorter than the kept count; place is that count", after the lines
+abbrev pub When-8 : List ℕ → List ℕ → ℕ → ℕ → Type 0
+When-8 file works room place =
+    Lines-judged file works
+    × ((s : State) × Accepted file s × (place ≡ length (kept-list s)) × (room < length (kept-list s)))
+
 abbrev pub Refusal-8 : Type 0
 Refusal-8 =
     (file works : List ℕ) (room place : ℕ)
-    → (outcome file works room ≡ refusal-at refusal.Room place)
-    ↔ (Lines-judged file works
-    × ((s : State) × Accepted file s × (place ≡ length (kept-list s)) × (room < length (kept-list s))))
+    → (outcome file works room ≡ refusal-at refusal.Room place) ↔ When-8 file works room place
 
 -- "with a list": "a result slice of exactly the kept count passes"
+abbrev pub When-listed : List ℕ → List ℕ → ℕ → List ℕ → ℕ → ℕ → Type 0
+When-listed file works room given seen turns =
+    Lines-judged file works
+    × ((s : State) × Accepted file s × (given ≡ kept-list s)
+    × (seen ≡ visits (run-of s .met) (facts (s .decls))) × (turns ≡ run-of s .rounds)
+    × (length (kept-list s) ≤ room))
+
 abbrev pub List-given : Type 0
 List-given =
     (file works : List ℕ) (room : ℕ) (given : List ℕ) (seen turns : ℕ)
-    → (outcome file works room ≡ list given seen turns)
-    ↔ (Lines-judged file works
-    × ((s : State) × Accepted file s × (given ≡ kept-list s)
-    × (seen ≡ visits (run-of s .met) (facts (s .decls))) × (turns ≡ run-of s .rounds)
-    × (length (kept-list s) ≤ room)))
+    → (outcome file works room ≡ list given seen turns) ↔ When-listed file works room given seen turns
 
 -- the refusals of "The exporter of the file" that name a line: 1 to 6
 pub data Of-line : Refusal → Type 0 where
@@ -80,13 +89,16 @@ pub record Reached-line (ls : List Line) (n : ℕ) : Type 0 where
   pub reading : read-lines exclude-names 1 start before ≡ read state
 
 -- "The exporter of the file (place: the line, from 1 ..)": 1 for an "empty file (line 1)"; else the first line that is refused
+abbrev pub When-line : List ℕ → List ℕ → Refusal → ℕ → Type 0
+When-line file works r n =
+    Lines-judged file works
+    × (((file ≡ []) × (r ≡ refusal.Form) × (n ≡ 1))
+    ⊎ ((l : Reached-line (lines file) n) × (read-line exclude-names n (l .state) (l .line) ≡ refused r)))
+
 abbrev pub Line-refused : Type 0
 Line-refused =
     (file works : List ℕ) (room : ℕ) (r : Refusal) (n : ℕ) → Of-line r
-    → (outcome file works room ≡ refusal-at r n)
-    ↔ (Lines-judged file works
-    × (((file ≡ []) × (r ≡ refusal.Form) × (n ≡ 1))
-    ⊎ ((l : Reached-line (lines file) n) × (read-line exclude-names n (l .state) (l .line) ≡ refused r))))
+    → (outcome file works room ≡ refusal-at r n) ↔ When-line file works r n
 
 -- the refusals 1 to 4
 pub data Of-fields : Refusal → Type 0 where
@@ -103,12 +115,15 @@ pub data Fields-refused {ls : List Line} {n : ℕ} (l : Reached-line ls n) : Ref
 
 -- "1: not a line of this form ..; 2: a field is no name; 3: a field is no number, or q, options or flag is outside its range;
 -- 4: a term number not below the term line's own, or, in a record, not below the count of term lines so far"
+abbrev pub When-1-to-4 : List ℕ → List ℕ → Refusal → ℕ → Type 0
+When-1-to-4 file works r n =
+    Lines-judged file works
+    × (((file ≡ []) × (r ≡ refusal.Form) × (n ≡ 1)) ⊎ ((l : Reached-line (lines file) n) × Fields-refused l r))
+
 abbrev pub Refusals-1-to-4 : Type 0
 Refusals-1-to-4 =
     (file works : List ℕ) (room : ℕ) (r : Refusal) (n : ℕ) → Of-fields r
-    → (outcome file works room ≡ refusal-at r n)
-    ↔ (Lines-judged file works
-    × (((file ≡ []) × (r ≡ refusal.Form) × (n ≡ 1)) ⊎ ((l : Reached-line (lines file) n) × Fields-refused l r)))
+    → (outcome file works room ≡ refusal-at r n) ↔ When-1-to-4 file works r n
 
 -- "In a line: final 0A, kind, field count where it is fixed, fields left to right": all these pass, and the line says c
 pub record Says {ls : List Line} {n : ℕ} (l : Reached-line ls n) (c : Content) : Type 0 where
@@ -132,11 +147,13 @@ pub record Repeats {ls : List Line} {n : ℕ} (l : Reached-line ls n) (c : Conte
   pub earlier-takes : Takes earlier-content taken
 
 -- "5: an assume, fun or def repeats the name of an earlier one of the three", after the fields of the line
+abbrev pub When-5 : List ℕ → List ℕ → ℕ → Type 0
+When-5 file works n =
+    Lines-judged file works × ((l : Reached-line (lines file) n) × (c : Content) × Says l c × Repeats l c)
+
 abbrev pub Refusal-5 : Type 0
 Refusal-5 =
-    (file works : List ℕ) (room n : ℕ)
-    → (outcome file works room ≡ refusal-at refusal.Repeated n)
-    ↔ (Lines-judged file works × ((l : Reached-line (lines file) n) × (c : Content) × Says l c × Repeats l c))
+    (file works : List ℕ) (room n : ℕ) → (outcome file works room ≡ refusal-at refusal.Repeated n) ↔ When-5 file works n
 
 -- "Limits: .. names .. 2,048 distinct; term lines 4,096; term references in term lines 16,384; record lines 1,024; trigger
 -- entries .. 2,048 ..; name uses .. 6,144": the counts of the file up to a line
@@ -149,10 +166,12 @@ pub data Past-limit (s : State) : Type 0 where
   name-uses : 6144 < s .uses → Past-limit s
 
 -- "6: the line passes a limit other than the file's bytes", after 5
+abbrev pub When-6 : List ℕ → List ℕ → ℕ → Type 0
+When-6 file works n =
+    Lines-judged file works
+    × ((l : Reached-line (lines file) n) × (c : Content) × Says l c × (Repeats l c → ⊥)
+    × Past-limit (add-line exclude-names n (l .state) c))
+
 abbrev pub Refusal-6 : Type 0
 Refusal-6 =
-    (file works : List ℕ) (room n : ℕ)
-    → (outcome file works room ≡ refusal-at refusal.Limit n)
-    ↔ (Lines-judged file works
-    × ((l : Reached-line (lines file) n) × (c : Content) × Says l c × (Repeats l c → ⊥)
-    × Past-limit (add-line exclude-names n (l .state) c)))
+    (file works : List ℕ) (room n : ℕ) → (outcome file works room ≡ refusal-at refusal.Limit n) ↔ When-6 file works n

@@ -9,3 +9,5 @@ pub mod Demand1
 pub mod Slices
 pub mod FileOrder
 pub mod Counts
+pub mod Order
+pub mod Options

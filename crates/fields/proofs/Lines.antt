@@ -219,13 +219,15 @@ module _ {file names refs rows : List ℕ} (k : Counts) (t : Stands file names r
     -- a `free`
     pub free-read : after .end < after .at → Line-read file names refs names′ refs k kind.Free c named′ (k .used) (FreeV (r .name)) []
     unfolding spelled-by references
-    free-read h = named-line t (free-said (k .many) (fields-left file c) (r .said) ∙ end-none (term (FreeV (r .name))) file after h) ran-none refl (r .spelled) refl
+    free-read h = named-line t (free-said (k .many) (fields-left file c) (r .said) ∙ end-none (term (FreeV (r .name))) file after h) ran-none refl
+        (r .spelled) refl
 
     -- a `call`
     pub call-read : {refs′ : List ℕ} {end : ℕ} (b : Rest-ran (k .many) refs refs′ (k .used) end (fields-left file after))
         → Line-read file names refs names′ refs′ k kind.Call c named′ end (Call (r .name) (b .terms)) (in-group 0 (b .terms))
     unfolding spelled-by references
-    call-read b = named-line t (call-said (k .many) (fields-left file c) (r .said) ∙ rw (b .said)) (b .ran) (length-map (b .terms) (λ t. reference t 0)) (r .spelled) refl
+    call-read b = named-line t (call-said (k .many) (fields-left file c) (r .said) ∙ rw (b .said)) (b .ran) (length-map (b .terms) (λ t. reference t 0))
+        (r .spelled) refl
 
   -- an `op`
   pub op-line : {refs′ : List ℕ} {end : ℕ} {w : Op} {gs : List Field} → next op-field (fields-left file c) ≡ ok (w, gs)
@@ -235,14 +237,17 @@ module _ {file names refs rows : List ℕ} (k : Counts) (t : Stands file names r
   op-line e b = plain-line t (op-said (k .many) (fields-left file c) e ∙ rw (b .said)) (b .ran) (length-map (b .terms) (λ t. reference t 0)) refl
 
   -- a `let`
-  pub let-read : {refs₁ refs′ : List ℕ} {one end : ℕ} {gs : List Field} (a : Term-ran (k .many) refs refs₁ (k .used) one (fields-left file c) gs) (b : Rest-ran (k .many) refs₁ refs′ one end gs)
+  pub let-read : {refs₁ refs′ : List ℕ} {one end : ℕ} {gs : List Field} (a : Term-ran (k .many) refs refs₁ (k .used) one (fields-left file c) gs)
+      (b : Rest-ran (k .many) refs₁ refs′ one end gs)
       → Line-read file names refs names refs′ k kind.Let c (k .named) end (Let (a .term) (b .terms)) (reference (a .term) 0 ∷ in-group 0 (b .terms))
   unfolding spelled-by references
   let-read a b =
-      plain-line t (let-said (k .many) (fields-left file c) (a .said) ∙ rw (b .said)) (ran-then (a .ran) (b .ran)) (ap suc (length-map (b .terms) (λ t. reference t 0))) refl
+      plain-line t (let-said (k .many) (fields-left file c) (a .said) ∙ rw (b .said)) (ran-then (a .ran) (b .ran))
+      (ap suc (length-map (b .terms) (λ t. reference t 0))) refl
 
   -- a `label`
-  pub label-read : {refs′ : List ℕ} {one : ℕ} {after : Cursor} (a : Term-ran (k .many) refs refs′ (k .used) one (fields-left file c) (fields-left file after)) → after .end < after .at
+  pub label-read : {refs′ : List ℕ} {one : ℕ} {after : Cursor} (a : Term-ran (k .many) refs refs′ (k .used) one (fields-left file c) (fields-left file after))
+      → after .end < after .at
       → Line-read file names refs names refs′ k kind.Label c (k .named) (k .used + 1) (Labeled (a .term)) (reference (a .term) 0 ∷ [])
   unfolding spelled-by references
   label-read {after = after} a h =

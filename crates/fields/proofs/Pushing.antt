@@ -170,7 +170,8 @@ one-end count group refs used fs e =
 module _ (count group : ℕ) (refs : List ℕ) (used : ℕ) (fs : List Field) where
   -- one of many
   pub many-on : (left : ℕ) → 0 < left
-      → push-many count group left refs used fs ≡ (push-one count group refs used fs >>= λ (refs₁, used₁, fs₁). push-many count group (left - 1) refs₁ used₁ fs₁)
+      → push-many count group left refs used fs ≡ (push-one count group refs used fs >>= λ (refs₁, used₁, fs₁). push-many count group
+      (left - 1) refs₁ used₁ fs₁)
   unfolding push-many
   many-on zero h = absurd (not-suc-le-zero h)
   many-on (suc n) h = let e : suc n - 1 ≡ n = omega arith in rw e
@@ -189,7 +190,8 @@ module _ (count : ℕ) (refs : List ℕ) (used : ℕ) (fs : List Field) where
   module _ (g groups : ℕ) where
     -- one group of some
     pub groups-on : g < groups → push-groups count g (groups - g) refs used fs
-        ≡ (next (number-field most-number) fs >>= λ (size, fs₁). push-many count g size refs used fs₁ >>= λ (refs₂, used₂, fs₂). push-groups count (g + 1) (groups - (g + 1)) refs₂ used₂ fs₂)
+        ≡ (next (number-field most-number) fs >>= λ (size, fs₁). push-many count g size refs used fs₁ >>= λ (refs₂, used₂, fs₂). push-groups count (g + 1)
+        (groups - (g + 1)) refs₂ used₂ fs₂)
     unfolding push-groups
     groups-on h = let e : groups - g ≡ suc (groups - (g + 1)) = omega arith in rw e
 
@@ -205,14 +207,20 @@ unfolding push-rest push-one next
 rest-on count refs used f gs = go (term-field count f)
   where
     go : (r : Result ℕ) → (r >>= λ t. push-rest count (pushed refs used (reference t 0)) (used + 1) gs)
-        ≡ (r >>= (λ a. ok (a, gs)) >>= (λ (t, fs₁). ok (pushed refs used (reference t 0), used + 1, fs₁)) >>= λ (refs₁, used₁, fs₁). push-rest count refs₁ used₁ fs₁)
+        ≡ (r >>= (λ a. ok (a, gs)) >>= (λ (t, fs₁). ok (
+          pushed refs used (reference t 0),
+          used
+              + 1,
+          fs₁,
+        )) >>= λ (refs₁, used₁, fs₁). push-rest count refs₁ used₁ fs₁)
     go (ok t) = refl
     go (refused x) = refl
 
 module _ (count : ℕ) (refs : List ℕ) (used : ℕ) (file : List ℕ) (c : Cursor) where
   -- one of all that are left
   pub rest-next : c .at ≤ c .end
-      → push-rest count refs used (fields-left file c) ≡ (push-one count 0 refs used (fields-left file c) >>= λ (refs₁, used₁, fs₁). push-rest count refs₁ used₁ fs₁)
+      → push-rest count refs used (fields-left file c) ≡ (push-one count 0 refs used
+      (fields-left file c) >>= λ (refs₁, used₁, fs₁). push-rest count refs₁ used₁ fs₁)
   rest-next h =
       let (f, fs, e) = left-cons file c h in
       rw e (rest-on count refs used f fs)

@@ -220,16 +220,24 @@ group-length : (g : ℕ) (gs : List (List ℕ)) → length (group-words g gs) �
 unfolding group-words concat
 group-length g [] = refl
 group-length g (ts ∷ gs) =
-    omega (arith, length-append (map (λ t. reference t g) ts) (group-words (suc g) gs), length-append ts (concat gs), length-map ts (λ t. reference t g), group-length (suc g) gs)
+    omega (
+      arith,
+      length-append (map (λ t. reference t g) ts) (group-words (suc g) gs),
+      length-append ts (concat gs),
+      length-map ts (λ t. reference t g),
+      group-length (suc g) gs,
+    )
 
 module _ {file names refs rows refs′ : List ℕ} (k : Counts) {stop g : ℕ} (c : Cursor) (t : Stands file names refs rows k)
     (b : Quantified (k .many) refs refs′ (k .used) stop g (fields-left file c)) (all : Bool) where
   -- the line of a quantifier
   pub quantifier-line :
-      Line-read file names refs names refs′ k (quantifier-kind all) c (k .named) stop (quantifier-node all (b .body) (b .gs)) (reference (b .body) 0 ∷ group-words 0 (b .gs))
+      Line-read file names refs names refs′ k (quantifier-kind all) c (k .named) stop (quantifier-node all (b .body) (b .gs))
+      (reference (b .body) 0 ∷ group-words 0 (b .gs))
   quantifier-line =
       let (refers, plain) = quantifier-plain all (b .body) (b .gs) in
-      plain-line t (quantifier-content all (k .many) (fields-left file c) ∙ b .said (quantifier-node all)) (b .ran) (rw refers (ap suc (group-length 0 (b .gs)))) plain
+      plain-line t (quantifier-content all (k .many) (fields-left file c) ∙ b .said (quantifier-node all)) (b .ran)
+      (rw refers (ap suc (group-length 0 (b .gs)))) plain
 
   module _ {r : Bool} (d : r ≡ is-over (k .named) stop) (e : r ≡ false) where
     -- the words after the body

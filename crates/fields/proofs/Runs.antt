@@ -366,9 +366,11 @@ module _ (count : ℕ) (refs : List ℕ) (from : ℕ) (fs : List Field) {x : Ref
 
   -- one of all fields left
   pub rest-refused : push-rest count refs from fs ≡ refused x → rest (term-field count) fs ≡ refused x
-  rest-refused e = refused-back (rest (term-field count) fs) (λ ts. (push-all refs from (in-group 0 ts), from + length (in-group 0 ts), [])) (sym (rest-law count refs from fs) ∙ e)
+  rest-refused e = refused-back (rest (term-field count) fs) (λ ts. (push-all refs from (in-group 0 ts), from + length (in-group 0 ts), []))
+      (sym (rest-law count refs from fs) ∙ e)
 
   -- one of groups
   pub groups-refused : (n : ℕ) → push-groups count 0 n refs from fs ≡ refused x → groups count n fs ≡ refused x
   groups-refused n e =
-      refused-back (groups count n fs) (λ (gs, hs). (push-all refs from (group-words 0 gs), from + length (group-words 0 gs), hs)) (sym (groups-law count 0 n refs from fs) ∙ e)
+      refused-back (groups count n fs) (λ (gs, hs). (push-all refs from (group-words 0 gs), from + length (group-words 0 gs), hs))
+      (sym (groups-law count 0 n refs from fs) ∙ e)

@@ -123,7 +123,8 @@ module _ {file names names′ : List ℕ} {named a e : ℕ} (t : Table file name
             same-length = rw (w .slice) (entered-length file names named a e (w .rank) inside few (t .room));
             same-words = λ i h.
                 let l = beyond name-columns i h in
-                rw (w .slice) (entered-keeps file names named a e (w .rank) inside few (t .room) i (λ q. omega arith) (λ q. omega arith) (λ q. omega arith) (inr (omega arith)));
+                rw (w .slice) (entered-keeps file names named a e (w .rank) inside few (t .room) i (λ q. omega arith) (λ q. omega arith) (λ q. omega arith)
+                (inr (omega arith)));
           };
         };
         begun = table-there (w .table);
@@ -260,7 +261,8 @@ spell-law ns [] = refl
 spell-law ns (f ∷ fs) = go (λ m. spell-law (spell ns m) fs) (name-field f)
   where
     go : ((m : Name) → spell-fields (spell ns m) fs ≡ (rest name-field fs >>= λ ms. ok (fold-left spell (spell ns m) ms)))
-        → (r : Result Name) → (r >>= λ m. spell-fields (spell ns m) fs) ≡ (r >>= (λ a. rest name-field fs >>= λ more. ok (a ∷ more)) >>= λ ms. ok (fold-left spell ns ms))
+        → (r : Result Name) → (r >>= λ m. spell-fields (spell ns m) fs)
+        ≡ (r >>= (λ a. rest name-field fs >>= λ more. ok (a ∷ more)) >>= λ ms. ok (fold-left spell ns ms))
     go ih (refused x) = refl
     go ih (ok m) = ih m ∙ on (rest name-field fs)
       where

@@ -118,7 +118,12 @@ under-start {named = named} {used} t = rw (le-ltb most-names named (t .name-tabl
 -- references may be pushed behind the tables
 pub pushable-start : {file names refs rows : List ℕ} {named used many : ℕ} {c : Cursor} → Tables file names refs rows named used many
     → Placed file c → Pushable file refs used many c
-pushable-start t p = record { room = t .term-table .ref-room; few = t .term-table .few-rows; bounded = omega (arith, t .term-table .few-references); placed = p }
+pushable-start t p = record {
+  room = t .term-table .ref-room;
+  few = t .term-table .few-rows;
+  bounded = omega (arith, t .term-table .few-references);
+  placed = p;
+}
 
 -- the fields of a term line, read: they say a node, its names are spelled, the words of its references pushed
 pub record Line-read (file names refs names′ refs′ : List ℕ) (k : Counts) (kind : LineKind) (c : Cursor) (named′ end : ℕ) (node : Node) (words : List ℕ)

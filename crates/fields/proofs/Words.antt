@@ -65,7 +65,8 @@ Others p (suc n) = Others p n × (p ≡ suc n → ⊥)
 other-place : (p i n : ℕ) → Others p n → 0 < i → i ≤ n → p ≡ i → ⊥
 unfolding Others
 other-place p i zero h a b e = omega arith
-other-place p i (suc n) (h, last) a b e = ⊎-elim (λ (d : i ≡ suc n). last (e ∙ d)) (λ (d : i ≡ suc n → ⊥). other-place p i n h a (omega arith) e) (equal i (suc n))
+other-place p i (suc n) (h, last) a b e = ⊎-elim (λ (d : i ≡ suc n). last (e ∙ d)) (λ (d : i ≡ suc n → ⊥). other-place p i n h a (omega arith) e)
+    (equal i (suc n))
 
 module _ {A : Type 0} where
   -- the words of a list, as fields

@@ -13,10 +13,11 @@ use Rattle.model.specs.Summaries.{exclude-names}
 use Rattle.model.specs.Reading.{most-records, most-entries, Summary, State, Reading, Result, ok, refused, read, refused-at, go-on, start, read-line, read-lines, read-file}
 use Rattle.model.specs.Rounds.{facts, filed, run, visits}
 use Rattle.model.specs.Kept.{kept}
-use Rattle.model.specs.Outcome.{Outcome, refusal-at, list, filtered, of-reading, working-words, most-bytes, answer}
+use Rattle.model.specs.Outcome.{Outcome, refusal-number, refusal-at, list, filtered, of-reading, working-words, most-bytes, answer}
 use Rattle.model.specs.declared.Answer.{Answer}
 use Rattle.model.specs.declared.Counts.{Counts}
 use Rattle.model.specs.declared.Refusal.{Refusal}
+use Rattle.model.specs.declared.Refusal.the-variants as refusal
 use Rattle.model.specs.declared.Verdict.the-variants.{Accepted}
 use Rattle.model.proofs.SetLaws.{from-list-length}
 use Rattle.demands.proofs.FuelLaws.{run-bound}
@@ -31,11 +32,12 @@ use Rattle.reader.specs.Lines.{Reads-file, all-read, read-stops}
 use Rattle.reader.specs.declared.Reading.{Reading as Reading′}
 use Rattle.reader.specs.declared.Reading.the-variants as reading
 use Rattle.scan.specs.Held.{upto}
+use Rattle.scan.specs.Steps.{run-end}
 use Rattle.scan.specs.Tables.{held-of}
 use Rattle.scan.specs.Runs.{run-of, Ran}
 use Rattle.scan.specs.declared.Scan.{Scan}
 use Rattle.scan.proofs.Joining.{holds}
-use Rattle.prune.specs.Loops.{kept-column}
+use Rattle.prune.specs.Loops.{kept-column, prune-end}
 use Rattle.prune.specs.Kept.{reached-of, kept-of, Run-over, Pruned}
 use Rattle.filter.specs.Call.{lines-of, Replied, outcome-of, Runs}
 
@@ -168,6 +170,11 @@ run-over r s = record {
   fits = rw (s .reached) (r .fits);
 }
 
+-- the run and the list write no word past those that a call uses
+pub slice-rest : {before mid after : List ℕ} → Same-but 0 run-end before mid → Same-but 0 prune-end mid after → Same-but 0 working-words before after
+slice-rest s t =
+    same-then (same-wider 0 working-words (omega arith) (omega arith) s) (same-wider 0 working-words (omega arith) (omega arith) t)
+
 -- a part of a slice from a place on
 part-take : (l : List ℕ) (a n : ℕ) → part l a (a + n) ≡ take n (drop a l)
 part-take l a n = ap (λ (m : ℕ). take m (drop a l)) (let e : a + n - a ≡ n = omega arith in e)
@@ -237,3 +244,15 @@ module _ {file names refs rows recs lists : List ℕ} {r : Reading′} (g : Read
       → a ≡ answer (refusal-at x n) → Replied (of-reading (read-file exclude-names file)) a run
   refused-replied {x} {n} {a} {run} q e =
       same-outcome (sym (ap of-reading (line-refused q) ∙ refused-outcome x n)) (refused-reply x n a run e)
+
+-- ---- document 01's numbers
+
+pub numbers : (1 ≡ refusal-number refusal.Form) × (2 ≡ refusal-number refusal.Name) × (3 ≡ refusal-number refusal.Number)
+    × (4 ≡ refusal-number refusal.Term) × (5 ≡ refusal-number refusal.Repeated) × (6 ≡ refusal-number refusal.Limit)
+    × (7 ≡ refusal-number refusal.Working) × (8 ≡ refusal-number refusal.Room) × (9 ≡ refusal-number refusal.Size)
+unfolding refusal-number
+numbers = (refl, refl, refl, refl, refl, refl, refl, refl, refl)
+
+-- the number of a refusal that is known
+pub number-is : {r x : Refusal} {n : ℕ} → r ≡ x → n ≡ refusal-number x → n ≡ refusal-number r
+number-is e p = p ∙ ap refusal-number (sym e)

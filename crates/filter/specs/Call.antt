@@ -6,9 +6,11 @@ use lib.ListN.{length, take, drop}
 use Rattle.model.specs.Reading.{most-records}
 use Rattle.model.specs.Rounds.{facts, visits}
 use Rattle.model.specs.Kept.{kept}
-use Rattle.model.specs.Outcome.{Outcome, refusal-at, list, fitting, working-words, answer, result-after, work-after}
+use Rattle.model.specs.Outcome.{Outcome, refusal-number, refusal-at, list, fitting, working-words, answer, result-after, work-after}
 use Rattle.model.specs.declared.Answer.{Answer}
 use Rattle.model.specs.declared.Counts.{Counts}
+use Rattle.model.specs.declared.Verdict.{Verdict}
+use Rattle.model.specs.declared.Verdict.the-variants as verdict
 use Rattle.names.specs.Table.{name-of}
 use Rattle.words.specs.Slices.{Same-but, Zeroed}
 use Rattle.records.specs.States.{decls-of, roots-of, ask-of}
@@ -20,6 +22,11 @@ use Rattle.prune.specs.Loops.{kept-column}
 -- the lengths of the working slices
 abbrev pub lengths : List ℕ → List ℕ → List ℕ → List ℕ → List ℕ → List ℕ → List ℕ
 lengths w0 w1 w2 w3 w4 w5 = length w0 ∷ length w1 ∷ length w2 ∷ length w3 ∷ length w4 ∷ length w5 ∷ []
+
+-- document 01's number of a verdict: 0 for a list
+unfoldable pub verdict-number : Verdict → ℕ
+verdict-number verdict.Accepted = 0
+verdict-number (verdict.Refused r) = refusal-number r
 
 -- an answer and the result slice at exit are those of an outcome
 pub record Gives (o : Outcome) (out : List ℕ) (a : Answer) (out′ : List ℕ) : Type 0 where
@@ -81,11 +88,11 @@ pub record Settles (a : Answer) (run out : List ℕ) (r : Answer) (out′ : List
 
 -- what filled tables come to
 unfoldable pub outcome-of : List ℕ → List ℕ → List ℕ → List ℕ → Counts → Outcome
-outcome-of file names recs out k =
-    let r = run-of file names recs out k in
-    let decls = decls-of (name-of file names) recs out (k .records) in
+outcome-of file names recs lists k =
+    let r = run-of file names recs lists k in
+    let decls = decls-of (name-of file names) recs lists (k .records) in
     list
-    (kept (ask-of k) decls (roots-of (name-of file names) recs out (k .records)) (r .reached))
+    (kept (ask-of k) decls (roots-of (name-of file names) recs lists (k .records)) (r .reached))
     (visits (r .met) (facts decls))
     (r .rounds)
 
@@ -94,8 +101,8 @@ pub record Lent (file refs rows names recs lists run : List ℕ) : Type 0 where
   pub cleared : Cleared file names refs rows recs lists
   pub room : working-words ≤ length run
 
--- what the run and the list ask: tables filled from the file, a slice for the run, no more lines than records
-pub record Runs (file names recs out run : List ℕ) (k : Counts) : Type 0 where
-  pub filled : Filled file names recs out k
+-- what the run and the list ask: tables filled from the file, a slice for the run, no more lines than a file has records
+pub record Runs (file names recs lists run : List ℕ) (k : Counts) : Type 0 where
+  pub filled : Filled file names recs lists k
   pub room : working-words ≤ length run
-  pub fits : length (lines-of (outcome-of file names recs out k)) ≤ most-records
+  pub fits : length (lines-of (outcome-of file names recs lists k)) ≤ most-records

@@ -11,10 +11,28 @@ ghost use lib.ListN.{length, take, drop};
 ghost use Rattle.model.specs.Lists.{any};
 ghost use Rattle.model.specs.Summaries.{exclude-names};
 ghost use Rattle.model.specs.Reading.{most-records, read-file};
-ghost use Rattle.model.specs.Outcome.{answer, refusal-at, of-reading, judged, outcome, working-words};
+ghost use Rattle.model.specs.Outcome.{refusal-number, answer, refusal-at, of-reading, judged, outcome, working-words};
 ghost use Rattle.words.specs.Slices.{Same-but};
 ghost use Rattle.prune.specs.Loops.{kept-column};
 ghost use Rattle.filter.specs.Call.{lengths, Leaves, Long, Rest, Cleared-all, Replied, Settles, outcome-of, Lent, Runs};
+ghost use Rattle.filter.specs.Demands.{Demands};
+
+// Document 01's number of a refusal.
+pub fn refusal_number(r: Refusal) -> u32
+    ensures { λ n. ⌜ n ≡ refusal-number r ⌝ }
+{
+    match r {
+        Refusal::Form => 1,
+        Refusal::Name => 2,
+        Refusal::Number => 3,
+        Refusal::Term => 4,
+        Refusal::Repeated => 5,
+        Refusal::Limit => 6,
+        Refusal::Working => 7,
+        Refusal::Room => 8,
+        Refusal::Size => 9,
+    }
+}
 
 // A refused answer: its place, and every count 0.
 fn refused(r: Refusal, place: u32) -> Answer
@@ -179,7 +197,8 @@ pub fn filter(
     w5: &mut [u32],
     out: &mut [u32],
 ) -> Answer
-    ensures { λ a. ⌜ Leaves (outcome (now (file .entry)) (lengths (now (w0 .entry)) (now (w1 .entry)) (now (w2 .entry)) (now (w3 .entry)) (now (w4 .entry)) (now (w5 .entry))) (length (now (out .entry)))) (now (w0 .entry)) (now (w1 .entry)) (now (w2 .entry)) (now (w3 .entry)) (now (w4 .entry)) (now (w5 .entry)) (now (out .entry)) a (now (w0 .exit)) (now (w1 .exit)) (now (w2 .exit)) (now (w3 .exit)) (now (w4 .exit)) (now (w5 .exit)) (now (out .exit)) ⌝ }
+    ensures leaves { λ a. ⌜ Leaves (outcome (now (file .entry)) (lengths (now (w0 .entry)) (now (w1 .entry)) (now (w2 .entry)) (now (w3 .entry)) (now (w4 .entry)) (now (w5 .entry))) (length (now (out .entry)))) (now (w0 .entry)) (now (w1 .entry)) (now (w2 .entry)) (now (w3 .entry)) (now (w4 .entry)) (now (w5 .entry)) (now (out .entry)) a (now (w0 .exit)) (now (w1 .exit)) (now (w2 .exit)) (now (w3 .exit)) (now (w4 .exit)) (now (w5 .exit)) (now (out .exit)) ⌝ }
+    ensures demands { λ a. ⌜ Demands (record { file = now (file .entry); w0 = now (w0 .entry); w1 = now (w1 .entry); w2 = now (w2 .entry); w3 = now (w3 .entry); w4 = now (w4 .entry); w5 = now (w5 .entry); out = now (out .entry); answer = a; v0 = now (w0 .exit); v1 = now (w1 .exit); v2 = now (w2 .exit); v3 = now (w3 .exit); v4 = now (w4 .exit); v5 = now (w5 .exit); out′ = now (out .exit) }) ⌝ }
 {
     if too_short(w0.len(), w1.len(), w2.len(), w3.len(), w4.len(), w5.len()) {
         return refused(Refusal::Working, 0);

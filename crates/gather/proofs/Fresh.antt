@@ -12,7 +12,8 @@ pub fresh-zero : {names rows : List ℕ} → ((t : ℕ) → t < 4096 → row-mar
 fresh-zero r n = record { row-marks = λ t l. omega (arith, r t l); name-marks = λ k l. omega (arith, n k l) }
 
 -- marks that stay are below the next one
-pub fresh-kept : {names names′ rows rows′ : List ℕ} {mark : ℕ} → ((k : ℕ) → k < 2048 → name-mark names′ k ≡ name-mark names k) → ((t : ℕ) → t < 4096 → row-mark rows′ t ≡ row-mark rows t)
+pub fresh-kept : {names names′ rows rows′ : List ℕ} {mark : ℕ} → ((k : ℕ) → k < 2048 → name-mark names′ k ≡ name-mark names k)
+    → ((t : ℕ) → t < 4096 → row-mark rows′ t ≡ row-mark rows t)
     → Fresh names rows mark → Fresh names′ rows′ mark
 fresh-kept n r f = record { row-marks = λ t l. rw (r t l) (f .row-marks t l); name-marks = λ k l. rw (n k l) (f .name-marks k l) }
 
@@ -21,7 +22,8 @@ pub fresh-later : {names rows : List ℕ} (m n : ℕ) → m ≤ n → Fresh name
 fresh-later m n h f = record { row-marks = λ t l. omega (arith, f .row-marks t l); name-marks = λ k l. omega (arith, f .name-marks k l) }
 
 -- the marks after gathering a set are below the next one
-pub fresh-next : {names rows out names′ rows′ out′ : List ℕ} {mark at room : ℕ} {r : Walked} → Fresh names rows mark → Gathered names rows out names′ rows′ out′ mark at room r → Fresh names′ rows′ (mark + 1)
+pub fresh-next : {names rows out names′ rows′ out′ : List ℕ} {mark at room : ℕ} {r : Walked} → Fresh names rows mark
+    → Gathered names rows out names′ rows′ out′ mark at room r → Fresh names′ rows′ (mark + 1)
 fresh-next f g = record {
   row-marks = λ t l. ⊎-elim (λ e. omega arith) (λ e. omega (arith, f .row-marks t l)) (g .row-marks t l);
   name-marks = λ k l. ⊎-elim (λ e. omega arith) (λ e. omega (arith, f .name-marks k l)) (g .name-marks k l);

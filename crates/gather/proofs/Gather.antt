@@ -21,7 +21,8 @@ fresh-name : {names rows : List ℕ} {mark : ℕ} → Fresh names rows mark → 
 fresh-name new k l e = let h = new .name-marks k l in omega arith
 
 -- the names with the mark are those in the slice
-marks-of : {P : ℕ → Type 0} {names out names′ out′ : List ℕ} {mark from room : ℕ} {answer : Walked} → ((k : ℕ) → k < 2048 → name-mark names k ≡ mark → ⊥) → room ≤ length out
+marks-of : {P : ℕ → Type 0} {names out names′ out′ : List ℕ} {mark from room : ℕ} {answer : Walked} → ((k : ℕ) → k < 2048 → name-mark names k ≡ mark → ⊥)
+    → room ≤ length out
     → Steps P names out names′ out′ mark from room answer → (k : ℕ) → k < 2048 → (name-mark names′ k ≡ mark) ↔ List·Memᴰ k (part out′ from (ended room answer))
 marks-of {names′} {out′} {mark} {from} {room} {answer} fresh high s k l =
     let w : Listed names′ out′ mark from (ended room answer) = s .listed from (omega arith) (start-listed fresh) in
@@ -47,18 +48,25 @@ module _ {names refs rows out : List ℕ} {used many named mark from room : ℕ}
   module _ {names′ rows′ out′ : List ℕ} {answer : Walked} (low : from ≤ room) (high : room ≤ length out) where
     -- a walk of a term gathers its names
     pub gathers-term : {t : ℕ} → t < many → Walks (Free names refs rows used many t) names refs rows out names′ rows′ out′ used many mark from room answer
-        → (exclude : List Name) (name : ℕ → Name) → Named exclude name names named → Gathers name named (free-top-level-names exclude (terms-of name refs rows used many) t) from room out′ answer
+        → (exclude : List Name) (name : ℕ → Name) → Named exclude name names named
+        → Gathers name named (free-top-level-names exclude (terms-of name refs rows used many) t) from room out′ answer
     gathers-term {t} l w exclude name d =
-        steps-gathers names out names′ out′ mark from room named low high (fresh-name new) (λ k f. (occurs-named r l (f .occurs), f .counts .small)) (d .distinct) (term-set name r d t l) (w .steps)
+        steps-gathers names out names′ out′ mark from room named low high (fresh-name new) (λ k f. (occurs-named r l (f .occurs), f .counts .small))
+        (d .distinct) (term-set name r d t l) (w .steps)
 
     -- a walk of a list gathers its names
-    pub gathers-list : {a e : ℕ} → References refs used many a e → Walks (Among names refs rows used many a e) names refs rows out names′ rows′ out′ used many mark from room answer
-        → (exclude : List Name) (name : ℕ → Name) → Named exclude name names named → Gathers name named (group-names exclude (terms-of name refs rows used many) (terms-of-words (part refs a e))) from room out′ answer
+    pub gathers-list : {a e : ℕ} → References refs used many a e
+        → Walks (Among names refs rows used many a e) names refs rows out names′ rows′ out′ used many mark from room answer
+        → (exclude : List Name) (name : ℕ → Name) → Named exclude name names named
+        → Gathers name named (group-names exclude (terms-of name refs rows used many) (terms-of-words (part refs a e))) from room out′ answer
     gathers-list g w exclude name d =
-        steps-gathers names out names′ out′ mark from room named low high (fresh-name new) (λ k f. (occurs-named r (g .in-table (f .place) (f .low) (f .high)) (f .free .occurs), f .free .counts .small)) (d .distinct) (list-set name r d g) (w .steps)
+        steps-gathers names out names′ out′ mark from room named low high (fresh-name new)
+        (λ k f. (occurs-named r (g .in-table (f .place) (f .low) (f .high)) (f .free .occurs), f .free .counts .small)) (d .distinct) (list-set name r d g)
+        (w .steps)
 
     -- what a walk leaves in the slices
-    pub gathered-of : {P : ℕ → Type 0} → Walks P names refs rows out names′ rows′ out′ used many mark from room answer → Gathered names rows out names′ rows′ out′ mark from room answer
+    pub gathered-of : {P : ℕ → Type 0} → Walks P names refs rows out names′ rows′ out′ used many mark from room answer
+        → Gathered names rows out names′ rows′ out′ mark from room answer
     gathered-of w = record {
       names-same = w .steps .names-same;
       rows-same = w .rows-same;

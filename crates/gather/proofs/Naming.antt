@@ -34,8 +34,10 @@ module _ {refs rows : List ℕ} {used many named : ℕ} (r : Rows refs rows used
     -- a name that occurs in a term is free in it
     free-intro : (n : ℕ) {t k : ℕ} → t < n → n ≤ many → Occurs refs rows used many t k → T (mem (name k) (term (table name refs rows used many n) t .names))
     unfolding entry node-of
-    free-intro n h l (own {t} p e) = rw (table-term name refs rows used many n t h) (node-intro (table name refs rows used many t) (node-of name refs rows used many t)
-        (inl (rw (← e) (own-intro (row-kind rows t) (op-of-code (row-op rows t)) (name (row-head rows t)) (part refs (row-start rows t) (row-end rows used many t)) (row-extra rows t) p))))
+    free-intro n h l (own {t} p e) = rw (table-term name refs rows used many n t h)
+        (node-intro (table name refs rows used many t) (node-of name refs rows used many t)
+        (inl (rw (← e) (own-intro (row-kind rows t) (op-of-code (row-op rows t)) (name (row-head rows t))
+        (part refs (row-start rows t) (row-end rows used many t)) (row-extra rows t) p))))
     free-intro n h l (under {t} i a b o) =
         let room = r .ref-room in
         let few = r .few-references in
@@ -45,7 +47,8 @@ module _ {refs rows : List ℕ} {used many named : ℕ} (r : Rows refs rows used
         rw (table-term name refs rows used many n t h) (node-intro (table name refs rows used many t) (node-of name refs rows used many t)
         (inr (record {
           which = getD refs i 0 % 4096;
-          among = refs-intro (row-kind rows t) (op-of-code (row-op rows t)) (name (row-head rows t)) (part refs (row-start rows t) (row-end rows used many t)) (row-extra rows t) (row-right name refs rows used many r t m) (part-intro refs (row-start rows t) (row-end rows used many t) i (omega arith) a b);
+          among = refs-intro (row-kind rows t) (op-of-code (row-op rows t)) (name (row-head rows t)) (part refs (row-start rows t) (row-end rows used many t))
+              (row-extra rows t) (row-right name refs rows used many r t m) (part-intro refs (row-start rows t) (row-end rows used many t) i (omega arith) a b);
           free = free-intro t d (omega arith) o;
         })))
 
@@ -64,16 +67,19 @@ module _ {refs rows : List ℕ} {used many named : ℕ} (r : Rows refs rows used
         (node-elim (table name refs rows used many t) (node-of name refs rows used many t) (rw (table-term name refs rows used many n t l) at m))
       where
         here : List·Memᴰ x (own-names (node-of name refs rows used many t)) → Numbered t x
-        here q = let (p, e) = own-elim (row-kind rows t) (op-of-code (row-op rows t)) (name (row-head rows t)) (part refs (row-start rows t) (row-end rows used many t)) (row-extra rows t) (kind-small rows t) q in
+        here q = let (p, e) = own-elim (row-kind rows t) (op-of-code (row-op rows t)) (name (row-head rows t))
+            (part refs (row-start rows t) (row-end rows used many t)) (row-extra rows t) (kind-small rows t) q in
             record { number = row-head rows t; occurs = own {t = t} p refl; is = e }
 
-        there : ((u : ℕ) → u < t → T (mem x (term (table name refs rows used many t) u .names)) → Numbered u x) → Inside (table name refs rows used many t) (references (node-of name refs rows used many t)) x → Numbered t x
+        there : ((u : ℕ) → u < t → T (mem x (term (table name refs rows used many t) u .names)) → Numbered u x)
+            → Inside (table name refs rows used many t) (references (node-of name refs rows used many t)) x → Numbered t x
         there go p =
             let room = r .ref-room in
             let few = r .few-references in
             let v : t < many = omega arith in
             let most = r .in-use t v in
-            let q = refs-elim (row-kind rows t) (op-of-code (row-op rows t)) (name (row-head rows t)) (part refs (row-start rows t) (row-end rows used many t)) (row-extra rows t) (row-right name refs rows used many r t v) (p .among) in
+            let q = refs-elim (row-kind rows t) (op-of-code (row-op rows t)) (name (row-head rows t)) (part refs (row-start rows t) (row-end rows used many t))
+            (row-extra rows t) (row-right name refs rows used many r t v) (p .among) in
             let w = part-elim {l = refs} {a = row-start rows t} {e = row-end rows used many t} (omega arith) (q .among) in
             let e : p .which ≡ getD refs (w .place) 0 % 4096 = q .is ∙ ap (_% 4096) (sym (w .is)) in
             let d = r .lower t (w .place) v (w .low) (w .high) in
@@ -88,7 +94,8 @@ pub record Set-of (name : ℕ → Name) (P : ℕ → Type 0) (set : List Name) :
   pub into : (k : ℕ) → P k → T (mem (name k) set)
   pub from : (x : Name) → T (mem x set) → (k : ℕ) × (P k × (x ≡ name k))
 
-module _ {names refs rows : List ℕ} {used many named : ℕ} {exclude : List Name} (name : ℕ → Name) (r : Rows refs rows used many named) (d : Named exclude name names named) where
+module _ {names refs rows : List ℕ} {used many named : ℕ} {exclude : List Name} (name : ℕ → Name) (r : Rows refs rows used many named)
+    (d : Named exclude name names named) where
   -- the names that a term counts
   pub term-set : (t : ℕ) → t < many → Set-of name (Free names refs rows used many t) (free-top-level-names exclude (terms-of name refs rows used many) t)
   unfolding free-top-level-names
@@ -100,18 +107,33 @@ module _ {names refs rows : List ℕ} {used many named : ℕ} {exclude : List Na
         let (a, b) = mem-diff x (term (table name refs rows used many many) t .names) exclude .0 m in
         let z = free-elim r name (suc t) many t (omega arith) l (omega arith) a in
         let s = occurs-named r l (z .occurs) in
-        let few = r .few-names in
-        (z .number, (record { occurs = z .occurs; counts = record { small = omega arith; counted = d .excluded (z .number) s ∙ T-false (mem (name (z .number)) exclude) (rw (z .is) at b) } }, z .is));
+        let few = r .few-names in (
+          z .number,
+          (
+            record {
+              occurs = z .occurs;
+              counts = record {
+                small = omega arith;
+                counted = d .excluded (z .number) s
+                    ∙ T-false (mem (name (z .number)) exclude) (rw (z .is) at b);
+              };
+            },
+            z .is,
+          ),
+        );
   })
 
 -- the names that a term counts are a set
-free-ascending : (exclude : List Name) (name : ℕ → Name) (refs rows : List ℕ) (used many t : ℕ) → Ascending (free-top-level-names exclude (terms-of name refs rows used many) t)
+free-ascending : (exclude : List Name) (name : ℕ → Name) (refs rows : List ℕ) (used many t : ℕ)
+    → Ascending (free-top-level-names exclude (terms-of name refs rows used many) t)
 unfolding free-top-level-names
-free-ascending exclude name refs rows used many t = rw (table-all name refs rows used many) (ascending-diff exclude (table-ascending name refs rows used many many t))
+free-ascending exclude name refs rows used many t = rw (table-all name refs rows used many)
+    (ascending-diff exclude (table-ascending name refs rows used many many t))
 
 module _ (f : ℕ → List Name) where
   -- a name of the union is one of the first set or of one of the others
-  unions-elim : (acc : List Name) (ts : List ℕ) (x : Name) → T (mem x (fold-left (λ out t. union out (f t)) acc ts)) → T (mem x acc) ⊎ ((t : ℕ) × (List·Memᴰ t ts × T (mem x (f t))))
+  unions-elim : (acc : List Name) (ts : List ℕ) (x : Name) → T (mem x (fold-left (λ out t. union out (f t)) acc ts))
+      → T (mem x acc) ⊎ ((t : ℕ) × (List·Memᴰ t ts × T (mem x (f t))))
   unfolding fold-left
   unions-elim acc [] x h = inl h
   unions-elim acc (t ∷ ts) x h = ⊎-elim
@@ -120,7 +142,8 @@ module _ (f : ℕ → List Name) where
       (unions-elim (union acc (f t)) ts x h)
 
   -- and back
-  unions-intro : (acc : List Name) (ts : List ℕ) (x : Name) → T (mem x acc) ⊎ ((t : ℕ) × (List·Memᴰ t ts × T (mem x (f t)))) → T (mem x (fold-left (λ out t. union out (f t)) acc ts))
+  unions-intro : (acc : List Name) (ts : List ℕ) (x : Name) → T (mem x acc) ⊎ ((t : ℕ) × (List·Memᴰ t ts × T (mem x (f t))))
+      → T (mem x (fold-left (λ out t. union out (f t)) acc ts))
   unfolding fold-left
   unions-intro acc [] x h = ⊎-elim (λ k. k) (λ (t, (m, k)). absurd (List·Memᴰ·not-nil m)) h
   unions-intro acc (t ∷ ts) x h = unions-intro (union acc (f t)) ts x (⊎-elim
@@ -134,9 +157,11 @@ module _ (f : ℕ → List Name) where
   unions-ascending acc [] a h = a
   unions-ascending acc (t ∷ ts) a h = unions-ascending (union acc (f t)) ts (ascending-union acc (h t)) h
 
-module _ {names refs rows : List ℕ} {used many named : ℕ} {exclude : List Name} (name : ℕ → Name) (r : Rows refs rows used many named) (d : Named exclude name names named) where
+module _ {names refs rows : List ℕ} {used many named : ℕ} {exclude : List Name} (name : ℕ → Name) (r : Rows refs rows used many named)
+    (d : Named exclude name names named) where
   -- the names that the terms of a list of references count
-  pub list-set : {a e : ℕ} → References refs used many a e → Set-of name (Among names refs rows used many a e) (group-names exclude (terms-of name refs rows used many) (terms-of-words (part refs a e)))
+  pub list-set : {a e : ℕ} → References refs used many a e → Set-of name (Among names refs rows used many a e)
+      (group-names exclude (terms-of name refs rows used many) (terms-of-words (part refs a e)))
   unfolding group-names terms-of-words
   list-set {a} {e} g =
       let room = r .ref-room in
@@ -146,7 +171,13 @@ module _ {names refs rows : List ℕ} {used many named : ℕ} {exclude : List Na
       record {
         is-set = unions-ascending free [] (map (λ w. w % 4096) (part refs a e)) empty ascending;
         into = λ k m. unions-intro free [] (map (λ w. w % 4096) (part refs a e)) (name k)
-            (inr (getD refs (m .place) 0 % 4096, (map-intro (λ w. w % 4096) (part-intro refs a e (m .place) fits (m .low) (m .high)), term-set name r d (getD refs (m .place) 0 % 4096) (g .in-table (m .place) (m .low) (m .high)) .into k (m .free))));
+            (inr (
+              getD refs (m .place) 0 % 4096,
+              (
+                map-intro (λ w. w % 4096) (part-intro refs a e (m .place) fits (m .low) (m .high)),
+                term-set name r d (getD refs (m .place) 0 % 4096) (g .in-table (m .place) (m .low) (m .high)) .into k (m .free),
+              ),
+            ));
         from = λ x h. ⊎-elim (λ k. absurd (none x k)) (λ (t, (m, k)). found fits x t m k) (unions-elim free [] (map (λ w. w % 4096) (part refs a e)) x h);
       }
     where
@@ -159,7 +190,8 @@ module _ {names refs rows : List ℕ} {used many named : ℕ} {exclude : List Na
       none : (x : Name) → T (mem x []) → ⊥
       none x k = List·Memᴰ·not-nil (mem-elim k)
 
-      found : e ≤ length refs → (x : Name) (t : ℕ) → List·Memᴰ t (map (λ w. w % 4096) (part refs a e)) → T (mem x (free t)) → (k : ℕ) × (Among names refs rows used many a e k × (x ≡ name k))
+      found : e ≤ length refs → (x : Name) (t : ℕ) → List·Memᴰ t (map (λ w. w % 4096) (part refs a e)) → T (mem x (free t))
+          → (k : ℕ) × (Among names refs rows used many a e k × (x ≡ name k))
       found fits x t m k =
           let (w, n, q) = map-elim (λ w. w % 4096) (part refs a e) m in
           let p = part-elim {l = refs} {a = a} {e = e} fits n in
@@ -193,7 +225,8 @@ apart-length (more {n} {ns} h a) = add-length n (from-list ns) (λ t. h (mem-fro
 
 module _ (name : ℕ → Name) where
   -- a name of some words' is that of one of them
-  map-place : (out : List ℕ) (a e : ℕ) {x : Name} → e ≤ length out → T (mem x (map name (part out a e))) → (i : ℕ) × ((a ≤ i) × (i < e) × (x ≡ name (getD out i 0)))
+  map-place : (out : List ℕ) (a e : ℕ) {x : Name} → e ≤ length out → T (mem x (map name (part out a e)))
+      → (i : ℕ) × ((a ≤ i) × (i < e) × (x ≡ name (getD out i 0)))
   map-place out a e h m =
       let (k, n, q) = map-elim name (part out a e) (mem-elim m) in
       let p = part-elim {l = out} {a = a} {e = e} h n in
@@ -204,7 +237,8 @@ module _ (name : ℕ → Name) where
   place-map out a e i h l k = mem-intro (map-intro name (part-intro out a e i h l k))
 
   -- words whose names are all different
-  words-apart : (out : List ℕ) (d a e : ℕ) → e - a ≡ d → e ≤ length out → ((i j : ℕ) → a ≤ i → i < j → j < e → name (getD out i 0) ≡ name (getD out j 0) → ⊥) → Apart (map name (part out a e))
+  words-apart : (out : List ℕ) (d a e : ℕ) → e - a ≡ d → e ≤ length out → ((i j : ℕ) → a ≤ i → i < j → j < e → name (getD out i 0) ≡ name (getD out j 0) → ⊥)
+      → Apart (map name (part out a e))
   words-apart out zero a e q h u = rw (part-nil out a e (omega arith)) none
   words-apart out (suc d) a e q h u =
       rw (part-cons out a e (omega arith) h)
@@ -223,7 +257,8 @@ start-listed fresh = record {
 module _ {P : ℕ → Type 0} (names out names′ out′ : List ℕ) (mark from room named : ℕ) {name : ℕ → Name} {set : List Name}
     (low : from ≤ room) (high : room ≤ length out) (fresh : (k : ℕ) → k < 2048 → name-mark names k ≡ mark → ⊥)
     (small : (k : ℕ) → P k → (k < named) × (k < 2048)) (distinct : (m n : ℕ) → m < named → n < named → name m ≡ name n → m ≡ n) (s : Set-of name P set) where
-  module _ (n : ℕ) (fits : n ≤ length out′) (w : Listed names′ out′ mark from n) (sound : (k : ℕ) → k < 2048 → name-mark names′ k ≡ mark → (name-mark names k ≡ mark) ⊎ P k) where
+  module _ (n : ℕ) (fits : n ≤ length out′) (w : Listed names′ out′ mark from n)
+      (sound : (k : ℕ) → k < 2048 → name-mark names′ k ≡ mark → (name-mark names k ≡ mark) ⊎ P k) where
     -- a name in the slice is one of the set
     listed-in : (i : ℕ) → from ≤ i → i < n → P (getD out′ i 0)
     listed-in i a b = ⊎-elim (λ e. absurd (fresh (getD out′ i 0) (w .small i a b) e)) (λ p. p) (sound (getD out′ i 0) (w .small i a b) (w .marked i a b))
@@ -231,7 +266,8 @@ module _ {P : ℕ → Type 0} (names out names′ out′ : List ℕ) (mark from 
     -- the names in the slice are all different
     listed-apart : Apart (map name (part out′ from n))
     listed-apart = words-apart name out′ (n - from) from n refl fits
-        (λ i j a b c e. w .once i j a b c (distinct (getD out′ i 0) (getD out′ j 0) (small _ (listed-in i a (omega arith)) .0) (small _ (listed-in j (omega arith) c) .0) e))
+        (λ i j a b c e. w .once i j a b c (distinct (getD out′ i 0) (getD out′ j 0) (small _ (listed-in i a (omega arith)) .0)
+        (small _ (listed-in j (omega arith) c) .0) e))
 
     -- how many names are in the slice
     listed-length : from ≤ n → length (map name (part out′ from n)) ≡ n - from
@@ -243,7 +279,8 @@ module _ {P : ℕ → Type 0} (names out names′ out′ : List ℕ) (mark from 
       where
         same : from-list (map name (part out′ from n)) ≡ set
         same = ascending-ext (ascending-from-list (map name (part out′ from n))) (s .is-set)
-            (λ x t. let (i, (a, c, e)) = map-place name out′ from n fits (mem-from-list x (map name (part out′ from n)) .0 t) in rw e (s .into (getD out′ i 0) (listed-in i a c)))
+            (λ x t. let (i, (a, c, e)) = map-place name out′ from n fits (mem-from-list x (map name (part out′ from n)) .0 t) in rw e
+            (s .into (getD out′ i 0) (listed-in i a c)))
             (λ x t. let (k, (p, e)) = s .from x t in let (i, (a, c, q)) = w .place k (small k p .1) (all k p) in
             mem-from-list x (map name (part out′ from n)) .1 (rw (e, ← q) (place-map name out′ from n i fits a c)))
 
@@ -266,11 +303,13 @@ module _ {P : ℕ → Type 0} (names out names′ out′ : List ℕ) (mark from 
   pub steps-gathers : {r : Walked} → Steps P names out names′ out′ mark from room r → Gathers name named set from room out′ r
   unfolding ended
   steps-gathers {r = walks.Names n} w =
-      gathers-all n (rw (w .out-same .same-length) (omega (arith, w .fits))) (w .listed from (omega arith) (start-listed fresh)) (w .sound) (w .grows) (w .fits) (all (w .comes))
+      gathers-all n (rw (w .out-same .same-length) (omega (arith, w .fits))) (w .listed from (omega arith) (start-listed fresh)) (w .sound) (w .grows)
+      (w .fits) (all (w .comes))
     where
       all : Comes P names′ mark (walks.Names n) → (k : ℕ) → P k → name-mark names′ k ≡ mark
       all (whole a) = a
   steps-gathers {r = walks.Full} w = go (w .comes)
     where
       go : Comes P names′ mark walks.Full → Gathers name named set from room out′ walks.Full
-      go (over {k} p l new) = gathers-over room (rw (w .out-same .same-length) high) (w .listed from (omega arith) (start-listed fresh)) (w .sound) low refl p new
+      go (over {k} p l new) = gathers-over room (rw (w .out-same .same-length) high) (w .listed from (omega arith) (start-listed fresh))
+          (w .sound) low refl p new

@@ -30,7 +30,8 @@ pub answer-names : (from : ℕ) (v : Visit) {n : ℕ} → walks.Names n ≡ walk
 unfolding walk-answer
 answer-names from v {n} e = go (v .full) refl e
   where
-    go : (b : Bool) → v .full ≡ b → walks.Names n ≡ cond b walks.Full (walks.Names (from + length (v .found))) → (v .full ≡ false) × (n ≡ from + length (v .found))
+    go : (b : Bool) → v .full ≡ b → walks.Names n ≡ cond b walks.Full (walks.Names (from + length (v .found)))
+        → (v .full ≡ false) × (n ≡ from + length (v .found))
     go true q e = let z : _≡_ {A = ℕ} 0 1 = cc in let n : ⊥ = omega arith in absurd n
     go false q e = (q, cc)
 
@@ -58,7 +59,8 @@ module _ {v : Visit} {names rows out names′ rows′ out′ : List ℕ} {mark f
 
   -- a name without it was not
   found-false : (n : ℕ) → n < 2048 → 16384 ≤ length names′ → (name-mark names′ n ≡ mark → ⊥) → has (v .found) n ≡ false
-  found-false n l k d = unmarked-has 8192 mark n (v .found) names (λ q. let z = h .new .name-marks n l in omega arith) (omega (arith, names-as .same-length)) (λ q. d (rw (h .walk .name-words) q))
+  found-false n l k d = unmarked-has 8192 mark n (v .found) names (λ q. let z = h .new .name-marks n l in omega arith) (omega (arith, names-as .same-length))
+      (λ q. d (rw (h .walk .name-words) q))
 
   -- a row with the mark was walked
   walked-true : (t : ℕ) → t < 4096 → row-mark rows′ t ≡ mark → has (v .walked) t ≡ true
@@ -66,18 +68,21 @@ module _ {v : Visit} {names rows out names′ rows′ out′ : List ℕ} {mark f
 
   -- a row without it was not
   walked-false : (t : ℕ) → t < 4096 → 16384 ≤ length rows′ → (row-mark rows′ t ≡ mark → ⊥) → has (v .walked) t ≡ false
-  walked-false t l k d = unmarked-has 12288 mark t (v .walked) rows (λ q. let z = h .new .row-marks t l in omega arith) (omega (arith, rows-as .same-length)) (λ q. d (rw (h .walk .row-words) q))
+  walked-false t l k d = unmarked-has 12288 mark t (v .walked) rows (λ q. let z = h .new .row-marks t l in omega arith) (omega (arith, rows-as .same-length))
+      (λ q. d (rw (h .walk .row-words) q))
 
 -- ---- the head of a term
 
 -- the walk of a head by its tests
-head-by : (names rows : List ℕ) (room : ℕ) (v : Visit) (t n : ℕ) {a b c : Bool} → n ≡ row-head rows t → has-head (row-kind rows t) ≡ a → is-excluded names n ≡ b → has (v .found) n ≡ c
+head-by : (names rows : List ℕ) (room : ℕ) (v : Visit) (t n : ℕ) {a b c : Bool} → n ≡ row-head rows t → has-head (row-kind rows t) ≡ a
+    → is-excluded names n ≡ b → has (v .found) n ≡ c
     → head-part t names rows room v ≡ cond ((a && not b) && not c) (find room v n) v
 unfolding head-part visit-head
 head-by names rows room v t n i p q s = rw (← i, p, q, s)
 
 -- a name more, where there is room
-find-more : (room : ℕ) (v : Visit) (n : ℕ) → length (v .found) < room → find room v n ≡ record { found = v .found ++ (n ∷ []); walked = v .walked; full = false }
+find-more : (room : ℕ) (v : Visit) (n : ℕ) → length (v .found) < room
+    → find room v n ≡ record { found = v .found ++ (n ∷ []); walked = v .walked; full = false }
 unfolding find
 find-more room v n h = rw (lt-ltb (length (v .found)) room h)
 
@@ -134,7 +139,8 @@ module _ {names rows out : List ℕ} {t count room : ℕ} (h : Heads names rows 
         }
 
         -- the head is added
-        pub follow-added : count < room → Follows (head-part t) names rows out (set names (8192 + n) mark) rows (set out count n) mark count room (walks.Names (count + 1))
+        pub follow-added : count < room → Follows (head-part t) names rows out (set names (8192 + n) mark) rows (set out count n) mark count room
+            (walks.Names (count + 1))
         unfolding walk-answer
         follow-added e = record {
           follows = λ {names₀} {rows₀} {out₀} {from} {v} w.
@@ -149,7 +155,8 @@ module _ {names rows out : List ℕ} {t count room : ℕ} (h : Heads names rows 
                   row-words = w .walk .row-words;
                   out-words = rw (w .walk .out-words, ends) (sym (put-more from (v .found) n out₀));
                 };
-                found-small = λ m i. ⊎-elim (w .found-small m) (λ j. let q : m ≡ n = List·Memᴰ·eq-of-singleton j in rw q small) (List·Memᴰ·append-cases (v .found) i);
+                found-small = λ m i. ⊎-elim (w .found-small m) (λ j. let q : m ≡ n = List·Memᴰ·eq-of-singleton j in rw q small)
+                    (List·Memᴰ·append-cases (v .found) i);
                 walked-small = w .walked-small;
               });
         }
@@ -173,7 +180,8 @@ follows-is e w = rw e at w
 
 -- a part under a new mark is the walk
 pub follows-start : {f : Part} {names rows out names′ rows′ out′ : List ℕ} {mark from room : ℕ} {r : Walked} → Fresh names rows mark
-    → Follows f names rows out names′ rows′ out′ mark from room r → Walks-as (f names rows (room - from) start-visit) names rows out names′ rows′ out′ mark from r
+    → Follows f names rows out names′ rows′ out′ mark from room r
+    → Walks-as (f names rows (room - from) start-visit) names rows out names′ rows′ out′ mark from r
 unfolding start-visit walk-answer marked-at put fold-left
 follows-start {from} new w =
     let z : from ≡ from + 0 = omega arith in
@@ -232,7 +240,8 @@ module _ {names refs rows out : List ℕ} {used many mark count room t : ℕ} (h
 
   module _ {a e : ℕ} (new : row-mark rows t ≡ mark → ⊥) (p : a ≡ row-start rows t) (q : e ≡ row-end rows used many t) where
     -- there is no room for one of the names
-    term-stop : {names′ rows′ out′ : List ℕ} → Follows (both (head-part t) (list-part refs used many a e)) names rows out names′ rows′ out′ mark count room walks.Full
+    term-stop : {names′ rows′ out′ : List ℕ} → Follows (both (head-part t)
+        (list-part refs used many a e)) names rows out names′ rows′ out′ mark count room walks.Full
         → Follows (term-part refs used many t) names rows out names′ rows′ out′ mark count room walks.Full
     term-stop x = record {
       follows = λ {from} w. let y = x .follows w in rw (term-open w new p q ∙ finish-full t _ (answer-full from _ (y .walk .answer))) y;
@@ -263,42 +272,52 @@ module _ {names refs rows out : List ℕ} {used many mark count room t : ℕ} (h
                 out-words = z .walk .out-words;
               };
               found-small = z .found-small;
-              walked-small = λ s i. ⊎-elim (z .walked-small s) (λ j. let q : s ≡ t = List·Memᴰ·eq-of-singleton j in rw q (is-row w)) (List·Memᴰ·append-cases (u .walked) i);
+              walked-small = λ s i. ⊎-elim (z .walked-small s) (λ j. let q : s ≡ t = List·Memᴰ·eq-of-singleton j in rw q (is-row w))
+                  (List·Memᴰ·append-cases (u .walked) i);
             });
       }
 
   -- there is no room for the head
-  pub follow-head-full : {names′ out′ : List ℕ} → (row-mark rows t ≡ mark → ⊥) → Follows (head-part t) names rows out names′ rows out′ mark count room walks.Full
+  pub follow-head-full : {names′ out′ : List ℕ} → (row-mark rows t ≡ mark → ⊥)
+      → Follows (head-part t) names rows out names′ rows out′ mark count room walks.Full
       → Follows (term-part refs used many t) names rows out names′ rows out′ mark count room walks.Full
   unfolding list-part
   follow-head-full new x = term-stop new refl refl (record {
     follows = λ {names₀} {rows₀} {out₀} {from} {v} w.
         let y = x .follows w in
         let u : Visit = head-part t names₀ rows₀ (room - from) v in
-        rw (fold-full names₀ refs rows₀ used many (room - from) many u (terms-of-words (part refs (row-start rows t) (row-end rows used many t))) (answer-full from u (y .walk .answer))) y;
+        rw (fold-full names₀ refs rows₀ used many (room - from) many u (terms-of-words (part refs (row-start rows t) (row-end rows used many t)))
+        (answer-full from u (y .walk .answer))) y;
   })
 
 -- ---- a list
 
 -- no term
-pub follow-nil : (refs : List ℕ) (used many a : ℕ) {names rows out : List ℕ} {mark count room : ℕ} → Follows (list-part refs used many a a) names rows out names rows out mark count room (walks.Names count)
+pub follow-nil : (refs : List ℕ) (used many a : ℕ) {names rows out : List ℕ} {mark count room : ℕ}
+    → Follows (list-part refs used many a a) names rows out names rows out mark count room (walks.Names count)
 unfolding list-part terms-of-words fold-left
 follow-nil refs used many a = record { follows = λ w. rw (part-nil refs a a (omega arith)) w }
 
-module _ {names refs rows out : List ℕ} {used many mark count room a e i : ℕ} (h : Ready names refs rows out used many mark count room) (g : References refs used many a e) (low : a ≤ i) (high : i < e) where
+module _ {names refs rows out : List ℕ} {used many mark count room a e i : ℕ} (h : Ready names refs rows out used many mark count room)
+    (g : References refs used many a e) (low : a ≤ i) (high : i < e) where
   -- the list is in the slice
   fits : e ≤ length refs
   fits = omega (arith, g .in-use, h .table .ref-room, h .table .few-references)
 
   -- the terms up to one place and the term there are those up to the next
   pub follow-next : {names′ rows′ out′ names″ rows″ out″ : List ℕ} {n t : ℕ} {r : Walked} → t ≡ getD refs i 0 % 4096
-      → Follows (list-part refs used many a i) names rows out names′ rows′ out′ mark count room (walks.Names n) → Follows (term-part refs used many t) names′ rows′ out′ names″ rows″ out″ mark n room r
+      → Follows (list-part refs used many a i) names rows out names′ rows′ out′ mark count room (walks.Names n)
+      → Follows (term-part refs used many t) names′ rows′ out′ names″ rows″ out″ mark n room r
       → Follows (list-part refs used many a (i + 1)) names rows out names″ rows″ out″ mark count room r
   unfolding list-part term-part fold-left
   follow-next is x y = record {
     follows = λ {names₀} {rows₀} {out₀} {from} {v} w.
         let long = fits in
-        rw (terms-more refs a i low (omega arith), fold-left-append (visit names₀ refs rows₀ used many (room - from) many) v (terms-of-words (part refs a i)) (getD refs i 0 % 4096 ∷ []), ← is) (follows-then x y .follows w);
+        rw (
+          terms-more refs a i low (omega arith),
+          fold-left-append (visit names₀ refs rows₀ used many (room - from) many) v (terms-of-words (part refs a i)) (getD refs i 0 % 4096 ∷ []),
+          ← is,
+        ) (follows-then x y .follows w);
   }
 
   -- where there is no room for the terms up to a place there is none for the list's
@@ -311,14 +330,17 @@ module _ {names refs rows out : List ℕ} {used many mark count room a e i : ℕ
         let u : Visit = fold-left (visit names₀ refs rows₀ used many (room - from) many) v (terms-of-words (part refs a (i + 1))) in
         rw (
           terms-split refs a (i + 1) e (omega arith) (omega arith) fits,
-          fold-left-append (visit names₀ refs rows₀ used many (room - from) many) v (terms-of-words (part refs a (i + 1))) (terms-of-words (part refs (i + 1) e)),
+          fold-left-append (visit names₀ refs rows₀ used many (room - from) many) v (terms-of-words (part refs a (i + 1)))
+              (terms-of-words (part refs (i + 1) e)),
           fold-full names₀ refs rows₀ used many (room - from) many u (terms-of-words (part refs (i + 1) e)) (answer-full from u (y .walk .answer)),
         ) y;
   }
 
 -- the terms up to the end are the list's
-pub follow-end : {refs : List ℕ} {used many a i e : ℕ} {names rows out names′ rows′ out′ : List ℕ} {mark count room : ℕ} {r : Walked} → References refs used many a e → i ≤ e → e ≤ i
-    → Follows (list-part refs used many a i) names rows out names′ rows′ out′ mark count room r → Follows (list-part refs used many a e) names rows out names′ rows′ out′ mark count room r
+pub follow-end : {refs : List ℕ} {used many a i e : ℕ} {names rows out names′ rows′ out′ : List ℕ} {mark count room : ℕ} {r : Walked}
+    → References refs used many a e → i ≤ e → e ≤ i
+    → Follows (list-part refs used many a i) names rows out names′ rows′ out′ mark count room r
+    → Follows (list-part refs used many a e) names rows out names′ rows′ out′ mark count room r
 follow-end {i} {e} g l k x =
     let q : i ≡ e = omega arith in
     rw q at x

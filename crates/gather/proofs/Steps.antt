@@ -29,7 +29,8 @@ module _ {P : ℕ → Type 0} {names out : List ℕ} {mark count room : ℕ} whe
   }
 
   -- nothing is added: there is no room for a name of the set
-  pub steps-over : {k : ℕ} → count ≤ room → room ≤ count → P k → k < 2048 → (name-mark names k ≡ mark → ⊥) → Steps P names out names out mark count room walks.Full
+  pub steps-over : {k : ℕ} → count ≤ room → room ≤ count → P k → k < 2048 → (name-mark names k ≡ mark → ⊥)
+      → Steps P names out names out mark count room walks.Full
   unfolding ended
   steps-over h g p l n = record {
     names-same = same-self 8192 2048 names;
@@ -43,7 +44,8 @@ module _ {P : ℕ → Type 0} {names out : List ℕ} {mark count room : ℕ} whe
   }
 
 -- a slice of names with one name more
-module _ (names out : List ℕ) (mark count k : ℕ) (small : k < 2048) (long : 16384 ≤ length names) (room : count < length out) (new : name-mark names k ≡ mark → ⊥) where
+module _ (names out : List ℕ) (mark count k : ℕ) (small : k < 2048) (long : 16384 ≤ length names) (room : count < length out)
+    (new : name-mark names k ≡ mark → ⊥) where
   -- the name has the mark
   mark-same : name-mark (set names (8192 + k) mark) k ≡ mark
   mark-same = getD-set-same names (8192 + k) mark 0 (omega arith)
@@ -69,7 +71,8 @@ module _ (names out : List ℕ) (mark count k : ℕ) (small : k < 2048) (long : 
     once = λ i j a b c. once′ i j a b c (equal j count);
   }
     where
-      place : (m : ℕ) → m < 2048 → name-mark (set names (8192 + k) mark) m ≡ mark → (m ≡ k) ⊎ (m ≡ k → ⊥) → (i : ℕ) × ((from ≤ i) × (i < count + 1) × (getD (set out count k) i 0 ≡ m))
+      place : (m : ℕ) → m < 2048 → name-mark (set names (8192 + k) mark) m ≡ mark → (m ≡ k) ⊎ (m ≡ k → ⊥)
+          → (i : ℕ) × ((from ≤ i) × (i < count + 1) × (getD (set out count k) i 0 ≡ m))
       place m l e (inl f) = (count, (h, omega arith, out-same ∙ sym f))
       place m l e (inr f) = let (i, (a, b, g)) = r .place m l (sym (mark-other m f) ∙ e) in (i, (a, omega arith, out-other i b ∙ g))
 
@@ -114,7 +117,8 @@ steps-one {P} {names} {out} {mark} {count} {room} k small long low high new p on
     }
 
 -- a name with the mark keeps it
-pub steps-kept : {P : ℕ → Type 0} {names out names′ out′ : List ℕ} {mark count room : ℕ} {r : Walked} → Steps P names out names′ out′ mark count room r → (k : ℕ) → k < 2048 → name-mark names k ≡ mark → name-mark names′ k ≡ mark
+pub steps-kept : {P : ℕ → Type 0} {names out names′ out′ : List ℕ} {mark count room : ℕ} {r : Walked} → Steps P names out names′ out′ mark count room r
+    → (k : ℕ) → k < 2048 → name-mark names k ≡ mark → name-mark names′ k ≡ mark
 steps-kept s k l e = ⊎-elim (λ f. f) (λ f. f ∙ e) (s .name-marks k l)
 
 module _ {P Q : ℕ → Type 0} where
@@ -124,7 +128,8 @@ module _ {P Q : ℕ → Type 0} where
   comes-as f g (over p l n) = over (f _ p) l n
 
   -- the same of a set with the same names
-  pub steps-as : {names out names′ out′ : List ℕ} {mark count room : ℕ} {r : Walked} → ((k : ℕ) → P k → Q k) → ((k : ℕ) → Q k → P k) → Steps P names out names′ out′ mark count room r → Steps Q names out names′ out′ mark count room r
+  pub steps-as : {names out names′ out′ : List ℕ} {mark count room : ℕ} {r : Walked} → ((k : ℕ) → P k → Q k) → ((k : ℕ) → Q k → P k)
+      → Steps P names out names′ out′ mark count room r → Steps Q names out names′ out′ mark count room r
   steps-as f g s = record {
     names-same = s .names-same;
     out-same = s .out-same;
@@ -141,7 +146,8 @@ module _ {P Q : ℕ → Type 0} where
   comes-full f (over p l n) = over (f _ p) l n
 
   -- where there is no room for a set there is none for a larger one
-  pub steps-full : {names out names′ out′ : List ℕ} {mark count room : ℕ} → ((k : ℕ) → P k → Q k) → Steps P names out names′ out′ mark count room walks.Full → Steps Q names out names′ out′ mark count room walks.Full
+  pub steps-full : {names out names′ out′ : List ℕ} {mark count room : ℕ} → ((k : ℕ) → P k → Q k) → Steps P names out names′ out′ mark count room walks.Full
+      → Steps Q names out names′ out′ mark count room walks.Full
   steps-full f s = record {
     names-same = s .names-same;
     out-same = s .out-same;
@@ -154,7 +160,8 @@ module _ {P Q : ℕ → Type 0} where
   }
 
   -- what comes of two sets, one after the other
-  comes-more : {names names′ : List ℕ} {mark n : ℕ} {r : Walked} → ((k : ℕ) → P k → k < 2048) → ((k : ℕ) → k < 2048 → name-mark names k ≡ mark → name-mark names′ k ≡ mark)
+  comes-more : {names names′ : List ℕ} {mark n : ℕ} {r : Walked} → ((k : ℕ) → P k → k < 2048)
+      → ((k : ℕ) → k < 2048 → name-mark names k ≡ mark → name-mark names′ k ≡ mark)
       → Comes P names mark (walks.Names n) → Comes Q names′ mark r → Comes (λ k. P k ⊎ Q k) names′ mark r
   comes-more b kept (whole a) (whole c) = whole (λ k s. ⊎-elim (λ p. kept k (b k p) (a k p)) (c k) s)
   comes-more b kept (whole a) (over q l n) = over (inr q) l n
@@ -169,7 +176,8 @@ module _ {P Q : ℕ → Type 0} where
       let m : n ≤ ended room r = t .grows in
       record {
         names-same = same-then (s .names-same) (t .names-same);
-        out-same = same-then (same-wider count (ended room r - count) (omega arith) (omega arith) (s .out-same)) (same-wider count (ended room r - count) g (omega arith) (t .out-same));
+        out-same = same-then (same-wider count (ended room r - count) (omega arith) (omega arith) (s .out-same))
+            (same-wider count (ended room r - count) g (omega arith) (t .out-same));
         name-marks = λ k l. ⊎-elim inl (λ e. ⊎-elim (λ f. inl (e ∙ f)) (λ f. inr (e ∙ f)) (s .name-marks k l)) (t .name-marks k l);
         grows = omega (arith, t .grows);
         fits = t .fits;

@@ -45,7 +45,8 @@ module _ (column mark : ℕ) where
   marked-same size [] l h = same-self column size l
   marked-same size (n ∷ ns) l h =
       let s = h n (List·Memᴰ·head refl) in
-      same-then (same-set column size l (column + n) mark (omega arith) (omega arith)) (marked-same size ns (set l (column + n) mark) (λ m i. h m (List·Memᴰ·tail i)))
+      same-then (same-set column size l (column + n) mark (omega arith) (omega arith))
+      (marked-same size ns (set l (column + n) mark) (λ m i. h m (List·Memᴰ·tail i)))
 
   module _ (n : ℕ) where
     -- a mark stays
@@ -60,14 +61,16 @@ module _ (column mark : ℕ) where
     -- a number of the list has the mark
     pub mark-in : {ns : List ℕ} (l : List ℕ) → column + n < length l → List·Memᴰ n ns → getD (marked-at column mark ns l) (column + n) 0 ≡ mark
     unfolding marked-at fold-left
-    mark-in l k (List·Memᴰ·head {x = m} {xs} e) = mark-stays xs (set l (column + m) mark) (rw (length-set l (column + m) mark) k) (rw e (getD-set-same l (column + m) mark 0 (rw e at k)))
+    mark-in l k (List·Memᴰ·head {x = m} {xs} e) = mark-stays xs (set l (column + m) mark) (rw (length-set l (column + m) mark) k)
+        (rw e (getD-set-same l (column + m) mark 0 (rw e at k)))
     mark-in l k (List·Memᴰ·tail {x = m} i) = mark-in (set l (column + m) mark) (rw (length-set l (column + m) mark) k) i
 
     -- the mark of any other number stays
     pub mark-out : (ns l : List ℕ) → (List·Memᴰ n ns → ⊥) → getD (marked-at column mark ns l) (column + n) 0 ≡ getD l (column + n) 0
     unfolding marked-at fold-left
     mark-out [] l h = refl
-    mark-out (m ∷ ns) l h = mark-out ns (set l (column + m) mark) (λ i. h (List·Memᴰ·tail i)) ∙ getD-set-other l (column + m) (column + n) mark 0 (λ q. h (List·Memᴰ·head (omega arith)))
+    mark-out (m ∷ ns) l h = mark-out ns (set l (column + m) mark) (λ i. h (List·Memᴰ·tail i))
+        ∙ getD-set-other l (column + m) (column + n) mark 0 (λ q. h (List·Memᴰ·head (omega arith)))
 
     module _ (ns l : List ℕ) (new : getD l (column + n) 0 ≡ mark → ⊥) where
       -- a number with a new mark is one of the list
@@ -101,7 +104,8 @@ fold-cong f g [] h a = refl
 fold-cong f g (n ∷ l) h a = rw (h a n (List·Memᴰ·head refl)) (fold-cong f g l (λ b m i. h b m (List·Memᴰ·tail i)) (g a n))
 
 -- a term that references name stands at one of them
-pub term-place : (refs : List ℕ) (a e : ℕ) {u : ℕ} → e ≤ length refs → List·Memᴰ u (terms-of-words (part refs a e)) → (i : ℕ) × ((a ≤ i) × (i < e) × (getD refs i 0 % 4096 ≡ u))
+pub term-place : (refs : List ℕ) (a e : ℕ) {u : ℕ} → e ≤ length refs → List·Memᴰ u (terms-of-words (part refs a e))
+    → (i : ℕ) × ((a ≤ i) × (i < e) × (getD refs i 0 % 4096 ≡ u))
 unfolding terms-of-words
 term-place refs a e h m =
     let (w, n, q) = map-elim (λ w. w % 4096) (part refs a e) m in
@@ -137,17 +141,21 @@ module _ (names refs rows : List ℕ) (used many room : ℕ) where
 
   module _ {named : ℕ} (r : Rows refs rows used many named) where
     -- any depth above a term is as good
-    pub visit-depth : (n m : ℕ) (v : Visit) (t : ℕ) → t < n → t < m → t < many → visit names refs rows used many room n v t ≡ visit names refs rows used many room m v t
+    pub visit-depth : (n m : ℕ) (v : Visit) (t : ℕ) → t < n → t < m → t < many
+        → visit names refs rows used many room n v t ≡ visit names refs rows used many room m v t
     unfolding visit
     visit-depth zero m v t h k l = absurd (not-suc-le-zero h)
     visit-depth (suc n) zero v t h k l = absurd (not-suc-le-zero k)
     visit-depth (suc n) (suc m) v t h k l =
-        ap (λ w. cond (v .full || has (v .walked) t) v (finish t w)) (fold-cong (visit names refs rows used many room n) (visit names refs rows used many room m) (terms-of-words (part refs (row-start rows t) (row-end rows used many t)))
+        ap (λ w. cond (v .full || has (v .walked) t) v (finish t w))
+        (fold-cong (visit names refs rows used many room n) (visit names refs rows used many room m)
+        (terms-of-words (part refs (row-start rows t) (row-end rows used many t)))
         (λ w u i. let d = lower-in r l i in visit-depth n m w u (omega arith) (omega arith) (omega arith)) (visit-head names refs rows used many room v t))
 
     -- the walk of a term by its parts, all at one depth
     pub visit-parts : (v : Visit) (t : ℕ) → t < many → visit names refs rows used many room many v t
-        ≡ cond (v .full || has (v .walked) t) v (finish t (fold-left (visit names refs rows used many room many) (visit-head names refs rows used many room v t) (terms-of-words (part refs (row-start rows t) (row-end rows used many t)))))
+        ≡ cond (v .full || has (v .walked) t) v (finish t (fold-left (visit names refs rows used many room many)
+        (visit-head names refs rows used many room v t) (terms-of-words (part refs (row-start rows t) (row-end rows used many t)))))
     unfolding visit
     visit-parts v t l = visit-depth many (suc many) v t l (omega arith) l
 

@@ -85,15 +85,20 @@ module _ {refs rows rows′ : List ℕ} {used many named : ℕ} where
             let k : row-kind rows t ≡ 7 = sym (kind-same s t (omega arith)) ∙ h in
             let f : row-start rows t < row-end rows used many t = r .bodied t l (label-bodied (row-kind rows t) k) in
             let u : getD refs (row-start rows t) 0 % 4096 < t = r .lower t (row-start rows t) l (omega arith) f in
-            extra-same s t (omega arith) ∙ r .labelled t l k ∙ sym (ap (λ i. bare-of rows′ (getD refs i 0 % 4096)) (start-same s t (omega arith)) ∙ bare-same s (getD refs (row-start rows t) 0 % 4096) (omega arith));
+            extra-same s t (omega arith) ∙ r .labelled t l k ∙ sym
+            (ap (λ i. bare-of rows′ (getD refs i 0 % 4096)) (start-same s t (omega arith))
+            ∙ bare-same s (getD refs (row-start rows t) 0 % 4096) (omega arith));
         childless = λ t l h. rw (start-same s t (omega arith), end-same s used many t few l) (r .childless t l (rw (kind-same s t (omega arith)) at h));
         single = λ t l h. rw (start-same s t (omega arith), end-same s used many t few l) (r .single t l (rw (kind-same s t (omega arith)) at h));
-        grouped = λ t i l h a b. rw (extra-same s t (omega arith)) (r .grouped t i l (rw (kind-same s t (omega arith)) at h) (rw (start-same s t (omega arith)) at a) (rw (end-same s used many t few l) at b));
-        rising = λ t i l h a b. r .rising t i l (rw (kind-same s t (omega arith)) at h) (rw (start-same s t (omega arith)) at a) (rw (end-same s used many t few l) at b);
+        grouped = λ t i l h a b. rw (extra-same s t (omega arith))
+            (r .grouped t i l (rw (kind-same s t (omega arith)) at h) (rw (start-same s t (omega arith)) at a) (rw (end-same s used many t few l) at b));
+        rising = λ t i l h a b. r .rising t i l (rw (kind-same s t (omega arith)) at h) (rw (start-same s t (omega arith)) at a)
+            (rw (end-same s used many t few l) at b);
       }
 
   -- a name that occurs does so with other marks too
-  pub occurs-same : Same-but 12288 4096 rows rows′ → Rows refs rows used many named → {t k : ℕ} → t < many → Occurs refs rows used many t k → Occurs refs rows′ used many t k
+  pub occurs-same : Same-but 12288 4096 rows rows′ → Rows refs rows used many named → {t k : ℕ} → t < many → Occurs refs rows used many t k
+      → Occurs refs rows′ used many t k
   occurs-same s r l (own {t} h e) =
       let few = r .few-rows in
       own {t = t} (rw (kind-same s t (omega arith)) h) (head-same s t (omega arith) ∙ e)
@@ -110,7 +115,8 @@ excluded-same {names} {names′} s = excluded-kept names names′ (λ i h. s .sa
 pub counted-same : {names names′ : List ℕ} {k : ℕ} → Same-but 8192 2048 names names′ → Counted names k → Counted names′ k
 counted-same {k} s c = record { small = c .small; counted = excluded-same s k (c .small) ∙ c .counted }
 
-module _ {names names′ refs rows rows′ : List ℕ} {used many named : ℕ} (n : Same-but 8192 2048 names names′) (s : Same-but 12288 4096 rows rows′) (r : Rows refs rows used many named) where
+module _ {names names′ refs rows rows′ : List ℕ} {used many named : ℕ} (n : Same-but 8192 2048 names names′) (s : Same-but 12288 4096 rows rows′)
+    (r : Rows refs rows used many named) where
   -- a free name is free with other marks too
   pub free-same : {t k : ℕ} → t < many → Free names refs rows used many t k → Free names′ refs rows′ used many t k
   free-same l f = record { occurs = occurs-same s r l (f .occurs); counts = counted-same n (f .counts) }
@@ -118,11 +124,13 @@ module _ {names names′ refs rows rows′ : List ℕ} {used many named : ℕ} (
 -- ---- walks
 
 -- the references of a row
-pub references-of : {refs rows : List ℕ} {used many named t a e : ℕ} → Rows refs rows used many named → t < many → a ≡ row-start rows t → e ≡ row-end rows used many t → References refs used many a e
+pub references-of : {refs rows : List ℕ} {used many named t a e : ℕ} → Rows refs rows used many named → t < many → a ≡ row-start rows t
+    → e ≡ row-end rows used many t → References refs used many a e
 references-of {t} r l p q = rw (p, q) (record { in-order = r .in-order t l; in-use = r .in-use t l; in-table = λ i a b. let d = r .lower t i l a b in omega arith })
 
 -- a longer count of marks leaves the marked terms closed
-closed-more : {names names′ refs rows : List ℕ} {used many mark : ℕ} → Rows refs rows used many 2048 → Same-but 8192 2048 names names′ → ((k : ℕ) → k < 2048 → name-mark names k ≡ mark → name-mark names′ k ≡ mark)
+closed-more : {names names′ refs rows : List ℕ} {used many mark : ℕ} → Rows refs rows used many 2048 → Same-but 8192 2048 names names′
+    → ((k : ℕ) → k < 2048 → name-mark names k ≡ mark → name-mark names′ k ≡ mark)
     → Closed names refs rows used many mark → Closed names′ refs rows used many mark
 closed-more {rows} r s kept c = record {
   marked = λ t k l e f. kept k (f .counts .small) (c .marked t k l e (free-same (same-back s) (same-self 12288 4096 rows) r l f));
@@ -130,7 +138,8 @@ closed-more {rows} r s kept c = record {
 
 -- a change of names alone is a walk
 pub walks-names : {P : ℕ → Type 0} {names refs rows out names′ out′ : List ℕ} {used many mark count room : ℕ} {r : Walked}
-    → Ready names refs rows out used many mark count room → Steps P names out names′ out′ mark count room r → Walks P names refs rows out names′ rows out′ used many mark count room r
+    → Ready names refs rows out used many mark count room → Steps P names out names′ out′ mark count room r
+    → Walks P names refs rows out names′ rows out′ used many mark count room r
 walks-names {rows} h s = record {
   steps = s;
   rows-same = same-self 12288 4096 rows;
@@ -139,7 +148,8 @@ walks-names {rows} h s = record {
 }
 
 -- a term with the mark adds nothing
-pub walks-there : {names refs rows out : List ℕ} {used many mark count room t : ℕ} → Ready names refs rows out used many mark count room → t < many → row-mark rows t ≡ mark
+pub walks-there : {names refs rows out : List ℕ} {used many mark count room t : ℕ} → Ready names refs rows out used many mark count room → t < many
+    → row-mark rows t ≡ mark
     → Walks (Free names refs rows used many t) names refs rows out names rows out used many mark count room (walks.Names count)
 walks-there {t} h l e = walks-names h (steps-stay (h .low) (λ k f. h .closed .marked t k l e f))
 
@@ -163,16 +173,19 @@ ready-then h w = record {
 
 module _ {P Q : ℕ → Type 0} {names refs rows out names′ rows′ out′ : List ℕ} {used many mark count room : ℕ} where
   -- where there is no room for a set there is none for a larger one
-  pub walks-full : ((k : ℕ) → P k → Q k) → Walks P names refs rows out names′ rows′ out′ used many mark count room walks.Full → Walks Q names refs rows out names′ rows′ out′ used many mark count room walks.Full
+  pub walks-full : ((k : ℕ) → P k → Q k) → Walks P names refs rows out names′ rows′ out′ used many mark count room walks.Full
+      → Walks Q names refs rows out names′ rows′ out′ used many mark count room walks.Full
   walks-full f w = record { steps = steps-full f (w .steps); rows-same = w .rows-same; row-marks = w .row-marks; closed = w .closed }
 
   -- the same of a set with the same names
-  pub walks-as : {r : Walked} → ((k : ℕ) → P k → Q k) → ((k : ℕ) → Q k → P k) → Walks P names refs rows out names′ rows′ out′ used many mark count room r → Walks Q names refs rows out names′ rows′ out′ used many mark count room r
+  pub walks-as : {r : Walked} → ((k : ℕ) → P k → Q k) → ((k : ℕ) → Q k → P k) → Walks P names refs rows out names′ rows′ out′ used many mark count room r
+      → Walks Q names refs rows out names′ rows′ out′ used many mark count room r
   walks-as f g w = record { steps = steps-as f g (w .steps); rows-same = w .rows-same; row-marks = w .row-marks; closed = w .closed }
 
   -- one walk after another
   pub walks-then : {names″ rows″ out″ : List ℕ} {n : ℕ} {r : Walked} → ((k : ℕ) → P k → k < 2048)
-      → Walks P names refs rows out names′ rows′ out′ used many mark count room (walks.Names n) → Walks Q names′ refs rows′ out′ names″ rows″ out″ used many mark n room r
+      → Walks P names refs rows out names′ rows′ out′ used many mark count room (walks.Names n)
+      → Walks Q names′ refs rows′ out′ names″ rows″ out″ used many mark n room r
       → Walks (λ k. P k ⊎ Q k) names refs rows out names″ rows″ out″ used many mark count room r
   walks-then b v w = record {
     steps = steps-then b (v .steps) (w .steps);
@@ -227,7 +240,11 @@ walks-term {names} {refs} {rows} {names′} {used} {many} {t} {a} {e} h p q v w 
 
     f : (k : ℕ) → Own names rows t k ⊎ Among names′ refs rows used many a e k → Free names refs rows used many t k
     f k (inl m) = record { occurs = own {t = t} (m .headed) (m .is); counts = m .counts }
-    f k (inr m) = record { occurs = under {t = t} (m .place) (rw (← p) (m .low)) (rw (← q) (m .high)) (m .free .occurs); counts = counted-same (same-back n) (m .free .counts) }
+    f k (inr m) = record {
+      occurs = under {t = t} (m .place) (rw (← p) (m .low)) (rw (← q) (m .high)) (m .free .occurs);
+      counts = counted-same (same-back n)
+          (m .free .counts);
+    }
 
     split : {k : ℕ} → Occurs refs rows used many t k → Counted names k → Own names rows t k ⊎ Among names′ refs rows used many a e k
     split (own x y) c = inl (record { headed = x; is = y; counts = c })
@@ -251,7 +268,10 @@ walks-marked {names} {refs} {rows} {names′} {rows′} {used} {many} {mark} {t}
   steps = w .steps;
   rows-same = same-then (w .rows-same) s;
   row-marks = λ u k. ⊎-elim (λ e. inl (rw e here)) (λ d. ⊎-elim (λ e. inl (other u d ∙ e)) (λ e. inr (other u d ∙ e)) (w .row-marks u k)) (equal u t);
-  closed = record { marked = λ u k p e f. ⊎-elim (λ d. comes-whole (w .steps .comes) k (back (rw d at f))) (λ d. w .closed .marked u k p (sym (other u d) ∙ e) (free-same (same-self 8192 2048 names′) (same-back s) table″ p f)) (equal u t) };
+  closed = record {
+    marked = λ u k p e f. ⊎-elim (λ d. comes-whole (w .steps .comes) k (back (rw d at f)))
+        (λ d. w .closed .marked u k p (sym (other u d) ∙ e) (free-same (same-self 8192 2048 names′) (same-back s) table″ p f)) (equal u t);
+  };
 }
   where
     few : many ≤ 4096
@@ -276,10 +296,18 @@ walks-marked {names} {refs} {rows} {names′} {rows′} {used} {many} {mark} {t}
     back f = free-same (same-back (w .steps .names-same)) (same-back (same-then (w .rows-same) s)) table″ l f
 
 -- what adding the head of a term asks
-pub heads-of : {names refs rows out : List ℕ} {used many mark count room t : ℕ} → Ready names refs rows out used many mark count room → t < many → Heads names rows out t count room
+pub heads-of : {names refs rows out : List ℕ} {used many mark count room t : ℕ} → Ready names refs rows out used many mark count room → t < many
+    → Heads names rows out t count room
 heads-of {t} h l =
     let few = h .table .few-rows in
-    record { name-room = h .name-room; row-room = h .table .row-room; is-row = omega arith; head-small = λ k. h .table .headed t l k; low = h .low; high = h .high }
+    record {
+      name-room = h .name-room;
+      row-room = h .table .row-room;
+      is-row = omega arith;
+      head-small = λ k. h .table .headed t l k;
+      low = h .low;
+      high = h .high;
+    }
 
 -- ---- the measure
 
@@ -305,7 +333,8 @@ pub list-falls : (refs : List ℕ) {a e i t m : ℕ} → a ≤ i → i < e → t
 list-falls refs {a} {e} {i} h l is q = omega (arith, top-above refs a (e - a) i h (omega arith))
 
 -- the list of a term is below the term
-pub term-falls : {refs rows : List ℕ} {used many named t m a e : ℕ} → Rows refs rows used many named → t < many → a ≡ row-start rows t → e ≡ row-end rows used many t → 2 * t + 1 ≡ m → 2 * top refs a (e - a) < m
+pub term-falls : {refs rows : List ℕ} {used many named t m a e : ℕ} → Rows refs rows used many named → t < many → a ≡ row-start rows t
+    → e ≡ row-end rows used many t → 2 * t + 1 ≡ m → 2 * top refs a (e - a) < m
 term-falls {refs} {rows} {used} {many} {t} {a} {e} r l p q w =
     let o = r .in-order t l in
     omega (arith, top-below refs a (e - a) t (λ i b d. r .lower t i l (omega arith) (omega arith)))
@@ -318,11 +347,13 @@ in-table-at {i} g l h is = rw is (g .in-table i l h)
 
 -- an answer that was taken apart
 pub walks-is : {P : ℕ → Type 0} {names refs rows out names′ rows′ out′ : List ℕ} {used many mark count room : ℕ} {r r′ : Walked}
-    → r ≡ r′ → Walks P names refs rows out names′ rows′ out′ used many mark count room r → Walks P names refs rows out names′ rows′ out′ used many mark count room r′
+    → r ≡ r′ → Walks P names refs rows out names′ rows′ out′ used many mark count room r
+    → Walks P names refs rows out names′ rows′ out′ used many mark count room r′
 walks-is e w = rw e at w
 
 -- the same of a step
-pub steps-is : {P : ℕ → Type 0} {names out names′ out′ : List ℕ} {mark count room : ℕ} {r r′ : Walked} → r ≡ r′ → Steps P names out names′ out′ mark count room r → Steps P names out names′ out′ mark count room r′
+pub steps-is : {P : ℕ → Type 0} {names out names′ out′ : List ℕ} {mark count room : ℕ} {r r′ : Walked} → r ≡ r′
+    → Steps P names out names′ out′ mark count room r → Steps P names out names′ out′ mark count room r′
 steps-is e w = rw e at w
 
 -- where there is no room for the terms up to a place there is none for the list's

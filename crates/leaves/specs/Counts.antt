@@ -5,6 +5,6 @@ use Rattle.names.specs.declared.Spelled.the-variants.{Known, New, Full}
 
 -- only a new name makes one more
 unfoldable pub grown-to : ℕ → Spelled → ℕ
-grown-to many (Known n) = many
-grown-to many (New n) = many + 1
-grown-to many Full = many
+grown-to named (Known n) = named
+grown-to named (New n) = named + 1
+grown-to named Full = named

@@ -1,5 +1,16 @@
 pub mod Ranges
+pub mod Picking
+pub mod Writing
+pub mod Walking
+pub mod Facts
+pub mod Noting
+pub mod Chains
+pub mod Stamps
+pub mod Members
+pub mod Gathering
+pub mod Lines
 pub mod Order
 pub mod Filed
 pub mod Takers
 pub mod Linking
+pub mod Pruning

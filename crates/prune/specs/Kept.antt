@@ -3,10 +3,10 @@ use Prim.Native.Nat.{ℕ, _+_, _≤_, _<_}
 use mathlib.Core.Path.{_≡_}
 use mathlib.Core.List.{List}
 use lib.Dec.{T}
-use lib.ListN.{length}
+use lib.ListN.{length, getD}
 use Rattle.model.specs.Lists.{part}
 use Rattle.model.specs.Names.{Name}
-use Rattle.model.specs.Reading.{most-records}
+use Rattle.model.specs.Reading.{most-names, most-records}
 use Rattle.model.specs.Kept.{kept}
 use Rattle.model.specs.Outcome.{working-words}
 use Rattle.model.specs.declared.Counts.{Counts}
@@ -17,7 +17,7 @@ use Rattle.records.specs.States.{decls-of, roots-of, ask-of}
 use Rattle.records.specs.Macros.{Filled}
 use Rattle.scan.specs.Held.{set-of}
 use Rattle.scan.specs.Steps.{is-reached}
-use Rattle.prune.specs.Loops.{kept-column}
+use Rattle.prune.specs.Loops.{kept-column, prune-end}
 
 -- the names of the reached records
 unfoldable pub reached-of : List ℕ → List ℕ → List ℕ → List ℕ → Counts → List Name
@@ -42,4 +42,5 @@ pub record Run-over (file names recs out run : List ℕ) (k : Counts) : Type 0 w
 pub record Pruned (file names recs out before after : List ℕ) (k : Counts) (r : ℕ) : Type 0 where
   pub lines : part after kept-column (kept-column + r) ≡ kept-of file names recs out before k
   pub count : r ≡ length (kept-of file names recs out before k)
-  pub same : Same-but 0 working-words before after
+  pub same : Same-but 0 prune-end before after
+  pub run-same : (i : ℕ) → most-names ≤ i → i < kept-column → getD after i 0 ≡ getD before i 0

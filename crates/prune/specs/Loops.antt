@@ -23,13 +23,13 @@ kept-column = 5120
 abbrev pub below-column : ℕ
 below-column = 6144
 
-abbrev pub last-column : ℕ
-last-column = 8192
+abbrev pub highest-column : ℕ
+highest-column = 8192
 
 abbrev pub prune-end : ℕ
 prune-end = 10240
 
--- how many stamps there may be: the kept facts and the roots
+-- the room for stamps: the kept facts and the roots
 abbrev pub most-stamps : ℕ
 most-stamps = 2048
 
@@ -62,7 +62,7 @@ pub record Notes (recs out run : List ℕ) (k : Counts) : Type 0 where
 
 -- the ranks of each stamp stand on its chain, highest first
 pub record Linked (stamp : ℕ → ℕ) (named : ℕ) (run : List ℕ) : Type 0 where
-  pub last : (s : ℕ) → s < most-stamps → getD run (last-column + s) 0 ≡ newest stamp (s + 1) named
+  pub last : (s : ℕ) → s < most-stamps → getD run (highest-column + s) 0 ≡ newest stamp (s + 1) named
   pub below : (r : ℕ) → r < named → 0 < stamp r → getD run (below-column + r) 0 ≡ newest stamp (stamp r) r
 
 -- the ranks put on the chains of their stamps
@@ -81,4 +81,5 @@ pub record Listable (names recs out run : List ℕ) (k : Counts) : Type 0 where
 pub record Listed (names recs out before after : List ℕ) (k : Counts) (to : ℕ) : Type 0 where
   pub records : part after kept-column (kept-column + to) ≡ kept-records names recs out before k
   pub count : to ≡ length (kept-records names recs out before k)
-  pub same : Same-but 0 working-words before after
+  pub same : Same-but 0 prune-end before after
+  pub run-same : (i : ℕ) → most-names ≤ i → i < kept-column → getD after i 0 ≡ getD before i 0

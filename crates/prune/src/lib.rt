@@ -20,15 +20,10 @@ pub const KEPT: usize = 5120;
 
 const BELOW: usize = 6144;
 
-const LAST: usize = 8192;
+const HIGHEST: usize = 8192;
 
-// How many stamps there may be: the kept facts and the roots.
+// The room for stamps: the kept facts and the roots.
 const MOST_STAMPS: usize = 2048;
-
-// The summary codes of ambients: the first, and the first past them.
-const AMBIENT: usize = 1;
-
-const PAST_AMBIENT: usize = 3;
 
 // The assume, fun or def that took the name of a rank, and one; 0 if none did.
 fn taker(names: &[u32], named: usize, r: usize) -> usize
@@ -82,10 +77,10 @@ fn ambient_at(recs: &[u32], i: usize) -> usize
         return 0;
     }
     let summary = words::at(recs, records::SUMMARY + i);
-    if summary < AMBIENT {
+    if summary < records::AMBIENT {
         return 0;
     }
-    if PAST_AMBIENT <= summary {
+    if records::TRIGGERS <= summary {
         return 0;
     }
     i + 1
@@ -97,7 +92,8 @@ fn list_ambients(recs: &[u32], run: &mut [u32], k: Counts, m: usize) -> usize
     ensures { λ to. ⌜ Lists (now (run .entry)) m (ambient-records (now (recs .entry)) k) (now (run .exit)) to ⌝ }
 {
     let mut to = m;
-    if records::no_ambients(k.options) {
+    let options = records::options_of(k.options);
+    if options.no_ambients {
         return to;
     }
     let mut i = k.records;
@@ -156,7 +152,7 @@ fn is_goal(recs: &[u32], k: Counts, i: usize) -> bool
     words::at(recs, records::FLAG + i) == k.query
 }
 
-// Notes the names of the roots of the query, by line; says the last stamp.
+// Notes the names of the roots of the query, by line, and gives the last stamp.
 fn note_roots(recs: &[u32], out: &[u32], run: &mut [u32], k: Counts, m: usize) -> usize
     requires { ⌜ Notes (now recs) (now out) (now run) k × (m ≤ most-records) ⌝ }
     ensures noted { λ s. ⌜ now (run .exit) ≡ noted (m + 1) (now (run .entry)) (map (uses-at (now (recs .entry)) (now (out .entry))) (goal-records (now (recs .entry)) k)) ⌝ }
@@ -182,7 +178,7 @@ fn link_names(names: &[u32], run: &mut [u32], named: usize)
     requires { ⌜ Index (now names) named × (working-words ≤ length (now run)) × ((r : ℕ) → r < named → stamp-in (now names) (now run) r ≤ most-stamps) ⌝ }
     ensures { λ r. ⌜ Links (now (names .entry)) (now (run .entry)) (now (run .exit)) named ⌝ }
 {
-    words::clear(run, LAST, MOST_STAMPS);
+    words::clear(run, HIGHEST, MOST_STAMPS);
     let mut r = 0;
     while r < named {
         let rank = r;
@@ -191,8 +187,8 @@ fn link_names(names: &[u32], run: &mut [u32], named: usize)
         if stamp == 0 {
             continue;
         }
-        run[BELOW + rank] = run[LAST + (stamp - 1)];
-        run[LAST + (stamp - 1)] = r as u32;
+        run[BELOW + rank] = run[HIGHEST + (stamp - 1)];
+        run[HIGHEST + (stamp - 1)] = r as u32;
     }
 }
 
@@ -225,7 +221,7 @@ fn list_stamp(
     ensures { λ to. ⌜ Lists (now (run .entry)) m (stamp-records (now (names .entry)) (now (recs .entry)) named (stamp-in (now (names .entry)) (now (run .entry))) kind stamp) (now (run .exit)) to ⌝ }
 {
     let mut to = m;
-    let mut next = words::at(run, LAST + (stamp - 1));
+    let mut next = words::at(run, HIGHEST + (stamp - 1));
     while next != 0 {
         let t = kind_at(names, recs, named, kind, next - 1);
         next = words::at(run, BELOW + (next - 1));
@@ -295,7 +291,8 @@ fn list_records(names: &[u32], recs: &[u32], out: &[u32], run: &mut [u32], k: Co
     ensures { λ to. ⌜ Listed (now (names .entry)) (now (recs .entry)) (now (out .entry)) (now (run .entry)) (now (run .exit)) k to ⌝ }
 {
     let facts = list_facts(names, recs, run, k);
-    if !records::prune_decls(k.options) {
+    let options = records::options_of(k.options);
+    if !options.prune_decls {
         return facts;
     }
     words::clear(run, 0, model::MOST_NAMES);

@@ -2,14 +2,13 @@
 use Prim.Native.Nat.{ℕ, _+_, _≤_, _<_}
 use native.Mathlib.Omega.{arith}
 use mathlib.Core.Path.{_≡_, refl, sym, ap, _∙_}
-use mathlib.Core.Bool.{false}
-use mathlib.Core.List.{List, [], _∷_, _++_, append-nil}
+use mathlib.Core.List.{List, [], append-nil}
 use lib.ListN.{length, length-append}
 use Rattle.model.specs.Lists.{collect, fold-left, sum}
 use Rattle.model.specs.Names.{Name}
 use Rattle.model.specs.Lines.{Field}
 use Rattle.model.specs.Terms.{Node, Term, add-term, references}
-use Rattle.model.specs.Reading.{Result, ok, refused, _>>=_, rest, name-field, Content, ask, term, retain, content, State, spell, spelled, spelled-by, trimmed, asked, nodes, summarize-decl, root-of, taken-by, add-line, repeats, most-names}
+use Rattle.model.specs.Reading.{Result, ok, refused, _>>=_, rest, name-field, Content, ask, term, retain, content, State, spell, spelled, spelled-by, trimmed, asked, nodes, summarize-decl, root-of, taken-by, add-line, most-names}
 use Rattle.model.specs.Outcome.{working-words}
 use Rattle.model.specs.declared.Counts.{Counts}
 use Rattle.model.specs.declared.LineKind.{LineKind}
@@ -21,23 +20,23 @@ use Rattle.model.specs.declared.Step.the-variants as step
 use Rattle.model.proofs.ResultLaws.{ok-eq, not-ok}
 use Rattle.text.specs.declared.Cursor.{Cursor}
 use Rattle.text.specs.Parts.{fields-left}
-use Rattle.names.specs.Table.{name-of, names-of}
+use Rattle.names.specs.Table.{names-of}
 use Rattle.rules.specs.Views.{terms-in}
 use Rattle.fields.specs.declared.Upto.{Upto}
 use Rattle.fields.specs.declared.Upto.the-variants as upto
-use Rattle.fields.specs.Spelling.{Naming, in-table, Longer, spell-fields, Spells-rest, all-spelt, rest-not}
+use Rattle.fields.specs.Spelling.{Naming, Longer, spell-fields, Spells-rest, all-spelt, rest-not}
 use Rattle.fields.specs.Growing.{with-term, Grown, Passes, names-passed, terms-passed, references-passed, Kept, Grows, grown, over, not-read, Reads-term}
 use Rattle.fields.proofs.Spelling.{naming-table, naming-past, spell-law}
-use Rattle.words.proofs.Slices.{same-self}
-use Rattle.records.specs.States.{state-of, decls-of, roots-of}
+use Rattle.words.proofs.Slices.{same-self, same-wider}
+use Rattle.records.specs.States.{state-of}
 use Rattle.records.specs.Adding.{excluded, Standing, judge, Adds, Untouched}
 use Rattle.records.specs.Adding as adds
 use Rattle.records.proofs.Recording.{decls-stay, roots-stay}
 use Rattle.records.proofs.Judging.{Beyond, many-names, many-terms, many-references, judged-beyond, judged-within, repeats-none}
 use Rattle.records.proofs.Appending.{terms-length, standing-within}
-use Rattle.records.proofs.Funs.{same-wider}
-use Rattle.reader.specs.Lines.{with-names, with-ask, judged, Asks, asks, not-asked, Reads, goes-on, stops, Past, Line-read}
-use Rattle.reader.proofs.Naming.{fold-more, same-records, state-spelled, standing-spelled, retained, line-names, few-names, reads-refused, table-past, spelled-past, past-none, past-names, past-then}
+use Rattle.records.specs.Writing.{with-ask}
+use Rattle.reader.specs.Lines.{with-names, judged, Asks, asks, not-asked, Reads, goes-on, stops, Line-read}
+use Rattle.reader.proofs.Naming.{same-records, state-spelled, standing-spelled, retained, few-names, reads-refused, table-past, spelled-past, past-none, past-names, past-then}
 
 -- ---- a term line
 
@@ -83,7 +82,8 @@ module _ {file names refs rows recs out names′ refs′ rows′ : List ℕ} {k 
         roots-stay (same-records st (g .longer)) (st .recorded) (k .records) (omega arith),
       )
 
-  line-beyond : {node : Node} → Passes file names refs rows names′ refs′ rows′ k node → Beyond (add-line excluded n (state-of file names refs rows recs out k) (term node))
+  line-beyond : {node : Node} → Passes file names refs rows names′ refs′ rows′ k node
+      → Beyond (add-line excluded n (state-of file names refs rows recs out k) (term node))
   unfolding state-of
   line-beyond {node} (names-passed h) = rw (term-line n (state-of file names refs rows recs out k) node) (many-names h)
   line-beyond {node} (terms-passed h) = rw (term-line n (state-of file names refs rows recs out k) node)
@@ -91,13 +91,15 @@ module _ {file names refs rows recs out names′ refs′ rows′ : List ℕ} {k 
   line-beyond {node} (references-passed h) = rw (term-line n (state-of file names refs rows recs out k) node) (many-references h)
 
   -- a limit that is passed
-  grown-beyond : {node : Node} → Passes file names refs rows names′ refs′ rows′ k node → judge n (state-of file names refs rows recs out k) (term node) ≡ refused refusal.Limit
+  grown-beyond : {node : Node} → Passes file names refs rows names′ refs′ rows′ k node
+      → judge n (state-of file names refs rows recs out k) (term node) ≡ refused refusal.Limit
   grown-beyond {node} p = judged-beyond n (state-of file names refs rows recs out k) (term node)
       (repeats-none n (state-of file names refs rows recs out k) (term node) (term-takes _ n node))
       (line-beyond p)
 
   -- the tables stand
-  grown-standing : {node : Node} {named′ used′ : ℕ} → Grown file names refs rows names′ refs′ rows′ k node named′ used′ → Kept names refs rows names′ refs′ rows′
+  grown-standing : {node : Node} {named′ used′ : ℕ} → Grown file names refs rows names′ refs′ rows′ k node named′ used′
+      → Kept names refs rows names′ refs′ rows′
       → Standing file names′ refs′ rows′ recs out (with-term k named′ used′)
   unfolding with-term
   grown-standing g kept =
@@ -130,9 +132,9 @@ module _ {file names refs rows recs out names′ refs′ rows′ : List ℕ} {k 
   term-read r = record {
     reads = term-reads (r .kept) (r .grows);
     past = record {
-      name-words = same-wider (omega arith) (omega arith) (r .kept .names-kept);
+      name-words = same-wider 0 working-words (omega arith) (omega arith) (r .kept .names-kept);
       reference-words = r .kept .refs-kept;
-      row-words = same-wider (omega arith) (omega arith) (r .kept .rows-kept);
+      row-words = same-wider 0 working-words (omega arith) (omega arith) (r .kept .rows-kept);
       record-words = same-self 0 working-words recs;
       list-words = same-self 0 working-words out;
     };
@@ -174,7 +176,8 @@ module _ {file names refs rows recs out : List ℕ} {k : Counts} (n : ℕ) (st :
     stocked = st .stocked;
   }
 
-  ask-state : (q options : ℕ) → add-line excluded n (state-of file names refs rows recs out k) (ask q options) ≡ state-of file names refs rows recs out (with-ask k q options)
+  ask-state : (q options : ℕ) → add-line excluded n (state-of file names refs rows recs out k) (ask q options)
+      ≡ state-of file names refs rows recs out (with-ask k q options)
   unfolding state-of
   ask-state q options = ask-line n (state-of file names refs rows recs out k) q options
 
@@ -233,7 +236,8 @@ module _ {file names refs rows recs out names′ : List ℕ} {k : Counts} (n : �
       → most-names < named′ → judge n (state-of file names refs rows recs out k) (retain ms) ≡ refused refusal.Limit
   unfolding state-of add-line spelled trimmed
   retain-crowded ms naming e h =
-      judged-beyond n (state-of file names refs rows recs out k) (retain ms) (repeats-none n (state-of file names refs rows recs out k) (retain ms) (retain-takes _ n ms))
+      judged-beyond n (state-of file names refs rows recs out k) (retain ms)
+      (repeats-none n (state-of file names refs rows recs out k) (retain ms) (retain-takes _ n ms))
       (many-names (rw (append-nil ms, e) (naming-past naming h)))
 
 module _ {file names refs rows recs out names′ : List ℕ} {k : Counts} (n : ℕ) {fs : List Field} (st : Standing file names refs rows recs out k) where
@@ -260,7 +264,8 @@ module _ {file names refs rows recs out names′ : List ℕ} {k : Counts} (n : �
           → Reads file names′ refs rows recs″ out n (state-of file names refs rows recs out k) (content kind.Retain (k .many) fs) f
       reads ms naming longer d z (adds.full h) = stops {x = refusal.Limit} (rw d (retain-crowded n st ms naming z h))
       reads ms naming longer d z (adds.stops {x} h j) = stops {x = x} (rw d (retain-there n st ms naming longer z h ∙ j))
-      reads ms naming longer d z (adds.added {k′} j y) = goes-on {k′ = k′} (rw d (retain-there n st ms naming longer z (few-names file names′ refs rows recs out k named′ n (retain []) j y) ∙ j)) y
+      reads ms naming longer d z (adds.added {k′} j y) = goes-on {k′ = k′}
+          (rw d (retain-there n st ms naming longer z (few-names file names′ refs rows recs out k named′ n (retain []) j y) ∙ j)) y
 
       go : {f : Step} → Spells-rest file names names′ (k .named) fs (upto.At named′ after)
           → Adds file names′ refs rows recs out names′ rows recs″ out (with-names k named′) n (retain []) f

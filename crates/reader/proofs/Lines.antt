@@ -1,13 +1,13 @@
 -- The form of a line, and the loop over the lines of a file.
-use Prim.Native.Nat.{ℕ, zero, suc, _+_, _-_, _≤_, _<_}
+use Prim.Native.Nat.{ℕ, _+_, _≤_, _<_}
 use native.Mathlib.Omega.{arith}
 use mathlib.Core.Path.{_≡_, refl, sym, ap, ap₂, _∙_}
 use mathlib.Core.Bool.{Bool, true, false, cond, not}
-use mathlib.Core.List.{List, [], _∷_, _++_}
-use lib.ListN.{length, getD, drop}
+use mathlib.Core.List.{List, [], _∷_}
+use lib.ListN.{length, drop}
 use Rattle.model.specs.Lists.{fold-left, part}
-use Rattle.model.specs.Lines.{Line, lines, Field, fields}
-use Rattle.model.specs.Reading.{Result, ok, refused, _>>=_, next, kind-field, content, parse, State, start, Reading, read, refused-at, go-on, read-line, read-lines, read-file, Content}
+use Rattle.model.specs.Lines.{lines, Field, fields}
+use Rattle.model.specs.Reading.{Result, ok, refused, _>>=_, next, kind-field, content, parse, State, start, read, refused-at, go-on, read-line, read-lines, read-file, Content}
 use Rattle.model.specs.Outcome.{most-bytes, working-words}
 use Rattle.model.specs.declared.Counts.{Counts}
 use Rattle.model.specs.declared.Refusal.{Refusal}
@@ -20,32 +20,26 @@ use Rattle.text.specs.declared.FieldStep.{FieldStep}
 use Rattle.text.specs.declared.FieldStep.the-variants as field
 use Rattle.text.specs.Parts.{mark-at, Placed, fields-left, field-at, field-result}
 use Rattle.text.proofs.Laws.{field-law, field-some, left-some, field-next, line-ended, line-last, line-none, mark-from}
-use Rattle.names.specs.Table.{Table, name-of, names-of}
-use Rattle.names.proofs.Laws.{empty-table}
+use Rattle.names.specs.Table.{name-of, names-of}
 use Rattle.terms.specs.Rows.{terms-of, nodes-below}
-use Rattle.terms.proofs.Table.{empty-rows}
-use Rattle.words.specs.Slices.{Same-but}
-use Rattle.gather.specs.Sets.{Fresh}
-use Rattle.rules.specs.Views.{Tables, terms-in}
+use Rattle.rules.specs.Views.{terms-in}
 use Rattle.fields.specs.declared.Kind.{Kind}
 use Rattle.fields.specs.declared.Kind.the-variants as kinded
 use Rattle.fields.specs.Wording.{kind-result, well-counted}
 use Rattle.fields.proofs.Words.{parse-law}
-use Rattle.words.proofs.Slices.{same-then}
+use Rattle.words.proofs.Slices.{same-then, same-wider}
 use Rattle.records.specs.States.{decls-of, roots-of, state-of}
-use Rattle.records.specs.Filing.{Records, newest}
 use Rattle.records.specs.Columns.{taken-column, first-column}
-use Rattle.records.specs.Macros.{Opens, Filled}
+use Rattle.records.specs.Macros.{Opens}
 use Rattle.records.proofs.Standing.{Beside, standing-start, decls-longer, roots-longer, standing-filled}
-use Rattle.records.proofs.Funs.{same-wider}
 use Rattle.names.proofs.Coded.{table-kept}
 use Rattle.terms.proofs.Table.{terms-named}
 use Rattle.records.specs.Adding.{excluded, Standing, judge}
 use Rattle.records.proofs.Judging.{line-judged}
 use Rattle.records.proofs.Appending.{terms-length}
-use Rattle.reader.specs.declared.Reading.{Reading as Answer}
+use Rattle.records.specs.Writing.{no-counts}
 use Rattle.reader.specs.declared.Reading.the-variants as answer
-use Rattle.reader.specs.Lines.{judged, kind-content, none-yet, Reads, goes-on, stops, Past, Line-read, Cleared, Reads-file, all-read, read-stops, File-read}
+use Rattle.reader.specs.Lines.{judged, kind-content, Reads, goes-on, stops, Past, Cleared, Reads-file, all-read, read-stops, File-read}
 
 -- ---- the form of a line
 
@@ -132,7 +126,7 @@ no-lines [] h = refl
 no-lines (b ∷ bs) h = absurd (omega arith)
 
 -- the state before line 1
-start-state : (file names refs rows recs out : List ℕ) → start ≡ state-of file names refs rows recs out none-yet
+start-state : (file names refs rows recs out : List ℕ) → start ≡ state-of file names refs rows recs out no-counts
 unfolding start state-of terms-in terms-of nodes-below fold-left names-of decls-of roots-of
 start-state file names refs rows recs out = refl
 
@@ -161,8 +155,9 @@ pub record Reading-on (file names refs rows recs out : List ℕ) (k : Counts) (n
   pub short : length file ≤ most-bytes
 
 -- before the first line of cleared slices
-pub on-first : {file names refs rows recs out : List ℕ} → Cleared file names refs rows recs out → Standing file names refs rows recs out none-yet → (length file ≡ 0 → ⊥)
-    → Reading-on file names refs rows recs out none-yet 1 0
+pub on-first : {file names refs rows recs out : List ℕ} → Cleared file names refs rows recs out → Standing file names refs rows recs out no-counts
+    → (length file ≡ 0 → ⊥)
+    → Reading-on file names refs rows recs out no-counts 1 0
 on-first {file} {names} {refs} {rows} {recs} {out} m st h = record {
   run = file-lines file h ∙ ap (λ s. read-lines excluded 1 s (lines file)) (start-state file names refs rows recs out);
   standing = st;
@@ -198,7 +193,8 @@ module _ {file names refs rows recs out : List ℕ} {k : Counts} {n from : ℕ} 
     pub on-next : {k′ : Counts} → f ≡ step.On k′ → Reading-on file names′ refs′ rows′ recs′ out′ k′ (n + 1) (end + 1)
     on-next {k′} q = go (rw q at r)
       where
-        go : Reads file names′ refs′ rows′ recs′ out′ n (state-of file names refs rows recs out k) (parse n (k .many) (fields (part file from end))) (step.On k′)
+        go : Reads file names′ refs′ rows′ recs′ out′ n (state-of file names refs rows recs out k) (parse n (k .many) (fields (part file from end)))
+            (step.On k′)
             → Reading-on file names′ refs′ rows′ recs′ out′ k′ (n + 1) (end + 1)
         go (goes-on d y) = record {
           run = o .run ∙ one-line file from end n (state-of file names refs rows recs out k) (line-ended file from end h e l) (line-is ∙ d);
@@ -212,7 +208,8 @@ module _ {file names refs rows recs out : List ℕ} {k : Counts} {n from : ℕ} 
     pub on-refused : {x : Refusal} → f ≡ step.Refused x → Reads-file file names′ refs′ rows′ recs′ out′ (answer.Refused x n)
     on-refused {x} q = go (rw q at r)
       where
-        go : Reads file names′ refs′ rows′ recs′ out′ n (state-of file names refs rows recs out k) (parse n (k .many) (fields (part file from end))) (step.Refused x)
+        go : Reads file names′ refs′ rows′ recs′ out′ n (state-of file names refs rows recs out k) (parse n (k .many) (fields (part file from end)))
+            (step.Refused x)
             → Reads-file file names′ refs′ rows′ recs′ out′ (answer.Refused x n)
         go (stops d) = read-stops {x = x} {n = n}
             (o .run ∙ one-refused file from end n (state-of file names refs rows recs out k) (line-ended file from end h e l) (line-is ∙ d))
@@ -222,12 +219,14 @@ pub lower : (m n : ℕ) → m ≤ n → (m ≡ n → ⊥) → m < n
 lower m n h e = omega arith
 
 -- cleared slices stand
-pub cleared-standing : {file names refs rows recs out : List ℕ} → Cleared file names refs rows recs out → Standing file names refs rows recs out none-yet
+pub cleared-standing : {file names refs rows recs out : List ℕ} → Cleared file names refs rows recs out → Standing file names refs rows recs out no-counts
 cleared-standing {file} {names} {refs} {rows} {recs} {out} m =
-    standing-start file names refs rows recs out (m .short) (m .name-room) (m .reference-room) (m .row-room) (m .record-room) (m .list-room) (m .name-zero) (m .row-zero)
+    standing-start file names refs rows recs out (m .short) (m .name-room) (m .reference-room) (m .row-room) (m .record-room) (m .list-room) (m .name-zero)
+    (m .row-zero)
 
 -- the macro column changes no state
-opened-state : {file names refs rows recs out names′ : List ℕ} {k : Counts} → Standing file names refs rows recs out k → Opens names recs names′ (k .named) (k .named)
+opened-state : {file names refs rows recs out names′ : List ℕ} {k : Counts} → Standing file names refs rows recs out k
+    → Opens names recs names′ (k .named) (k .named)
     → state-of file names refs rows recs out k ≡ state-of file names′ refs rows recs out k
 unfolding state-of terms-in
 opened-state {file} {names} {refs} {rows} {recs} {out} {names′} {k} st o =
@@ -237,16 +236,22 @@ opened-state {file} {names} {refs} {rows} {recs} {out} {names′} {k} st o =
       taken = λ n l. o .same .same-words (taken-column + n) (λ a b. omega arith);
       first = λ n l. o .same .same-words (first-column + n) (λ a b. omega arith);
     } in
-    rw (kept .names, decls-longer st beside, roots-longer st beside, terms-named (name-of file names′) (name-of file names) (kept .name) (st .tables .term-table))
+    rw (
+      kept .names,
+      decls-longer st beside,
+      roots-longer st beside,
+      terms-named (name-of file names′) (name-of file names) (kept .name) (st .tables .term-table),
+    )
 
 -- all lines are read, and the macro column is filled
-pub opened-read : {file names refs rows recs out names₀ refs₀ rows₀ recs₀ out₀ names′ : List ℕ} {k : Counts} {n from : ℕ} → Reading-on file names refs rows recs out k n from
+pub opened-read : {file names refs rows recs out names₀ refs₀ rows₀ recs₀ out₀ names′ : List ℕ} {k : Counts} {n from : ℕ}
+    → Reading-on file names refs rows recs out k n from
     → length file ≤ from → Past names₀ refs₀ rows₀ recs₀ out₀ names refs rows recs out → Opens names recs names′ (k .named) (k .named)
     → File-read file names₀ refs₀ rows₀ recs₀ out₀ names′ refs rows recs out (answer.Read k)
 opened-read {k = k} o h p x = record {
   reads = all-read {k = k} (on-last o h ∙ ap read (opened-state (o .standing) x)) (standing-filled (o .standing) x);
   past = record {
-    name-words = same-then (p .name-words) (same-wider (omega arith) (omega arith) (x .same));
+    name-words = same-then (p .name-words) (same-wider 0 working-words (omega arith) (omega arith) (x .same));
     reference-words = p .reference-words;
     row-words = p .row-words;
     record-words = p .record-words;

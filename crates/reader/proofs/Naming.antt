@@ -1,29 +1,28 @@
 -- A line whose name is spelled: the tables under the longer name table, and the line judged there.
-use Prim.Native.Nat.{ℕ, zero, suc, _+_, _-_, _≤_, _<_}
+use Prim.Native.Nat.{ℕ, _+_, _≤_, _<_}
 use native.Mathlib.Omega.{arith}
-use mathlib.Core.Path.{_≡_, refl, sym, ap, ap₂, _∙_}
-use mathlib.Core.Bool.{Bool, true, false, cond, not, _||_}
+use mathlib.Core.Path.{_≡_, refl, sym, ap, _∙_}
+use mathlib.Core.Bool.{Bool, true, false, cond}
 use mathlib.Core.List.{List, [], _∷_, _++_, append-nil, List·Memᴰ, List·Memᴰ·head, Memᴰ·append-right}
-use lib.ListN.{length, getD, length-append}
+use lib.ListN.{length, length-append}
 use lib.Dec.{T, not-T, leb}
-use Rattle.model.specs.Lists.{any, collect, fold-left}
+use Rattle.model.specs.Lists.{collect, fold-left}
 use Rattle.model.specs.Names.{Name, mem}
-use Rattle.model.specs.Terms.{Term}
-use Rattle.model.specs.Reading.{Result, ok, refused, Content, retain, State, spell, spelled, trimmed, asked, nodes, summarize-decl, root-of, add-line, repeats, limits, under-limits, taken-by, most-names, most-terms, most-records}
+use Rattle.model.specs.Reading.{Result, ok, refused, Content, retain, State, spell, spelled, trimmed, asked, nodes, summarize-decl, root-of, add-line, repeats, limits, under-limits, taken-by, most-names, most-terms}
 use Rattle.model.specs.declared.Counts.{Counts}
 use Rattle.model.specs.declared.Refusal.{Refusal}
 use Rattle.model.specs.declared.Refusal.the-variants as refusal
 use Rattle.model.proofs.ResultLaws.{ok-eq, not-ok}
-use Rattle.model.proofs.ListLaws.{T-true, T-false, cond-true, cond-false, T-dec}
+use Rattle.model.proofs.ListLaws.{T-false, cond-true}
 use Rattle.model.proofs.SetLaws.{mem-intro, mem-elim}
 use Rattle.names.specs.Table.{Table, name-of, names-of}
 use Rattle.names.proofs.Laws.{names-length, names-intro}
 use Rattle.terms.proofs.Table.{rows-named, terms-named}
-use Rattle.rules.specs.Views.{Tables, terms-in}
+use Rattle.rules.specs.Views.{terms-in}
 use Rattle.fields.specs.Spelling.{name-columns, Naming, in-table, Longer, Spelled-as}
 use Rattle.fields.proofs.Spelling.{begun-table, naming-table, naming-past}
 use Rattle.records.specs.Columns.{record-name, taken-column, first-column}
-use Rattle.records.specs.States.{state-of, decls-of, roots-of}
+use Rattle.records.specs.States.{state-of, decls-of}
 use Rattle.records.specs.Adding.{excluded, Standing, judge, Adds, Untouched}
 use Rattle.records.specs.Adding as adds
 use Rattle.records.proofs.Judging.{many-names, judged-beyond, repeats-one, taken-elim}
@@ -159,7 +158,8 @@ same-line : (n : ℕ) (s : State) (m : Name) (c : Content) → spelled c ≡ m �
     → add-line excluded n s c ≡ add-line excluded n (with-spelled s (spell (s .names) m)) c
 unfolding add-line
 same-line n s m c e =
-    let same : fold-left spell (s .names) (spelled c ++ trimmed excluded (s .terms) c) ≡ fold-left spell (spell (s .names) m) (spelled c ++ trimmed excluded (s .terms) c)
+    let same : fold-left spell (s .names) (spelled c ++ trimmed excluded (s .terms) c)
+    ≡ fold-left spell (spell (s .names) m) (spelled c ++ trimmed excluded (s .terms) c)
     = rw e (fold-again (s .names) (trimmed excluded (s .terms) c) m) in
     rw same
 
@@ -187,7 +187,8 @@ judge-ok : (n : ℕ) (s t : State) (c : Content) → judge n s c ≡ ok t → ad
 unfolding judge
 judge-ok n s t c e = go (repeats excluded n s c) e
   where
-    go : (b : Bool) → cond b (refused refusal.Repeated) (under-limits (limits (add-line excluded n s c)) (add-line excluded n s c)) ≡ ok t → add-line excluded n s c ≡ t
+    go : (b : Bool) → cond b (refused refusal.Repeated) (under-limits (limits (add-line excluded n s c)) (add-line excluded n s c)) ≡ ok t
+        → add-line excluded n s c ≡ t
     go true q = absurd (not-ok q)
     go false q = under-ok (limits (add-line excluded n s c)) q
 
@@ -205,7 +206,8 @@ module _ {file names refs rows recs out names′ : List ℕ} {k : Counts} {named
   before = in-table (st .tables .name-table) refl
 
   -- the line is judged in the state with its name spelled
-  judged-there : named′ ≤ most-names → judge n (state-of file names refs rows recs out k) c ≡ judge n (state-of file names′ refs rows recs out (with-names k named′)) c
+  judged-there : named′ ≤ most-names → judge n (state-of file names refs rows recs out k) c
+      ≡ judge n (state-of file names′ refs rows recs out (with-names k named′)) c
   unfolding state-of
   judged-there h = respelled n (state-of file names refs rows recs out k) m c one
       ∙ ap (λ s. judge n s c) (sym (state-spelled st (sp .longer) (naming-table (sp .naming (names-of file names (k .named)) before) h .1)))
@@ -287,13 +289,15 @@ module _ {file names refs rows recs out names′ : List ℕ} {k : Counts} {named
             → Reads file names″ refs rows″ recs″ out″ n s said r
         go (adds.full h) = reads.stops {x = refusal.Limit} (rw e (crowded n st sp (make m) (one m) h (free h)))
         go (adds.stops {x} h j) = reads.stops {x = x} (rw e (named-there h ∙ j))
-        go (adds.added {k′} j x) = reads.goes-on {k′ = k′} (rw e (named-there (few-names file names′ refs rows recs out k named′ n (make (name-of file names′ i)) j x) ∙ j)) x
+        go (adds.added {k′} j x) = reads.goes-on {k′ = k′} (rw e
+            (named-there (few-names file names′ refs rows recs out k named′ n (make (name-of file names′ i)) j x) ∙ j)) x
 
 -- as many terms as before
 pub many-below : (k : Counts) {next : Counts} {named t : ℕ} → next ≡ with-names k named → t < k .many → t < next .many
 many-below k q h = rw q h
 
-pub many-few : {file names refs rows recs out : List ℕ} {k next : Counts} {named : ℕ} → Standing file names refs rows recs out k → next ≡ with-names k named → next .many ≤ most-terms
+pub many-few : {file names refs rows recs out : List ℕ} {k next : Counts} {named : ℕ} → Standing file names refs rows recs out k → next ≡ with-names k named
+    → next .many ≤ most-terms
 many-few st q = rw q (st .tables .term-table .few-rows)
 
 -- a line that is refused by its fields
@@ -323,7 +327,8 @@ past-none names refs rows recs out = record {
 }
 
 -- only names are
-pub past-names : {names names′ : List ℕ} (refs rows recs out : List ℕ) → Same-but 0 working-words names names′ → Past names refs rows recs out names′ refs rows recs out
+pub past-names : {names names′ : List ℕ} (refs rows recs out : List ℕ) → Same-but 0 working-words names names′
+    → Past names refs rows recs out names′ refs rows recs out
 past-names refs rows recs out p = record {
   name-words = p;
   reference-words = same-self 0 working-words refs;
@@ -353,7 +358,8 @@ past-then refs p u = record {
 }
 
 -- one line after the others
-pub past-more : {a b c d e a′ b′ c′ d′ e′ a″ b″ c″ d″ e″ : List ℕ} → Past a b c d e a′ b′ c′ d′ e′ → Past a′ b′ c′ d′ e′ a″ b″ c″ d″ e″ → Past a b c d e a″ b″ c″ d″ e″
+pub past-more : {a b c d e a′ b′ c′ d′ e′ a″ b″ c″ d″ e″ : List ℕ} → Past a b c d e a′ b′ c′ d′ e′ → Past a′ b′ c′ d′ e′ a″ b″ c″ d″ e″
+    → Past a b c d e a″ b″ c″ d″ e″
 past-more p q = record {
   name-words = same-then (p .name-words) (q .name-words);
   reference-words = same-then (p .reference-words) (q .reference-words);

@@ -1,16 +1,14 @@
 -- The record lines as `read-line` has them: what is left of a line after its name, and the record that it adds.
-use Prim.Native.Nat.{ℕ, _+_, _≤_, _<_}
-use native.Mathlib.Omega.{arith}
-use mathlib.Core.Path.{_≡_, refl, sym, ap, _∙_}
-use mathlib.Core.Bool.{Bool, false}
+use Prim.Native.Nat.{ℕ, _<_}
+use mathlib.Core.Path.{_≡_, refl, _∙_}
+use mathlib.Core.Bool.{Bool}
 use mathlib.Core.List.{List, [], _∷_}
-use lib.ListN.{length}
 use lib.Dec.{eqb}
 use Rattle.model.specs.Lists.{collect}
 use Rattle.model.specs.Names.{Name}
 use Rattle.model.specs.Lines.{Field}
 use Rattle.model.specs.Terms.{Term}
-use Rattle.model.specs.Reading.{Result, ok, refused, next, name-field, Content, assume, fun, def, root, content, State, spelled, taken-by, summarize-decl, repeats, most-names}
+use Rattle.model.specs.Reading.{Result, ok, refused, next, name-field, Content, assume, fun, def, root, content, spelled, taken-by, summarize-decl}
 use Rattle.model.specs.declared.Counts.{Counts}
 use Rattle.model.specs.declared.LineKind.the-variants as kind
 use Rattle.model.specs.declared.Refusal.{Refusal}
@@ -18,7 +16,7 @@ use Rattle.model.specs.declared.Refusal.the-variants as refusal
 use Rattle.model.specs.declared.Step.{Step}
 use Rattle.model.specs.declared.Step.the-variants as step
 use Rattle.text.specs.declared.Cursor.{Cursor}
-use Rattle.text.specs.Parts.{Placed, fields-left}
+use Rattle.text.specs.Parts.{fields-left}
 use Rattle.names.specs.Table.{name-of}
 use Rattle.fields.specs.declared.Kind.{Kind}
 use Rattle.fields.specs.declared.Kind.the-variants as kinded
@@ -28,14 +26,13 @@ use Rattle.fields.specs.Wording.{kind-result, term-kind, record-kind}
 use Rattle.fields.specs.declared.Word.{Word}
 use Rattle.fields.specs.declared.Word.the-variants as word
 use Rattle.fields.specs.Spelling.{Begun, table-there, Reads-name}
-use Rattle.fields.proofs.Spelling.{Name-read, reads-name, reads-not}
-use Rattle.words.proofs.Slices.{same-self}
+use Rattle.fields.proofs.Spelling.{Name-read, reads-not}
 use Rattle.records.specs.States.{state-of}
 use Rattle.records.specs.Adding.{excluded, Standing, Adds, Untouched}
 use Rattle.records.proofs.Judging.{repeats-none}
-use Rattle.reader.specs.Lines.{with-names, kind-content, last-field, fact-said, root-said, Adds-fact, fact-adds, fact-stops, Reads, Past, Line-read}
+use Rattle.reader.specs.Lines.{with-names, kind-content, last-field, root-said, Adds-fact, fact-adds, fact-stops, Reads, Line-read}
 use Rattle.reader.proofs.Naming.{not-taken, record-reads, reads-refused, table-past, spelled-past, past-none, past-names, past-then}
-use Rattle.reader.proofs.Saying.{end-none, end-more, fun-said, fun-more, fun-not, def-said, def-term-not, def-not, assume-said, assume-not, root-is, root-term-not, root-name-not}
+use Rattle.reader.proofs.Saying.{end-none, fun-said, def-said, assume-said, root-is}
 
 -- ---- the name that a record spells and takes
 
@@ -83,8 +80,10 @@ pub line-not : (file names refs rows recs out : List ℕ) (k : Counts) (n : ℕ)
 line-not file names refs rows recs out k n x e = record { reads = reads-refused x e; past = past-none names refs rows recs out }
 
 -- what the fields say, said otherwise
-pub line-said : {file names refs rows recs out names′ refs′ rows′ recs′ out′ : List ℕ} {k : Counts} {n : ℕ} {said other : Result Content} {r : Step} → said ≡ other
-    → Line-read file names refs rows recs out names′ refs′ rows′ recs′ out′ k n other r → Line-read file names refs rows recs out names′ refs′ rows′ recs′ out′ k n said r
+pub line-said : {file names refs rows recs out names′ refs′ rows′ recs′ out′ : List ℕ} {k : Counts} {n : ℕ} {said other : Result Content} {r : Step}
+    → said ≡ other
+    → Line-read file names refs rows recs out names′ refs′ rows′ recs′ out′ k n other r
+    → Line-read file names refs rows recs out names′ refs′ rows′ recs′ out′ k n said r
 line-said e l = rw e l
 
 -- what a line of a kind says
@@ -106,7 +105,8 @@ module _ (count : ℕ) (fs : List Field) {k : Kind} where
   kind-none e = rw e
 
 -- a record line by its kind
-pub record-line : {file names refs rows recs out names′ refs′ rows′ recs′ out′ : List ℕ} {k : Counts} {n : ℕ} (count : ℕ) (fs : List Field) {kind known : RecordKind} {r : Step} → kind ≡ known
+pub record-line : {file names refs rows recs out names′ refs′ rows′ recs′ out′ : List ℕ} {k : Counts} {n : ℕ} (count : ℕ)
+    (fs : List Field) {kind known : RecordKind} {r : Step} → kind ≡ known
     → Line-read file names refs rows recs out names′ refs′ rows′ recs′ out′ k n (content (record-kind known) count fs) r
     → Line-read file names refs rows recs out names′ refs′ rows′ recs′ out′ k n (content (record-kind kind) count fs) r
 record-line count fs e l = rw e l
@@ -122,10 +122,12 @@ module _ {file names refs rows recs out : List ℕ} {k : Counts} (n : ℕ) {c : 
 
   module _ {names′ : List ℕ} {named′ i : ℕ} {last : Cursor} (r : Name-read file names names′ (k .named) named′ i c last) where
     -- a field after the name is refused
-    pub rest-not : {said : Result Content} (x : Refusal) → said ≡ refused x → Line-read file names refs rows recs out names′ refs rows recs out k n said (step.Refused x)
+    pub rest-not : {said : Result Content} (x : Refusal) → said ≡ refused x
+        → Line-read file names refs rows recs out names′ refs rows recs out k n said (step.Refused x)
     rest-not x e = record { reads = reads-refused x e; past = past-names refs rows recs out (spelled-past (r .spelled .longer)) }
 
-    module _ {names″ rows″ recs″ out″ : List ℕ} {next : Counts} {s : Step} (q : next ≡ with-names k named′) (u : Untouched names′ rows recs out names″ rows″ recs″ out″) where
+    module _ {names″ rows″ recs″ out″ : List ℕ} {next : Counts} {s : Step} (q : next ≡ with-names k named′)
+        (u : Untouched names′ rows recs out names″ rows″ recs″ out″) where
       -- a `fun`
       pub fun-line : last .end < last .at → Adds file names′ refs rows recs out names″ rows″ recs″ out″ next n (fun (name-of file names′ i)) s
           → Line-read file names refs rows recs out names″ refs rows″ recs″ out″ k n (content kind.Fun (k .many) (fields-left file c)) s

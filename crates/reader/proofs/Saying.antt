@@ -1,15 +1,14 @@
 -- What the fields of a record line say.
 use Prim.Native.Nat.{ℕ, _+_, _≤_, _<_}
-use mathlib.Core.Path.{_≡_, refl, sym, ap, _∙_}
+use mathlib.Core.Path.{_≡_, refl, sym, _∙_}
 use native.Mathlib.Omega.{arith}
 use mathlib.Core.Bool.{Bool, true, false, cond}
 use mathlib.Core.List.{List, [], _∷_}
 use lib.Dec.{eqb, ltb}
 use borrow.Author.Tests.{ltb-true}
-use Rattle.model.specs.Lists.{part}
 use Rattle.model.specs.Names.{Name}
 use Rattle.model.specs.Lines.{Field}
-use Rattle.model.specs.Reading.{Result, ok, refused, _>>=_, next, end, name-field, number-field, term-field, rest, Content, ask, assume, fun, def, retain, root, content}
+use Rattle.model.specs.Reading.{Result, ok, refused, _>>=_, next, end, name-field, number-field, term-field, ask, assume, fun, def, root, content}
 use Rattle.model.specs.declared.LineKind.the-variants as kind
 use Rattle.model.specs.declared.Refusal.{Refusal}
 use Rattle.model.specs.declared.Refusal.the-variants as refusal
@@ -22,9 +21,10 @@ use Rattle.text.specs.declared.NumberStep.the-variants as numbered
 use Rattle.text.specs.Parts.{Placed, fields-left, term-at, number-at}
 use Rattle.text.proofs.Laws.{left-none, number-next}
 use Rattle.fields.proofs.Pushing.{left-cons, term-read, term-not, number-read, number-not}
+use Rattle.records.specs.Writing.{with-ask}
 use Rattle.reader.specs.declared.Last.{Last}
 use Rattle.reader.specs.declared.Last.the-variants as last
-use Rattle.reader.specs.Lines.{last-field, last-result, fact-said, root-said, with-ask, Asks, asks, not-asked}
+use Rattle.reader.specs.Lines.{last-field, last-result, fact-said, root-said, Asks, asks, not-asked}
 
 -- a term and the fields after it
 abbrev and-after : List Field → ℕ → Result (ℕ × List Field)
@@ -100,7 +100,8 @@ module _ (count : ℕ) (fs : List Field) where
   fun-said a e = rw (a, e)
 
   -- a field is left over
-  pub fun-more : {m : Name} {gs : List Field} → next name-field fs ≡ ok (m, gs) → end (fun m) gs ≡ refused refusal.Form → content kind.Fun count fs ≡ refused refusal.Form
+  pub fun-more : {m : Name} {gs : List Field} → next name-field fs ≡ ok (m, gs) → end (fun m) gs ≡ refused refusal.Form
+      → content kind.Fun count fs ≡ refused refusal.Form
   unfolding content
   fun-more a e = rw (a, e)
 
@@ -115,7 +116,8 @@ module _ (count : ℕ) (fs : List Field) where
   def-said {m} {gs} a e = rw a (last-said (def m) count gs e)
 
   -- its term is refused
-  pub def-term-not : {m : Name} {gs : List Field} {x : Refusal} → next name-field fs ≡ ok (m, gs) → last-field count gs ≡ refused x → content kind.Def count fs ≡ refused x
+  pub def-term-not : {m : Name} {gs : List Field} {x : Refusal} → next name-field fs ≡ ok (m, gs) → last-field count gs ≡ refused x
+      → content kind.Def count fs ≡ refused x
   unfolding content
   def-term-not {m} {gs} a e = rw a (last-not (def m) count gs e)
 
@@ -156,11 +158,13 @@ module _ (count : ℕ) (fs : List Field) where
 
 module _ (count : ℕ) (m : Name) (fs : List Field) where
   -- the flag and the term of a fact
-  pub fact-is : {flag t : ℕ} {gs : List Field} → next (number-field 1) fs ≡ ok (flag, gs) → last-field count gs ≡ ok t → fact-said count m fs ≡ ok (assume m (eqb flag 1) t)
+  pub fact-is : {flag t : ℕ} {gs : List Field} → next (number-field 1) fs ≡ ok (flag, gs) → last-field count gs ≡ ok t
+      → fact-said count m fs ≡ ok (assume m (eqb flag 1) t)
   unfolding fact-said
   fact-is a e = rw (a, e)
 
-  pub fact-term-not : {flag : ℕ} {gs : List Field} {x : Refusal} → next (number-field 1) fs ≡ ok (flag, gs) → last-field count gs ≡ refused x → fact-said count m fs ≡ refused x
+  pub fact-term-not : {flag : ℕ} {gs : List Field} {x : Refusal} → next (number-field 1) fs ≡ ok (flag, gs) → last-field count gs ≡ refused x
+      → fact-said count m fs ≡ refused x
   unfolding fact-said
   fact-term-not a e = rw (a, e)
 
@@ -174,7 +178,8 @@ module _ (count q : ℕ) (fs : List Field) where
   unfolding root-said
   root-is a e = rw (a, e)
 
-  pub root-term-not : {m : Name} {gs : List Field} {x : Refusal} → next name-field fs ≡ ok (m, gs) → last-field count gs ≡ refused x → root-said count q fs ≡ refused x
+  pub root-term-not : {m : Name} {gs : List Field} {x : Refusal} → next name-field fs ≡ ok (m, gs) → last-field count gs ≡ refused x
+      → root-said count q fs ≡ refused x
   unfolding root-said
   root-term-not a e = rw (a, e)
 
@@ -185,17 +190,20 @@ module _ (count q : ℕ) (fs : List Field) where
 -- ---- an ask
 
 module _ (count : ℕ) (fs : List Field) where
-  pub ask-is : {q options : ℕ} {gs hs : List Field} → next (number-field 255) fs ≡ ok (q, gs) → next (number-field 7) gs ≡ ok (options, hs) → end (ask q options) hs ≡ ok (ask q options)
+  pub ask-is : {q options : ℕ} {gs hs : List Field} → next (number-field 255) fs ≡ ok (q, gs) → next (number-field 7) gs ≡ ok (options, hs)
+      → end (ask q options) hs ≡ ok (ask q options)
       → content kind.Ask count fs ≡ ok (ask q options)
   unfolding content
   ask-is a b e = rw (a, b, e)
 
-  pub ask-more : {q options : ℕ} {gs hs : List Field} → next (number-field 255) fs ≡ ok (q, gs) → next (number-field 7) gs ≡ ok (options, hs) → end (ask q options) hs ≡ refused refusal.Form
+  pub ask-more : {q options : ℕ} {gs hs : List Field} → next (number-field 255) fs ≡ ok (q, gs) → next (number-field 7) gs ≡ ok (options, hs)
+      → end (ask q options) hs ≡ refused refusal.Form
       → content kind.Ask count fs ≡ refused refusal.Form
   unfolding content
   ask-more a b e = rw (a, b, e)
 
-  pub ask-options-not : {q : ℕ} {gs : List Field} {x : Refusal} → next (number-field 255) fs ≡ ok (q, gs) → next (number-field 7) gs ≡ refused x → content kind.Ask count fs ≡ refused x
+  pub ask-options-not : {q : ℕ} {gs : List Field} {x : Refusal} → next (number-field 255) fs ≡ ok (q, gs) → next (number-field 7) gs ≡ refused x
+      → content kind.Ask count fs ≡ refused x
   unfolding content
   ask-options-not a b = rw (a, b)
 
@@ -212,7 +220,8 @@ module _ {file : List ℕ} {c : Cursor} (p : Placed file c) (count : ℕ) {r : N
   last-is {t} {n} b h = rw (term-read p count a b, end-none t file n h)
 
   -- a field is left over
-  pub last-more : {t : ℕ} {n : Cursor} → r ≡ numbered.Number t n → n .at ≤ n .end → last-result (last.Refused refusal.Form) ≡ last-field count (fields-left file c)
+  pub last-more : {t : ℕ} {n : Cursor} → r ≡ numbered.Number t n → n .at ≤ n .end
+      → last-result (last.Refused refusal.Form) ≡ last-field count (fields-left file c)
   unfolding last-result last-field
   last-more {t} {n} b h = rw (term-read p count a b, end-more t file n h)
 
@@ -231,11 +240,13 @@ unfolding last-result
 last-refusal a b = sym a ∙ rw b
 
 -- the cursor after a number
-pub number-placed : {file : List ℕ} {c n : Cursor} {r : NumberStep} {v : ℕ} (limit : ℕ) → Placed file c → r ≡ number-at limit file c → r ≡ numbered.Number v n → Placed file n
+pub number-placed : {file : List ℕ} {c n : Cursor} {r : NumberStep} {v : ℕ} (limit : ℕ) → Placed file c → r ≡ number-at limit file c → r ≡ numbered.Number v n
+    → Placed file n
 number-placed {file} {c} {n} {v = v} limit p a b = number-next file c p limit v n (sym a ∙ b) .0 .placed
 
 -- a number is at most its limit
-pub number-below : {file : List ℕ} {c n : Cursor} {r : NumberStep} {v : ℕ} (limit : ℕ) → Placed file c → r ≡ number-at limit file c → r ≡ numbered.Number v n → v < limit + 1
+pub number-below : {file : List ℕ} {c n : Cursor} {r : NumberStep} {v : ℕ} (limit : ℕ) → Placed file c → r ≡ number-at limit file c → r ≡ numbered.Number v n
+    → v < limit + 1
 number-below {file} {c} {n} {v = v} limit p a b = omega (arith, number-next file c p limit v n (sym a ∙ b) .1)
 
 module _ {file : List ℕ} {c : Cursor} (k : Counts) (p : Placed file c) {r : NumberStep} (a : r ≡ number-at 255 file c) where

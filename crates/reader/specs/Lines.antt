@@ -19,6 +19,7 @@ use Rattle.names.specs.Table.{name-of}
 use Rattle.records.specs.States.{state-of}
 use Rattle.records.specs.Macros.{Filled}
 use Rattle.records.specs.Adding.{excluded, Standing, judge, Adds}
+use Rattle.records.specs.Writing.{with-ask}
 use Rattle.reader.specs.declared.Last.{Last}
 use Rattle.reader.specs.declared.Last.the-variants as last
 use Rattle.reader.specs.declared.Reading.{Reading}
@@ -67,24 +68,6 @@ with-names k named = record {
   mark = k .mark;
   query = k .query;
   options = k .options;
-}
-
--- the counts before line 1; marks start at 1
-abbrev pub none-yet : Counts
-none-yet = record { named = 0; used = 0; many = 0; records = 0; entries = 0; uses = 0; mark = 1; query = 0; options = 0 }
-
--- the counts with an ask
-abbrev pub with-ask : Counts → ℕ → ℕ → Counts
-with-ask k query options = record {
-  named = k .named;
-  used = k .used;
-  many = k .many;
-  records = k .records;
-  entries = k .entries;
-  uses = k .uses;
-  mark = k .mark;
-  query = query;
-  options = options;
 }
 
 -- what reading an `ask` comes to

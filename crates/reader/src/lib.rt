@@ -222,18 +222,8 @@ fn read_assume(
 {
     match fields::read_name(file, names, k.named, c) {
         Word::Name(i, named, next) => {
-            read_fact(
-                file,
-                names,
-                refs,
-                rows,
-                recs,
-                out,
-                spelled(k, named),
-                n,
-                i,
-                next,
-            )
+            let known = spelled(k, named);
+            read_fact(file, names, refs, rows, recs, out, known, n, i, next)
         }
         Word::Refused(r) => Step::Refused(r),
     }

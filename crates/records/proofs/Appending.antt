@@ -2,7 +2,7 @@
 use Prim.Native.Nat.{ℕ, zero, suc, _+_, _-_, _*_, _≤_, _<_}
 use native.Mathlib.Numerals.{add-one}
 use native.Mathlib.Omega.{arith}
-use mathlib.Core.Path.{_≡_, refl, sym, ap, _∙_}
+use mathlib.Core.Path.{_≡_, refl, ap, _∙_}
 use mathlib.Core.Bool.{true, false}
 use mathlib.Core.Logic.{_⊎_, inl, inr, ⊎-elim}
 use mathlib.Core.List.{List, [], _∷_, _++_, map}
@@ -23,14 +23,14 @@ use Rattle.words.specs.Slices.{Same-but}
 use Rattle.gather.specs.Sets.{Fresh}
 use Rattle.gather.proofs.Walking.{rows-marked}
 use Rattle.rules.specs.Views.{terms-in}
-use Rattle.triggers.specs.Entries.{disjuncts-of}
+use Rattle.triggers.specs.Entries.{disjuncts-of, entries-base, last-flag, no-name}
 use Rattle.triggers.proofs.Marked.{terms-marked}
 use Rattle.model.specs.declared.Step.the-variants as step
-use Rattle.records.specs.Columns.{record-kind, assume-kind, retain-kind, root-kind, entry-column, last-entry, no-name, entry-word, entry-name, entry-fact}
+use Rattle.records.specs.Columns.{record-kind, assume-kind, retain-kind, root-kind, entry-word, entry-name, entry-fact}
 use Rattle.records.specs.States.{summary-at, root-at, decls-of, roots-of, ask-of, state-of}
-use Rattle.records.specs.Filing.{Records, Chained, Filing, Taken, Stocked}
+use Rattle.records.specs.Filing.{Records, Chained, Filing, Taken}
 use Rattle.records.specs.Writing.{with-record, Rowed}
-use Rattle.records.specs.Adding.{excluded, Standing, judge, Adds, stops, added}
+use Rattle.records.specs.Adding.{excluded, Standing, Adds, stops, added}
 use Rattle.records.proofs.Recording.{Agree, decls-stay, roots-stay, records-length}
 use Rattle.records.proofs.Keeping.{filing-more}
 use Rattle.records.proofs.Judging.{Within, Beyond, many-records, judged-repeated, judged-beyond, judged-within}
@@ -58,7 +58,8 @@ terms-length file names refs rows used many =
     omega (arith, folded-length [] ns, nodes-length (name-of file names) refs rows used many many)
 
 -- tables that stand are within the limits
-pub standing-within : {file names refs rows recs out : List ℕ} {k : Counts} → Standing file names refs rows recs out k → Within (state-of file names refs rows recs out k)
+pub standing-within : {file names refs rows recs out : List ℕ} {k : Counts} → Standing file names refs rows recs out k
+    → Within (state-of file names refs rows recs out k)
 unfolding state-of
 standing-within {file} {names} {refs} {rows} {recs} {out} {k} st = record {
   names = omega (arith, names-length file names (k .named), st .tables .name-table .few);
@@ -72,7 +73,8 @@ standing-within {file} {names} {refs} {rows} {recs} {out} {k} st = record {
 -- ---- a record appended
 
 -- the tables with a record after those counted: more names, marks, its row, its free names, its entries, the name that it takes
-pub record Appends (file names rows recs out names′ rows′ recs′ out′ : List ℕ) (k : Counts) (named′ entries′ uses′ mark′ kind line name term flag code : ℕ) : Type 0 where
+pub record Appends (file names rows recs out names′ rows′ recs′ out′ : List ℕ) (k : Counts)
+    (named′ entries′ uses′ mark′ kind line name term flag code : ℕ) : Type 0 where
   pub table : Table file names′ named′
   pub more : k .named ≤ named′
   pub same : (n : ℕ) → n < k .named → name-of file names′ n ≡ name-of file names n
@@ -93,9 +95,9 @@ pub record Appends (file names rows recs out names′ rows′ recs′ out′ : L
   pub old-facts : (e : ℕ) → e < k .entries → entry-fact out′ e ≡ entry-fact out e
   pub new-entries : (e : ℕ) → k .entries ≤ e → e < entries′ → (entry-name out′ e < named′) ⊎ (entry-name out′ e ≡ no-name)
   pub new-facts : (e : ℕ) → k .entries ≤ e → e < entries′ → entry-fact out′ e ≡ k .records
-  pub flagged : (e : ℕ) → k .entries ≤ e → e < entries′ → entry-word out′ e < last-entry + last-entry
-  pub ended : k .entries < entries′ → last-entry ≤ entry-word out′ (entries′ - 1)
-  pub sized : entries′ ≡ k .entries + entries (disjuncts-of (name-of file names′) (part out′ (entry-column + k .entries) (entry-column + entries′)))
+  pub flagged : (e : ℕ) → k .entries ≤ e → e < entries′ → entry-word out′ e < last-flag + last-flag
+  pub ended : k .entries < entries′ → last-flag ≤ entry-word out′ (entries′ - 1)
+  pub sized : entries′ ≡ k .entries + entries (disjuncts-of (name-of file names′) (part out′ (entries-base + k .entries) (entries-base + entries′)))
   pub only-facts : (kind ≡ assume-kind → ⊥) → entries′ ≡ k .entries
   pub taken : Taken names′ recs′ (k .records + 1)
   pub chained : Chained names′ out′ entries′
@@ -108,7 +110,8 @@ pub record Says (file names names′ recs′ out′ : List ℕ) (terms : List Te
   pub decls : summary-at (name-of file names′) recs′ out′ (k .records) kind ≡ summarize-decl excluded terms line c
   pub roots : root-at (name-of file names′) recs′ out′ (k .records) kind ≡ root-of excluded terms line c
   pub entries : k′ .entries ≡ k .entries + sum (map entries-of (summarize-decl excluded terms line c))
-  pub uses : k′ .uses ≡ k .uses + (sum (map uses-of (summarize-decl excluded terms line c)) + sum (map (λ r. length (r .free-names)) (root-of excluded terms line c)))
+  pub uses : k′ .uses ≡ k .uses + (sum (map uses-of (summarize-decl excluded terms line c))
+      + sum (map (λ r. length (r .free-names)) (root-of excluded terms line c)))
 
 module _ {file names refs rows recs out names′ rows′ recs′ out′ : List ℕ} {k : Counts} {named′ entries′ uses′ mark′ kind line name term flag code : ℕ}
     (st : Standing file names refs rows recs out k) (few : k .records < most-records)
@@ -172,7 +175,8 @@ module _ {file names refs rows recs out names′ rows′ recs′ out′ : List �
             (λ (e : k .uses ≤ j). a .new-uses j e l)
             (below j (k .uses));
         entry-words = λ e l. ⊎-elim
-            (λ (b : e < k .entries). rw (a .old-entries e b) (⊎-elim (λ (q : entry-name out e < k .named). inl (omega arith)) (λ q. inr q) (r .entry-words e b)))
+            (λ (b : e < k .entries). rw (a .old-entries e b) (⊎-elim (λ (q : entry-name out e < k .named). inl (omega arith)) (λ q. inr q)
+            (r .entry-words e b)))
             (λ (b : k .entries ≤ e). a .new-entries e b l)
             (below e (k .entries));
       }
@@ -188,8 +192,10 @@ module _ {file names refs rows recs out names′ rows′ recs′ out′ : List �
   }
 
   -- the tables are the state with the line
-  state-then : {c : Content} → Says file names names′ recs′ out′ (terms-in file names refs rows (k .used) (k .many)) k (with-record k named′ entries′ uses′ mark′) kind line c
-      → add-line excluded line (state-of file names refs rows recs out k) c ≡ state-of file names′ refs rows′ recs′ out′ (with-record k named′ entries′ uses′ mark′)
+  state-then : {c : Content} → Says file names names′ recs′ out′ (terms-in file names refs rows (k .used) (k .many)) k
+      (with-record k named′ entries′ uses′ mark′) kind line c
+      → add-line excluded line (state-of file names refs rows recs out k) c
+      ≡ state-of file names′ refs rows′ recs′ out′ (with-record k named′ entries′ uses′ mark′)
   unfolding add-line state-of decls-of roots-of fold-left collect
   state-then s =
       let zero-more : k .used + 0 ≡ k .used = omega arith in
@@ -218,7 +224,8 @@ module _ {file names refs rows recs out names′ rows′ recs′ out′ : List �
 
 -- ---- a record refused
 
-module _ {file names refs rows recs out names′ rows′ recs′ out′ : List ℕ} {k : Counts} (st : Standing file names refs rows recs out k) (line : ℕ) (c : Content) where
+module _ {file names refs rows recs out names′ rows′ recs′ out′ : List ℕ} {k : Counts} (st : Standing file names refs rows recs out k) (line : ℕ)
+    (c : Content) where
   -- its name is taken
   pub record-repeated : repeats excluded line (state-of file names refs rows recs out k) c ≡ true
       → Adds file names refs rows recs out names′ rows′ recs′ out′ k line c (step.Refused refusal.Repeated)
@@ -232,7 +239,8 @@ module _ {file names refs rows recs out names′ rows′ recs′ out′ : List �
 
     -- there are as many records as may be
     pub record-crowded : most-records ≤ k .records
-        → length (summarize-decl excluded (terms-in file names refs rows (k .used) (k .many)) line c) + length (root-of excluded (terms-in file names refs rows (k .used) (k .many)) line c) ≡ 1
+        → length (summarize-decl excluded (terms-in file names refs rows (k .used) (k .many)) line c)
+        + length (root-of excluded (terms-in file names refs rows (k .used) (k .many)) line c) ≡ 1
         → Adds file names refs rows recs out names′ rows′ recs′ out′ k line c (step.Refused refusal.Limit)
     unfolding add-line state-of
     record-crowded h one =

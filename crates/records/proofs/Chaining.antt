@@ -9,9 +9,11 @@ use lib.ListN.{length, getD, set, length-set}
 use lib.Seq.{getD-set-same, getD-set-other}
 use borrow.Author.Tests.{eq-eqb, ne-eqb}
 use Rattle.model.specs.Reading.{most-names, most-entries}
+use Rattle.model.specs.Outcome.{working-words}
 use Rattle.words.specs.Slices.{Same-but}
 use Rattle.terms.proofs.Laws.{equal}
-use Rattle.records.specs.Columns.{entry-column, fact-column, next-column, first-column, taken-column, last-entry, no-name, entry-name, entry-fact, next-entry, first-entry}
+use Rattle.triggers.specs.Entries.{entries-base, last-flag, no-name}
+use Rattle.records.specs.Columns.{fact-column, next-column, first-column, taken-column, entry-name, entry-fact, next-entry, first-entry}
 use Rattle.records.specs.Filing.{newest, Chained}
 use Rattle.records.specs.Writing.{Chains}
 
@@ -54,7 +56,8 @@ chained-kept {names} {out} {names′} {out′} {filed} c first same next = recor
 
 -- a name taken leaves the chains
 pub chained-taken : {names out : List ℕ} {filed : ℕ} (i v : ℕ) → i < most-names → Chained names out filed → Chained (set names (taken-column + i) v) out filed
-chained-taken {names} i v h c = chained-kept c (λ n l. getD-set-other names (taken-column + i) (first-column + n) v 0 (λ q. omega arith)) (λ e l. refl) (λ e l. refl)
+chained-taken {names} i v h c = chained-kept c (λ n l. getD-set-other names (taken-column + i) (first-column + n) v 0 (λ q. omega arith)) (λ e l. refl)
+    (λ e l. refl)
 
 -- no entry yet
 pub chain-start : {names out : List ℕ} {from : ℕ} (fact : ℕ) → Chained names out from → Chains names out names out from from fact
@@ -76,7 +79,7 @@ module _ {names out names′ out′ : List ℕ} {from e fact : ℕ} (c : Chains 
       → Chains names out names″ out″ from (e + 1) fact
   chain-more {names″} {out″} names-same size same here link others first =
       let name : (d : ℕ) → d < most-entries → entry-name out″ d ≡ entry-name out′ d =
-      λ d k. ap (λ w. w % last-entry) (same (entry-column + d) (λ z. omega arith) (λ z. omega arith)) in
+      λ d k. ap (λ w. w % last-flag) (same (entries-base + d) (λ z. omega arith) (λ z. omega arith)) in
       let kept : Chained names′ out″ e =
       chained-kept (c .chained) (λ n k. refl) (λ d k. name d (omega arith)) (λ d k. same (next-column + d) (λ z. omega arith) (λ z. omega arith)) in
       record {
@@ -108,7 +111,7 @@ module _ {names out names′ out′ : List ℕ} {from e fact : ℕ} (c : Chains 
             (equal d e);
       }
 
-  module _ (room : 16384 ≤ length out) (n : ℕ) (is : n ≡ entry-name out′ e) where
+  module _ (room : working-words ≤ length out) (n : ℕ) (is : n ≡ entry-name out′ e) where
     -- the entry of an empty disjunct
     pub chain-none : no-name ≤ n → Chains names out names′ (set out′ (fact-column + e) fact) from (e + 1) fact
     chain-none h =
@@ -118,8 +121,9 @@ module _ {names out names′ out′ : List ℕ} {from e fact : ℕ} (c : Chains 
         (λ k. absurd (omega arith)) (λ m k q. refl) (λ k. absurd (omega arith))
 
     -- the entry of a name
-    pub chain-one : 16384 ≤ length names → n < no-name
-        → Chains names out (set names′ (first-column + n) (e + 1)) (set (set out′ (fact-column + e) fact) (next-column + e) (first-entry names′ n)) from (e + 1) fact
+    pub chain-one : working-words ≤ length names → n < no-name
+        → Chains names out (set names′ (first-column + n) (e + 1)) (set (set out′ (fact-column + e) fact) (next-column + e) (first-entry names′ n)) from
+        (e + 1) fact
     chain-one name-room h =
         let mid = set out′ (fact-column + e) fact in
         let w = first-entry names′ n in
@@ -130,11 +134,13 @@ module _ {names out names′ out′ : List ℕ} {from e fact : ℕ} (c : Chains 
         λ i d. getD-set-other names′ (first-column + n) i (e + 1) 0 d in
         chain-more (record { same-length = simp length-set; same-words = λ i k. other i (λ z. k (omega arith) (omega arith)) }) (simp length-set)
         (λ i a b. getD-set-other mid (next-column + e) i w 0 b ∙ getD-set-other out′ (fact-column + e) i fact 0 a)
-        (getD-set-other mid (next-column + e) (fact-column + e) w 0 (λ z. omega arith) ∙ getD-set-same out′ (fact-column + e) fact 0 (omega (arith, c .out-length)))
+        (getD-set-other mid (next-column + e) (fact-column + e) w 0 (λ z. omega arith)
+        ∙ getD-set-same out′ (fact-column + e) fact 0 (omega (arith, c .out-length)))
         (λ k. rw (← is) (getD-set-same mid (next-column + e) w 0 (omega (arith, c .out-length))))
         (λ m k q. other (first-column + m) (λ z. q (sym is ∙ omega arith)))
         (λ k. rw (← is) first)
 
 -- the last entry
-pub chain-end : {names out names′ out′ : List ℕ} {from e to fact : ℕ} → Chains names out names′ out′ from e fact → e ≤ to → to ≤ e → Chains names out names′ out′ from to fact
+pub chain-end : {names out names′ out′ : List ℕ} {from e to fact : ℕ} → Chains names out names′ out′ from e fact → e ≤ to → to ≤ e
+    → Chains names out names′ out′ from to fact
 chain-end {names} {out} {names′} {out′} {from} {e} {to} {fact} c a b = let z : e ≡ to = omega arith in subst (λ k. Chains names out names′ out′ from k fact) z c

@@ -1,27 +1,27 @@
 -- A fact added: what its summary and the chaining of its entries promise is a record appended.
-use Prim.Native.Nat.{ℕ, zero, suc, _+_, _-_, _*_, _%_, _≤_, _<_}
+use Prim.Native.Nat.{ℕ, _+_, _-_, _%_, _≤_, _<_}
 use native.Mathlib.Omega.{arith}
 use mathlib.Core.Path.{_≡_, refl, sym, ap, _∙_}
 use mathlib.Core.Bool.{Bool, true, false, cond}
 use mathlib.Core.Logic.{_⊎_, inl, inr, ⊎-elim}
-use mathlib.Core.List.{List, [], _∷_, _++_, map, List·Memᴰ}
-use lib.ListN.{length, getD, set, length-set}
+use mathlib.Core.List.{List, List·Memᴰ}
+use lib.ListN.{length, getD, length-set}
 use lib.Seq.{getD-set-same, getD-set-other}
 use lib.Dec.{eqb, ltb}
 use borrow.Author.Tests.{ltb-true}
 use Rattle.model.specs.Lists.{sum, collect, fold-left, part}
-use Rattle.model.specs.Names.{Name, from-list}
-use Rattle.model.specs.Reading.{assume, spell, asked, nodes, spelled, trimmed, summarize-decl, root-of, taken-by, entries-of, uses-of, add-line, repeats, most-names, most-terms, most-records, most-entries, most-uses}
-use Rattle.model.specs.Summaries.{entries, summarize-assumption, summarize-kind, free-top-level-names}
+use Rattle.model.specs.Names.{from-list}
+use Rattle.model.specs.Reading.{assume, asked, nodes, spelled, trimmed, summarize-decl, root-of, taken-by, entries-of, uses-of, add-line, repeats, most-names, most-records, most-entries, most-uses}
+use Rattle.model.specs.Summaries.{entries, summarize-assumption}
 use Rattle.model.specs.declared.Counts.{Counts}
 use Rattle.model.specs.declared.Refusal.the-variants as refusal
 use Rattle.model.proofs.PartLaws.{part-agree, part-elim, part-intro, part-length, part-at}
-use Rattle.names.specs.Table.{Excludes, Table, name-of, names-of}
+use Rattle.names.specs.Table.{Excludes, name-of}
 use Rattle.names.proofs.Excluded.{excluded-exact}
 use Rattle.names.proofs.Coded.{Kept, table-kept}
-use Rattle.words.specs.Slices.{Same-but}
+use Rattle.words.proofs.Slices.{same-wider}
 use Rattle.rules.specs.Views.{terms-in}
-use Rattle.triggers.specs.Entries.{disjuncts-of, Entries}
+use Rattle.triggers.specs.Entries.{disjuncts-of, Entries, entries-base, last-flag, no-name}
 use Rattle.summary.specs.declared.Limit.{Limit}
 use Rattle.summary.specs.declared.Limit.the-variants as limit
 use Rattle.summary.specs.declared.Summary.{Summary}
@@ -29,31 +29,33 @@ use Rattle.summary.specs.declared.Summarized.the-variants as summarized
 use Rattle.summary.specs.Facts.{Asked, fact-kind, fact-names, names-then, fact-summary, limited, Lists, Slices}
 use Rattle.summary.proofs.Answering.{over-none, limited-done}
 use Rattle.model.specs.declared.Step.the-variants as step
-use Rattle.records.specs.Columns.{assume-kind, code-of, entry-column, fact-column, next-column, first-column, taken-column, last-entry, no-name, entry-word, entry-name, entry-fact, taken-at}
+use Rattle.model.specs.Outcome.{working-words}
+use Rattle.records.specs.Columns.{assume-kind, code-of, fact-column, next-column, first-column, taken-column, entry-word, taken-at}
 use Rattle.records.specs.States.{free-at, fact-at, summary-at, root-at, state-of}
 use Rattle.records.specs.Writing.{with-record, Rowed, Puttable, Puts}
 use Rattle.records.specs.Adding.{excluded, Standing, Adds, Untouched}
 use Rattle.records.proofs.Chaining.{chained-kept}
 use Rattle.records.proofs.Recording.{names-stay, disjuncts-stay}
 use Rattle.records.proofs.Judging.{many-names, many-entries, many-uses, repeats-taken, repeats-free}
-use Rattle.records.proofs.Appending.{Appends, Says, record-added, record-repeated, record-crowded, record-beyond}
+use Rattle.records.proofs.Appending.{Appends, record-added, record-repeated, record-crowded, record-beyond}
 use Rattle.records.proofs.Plain.{spelled-before, is-taken}
-use Rattle.records.proofs.Funs.{same-wider, row-past, taken-put, small-row}
+use Rattle.records.proofs.Funs.{row-past, taken-put, small-row}
 use Rattle.records.proofs.Coding.{code-kind, code-low}
 
 -- ---- the words of a fact's entries
 
-module _ {named : ℕ} (out : List ℕ) (a e : ℕ) (room : entry-column + e ≤ length out) (h : Entries named (part out (entry-column + a) (entry-column + e))) where
+module _ {named : ℕ} (out : List ℕ) (a e : ℕ) (room : entries-base + e ≤ length out) (h : Entries named (part out (entries-base + a) (entries-base + e))) where
   -- an entry is among them
-  among : (j : ℕ) → a ≤ j → j < e → List·Memᴰ (entry-word out j) (part out (entry-column + a) (entry-column + e))
-  among j l u = part-intro out (entry-column + a) (entry-column + e) (entry-column + j) room (omega arith) (omega arith)
+  among : (j : ℕ) → a ≤ j → j < e → List·Memᴰ (entry-word out j) (part out (entries-base + a) (entries-base + e))
+  among j l u = part-intro out (entries-base + a) (entries-base + e) (entries-base + j) room (omega arith) (omega arith)
 
   -- the last ends its disjunct
-  last-ends : a < e → last-entry ≤ entry-word out (e - 1)
+  last-ends : a < e → last-flag ≤ entry-word out (e - 1)
   last-ends l =
-      let n : e - 1 - a + 1 ≡ length (part out (entry-column + a) (entry-column + e)) = omega (arith, part-length out (entry-column + a) (entry-column + e) room) in
-      let p : entry-column + (e - 1) - (entry-column + a) ≡ e - 1 - a = omega arith in
-      let q = part-at out (entry-column + a) (entry-column + e) (entry-column + (e - 1)) (omega arith) (omega arith) in
+      let size = part-length out (entries-base + a) (entries-base + e) room in
+      let n : e - 1 - a + 1 ≡ length (part out (entries-base + a) (entries-base + e)) = omega arith in
+      let p : entries-base + (e - 1) - (entries-base + a) ≡ e - 1 - a = omega arith in
+      let q = part-at out (entries-base + a) (entries-base + e) (entries-base + (e - 1)) (omega arith) (omega arith) in
       rw (← q, p) (h .closed (e - 1 - a) n)
 
 -- ---- the summary's limits
@@ -64,7 +66,8 @@ unfolding limited
 limited-over x {l} e = go (ltb most-names (x .named)) refl (ltb most-entries (x .entries)) refl (ltb most-uses (x .uses)) refl e
   where
     go : (a : Bool) → ltb most-names (x .named) ≡ a → (b : Bool) → ltb most-entries (x .entries) ≡ b → (c : Bool) → ltb most-uses (x .uses) ≡ c
-        → summarized.Over l ≡ cond a (summarized.Over limit.Names) (cond b (summarized.Over limit.Entries) (cond c (summarized.Over limit.Uses) (summarized.Done x)))
+        → summarized.Over l ≡ cond a (summarized.Over limit.Names)
+        (cond b (summarized.Over limit.Entries) (cond c (summarized.Over limit.Uses) (summarized.Done x)))
         → (most-names < x .named) ⊎ ((most-entries < x .entries) ⊎ (most-uses < x .uses))
     go true p b q c s e = inl (ltb-true most-names (x .named) p)
     go false p true q c s e = inr (inl (ltb-true most-entries (x .entries) q))
@@ -73,7 +76,8 @@ limited-over x {l} e = go (ltb most-names (x .named)) refl (ltb most-entries (x 
 
 -- ---- the fact refused
 
-module _ {file names refs rows recs out : List ℕ} {k : Counts} (st : Standing file names refs rows recs out k) (line : ℕ) {i : ℕ} (known : i < k .named) {w : ℕ} (is : w ≡ taken-at names i) (flag t : ℕ) where
+module _ {file names refs rows recs out : List ℕ} {k : Counts} (st : Standing file names refs rows recs out k) (line : ℕ) {i : ℕ}
+    (known : i < k .named) {w : ℕ} (is : w ≡ taken-at names i) (flag t : ℕ) where
   fact-new : w ≤ 0 → repeats excluded line (state-of file names refs rows recs out k) (assume (name-of file names i) (eqb flag 1) t) ≡ false
   unfolding summarize-decl summarize-assumption collect taken-by
   fact-new h = repeats-free st line (assume (name-of file names i) (eqb flag 1) t) known refl (omega arith)
@@ -83,7 +87,8 @@ module _ {file names refs rows recs out : List ℕ} {k : Counts} (st : Standing 
       → Adds file names refs rows recs out names′ rows′ recs′ out′ k line (assume (name-of file names i) (eqb flag 1) t) (step.Refused refusal.Repeated)
   unfolding summarize-decl summarize-assumption collect taken-by
   fact-repeated h =
-      record-repeated st line (assume (name-of file names i) (eqb flag 1) t) (repeats-taken st line (assume (name-of file names i) (eqb flag 1) t) known refl (omega arith))
+      record-repeated st line (assume (name-of file names i) (eqb flag 1) t)
+      (repeats-taken st line (assume (name-of file names i) (eqb flag 1) t) known refl (omega arith))
 
   module _ {names′ rows′ recs′ out′ : List ℕ} (free : w ≤ 0) where
     -- as many records as may be
@@ -93,7 +98,8 @@ module _ {file names refs rows recs out : List ℕ} {k : Counts} (st : Standing 
     fact-crowded h = record-crowded st line (assume (name-of file names i) (eqb flag 1) t) (fact-new free) h refl
 
     -- more names, entries or uses than may be
-    pub fact-over : {l : Limit} → summarized.Over l ≡ limited (fact-summary excluded file names refs rows (k .named) (k .used) (k .many) i t (k .mark) (k .entries) (k .uses))
+    pub fact-over : {l : Limit} → summarized.Over l ≡ limited
+        (fact-summary excluded file names refs rows (k .named) (k .used) (k .many) i t (k .mark) (k .entries) (k .uses))
         → Adds file names refs rows recs out names′ rows′ recs′ out′ k line (assume (name-of file names i) (eqb flag 1) t) (step.Refused refusal.Limit)
     unfolding add-line state-of spelled trimmed summarize-decl summarize-assumption root-of entries-of uses-of sum fold-left fact-summary names-then fact-kind fact-names entries
     fact-over o =
@@ -106,14 +112,16 @@ module _ {file names refs rows recs out : List ℕ} {k : Counts} (st : Standing 
 
 -- ---- the fact there
 
-module _ {file names refs rows recs out names₁ rows′ out₁ names′ recs′ out′ : List ℕ} {k : Counts} (st : Standing file names refs rows recs out k) (line : ℕ) {i : ℕ} (known : i < k .named) (flag t : ℕ) {x : Summary} {next : Counts}
+module _ {file names refs rows recs out names₁ rows′ out₁ names′ recs′ out′ : List ℕ} {k : Counts} (st : Standing file names refs rows recs out k)
+    (line : ℕ) {i : ℕ} (known : i < k .named) (flag t : ℕ) {x : Summary} {next : Counts}
     (few : k .records < most-records) (free : taken-at names i ≡ 0)
     (done : summarized.Done x ≡ limited (fact-summary excluded file names refs rows (k .named) (k .used) (k .many) i t (k .mark) (k .entries) (k .uses)))
     (lists : Lists excluded file names refs rows (k .named) (k .used) (k .many) i t names₁ rows′ out₁ (k .entries) (k .uses) x)
     (slices : Slices names rows out names₁ rows′ out₁ (k .entries) (k .uses))
     (puts : Puts names₁ recs out₁ names′ recs′ out′ k line i flag t x next) where
   -- the summary is the definition's, within the limits
-  within : (x ≡ fact-summary excluded file names refs rows (k .named) (k .used) (k .many) i t (k .mark) (k .entries) (k .uses)) × (x .named ≤ most-names) × (x .entries ≤ most-entries) × (x .uses ≤ most-uses)
+  within : (x ≡ fact-summary excluded file names refs rows (k .named) (k .used) (k .many) i t (k .mark) (k .entries) (k .uses)) × (x .named ≤ most-names)
+      × (x .entries ≤ most-entries) × (x .uses ≤ most-uses)
   within = limited-done _ done
 
   low : i < most-names
@@ -147,7 +155,8 @@ module _ {file names refs rows recs out names₁ rows′ out₁ names′ recs′
   name-words j d e = puts .chains .names-same .same-words j e ∙ getD-set-other names₁ (taken-column + i) j (k .records + 1) 0 d
 
   still : Kept file names₁ names′ (x .named)
-  still = table-kept (lists .tables .name-table) (puts .chains .names-same .same-length ∙ simp length-set) (λ j l. name-words j (λ e. omega arith) (λ a b. omega arith))
+  still = table-kept (lists .tables .name-table) (puts .chains .names-same .same-length ∙ simp length-set)
+      (λ j l. name-words j (λ e. omega arith) (λ a b. omega arith))
 
   same : (j : ℕ) → j < k .named → name-of file names′ j ≡ name-of file names j
   same j l = still .name j (omega (arith, more)) ∙ old j l
@@ -156,19 +165,21 @@ module _ {file names refs rows recs out names₁ rows′ out₁ names′ recs′
   list-words : (j : ℕ) → j < fact-column → getD out′ j 0 ≡ getD out₁ j 0
   list-words j l = puts .chains .out-words j (λ a b. omega arith) (λ a b. omega arith)
 
-  room : 16384 ≤ length out₁
+  room : working-words ≤ length out₁
   room = omega (arith, slices .out-length, st .recorded .out-room)
 
   size : length out′ ≡ length out₁
   size = puts .chains .out-length
 
-  sets : disjuncts-of (name-of file names′) (part out′ (entry-column + k .entries) (entry-column + x .entries)) ≡ fact-kind excluded file names refs rows (k .named) (k .used) (k .many) i t .triggers
+  sets : disjuncts-of (name-of file names′) (part out′ (entries-base + k .entries) (entries-base + x .entries))
+      ≡ fact-kind excluded file names refs rows (k .named) (k .used) (k .many) i t .triggers
   sets =
-      let a = entry-column + k .entries in
-      let e = entry-column + x .entries in
+      let a = entries-base + k .entries in
+      let e = entries-base + x .entries in
       let high : e ≤ length out₁ = omega (arith, room, within .2) in
-      let word : (w : ℕ) → List·Memᴰ w (part out₁ a e) → w % last-entry < no-name → name-of file names′ (w % last-entry) ≡ name-of file names₁ (w % last-entry) =
-      λ w m s. ⊎-elim (λ (q : w % last-entry < x .named). still .name (w % last-entry) q) (λ (q : w % last-entry ≡ no-name). absurd (omega arith)) (lists .entry-words .small w m) in
+      let word : (w : ℕ) → List·Memᴰ w (part out₁ a e) → w % last-flag < no-name → name-of file names′ (w % last-flag) ≡ name-of file names₁ (w % last-flag) =
+      λ w m s. ⊎-elim (λ (q : w % last-flag < x .named). still .name (w % last-flag) q) (λ (q : w % last-flag ≡ no-name). absurd (omega arith))
+      (lists .entry-words .small w m) in
       rw (part-agree out₁ out′ (e - a) a e refl high (omega (arith, high, size)) (λ j l u. list-words j (omega (arith, within .2))))
       (disjuncts-stay (name-of file names′) (name-of file names₁) (part out₁ a e) word ∙ lists .disjuncts)
 
@@ -178,20 +189,24 @@ module _ {file names refs rows recs out names₁ rows′ out₁ names′ recs′
   -- the record is appended
   appends : Appends file names rows recs out names′ rows′ recs′ out′ k (x .named) (x .entries) (x .uses) (x .mark) assume-kind line i t flag (code-of (x .kind))
   appends =
-      let high : entry-column + x .entries ≤ length out₁ = omega (arith, room, within .2) in
+      let high : entries-base + x .entries ≤ length out₁ = omega (arith, room, within .2) in
       let rise = entries-are in
       let grow = uses-are in
       let here : taken-at names′ i ≡ k .records + 1 =
       puts .chains .names-same .same-words (taken-column + i) (λ a b. omega (arith, low))
       ∙ getD-set-same names₁ (taken-column + i) (k .records + 1) 0 (omega (arith, lists .tables .name-table .room, low)) in
       let others : (n : ℕ) → n < most-names → (n ≡ i → ⊥) → taken-at names′ n ≡ taken-at names n =
-      λ n l d. name-words (taken-column + n) (λ e. d (omega arith)) (λ a b. omega arith) ∙ slices .name-words .same-words (taken-column + n) (λ a b. omega arith) in
+      λ n l d. name-words (taken-column + n) (λ e. d (omega arith)) (λ a b. omega arith)
+      ∙ slices .name-words .same-words (taken-column + n) (λ a b. omega arith) in
       record {
         table = still .table;
         more = more;
         same = same;
         row-words = slices .row-words;
-        fresh = record { row-marks = lists .fresh .row-marks; name-marks = λ n l. rw (name-words (8192 + n) (λ e. omega arith) (λ a b. omega arith)) (lists .fresh .name-marks n l) };
+        fresh = record {
+          row-marks = lists .fresh .row-marks;
+          name-marks = λ n l. rw (name-words (8192 + n) (λ e. omega arith) (λ a b. omega arith)) (lists .fresh .name-marks n l);
+        };
         few-marks = omega (arith, st .few-marks, mark-is);
         row = row;
         small-kind = omega arith;
@@ -199,20 +214,23 @@ module _ {file names refs rows recs out names₁ rows′ out₁ names′ recs′
         out-length = size ∙ slices .out-length;
         few-uses = within .3;
         more-uses = omega arith;
-        old-uses = λ j l. list-words j (omega (arith, st .recorded .few-uses)) ∙ slices .out-words j (λ a b. omega arith) (λ a b. omega (arith, st .recorded .few-uses));
+        old-uses = λ j l. list-words j (omega (arith, st .recorded .few-uses))
+            ∙ slices .out-words j (λ a b. omega arith) (λ a b. omega (arith, st .recorded .few-uses));
         new-uses = λ j l u. rw (list-words j (omega (arith, within .3))) (omega (arith, lists .use-words j l u, more));
         few-entries = within .2;
         more-entries = omega arith;
-        old-entries = λ e l. list-words (entry-column + e) (omega (arith, st .recorded .few-entries)) ∙ slices .out-words (entry-column + e) (λ a b. omega arith) (λ a b. omega arith);
+        old-entries = λ e l. list-words (entries-base + e) (omega (arith, st .recorded .few-entries))
+            ∙ slices .out-words (entries-base + e) (λ a b. omega arith) (λ a b. omega arith);
         old-facts = λ e l.
             puts .chains .out-words (fact-column + e) (λ a b. omega arith) (λ a b. omega (arith, st .recorded .few-entries))
             ∙ slices .out-words (fact-column + e) (λ a b. omega arith) (λ a b. omega arith);
-        new-entries = λ e l u. rw (list-words (entry-column + e) (omega (arith, within .2)))
+        new-entries = λ e l u. rw (list-words (entries-base + e) (omega (arith, within .2)))
             (lists .entry-words .small (entry-word out₁ e) (among out₁ (k .entries) (x .entries) high (lists .entry-words) e l u));
         new-facts = puts .chains .facts;
-        flagged = λ e l u. rw (list-words (entry-column + e) (omega (arith, within .2)))
+        flagged = λ e l u. rw (list-words (entries-base + e) (omega (arith, within .2)))
             (lists .entry-words .flagged (entry-word out₁ e) (among out₁ (k .entries) (x .entries) high (lists .entry-words) e l u));
-        ended = λ l. rw (list-words (entry-column + (x .entries - 1)) (omega (arith, within .2))) (last-ends out₁ (k .entries) (x .entries) high (lists .entry-words) l);
+        ended = λ l. rw (list-words (entries-base + (x .entries - 1)) (omega (arith, within .2)))
+            (last-ends out₁ (k .entries) (x .entries) high (lists .entry-words) l);
         sized = entries-are ∙ ap (λ s. k .entries + entries s) (sym sets);
         only-facts = λ d. absurd (d refl);
         taken = is-taken st few row low free here others (omega arith);
@@ -235,9 +253,22 @@ module _ {file names refs rows recs out names₁ rows′ out₁ names′ recs′
       known-use : (j : ℕ) → k .uses ≤ j → j < x .uses → getD out₁ j 0 < x .named
       known-use j l u = omega (arith, lists .use-words j l u, more)
 
-  fact-is : fact-at (name-of file names′) recs′ out′ (k .records) ≡ summarize-assumption excluded (terms-in file names refs rows (k .used) (k .many)) line (name-of file names i) (eqb flag 1) t
+  fact-is : fact-at (name-of file names′) recs′ out′ (k .records)
+      ≡ summarize-assumption excluded (terms-in file names refs rows (k .used) (k .many)) line (name-of file names i) (eqb flag 1) t
   unfolding fact-at summarize-assumption fact-kind fact-names
-  fact-is = rw (uses-then, row .line-is, row .name-is, row .flag-is, row .entries-from, row .entries-to, row .code-is, same i known, code-kind (x .kind), kind-is, sets)
+  fact-is = rw (
+    uses-then,
+    row .line-is,
+    row .name-is,
+    row .flag-is,
+    row .entries-from,
+    row .entries-to,
+    row .code-is,
+    same i known,
+    code-kind (x .kind),
+    kind-is,
+    sets,
+  )
 
   -- the record is there
   fact-there : Adds file names refs rows recs out names′ rows′ recs′ out′ k line (assume (name-of file names i) (eqb flag 1) t) (step.On next)
@@ -246,7 +277,8 @@ module _ {file names refs rows recs out names₁ rows′ out₁ names′ recs′
       rw (puts .counts) (record-added st few appends (fact-new st line known {w = 0} (sym free) flag t (omega arith)) (record {
         no-ask = refl;
         no-term = refl;
-        spells = still .names ∙ lists .spelled ∙ sym (spelled-before file names (k .named) i (fact-kind excluded file names refs rows (k .named) (k .used) (k .many) i t .trimmed) known);
+        spells = still .names ∙ lists .spelled ∙ sym (spelled-before file names (k .named) i
+            (fact-kind excluded file names refs rows (k .named) (k .used) (k .many) i t .trimmed) known);
         decls = rw fact-is;
         roots = refl;
         entries = omega (arith, entries-are);
@@ -259,7 +291,8 @@ module _ {file names refs rows recs out names₁ rows′ out₁ names′ recs′
 pub excludes-here : {file names refs rows recs out : List ℕ} {k : Counts} → Standing file names refs rows recs out k → Excludes excluded file names (k .named)
 excludes-here st = excluded-exact (st .tables .name-table)
 
-module _ {file names refs rows recs out : List ℕ} {k : Counts} (st : Standing file names refs rows recs out k) {i t : ℕ} (known : i < k .named) (term : t < k .many) where
+module _ {file names refs rows recs out : List ℕ} {k : Counts} (st : Standing file names refs rows recs out k) {i t : ℕ} (known : i < k .named)
+    (term : t < k .many) where
   -- summarising the fact
   pub fact-asked : Asked file names refs rows out (k .named) (k .used) (k .many) i t (k .mark) (k .entries) (k .uses)
   fact-asked = record {
@@ -277,7 +310,8 @@ module _ {file names refs rows recs out : List ℕ} {k : Counts} (st : Standing 
   pub fact-puttable : {names₁ rows₁ out₁ : List ℕ} {line flag : ℕ} {x : Summary}
       → summarized.Done x ≡ limited (fact-summary excluded file names refs rows (k .named) (k .used) (k .many) i t (k .mark) (k .entries) (k .uses))
       → Lists excluded file names refs rows (k .named) (k .used) (k .many) i t names₁ rows₁ out₁ (k .entries) (k .uses) x
-      → Slices names rows out names₁ rows₁ out₁ (k .entries) (k .uses) → k .records < most-records → line < 4294967296 → flag < 2 → Puttable names₁ recs out₁ k line i flag t x
+      → Slices names rows out names₁ rows₁ out₁ (k .entries) (k .uses) → k .records < most-records → line < 4294967296 → flag < 2
+      → Puttable names₁ recs out₁ k line i flag t x
   unfolding fact-summary fact-kind
   fact-puttable {names₁} {out₁ = out₁} {line} {flag} {x} done lists slices few line-small flag-small =
       let (is, few-names, few-entries, few-uses) = limited-done _ done in
@@ -285,7 +319,7 @@ module _ {file names refs rows recs out : List ℕ} {k : Counts} (st : Standing 
       let code : code-of (x .kind) ≤ 3 + x .entries = code-low (x .kind) (x .entries) (λ m e. omega (arith, lists .few-sets m e)) in
       record {
         chained = chained-kept (st .stocked .chained) (λ n l. slices .name-words .same-words (first-column + n) (λ a b. omega arith))
-            (λ e l. ap (λ w. w % last-entry) (slices .out-words (entry-column + e) (λ a b. omega arith) (λ a b. omega arith)))
+            (λ e l. ap (λ w. w % last-flag) (slices .out-words (entries-base + e) (λ a b. omega arith) (λ a b. omega arith)))
             (λ e l. slices .out-words (next-column + e) (λ a b. omega arith) (λ a b. omega arith));
         name-room = omega (arith, slices .name-words .same-length, st .tables .name-table .room);
         record-room = st .recorded .room;
@@ -299,17 +333,22 @@ module _ {file names refs rows recs out : List ℕ} {k : Counts} (st : Standing 
       }
 
 -- words past the tables stay where a fact is refused
-pub over-past : {names rows recs out names₁ rows₁ out₁ : List ℕ} {filed uses : ℕ} → Slices names rows out names₁ rows₁ out₁ filed uses → Untouched names rows recs out names₁ rows₁ recs out₁
+pub over-past : {names rows recs out names₁ rows₁ out₁ : List ℕ} {filed uses : ℕ} → Slices names rows out names₁ rows₁ out₁ filed uses
+    → Untouched names rows recs out names₁ rows₁ recs out₁
 over-past s = record {
-  name-words = same-wider (omega arith) (omega arith) (s .name-words);
-  row-words = same-wider (omega arith) (omega arith) (s .row-words);
+  name-words = same-wider 0 working-words (omega arith) (omega arith) (s .name-words);
+  row-words = same-wider 0 working-words (omega arith) (omega arith) (s .row-words);
   record-words = record { same-length = refl; same-words = λ i h. refl };
-  list-words = record { same-length = s .out-length; same-words = λ i h. s .out-words i (λ a b. h (omega arith) (omega arith)) (λ a b. h (omega arith) (omega arith)) };
+  list-words = record {
+    same-length = s .out-length;
+    same-words = λ i h. s .out-words i (λ a b. h (omega arith) (omega arith)) (λ a b. h (omega arith) (omega arith));
+  };
 }
 
 -- and where it is there
 pub fact-past : {names rows recs out names₁ rows₁ out₁ names′ recs′ out′ : List ℕ} {filed uses line i flag t : ℕ} {k : Counts} {x : Summary} {next : Counts}
-    → Slices names rows out names₁ rows₁ out₁ filed uses → x .entries ≤ most-entries → i < most-names → Puts names₁ recs out₁ names′ recs′ out′ k line i flag t x next
+    → Slices names rows out names₁ rows₁ out₁ filed uses → x .entries ≤ most-entries → i < most-names
+    → Puts names₁ recs out₁ names′ recs′ out′ k line i flag t x next
     → Untouched names rows recs out names′ rows₁ recs′ out′
 fact-past {names₁ = names₁} {i = i} {k = k} s few low p =
     let put = taken-put {names = names₁} i (k .records + 1) low in
@@ -320,7 +359,7 @@ fact-past {names₁ = names₁} {i = i} {k = k} s few low p =
             p .chains .names-same .same-words j (λ a b. h (omega arith) (omega arith)) ∙ put .same-words j (λ a b. h (omega arith) (omega arith))
             ∙ s .name-words .same-words j (λ a b. h (omega arith) (omega arith));
       };
-      row-words = same-wider (omega arith) (omega arith) (s .row-words);
+      row-words = same-wider 0 working-words (omega arith) (omega arith) (s .row-words);
       record-words = row-past (p .row);
       list-words = record {
         same-length = p .chains .out-length ∙ s .out-length;
@@ -331,7 +370,8 @@ fact-past {names₁ = names₁} {i = i} {k = k} s few low p =
     }
 
 -- the fact there, by what the code has found
-pub fact-added : {file names refs rows recs out names₁ rows′ out₁ names′ recs′ out′ : List ℕ} {k : Counts} → Standing file names refs rows recs out k → (line : ℕ) → {i : ℕ} → i < k .named
+pub fact-added : {file names refs rows recs out names₁ rows′ out₁ names′ recs′ out′ : List ℕ} {k : Counts} → Standing file names refs rows recs out k
+    → (line : ℕ) → {i : ℕ} → i < k .named
     → {w : ℕ} → w ≡ taken-at names i → (flag t : ℕ) → {x : Summary} {next : Counts} → w ≤ 0 → k .records < most-records
     → summarized.Done x ≡ limited (fact-summary excluded file names refs rows (k .named) (k .used) (k .many) i t (k .mark) (k .entries) (k .uses))
     → Lists excluded file names refs rows (k .named) (k .used) (k .many) i t names₁ rows′ out₁ (k .entries) (k .uses) x

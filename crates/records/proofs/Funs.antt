@@ -1,44 +1,46 @@
 -- A `retain` and a `fun` added: records without a term.
-use Prim.Native.Nat.{ℕ, zero, suc, _+_, _-_, _≤_, _<_}
+use Prim.Native.Nat.{ℕ, _+_, _-_, _≤_, _<_}
 use native.Mathlib.Omega.{arith}
-use mathlib.Core.Path.{_≡_, refl, sym, ap, _∙_}
-use mathlib.Core.Bool.{true, false}
-use mathlib.Core.List.{List, [], _∷_, _++_, map}
-use lib.ListN.{length, getD, set, length-set}
+use mathlib.Core.Path.{_≡_, refl, sym, _∙_}
+use mathlib.Core.Bool.{false}
+use mathlib.Core.List.{List, []}
+use lib.ListN.{set, length-set}
 use lib.Seq.{getD-set-same, getD-set-other}
 use Rattle.model.specs.Lists.{sum, collect, fold-left}
-use Rattle.model.specs.Names.{Name}
-use Rattle.model.specs.Reading.{fun, retain, spell, asked, nodes, spelled, trimmed, summarize-decl, root-of, taken-by, entries-of, uses-of, repeats, most-names, most-terms, most-records, most-entries, most-uses}
+use Rattle.model.specs.Reading.{fun, retain, asked, nodes, spelled, trimmed, summarize-decl, root-of, taken-by, entries-of, uses-of, repeats, most-names, most-terms, most-records, most-entries, most-uses}
 use Rattle.model.specs.declared.Counts.{Counts}
 use Rattle.model.specs.declared.Refusal.the-variants as refusal
-use Rattle.names.specs.Table.{name-of, names-of}
+use Rattle.names.specs.Table.{name-of}
 use Rattle.words.specs.Slices.{Same-but}
+use Rattle.words.proofs.Slices.{same-self, same-wider}
 use Rattle.gather.specs.Sets.{Fresh}
-use Rattle.rules.specs.Views.{terms-in}
 use Rattle.model.specs.declared.Step.the-variants as step
+use Rattle.model.specs.Outcome.{working-words}
 use Rattle.records.specs.Columns.{fun-kind, retain-kind, root-kind, taken-column, taken-at}
 use Rattle.records.specs.States.{summary-at, root-at, decl-at, state-of}
 use Rattle.records.specs.Writing.{with-record, Small, Rowed}
 use Rattle.records.specs.Adding.{excluded, Standing, Adds, Untouched}
 use Rattle.records.proofs.Judging.{repeats-none, repeats-taken, repeats-free}
-use Rattle.records.proofs.Appending.{Says, record-added, record-repeated, record-crowded}
+use Rattle.records.proofs.Appending.{record-added, record-repeated, record-crowded}
 use Rattle.records.proofs.Plain.{spelled-again, kept, not-taken, is-taken, plain}
 
 -- ---- what stays
 
--- a slice that stays
-pub same-all : (column size : ℕ) (w : List ℕ) → Same-but column size w w
-same-all column size w = record { same-length = refl; same-words = λ i h. refl }
-
 -- slices that stay
 pub untouched : {names rows recs out : List ℕ} → Untouched names rows recs out names rows recs out
-untouched = record { name-words = same-all 0 16384 _; row-words = same-all 0 16384 _; record-words = same-all 0 16384 _; list-words = same-all 0 16384 _ }
+untouched = record {
+  name-words = same-self 0 working-words _;
+  row-words = same-self 0 working-words _;
+  record-words = same-self 0 working-words _;
+  list-words = same-self 0 working-words _;
+}
 
 -- the words past a row stay
-pub row-past : {recs recs′ : List ℕ} {k k′ : Counts} {kind line name term flag code : ℕ} → Rowed recs recs′ k k′ kind line name term flag code → Same-but 0 16384 recs recs′
+pub row-past : {recs recs′ : List ℕ} {k k′ : Counts} {kind line name term flag code : ℕ} → Rowed recs recs′ k k′ kind line name term flag code
+    → Same-but 0 working-words recs recs′
 row-past r = record { same-length = r .same-length; same-words = λ i h. r .past i (past i (λ l. h (omega arith) l)) }
   where
-    past : (i : ℕ) → (i < 16384 → ⊥) → 10240 ≤ i
+    past : (i : ℕ) → (i < working-words → ⊥) → 10240 ≤ i
     past i h = omega arith
 
 -- a name taken: of the names slice one word of the taken column changes
@@ -48,16 +50,13 @@ taken-put {names = names} i v h = record {
   same-words = λ j l. getD-set-other names (taken-column + i) j v 0 (λ e. l (omega arith) (omega arith));
 }
 
--- a slice that changed at most in a column changed at most in a wider one
-pub same-wider : {column size wide more : ℕ} {w w′ : List ℕ} → wide ≤ column → column + size ≤ wide + more → Same-but column size w w′ → Same-but wide more w w′
-same-wider a b s = record { same-length = s .same-length; same-words = λ i h. s .same-words i (λ x y. h (omega arith) (omega arith)) }
-
 -- marks stay where the marks' column does
 pub fresh-taken : {names rows names′ : List ℕ} {mark : ℕ} → Same-but taken-column most-names names names′ → Fresh names rows mark → Fresh names′ rows mark
 fresh-taken s f = record { row-marks = f .row-marks; name-marks = λ n l. rw (s .same-words (8192 + n) (λ a b. omega arith)) (f .name-marks n l) }
 
 -- a row's words fit
-pub small-row : {file names refs rows recs out : List ℕ} {k next : Counts} (named entries uses mark : ℕ) (kind line name term flag code : ℕ) → Standing file names refs rows recs out k
+pub small-row : {file names refs rows recs out : List ℕ} {k next : Counts} (named entries uses mark : ℕ) (kind line name term flag code : ℕ)
+    → Standing file names refs rows recs out k
     → next ≡ with-record k named entries uses mark → entries ≤ most-entries → uses ≤ most-uses
     → kind ≤ root-kind → line < 4294967296 → name < most-names → term < most-terms → flag < 256 → code < 4294967296 → Small k next kind line name term flag code
 small-row {k = k} {next} named entries uses mark kind line name term flag code st e h₁ h₂ h₃ h₄ h₅ h₆ h₇ h₈ = rw e (record {
@@ -81,7 +80,8 @@ module _ {file names refs rows recs out : List ℕ} {k : Counts} (st : Standing 
   retain-new = repeats-none line (state-of file names refs rows recs out k) (retain []) refl
 
   -- as many records as may be
-  pub retain-crowded : {recs′ : List ℕ} → most-records ≤ k .records → Adds file names refs rows recs out names rows recs′ out k line (retain []) (step.Refused refusal.Limit)
+  pub retain-crowded : {recs′ : List ℕ} → most-records ≤ k .records
+      → Adds file names refs rows recs out names rows recs′ out k line (retain []) (step.Refused refusal.Limit)
   unfolding summarize-decl root-of
   retain-crowded h = record-crowded st line (retain []) retain-new h refl
 
@@ -90,9 +90,10 @@ module _ {file names refs rows recs out : List ℕ} {k : Counts} (st : Standing 
       → Rowed recs recs′ k next retain-kind line 0 0 0 0 → Adds file names refs rows recs out names rows recs′ out k line (retain []) (step.On next)
   unfolding asked nodes spelled trimmed summarize-decl root-of entries-of uses-of sum fold-left summary-at root-at
   retain-added {recs′} {next} few e row =
-      let same = same-all 8192 4096 names in
+      let same = same-self 8192 4096 names in
       let row′ : Rowed recs recs′ k (with-record k (k .named) (k .entries) (k .uses) (k .mark)) retain-kind line 0 0 0 0 = rw e at row in
-      let more = plain st same (same-all 12288 4096 rows) (st .fresh) (omega arith) row′ (λ z. omega arith) (omega arith) (λ z. absurd (z refl)) (same-all (k .uses) (k .uses - k .uses) out)
+      let more = plain st same (same-self 12288 4096 rows) (st .fresh) (omega arith) row′ (λ z. omega arith) (omega arith) (λ z. absurd (z refl))
+      (same-self (k .uses) (k .uses - k .uses) out)
       (omega arith) (st .recorded .few-uses) (λ j a b. absurd (omega arith)) (not-taken st few row′ (λ n l. refl) (omega arith)) in
       rw e (record-added st few more retain-new (record {
         no-ask = refl;
@@ -106,18 +107,21 @@ module _ {file names refs rows recs out : List ℕ} {k : Counts} (st : Standing 
 
 -- ---- fun
 
-module _ {file names refs rows recs out : List ℕ} {k : Counts} (st : Standing file names refs rows recs out k) (line : ℕ) {i : ℕ} (known : i < k .named) {w : ℕ} (is : w ≡ taken-at names i) where
+module _ {file names refs rows recs out : List ℕ} {k : Counts} (st : Standing file names refs rows recs out k) (line : ℕ) {i : ℕ}
+    (known : i < k .named) {w : ℕ} (is : w ≡ taken-at names i) where
   fun-new : w ≤ 0 → repeats excluded line (state-of file names refs rows recs out k) (fun (name-of file names i)) ≡ false
   unfolding summarize-decl collect taken-by
   fun-new h = repeats-free st line (fun (name-of file names i)) known refl (omega arith)
 
   -- the name is taken
-  pub fun-repeated : {names′ recs′ : List ℕ} → 0 < w → Adds file names refs rows recs out names′ rows recs′ out k line (fun (name-of file names i)) (step.Refused refusal.Repeated)
+  pub fun-repeated : {names′ recs′ : List ℕ} → 0 < w → Adds file names refs rows recs out names′ rows recs′ out k line (fun (name-of file names i))
+      (step.Refused refusal.Repeated)
   unfolding summarize-decl collect taken-by
   fun-repeated h = record-repeated st line (fun (name-of file names i)) (repeats-taken st line (fun (name-of file names i)) known refl (omega arith))
 
   -- as many records as may be
-  pub fun-crowded : {names′ recs′ : List ℕ} → w ≤ 0 → most-records ≤ k .records → Adds file names refs rows recs out names′ rows recs′ out k line (fun (name-of file names i)) (step.Refused refusal.Limit)
+  pub fun-crowded : {names′ recs′ : List ℕ} → w ≤ 0 → most-records ≤ k .records
+      → Adds file names refs rows recs out names′ rows recs′ out k line (fun (name-of file names i)) (step.Refused refusal.Limit)
   unfolding summarize-decl root-of
   fun-crowded z h = record-crowded st line (fun (name-of file names i)) (fun-new z) h refl
 
@@ -129,11 +133,13 @@ module _ {file names refs rows recs out : List ℕ} {k : Counts} (st : Standing 
   fun-added {recs′} {next} z few e row =
       let low : i < most-names = omega (arith, st .tables .name-table .few) in
       let put = taken-put {names = names} i (k .records + 1) low in
-      let words = same-wider {wide = 8192} {more = 4096} (omega arith) (omega arith) put in
+      let words = same-wider 8192 4096 (omega arith) (omega arith) put in
       let row′ : Rowed recs recs′ k (with-record k (k .named) (k .entries) (k .uses) (k .mark)) fun-kind line i 0 0 0 = rw e at row in
-      let taken = is-taken st few row′ low (omega arith) (getD-set-same names (taken-column + i) (k .records + 1) 0 (omega (arith, st .tables .name-table .room)))
+      let taken = is-taken st few row′ low (omega arith) (getD-set-same names (taken-column + i) (k .records + 1) 0
+      (omega (arith, st .tables .name-table .room)))
       (λ n l d. getD-set-other names (taken-column + i) (taken-column + n) (k .records + 1) 0 (λ q. d (omega arith))) (omega arith) in
-      let more = plain st words (same-all 12288 4096 rows) (fresh-taken put (st .fresh)) (omega arith) row′ (λ q. omega arith) (omega arith) (λ q. known) (same-all (k .uses) (k .uses - k .uses) out)
+      let more = plain st words (same-self 12288 4096 rows) (fresh-taken put (st .fresh)) (omega arith) row′ (λ q. omega arith) (omega arith) (λ q. known)
+      (same-self (k .uses) (k .uses - k .uses) out)
       (omega arith) (st .recorded .few-uses) (λ j a b. absurd (omega arith)) taken in
       rw e (record-added st few more (fun-new z) (record {
         no-ask = refl;
@@ -149,8 +155,8 @@ module _ {file names refs rows recs out : List ℕ} {k : Counts} (st : Standing 
   pub fun-past : {recs′ : List ℕ} {next : Counts} {kind term flag code : ℕ} (v : ℕ) → Rowed recs recs′ k next kind line i term flag code
       → Untouched names rows recs out (set names (taken-column + i) v) rows recs′ out
   fun-past v row = record {
-    name-words = same-wider (omega arith) (omega arith) (taken-put i v (omega (arith, st .tables .name-table .few)));
-    row-words = same-all 0 16384 rows;
+    name-words = same-wider 0 working-words (omega arith) (omega arith) (taken-put i v (omega (arith, st .tables .name-table .few)));
+    row-words = same-self 0 working-words rows;
     record-words = row-past row;
-    list-words = same-all 0 16384 out;
+    list-words = same-self 0 working-words out;
   }

@@ -2,17 +2,16 @@
 use Prim.Native.Nat.{ℕ, zero, suc, _+_, _-_, _≤_, _<_}
 use native.Mathlib.Nat.{not-suc-le-zero}
 use native.Mathlib.Omega.{arith}
-use mathlib.Core.Path.{_≡_, refl, sym, ap, _∙_}
+use mathlib.Core.Path.{_≡_, refl, ap, _∙_}
 use mathlib.Core.Bool.{Bool, true, false, cond, _||_}
 use mathlib.Core.Logic.{_⊎_, ⊎-elim}
-use mathlib.Core.List.{List, [], _∷_, _++_, List·Memᴰ, List·Memᴰ·head, List·Memᴰ·not-nil, List·Memᴰ·eq-of-singleton, List·Memᴰ·append-cases, Memᴰ·append-left, Memᴰ·append-right}
-use lib.ListN.{length, getD, length-append}
+use mathlib.Core.List.{List, [], _∷_, List·Memᴰ, List·Memᴰ·head, List·Memᴰ·not-nil, List·Memᴰ·eq-of-singleton, List·Memᴰ·append-cases, Memᴰ·append-left, Memᴰ·append-right}
+use lib.ListN.{length}
 use lib.Dec.{T, leb, not-T}
 use borrow.Author.Tests.{le-leb, lt-leb}
-use Rattle.model.specs.Lists.{collect, any, fold-left}
+use Rattle.model.specs.Lists.{collect, any}
 use Rattle.model.specs.Names.{Name, mem}
-use Rattle.model.specs.Terms.{Node, Term, add-term, unlabeled, free-top-level-names}
-use Rattle.model.specs.Reading.{Result, ok, refused, _>>=_, Content, State, Summary, taken-by, summarize-decl, limits, under-limits, add-line, repeats, read-line, parse, most-names, most-terms, most-references, most-records, most-entries, most-uses}
+use Rattle.model.specs.Reading.{Result, ok, refused, _>>=_, Content, State, taken-by, summarize-decl, limits, under-limits, add-line, repeats, read-line, parse, most-names, most-terms, most-references, most-records, most-entries, most-uses}
 use Rattle.model.specs.Lines.{fields}
 use Rattle.model.specs.declared.Counts.{Counts}
 use Rattle.model.specs.declared.Refusal.{Refusal}
@@ -21,15 +20,12 @@ use Rattle.model.proofs.ListLaws.{T-true, T-false, collect-append}
 use Rattle.model.proofs.SetLaws.{mem-intro, mem-elim}
 use Rattle.names.specs.Table.{name-of, names-of}
 use Rattle.names.proofs.Laws.{names-intro, distinct}
-use Rattle.terms.specs.Rows.{terms-of, nodes-below, node-of}
 use Rattle.terms.proofs.Laws.{equal}
 use Rattle.rules.specs.Views.{terms-in}
 use Rattle.model.specs.declared.Step.the-variants as step
 use Rattle.records.specs.Columns.{record-kind, record-name, retain-kind, taken-at}
-use Rattle.records.specs.States.{decl-at, fact-at, summary-at, decls-of, roots-of, state-of}
-use Rattle.records.specs.Filing.{Taken}
-use Rattle.records.specs.Adding.{excluded, Standing, judge, Adds, full, stops, added}
-use Rattle.records.proofs.Recording.{records-length}
+use Rattle.records.specs.States.{decl-at, fact-at, summary-at, decls-of, state-of}
+use Rattle.records.specs.Adding.{excluded, Standing, judge}
 
 -- ---- the limits
 
@@ -96,7 +92,8 @@ line-judged n s bytes = go (parse n (length (s .terms)) (fields bytes))
     pick false c f = refl
 
     go : (said : Result Content)
-        → (said >>= λ c. cond (repeats excluded n s c) (refused refusal.Repeated) (ok c) >>= λ d. under-limits (limits (add-line excluded n s d)) (add-line excluded n s d))
+        → (said >>= λ c. cond (repeats excluded n s c) (refused refusal.Repeated) (ok c) >>= λ d. under-limits (limits (add-line excluded n s d))
+        (add-line excluded n s d))
         ≡ (said >>= judge n s)
     go (ok c) = pick (repeats excluded n s c) c (λ d. under-limits (limits (add-line excluded n s d)) (add-line excluded n s d))
     go (refused x) = refl
@@ -164,11 +161,13 @@ module _ (n : ℕ) (s : State) (c : Content) where
   repeats-none e = rw e
 
   -- a line that takes a name
-  pub repeats-one : {m : Name} → collect taken-by (summarize-decl excluded (s .terms) n c) ≡ m ∷ [] → repeats excluded n s c ≡ (mem m (collect taken-by (s .decls)) || false)
+  pub repeats-one : {m : Name} → collect taken-by (summarize-decl excluded (s .terms) n c) ≡ m ∷ []
+      → repeats excluded n s c ≡ (mem m (collect taken-by (s .decls)) || false)
   unfolding repeats any
   repeats-one e = rw e
 
-module _ {file names refs rows recs out : List ℕ} {k : Counts} (st : Standing file names refs rows recs out k) (line : ℕ) (c : Content) {i : ℕ} (known : i < k .named)
+module _ {file names refs rows recs out : List ℕ} {k : Counts} (st : Standing file names refs rows recs out k) (line : ℕ) (c : Content) {i : ℕ}
+    (known : i < k .named)
     (takes : collect taken-by (summarize-decl excluded (terms-in file names refs rows (k .used) (k .many)) line c) ≡ name-of file names i ∷ []) where
   -- a taken name is repeated
   pub repeats-taken : 0 < taken-at names i → repeats excluded line (state-of file names refs rows recs out k) c ≡ true

@@ -5,13 +5,12 @@ use native.Mathlib.Omega.{arith}
 use mathlib.Core.Path.{_≡_, refl, sym, ap, _∙_}
 use mathlib.Core.Logic.{_⊎_, inl, inr, ⊎-elim}
 use mathlib.Core.List.{List}
-use lib.ListN.{getD}
 use Rattle.model.specs.Names.{Name}
 use Rattle.model.specs.Summaries.{entries}
 use Rattle.model.specs.Reading.{most-names, most-records}
 use Rattle.terms.proofs.Laws.{equal, below}
-use Rattle.triggers.specs.Entries.{disjuncts-of}
-use Rattle.records.specs.Columns.{record-word, record-kind, record-name, uses-start, uses-end, entries-start, entries-end, assume-kind, retain-kind, last-entry, no-name, entry-word, entry-name, entry-fact, taken-at}
+use Rattle.triggers.specs.Entries.{disjuncts-of, last-flag}
+use Rattle.records.specs.Columns.{record-word, record-kind, record-name, entries-start, entries-end, assume-kind, retain-kind, entry-word, entry-name, entry-fact, taken-at}
 use Rattle.records.specs.States.{entries-at}
 use Rattle.records.specs.Filing.{Records, entries-before, Filing, Taken}
 use Rattle.records.proofs.Recording.{Agree, sets-stay}
@@ -36,8 +35,10 @@ records-named {out = out} {named} h r = record {
 
 -- ---- the entries of the records
 
-module _ {name name′ : ℕ → Name} {recs out recs′ out′ : List ℕ} {named records filed uses : ℕ} (a : Agree name name′ recs out recs′ out′ named records filed uses)
-    (r : Records recs out named records filed uses) (g : Filing name recs out records filed) (fact : (e : ℕ) → e < filed → entry-fact out′ e ≡ entry-fact out e) where
+module _ {name name′ : ℕ → Name} {recs out recs′ out′ : List ℕ} {named records filed uses : ℕ}
+    (a : Agree name name′ recs out recs′ out′ named records filed uses)
+    (r : Records recs out named records filed uses) (g : Filing name recs out records filed)
+    (fact : (e : ℕ) → e < filed → entry-fact out′ e ≡ entry-fact out e) where
   before-stays : (n : ℕ) → n ≤ records → entries-before recs′ n ≡ entries-before recs n
   unfolding entries-before
   before-stays zero h = refl
@@ -58,10 +59,10 @@ module _ {name name′ : ℕ → Name} {recs out recs′ out′ : List ℕ} {nam
       let y = a .rows 8 i h in
       fact e (omega (arith, r .entries-in i h)) ∙ g .facts i e h (omega arith) (omega arith)
 
-  flagged-stays : (e : ℕ) → e < filed → entry-word out′ e < last-entry + last-entry
+  flagged-stays : (e : ℕ) → e < filed → entry-word out′ e < last-flag + last-flag
   flagged-stays e h = rw (a .entry-words e h) (g .flagged e h)
 
-  ended-stays : (i : ℕ) → i < records → entries-start recs′ i < entries-end recs′ i → last-entry ≤ entry-word out′ (entries-end recs′ i - 1)
+  ended-stays : (i : ℕ) → i < records → entries-start recs′ i < entries-end recs′ i → last-flag ≤ entry-word out′ (entries-end recs′ i - 1)
   ended-stays i h l =
       let x = a .rows 7 i h in
       let y = a .rows 8 i h in
@@ -84,8 +85,8 @@ module _ {name name′ : ℕ → Name} {recs out recs′ out′ : List ℕ} {nam
       → filed′ ≡ filed + entries (disjuncts-of name′ (entries-at recs′ out′ records))
       → ((record-kind recs′ records ≡ assume-kind → ⊥) → filed′ ≡ filed)
       → ((e : ℕ) → filed ≤ e → e < filed′ → entry-fact out′ e ≡ records)
-      → ((e : ℕ) → filed ≤ e → e < filed′ → entry-word out′ e < last-entry + last-entry)
-      → (filed < filed′ → last-entry ≤ entry-word out′ (filed′ - 1))
+      → ((e : ℕ) → filed ≤ e → e < filed′ → entry-word out′ e < last-flag + last-flag)
+      → (filed < filed′ → last-flag ≤ entry-word out′ (filed′ - 1))
       → Filing name′ recs′ out′ (records + 1) filed′
   unfolding entries-before
   filing-more {filed′} start end sized only facts flagged ended = record {
@@ -121,7 +122,8 @@ module _ {name name′ : ℕ → Name} {recs out recs′ out′ : List ℕ} {nam
 
 -- ---- the taken column
 
-module _ {names names′ recs recs′ : List ℕ} {records : ℕ} (rows : (c i : ℕ) → i < records → record-word recs′ (c * most-records) i ≡ record-word recs (c * most-records) i)
+module _ {names names′ recs recs′ : List ℕ} {records : ℕ} (rows : (c i : ℕ) → i < records → record-word recs′ (c * most-records) i
+    ≡ record-word recs (c * most-records) i)
     (t : Taken names recs records) (small : (i : ℕ) → i < records → record-kind recs i < retain-kind → record-name recs i < most-names) where
   -- where the column stays
   pub taken-kept : ((n : ℕ) → n < most-names → taken-at names′ n ≡ taken-at names n) → Taken names′ recs′ records

@@ -1,3 +1,4 @@
+pub mod OptionsOf
 pub mod Rows
 pub mod Chaining
 pub mod Recording

@@ -10,15 +10,13 @@ use lib.Seq.{getD-set-same, getD-set-other}
 use lib.Dec.{eqb, leb, ltb}
 use borrow.Author.Tests.{lt-ltb, le-ltb, le-leb, lt-leb, ltb-true, leb-true}
 use Rattle.model.specs.Reading.{most-names, most-records}
-use Rattle.model.specs.declared.Counts.{Counts}
-use Rattle.names.specs.Table.{Table}
-use Rattle.names.proofs.Coded.{table-kept}
-use Rattle.words.specs.Slices.{Same-but}
+use Rattle.model.specs.Outcome.{working-words}
+use Rattle.names.specs.Table.{name-code}
 use Rattle.terms.proofs.Laws.{equal}
-use Rattle.records.specs.Columns.{record-kind, def-kind, taken-column, macro-column, first-column, taken-at, macro-at, name-code}
-use Rattle.records.specs.Filing.{newest, Records, Stocked}
-use Rattle.records.specs.Macros.{opened-word, first-macro, macro-count, first-opened, opened, start-word, is-def, macro-word, Found, found-word, word-from, Opens, Filled}
-use Rattle.records.proofs.Chaining.{newest-here, newest-other, newest-low, newest-cong, chained-kept}
+use Rattle.records.specs.Columns.{record-kind, def-kind, taken-column, macro-column, taken-at}
+use Rattle.records.specs.Filing.{newest}
+use Rattle.records.specs.Macros.{opened-word, first-macro, macro-count, first-opened, opened, start-word, is-def, macro-word, Found, found-word, word-from, Opens}
+use Rattle.records.proofs.Chaining.{newest-here, newest-other, newest-low}
 
 -- ---- the numbers that the macros of the start open to
 
@@ -70,7 +68,8 @@ found-low {names} {named = named} f few j l = rw (f .numbers j l) (omega (arith,
 -- ---- the word of a macro of the start
 
 -- the number for a code of theirs is low
-pub number-low : (found : List ℕ) {c m : ℕ} → m ≡ getD found (c - first-macro) 0 → ((j : ℕ) → j < macro-count → getD found j 0 ≤ most-names) → first-macro ≤ c → c < first-opened → m ≤ most-names
+pub number-low : (found : List ℕ) {c m : ℕ} → m ≡ getD found (c - first-macro) 0 → ((j : ℕ) → j < macro-count → getD found j 0 ≤ most-names) → first-macro ≤ c
+    → c < first-opened → m ≤ most-names
 number-low found {c} e h low high = rw e (h (c - first-macro) (omega arith))
 
 module _ (found : List ℕ) (c : ℕ) where
@@ -109,12 +108,14 @@ unfolding found-word start-word
 found-start {names} {found} {named} f c = go (leb first-macro c) refl (ltb c first-opened) refl
   where
     go : (a : Bool) → leb first-macro c ≡ a → (b : Bool) → ltb c first-opened ≡ b
-        → cond (leb first-macro c && ltb c first-opened) (opened (getD found (c - first-macro) 0)) 0 ≡ cond (leb first-macro c && ltb c first-opened) (opened (newest (name-code names) (c + macro-count) named)) 0
+        → cond (leb first-macro c && ltb c first-opened) (opened (getD found (c - first-macro) 0)) 0
+        ≡ cond (leb first-macro c && ltb c first-opened) (opened (newest (name-code names) (c + macro-count) named)) 0
     go true p true q =
         let low = leb-true first-macro c p in
         let high = ltb-true c first-opened q in
         let e : first-opened + (c - first-macro) ≡ c + macro-count = omega arith in
-        ap (λ m. cond (leb first-macro c && ltb c first-opened) (opened m) 0) (f .numbers (c - first-macro) (omega arith) ∙ ap (λ d. newest (name-code names) d named) e)
+        ap (λ m. cond (leb first-macro c && ltb c first-opened) (opened m) 0)
+        (f .numbers (c - first-macro) (omega arith) ∙ ap (λ d. newest (name-code names) d named) e)
     go true p false q = rw (p, q)
     go false p b q = rw p
 
@@ -140,7 +141,8 @@ module _ (names recs found : List ℕ) (n : ℕ) {t : ℕ} {b : Bool} (taken : t
       go t p q = rw (← p, q)
 
   -- another's
-  pub word-other : b ≡ false → {c w : ℕ} → c ≡ name-code names n → (w ≡ found-word found c) × (w < 4294967296) → (w ≡ word-from names recs found n) × (w < 4294967296)
+  pub word-other : b ≡ false → {c w : ℕ} → c ≡ name-code names n → (w ≡ found-word found c) × (w < 4294967296)
+      → (w ≡ word-from names recs found n) × (w < 4294967296)
   unfolding word-from
   word-other e {c} {w} is (h, l) = (h ∙ sym (go t c taken (sym def ∙ e) is), l)
     where
@@ -154,16 +156,18 @@ pub opens-none : (names recs : List ℕ) (named : ℕ) → Opens names recs name
 opens-none names recs named = record { same = record { same-length = refl; same-words = λ i h. refl }; macros = λ m h. absurd (omega arith) }
 
 -- one word more
-module _ {names recs names′ found : List ℕ} {named n : ℕ} (o : Opens names recs names′ named n) (f : Found names named found) (low : n < named) (few : named ≤ most-names) where
+module _ {names recs names′ found : List ℕ} {named n : ℕ} (o : Opens names recs names′ named n) (f : Found names named found) (low : n < named)
+    (few : named ≤ most-names) where
   -- the words that it depends on are those at entry
   word-same : word-from names′ recs found n ≡ macro-word names recs named n
   unfolding word-from macro-word
   word-same =
       rw (o .same .same-words (taken-column + n) (λ a b. omega arith), o .same .same-words (6144 + n) (λ a b. omega arith), found-start f (name-code names n))
 
-  pub opens-more : {w : ℕ} → 16384 ≤ length names → w ≡ word-from names′ recs found n → Opens names recs (set names′ (macro-column + n) w) named (n + 1)
+  pub opens-more : {w : ℕ} → working-words ≤ length names → w ≡ word-from names′ recs found n → Opens names recs (set names′ (macro-column + n) w) named (n + 1)
   opens-more {w} room is =
-      let other : (i : ℕ) → (i ≡ macro-column + n → ⊥) → getD (set names′ (macro-column + n) w) i 0 ≡ getD names′ i 0 = λ i d. getD-set-other names′ (macro-column + n) i w 0 d in
+      let other : (i : ℕ) → (i ≡ macro-column + n → ⊥) → getD (set names′ (macro-column + n) w) i 0
+      ≡ getD names′ i 0 = λ i d. getD-set-other names′ (macro-column + n) i w 0 d in
       record {
         same = record {
           same-length = simp length-set (o .same .same-length);

@@ -1,10 +1,9 @@
 -- A record without entries: fun, def, retain and root.
-use Prim.Native.Nat.{ℕ, zero, suc, _+_, _-_, _*_, _≤_, _<_}
+use Prim.Native.Nat.{ℕ, _+_, _-_, _*_, _≤_, _<_}
 use native.Mathlib.Omega.{arith}
-use mathlib.Core.Path.{_≡_, refl, sym, ap, _∙_}
-use mathlib.Core.List.{List, [], _∷_, _++_, map}
-use lib.ListN.{length, getD, set, length-set}
-use lib.Seq.{getD-set-same, getD-set-other}
+use mathlib.Core.Path.{_≡_, refl, ap}
+use mathlib.Core.List.{List, [], _∷_, _++_}
+use lib.ListN.{getD}
 use Rattle.model.specs.Lists.{sum, fold-left, part}
 use Rattle.model.specs.Names.{Name, mem}
 use Rattle.model.specs.Summaries.{entries}
@@ -17,8 +16,8 @@ use Rattle.names.proofs.Laws.{names-intro}
 use Rattle.names.proofs.Coded.{Kept, table-kept}
 use Rattle.words.specs.Slices.{Same-but}
 use Rattle.gather.specs.Sets.{Fresh}
-use Rattle.triggers.specs.Entries.{disjuncts-of, disjuncts-of-words}
-use Rattle.records.specs.Columns.{record-kind, record-name, assume-kind, retain-kind, root-kind, entry-column, fact-column, next-column, first-column, taken-column, taken-at}
+use Rattle.triggers.specs.Entries.{disjuncts-of, disjuncts-of-words, entries-base}
+use Rattle.records.specs.Columns.{record-kind, record-name, assume-kind, retain-kind, root-kind, fact-column, next-column, first-column, taken-at}
 use Rattle.records.specs.Filing.{Taken}
 use Rattle.records.specs.Writing.{with-record, Rowed}
 use Rattle.records.specs.Adding.{Standing}
@@ -57,7 +56,8 @@ module _ {file names refs rows recs out recs′ : List ℕ} {k k′ : Counts} {k
   small i l h = omega (arith, st .recorded .named-in i l (λ z. omega arith), st .tables .name-table .few)
 
   -- a record that takes no name
-  pub not-taken : {names′ : List ℕ} → ((n : ℕ) → n < most-names → taken-at names′ n ≡ taken-at names n) → retain-kind ≤ kind → Taken names′ recs′ (k .records + 1)
+  pub not-taken : {names′ : List ℕ} → ((n : ℕ) → n < most-names → taken-at names′ n ≡ taken-at names n) → retain-kind ≤ kind
+      → Taken names′ recs′ (k .records + 1)
   not-taken same h = taken-none before (st .stocked .taken) small same (λ l. omega (arith, row .kind-is))
 
   -- a record that takes its name, which was free
@@ -67,7 +67,8 @@ module _ {file names refs rows recs out recs′ : List ℕ} {k k′ : Counts} {k
 
 -- ---- the tables with the record
 
-module _ {file names refs rows recs out names′ : List ℕ} {k : Counts} (st : Standing file names refs rows recs out k) (name-words : Same-but 8192 4096 names names′) where
+module _ {file names refs rows recs out names′ : List ℕ} {k : Counts} (st : Standing file names refs rows recs out k)
+    (name-words : Same-but 8192 4096 names names′) where
   -- the names are those before
   pub kept : Kept file names names′ (k .named)
   kept = table-kept (st .tables .name-table) (name-words .same-length) (λ i l. name-words .same-words i (λ a b. omega arith))
@@ -99,15 +100,15 @@ module _ {file names refs rows recs out names′ : List ℕ} {k : Counts} (st : 
         new-uses = new;
         few-entries = st .recorded .few-entries;
         more-entries = omega arith;
-        old-entries = λ e l. out-same (entry-column + e) (omega arith);
+        old-entries = λ e l. out-same (entries-base + e) (omega arith);
         old-facts = λ e l. out-same (fact-column + e) (omega arith);
         new-entries = λ e a b. absurd (omega arith);
         new-facts = λ e a b. absurd (omega arith);
         flagged = λ e a b. absurd (omega arith);
         ended = λ l. absurd (omega arith);
-        sized = omega (arith, no-entries (name-of file names′) out′ (entry-column + k .entries));
+        sized = omega (arith, no-entries (name-of file names′) out′ (entries-base + k .entries));
         only-facts = λ d. refl;
         taken = taken;
         chained = chained-kept (st .stocked .chained) (λ n l. name-words .same-words (first-column + n) (λ a b. omega arith))
-            (λ e l. rw (out-same (entry-column + e) (omega arith))) (λ e l. out-same (next-column + e) (omega arith));
+            (λ e l. rw (out-same (entries-base + e) (omega arith))) (λ e l. out-same (next-column + e) (omega arith));
       }

@@ -11,8 +11,8 @@ use borrow.Author.Tests.{ltb-true}
 use Rattle.model.specs.Names.{Name, from-list}
 use Rattle.model.specs.Reading.{most-records}
 use Rattle.model.proofs.PartLaws.{part-agree, part-elim}
-use Rattle.triggers.specs.Entries.{disjuncts-of, disjuncts-of-words, before-first, entry-number}
-use Rattle.records.specs.Columns.{record-word, record-kind, record-name, uses-start, uses-end, entries-start, entries-end, retain-kind, entry-column, last-entry, no-name, entry-word}
+use Rattle.triggers.specs.Entries.{disjuncts-of, disjuncts-of-words, before-first, entry-number, entries-base, last-flag, no-name}
+use Rattle.records.specs.Columns.{record-word, record-kind, record-name, uses-start, uses-end, entries-start, entries-end, retain-kind, entry-word}
 use Rattle.records.specs.States.{uses-at, entries-at, free-at, fact-at, decl-at, summary-at, root-at, decls-of, roots-of}
 use Rattle.records.specs.Filing.{Records}
 
@@ -22,12 +22,12 @@ names-stay f g [] h = refl
 names-stay f g (n ∷ ns) h = ap₂ _∷_ (h n (List·Memᴰ·head refl)) (names-stay f g ns (λ m k. h m (List·Memᴰ·tail k)))
 
 -- the name of an entry
-entry-stays : (f g : ℕ → Name) (w : ℕ) → (w % last-entry < no-name → f (w % last-entry) ≡ g (w % last-entry)) → map f (entry-number w) ≡ map g (entry-number w)
+entry-stays : (f g : ℕ → Name) (w : ℕ) → (w % last-flag < no-name → f (w % last-flag) ≡ g (w % last-flag)) → map f (entry-number w) ≡ map g (entry-number w)
 unfolding entry-number
-entry-stays f g w h = go (ltb (w % last-entry) no-name) refl
+entry-stays f g w h = go (ltb (w % last-flag) no-name) refl
   where
-    go : (b : Bool) → ltb (w % last-entry) no-name ≡ b → map f (cond b (w % last-entry ∷ []) []) ≡ map g (cond b (w % last-entry ∷ []) [])
-    go true e = ap (_∷ []) (h (ltb-true (w % last-entry) no-name e))
+    go : (b : Bool) → ltb (w % last-flag) no-name ≡ b → map f (cond b (w % last-flag ∷ []) []) ≡ map g (cond b (w % last-flag ∷ []) [])
+    go true e = ap (_∷ []) (h (ltb-true (w % last-flag) no-name e))
     go false e = refl
 
 -- numbers at the front of the first disjunct
@@ -46,12 +46,12 @@ with-entry w ds more = cond more (before-first (entry-number w) ds) (entry-numbe
 
 module _ (f g : ℕ → Name) where
   -- the names of disjuncts, as numbers
-  numbers-stay : (ws : List ℕ) → ((w : ℕ) → List·Memᴰ w ws → w % last-entry < no-name → f (w % last-entry) ≡ g (w % last-entry))
+  numbers-stay : (ws : List ℕ) → ((w : ℕ) → List·Memᴰ w ws → w % last-flag < no-name → f (w % last-flag) ≡ g (w % last-flag))
       → map (map f) (disjuncts-of-words ws) ≡ map (map g) (disjuncts-of-words ws)
   unfolding disjuncts-of-words
   numbers-stay [] h = refl
   numbers-stay (w ∷ ws) h =
-      go (entry-stays f g w (h w (List·Memᴰ·head refl))) (numbers-stay ws (λ v k. h v (List·Memᴰ·tail k))) (ltb w last-entry)
+      go (entry-stays f g w (h w (List·Memᴰ·head refl))) (numbers-stay ws (λ v k. h v (List·Memᴰ·tail k))) (ltb w last-flag)
     where
       go : map f (entry-number w) ≡ map g (entry-number w) → map (map f) (disjuncts-of-words ws) ≡ map (map g) (disjuncts-of-words ws) → (b : Bool)
           → map (map f) (with-entry w (disjuncts-of-words ws) b) ≡ map (map g) (with-entry w (disjuncts-of-words ws) b)
@@ -59,7 +59,7 @@ module _ (f g : ℕ → Name) where
       go e more false = ap₂ _∷_ e more
 
   -- the disjuncts of entries stay where the names of these do
-  pub disjuncts-stay : (ws : List ℕ) → ((w : ℕ) → List·Memᴰ w ws → w % last-entry < no-name → f (w % last-entry) ≡ g (w % last-entry))
+  pub disjuncts-stay : (ws : List ℕ) → ((w : ℕ) → List·Memᴰ w ws → w % last-flag < no-name → f (w % last-flag) ≡ g (w % last-flag))
       → disjuncts-of f ws ≡ disjuncts-of g ws
   unfolding disjuncts-of
   disjuncts-stay ws h = split f (disjuncts-of-words ws) ∙ ap (map from-list) (numbers-stay ws h) ∙ sym (split g (disjuncts-of-words ws))
@@ -76,7 +76,8 @@ pub record Agree (name name′ : ℕ → Name) (recs out recs′ out′ : List �
   pub use-words : (j : ℕ) → j < uses → getD out′ j 0 ≡ getD out j 0
   pub entry-words : (e : ℕ) → e < filed → entry-word out′ e ≡ entry-word out e
 
-module _ {name name′ : ℕ → Name} {recs out recs′ out′ : List ℕ} {named records filed uses : ℕ} (a : Agree name name′ recs out recs′ out′ named records filed uses)
+module _ {name name′ : ℕ → Name} {recs out recs′ out′ : List ℕ} {named records filed uses : ℕ}
+    (a : Agree name name′ recs out recs′ out′ named records filed uses)
     (r : Records recs out named records filed uses) where
   -- the name of a record
   name-stays : (i : ℕ) → i < records → (record-kind recs i ≡ retain-kind → ⊥) → name′ (record-name recs′ i) ≡ name (record-name recs i)
@@ -99,24 +100,24 @@ module _ {name name′ : ℕ → Name} {recs out recs′ out′ : List ℕ} {nam
   -- the disjuncts of a record
   pub sets-stay : (i : ℕ) → i < records → disjuncts-of name′ (entries-at recs′ out′ i) ≡ disjuncts-of name (entries-at recs out i)
   sets-stay i h =
-      let s = entry-column + entries-start recs i in
-      let e = entry-column + entries-end recs i in
+      let s = entries-base + entries-start recs i in
+      let e = entries-base + entries-end recs i in
       let l : entries-end recs i ≤ filed = r .entries-in i h in
       let room : e ≤ length out = omega (arith, r .out-room, r .few-entries) in
       let room′ : e ≤ length out′ = omega (arith, a .out-length) in
       let word : (j : ℕ) → s ≤ j → j < e → getD out′ j 0 ≡ getD out j 0 =
-      λ j x y. let z : entry-column + (j - entry-column) ≡ j = omega arith in rw z at (a .entry-words (j - entry-column) (omega arith)) in
-      let same : (w : ℕ) → List·Memᴰ w (entries-at recs out i) → w % last-entry < no-name → name′ (w % last-entry) ≡ name (w % last-entry) =
+      λ j x y. let z : entries-base + (j - entries-base) ≡ j = omega arith in rw z at (a .entry-words (j - entries-base) (omega arith)) in
+      let same : (w : ℕ) → List·Memᴰ w (entries-at recs out i) → w % last-flag < no-name → name′ (w % last-flag) ≡ name (w % last-flag) =
       λ w m k.
       let p = part-elim room m in
       let x = p .low in
       let y = p .high in
-      let z : entry-column + (p .place - entry-column) ≡ p .place = omega arith in
+      let z : entries-base + (p .place - entries-base) ≡ p .place = omega arith in
       let is = ap (λ v. getD out v 0) z ∙ p .is in
       ⊎-elim
-      (λ (q : entry-word out (p .place - entry-column) % last-entry < named). a .same (w % last-entry) (rw is at q))
-      (λ (q : entry-word out (p .place - entry-column) % last-entry ≡ no-name). absurd (omega (arith, ap (λ v. v % last-entry) is)))
-      (r .entry-words (p .place - entry-column) (omega arith)) in
+      (λ (q : entry-word out (p .place - entries-base) % last-flag < named). a .same (w % last-flag) (rw is at q))
+      (λ (q : entry-word out (p .place - entries-base) % last-flag ≡ no-name). absurd (omega (arith, ap (λ v. v % last-flag) is)))
+      (r .entry-words (p .place - entries-base) (omega arith)) in
       rw (a .rows 7 i h, a .rows 8 i h, part-agree out out′ (e - s) s e refl room room′ word)
       (disjuncts-stay name′ name (entries-at recs out i) same)
 

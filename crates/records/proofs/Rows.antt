@@ -9,6 +9,7 @@ use lib.ListN.{length, getD, set, drop, length-set, drop-of-length-le}
 use lib.Seq.{getD-set-same, getD-set-other, drop-cons}
 use Rattle.model.specs.Reading.{most-records}
 use Rattle.model.specs.declared.Counts.{Counts}
+use Rattle.model.specs.Outcome.{working-words}
 use Rattle.records.specs.Columns.{record-word}
 use Rattle.records.specs.Writing.{put-row, row-columns, Small, Rowed}
 
@@ -77,7 +78,7 @@ abbrev pub row-of : Counts → Counts → ℕ → ℕ → ℕ → ℕ → ℕ �
 row-of k k′ kind line name term flag code = kind ∷ line ∷ name ∷ term ∷ flag ∷ k .uses ∷ k′ .uses ∷ k .entries ∷ k′ .entries ∷ code ∷ []
 
 -- a row of these words
-pub rowed : {recs recs′ : List ℕ} (k k′ : Counts) (kind line name term flag code : ℕ) → k .records < most-records → 16384 ≤ length recs
+pub rowed : {recs recs′ : List ℕ} (k k′ : Counts) (kind line name term flag code : ℕ) → k .records < most-records → working-words ≤ length recs
     → recs′ ≡ put-row recs (k .records) 0 (row-of k k′ kind line name term flag code) → Rowed recs recs′ k k′ kind line name term flag code
 rowed {recs} {recs′} k k′ kind line name term flag code few room is =
     let row = row-of k k′ kind line name term flag code in
@@ -100,9 +101,11 @@ rowed {recs} {recs′} k k′ kind line name term flag code few room is =
     }
 
 -- a row for the same counts and code
-pub small-as : {k k′ next : Counts} {kind line name term flag code word : ℕ} → next ≡ k′ → word ≡ code → Small k k′ kind line name term flag code → Small k next kind line name term flag word
+pub small-as : {k k′ next : Counts} {kind line name term flag code word : ℕ} → next ≡ k′ → word ≡ code → Small k k′ kind line name term flag code
+    → Small k next kind line name term flag word
 small-as e f s = rw (e, f) s
 
-pub rowed-as : {recs recs′ : List ℕ} {k k′ : Counts} {kind line name term flag code word : ℕ} → word ≡ code → Rowed recs recs′ k k′ kind line name term flag word
+pub rowed-as : {recs recs′ : List ℕ} {k k′ : Counts} {kind line name term flag code word : ℕ} → word ≡ code
+    → Rowed recs recs′ k k′ kind line name term flag word
     → Rowed recs recs′ k k′ kind line name term flag code
 rowed-as f s = rw f at s

@@ -1,13 +1,14 @@
 -- Tables that stand: before the first line, with the ask, with more names and terms, and with the macro column filled.
-use Prim.Native.Nat.{ℕ, zero, suc, _+_, _*_, _≤_, _<_}
+use Prim.Native.Nat.{ℕ, _+_, _≤_, _<_}
 use native.Mathlib.Omega.{arith}
-use mathlib.Core.Path.{_≡_, refl, sym, ap, _∙_}
-use mathlib.Core.List.{List, []}
+use mathlib.Core.Path.{_≡_, refl, sym, _∙_}
+use mathlib.Core.List.{List}
 use lib.ListN.{length, getD}
 use Rattle.model.specs.Lists.{fold-left}
 use Rattle.model.specs.Reading.{start, most-names, most-terms, most-records}
 use Rattle.model.specs.declared.Counts.{Counts}
-use Rattle.names.specs.Table.{Table, name-of, names-of}
+use Rattle.model.specs.Outcome.{working-words}
+use Rattle.names.specs.Table.{name-of, names-of, name-code}
 use Rattle.names.proofs.Laws.{empty-table}
 use Rattle.names.proofs.Coded.{table-kept}
 use Rattle.terms.specs.Rows.{terms-of, nodes-below}
@@ -15,9 +16,9 @@ use Rattle.terms.proofs.Table.{empty-rows}
 use Rattle.words.specs.Slices.{Same-but}
 use Rattle.gather.specs.Sets.{name-mark, row-mark}
 use Rattle.rules.specs.Views.{Tables, terms-in}
-use Rattle.records.specs.Columns.{record-kind, record-name, retain-kind, taken-column, macro-column, first-column, taken-at, first-entry, name-code}
+use Rattle.records.specs.Columns.{record-kind, record-name, retain-kind, taken-column, macro-column, first-column, taken-at, first-entry}
 use Rattle.records.specs.States.{decls-of, roots-of, state-of}
-use Rattle.records.specs.Filing.{newest, entries-before, Records, Stocked}
+use Rattle.records.specs.Filing.{newest, entries-before, Stocked}
 use Rattle.records.specs.Macros.{macro-count, start-word, macro-word, Opens, Filled}
 use Rattle.records.specs.Writing.{no-counts, with-ask, with-terms}
 use Rattle.records.specs.Adding.{Standing}
@@ -27,8 +28,10 @@ use Rattle.records.proofs.Keeping.{records-named, filing-kept, taken-ke
 
 -- ---- before the first line
 
-module _ (file names refs rows recs out : List ℕ) (short : length file ≤ 65535) (name-room : 16384 ≤ length names) (ref-room : 16384 ≤ length refs) (row-room : 16384 ≤ length rows)
-    (record-room : 16384 ≤ length recs) (out-room : 16384 ≤ length out) (names-zero : (i : ℕ) → i < 16384 → getD names i 0 ≡ 0) (rows-zero : (i : ℕ) → i < 16384 → getD rows i 0 ≡ 0) where
+module _ (file names refs rows recs out : List ℕ) (short : length file ≤ 65535) (name-room : working-words ≤ length names)
+    (ref-room : working-words ≤ length refs) (row-room : working-words ≤ length rows)
+    (record-room : working-words ≤ length recs) (out-room : working-words ≤ length out) (names-zero : (i : ℕ) → i < working-words → getD names i 0 ≡ 0)
+    (rows-zero : (i : ℕ) → i < working-words → getD rows i 0 ≡ 0) where
   stocked-start : Stocked file names recs out 0 0
   unfolding entries-before newest
   stocked-start = record {
@@ -94,7 +97,8 @@ pub record Beside (file names names′ : List ℕ) (named : ℕ) : Type 0 where
   pub taken : (n : ℕ) → n < most-names → taken-at names′ n ≡ taken-at names n
   pub first : (n : ℕ) → n < most-names → first-entry names′ n ≡ first-entry names n
 
-module _ {file names refs rows recs out names′ : List ℕ} {k : Counts} (st : Standing file names refs rows recs out k) (b : Beside file names names′ (k .named)) where
+module _ {file names refs rows recs out names′ : List ℕ} {k : Counts} (st : Standing file names refs rows recs out k)
+    (b : Beside file names names′ (k .named)) where
   -- the records stay
   agree : Agree (name-of file names) (name-of file names′) recs out recs out (k .named) (k .records) (k .entries) (k .uses)
   agree = record { same = b .same; rows = λ c i h. refl; out-length = refl; use-words = λ j h. refl; entry-words = λ e h. refl }
@@ -148,7 +152,8 @@ macro-same {names} {names′} recs named n few low s =
 
 module _ {file names refs rows recs out : List ℕ} {k : Counts} (st : Standing file names refs rows recs out k) where
   -- what filling it asks
-  pub standing-opens : (k .named ≤ most-names) × (16384 ≤ length names) × (16384 ≤ length recs) × ((n : ℕ) → n < k .named → taken-at names n ≤ most-records)
+  pub standing-opens : (k .named ≤ most-names) × (working-words ≤ length names) × (working-words ≤ length recs)
+      × ((n : ℕ) → n < k .named → taken-at names n ≤ most-records)
   standing-opens =
       let few = st .tables .name-table .few in
       (few, st .tables .name-table .room, st .recorded .room, λ n l. omega (arith, st .stocked .taken .low n (omega arith), st .recorded .few))

@@ -1,38 +1,40 @@
 -- A `def` and a `root` added: records with the free names of a term.
-use Prim.Native.Nat.{ℕ, zero, suc, _+_, _-_, _*_, _≤_, _<_}
+use Prim.Native.Nat.{ℕ, _+_, _-_, _≤_, _<_}
 use native.Mathlib.Omega.{arith}
 use mathlib.Core.Path.{_≡_, refl, sym, ap, _∙_}
-use mathlib.Core.Bool.{true, false}
-use mathlib.Core.List.{List, [], _∷_, _++_, map, List·Memᴰ}
-use lib.ListN.{length, getD, set, length-set}
+use mathlib.Core.Bool.{false}
+use mathlib.Core.List.{List, map, List·Memᴰ}
+use lib.ListN.{length, getD, set}
 use lib.Seq.{getD-set-same, getD-set-other}
 use Rattle.model.specs.Lists.{sum, collect, fold-left, part}
 use Rattle.model.specs.Names.{Name, from-list}
-use Rattle.model.specs.Reading.{Content, def, root, spell, asked, nodes, spelled, trimmed, summarize-decl, root-of, taken-by, entries-of, uses-of, add-line, repeats, most-names, most-records, most-uses}
+use Rattle.model.specs.Reading.{def, root, asked, nodes, spelled, trimmed, summarize-decl, root-of, taken-by, entries-of, uses-of, add-line, repeats, most-names, most-records, most-uses}
 use Rattle.model.specs.Summaries.{free-top-level-names}
 use Rattle.model.specs.declared.Counts.{Counts}
 use Rattle.model.specs.declared.Refusal.the-variants as refusal
 use Rattle.model.proofs.PartLaws.{part-elim}
-use Rattle.names.specs.Table.{Table, name-of, names-of}
+use Rattle.names.specs.Table.{Table, name-of}
 use Rattle.names.proofs.Laws.{distinct}
 use Rattle.names.proofs.Excluded.{excluded-exact}
 use Rattle.terms.specs.Rows.{terms-of}
 use Rattle.words.specs.Slices.{Same-but}
+use Rattle.words.proofs.Slices.{same-wider}
 use Rattle.gather.specs.Sets.{Fresh, Named, Gathers, all-names, no-room, Gathered, ended}
 use Rattle.gather.specs.declared.Walked.{Walked}
 use Rattle.gather.specs.declared.Walked.the-variants as walks
 use Rattle.rules.specs.Views.{terms-in}
 use Rattle.gather.proofs.Fresh.{fresh-next}
 use Rattle.model.specs.declared.Step.the-variants as step
+use Rattle.model.specs.Outcome.{working-words}
 use Rattle.records.specs.Columns.{def-kind, root-kind, taken-column, taken-at}
 use Rattle.records.specs.States.{free-at, summary-at, root-at, decl-at, state-of}
 use Rattle.records.specs.Writing.{with-record, Rowed}
 use Rattle.records.specs.Adding.{excluded, Standing, Adds, Untouched}
 use Rattle.records.proofs.Recording.{names-stay}
 use Rattle.records.proofs.Judging.{many-uses, repeats-none, repeats-taken, repeats-free}
-use Rattle.records.proofs.Appending.{Says, record-added, record-repeated, record-crowded, record-beyond}
+use Rattle.records.proofs.Appending.{record-added, record-repeated, record-crowded, record-beyond}
 use Rattle.records.proofs.Plain.{spelled-again, kept, not-taken, is-taken, plain}
-use Rattle.records.proofs.Funs.{same-wider, row-past, taken-put, fresh-taken}
+use Rattle.records.proofs.Funs.{taken-put, fresh-taken}
 
 -- the numbers of a set of names among the uses from those counted on up to n, and the slices then
 pub record Uses (file names rows out names′ rows′ out′ : List ℕ) (k : Counts) (set : List Name) (n : ℕ) : Type 0 where
@@ -50,14 +52,17 @@ named-here : {file names : List ℕ} {named : ℕ} → Table file names named �
 named-here table = record { distinct = distinct table; excluded = excluded-exact table }
 
 module _ {file names refs rows recs out names′ rows′ out′ : List ℕ} {k : Counts} (st : Standing file names refs rows recs out k) (t : ℕ) {r : Walked}
-    (gathers : (exclude : List Name) (name : ℕ → Name) → Named exclude name names (k .named) → Gathers name (k .named) (free-top-level-names exclude (terms-of name refs rows (k .used) (k .many)) t) (k .uses) most-uses out′ r)
+    (gathers : (exclude : List Name) (name : ℕ → Name) → Named exclude name names (k .named) → Gathers name (k .named)
+    (free-top-level-names exclude (terms-of name refs rows (k .used) (k .many)) t) (k .uses) most-uses out′ r)
     (slices : Gathered names rows out names′ rows′ out′ (k .mark) (k .uses) most-uses r) where
   -- all the names have room
-  pub gathered-uses : {n : ℕ} → r ≡ walks.Names n → Uses file names rows out names′ rows′ out′ k (free-top-level-names excluded (terms-in file names refs rows (k .used) (k .many)) t) n
+  pub gathered-uses : {n : ℕ} → r ≡ walks.Names n → Uses file names rows out names′ rows′ out′ k
+      (free-top-level-names excluded (terms-in file names refs rows (k .used) (k .many)) t) n
   unfolding terms-in ended
   gathered-uses {n} e = go (rw e at (gathers excluded (name-of file names) (named-here (st .tables .name-table)))) (rw e at slices)
     where
-      go : Gathers (name-of file names) (k .named) (free-top-level-names excluded (terms-of (name-of file names) refs rows (k .used) (k .many)) t) (k .uses) most-uses out′ (walks.Names n)
+      go : Gathers (name-of file names) (k .named) (free-top-level-names excluded (terms-of (name-of file names) refs rows (k .used) (k .many)) t)
+          (k .uses) most-uses out′ (walks.Names n)
           → Gathered names rows out names′ rows′ out′ (k .mark) (k .uses) most-uses (walks.Names n)
           → Uses file names rows out names′ rows′ out′ k (free-top-level-names excluded (terms-of (name-of file names) refs rows (k .used) (k .many)) t) n
       go (all-names is count fits small) s = record {
@@ -76,17 +81,18 @@ module _ {file names refs rows recs out names′ rows′ out′ : List ℕ} {k :
   unfolding terms-in
   gathered-over e = go (rw e at (gathers excluded (name-of file names) (named-here (st .tables .name-table))))
     where
-      go : Gathers (name-of file names) (k .named) (free-top-level-names excluded (terms-of (name-of file names) refs rows (k .used) (k .many)) t) (k .uses) most-uses out′ walks.Full
+      go : Gathers (name-of file names) (k .named) (free-top-level-names excluded (terms-of (name-of file names) refs rows (k .used) (k .many)) t)
+          (k .uses) most-uses out′ walks.Full
           → most-uses < k .uses + length (free-top-level-names excluded (terms-of (name-of file names) refs rows (k .used) (k .many)) t)
       go (no-room h small) = omega arith
 
   -- the words past the tables stay, also with a row written
-  pub gathered-past : {recs′ : List ℕ} → Same-but 0 16384 recs recs′ → Untouched names rows recs out names′ rows′ recs′ out′
+  pub gathered-past : {recs′ : List ℕ} → Same-but 0 working-words recs recs′ → Untouched names rows recs out names′ rows′ recs′ out′
   gathered-past same = record {
-    name-words = same-wider (omega arith) (omega arith) (slices .names-same);
-    row-words = same-wider (omega arith) (omega arith) (slices .rows-same);
+    name-words = same-wider 0 working-words (omega arith) (omega arith) (slices .names-same);
+    row-words = same-wider 0 working-words (omega arith) (omega arith) (slices .rows-same);
     record-words = same;
-    list-words = same-wider (omega arith) (omega (arith, slices .grows, slices .fits)) (slices .out-same);
+    list-words = same-wider 0 working-words (omega arith) (omega (arith, slices .grows, slices .fits)) (slices .out-same);
   }
 
 -- and with a name taken
@@ -118,7 +124,8 @@ module _ {file names refs rows recs out names′ rows′ recs′ out′ names″
 
 -- ---- def
 
-module _ {file names refs rows recs out : List ℕ} {k : Counts} (st : Standing file names refs rows recs out k) (line : ℕ) {i : ℕ} (known : i < k .named) {w : ℕ} (is : w ≡ taken-at names i) (t : ℕ) where
+module _ {file names refs rows recs out : List ℕ} {k : Counts} (st : Standing file names refs rows recs out k) (line : ℕ) {i : ℕ}
+    (known : i < k .named) {w : ℕ} (is : w ≡ taken-at names i) (t : ℕ) where
   def-new : w ≤ 0 → repeats excluded line (state-of file names refs rows recs out k) (def (name-of file names i) t) ≡ false
   unfolding summarize-decl collect taken-by
   def-new h = repeats-free st line (def (name-of file names i) t) known refl (omega arith)
@@ -131,7 +138,8 @@ module _ {file names refs rows recs out : List ℕ} {k : Counts} (st : Standing 
 
   module _ {names′ rows′ recs′ out′ : List ℕ} (free : w ≤ 0) where
     -- as many records as may be
-    pub def-crowded : most-records ≤ k .records → Adds file names refs rows recs out names′ rows′ recs′ out′ k line (def (name-of file names i) t) (step.Refused refusal.Limit)
+    pub def-crowded : most-records ≤ k .records → Adds file names refs rows recs out names′ rows′ recs′ out′ k line (def (name-of file names i) t)
+        (step.Refused refusal.Limit)
     unfolding summarize-decl root-of
     def-crowded h = record-crowded st line (def (name-of file names i) t) (def-new free) h refl
 
@@ -145,7 +153,8 @@ module _ {file names refs rows recs out : List ℕ} {k : Counts} (st : Standing 
     pub def-added : {next : Counts} {n : ℕ} → k .records < most-records → next ≡ with-record k (k .named) (k .entries) n (k .mark + 1)
         → Rowed recs recs′ k next def-kind line i t 0 0
         → Uses file names rows out names′ rows′ out′ k (free-top-level-names excluded (terms-in file names refs rows (k .used) (k .many)) t) n
-        → Adds file names refs rows recs out (set names′ (taken-column + i) (k .records + 1)) rows′ recs′ out′ k line (def (name-of file names i) t) (step.On next)
+        → Adds file names refs rows recs out (set names′ (taken-column + i) (k .records + 1)) rows′ recs′ out′ k line (def (name-of file names i) t)
+        (step.On next)
     unfolding asked nodes spelled trimmed summarize-decl root-of entries-of uses-of sum fold-left summary-at root-at decl-at
     def-added {next} {n} few e row u =
         let low : i < most-names = omega (arith, st .tables .name-table .few) in
@@ -158,7 +167,8 @@ module _ {file names refs rows recs out : List ℕ} {k : Counts} (st : Standing 
         let row′ : Rowed recs recs′ k (with-record k (k .named) (k .entries) n (k .mark + 1)) def-kind line i t 0 0 = rw e at row in
         let taken = is-taken st few row′ low (omega arith)
         (getD-set-same names′ (taken-column + i) (k .records + 1) 0 (omega (arith, st .tables .name-table .room, marks .same-length)))
-        (λ m l d. getD-set-other names′ (taken-column + i) (taken-column + m) (k .records + 1) 0 (λ q. d (omega arith)) ∙ marks .same-words (taken-column + m) (λ a b. omega arith))
+        (λ m l d. getD-set-other names′ (taken-column + i) (taken-column + m) (k .records + 1) 0 (λ q. d (omega arith))
+        ∙ marks .same-words (taken-column + m) (λ a b. omega arith))
         (omega arith) in
         let more = plain st words (u .row-words) (fresh-taken put (u .fresh)) (omega arith) row′ (λ q. omega arith) (omega arith) (λ q. known) (u .out-words)
         (omega (arith, u .size)) (u .fits) (u .words) taken in
@@ -174,30 +184,34 @@ module _ {file names refs rows recs out : List ℕ} {k : Counts} (st : Standing 
 
 -- ---- root
 
-module _ {file names refs rows recs out : List ℕ} {k : Counts} (st : Standing file names refs rows recs out k) (line query : ℕ) {i : ℕ} (known : i < k .named) (t : ℕ) where
+module _ {file names refs rows recs out : List ℕ} {k : Counts} (st : Standing file names refs rows recs out k) (line query : ℕ) {i : ℕ} (known : i < k .named)
+    (t : ℕ) where
   root-new : repeats excluded line (state-of file names refs rows recs out k) (root query (name-of file names i) t) ≡ false
   unfolding state-of summarize-decl collect taken-by
   root-new = repeats-none line (state-of file names refs rows recs out k) (root query (name-of file names i) t) refl
 
   -- as many records as may be
-  pub root-crowded : {names′ rows′ recs′ out′ : List ℕ} → most-records ≤ k .records → Adds file names refs rows recs out names′ rows′ recs′ out′ k line (root query (name-of file names i) t) (step.Refused refusal.Limit)
+  pub root-crowded : {names′ rows′ recs′ out′ : List ℕ} → most-records ≤ k .records
+      → Adds file names refs rows recs out names′ rows′ recs′ out′ k line (root query (name-of file names i) t) (step.Refused refusal.Limit)
   unfolding summarize-decl root-of
   root-crowded h = record-crowded st line (root query (name-of file names i) t) root-new h refl
 
   -- more uses than may be
-  pub root-over : {names′ rows′ recs′ out′ : List ℕ} → most-uses < k .uses + length (free-top-level-names excluded (terms-in file names refs rows (k .used) (k .many)) t)
+  pub root-over : {names′ rows′ recs′ out′ : List ℕ} → most-uses < k .uses
+      + length (free-top-level-names excluded (terms-in file names refs rows (k .used) (k .many)) t)
       → Adds file names refs rows recs out names′ rows′ recs′ out′ k line (root query (name-of file names i) t) (step.Refused refusal.Limit)
   unfolding add-line state-of summarize-decl root-of uses-of sum
   root-over h = record-beyond st line (root query (name-of file names i) t) root-new (many-uses (omega arith))
 
   -- the record is there
-  pub root-added : {names′ rows′ recs′ out′ : List ℕ} {next : Counts} {n : ℕ} → k .records < most-records → next ≡ with-record k (k .named) (k .entries) n (k .mark + 1)
+  pub root-added : {names′ rows′ recs′ out′ : List ℕ} {next : Counts} {n : ℕ} → k .records < most-records
+      → next ≡ with-record k (k .named) (k .entries) n (k .mark + 1)
       → Rowed recs recs′ k next root-kind line i t query 0
       → Uses file names rows out names′ rows′ out′ k (free-top-level-names excluded (terms-in file names refs rows (k .used) (k .many)) t) n
       → Adds file names refs rows recs out names′ rows′ recs′ out′ k line (root query (name-of file names i) t) (step.On next)
   unfolding asked nodes spelled trimmed summarize-decl root-of entries-of uses-of sum fold-left summary-at root-at
   root-added {names′} {recs′ = recs′} {next = next} {n} few e row u =
-      let words : Same-but 8192 4096 names names′ = same-wider (omega arith) (omega arith) (u .name-words) in
+      let words : Same-but 8192 4096 names names′ = same-wider 8192 4096 (omega arith) (omega arith) (u .name-words) in
       let row′ : Rowed recs recs′ k (with-record k (k .named) (k .entries) n (k .mark + 1)) root-kind line i t query 0 = rw e at row in
       let taken = not-taken st few row′ (λ m l. u .name-words .same-words (taken-column + m) (λ a b. omega arith)) (omega arith) in
       let more = plain st words (u .row-words) (u .fresh) (omega arith) row′ (λ q. omega arith) (omega arith) (λ q. known) (u .out-words)

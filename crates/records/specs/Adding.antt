@@ -6,6 +6,7 @@ use mathlib.Core.List.{List}
 use Rattle.model.specs.Names.{Name}
 use Rattle.model.specs.Reading.{Result, ok, refused, Content, State, add-line, repeats, limits, under-limits, most-names}
 use Rattle.model.specs.Summaries.{exclude-names}
+use Rattle.model.specs.Outcome.{working-words}
 use Rattle.model.specs.declared.Counts.{Counts}
 use Rattle.model.specs.declared.Refusal.{Refusal}
 use Rattle.model.specs.declared.Refusal.the-variants as refusal
@@ -47,7 +48,7 @@ pub data Adds (file names refs rows recs out names′ rows′ recs′ out′ : L
 
 -- the words past those that a call uses stay
 pub record Untouched (names rows recs out names′ rows′ recs′ out′ : List ℕ) : Type 0 where
-  pub name-words : Same-but 0 16384 names names′
-  pub row-words : Same-but 0 16384 rows rows′
-  pub record-words : Same-but 0 16384 recs recs′
-  pub list-words : Same-but 0 16384 out out′
+  pub name-words : Same-but 0 working-words names names′
+  pub row-words : Same-but 0 working-words rows rows′
+  pub record-words : Same-but 0 working-words recs recs′
+  pub list-words : Same-but 0 working-words out out′

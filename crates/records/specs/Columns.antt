@@ -5,6 +5,7 @@ use mathlib.Core.List.{List}
 use lib.ListN.{getD}
 use Rattle.model.specs.declared.AsumKind.{AsumKind}
 use Rattle.model.specs.declared.AsumKind.the-variants.{Drop, Ambient, Triggers}
+use Rattle.triggers.specs.Entries.{entries-base, last-flag}
 
 -- ---- the records slice, 16 columns of 1,024 by the record's number
 
@@ -112,10 +113,7 @@ code-of (Ambient false) = 1
 code-of (Ambient true) = 2
 code-of (Triggers n) = 3 + n
 
--- ---- the lists slice: uses from word 0 on, then three columns of 2,048 by the entry's number
-
-abbrev pub entry-column : ℕ
-entry-column = 6144
+-- ---- the lists slice: uses from word 0 on, then three columns of 2,048 by the entry's number, the first that of `triggers`
 
 abbrev pub fact-column : ℕ
 fact-column = 8192
@@ -123,21 +121,13 @@ fact-column = 8192
 abbrev pub next-column : ℕ
 next-column = 10240
 
--- what is added to the last entry of a disjunct
-abbrev pub last-entry : ℕ
-last-entry = 4096
-
--- what stands in place of a name's number in the entry of an empty disjunct
-abbrev pub no-name : ℕ
-no-name = 2048
-
 -- the word of an entry
 abbrev pub entry-word : List ℕ → ℕ → ℕ
-entry-word out e = getD out (entry-column + e) 0
+entry-word out e = getD out (entries-base + e) 0
 
 -- the number of the name of an entry, or that of no name
 abbrev pub entry-name : List ℕ → ℕ → ℕ
-entry-name out e = entry-word out e % last-entry
+entry-name out e = entry-word out e % last-flag
 
 -- the record of the fact of an entry
 abbrev pub entry-fact : List ℕ → ℕ → ℕ
@@ -169,7 +159,3 @@ macro-at names n = getD names (macro-column + n) 0
 -- the newest entry that waits on a name and one, or 0
 abbrev pub first-entry : List ℕ → ℕ → ℕ
 first-entry names n = getD names (first-column + n) 0
-
--- the head code of a name
-abbrev pub name-code : List ℕ → ℕ → ℕ
-name-code names n = getD names (6144 + n) 0

@@ -9,16 +9,17 @@ use lib.ListN.{length, getD}
 use Rattle.model.specs.Names.{Name}
 use Rattle.model.specs.Summaries.{entries}
 use Rattle.model.specs.Reading.{most-names, most-records, most-entries, most-uses}
+use Rattle.model.specs.Outcome.{working-words}
 use Rattle.names.specs.Table.{name-of}
-use Rattle.triggers.specs.Entries.{disjuncts-of}
-use Rattle.records.specs.Columns.{record-kind, record-name, uses-start, uses-end, entries-start, entries-end, assume-kind, retain-kind, root-kind, last-entry, no-name, entry-word, entry-name, entry-fact, next-entry, taken-at, first-entry}
+use Rattle.triggers.specs.Entries.{disjuncts-of, last-flag, no-name}
+use Rattle.records.specs.Columns.{record-kind, record-name, uses-start, uses-end, entries-start, entries-end, assume-kind, retain-kind, root-kind, entry-word, entry-name, entry-fact, next-entry, taken-at, first-entry}
 use Rattle.records.specs.States.{entries-at}
 
 -- the record table: each row has its kind, its name (a retain has none) and its two lists, and the words in use are numbers of
 -- names
 pub record Records (recs out : List ℕ) (named records filed uses : ℕ) : Type 0 where
-  pub room : 16384 ≤ length recs
-  pub out-room : 16384 ≤ length out
+  pub room : working-words ≤ length recs
+  pub out-room : working-words ≤ length out
   pub few : records ≤ most-records
   pub few-entries : filed ≤ most-entries
   pub few-uses : uses ≤ most-uses
@@ -53,8 +54,8 @@ pub record Filing (name : ℕ → Name) (recs out : List ℕ) (records filed : �
   pub only-facts : (i : ℕ) → i < records → (record-kind recs i ≡ assume-kind → ⊥) → entries-end recs i ≡ entries-start recs i
   pub facts : (i e : ℕ) → i < records → entries-start recs i ≤ e → e < entries-end recs i → entry-fact out e ≡ i
   -- an entry is a name's number or none, and the last of a record ends its disjunct
-  pub flagged : (e : ℕ) → e < filed → entry-word out e < last-entry + last-entry
-  pub ended : (i : ℕ) → i < records → entries-start recs i < entries-end recs i → last-entry ≤ entry-word out (entries-end recs i - 1)
+  pub flagged : (e : ℕ) → e < filed → entry-word out e < last-flag + last-flag
+  pub ended : (i : ℕ) → i < records → entries-start recs i < entries-end recs i → last-flag ≤ entry-word out (entries-end recs i - 1)
 
 -- the taken column says which assume, fun or def took a name
 pub record Taken (names recs : List ℕ) (records : ℕ) : Type 0 where

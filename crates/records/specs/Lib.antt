@@ -4,3 +4,4 @@ pub mod Filing
 pub mod Macros
 pub mod Writing
 pub mod Adding
+pub mod OptionsOf

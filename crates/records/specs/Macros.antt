@@ -8,9 +8,9 @@ use lib.Dec.{eqb, leb, ltb}
 use lib.ListN.{length, getD}
 use Rattle.model.specs.Reading.{most-names}
 use Rattle.model.specs.declared.Counts.{Counts}
-use Rattle.names.specs.Table.{Table}
+use Rattle.names.specs.Table.{Table, name-code}
 use Rattle.words.specs.Slices.{Same-but}
-use Rattle.records.specs.Columns.{record-kind, def-kind, macro-column, taken-at, macro-at, name-code}
+use Rattle.records.specs.Columns.{record-kind, def-kind, macro-column, taken-at, macro-at}
 use Rattle.records.specs.States.{uses-at}
 use Rattle.records.specs.Filing.{Records, newest, Stocked}
 

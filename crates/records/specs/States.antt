@@ -9,8 +9,8 @@ use Rattle.model.specs.Reading.{Decl, Summary, Sum-assume, Sum-definefun, Sum-d
 use Rattle.model.specs.declared.Counts.{Counts}
 use Rattle.names.specs.Table.{name-of, names-of}
 use Rattle.rules.specs.Views.{terms-in}
-use Rattle.triggers.specs.Entries.{disjuncts-of}
-use Rattle.records.specs.Columns.{record-kind, record-line, record-name, record-flag, uses-start, uses-end, entries-start, entries-end, summary-code, kind-of-code, entry-column}
+use Rattle.triggers.specs.Entries.{disjuncts-of, entries-base}
+use Rattle.records.specs.Columns.{record-kind, record-line, record-name, record-flag, uses-start, uses-end, entries-start, entries-end, summary-code, kind-of-code}
 
 -- the numbers of the free names of a record
 abbrev pub uses-at : List ℕ → List ℕ → ℕ → List ℕ
@@ -18,7 +18,7 @@ uses-at recs out i = part out (uses-start recs i) (uses-end recs i)
 
 -- the words of the trigger entries of a record
 abbrev pub entries-at : List ℕ → List ℕ → ℕ → List ℕ
-entries-at recs out i = part out (entry-column + entries-start recs i) (entry-column + entries-end recs i)
+entries-at recs out i = part out (entries-base + entries-start recs i) (entries-base + entries-end recs i)
 
 module _ (name : ℕ → Name) (recs out : List ℕ) (i : ℕ) where
   -- the free names of a record

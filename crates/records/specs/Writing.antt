@@ -4,6 +4,7 @@ use mathlib.Core.Path.{_≡_}
 use mathlib.Core.List.{List, [], _∷_}
 use lib.ListN.{length, getD, set}
 use Rattle.model.specs.Reading.{most-names, most-records, most-entries}
+use Rattle.model.specs.Outcome.{working-words}
 use Rattle.model.specs.declared.Counts.{Counts}
 use Rattle.words.specs.Slices.{Same-but}
 use Rattle.records.specs.Columns.{record-word, record-kind, record-line, record-name, record-term, record-flag, uses-start, uses-end, entries-start, entries-end, summary-code, assume-kind, code-of, fact-column, next-column, first-column, taken-column, entry-fact}
@@ -106,9 +107,9 @@ pub record Chains (names out names′ out′ : List ℕ) (from to fact : ℕ) : 
 -- what putting a summary into the tables asks
 pub record Puttable (names recs out : List ℕ) (k : Counts) (line name flag term : ℕ) (s : Summary) : Type 0 where
   pub chained : Chained names out (k .entries)
-  pub name-room : 16384 ≤ length names
-  pub record-room : 16384 ≤ length recs
-  pub out-room : 16384 ≤ length out
+  pub name-room : working-words ≤ length names
+  pub record-room : working-words ≤ length recs
+  pub out-room : working-words ≤ length out
   pub few : k .records < most-records
   pub known : name < most-names
   pub more : k .entries ≤ s .entries

@@ -10,10 +10,12 @@ ghost use mathlib.Core.Path.{_≡_};
 ghost use mathlib.Core.List.{[]};
 ghost use lib.ListN.{length, getD};
 ghost use lib.Dec.{eqb};
-ghost use Rattle.model.specs.Reading.{assume, fun, def, retain, root, most-names, most-records, most-entries, no-ambients, pretyping-axioms, prune-decls};
+ghost use Rattle.model.specs.Reading.{assume, fun, def, retain, root, most-names, most-records, most-entries};
+ghost use Rattle.model.specs.Outcome.{working-words};
 ghost use Rattle.names.specs.Table.{name-of};
 ghost use Rattle.records.specs.Columns.{code-of, taken-at};
 ghost use Rattle.records.specs.States.{asks};
+ghost use Rattle.records.specs.OptionsOf.{most-options, options-value, Options-of};
 ghost use Rattle.records.specs.Filing.{Chained};
 ghost use Rattle.records.specs.Macros.{macro-count, is-def, found-word, word-from, Found, Opens};
 ghost use Rattle.records.specs.Writing.{put-row, with-record, Small, Rowed, Chains, Puttable, Puts};
@@ -40,6 +42,15 @@ pub const ENTRIES_END: usize = 8192;
 
 pub const SUMMARY: usize = 9216;
 
+// The codes of a fact's kind; their number is added to that of triggers.
+pub const DROP: usize = 0;
+
+pub const AMBIENT: usize = 1;
+
+pub const AMBIENT_ROOT: usize = 2;
+
+pub const TRIGGERS: usize = 3;
+
 // The kinds of records.
 pub const ASSUME: usize = 0;
 
@@ -51,17 +62,10 @@ pub const RETAIN: usize = 3;
 
 pub const ROOT: usize = 4;
 
-// The columns of the lists slice, by the entry's number: the entry, the record of its fact, the next older entry on its name and one.
-pub const ENTRY: usize = 6144;
-
+// The columns of the lists slice, by the entry's number: the record of its fact, the next older entry on its name and one.
 pub const FACT: usize = 8192;
 
 pub const NEXT: usize = 10240;
-
-// Added to the last entry of a disjunct; the entry of an empty disjunct has no name.
-pub const LAST_ENTRY: usize = 4096;
-
-pub const NO_NAME: usize = 2048;
 
 // The columns of the names slice, by the name's number: the record that took it and one, its macro word, the newest entry on it and one.
 pub const TAKEN: usize = 10240;
@@ -83,33 +87,28 @@ const FIRST_OPENED: usize = 15;
 
 const PAST_OPENED: usize = 20;
 
-// The column of the head codes in the names slice.
-const CODE: usize = 6144;
-
-// Option 1, `no_ambients`.
-pub fn no_ambients(options: usize) -> bool
-    ensures { λ r. ⌜ ((q : ℕ) → r ≡ no-ambients (asks q options)) ⌝ }
-{
-    options % 2 == 1
+// The options of an ask: 1, `no_ambients`; 2, `pretyping_axioms`; 4, `prune_decls`.
+pub struct Options {
+    pub no_ambients: bool,
+    pub pretyping_axioms: bool,
+    pub prune_decls: bool,
 }
 
-// Option 2, `pretyping_axioms`.
-pub fn pretyping_axioms(options: usize) -> bool
-    ensures { λ r. ⌜ ((q : ℕ) → r ≡ pretyping-axioms (asks q options)) ⌝ }
+// The options of an options number: what remains by 2 after the halvings of each one's place.
+pub fn options_of(number: usize) -> Options
+    ensures on { λ r. ⌜ ((q : ℕ) → Options-of (asks q number) r) ⌝ }
+    ensures sum { λ r. ⌜ (number ≤ most-options → options-value r ≡ number) ⌝ }
 {
-    options / 2 % 2 == 1
-}
-
-// Option 4, `prune_decls`.
-pub fn prune_decls(options: usize) -> bool
-    ensures { λ r. ⌜ ((q : ℕ) → r ≡ prune-decls (asks q options)) ⌝ }
-{
-    options / 4 % 2 == 1
+    Options {
+        no_ambients: number % 2 == 1,
+        pretyping_axioms: number / 2 % 2 == 1,
+        prune_decls: number / 4 % 2 == 1,
+    }
 }
 
 // Writes the row of a record: a word for each of its ten columns.
 fn put_row(recs: &mut [u32], i: usize, row: &[u32])
-    requires { ⌜ (i < most-records) × (16384 ≤ length (now recs)) × (length (now row) ≡ 10) ⌝ }
+    requires { ⌜ (i < most-records) × (working-words ≤ length (now recs)) × (length (now row) ≡ 10) ⌝ }
     ensures { λ x. ⌜ now (recs .exit) ≡ put-row (now (recs .entry)) i 0 (now (row .entry)) ⌝ }
 {
     let mut c: usize = 0;
@@ -149,7 +148,7 @@ fn put_record(
     flag: usize,
     code: usize,
 )
-    requires { ⌜ (k .records < most-records) × (16384 ≤ length (now recs)) × Small k next kind line name term flag code ⌝ }
+    requires { ⌜ (k .records < most-records) × (working-words ≤ length (now recs)) × Small k next kind line name term flag code ⌝ }
     ensures { λ x. ⌜ Rowed (now (recs .entry)) (now (recs .exit)) k next kind line name term flag code ⌝ }
 {
     let row = [
@@ -169,16 +168,16 @@ fn put_record(
 
 // Puts the entries from `from` on up to `to`, which are those of the record `fact`, on the chains of their names.
 fn chain_entries(names: &mut [u32], out: &mut [u32], from: usize, to: usize, fact: usize)
-    requires { ⌜ Chained (now names) (now out) from × (from ≤ to) × (to ≤ most-entries) × (fact < most-records) × (16384 ≤ length (now names)) × (16384 ≤ length (now out)) ⌝ }
+    requires { ⌜ Chained (now names) (now out) from × (from ≤ to) × (to ≤ most-entries) × (fact < most-records) × (working-words ≤ length (now names)) × (working-words ≤ length (now out)) ⌝ }
     ensures { λ x. ⌜ Chains (now (names .entry)) (now (out .entry)) (now (names .exit)) (now (out .exit)) from to fact ⌝ }
 {
     let mut e = from;
     while e < to {
         let k = e;
-        let n = words::at(out, ENTRY + k) % LAST_ENTRY;
+        let n = words::at(out, triggers::ENTRIES + k) % triggers::LAST;
         e += 1;
         out[FACT + k] = fact as u32;
-        if NO_NAME <= n {
+        if triggers::NO_NAME <= n {
             continue;
         }
         out[NEXT + k] = names[FIRST + n];
@@ -342,14 +341,14 @@ fn code(kind: AsumKind) -> usize
     ensures { λ r. ⌜ r ≡ code-of kind ⌝ }
 {
     match kind {
-        AsumKind::Drop => 0,
+        AsumKind::Drop => DROP,
         AsumKind::Ambient(root) => {
             if root {
-                return 2;
+                return AMBIENT_ROOT;
             }
-            1
+            AMBIENT
         }
-        AsumKind::Triggers(n) => 3 + n,
+        AsumKind::Triggers(n) => TRIGGERS + n,
     }
 }
 
@@ -360,19 +359,19 @@ fn put_fact(
     out: &mut [u32],
     k: Counts,
     line: usize,
-    i: usize,
+    name: usize,
     flag: usize,
     t: usize,
     s: Summary,
 ) -> Counts
-    requires { ⌜ Puttable (now names) (now recs) (now out) k line i flag t s ⌝ }
-    ensures { λ r. ⌜ Puts (now (names .entry)) (now (recs .entry)) (now (out .entry)) (now (names .exit)) (now (recs .exit)) (now (out .exit)) k line i flag t s r ⌝ }
+    requires { ⌜ Puttable (now names) (now recs) (now out) k line name flag t s ⌝ }
+    ensures { λ r. ⌜ Puts (now (names .entry)) (now (recs .entry)) (now (out .entry)) (now (names .exit)) (now (recs .exit)) (now (out .exit)) k line name flag t s r ⌝ }
 {
     let kind = s.kind;
     let word = code(kind);
-    names[TAKEN + i] = (k.records + 1) as u32;
+    names[TAKEN + name] = (k.records + 1) as u32;
     let next = with_record(k, s.named, s.entries, s.uses, s.mark);
-    put_record(recs, k, next, ASSUME, line, i, t, flag, word);
+    put_record(recs, k, next, ASSUME, line, name, t, flag, word);
     chain_entries(names, out, k.entries, s.entries, k.records);
     next
 }
@@ -387,21 +386,22 @@ pub fn add_fact(
     out: &mut [u32],
     k: Counts,
     line: usize,
-    i: usize,
+    name: usize,
     flag: usize,
     t: usize,
 ) -> Step
-    requires { ⌜ (k .named ≤ most-names → Standing (now file) (now names) (now refs) (now rows) (now recs) (now out) k × (i < k .named)) × (t < k .many) × (line < 4294967296) × (flag < 2) ⌝ }
-    ensures record { λ r. ⌜ Adds (now (file .entry)) (now (names .entry)) (now (refs .entry)) (now (rows .entry)) (now (recs .entry)) (now (out .entry)) (now (names .exit)) (now (rows .exit)) (now (recs .exit)) (now (out .exit)) k line (assume (name-of (now (file .entry)) (now (names .entry)) i) (eqb flag 1) t) r ⌝ }
+    requires { ⌜ (k .named ≤ most-names → Standing (now file) (now names) (now refs) (now rows) (now recs) (now out) k × (name < k .named)) × (t < k .many) × (line < 4294967296) × (flag < 2) ⌝ }
+    ensures record { λ r. ⌜ Adds (now (file .entry)) (now (names .entry)) (now (refs .entry)) (now (rows .entry)) (now (recs .entry)) (now (out .entry)) (now (names .exit)) (now (rows .exit)) (now (recs .exit)) (now (out .exit)) k line (assume (name-of (now (file .entry)) (now (names .entry)) name) (eqb flag 1) t) r ⌝ }
     ensures past { λ r. ⌜ Untouched (now (names .entry)) (now (rows .entry)) (now (recs .entry)) (now (out .entry)) (now (names .exit)) (now (rows .exit)) (now (recs .exit)) (now (out .exit)) ⌝ }
 {
+    let count = k.records;
     if model::MOST_NAMES < k.named {
         return Step::Refused(Refusal::Limit);
     }
-    if 0 < words::at(names, TAKEN + i) {
+    if 0 < words::at(names, TAKEN + name) {
         return Step::Refused(Refusal::Repeated);
     }
-    if model::MOST_RECORDS <= k.records {
+    if model::MOST_RECORDS <= count {
         return Step::Refused(Refusal::Limit);
     }
     match summary::summarize_assumption(
@@ -413,27 +413,27 @@ pub fn add_fact(
         k.named,
         k.used,
         k.many,
-        i,
+        name,
         t,
         k.mark,
         k.entries,
         k.uses,
     ) {
-        Summarized::Done(s) => Step::On(put_fact(names, recs, out, k, line, i, flag, t, s)),
+        Summarized::Done(s) => Step::On(put_fact(names, recs, out, k, line, name, flag, t, s)),
         Summarized::Over(_) => Step::Refused(Refusal::Limit),
     }
 }
 
 // Finds the numbers of the names that the macros of the start open to, in one pass over the head codes.
 fn find_opened(names: &[u32], named: usize, found: &mut [u32])
-    requires { ⌜ (named ≤ most-names) × (16384 ≤ length (now names)) × (length (now found) ≡ macro-count) × ((j : ℕ) → getD (now found) j 0 ≡ 0) ⌝ }
+    requires { ⌜ (named ≤ most-names) × (working-words ≤ length (now names)) × (length (now found) ≡ macro-count) × ((j : ℕ) → getD (now found) j 0 ≡ 0) ⌝ }
     ensures { λ x. ⌜ Found (now (names .entry)) named (now (found .exit)) ⌝ }
 {
     let mut n = 0;
     while n < named {
         let k = n;
         n += 1;
-        let c = words::at(names, CODE + k);
+        let c = words::at(names, names::CODE + k);
         if c < FIRST_OPENED {
             continue;
         }
@@ -464,7 +464,7 @@ fn found_word(found: &[u32], c: usize) -> usize
 
 // Whether a word of the taken column is that of a def.
 fn is_def(recs: &[u32], taken: usize) -> bool
-    requires { ⌜ (taken ≤ most-records) × (16384 ≤ length (now recs)) ⌝ }
+    requires { ⌜ (taken ≤ most-records) × (working-words ≤ length (now recs)) ⌝ }
     ensures { λ r. ⌜ r ≡ is-def (now (recs .entry)) taken ⌝ }
 {
     if taken == 0 {
@@ -475,20 +475,20 @@ fn is_def(recs: &[u32], taken: usize) -> bool
 
 // The macro word of a name.
 fn macro_word(names: &[u32], recs: &[u32], found: &[u32], n: usize) -> usize
-    requires { ⌜ (n < most-names) × (16384 ≤ length (now names)) × (16384 ≤ length (now recs)) × (taken-at (now names) n ≤ most-records) × (length (now found) ≡ macro-count) × ((j : ℕ) → j < macro-count → getD (now found) j 0 ≤ most-names) ⌝ }
+    requires { ⌜ (n < most-names) × (working-words ≤ length (now names)) × (working-words ≤ length (now recs)) × (taken-at (now names) n ≤ most-records) × (length (now found) ≡ macro-count) × ((j : ℕ) → j < macro-count → getD (now found) j 0 ≤ most-names) ⌝ }
     ensures { λ r. ⌜ (r ≡ word-from (now (names .entry)) (now (recs .entry)) (now (found .entry)) n) × (r < 4294967296) ⌝ }
 {
     let taken = words::at(names, TAKEN + n);
     if is_def(recs, taken) {
         return taken;
     }
-    let c = words::at(names, CODE + n);
+    let c = words::at(names, names::CODE + n);
     found_word(found, c)
 }
 
 // Fills the macro column after the last line: one pass finds what the macros of the start open to, one writes the words.
 pub fn open_macros(names: &mut [u32], recs: &[u32], named: usize)
-    requires { ⌜ (named ≤ most-names) × (16384 ≤ length (now names)) × (16384 ≤ length (now recs)) × ((n : ℕ) → n < named → taken-at (now names) n ≤ most-records) ⌝ }
+    requires { ⌜ (named ≤ most-names) × (working-words ≤ length (now names)) × (working-words ≤ length (now recs)) × ((n : ℕ) → n < named → taken-at (now names) n ≤ most-records) ⌝ }
     ensures { λ x. ⌜ Opens (now (names .entry)) (now (recs .entry)) (now (names .exit)) named named ⌝ }
 {
     let mut found: [u32; 5] = [0; 5];

@@ -49,7 +49,8 @@ data Kinds (exclude : List Name) (terms : List Term) (name : ℕ → Name) : Opt
 
 module _ {exclude : List Name} {terms : List Term} {name : ℕ → Name} where
   -- they agree from a value that may be missing, where they agree from each value
-  kinds-bind : {A : Type 0} (o : Option A) {f : A → Option Choice} {g : A → Option Kinded} → ((a : A) → o ≡ some a → Kinds exclude terms name (f a) (g a)) → Kinds exclude terms name (o >>= f) (o >>= g)
+  kinds-bind : {A : Type 0} (o : Option A) {f : A → Option Choice} {g : A → Option Kinded} → ((a : A) → o ≡ some a → Kinds exclude terms name (f a) (g a))
+      → Kinds exclude terms name (o >>= f) (o >>= g)
   kinds-bind none h = neither
   kinds-bind (some a) h = h a refl
 
@@ -60,13 +61,15 @@ module _ {exclude : List Name} {terms : List Term} {name : ℕ → Name} where
   kinds-when false e = neither
 
   -- the first of two that is there agrees where both do
-  kinds-or-else : {o p : Option Choice} {q r : Option Kinded} → Kinds exclude terms name o q → Kinds exclude terms name p r → Kinds exclude terms name (or-else o p) (or-else q r)
+  kinds-or-else : {o p : Option Choice} {q r : Option Kinded} → Kinds exclude terms name o q → Kinds exclude terms name p r
+      → Kinds exclude terms name (or-else o p) (or-else q r)
   unfolding or-else
   kinds-or-else neither h = h
   kinds-or-else (both e) h = both e
 
   -- a choice or else another makes what the rule or else the other gives
-  kinds-default : {o : Option Choice} {q : Option Kinded} {c : Choice} {k : Kinded} → Kinds exclude terms name o q → Makes exclude terms name c k → Makes exclude terms name (Option·getD o c) (Option·getD q k)
+  kinds-default : {o : Option Choice} {q : Option Kinded} {c : Choice} {k : Kinded} → Kinds exclude terms name o q → Makes exclude terms name c k
+      → Makes exclude terms name (Option·getD o c) (Option·getD q k)
   kinds-default neither h = h
   kinds-default (both e) h = e
 
@@ -151,7 +154,8 @@ module _ (exclude : List Name) (terms : List Term) (rows : List ℕ) (name : ℕ
   kinds-11 = kinds-bind (op-args TrueOp (at terms t)) (λ ts is. both (record { makes = refl }))
 
   -- the last choice makes what the last rule gives
-  kinds-12 : Makes exclude terms name (first-choice terms rows (choose-12 terms rows ∷ []) fact t) (first-rule exclude terms (rule-12 exclude terms ∷ []) fact t)
+  kinds-12 : Makes exclude terms name (first-choice terms rows (choose-12 terms rows ∷ []) fact t)
+      (first-rule exclude terms (rule-12 exclude terms ∷ []) fact t)
   unfolding first-choice choose-12 first-rule rule-12 kinded
   kinds-12 = record { makes = refl }
 

@@ -19,12 +19,14 @@ use Rattle.rules.specs.Views.{row-count, row-argument, is-call-at, is-he
 -- ---- one row
 
 -- a call's head is small
-pub call-small : (rows : List ℕ) (t : ℕ) {k n : ℕ} → (T (has-head (row-kind rows t)) → row-head rows t < 2048) → k ≡ row-kind rows t → k ≡ 2 → n ≡ row-head rows t → n < 2048
+pub call-small : (rows : List ℕ) (t : ℕ) {k n : ℕ} → (T (has-head (row-kind rows t)) → row-head rows t < 2048) → k ≡ row-kind rows t → k ≡ 2
+    → n ≡ row-head rows t → n < 2048
 unfolding has-head
 call-small rows t h k e n = rw n (h (rw (sym k ∙ e) tt))
 
 -- so is any head
-pub head-small : (rows : List ℕ) (t : ℕ) {n : ℕ} {b : Bool} → (T (has-head (row-kind rows t)) → row-head rows t < 2048) → b ≡ has-head (row-kind rows t) → b ≡ true → n ≡ row-head rows t → n < 2048
+pub head-small : (rows : List ℕ) (t : ℕ) {n : ℕ} {b : Bool} → (T (has-head (row-kind rows t)) → row-head rows t < 2048) → b ≡ has-head (row-kind rows t)
+    → b ≡ true → n ≡ row-head rows t → n < 2048
 head-small rows t h b e n = rw n (h (true-T (sym b ∙ e)))
 
 module _ (names rows : List ℕ) (t : ℕ) where
@@ -34,7 +36,8 @@ module _ (names rows : List ℕ) (t : ℕ) where
   call-other code k h = rw (ne-eqb (row-kind rows t) 2 (λ e. h (k ∙ e)))
 
   -- a call, by its head's code
-  pub call-coded : (code : ℕ) {k n w : ℕ} → k ≡ row-kind rows t → k ≡ 2 → n ≡ row-head rows t → w ≡ getD names (6144 + n) 0 → eqb w code ≡ is-call-at names rows t code
+  pub call-coded : (code : ℕ) {k n w : ℕ} → k ≡ row-kind rows t → k ≡ 2 → n ≡ row-head rows t → w ≡ getD names (6144 + n) 0
+      → eqb w code ≡ is-call-at names rows t code
   unfolding is-call-at
   call-coded code k h n w = rw (eq-eqb (row-kind rows t) 2 (sym k ∙ h), ← n, ← w)
 
@@ -44,7 +47,8 @@ module _ (names rows : List ℕ) (t : ℕ) where
   head-other code b e = rw (sym b ∙ e)
 
   -- a head, by its code
-  pub head-coded : (code : ℕ) {b : Bool} {n w : ℕ} → b ≡ has-head (row-kind rows t) → b ≡ true → n ≡ row-head rows t → w ≡ getD names (6144 + n) 0 → eqb w code ≡ is-head-at names rows t code
+  pub head-coded : (code : ℕ) {b : Bool} {n w : ℕ} → b ≡ has-head (row-kind rows t) → b ≡ true → n ≡ row-head rows t → w ≡ getD names (6144 + n) 0
+      → eqb w code ≡ is-head-at names rows t code
   unfolding is-head-at
   head-coded code b e n w = rw (sym b ∙ e, ← n, ← w)
 
@@ -81,12 +85,14 @@ module _ (names refs rows : List ℕ) (used many t code : ℕ) where
   one-other h = pick-first _ _ _ _ h
 
   -- a call of another count
-  pub one-count : {n : ℕ} → is-call-at names rows t code ≡ true → n ≡ row-count rows used many t → (n ≡ 1 → ⊥) → argument.No ≡ call-one-at names refs rows used many t code
+  pub one-count : {n : ℕ} → is-call-at names rows t code ≡ true → n ≡ row-count rows used many t → (n ≡ 1 → ⊥)
+      → argument.No ≡ call-one-at names refs rows used many t code
   unfolding call-one-at
   one-count h n e = pick-second _ _ _ _ h (ne-eqb _ 1 (λ f. e (n ∙ f)))
 
   -- a call of one
-  pub one-call : {n u : ℕ} → is-call-at names rows t code ≡ true → n ≡ row-count rows used many t → n ≡ 1 → u ≡ row-argument refs rows t 0 → argument.Is u ≡ call-one-at names refs rows used many t code
+  pub one-call : {n u : ℕ} → is-call-at names rows t code ≡ true → n ≡ row-count rows used many t → n ≡ 1 → u ≡ row-argument refs rows t 0
+      → argument.Is u ≡ call-one-at names refs rows used many t code
   unfolding call-one-at
   one-call h n e u = rw u (pick-both _ _ _ _ h (eq-eqb _ 1 (sym n ∙ e)))
 
@@ -96,12 +102,14 @@ module _ (names refs rows : List ℕ) (used many t code : ℕ) where
   two-other h = pick-first _ _ _ _ h
 
   -- a call of another count
-  pub two-count : {n : ℕ} → is-call-at names rows t code ≡ true → n ≡ row-count rows used many t → (n ≡ 2 → ⊥) → arguments.No ≡ call-two-at names refs rows used many t code
+  pub two-count : {n : ℕ} → is-call-at names rows t code ≡ true → n ≡ row-count rows used many t → (n ≡ 2 → ⊥)
+      → arguments.No ≡ call-two-at names refs rows used many t code
   unfolding call-two-at
   two-count h n e = pick-second _ _ _ _ h (ne-eqb _ 2 (λ f. e (n ∙ f)))
 
   -- a call of two
-  pub two-call : {n u v : ℕ} → is-call-at names rows t code ≡ true → n ≡ row-count rows used many t → n ≡ 2 → u ≡ row-argument refs rows t 0 → v ≡ row-argument refs rows t 1
+  pub two-call : {n u v : ℕ} → is-call-at names rows t code ≡ true → n ≡ row-count rows used many t → n ≡ 2 → u ≡ row-argument refs rows t 0
+      → v ≡ row-argument refs rows t 1
       → arguments.Are u v ≡ call-two-at names refs rows used many t code
   unfolding call-two-at
   two-call h n e u v = rw (u, v) (pick-both _ _ _ _ h (eq-eqb _ 2 (sym n ∙ e)))
@@ -118,7 +126,8 @@ module _ (refs rows : List ℕ) (used many t op : ℕ) where
   op-two-count h n e = pick-second _ _ _ _ h (ne-eqb _ 2 (λ f. e (n ∙ f)))
 
   -- an `op` of two
-  pub op-two-call : {n u v : ℕ} → is-op-at rows t op ≡ true → n ≡ row-count rows used many t → n ≡ 2 → u ≡ row-argument refs rows t 0 → v ≡ row-argument refs rows t 1
+  pub op-two-call : {n u v : ℕ} → is-op-at rows t op ≡ true → n ≡ row-count rows used many t → n ≡ 2 → u ≡ row-argument refs rows t 0
+      → v ≡ row-argument refs rows t 1
       → arguments.Are u v ≡ op-two-at refs rows used many t op
   unfolding op-two-at
   op-two-call h n e u v = rw (u, v) (pick-both _ _ _ _ h (eq-eqb _ 2 (sym n ∙ e)))
@@ -131,7 +140,8 @@ module _ {refs rows : List ℕ} {used many named t : ℕ} (table : Rows refs row
   row-ready = (table .row-room, omega (arith, table .few-rows))
 
   -- so is its head's name
-  pub head-ready : (names : List ℕ) → 16384 ≤ length names → (16384 ≤ length names) × (16384 ≤ length rows) × (t < 4096) × (T (has-head (row-kind rows t)) → row-head rows t < 2048)
+  pub head-ready : (names : List ℕ) → 16384 ≤ length names → (16384 ≤ length names) × (16384 ≤ length rows) × (t < 4096)
+      × (T (has-head (row-kind rows t)) → row-head rows t < 2048)
   head-ready names n = (n, table .row-room, omega (arith, table .few-rows), λ h. omega (arith, table .headed t l h, table .few-names))
 
   -- its references can be counted
@@ -139,7 +149,8 @@ module _ {refs rows : List ℕ} {used many named t : ℕ} (table : Rows refs row
   count-ready = (table .row-room, l, table .few-rows, table .in-order t l)
 
   -- and read
-  pub nth-ready : (i : ℕ) {n : ℕ} → n ≡ row-count rows used many t → i < n → i ≤ 1 → (16384 ≤ length rows) × (t < 4096) × (row-start rows t + i < length refs) × (i ≤ 1)
+  pub nth-ready : (i : ℕ) {n : ℕ} → n ≡ row-count rows used many t → i < n → i ≤ 1
+      → (16384 ≤ length rows) × (t < 4096) × (row-start rows t + i < length refs) × (i ≤ 1)
   unfolding row-count
   nth-ready i n h j = (table .row-room, omega (arith, table .few-rows), omega (arith, table .in-use t l, table .few-references, table .ref-room), j)
 

@@ -143,7 +143,10 @@ head-node (suc (suc (suc zero))) op name ws g = refl
 head-node (suc (suc (suc (suc zero)))) op name ws g = refl
 head-node (suc (suc (suc (suc (suc zero))))) op name ws g = refl
 head-node (suc (suc (suc (suc (suc (suc zero)))))) op name ws g = refl
-head-node (suc (suc (suc (suc (suc (suc (suc n))))))) op name ws g = rw (ne-eqb (suc (suc (suc (suc (suc (suc (suc n))))))) 0 (λ e. omega arith), ne-eqb (suc (suc (suc (suc (suc (suc (suc n))))))) 2 (λ e. omega arith))
+head-node (suc (suc (suc (suc (suc (suc (suc n))))))) op name ws g = rw (
+  ne-eqb (suc (suc (suc (suc (suc (suc (suc n))))))) 0 (λ e. omega arith),
+  ne-eqb (suc (suc (suc (suc (suc (suc (suc n))))))) 2 (λ e. omega arith),
+)
 
 -- a word that the rules know is that of its number
 op-code : (n o : ℕ) → o < 4 → eqb (op-number (op-of-code n)) o ≡ eqb n o
@@ -180,7 +183,12 @@ two-words l a e h = go (e - a) refl
     go (suc (suc zero)) q =
         let z : a + 0 ≡ a = omega arith in
         rw (part-cons l a e (omega arith) h, part-cons l (a + 1) e (omega arith) h, part-nil l (a + 1 + 1) e (omega arith), z)
-    go (suc (suc (suc d))) q = rw (part-cons l a e (omega arith) h, part-cons l (a + 1) e (omega arith) h, part-cons l (a + 1 + 1) e (omega arith) h, ne-eqb (suc (suc (suc d))) 2 (λ f. omega arith))
+    go (suc (suc (suc d))) q = rw (
+      part-cons l a e (omega arith) h,
+      part-cons l (a + 1) e (omega arith) h,
+      part-cons l (a + 1 + 1) e (omega arith) h,
+      ne-eqb (suc (suc (suc d))) 2 (λ f. omega arith),
+    )
 
 -- two arguments that may be missing
 unfoldable pub as-pair : Arguments → Option (ℕ × ℕ)
@@ -235,7 +243,8 @@ module _ {refs rows : List ℕ} {used many named t : ℕ} (table : Rows refs row
       rw (← is) (argument-within 0 (omega (arith, eqb-true (row-count rows used many t) 1 count)))
 
   -- the arguments of a call of two are terms of the table
-  pub two-within : (names : List ℕ) (code : ℕ) {r : Arguments} {u v : ℕ} → r ≡ call-two-at names refs rows used many t code → r ≡ arguments.Are u v → (u < many) × (v < many)
+  pub two-within : (names : List ℕ) (code : ℕ) {r : Arguments} {u v : ℕ} → r ≡ call-two-at names refs rows used many t code → r ≡ arguments.Are u v
+      → (u < many) × (v < many)
   unfolding call-two-at
   two-within names code e f =
       let (count, is, and) = two-are (is-call-at names rows t code) (eqb (row-count rows used many t) 2) (sym e ∙ f) in
@@ -334,53 +343,64 @@ module _ {file names refs rows : List ℕ} {named used many t : ℕ} (tables : T
   head-law = ap head line ∙ head-node (row-kind rows t) _ _ _ _
 
   -- whether the head of a term is a known name
-  pub is-head-law : {k : String} {code : ℕ} → Known k code → is-head-at names rows t code ≡ holds (same (bytes k)) (head (term (terms-in file names refs rows used many) t .node))
+  pub is-head-law : {k : String} {code : ℕ} → Known k code → is-head-at names rows t code
+      ≡ holds (same (bytes k)) (head (term (terms-in file names refs rows used many) t .node))
   unfolding is-head-at
   is-head-law {k} {code} known =
-      and-same (has-head (row-kind rows t)) _ _ (λ h. ap (λ n. eqb n code) (code-of (true-T h)) ∙ code-same known (name-of file names (row-head rows t)) ∙ same-sym (name-of file names (row-head rows t)) (bytes k))
+      and-same (has-head (row-kind rows t)) _ _ (λ h. ap (λ n. eqb n code) (code-of (true-T h)) ∙ code-same known (name-of file names (row-head rows t))
+      ∙ same-sym (name-of file names (row-head rows t)) (bytes k))
       ∙ sym (ap (holds (same (bytes k))) head-law ∙ holds-when (same (bytes k)) (has-head (row-kind rows t)) (name-of file names (row-head rows t)))
 
   -- the arguments of a call of a known name
-  pub call-law : {k : String} {code : ℕ} → Known k code → call-args k (term (terms-in file names refs rows used many) t .node) ≡ when (is-call-at names rows t code) (terms-of-words (part refs (row-start rows t) (row-end rows used many t)))
+  pub call-law : {k : String} {code : ℕ} → Known k code → call-args k (term (terms-in file names refs rows used many) t .node)
+      ≡ when (is-call-at names rows t code) (terms-of-words (part refs (row-start rows t) (row-end rows used many t)))
   unfolding node-of is-call-at
   call-law {k} {code} known =
       ap (call-args k) line
       ∙ call-node k (row-kind rows t) _ (name-of file names (row-head rows t)) _ _
       ∙ ap (λ b. when b (terms-of-words (part refs (row-start rows t) (row-end rows used many t))))
-      (sym (and-same (eqb (row-kind rows t) 2) _ _ (λ h. ap (λ n. eqb n code) (code-of (true-T (call-headed (row-kind rows t) (eqb-true (row-kind rows t) 2 h)))) ∙ code-same known (name-of file names (row-head rows t)))))
+      (sym (and-same (eqb (row-kind rows t) 2) _ _ (λ h. ap (λ n. eqb n code)
+      (code-of (true-T (call-headed (row-kind rows t) (eqb-true (row-kind rows t) 2 h)))) ∙ code-same known (name-of file names (row-head rows t)))))
 
   -- whether a term is a call of a known name
-  pub is-call-law : {k : String} {code : ℕ} → Known k code → is-call-at names rows t code ≡ holds (λ ts. true) (call-args k (term (terms-in file names refs rows used many) t .node))
-  is-call-law {k} {code} known = sym (ap (holds (λ ts. true)) (call-law known) ∙ holds-when (λ ts. true) (is-call-at names rows t code) _ ∙ and-true (is-call-at names rows t code))
+  pub is-call-law : {k : String} {code : ℕ} → Known k code → is-call-at names rows t code
+      ≡ holds (λ ts. true) (call-args k (term (terms-in file names refs rows used many) t .node))
+  is-call-law {k} {code} known = sym (ap (holds (λ ts. true)) (call-law known) ∙ holds-when (λ ts. true) (is-call-at names rows t code) _
+      ∙ and-true (is-call-at names rows t code))
     where
       and-true : (b : Bool) → (b && true) ≡ b
       and-true true = refl
       and-true false = refl
 
   -- the argument of a call of a known name with one
-  pub call-one-law : {k : String} {code : ℕ} → Known k code → as-option (call-one-at names refs rows used many t code) ≡ call-one k (term (terms-in file names refs rows used many) t .node)
+  pub call-one-law : {k : String} {code : ℕ} → Known k code → as-option (call-one-at names refs rows used many t code)
+      ≡ call-one k (term (terms-in file names refs rows used many) t .node)
   unfolding call-one-at call-one row-argument row-count
   call-one-law {k} {code} known =
       one-when (is-call-at names rows t code) _ _ _ (one-words refs (row-start rows t) (row-end rows used many t) (row-fits (tables .term-table) l))
       ∙ ap (λ ts. ts >>= one) (sym (call-law known))
 
   -- the arguments of a call of a known name with two
-  pub call-two-law : {k : String} {code : ℕ} → Known k code → as-pair (call-two-at names refs rows used many t code) ≡ call-two k (term (terms-in file names refs rows used many) t .node)
+  pub call-two-law : {k : String} {code : ℕ} → Known k code → as-pair (call-two-at names refs rows used many t code)
+      ≡ call-two k (term (terms-in file names refs rows used many) t .node)
   unfolding call-two-at call-two row-argument row-count
   call-two-law {k} {code} known =
       two-when (is-call-at names rows t code) _ _ _ _ (two-words refs (row-start rows t) (row-end rows used many t) (row-fits (tables .term-table) l))
       ∙ ap (λ ts. ts >>= two) (sym (call-law known))
 
   -- the arguments of an `op` of a known word
-  pub op-law : (word : Op) → op-number word < 4 → op-args word (term (terms-in file names refs rows used many) t .node) ≡ when (is-op-at rows t (op-number word)) (terms-of-words (part refs (row-start rows t) (row-end rows used many t)))
+  pub op-law : (word : Op) → op-number word < 4 → op-args word (term (terms-in file names refs rows used many) t .node)
+      ≡ when (is-op-at rows t (op-number word)) (terms-of-words (part refs (row-start rows t) (row-end rows used many t)))
   unfolding node-of is-op-at
   op-law word h =
       ap (op-args word) line
       ∙ op-node word (row-kind rows t) (op-of-code (row-op rows t)) _ _ _
-      ∙ ap (λ b. when (eqb (row-kind rows t) 3 && b) (terms-of-words (part refs (row-start rows t) (row-end rows used many t)))) (op-code (row-op rows t) (op-number word) h)
+      ∙ ap (λ b. when (eqb (row-kind rows t) 3 && b) (terms-of-words (part refs (row-start rows t) (row-end rows used many t))))
+      (op-code (row-op rows t) (op-number word) h)
 
   -- the arguments of an `op` of a known word with two
-  pub op-two-law : (word : Op) → op-number word < 4 → as-pair (op-two-at refs rows used many t (op-number word)) ≡ (op-args word (term (terms-in file names refs rows used many) t .node) >>= two)
+  pub op-two-law : (word : Op) → op-number word < 4 → as-pair (op-two-at refs rows used many t (op-number word))
+      ≡ (op-args word (term (terms-in file names refs rows used many) t .node) >>= two)
   unfolding op-two-at row-argument row-count
   op-two-law word h =
       two-when (is-op-at rows t (op-number word)) _ _ _ _ (two-words refs (row-start rows t) (row-end rows used many t) (row-fits (tables .term-table) l))
@@ -391,7 +411,8 @@ module _ {file names refs rows : List ℕ} {named used many t : ℕ} (tables : T
   one-inside {code} known e = one-within (tables .term-table) l names code refl (option-is _ (call-one-law known ∙ e))
 
   -- the arguments of a call of a known name with two are terms of the table
-  pub two-inside : {k : String} {code u v : ℕ} → Known k code → call-two k (term (terms-in file names refs rows used many) t .node) ≡ some (u, v) → (u < many) × (v < many)
+  pub two-inside : {k : String} {code u v : ℕ} → Known k code → call-two k (term (terms-in file names refs rows used many) t .node) ≡ some (u, v)
+      → (u < many) × (v < many)
   two-inside {code} known e = two-within (tables .term-table) l names code refl (pair-is _ (call-two-law known ∙ e))
 
   -- ---- by what a function found
@@ -449,7 +470,8 @@ module _ {file names refs rows : List ℕ} {named used many t : ℕ} (tables : T
   head-no e = rw (head-law, e)
 
   -- a term with a head
-  pub head-found : {n : ℕ} → has-head (row-kind rows t) ≡ true → n ≡ row-head rows t → head (term (terms-in file names refs rows used many) t .node) ≡ some (name-of file names n)
+  pub head-found : {n : ℕ} → has-head (row-kind rows t) ≡ true → n ≡ row-head rows t
+      → head (term (terms-in file names refs rows used many) t .node) ≡ some (name-of file names n)
   unfolding when
   head-found e f = rw (head-law, e, f)
 
@@ -465,7 +487,8 @@ module _ {file names refs rows : List ℕ} {named used many t : ℕ} (tables : T
   token-free e f = rw (line, e, f)
 
   -- so is a call of none
-  pub token-call : {n : ℕ} → row-kind rows t ≡ 2 → row-count rows used many t ≡ 0 → n ≡ row-head rows t → token (terms-in file names refs rows used many) t ≡ some (name-of file names n)
+  pub token-call : {n : ℕ} → row-kind rows t ≡ 2 → row-count rows used many t ≡ 0 → n ≡ row-head rows t
+      → token (terms-in file names refs rows used many) t ≡ some (name-of file names n)
   unfolding token at node-of make-node free-of call-of or-else row-count terms-of-words is-nil when
   token-call e g f = rw (line, e, f, part-nil refs (row-start rows t) (row-end rows used many t) (omega arith))
 

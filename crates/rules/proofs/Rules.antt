@@ -94,13 +94,15 @@ module _ (terms : List Term) (rows : List ℕ) (fact : Name) (t : ℕ) where
   rule-1-other e = rw e
 
   -- another name
-  pub rule-1-name : {l r : ℕ} → (op-args Iff (term terms t .node) >>= two) ≡ some (l, r) → {b : Bool} → b ≡ starts-with fact (bytes "l_quant_interp") → b ≡ false
+  pub rule-1-name : {l r : ℕ} → (op-args Iff (term terms t .node) >>= two) ≡ some (l, r) → {b : Bool} → b ≡ starts-with fact (bytes "l_quant_interp")
+      → b ≡ false
       → choose-1 terms rows fact t ≡ none
   unfolding when choose-1 at
   rule-1-name e b f = rw (e, sym b ∙ f)
 
   -- it holds
-  pub rule-1-holds : {l r : ℕ} → (op-args Iff (term terms t .node) >>= two) ≡ some (l, r) → {b : Bool} → b ≡ starts-with fact (bytes "l_quant_interp") → b ≡ true
+  pub rule-1-holds : {l r : ℕ} → (op-args Iff (term terms t .node) >>= two) ≡ some (l, r) → {b : Bool} → b ≡ starts-with fact (bytes "l_quant_interp")
+      → b ≡ true
       → choose-1 terms rows fact t ≡ some (choice.One l)
   unfolding when choose-1 at
   rule-1-holds e b f = rw (e, sym b ∙ f)
@@ -302,7 +304,8 @@ module _ (terms : List Term) (t : ℕ) where
   refinement-squash e = rw e
 
   -- without a head there is none
-  pub refinement-none : holds (λ ts. true) (call-args "Prims.squash" (term terms t .node)) ≡ false → head (term terms t .node) ≡ none → false ≡ is-ambient-refinement terms t
+  pub refinement-none : holds (λ ts. true) (call-args "Prims.squash" (term terms t .node)) ≡ false → head (term terms t .node) ≡ none
+      → false ≡ is-ambient-refinement terms t
   unfolding is-ambient-refinement at holds
   refinement-none e f = rw (e, f)
 
@@ -330,7 +333,8 @@ module _ (terms : List Term) (t : ℕ) where
   has-eq-other e = rw e
 
   -- no hasEq of two in it
-  pub has-eq-valid : {v : ℕ} → call-one "Valid" (term terms t .node) ≡ some v → call-two "Prims.hasEq" (term terms v .node) ≡ none → as-option argument.No ≡ has-eq terms t
+  pub has-eq-valid : {v : ℕ} → call-one "Valid" (term terms t .node) ≡ some v → call-two "Prims.hasEq" (term terms v .node) ≡ none
+      → as-option argument.No ≡ has-eq terms t
   unfolding has-eq at as-option
   has-eq-valid e f = rw (e, f)
 

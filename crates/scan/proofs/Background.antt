@@ -17,8 +17,8 @@ use Rattle.model.proofs.ListLaws.{count-append, collect-append}
 use Rattle.model.proofs.PartLaws.{part-nil, part-length}
 use Rattle.demands.proofs.Records.{facts-append, definitions-append}
 use Rattle.terms.proofs.Laws.{equal}
-use Rattle.triggers.specs.Entries.{disjuncts-of}
-use Rattle.records.specs.Columns.{record-kind, record-line, record-name, record-flag, entries-start, entries-end, assume-kind, def-kind, retain-kind, last-entry, no-name, entry-column, entry-name, entry-fact}
+use Rattle.triggers.specs.Entries.{disjuncts-of, last-flag, no-name, entries-base}
+use Rattle.records.specs.Columns.{record-kind, record-line, record-name, record-flag, entries-start, entries-end, assume-kind, def-kind, retain-kind, entry-name, entry-fact}
 use Rattle.records.specs.States.{entries-at, free-at, fact-at, decl-at, summary-at, root-at, decls-of, roots-of}
 use Rattle.records.specs.Filing.{Records, entries-before, Filing}
 use Rattle.scan.specs.Held.{upto}
@@ -195,7 +195,7 @@ module _ {name : ℕ → Name} {recs out : List ℕ} {records total : ℕ} (g : 
     -- the words of a record's entries are as many as its sets take
     full : (i : ℕ) → i < records → length (entries-at recs out i) ≡ entries (disjuncts-of name (entries-at recs out i))
     full i h =
-        part-length out (entry-column + entries-start recs i) (entry-column + entries-end recs i)
+        part-length out (entries-base + entries-start recs i) (entries-base + entries-end recs i)
         (omega (arith, r .entries-in i h, r .few-entries, r .out-room))
         ∙ omega (arith, g .sized i h)
 
@@ -216,21 +216,21 @@ module _ {name : ℕ → Name} {recs out : List ℕ} {records total : ℕ} (g : 
         (omega (arith, r .entries-in n (omega arith), r .few-entries, r .out-room)))
       where
         test : ℕ → Bool
-        test w = ltb (w % last-entry) no-name && p (name (w % last-entry))
+        test w = ltb (w % last-flag) no-name && p (name (w % last-flag))
 
-        joined : (a d b : ℕ) → a + d ≡ b → entry-column + b ≤ length out
-            → count (λ e. test (getD out (entry-column + e) 0)) (upto b)
-            ≡ count (λ e. test (getD out (entry-column + e) 0)) (upto a) + count test (part out (entry-column + a) (entry-column + b))
-        joined a d b e k = rw (← e) (places-count test out entry-column a d (omega arith))
+        joined : (a d b : ℕ) → a + d ≡ b → entries-base + b ≤ length out
+            → count (λ e. test (getD out (entries-base + e) 0)) (upto b)
+            ≡ count (λ e. test (getD out (entries-base + e) 0)) (upto a) + count test (part out (entries-base + a) (entries-base + b))
+        joined a d b e k = rw (← e) (places-count test out entries-base a d (omega arith))
 
         one : (record-kind recs n ≡ assume-kind) ⊎ (record-kind recs n ≡ assume-kind → ⊥)
             → count p (cond (eqb (record-kind recs n) assume-kind) (concat (disjuncts-of name (entries-at recs out n))) [])
-            ≡ count test (part out (entry-column + entries-before recs n) (entry-column + entries-end recs n))
+            ≡ count test (part out (entries-base + entries-before recs n) (entries-base + entries-end recs n))
         one (inl e) = rw (e, ← (g .starts n (omega arith))) (listed-count p name (entries-at recs out n) (full n (omega arith)))
         one (inr e) =
             rw (
               ne-eqb (record-kind recs n) assume-kind e,
               g .only-facts n (omega arith) e,
               ← (g .starts n (omega arith)),
-              part-nil out (entry-column + entries-start recs n) (entry-column + entries-start recs n) (omega arith),
+              part-nil out (entries-base + entries-start recs n) (entries-base + entries-start recs n) (omega arith),
             )

@@ -11,19 +11,18 @@ use borrow.Author.Tests.{ne-eqb, lt-ltb, le-ltb, ltb-true, ltb-false}
 use Rattle.model.specs.Lists.{any, all, part}
 use Rattle.model.proofs.ListLaws.{all-append}
 use Rattle.model.proofs.PartLaws.{part-cons, part-nil}
-use Rattle.triggers.specs.Entries.{entry-number, before-first, disjuncts-of-words}
-use Rattle.records.specs.Columns.{last-entry, no-name}
+use Rattle.triggers.specs.Entries.{entry-number, before-first, disjuncts-of-words, last-flag, no-name}
 use Rattle.scan.specs.Steps.{is-met, entry-met, fires-in}
 
 -- ---- the loops
 
-pub entry-none : (w : List ℕ) (x : ℕ) → no-name ≤ x % last-entry → true ≡ entry-met w x
+pub entry-none : (w : List ℕ) (x : ℕ) → no-name ≤ x % last-flag → true ≡ entry-met w x
 unfolding entry-met
-entry-none w x l = rw (le-ltb (x % last-entry) no-name l)
+entry-none w x l = rw (le-ltb (x % last-flag) no-name l)
 
-pub entry-some : (w : List ℕ) (x y : ℕ) → x % last-entry < no-name → y ≡ getD w (x % last-entry) 0 → not (eqb y 0) ≡ entry-met w x
+pub entry-some : (w : List ℕ) (x y : ℕ) → x % last-flag < no-name → y ≡ getD w (x % last-flag) 0 → not (eqb y 0) ≡ entry-met w x
 unfolding entry-met
-entry-some w x y l e = rw (lt-ltb (x % last-entry) no-name l, e)
+entry-some w x y l e = rw (lt-ltb (x % last-flag) no-name l, e)
 
 pub fires-end : (w l : List ℕ) (good : Bool) (i e : ℕ) → e ≤ i → fires-in w good (part l i e) ≡ false
 unfolding fires-in
@@ -31,45 +30,45 @@ fires-end w l good i e a = rw (part-nil l i e a)
 
 module _ (w l : List ℕ) (i e x : ℕ) (a : i < e) (b : e ≤ length l) (c : x ≡ getD l i 0) where
   -- an entry passed
-  pub past-last : last-entry ≤ x → fires-in w false (part l i e) ≡ fires-in w true (part l (i + 1) e)
+  pub past-last : last-flag ≤ x → fires-in w false (part l i e) ≡ fires-in w true (part l (i + 1) e)
   unfolding fires-in
-  past-last d = rw (part-cons l i e a b, ← c, le-ltb x last-entry d)
+  past-last d = rw (part-cons l i e a b, ← c, le-ltb x last-flag d)
 
-  pub past-next : x < last-entry → fires-in w false (part l i e) ≡ fires-in w false (part l (i + 1) e)
+  pub past-next : x < last-flag → fires-in w false (part l i e) ≡ fires-in w false (part l (i + 1) e)
   unfolding fires-in
-  past-next d = rw (part-cons l i e a b, ← c, lt-ltb x last-entry d)
+  past-next d = rw (part-cons l i e a b, ← c, lt-ltb x last-flag d)
 
   -- an entry looked at
   module _ (y : Bool) (p : y ≡ entry-met w x) where
-    pub fires-unmet : y ≡ false → x < last-entry → fires-in w true (part l i e) ≡ fires-in w false (part l (i + 1) e)
+    pub fires-unmet : y ≡ false → x < last-flag → fires-in w true (part l i e) ≡ fires-in w false (part l (i + 1) e)
     unfolding fires-in
-    fires-unmet q s = rw (part-cons l i e a b, ← c, lt-ltb x last-entry s, ← p, q)
+    fires-unmet q s = rw (part-cons l i e a b, ← c, lt-ltb x last-flag s, ← p, q)
 
-    pub fires-unmet-last : y ≡ false → last-entry ≤ x → fires-in w true (part l i e) ≡ fires-in w true (part l (i + 1) e)
+    pub fires-unmet-last : y ≡ false → last-flag ≤ x → fires-in w true (part l i e) ≡ fires-in w true (part l (i + 1) e)
     unfolding fires-in
-    fires-unmet-last q s = rw (part-cons l i e a b, ← c, le-ltb x last-entry s, ← p, q)
+    fires-unmet-last q s = rw (part-cons l i e a b, ← c, le-ltb x last-flag s, ← p, q)
 
-    pub fires-met : y ≡ true → x < last-entry → fires-in w true (part l i e) ≡ fires-in w true (part l (i + 1) e)
+    pub fires-met : y ≡ true → x < last-flag → fires-in w true (part l i e) ≡ fires-in w true (part l (i + 1) e)
     unfolding fires-in
-    fires-met q s = rw (part-cons l i e a b, ← c, lt-ltb x last-entry s, ← p, q)
+    fires-met q s = rw (part-cons l i e a b, ← c, lt-ltb x last-flag s, ← p, q)
 
-    pub fires-met-last : y ≡ true → last-entry ≤ x → fires-in w true (part l i e) ≡ true
+    pub fires-met-last : y ≡ true → last-flag ≤ x → fires-in w true (part l i e) ≡ true
     unfolding fires-in
-    fires-met-last q s = rw (part-cons l i e a b, ← c, le-ltb x last-entry s, ← p, q)
+    fires-met-last q s = rw (part-cons l i e a b, ← c, le-ltb x last-flag s, ← p, q)
 
 -- ---- their answer
 
 -- an entry's name is met where its number is
 entry-at : (w : List ℕ) (x : ℕ) → all (is-met w) (entry-number x) ≡ entry-met w x
 unfolding entry-number entry-met all is-met
-entry-at w x = go (ltb (x % last-entry) no-name)
+entry-at w x = go (ltb (x % last-flag) no-name)
   where
     zero-test : (v : ℕ) → (ltb 0 v && true) ≡ not (eqb v 0)
     zero-test zero = refl
     zero-test (suc v) = rw (lt-ltb 0 (suc v) (omega arith), ne-eqb (suc v) 0 (λ e. omega (arith, e)))
 
-    go : (b : Bool) → all (is-met w) (cond b (x % last-entry ∷ []) []) ≡ not (b && eqb (getD w (x % last-entry) 0) 0)
-    go true = zero-test (getD w (x % last-entry) 0)
+    go : (b : Bool) → all (is-met w) (cond b (x % last-flag ∷ []) []) ≡ not (b && eqb (getD w (x % last-flag) 0) 0)
+    go true = zero-test (getD w (x % last-flag) 0)
     go false = refl
 
 -- whether a disjunct is met, where of the first some is passed
@@ -91,17 +90,17 @@ first-more w good ns (e ∷ ds) d = rw (all-append (is-met w) ns e, and-assoc go
 -- entries whose last ends its disjunct
 data Ended : List ℕ → Type 0 where
   none : Ended []
-  end : {x : ℕ} {xs : List ℕ} → last-entry ≤ x → Ended xs → Ended (x ∷ xs)
-  more : {x y : ℕ} {xs : List ℕ} → x < last-entry → Ended (y ∷ xs) → Ended (x ∷ y ∷ xs)
+  end : {x : ℕ} {xs : List ℕ} → last-flag ≤ x → Ended xs → Ended (x ∷ xs)
+  more : {x y : ℕ} {xs : List ℕ} → x < last-flag → Ended (y ∷ xs) → Ended (x ∷ y ∷ xs)
 
-ended : (ws : List ℕ) → ((i : ℕ) → i + 1 ≡ length ws → last-entry ≤ getD ws i 0) → Ended ws
+ended : (ws : List ℕ) → ((i : ℕ) → i + 1 ≡ length ws → last-flag ≤ getD ws i 0) → Ended ws
 ended [] c = none
 ended (x ∷ []) c = end (c 0 refl) none
-ended (x ∷ y ∷ ws) c = go (ltb x last-entry) refl (ended (y ∷ ws) (λ i e. rw (add-one i) at (c (i + 1) (omega arith))))
+ended (x ∷ y ∷ ws) c = go (ltb x last-flag) refl (ended (y ∷ ws) (λ i e. rw (add-one i) at (c (i + 1) (omega arith))))
   where
-    go : (b : Bool) → ltb x last-entry ≡ b → Ended (y ∷ ws) → Ended (x ∷ y ∷ ws)
-    go true e d = more (ltb-true x last-entry e) d
-    go false e d = end (ltb-false x last-entry e) d
+    go : (b : Bool) → ltb x last-flag ≡ b → Ended (y ∷ ws) → Ended (x ∷ y ∷ ws)
+    go true e d = more (ltb-true x last-flag e) d
+    go false e d = end (ltb-false x last-flag e) d
 
 not-nil : {A : Type 0} (x : A) (l : List A) → x ∷ l ≡ [] → ⊥
 not-nil x l e = let z : _≡_ {A = ℕ} 0 1 = cc in omega arith
@@ -113,7 +112,7 @@ first-not-nil ns (d ∷ ds) e = not-nil _ _ e
 
 some-disjunct : (x : ℕ) (xs : List ℕ) → disjuncts-of-words (x ∷ xs) ≡ [] → ⊥
 unfolding disjuncts-of-words
-some-disjunct x xs e = go (ltb x last-entry) e
+some-disjunct x xs e = go (ltb x last-flag) e
   where
     go : (b : Bool) → cond b (before-first (entry-number x) (disjuncts-of-words xs)) (entry-number x ∷ disjuncts-of-words xs) ≡ [] → ⊥
     go true e = first-not-nil _ _ e
@@ -123,13 +122,13 @@ fires-law : (w : List ℕ) (good : Bool) {ws : List ℕ} → Ended ws → fires-
 unfolding fires-in disjuncts-of-words first-met
 fires-law w good none = refl
 fires-law w good (end {x} {xs} l d) =
-    rw (le-ltb x last-entry l, entry-at w x, fires-law w true d)
+    rw (le-ltb x last-flag l, entry-at w x, fires-law w true d)
     (ap (λ b. (good && entry-met w x) || b) (first-true w (disjuncts-of-words xs)))
 fires-law w good (more {x} {y} {xs} l d) =
-    rw (lt-ltb x last-entry l, first-more w good (entry-number x) (disjuncts-of-words (y ∷ xs)) (some-disjunct y xs), entry-at w x)
+    rw (lt-ltb x last-flag l, first-more w good (entry-number x) (disjuncts-of-words (y ∷ xs)) (some-disjunct y xs), entry-at w x)
     (fires-law w (good && entry-met w x) d)
 
 -- of entries whose last ends its disjunct the loops' answer is the definition's
-pub fires-exact : (w ws : List ℕ) → ((i : ℕ) → i + 1 ≡ length ws → last-entry ≤ getD ws i 0)
+pub fires-exact : (w ws : List ℕ) → ((i : ℕ) → i + 1 ≡ length ws → last-flag ≤ getD ws i 0)
     → fires-in w true ws ≡ any (all (is-met w)) (disjuncts-of-words ws)
 fires-exact w ws c = fires-law w true (ended ws c) ∙ first-true w (disjuncts-of-words ws)

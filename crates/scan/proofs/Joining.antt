@@ -17,8 +17,8 @@ use Rattle.model.proofs.ListLaws.{true-T, count-cong}
 use Rattle.model.proofs.PartLaws.{part-elim, part-intro, part-length}
 use Rattle.names.specs.Table.{name-of}
 use Rattle.names.proofs.Laws.{distinct}
-use Rattle.triggers.specs.Entries.{Entries, disjuncts-of}
-use Rattle.records.specs.Columns.{record-kind, uses-end, entries-start, entries-end, assume-kind, last-entry, no-name, entry-column, entry-word, entry-name, entry-fact, taken-at, macro-at}
+use Rattle.triggers.specs.Entries.{Entries, disjuncts-of, last-flag, no-name, entries-base}
+use Rattle.records.specs.Columns.{record-kind, uses-end, entries-start, entries-end, assume-kind, entry-word, entry-name, entry-fact, taken-at, macro-at}
 use Rattle.records.specs.States.{uses-at, entries-at, free-at, fact-at, decls-of, ask-of}
 use Rattle.records.specs.Filing.{Records, Filing}
 use Rattle.records.specs.Macros.{opened-word, Filled}
@@ -44,7 +44,7 @@ module _ {file names recs out : List ℕ} {k : Counts} (x : Filled file names re
   use-room : (i : ℕ) → i < k .records → uses-end recs i ≤ length out
   use-room i h = omega (arith, r .uses-in i h, r .few-uses, r .out-room)
 
-  entry-room : (i : ℕ) → i < k .records → entry-column + entries-end recs i ≤ length out
+  entry-room : (i : ℕ) → i < k .records → entries-base + entries-end recs i ≤ length out
   entry-room i h = omega (arith, r .entries-in i h, r .few-entries, r .out-room)
 
   -- an entry of a record, by its place
@@ -55,20 +55,20 @@ module _ {file names recs out : List ℕ} {k : Counts} (x : Filled file names re
       let lo = p .low in
       let hi = p .high in
       let f = r .entries-in i h in
-      let z : entry-column + (p .place - entry-column) ≡ p .place = omega arith in
-      (p .place - entry-column, omega arith, omega arith, omega arith, ap (λ j. getD out j 0) z ∙ p .is)
+      let z : entries-base + (p .place - entries-base) ≡ p .place = omega arith in
+      (p .place - entries-base, omega arith, omega arith, omega arith, ap (λ j. getD out j 0) z ∙ p .is)
 
   -- the entries of a record
   row-entries : (i : ℕ) → i < k .records → Entries (k .named) (entries-at recs out i)
   row-entries i h = record {
     small = λ w m.
         let (e, a, b, c, d) = entry-at h m in
-        ⊎-elim (λ q. inl (subst (λ w. w % last-entry < k .named) d q)) (λ q. inr (subst (λ w. w % last-entry ≡ no-name) d q)) (r .entry-words e c);
-    flagged = λ w m. let (e, a, b, c, d) = entry-at h m in subst (λ w. w < last-entry + last-entry) d (g .flagged e c);
+        ⊎-elim (λ q. inl (subst (λ w. w % last-flag < k .named) d q)) (λ q. inr (subst (λ w. w % last-flag ≡ no-name) d q)) (r .entry-words e c);
+    flagged = λ w m. let (e, a, b, c, d) = entry-at h m in subst (λ w. w < last-flag + last-flag) d (g .flagged e c);
     closed = λ j e.
-        let n = part-length out (entry-column + entries-start recs i) (entry-column + entries-end recs i) (entry-room i h) in
-        let z : entry-column + entries-start recs i + j ≡ entry-column + (entries-end recs i - 1) = omega arith in
-        let lt : j < entry-column + entries-end recs i - (entry-column + entries-start recs i) = omega arith in
+        let n = part-length out (entries-base + entries-start recs i) (entries-base + entries-end recs i) (entry-room i h) in
+        let z : entries-base + entries-start recs i + j ≡ entries-base + (entries-end recs i - 1) = omega arith in
+        let lt : j < entries-base + entries-end recs i - (entries-base + entries-start recs i) = omega arith in
         rw (getD-take, getD-drop, z) (g .ended i h (omega arith));
   }
 
@@ -99,7 +99,7 @@ module _ {file names recs out : List ℕ} {k : Counts} (x : Filled file names re
     opens-small = λ n m h q. opens-low n m h (opens-elim recs out (macro-at names n) m q);
     disjuncts-small = λ i n d h p q.
         let (w, a, b, c) = numbers-elim (entries-at recs out i) p q in
-        ⊎-elim (λ (y : w % last-entry < k .named). omega arith) (λ (y : w % last-entry ≡ no-name). absurd (omega arith)) (row-entries i h .small w a);
+        ⊎-elim (λ (y : w % last-flag < k .named). omega arith) (λ (y : w % last-flag ≡ no-name). absurd (omega arith)) (row-entries i h .small w a);
     fact-small = λ e h. entry-owner g e h .0;
     fact-is = λ e h. true-T (eq-eqb (record-kind recs (entry-fact out e)) assume-kind (entry-owner g e h .1));
     row-small = λ i h q. r .named-in i h (λ z. omega (arith, eqb→eq (record-kind recs i) assume-kind q));
@@ -152,7 +152,7 @@ module _ {file names recs out : List ℕ} {k : Counts} (x : Filled file names re
       let (a, b, c, d) = entry-owner g e h in
       let i = entry-fact out e in
       word-listed name (entries-at recs out i)
-      (part-intro out (entry-column + entries-start recs i) (entry-column + entries-end recs i) (entry-column + e) (entry-room i a) (omega arith) (omega arith))
+      (part-intro out (entries-base + entries-start recs i) (entries-base + entries-end recs i) (entries-base + e) (entry-room i a) (omega arith) (omega arith))
       (omega (arith, x .table .few))
 
   at-listed : (i : ℕ) (y : Name) → i < k .records → List·Memᴰ y (listed (fact-at name recs out i))
@@ -161,7 +161,7 @@ module _ {file names recs out : List ℕ} {k : Counts} (x : Filled file names re
   at-listed i y h q =
       let (w, a, b, c) = listed-word name (entries-at recs out i) q in
       let (e, lo, hi, m, s) = entry-at h a in
-      let v : entry-name out e ≡ w % last-entry = ap (λ o. o % last-entry) s in
+      let v : entry-name out e ≡ w % last-flag = ap (λ o. o % last-flag) s in
       (e, m, g .facts i e h lo hi, ⊎-elim (λ o. o) (λ o. absurd (omega arith)) (r .entry-words e m), c ∙ ap name (sym v))
 
   pub holds : Holds (held-of names recs out k) (name-of file names) (ask-of k) (macros (decls-of (name-of file names) recs out (k .records)))

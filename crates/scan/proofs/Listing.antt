@@ -16,8 +16,7 @@ use Rattle.model.specs.declared.Order.the-variants.{Before, Same, After}
 use Rattle.model.proofs.ListLaws.{count-append, concat-intro, concat-elim, collect-intro, collect-elim, map-intro, map-elim}
 use Rattle.model.proofs.SetLaws.{add-length, from-list-length, mem-intro, mem-elim, mem-from-list}
 use Rattle.model.proofs.PartLaws.{part-nil, part-snoc}
-use Rattle.triggers.specs.Entries.{disjuncts-of, disjuncts-of-words, before-first, entry-number}
-use Rattle.records.specs.Columns.{last-entry, no-name}
+use Rattle.triggers.specs.Entries.{disjuncts-of, disjuncts-of-words, before-first, entry-number, last-flag, no-name}
 use Rattle.scan.specs.Held.{upto}
 
 -- ---- a set as long as its list counts as the list does
@@ -97,7 +96,7 @@ front-concat ns (d ∷ ds) = append-assoc ns d (concat ds)
 words-concat : (ws : List ℕ) → concat (disjuncts-of-words ws) ≡ collect entry-number ws
 unfolding disjuncts-of-words concat collect
 words-concat [] = refl
-words-concat (w ∷ ws) = go (ltb w last-entry) ∙ ap (entry-number w ++_) (words-concat ws)
+words-concat (w ∷ ws) = go (ltb w last-flag) ∙ ap (entry-number w ++_) (words-concat ws)
   where
     go : (b : Bool)
         → concat (cond b (before-first (entry-number w) (disjuncts-of-words ws)) (entry-number w ∷ disjuncts-of-words ws))
@@ -114,29 +113,29 @@ one-more : (b : Bool) (m n : ℕ) → m ≡ n → cond b 1 0 + m ≡ cond b (1 +
 one-more true m n e = omega arith
 one-more false m n e = omega arith
 
-number-count : (q : ℕ → Bool) (w : ℕ) → count q (entry-number w) ≡ cond (ltb (w % last-entry) no-name && q (w % last-entry)) 1 0
+number-count : (q : ℕ → Bool) (w : ℕ) → count q (entry-number w) ≡ cond (ltb (w % last-flag) no-name && q (w % last-flag)) 1 0
 unfolding entry-number count
-number-count q w = go (ltb (w % last-entry) no-name)
+number-count q w = go (ltb (w % last-flag) no-name)
   where
-    go : (b : Bool) → count q (cond b (w % last-entry ∷ []) []) ≡ cond (b && q (w % last-entry)) 1 0
+    go : (b : Bool) → count q (cond b (w % last-flag ∷ []) []) ≡ cond (b && q (w % last-flag)) 1 0
     go true = refl
     go false = refl
 
 numbers-count : (q : ℕ → Bool) (ws : List ℕ)
-    → count q (collect entry-number ws) ≡ count (λ w. ltb (w % last-entry) no-name && q (w % last-entry)) ws
+    → count q (collect entry-number ws) ≡ count (λ w. ltb (w % last-flag) no-name && q (w % last-flag)) ws
 unfolding collect count
 numbers-count q [] = refl
 numbers-count q (w ∷ ws) =
     count-append q (entry-number w) (collect entry-number ws)
-    ∙ rw (number-count q w) (one-more (ltb (w % last-entry) no-name && q (w % last-entry)) _ _ (numbers-count q ws))
+    ∙ rw (number-count q w) (one-more (ltb (w % last-flag) no-name && q (w % last-flag)) _ _ (numbers-count q ws))
 
 -- ---- words hold no more numbers than they are
 
 number-size : (w : ℕ) → length (entry-number w) ≤ 1
 unfolding entry-number
-number-size w = go (ltb (w % last-entry) no-name)
+number-size w = go (ltb (w % last-flag) no-name)
   where
-    go : (b : Bool) → length (cond b (w % last-entry ∷ []) []) ≤ 1
+    go : (b : Bool) → length (cond b (w % last-flag ∷ []) []) ≤ 1
     go true = omega arith
     go false = omega arith
 
@@ -152,7 +151,7 @@ front-size ns (d ∷ ds) h = let a = length-append ns d in omega arith
 words-size : (ws : List ℕ) → size (disjuncts-of-words ws) ≤ length ws
 unfolding disjuncts-of-words sum
 words-size [] = omega arith
-words-size (w ∷ ws) = go (ltb w last-entry) (words-size ws)
+words-size (w ∷ ws) = go (ltb w last-flag) (words-size ws)
   where
     go : (b : Bool) → size (disjuncts-of-words ws) ≤ length ws
         → size (cond b (before-first (entry-number w) (disjuncts-of-words ws)) (entry-number w ∷ disjuncts-of-words ws)) ≤ suc (length ws)
@@ -189,7 +188,7 @@ counts-map p name (d ∷ ds) = ap₂ _+_ (count-map p name d) (counts-map p name
 
 -- words that are as many as their sets take entries count as the sets do
 pub listed-count : (p : Name → Bool) (name : ℕ → Name) (ws : List ℕ) → length ws ≡ entries (disjuncts-of name ws)
-    → count p (concat (disjuncts-of name ws)) ≡ count (λ w. ltb (w % last-entry) no-name && p (name (w % last-entry))) ws
+    → count p (concat (disjuncts-of name ws)) ≡ count (λ w. ltb (w % last-flag) no-name && p (name (w % last-flag))) ws
 unfolding disjuncts-of
 listed-count p name ws e =
     let ds = disjuncts-of-words ws in
@@ -232,31 +231,31 @@ places-count q l b s (suc d) h =
 
 -- ---- the listed names are those of the words
 
-number-elim : (w n : ℕ) → List·Memᴰ n (entry-number w) → (n ≡ w % last-entry) × (w % last-entry < no-name)
+number-elim : (w n : ℕ) → List·Memᴰ n (entry-number w) → (n ≡ w % last-flag) × (w % last-flag < no-name)
 unfolding entry-number
-number-elim w n m = go (ltb (w % last-entry) no-name) refl m
+number-elim w n m = go (ltb (w % last-flag) no-name) refl m
   where
-    go : (b : Bool) → ltb (w % last-entry) no-name ≡ b → List·Memᴰ n (cond b (w % last-entry ∷ []) []) → (n ≡ w % last-entry) × (w % last-entry < no-name)
+    go : (b : Bool) → ltb (w % last-flag) no-name ≡ b → List·Memᴰ n (cond b (w % last-flag ∷ []) []) → (n ≡ w % last-flag) × (w % last-flag < no-name)
     go true e m =
-        (⊎-elim (λ q. q) (λ q. absurd (List·Memᴰ·not-nil q)) (List·Memᴰ·cases-cons m), ltb-true (w % last-entry) no-name e)
+        (⊎-elim (λ q. q) (λ q. absurd (List·Memᴰ·not-nil q)) (List·Memᴰ·cases-cons m), ltb-true (w % last-flag) no-name e)
     go false e m = absurd (List·Memᴰ·not-nil m)
 
-number-intro : (w : ℕ) → w % last-entry < no-name → List·Memᴰ (w % last-entry) (entry-number w)
+number-intro : (w : ℕ) → w % last-flag < no-name → List·Memᴰ (w % last-flag) (entry-number w)
 unfolding entry-number
-number-intro w h = rw (lt-ltb (w % last-entry) no-name h) (List·Memᴰ·head refl)
+number-intro w h = rw (lt-ltb (w % last-flag) no-name h) (List·Memᴰ·head refl)
 
-pub word-listed : (name : ℕ → Name) (ws : List ℕ) {w : ℕ} → List·Memᴰ w ws → w % last-entry < no-name
-    → List·Memᴰ (name (w % last-entry)) (concat (disjuncts-of name ws))
+pub word-listed : (name : ℕ → Name) (ws : List ℕ) {w : ℕ} → List·Memᴰ w ws → w % last-flag < no-name
+    → List·Memᴰ (name (w % last-flag)) (concat (disjuncts-of name ws))
 unfolding disjuncts-of
 word-listed name ws {w} m h =
-    let k : List·Memᴰ (w % last-entry) (concat (disjuncts-of-words ws)) =
+    let k : List·Memᴰ (w % last-flag) (concat (disjuncts-of-words ws)) =
     rw (words-concat ws) (collect-intro entry-number m (number-intro w h)) in
     let (d, i, j) = concat-elim (disjuncts-of-words ws) k in
     concat-intro (map-intro (λ ns. from-list (map name ns)) i)
-    (mem-elim (mem-from-list (name (w % last-entry)) (map name d) .1 (mem-intro (map-intro name j))))
+    (mem-elim (mem-from-list (name (w % last-flag)) (map name d) .1 (mem-intro (map-intro name j))))
 
 pub listed-word : (name : ℕ → Name) (ws : List ℕ) {k : Name} → List·Memᴰ k (concat (disjuncts-of name ws))
-    → (w : ℕ) × List·Memᴰ w ws × (w % last-entry < no-name) × (k ≡ name (w % last-entry))
+    → (w : ℕ) × List·Memᴰ w ws × (w % last-flag < no-name) × (k ≡ name (w % last-flag))
 unfolding disjuncts-of
 listed-word name ws {k} m =
     let (s, i, j) = concat-elim (map (λ ns. from-list (map name ns)) (disjuncts-of-words ws)) m in
@@ -268,7 +267,7 @@ listed-word name ws {k} m =
 
 -- a number of a disjunct is that of a word
 pub numbers-elim : (ws : List ℕ) {d : List ℕ} {n : ℕ} → List·Memᴰ d (disjuncts-of-words ws) → List·Memᴰ n d
-    → (w : ℕ) × List·Memᴰ w ws × (n ≡ w % last-entry) × (w % last-entry < no-name)
+    → (w : ℕ) × List·Memᴰ w ws × (n ≡ w % last-flag) × (w % last-flag < no-name)
 numbers-elim ws {d} {n} p q =
     let (w, a, b) = collect-elim entry-number ws (rw (words-concat ws) at (concat-intro p q)) in
     let (e, l) = number-elim w n b in

@@ -20,11 +20,11 @@ use Rattle.model.proofs.SetLaws.{mem-intro, mem-elim, mem-from-list}
 use Rattle.model.proofs.PartLaws.{part-elim}
 use Rattle.demands.proofs.MapLaws.{Found, bound, unbound, found, try-find-append}
 use Rattle.names.specs.Known.{known-names, head-code}
-use Rattle.names.specs.Table.{Table, name-of}
+use Rattle.names.specs.Table.{Table, name-of, name-code}
 use Rattle.names.proofs.Coded.{code-exact}
 use Rattle.names.proofs.Laws.{distinct}
 use Rattle.terms.proofs.Laws.{equal, below}
-use Rattle.records.specs.Columns.{record-kind, record-name, uses-end, def-kind, taken-at, name-code}
+use Rattle.records.specs.Columns.{record-kind, record-name, uses-end, def-kind, taken-at}
 use Rattle.records.specs.States.{uses-at, free-at, decl-at, decls-of}
 use Rattle.records.specs.Filing.{Records, newest, Taken}
 use Rattle.records.specs.Macros.{opened-word, first-macro, macro-count, opened, start-word, is-def, macro-word, opens-at}

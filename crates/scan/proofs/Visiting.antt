@@ -11,7 +11,8 @@ use Rattle.model.specs.Lists.{part}
 use Rattle.model.specs.Reading.{most-records, most-entries, pretyping-axioms}
 use Rattle.model.specs.declared.Counts.{Counts}
 use Rattle.model.proofs.ListLaws.{false-T}
-use Rattle.records.specs.Columns.{record-flag, entries-start, entries-end, entry-column, entry-fact}
+use Rattle.triggers.specs.Entries.{entries-base}
+use Rattle.records.specs.Columns.{record-flag, entries-start, entries-end, entry-fact}
 use Rattle.records.specs.States.{entries-at, ask-of}
 use Rattle.scan.specs.Tables.{retained, held-of, Laid}
 use Rattle.scan.specs.Steps.{Going, going, reached-column, work-column, is-met, is-reached, fires-in, fires-on, counted, reach, visit, unreached, work-room, Room}
@@ -63,7 +64,7 @@ module _ {names recs out : List ℕ} {k : Counts} (laid : Laid names recs out k)
     pub entries-place : (x ≤ y) × (y ≤ most-entries)
     entries-place = let z = laid .entry-place i fact-low in (omega arith, omega arith)
 
-    module _ (w : List ℕ) (f : Bool) (u : f ≡ fires-in w true (part out (entry-column + x) (entry-column + y))) where
+    module _ (w : List ℕ) (f : Bool) (u : f ≡ fires-in w true (part out (entries-base + x) (entries-base + y))) where
       -- what the loops find of it
       fires-so : fires-on (held-of names recs out k) (is-met w) (entry-fact out e) ≡ f
       unfolding fires-on held-of

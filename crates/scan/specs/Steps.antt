@@ -7,7 +7,7 @@ use lib.Dec.{T, ltb, eqb}
 use lib.ListN.{length, getD, set}
 use Rattle.model.specs.Lists.{any, all, count, collect, fold-left, part}
 use Rattle.model.specs.Reading.{most-names, most-records, most-entries}
-use Rattle.records.specs.Columns.{last-entry, no-name}
+use Rattle.triggers.specs.Entries.{last-flag, no-name}
 use Rattle.scan.specs.Held.{Held, upto, waiting}
 use Rattle.scan.specs.declared.Scan.{Scan}
 
@@ -43,7 +43,7 @@ marks r w ns = fold-left (mark r) w ns
 
 -- whether the name of an entry is met, or it has none
 unfoldable pub entry-met : List ℕ → ℕ → Bool
-entry-met w x = not (ltb (x % last-entry) no-name && eqb (getD w (x % last-entry) 0) 0)
+entry-met w x = not (ltb (x % last-flag) no-name && eqb (getD w (x % last-flag) 0) 0)
 
 -- whether a disjunct of entries is wholly met, where of the first some are passed, all of them met or not
 unfoldable pub fires-in : List ℕ → Bool → List ℕ → Bool
@@ -51,7 +51,7 @@ fires-in w good [] = false
 fires-in w good (x ∷ xs) =
     let rest = fires-in w (good && entry-met w x) xs in
     let next = fires-in w true xs in
-    cond (ltb x last-entry) rest ((good && entry-met w x) || next)
+    cond (ltb x last-flag) rest ((good && entry-met w x) || next)
 
 -- the state of a run and its slice
 pub record Going : Type 0 where

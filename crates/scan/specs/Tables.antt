@@ -6,9 +6,10 @@ use mathlib.Core.List.{List}
 use lib.Dec.{eqb}
 use lib.ListN.{length, getD}
 use Rattle.model.specs.Reading.{most-names, most-records, most-entries, most-uses, pretyping-axioms}
+use Rattle.model.specs.Outcome.{working-words}
 use Rattle.model.specs.declared.Counts.{Counts}
-use Rattle.triggers.specs.Entries.{Entries, disjuncts-of-words}
-use Rattle.records.specs.Columns.{record-kind, record-name, record-flag, uses-start, uses-end, entries-start, entries-end, assume-kind, no-name, entry-name, entry-fact, next-entry, macro-at, first-entry}
+use Rattle.triggers.specs.Entries.{Entries, disjuncts-of-words, no-name}
+use Rattle.records.specs.Columns.{record-kind, record-name, record-flag, uses-start, uses-end, entries-start, entries-end, assume-kind, entry-name, entry-fact, next-entry, macro-at, first-entry}
 use Rattle.records.specs.States.{uses-at, entries-at, ask-of}
 use Rattle.records.specs.Filing.{newest}
 use Rattle.records.specs.Macros.{opened-word, opens-at}
@@ -48,9 +49,9 @@ Goes names recs out k step s w s′ w′ = going s′ w′ ≡ step (held-of nam
 -- what the steps of a run ask of the slices
 pub record Laid (names recs out : List ℕ) (k : Counts) : Type 0 where
   pub fits : Fits (held-of names recs out k)
-  pub name-room : 16384 ≤ length names
-  pub record-room : 16384 ≤ length recs
-  pub list-room : 16384 ≤ length out
+  pub name-room : working-words ≤ length names
+  pub record-room : working-words ≤ length recs
+  pub list-room : working-words ≤ length out
   pub few-names : k .named ≤ most-names
   pub few-records : k .records ≤ most-records
   pub few-entries : k .entries ≤ most-entries

@@ -6,6 +6,7 @@ ghost use mathlib.Core.List.{List};
 ghost use lib.ListN.{length, getD};
 ghost use Rattle.model.specs.Lists.{part};
 ghost use Rattle.model.specs.Reading.{most-names, most-records, most-entries};
+ghost use Rattle.model.specs.Outcome.{working-words};
 ghost use Rattle.records.specs.Columns.{macro-at};
 ghost use Rattle.records.specs.Macros.{opens-at, Filled};
 ghost use Rattle.scan.specs.Held.{waiting};
@@ -18,9 +19,6 @@ ghost use Rattle.scan.specs.Runs.{Ran};
 pub const REACHED: usize = 2048;
 
 const WORK: usize = 3072;
-
-// The summary code of an ambient root.
-const AMBIENT_ROOT: usize = 2;
 
 // The state of a run: the part of the worklist that the next round scans, the visits, the rounds, and whether the last round
 // triggered a fact.
@@ -113,7 +111,7 @@ fn past(out: &[u32], i: usize, e: usize) -> usize
     while j < e {
         let x = words::at(out, j);
         j += 1;
-        if records::LAST_ENTRY <= x {
+        if triggers::LAST <= x {
             return j;
         }
     }
@@ -125,8 +123,8 @@ fn entry_met(run: &[u32], x: usize) -> bool
     requires { ⌜ most-names ≤ length (now run) ⌝ }
     ensures { λ r. ⌜ r ≡ entry-met (now (run .entry)) x ⌝ }
 {
-    let n = x % records::LAST_ENTRY;
-    if records::NO_NAME <= n {
+    let n = x % triggers::LAST;
+    if triggers::NO_NAME <= n {
         return true;
     }
     words::at(run, n) != 0
@@ -143,12 +141,12 @@ fn fires(out: &[u32], run: &[u32], a: usize, e: usize) -> bool
             let x = words::at(out, i);
             i += 1;
             if !entry_met(run, x) {
-                if x < records::LAST_ENTRY {
+                if x < triggers::LAST {
                     i = past(out, i, e);
                 }
                 continue 'disjuncts;
             }
-            if records::LAST_ENTRY <= x {
+            if triggers::LAST <= x {
                 break 'disjuncts true;
             }
         }
@@ -158,18 +156,19 @@ fn fires(out: &[u32], run: &[u32], a: usize, e: usize) -> bool
 
 // Whether a record is retainable: its flag is 0, or option 2 is on.
 fn retained(recs: &[u32], k: Counts, i: usize) -> bool
-    requires { ⌜ (i < most-records) × (16384 ≤ length (now recs)) ⌝ }
+    requires { ⌜ (i < most-records) × (working-words ≤ length (now recs)) ⌝ }
     ensures { λ r. ⌜ r ≡ retained (now (recs .entry)) k i ⌝ }
 {
     if words::at(recs, records::FLAG + i) != 1 {
         return true;
     }
-    records::pretyping_axioms(k.options)
+    let options = records::options_of(k.options);
+    options.pretyping_axioms
 }
 
 // Whether round 1 scans a record: a root of the query or, without option 1, an ambient root.
 fn starts(recs: &[u32], k: Counts, i: usize) -> bool
-    requires { ⌜ (i < most-records) × (16384 ≤ length (now recs)) ⌝ }
+    requires { ⌜ (i < most-records) × (working-words ≤ length (now recs)) ⌝ }
     ensures { λ r. ⌜ r ≡ starts-at (now (recs .entry)) k i ⌝ }
 {
     let kind = words::at(recs, records::KIND + i);
@@ -179,10 +178,11 @@ fn starts(recs: &[u32], k: Counts, i: usize) -> bool
     if kind != records::ASSUME {
         return false;
     }
-    if words::at(recs, records::SUMMARY + i) != AMBIENT_ROOT {
+    if words::at(recs, records::SUMMARY + i) != records::AMBIENT_ROOT {
         return false;
     }
-    !records::no_ambients(k.options)
+    let options = records::options_of(k.options);
+    !options.no_ambients
 }
 
 impl Scan {
@@ -207,7 +207,7 @@ impl Scan {
 
     // Puts the records that round 1 scans behind the worklist.
     fn add_roots(self, recs: &[u32], run: &mut [u32], k: Counts) -> Scan
-        requires { ⌜ (k .records ≤ most-records) × (16384 ≤ length (now recs)) × (run-end ≤ length (now run)) × (self .to + k .records ≤ work-room) ⌝ }
+        requires { ⌜ (k .records ≤ most-records) × (working-words ≤ length (now recs)) × (run-end ≤ length (now run)) × (self .to + k .records ≤ work-room) ⌝ }
         ensures { λ r. ⌜ going r (now (run .exit)) ≡ pushed (starts-at (now (recs .entry)) k) (k .records) (going self (now (run .entry))) ⌝ }
     {
         let count = k.records;
@@ -245,8 +245,8 @@ impl Scan {
         ensures { λ r. ⌜ Goes (now (names .entry)) (now (recs .entry)) (now (out .entry)) k (λ h g. visit h g e) self (now (run .entry)) r (now (run .exit)) ⌝ }
     {
         let i = words::at(out, records::FACT + e);
-        let a = records::ENTRY + words::at(recs, records::ENTRIES_START + i);
-        let z = records::ENTRY + words::at(recs, records::ENTRIES_END + i);
+        let a = triggers::ENTRIES + words::at(recs, records::ENTRIES_START + i);
+        let z = triggers::ENTRIES + words::at(recs, records::ENTRIES_END + i);
         let to = self.to;
         let visits = self.visits + 1;
         if !fires(out, run, a, z) {

@@ -52,14 +52,19 @@ pub limited-done : (x : Summary) {s : Summary} → summarized.Done s ≡ limited
 unfolding limited
 limited-done x {s} p = names (ltb 2048 (x .named)) refl p
   where
-    uses : (b : Bool) → ltb 6144 (x .uses) ≡ b → x .named ≤ 2048 → x .entries ≤ 2048 → summarized.Done s ≡ cond b (summarized.Over limit.Uses) (summarized.Done x) → (s ≡ x) × (s .named ≤ 2048) × (s .entries ≤ 2048) × (s .uses ≤ 6144)
+    uses : (b : Bool) → ltb 6144 (x .uses) ≡ b → x .named ≤ 2048 → x .entries ≤ 2048
+        → summarized.Done s ≡ cond b (summarized.Over limit.Uses) (summarized.Done x) → (s ≡ x) × (s .named ≤ 2048) × (s .entries ≤ 2048) × (s .uses ≤ 6144)
     uses true q n e r = absurd (over-none (sym r))
     uses false q n e r = let is = done-one r in rw is (refl, n, e, ltb-false 6144 (x .uses) q)
 
-    filed : (b : Bool) → ltb 2048 (x .entries) ≡ b → x .named ≤ 2048 → summarized.Done s ≡ cond b (summarized.Over limit.Entries) (cond (ltb 6144 (x .uses)) (summarized.Over limit.Uses) (summarized.Done x)) → (s ≡ x) × (s .named ≤ 2048) × (s .entries ≤ 2048) × (s .uses ≤ 6144)
+    filed : (b : Bool) → ltb 2048 (x .entries) ≡ b → x .named ≤ 2048
+        → summarized.Done s ≡ cond b (summarized.Over limit.Entries) (cond (ltb 6144 (x .uses)) (summarized.Over limit.Uses) (summarized.Done x))
+        → (s ≡ x) × (s .named ≤ 2048) × (s .entries ≤ 2048) × (s .uses ≤ 6144)
     filed true q n r = absurd (over-none (sym r))
     filed false q n r = uses (ltb 6144 (x .uses)) refl n (ltb-false 2048 (x .entries) q) r
 
-    names : (b : Bool) → ltb 2048 (x .named) ≡ b → summarized.Done s ≡ cond b (summarized.Over limit.Names) (cond (ltb 2048 (x .entries)) (summarized.Over limit.Entries) (cond (ltb 6144 (x .uses)) (summarized.Over limit.Uses) (summarized.Done x))) → (s ≡ x) × (s .named ≤ 2048) × (s .entries ≤ 2048) × (s .uses ≤ 6144)
+    names : (b : Bool) → ltb 2048 (x .named) ≡ b → summarized.Done s
+        ≡ cond b (summarized.Over limit.Names) (cond (ltb 2048 (x .entries)) (summarized.Over limit.Entries)
+        (cond (ltb 6144 (x .uses)) (summarized.Over limit.Uses) (summarized.Done x))) → (s ≡ x) × (s .named ≤ 2048) × (s .entries ≤ 2048) × (s .uses ≤ 6144)
     names true q r = absurd (over-none (sym r))
     names false q r = filed (ltb 2048 (x .entries)) refl (ltb-false 2048 (x .named) q) r

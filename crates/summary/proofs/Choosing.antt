@@ -58,7 +58,8 @@ unfolding Sum-ambient Sum-triggers
 refinement-trimmed true sets = refl
 refinement-trimmed false sets = refl
 
-module _ {file names refs rows out names′ rows′ out′ : List ℕ} {named used many mark at : ℕ} {r : Sorted} (tables : Tables file names refs rows named used many) where
+module _ {file names refs rows out names′ rows′ out′ : List ℕ} {named used many mark at : ℕ} {r : Sorted}
+    (tables : Tables file names refs rows named used many) where
   -- a kind that holds names of the table is filed
   sorts-comes : (f : List Name → List Term → Kinded) → ((exclude : List Name) → f exclude (terms-in file names refs rows used many) .trimmed ≡ [])
       → Sorts names rows out names′ rows′ out′ named mark at (λ exclude name. f exclude (terms-of name refs rows used many)) r
@@ -93,7 +94,8 @@ module _ {file names refs rows out names′ rows′ out′ : List ℕ} {named us
 
   -- a choice whose kind was filed
   sorts-chooses : (f : List Name → List Term → Kinded) (c : Choice)
-      → ((exclude : List Name) → kinded exclude (terms-in file names refs rows used many) (name-of file names) c ≡ f exclude (terms-in file names refs rows used many))
+      → ((exclude : List Name) → kinded exclude (terms-in file names refs rows used many) (name-of file names) c
+      ≡ f exclude (terms-in file names refs rows used many))
       → trimmed-table file names named c ≡ names → ((exclude : List Name) → f exclude (terms-in file names refs rows used many) .trimmed ≡ [])
       → Sorts names rows out names′ rows′ out′ named mark at (λ exclude name. f exclude (terms-of name refs rows used many)) r
       → Chooses file names refs rows out names′ rows′ out′ named used many mark at c r
@@ -104,7 +106,8 @@ module _ {file names refs rows out names′ rows′ out′ : List ℕ} {named us
 
   -- filing sets files the choice that gathers them
   sets-chooses : {g : Filing} {count : ℕ} {f : Filed} (s : List Name → List Term → List (List Name)) (c : Choice)
-      → ((exclude : List Name) → kinded exclude (terms-in file names refs rows used many) (name-of file names) c ≡ Sum-triggers (s exclude (terms-in file names refs rows used many)))
+      → ((exclude : List Name) → kinded exclude (terms-in file names refs rows used many) (name-of file names) c
+      ≡ Sum-triggers (s exclude (terms-in file names refs rows used many)))
       → trimmed-table file names named c ≡ names → file-choice refs used many file named mark (filing names rows out (mark + 1) at) c ≡ g
       → ((exclude : List Name) (name : ℕ → Name) → Named exclude name names named → Files name named (s exclude (terms-of name refs rows used many)) at out′ f)
       → Filled names rows out names′ rows′ out′ (mark + 1) at f → Files-as g count names′ rows′ out′ (mark + 1) at f → r ≡ sorted-of named f
@@ -119,27 +122,34 @@ module _ {file names refs rows out names′ rows′ out′ : List ℕ} {named us
   module _ {c : Choice} where
     -- one set
     pub choose-one : {t count : ℕ} {f : Filed} → c ≡ choice.One t
-        → ((exclude : List Name) (name : ℕ → Name) → Named exclude name names named → Files name named (free-top-level-names exclude (terms-of name refs rows used many) t ∷ []) at out′ f)
+        → ((exclude : List Name) (name : ℕ → Name) → Named exclude name names named → Files name named
+        (free-top-level-names exclude (terms-of name refs rows used many) t ∷ []) at out′ f)
         → Filled names rows out names′ rows′ out′ (mark + 1) at f
         → Files-as (file-list refs used many (filing names rows out (mark + 1) at) (t ∷ [])) count names′ rows′ out′ (mark + 1) at f
         → r ≡ sorted-of named f
         → Choice-files file names refs rows out names′ rows′ out′ named used many mark at c r
     unfolding kinded trimmed-table file-choice
-    choose-one {t} e k w x q = rw e (sets-chooses (λ exclude terms. free-top-level-names exclude terms t ∷ []) (choice.One t) (λ exclude. refl) refl refl k w x q)
+    choose-one {t} e k w x q = rw e (sets-chooses (λ exclude terms. free-top-level-names exclude terms t ∷ []) (choice.One t)
+        (λ exclude. refl) refl refl k w x q)
 
     -- two sets
     pub choose-two : {t u count : ℕ} {f : Filed} → c ≡ choice.Two t u
-        → ((exclude : List Name) (name : ℕ → Name) → Named exclude name names named → Files name named (free-top-level-names exclude (terms-of name refs rows used many) t ∷ free-top-level-names exclude (terms-of name refs rows used many) u ∷ []) at out′ f)
+        → ((exclude : List Name) (name : ℕ → Name) → Named exclude name names named → Files name named
+        (free-top-level-names exclude (terms-of name refs rows used many) t ∷ free-top-level-names exclude
+        (terms-of name refs rows used many) u ∷ []) at out′ f)
         → Filled names rows out names′ rows′ out′ (mark + 1) at f
-        → Files-as (file-list refs used many (file-list refs used many (filing names rows out (mark + 1) at) (t ∷ [])) (u ∷ [])) count names′ rows′ out′ (mark + 1) at f
+        → Files-as (file-list refs used many (file-list refs used many (filing names rows out (mark + 1) at) (t ∷ [])) (u ∷ [])) count names′ rows′ out′
+        (mark + 1) at f
         → r ≡ sorted-of named f
         → Choice-files file names refs rows out names′ rows′ out′ named used many mark at c r
     unfolding kinded trimmed-table file-choice
-    choose-two {t} {u} e k w x q = rw e (sets-chooses (λ exclude terms. free-top-level-names exclude terms t ∷ free-top-level-names exclude terms u ∷ []) (choice.Two t u) (λ exclude. refl) refl refl k w x q)
+    choose-two {t} {u} e k w x q = rw e (sets-chooses (λ exclude terms. free-top-level-names exclude terms t ∷ free-top-level-names exclude terms u ∷ [])
+        (choice.Two t u) (λ exclude. refl) refl refl k w x q)
 
     -- the triggers of a term
     pub choose-groups : {t count : ℕ} {f : Filed} → c ≡ choice.Groups t
-        → ((exclude : List Name) (name : ℕ → Name) → Named exclude name names named → Files name named (triggers-of-term exclude (terms-of name refs rows used many) t) at out′ f)
+        → ((exclude : List Name) (name : ℕ → Name) → Named exclude name names named → Files name named
+        (triggers-of-term exclude (terms-of name refs rows used many) t) at out′ f)
         → Filled names rows out names′ rows′ out′ (mark + 1) at f
         → Files-as (file-groups refs used many (filing names rows out (mark + 1) at) t) count names′ rows′ out′ (mark + 1) at f
         → r ≡ sorted-of named f
@@ -162,30 +172,47 @@ module _ {file names refs rows out names′ rows′ out′ : List ℕ} {named us
     -- the parts of an `and`
     pub choose-parts : {t : ℕ} → c ≡ choice.Parts t
         → Sorts names rows out names′ rows′ out′ named mark at (λ exclude name. parts-kind exclude (terms-of name refs rows used many) t) r
-        → Sorts-as (file-parts refs used many (filing names rows out (mark + 1) at) (terms-of-words (part refs (row-start rows t) (row-end rows used many t)))) names′ rows′ out′ mark at r
+        → Sorts-as (file-parts refs used many (filing names rows out (mark + 1) at)
+        (terms-of-words (part refs (row-start rows t) (row-end rows used many t)))) names′ rows′ out′ mark at r
         → Choice-files file names refs rows out names′ rows′ out′ named used many mark at c r
     unfolding kinded trimmed-table parts-kind Sum-triggers file-choice
     choose-parts {t} e s w = rw e (sorts-chooses (λ exclude terms. parts-kind exclude terms t) (choice.Parts t) (λ exclude. refl) refl (λ exclude. refl) s, w)
 
 -- a kind without triggers
-none-sorts : {names rows out : List ℕ} {mark at : ℕ} (named : ℕ) → Begun names rows out mark at → (k : Kinded) → k .triggers ≡ [] → Sorts names rows out names rows out named mark at (λ exclude name. k) (sorted.Kind (k .kind) at named)
-none-sorts {names} {rows} {mark = mark} named b k e = nothing-sorts (k .kind) (λ exclude name. k) (λ exclude name d. (refl, e)) (b .low) (same-self 8192 2048 names) (same-self 12288 4096 rows) (fresh-later mark (mark + 1) (omega arith) (b .fresh))
+none-sorts : {names rows out : List ℕ} {mark at : ℕ} (named : ℕ) → Begun names rows out mark at → (k : Kinded) → k .triggers ≡ []
+    → Sorts names rows out names rows out named mark at (λ exclude name. k) (sorted.Kind (k .kind) at named)
+none-sorts {names} {rows} {mark = mark} named b k e = nothing-sorts (k .kind) (λ exclude name. k) (λ exclude name d. (refl, e)) (b .low)
+    (same-self 8192 2048 names) (same-self 12288 4096 rows) (fresh-later mark (mark + 1) (omega arith) (b .fresh))
 
-module _ {file names refs rows out : List ℕ} {named used many mark at : ℕ} {c : Choice} (tables : Tables file names refs rows named used many) (b : Begun names rows out mark at) where
+module _ {file names refs rows out : List ℕ} {named used many mark at : ℕ} {c : Choice} (tables : Tables file names refs rows named used many)
+    (b : Begun names rows out mark at) where
   -- no disjunct
-  pub choose-nothing : c ≡ choice.Nothing → Choice-files file names refs rows out names rows out named used many mark at c (sorted.Kind (asum.Triggers 0) at named)
+  pub choose-nothing : c ≡ choice.Nothing → Choice-files file names refs rows out names rows out named used many mark at c
+      (sorted.Kind (asum.Triggers 0) at named)
   unfolding kinded trimmed-table Sum-triggers file-choice
-  choose-nothing e = rw e (sorts-chooses tables (λ exclude terms. Sum-triggers []) choice.Nothing (λ exclude. refl) refl (λ exclude. refl) (none-sorts named b (Sum-triggers []) refl), nothing-as)
+  choose-nothing e = rw e (
+    sorts-chooses tables (λ exclude terms. Sum-triggers []) choice.Nothing (λ exclude. refl) refl (λ exclude. refl)
+        (none-sorts named b (Sum-triggers []) refl),
+    nothing-as,
+  )
 
   -- a fact that is dropped
   pub choose-drop : c ≡ choice.Drop → Choice-files file names refs rows out names rows out named used many mark at c (sorted.Kind asum.Drop at named)
   unfolding kinded trimmed-table Sum-drop file-choice
-  choose-drop e = rw e (sorts-chooses tables (λ exclude terms. Sum-drop) choice.Drop (λ exclude. refl) refl (λ exclude. refl) (none-sorts named b Sum-drop refl), nothing-as)
+  choose-drop e = rw e (
+    sorts-chooses tables (λ exclude terms. Sum-drop) choice.Drop (λ exclude. refl) refl (λ exclude. refl) (none-sorts named b Sum-drop refl),
+    nothing-as,
+  )
 
   -- an ambient fact
-  pub choose-ambient : c ≡ choice.Ambient → Choice-files file names refs rows out names rows out named used many mark at c (sorted.Kind (asum.Ambient false) at named)
+  pub choose-ambient : c ≡ choice.Ambient → Choice-files file names refs rows out names rows out named used many mark at c
+      (sorted.Kind (asum.Ambient false) at named)
   unfolding kinded trimmed-table Sum-ambient file-choice
-  choose-ambient e = rw e (sorts-chooses tables (λ exclude terms. Sum-ambient false) choice.Ambient (λ exclude. refl) refl (λ exclude. refl) (none-sorts named b (Sum-ambient false) refl), nothing-as)
+  choose-ambient e = rw e (
+    sorts-chooses tables (λ exclude terms. Sum-ambient false) choice.Ambient (λ exclude. refl) refl (λ exclude. refl)
+        (none-sorts named b (Sum-ambient false) refl),
+    nothing-as,
+  )
 
   -- a token
   pub choose-token : {names′ out′ : List ℕ} {n : ℕ} {r : Sorted} → c ≡ choice.Token n → Tokens file names out names′ out′ named n at r

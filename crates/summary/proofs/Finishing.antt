@@ -63,7 +63,8 @@ entry-name f g h w = go (ltb (w % 4096) 2048) refl
     go false e = refl
 
 -- numbers at the front of the first disjunct
-front-names : (f g : ℕ → Name) (ns : List ℕ) (ds : List (List ℕ)) → map f ns ≡ map g ns → map (map f) ds ≡ map (map g) ds → map (map f) (before-first ns ds) ≡ map (map g) (before-first ns ds)
+front-names : (f g : ℕ → Name) (ns : List ℕ) (ds : List (List ℕ)) → map f ns ≡ map g ns → map (map f) ds ≡ map (map g) ds
+    → map (map f) (before-first ns ds) ≡ map (map g) (before-first ns ds)
 unfolding before-first
 front-names f g ns [] p q = ap (_∷ []) p
 front-names f g ns (d ∷ ds) p q =
@@ -84,7 +85,9 @@ disjuncts-named f g h ws = split f (disjuncts-of-words ws) ∙ ap (map from-list
     go [] = refl
     go (w ∷ ws) = choose (go ws) (ltb w 4096)
       where
-        choose : map (map f) (disjuncts-of-words ws) ≡ map (map g) (disjuncts-of-words ws) → (b : Bool) → map (map f) (cond b (before-first (entry-number w) (disjuncts-of-words ws)) (entry-number w ∷ disjuncts-of-words ws)) ≡ map (map g) (cond b (before-first (entry-number w) (disjuncts-of-words ws)) (entry-number w ∷ disjuncts-of-words ws))
+        choose : map (map f) (disjuncts-of-words ws) ≡ map (map g) (disjuncts-of-words ws) → (b : Bool)
+            → map (map f) (cond b (before-first (entry-number w) (disjuncts-of-words ws)) (entry-number w ∷ disjuncts-of-words ws))
+            ≡ map (map g) (cond b (before-first (entry-number w) (disjuncts-of-words ws)) (entry-number w ∷ disjuncts-of-words ws))
         choose more true = front-names f g (entry-number w) (disjuncts-of-words ws) (entry-name f g h w) more
         choose more false = ap₂ _∷_ (entry-name f g h w) more
 
@@ -94,16 +97,25 @@ unfolding name-of
 name-marked file same n l = rw (same .same-words n (λ a b. omega arith), same .same-words (2048 + n) (λ a b. omega arith)) refl
 
 -- what a choice comes to, by its answer
-pub chooses-is : {file names refs rows out names′ rows′ out′ : List ℕ} {named used many mark at : ℕ} {chosen : Choice} {r r′ : Sorted} → r ≡ r′ → Choice-files file names refs rows out names′ rows′ out′ named used many mark at chosen r
+pub chooses-is : {file names refs rows out names′ rows′ out′ : List ℕ} {named used many mark at : ℕ} {chosen : Choice} {r r′ : Sorted} → r ≡ r′
+    → Choice-files file names refs rows out names′ rows′ out′ named used many mark at chosen r
     → Choice-files file names refs rows out names′ rows′ out′ named used many mark at chosen r′
 chooses-is e c = rw e at c
 
 -- what filing asks
-pub asked-begun : {file names refs rows out : List ℕ} {named used many name t mark filed uses : ℕ} → Asked file names refs rows out named used many name t mark filed uses → Begun names rows out mark (entries-base + filed)
-asked-begun a = record { name-room = a .tables .name-table .room; fresh = a .fresh; few-marks = a .few-marks; low = omega (arith, a .few-entries); room = a .room }
+pub asked-begun : {file names refs rows out : List ℕ} {named used many name t mark filed uses : ℕ}
+    → Asked file names refs rows out named used many name t mark filed uses → Begun names rows out mark (entries-base + filed)
+asked-begun a = record {
+  name-room = a .tables .name-table .room;
+  fresh = a .fresh;
+  few-marks = a .few-marks;
+  low = omega (arith, a .few-entries);
+  room = a .room;
+}
 
 -- the name words past the marks stay
-names-past : {file names names′ : List ℕ} {named : ℕ} → Table file names named → (c : Choice) → Same-but 8192 2048 (trimmed-table file names named c) names′ → Same-but 0 10240 names names′
+names-past : {file names names′ : List ℕ} {named : ℕ} → Table file names named → (c : Choice) → Same-but 8192 2048 (trimmed-table file names named c) names′
+    → Same-but 0 10240 names names′
 names-past table c s = same-then (same-wider 0 10240 (omega arith) (omega arith) (trimmed-same table c)) (same-wider 0 10240 (omega arith) (omega arith) s)
 
 -- ---- kinds
@@ -130,8 +142,10 @@ kinded-count exclude terms name (choice.Token n) {m} e = go (name n) e
         short : List Name
         short = take (length token - 4) token ∷ []
 
-        choose : (b : Bool) → cond b (record { kind = asum.Triggers 2; triggers = (token ∷ []) ∷ short ∷ []; trimmed = short }) (Sum-triggers ((token ∷ []) ∷ [])) .kind ≡ asum.Triggers m
-            → m ≡ length (cond b (record { kind = asum.Triggers 2; triggers = (token ∷ []) ∷ short ∷ []; trimmed = short }) (Sum-triggers ((token ∷ []) ∷ [])) .triggers)
+        choose : (b : Bool) → cond b (record { kind = asum.Triggers 2; triggers = (token ∷ []) ∷ short ∷ []; trimmed = short })
+            (Sum-triggers ((token ∷ []) ∷ [])) .kind ≡ asum.Triggers m
+            → m ≡ length (cond b (record { kind = asum.Triggers 2; triggers = (token ∷ []) ∷ short ∷ []; trimmed = short })
+            (Sum-triggers ((token ∷ []) ∷ [])) .triggers)
         choose true e = cc
         choose false e = cc
 kinded-count exclude terms name choice.Nothing e = cc
@@ -173,18 +187,22 @@ module _ {file names refs rows out : List ℕ} {named used many name t mark file
   chose = choice .choice
 
   -- what it makes of the fact
-  made : (exclude : List Name) → kinded exclude (terms-in file names refs rows used many) (name-of file names) chosen ≡ fact-kind exclude file names refs rows named used many name t
+  made : (exclude : List Name) → kinded exclude (terms-in file names refs rows used many) (name-of file names) chosen
+      ≡ fact-kind exclude file names refs rows named used many name t
   unfolding fact-kind
   made = choice .kind
 
-  module _ {names′ rows′ out′ : List ℕ} {r : Sorted} (chooses : Chooses file names refs rows out names′ rows′ out′ named used many mark (entries-base + filed) chosen r) where
+  module _ {names′ rows′ out′ : List ℕ} {r : Sorted} (chooses : Chooses file names refs rows out names′ rows′ out′ named used many mark
+      (entries-base + filed) chosen r) where
     -- the fact's kind is filed, or a limit passed
     comes : (exclude : List Name) → Excludes exclude file names named
         → Comes-to file names names′ out′ named (entries-base + filed) (fact-kind exclude file names refs rows named used many name t) r
     comes exclude excludes = rw (made exclude) at (chooses .kinds exclude excludes)
 
-  module _ {names′ rows′ out′ : List ℕ} {l : Limit} (chooses : Chooses file names refs rows out names′ rows′ out′ named used many mark (entries-base + filed) chosen (sorted.Over l))
-      (filed-as : Sorts-as (file-choice refs used many file named mark (filing names rows out (mark + 1) (entries-base + filed)) chosen) names′ rows′ out′ mark (entries-base + filed) (sorted.Over l)) where
+  module _ {names′ rows′ out′ : List ℕ} {l : Limit} (chooses : Chooses file names refs rows out names′ rows′ out′ named used many mark
+      (entries-base + filed) chosen (sorted.Over l))
+      (filed-as : Sorts-as (file-choice refs used many file named mark (filing names rows out (mark + 1) (entries-base + filed)) chosen) names′ rows′ out′ mark
+      (entries-base + filed) (sorted.Over l)) where
     -- a limit that filing passes
     pub over-law : Promised file names refs rows out named used many name t mark filed uses names′ rows′ out′ (summarized.Over l)
     unfolding names-then fact-summary sorted-end file-fact
@@ -222,17 +240,20 @@ module _ {file names refs rows out : List ℕ} {named used many name t mark file
           out-words = λ i f g. m .out-same .same-words i (λ a b. g a (omega (arith, asked .few-entries)));
         }
 
-  module _ {names′ rows′ out′ : List ℕ} {a : AsumKind} {e total : ℕ} (chooses : Chooses file names refs rows out names′ rows′ out′ named used many mark (entries-base + filed) chosen (sorted.Kind a e total)) where
+  module _ {names′ rows′ out′ : List ℕ} {a : AsumKind} {e total : ℕ}
+      (chooses : Chooses file names refs rows out names′ rows′ out′ named used many mark (entries-base + filed) chosen (sorted.Kind a e total)) where
     -- the kind that was filed
     filed-there : (exclude : List Name) → Excludes exclude file names named
         → Filed-kind file names names′ out′ named (entries-base + filed) (fact-kind exclude file names refs rows named used many name t) a e total
     filed-there exclude excludes = go (comes chooses exclude excludes)
       where
-        go : {k : Kinded} → Comes-to file names names′ out′ named (entries-base + filed) k (sorted.Kind a e total) → Filed-kind file names names′ out′ named (entries-base + filed) k a e total
+        go : {k : Kinded} → Comes-to file names names′ out′ named (entries-base + filed) k (sorted.Kind a e total)
+            → Filed-kind file names names′ out′ named (entries-base + filed) k a e total
         go (kind-filed k) = k
 
     -- for some list of excluded names
-    filed-some : Filed-kind file names names′ out′ named (entries-base + filed) (fact-kind (some-excluded .0) file names refs rows named used many name t) a e total
+    filed-some : Filed-kind file names names′ out′ named (entries-base + filed)
+        (fact-kind (some-excluded .0) file names refs rows named used many name t) a e total
     filed-some = filed-there (some-excluded .0) (some-excluded .1)
 
     -- where its entries end
@@ -241,7 +262,8 @@ module _ {file names refs rows out : List ℕ} {named used many name t mark file
 
     -- what gathering its free names asks
     pub finish-asks : {n : ℕ} → n ≡ mark + 1 + (e - (entries-base + filed))
-        → Rows refs rows′ used many named × (working-words ≤ length names′) × (t < many) × Fresh names′ rows′ n × (n + 1 < word-limit) × (entries-base ≤ e) × (uses ≤ most-uses) × (working-words ≤ length out′)
+        → Rows refs rows′ used many named × (working-words ≤ length names′) × (t < many) × Fresh names′ rows′ n × (n + 1 < word-limit) × (entries-base ≤ e)
+        × (uses ≤ most-uses) × (working-words ≤ length out′)
     finish-asks {n} q =
         let (lo, hi) = filed-ends in (
           rows-marked (chooses .marks .rows-same) (asked .tables .term-table),
@@ -291,7 +313,8 @@ module _ {file names refs rows out : List ℕ} {named used many name t mark file
       unfolding fact-names
       gathered-names exclude excludes =
           rw (terms-marked (name-of file names″) (chooses .marks .rows-same) (asked .tables .term-table) ∙ kept-named) at
-          (finishes .free-names exclude (name-of file names″) (named-of names (kept-table .table) (filed-some .more) excludes kept-names (filed-some .same-excluded)))
+          (finishes .free-names exclude (name-of file names″)
+          (named-of names (kept-table .table) (filed-some .more) excludes kept-names (filed-some .same-excluded)))
 
       -- the entries stay
       kept-words : part out″ (entries-base + filed) e ≡ part out′ (entries-base + filed) e
@@ -338,12 +361,15 @@ module _ {file names refs rows out : List ℕ} {named used many name t mark file
             let ends = k .ends in
             let kind = fact-kind exclude file names refs rows named used many name t in
             let count : m ≡ length (kind .triggers) =
-            rw (made exclude) at (kinded-count exclude (terms-in file names refs rows used many) (name-of file names) chosen (ap (λ x. x .kind) (made exclude) ∙ sym (k .kind) ∙ q)) in
+            rw (made exclude) at (kinded-count exclude (terms-in file names refs rows used many) (name-of file names) chosen
+            (ap (λ x. x .kind) (made exclude) ∙ sym (k .kind) ∙ q)) in
             omega (arith, entries-many (kind .triggers))
 
         -- the summary's lists
-        kept-lists : {k : ℕ} → Gathers (name-of file names″) named (fact-names exclude file names refs rows named used many name t) uses most-uses out″ (walks.Names k)
-            → Lists exclude file names refs rows named used many name t names″ rows″ out″ filed uses (record { kind = a; entries = e - entries-base; uses = k; named = total; mark = n + 1 })
+        kept-lists : {k : ℕ} → Gathers (name-of file names″) named (fact-names exclude file names refs rows named used many name t) uses most-uses out″
+            (walks.Names k)
+            → Lists exclude file names refs rows named used many name t names″ rows″ out″ filed uses
+            (record { kind = a; entries = e - entries-base; uses = k; named = total; mark = n + 1 })
         unfolding names-then
         kept-lists (all-names p q fits small) =
             let k = filed-there exclude excludes in
@@ -351,7 +377,8 @@ module _ {file names refs rows out : List ℕ} {named used many name t mark file
             let w : entries-base + (e - entries-base) ≡ e = omega arith in
             record {
               disjuncts = rw (w, kept-words)
-                  (disjuncts-named (name-of file names″) (name-of file names′) (name-marked file (finishes .slices .names-same)) (part out′ (entries-base + filed) e) ∙ k .disjuncts);
+                  (disjuncts-named (name-of file names″) (name-of file names′) (name-marked file (finishes .slices .names-same))
+                  (part out′ (entries-base + filed) e) ∙ k .disjuncts);
               entry-words = rw (w, kept-words) (k .entry-words);
               few-sets = kept-few;
               free-names = p;
@@ -374,14 +401,16 @@ module _ {file names refs rows out : List ℕ} {named used many name t mark file
             let there = filed-there exclude excludes in
             let ends = there .ends in
             let s : Summary = record { kind = a; entries = e - entries-base; uses = k; named = total; mark = n + 1 } in (
-              within-limits s (there .table .few) (omega arith) fits ∙ ap limited (summary-is s (there .kind) (omega arith) (omega arith) named-then (omega arith)),
+              within-limits s (there .table .few) (omega arith) fits
+                  ∙ ap limited (summary-is s (there .kind) (omega arith) (omega arith) named-then (omega arith)),
               λ s′ h. rw (← done-one h) (kept-lists (all-names p q fits small)),
             )
         kept-answer walks.Full (no-names p f) =
             let there = filed-there exclude excludes in
             let ends = there .ends in
             let high = there .high in (
-              over-uses (fact-summary exclude file names refs rows named used many name t mark filed uses) (omega (arith, named-then, there .table .few)) (omega arith) (omega arith),
+              over-uses (fact-summary exclude file names refs rows named used many name t mark filed uses) (omega (arith, named-then, there .table .few))
+                  (omega arith) (omega arith),
               λ s h. absurd (over-none h),
             )
 
@@ -391,7 +420,8 @@ module _ {file names refs rows out : List ℕ} {named used many name t mark file
         kept-both = rw (finishes .answer) (kept-answer (finishes .walked) (gathered-names exclude excludes))
 
       -- a fact whose kind was filed
-      pub finish-law : Sorts-as (file-choice refs used many file named mark (filing names rows out (mark + 1) (entries-base + filed)) chosen) names′ rows′ out′ mark (entries-base + filed) (sorted.Kind a e total)
+      pub finish-law : Sorts-as (file-choice refs used many file named mark
+          (filing names rows out (mark + 1) (entries-base + filed)) chosen) names′ rows′ out′ mark (entries-base + filed) (sorted.Kind a e total)
           → Promised file names refs rows out named used many name t mark filed uses names″ rows″ out″ r
       unfolding file-fact
       finish-law filed-as = (

@@ -54,12 +54,26 @@ table-marked table same = table-kept table (same .same-length) (λ i l. same .sa
 
 -- what began under a mark may be filed under it or a later one
 pub begun-opened : {names rows out : List ℕ} {mark at n : ℕ} → Begun names rows out mark at → mark ≤ n → n ≤ mark + 8192 → Opened names rows out n at
-begun-opened {mark = mark} {n = n} b less few = record { name-room = b .name-room; fresh = fresh-later mark n less (b .fresh); low = b .low; high = omega (arith, b .room); few-marks = omega (arith, b .few-marks) }
+begun-opened {mark = mark} {n = n} b less few = record {
+  name-room = b .name-room;
+  fresh = fresh-later mark n less
+      (b .fresh);
+  low = b .low;
+  high = omega (arith, b .room);
+  few-marks = omega (arith, b .few-marks);
+}
 
 -- to file after a look at the tables
 pub begun-then : {names rows out names′ rows′ out′ : List ℕ} {mark at : ℕ} → Begun names rows out mark at
     → Same-but 8192 2048 names names′ × Same-but 12288 4096 rows rows′ × Fresh names′ rows′ (mark + 1) → out′ ≡ out → Opened names′ rows′ out′ (mark + 1) at
-begun-then b (n, s, f) q = record { name-room = rw (n .same-length) (b .name-room); fresh = f; low = b .low; high = rw q (omega (arith, b .room)); few-marks = omega (arith, b .few-marks) }
+begun-then b (n, s, f) q = record {
+  name-room = rw (n .same-length) (b .name-room);
+  fresh = f;
+  low = b .low;
+  high = rw q
+      (omega (arith, b .room));
+  few-marks = omega (arith, b .few-marks);
+}
 
 -- ---- kinds
 
@@ -72,25 +86,40 @@ over-none : {l : Limit} {a : AsumKind} {e n : ℕ} → sorted.Over l ≡ sorted.
 over-none p = let z : _≡_ {A = ℕ} 0 1 = cc in omega arith
 
 -- filed disjuncts are a kind of triggers
-files-kinds : {name : ℕ → Name} {named at : ℕ} {s : List (List Name)} {out : List ℕ} {f : Filed} → Files name named s at out f → Kinds name named (Sum-triggers s) at out (sorted-of named f)
+files-kinds : {name : ℕ → Name} {named at : ℕ} {s : List (List Name)} {out : List ℕ} {f : Filed} → Files name named s at out f
+    → Kinds name named (Sum-triggers s) at out (sorted-of named f)
 unfolding Sum-triggers
 files-kinds (all-sets a b c d e) = kind-there (ap asum.Triggers b) a c d e
 files-kinds (no-sets p) = no-room p
 
 -- the slices after filing them
-files-marks : {names rows out names′ rows′ out′ : List ℕ} {mark at : ℕ} (named : ℕ) (f : Filed) → Filled names rows out names′ rows′ out′ (mark + 1) at f → Marks names rows out names′ rows′ out′ mark at (sorted-of named f)
+files-marks : {names rows out names′ rows′ out′ : List ℕ} {mark at : ℕ} (named : ℕ) (f : Filed) → Filled names rows out names′ rows′ out′ (mark + 1) at f
+    → Marks names rows out names′ rows′ out′ mark at (sorted-of named f)
 unfolding sorted-end filed-end
-files-marks named (files.Sets n e) w = record { names-same = w .names-same; rows-same = w .rows-same; out-same = w .out-same; fresh = λ a k total q. rw (← (kind-end q)) (w .fresh n e refl) }
-files-marks named files.Full w = record { names-same = w .names-same; rows-same = w .rows-same; out-same = w .out-same; fresh = λ a k total q. absurd (over-none q) }
+files-marks named (files.Sets n e) w = record {
+  names-same = w .names-same;
+  rows-same = w .rows-same;
+  out-same = w .out-same;
+  fresh = λ a k total q. rw (←
+      (kind-end q)) (w .fresh n e refl);
+}
+files-marks named files.Full w = record {
+  names-same = w .names-same;
+  rows-same = w .rows-same;
+  out-same = w .out-same;
+  fresh = λ a k total q. absurd (over-none q);
+}
 
 -- filing disjuncts files a kind
 pub files-sorts : {names rows out names′ rows′ out′ : List ℕ} {named mark at : ℕ} {f : Filed} {r : Sorted} (s : List Name → (ℕ → Name) → List (List Name))
-    → ((exclude : List Name) (name : ℕ → Name) → Named exclude name names named → Files name named (s exclude name) at out′ f) → Filled names rows out names′ rows′ out′ (mark + 1) at f
+    → ((exclude : List Name) (name : ℕ → Name) → Named exclude name names named → Files name named (s exclude name) at out′ f)
+    → Filled names rows out names′ rows′ out′ (mark + 1) at f
     → r ≡ sorted-of named f → Sorts names rows out names′ rows′ out′ named mark at (λ exclude name. Sum-triggers (s exclude name)) r
 files-sorts {named = named} {f = f} s k w q = rw q (record { kinds = λ exclude name d. files-kinds (k exclude name d); marks = files-marks named f w })
 
 -- the same kinds, said in another way
-pub sorts-as : {names rows out names′ rows′ out′ : List ℕ} {named mark at : ℕ} {k l : List Name → (ℕ → Name) → Kinded} {r : Sorted} → ((exclude : List Name) (name : ℕ → Name) → Named exclude name names named → k exclude name ≡ l exclude name)
+pub sorts-as : {names rows out names′ rows′ out′ : List ℕ} {named mark at : ℕ} {k l : List Name → (ℕ → Name) → Kinded} {r : Sorted}
+    → ((exclude : List Name) (name : ℕ → Name) → Named exclude name names named → k exclude name ≡ l exclude name)
     → Sorts names rows out names′ rows′ out′ named mark at k r → Sorts names rows out names′ rows′ out′ named mark at l r
 sorts-as e s = record { kinds = λ exclude name d. rw (e exclude name d) at (s .kinds exclude name d); marks = s .marks }
 
@@ -115,28 +144,39 @@ nothing-sorts {out = out} {named = named} {mark} {at} a k e low n s f = record {
 }
 
 -- the slices after a look at the tables and filing
-marks-after : {names rows out names₁ rows₁ out₁ names₂ rows₂ out₂ : List ℕ} {mark at : ℕ} {r : Sorted} → Same-but 8192 2048 names names₁ → Same-but 12288 4096 rows rows₁ → out₁ ≡ out
+marks-after : {names rows out names₁ rows₁ out₁ names₂ rows₂ out₂ : List ℕ} {mark at : ℕ} {r : Sorted} → Same-but 8192 2048 names names₁
+    → Same-but 12288 4096 rows rows₁ → out₁ ≡ out
     → Marks names₁ rows₁ out₁ names₂ rows₂ out₂ mark at r → Marks names rows out names₂ rows₂ out₂ mark at r
-marks-after n s q m = record { names-same = same-then n (m .names-same); rows-same = same-then s (m .rows-same); out-same = rw q at (m .out-same); fresh = m .fresh }
+marks-after n s q m = record {
+  names-same = same-then n (m .names-same);
+  rows-same = same-then s (m .rows-same);
+  out-same = rw q at (m .out-same);
+  fresh = m .fresh;
+}
 
 -- ---- the payload of a refinement
 
 module _ {names rows out names₁ rows₁ out₁ refs : List ℕ} {named used many mark at : ℕ} {b : Bool} (t : ℕ) (table : Rows refs rows used many named)
-    (answer : (exclude : List Name) (name : ℕ → Name) → Named exclude name names named → b ≡ is-empty (triggers-of-term exclude (terms-of name refs rows used many) t))
+    (answer : (exclude : List Name) (name : ℕ → Name) → Named exclude name names named → b
+    ≡ is-empty (triggers-of-term exclude (terms-of name refs rows used many) t))
     (tables : Same-but 8192 2048 names names₁ × Same-but 12288 4096 rows rows₁ × Fresh names₁ rows₁ (mark + 1))
     (same : Asks-as (ask-empty refs used many names rows t) names rows out names₁ rows₁ out₁ mark b) where
   -- a payload that is empty is ambient
-  pub refinement-empty : b ≡ true → at ≤ 8192 → Sorts names rows out names₁ rows₁ out₁ named mark at (λ exclude name. refinement-kind exclude (terms-of name refs rows used many) t) (sorted.Kind (asum.Ambient true) at named)
-      × Sorts-as (file-refinement refs used many mark (filing names rows out (mark + 1) at) t) names₁ rows₁ out₁ mark at (sorted.Kind (asum.Ambient true) at named)
+  pub refinement-empty : b ≡ true → at ≤ 8192 → Sorts names rows out names₁ rows₁ out₁ named mark at (λ exclude name. refinement-kind exclude
+      (terms-of name refs rows used many) t) (sorted.Kind (asum.Ambient true) at named)
+      × Sorts-as (file-refinement refs used many mark (filing names rows out (mark + 1) at) t) names₁ rows₁ out₁ mark at (sorted.Kind
+      (asum.Ambient true) at named)
   unfolding refinement-kind Sum-ambient file-refinement
   refinement-empty e low = (
-    rw (same .out-words) (nothing-sorts (asum.Ambient true) (λ exclude name. refinement-kind exclude (terms-of name refs rows used many) t) (λ exclude name d. rw (sym (answer exclude name d) ∙ e) (refl, refl)) low (tables .0) (tables .1) (tables .2)),
+    rw (same .out-words) (nothing-sorts (asum.Ambient true) (λ exclude name. refinement-kind exclude (terms-of name refs rows used many) t)
+        (λ exclude name d. rw (sym (answer exclude name d) ∙ e) (refl, refl)) low (tables .0) (tables .1) (tables .2)),
     rw (same .name-words, same .row-words, same .out-words, not-true (ask-empty refs used many names rows t .full) (sym (same .answer) ∙ e)) nothing-as,
   )
 
   -- another has its triggers
   pub refinement-more : {names₂ rows₂ out₂ : List ℕ} {count : ℕ} {f : Filed} {r : Sorted} → b ≡ false
-      → ((exclude : List Name) (name : ℕ → Name) → Named exclude name names₁ named → Files name named (triggers-of-term exclude (terms-of name refs rows₁ used many) t) at out₂ f)
+      → ((exclude : List Name) (name : ℕ → Name) → Named exclude name names₁ named → Files name named
+      (triggers-of-term exclude (terms-of name refs rows₁ used many) t) at out₂ f)
       → Filled names₁ rows₁ out₁ names₂ rows₂ out₂ (mark + 1) at f
       → Files-as (file-groups refs used many (filing names₁ rows₁ out₁ (mark + 1) at) t) count names₂ rows₂ out₂ (mark + 1) at f
       → r ≡ sorted-of named f
@@ -150,29 +190,35 @@ module _ {names rows out names₁ rows₁ out₁ refs : List ℕ} {named used ma
           (rw (terms-marked name (tables .1) table) at (files-kinds (k exclude name (named-marked (tables .0) (table .few-names) d))));
       marks = marks-after (tables .0) (tables .1) (same .out-words) (files-marks named f w);
     }),
-    rw (not-false (ask-empty refs used many names rows t .full) (sym (same .answer) ∙ e)) (files-sorts-as named (rw (same .name-words, same .row-words, same .out-words) at z) q),
+    rw (not-false (ask-empty refs used many names rows t .full) (sym (same .answer) ∙ e))
+        (files-sorts-as named (rw (same .name-words, same .row-words, same .out-words) at z) q),
   )
 
 -- ---- the parts of an `and`
 
 -- the triggers of the terms that a row names
-pub parts-sorts : {names rows out names′ rows′ out′ refs : List ℕ} {named used many mark at a e count : ℕ} {f : Filed} {r : Sorted} (t : ℕ) → Rows refs rows used many named → t < many
+pub parts-sorts : {names rows out names′ rows′ out′ refs : List ℕ} {named used many mark at a e count : ℕ} {f : Filed} {r : Sorted} (t : ℕ)
+    → Rows refs rows used many named → t < many
     → a ≡ row-start rows t → e ≡ row-end rows used many t
-    → ((exclude : List Name) (name : ℕ → Name) → Named exclude name names named → Files name named (collect (triggers-of-term exclude (terms-of name refs rows used many)) (terms-of-words (part refs a e))) at out′ f)
+    → ((exclude : List Name) (name : ℕ → Name) → Named exclude name names named → Files name named
+    (collect (triggers-of-term exclude (terms-of name refs rows used many)) (terms-of-words (part refs a e))) at out′ f)
     → Filled names rows out names′ rows′ out′ (mark + 1) at f
     → Files-as (file-parts refs used many (filing names rows out (mark + 1) at) (terms-of-words (part refs a e))) count names′ rows′ out′ (mark + 1) at f
     → r ≡ sorted-of named f
     → Sorts names rows out names′ rows′ out′ named mark at (λ exclude name. parts-kind exclude (terms-of name refs rows used many) t) r
-    × Sorts-as (file-parts refs used many (filing names rows out (mark + 1) at) (terms-of-words (part refs (row-start rows t) (row-end rows used many t)))) names′ rows′ out′ mark at r
+    × Sorts-as (file-parts refs used many (filing names rows out (mark + 1) at)
+    (terms-of-words (part refs (row-start rows t) (row-end rows used many t)))) names′ rows′ out′ mark at r
 unfolding parts-kind
 parts-sorts {rows = rows} {refs = refs} {named} {used} {many} {a = a} {e} t table l p q k w x z = (
   sorts-as
-      (λ exclude name d. ap (λ ts. Sum-triggers (collect (triggers-of-term exclude (terms-of name refs rows used many)) ts)) (rw (p, q) (sym (row-references table l name))))
+      (λ exclude name d. ap (λ ts. Sum-triggers (collect (triggers-of-term exclude (terms-of name refs rows used many)) ts))
+      (rw (p, q) (sym (row-references table l name))))
       (files-sorts (λ exclude name. collect (triggers-of-term exclude (terms-of name refs rows used many)) (terms-of-words (part refs a e))) k w z),
   files-sorts-as named (rw (p, q) at x) z,
 )
 
 -- what filing them asks
-pub parts-asks : {refs rows : List ℕ} {used many named t a e : ℕ} → Rows refs rows used many named → t < many → a ≡ row-start rows t → e ≡ row-end rows used many t
+pub parts-asks : {refs rows : List ℕ} {used many named t a e : ℕ} → Rows refs rows used many named → t < many → a ≡ row-start rows t
+    → e ≡ row-end rows used many t
     → (a ≤ e) × (e ≤ used) × ((i : ℕ) → a ≤ i → i < e → getD refs i 0 % 4096 < many)
 parts-asks {t = t} r l p q = rw (p, q) (r .in-order t l, r .in-use t l, λ i x y. omega (arith, r .lower t i l x y))

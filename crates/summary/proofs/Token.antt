@@ -58,7 +58,8 @@ spell-same {file} {names} {named} table a e = go (look-up (names-of file names n
               same-length = entered-length file names named a e rank low few (table .room);
               same-words = λ i h. ⊎-elim
                   (λ l. absurd (h (omega arith) l))
-                  (λ (l : 8192 ≤ i). entered-keeps file names named a e rank low few (table .room) i (λ x. omega arith) (λ x. omega arith) (λ x. omega arith) (inr (omega arith)))
+                  (λ (l : 8192 ≤ i). entered-keeps file names named a e rank low few (table .room) i (λ x. omega arith) (λ x. omega arith) (λ x. omega arith)
+                  (inr (omega arith)))
                   (below i 8192);
             }
         choose false t = same-self 0 8192 names
@@ -68,7 +69,8 @@ pub token-same : {file names : List ℕ} {named : ℕ} → Table file names name
 unfolding token-table
 token-same {file} {names} {named} table n = go (ends-with (name-of file names n) (bytes "@tok"))
   where
-    go : (b : Bool) → Same-but 0 8192 names (cond b (spell-table file names named (getD names n 0) (trimmed-end names n) (trimmed-found file names named n)) names)
+    go : (b : Bool) → Same-but 0 8192 names (cond b (spell-table file names named (getD names n 0) (trimmed-end names n)
+        (trimmed-found file names named n)) names)
     go true = spell-same table (getD names n 0) (trimmed-end names n)
     go false = same-self 0 8192 names
 
@@ -102,8 +104,10 @@ entries-are-one named n h few = record {
 -- and two
 entries-are-two : (named n m : ℕ) → n < named → m < named → named ≤ 2048 → Entries named ((n + 4096) ∷ (m + 4096) ∷ [])
 entries-are-two named n m h l few = record {
-  small = λ w i. ⊎-elim (λ e. inl (omega arith)) (λ j. ⊎-elim (λ e. inl (omega arith)) (λ k. absurd (List·Memᴰ·not-nil k)) (List·Memᴰ·cases-cons j)) (List·Memᴰ·cases-cons i);
-  flagged = λ w i. ⊎-elim (λ e. omega arith) (λ j. ⊎-elim (λ e. omega arith) (λ k. absurd (List·Memᴰ·not-nil k)) (List·Memᴰ·cases-cons j)) (List·Memᴰ·cases-cons i);
+  small = λ w i. ⊎-elim (λ e. inl (omega arith)) (λ j. ⊎-elim (λ e. inl (omega arith)) (λ k. absurd (List·Memᴰ·not-nil k)) (List·Memᴰ·cases-cons j))
+      (List·Memᴰ·cases-cons i);
+  flagged = λ w i. ⊎-elim (λ e. omega arith) (λ j. ⊎-elim (λ e. omega arith) (λ k. absurd (List·Memᴰ·not-nil k)) (List·Memᴰ·cases-cons j))
+      (List·Memᴰ·cases-cons i);
   closed = λ i e. let z : i ≡ 1 = omega arith in rw z (omega arith);
 }
 
@@ -127,7 +131,8 @@ token-no : (t : Name) → ends-with t (bytes "@tok") ≡ false → token-trigger
 unfolding token-triggers
 token-no t e = rw e refl
 
-module _ {file names : List ℕ} {named n x y : ℕ} (table : Table file names named) (l : n < named) (p : x ≡ getD names n 0) (q : y ≡ getD names (2048 + n) 0) where
+module _ {file names : List ℕ} {named n x y : ℕ} (table : Table file names named) (l : n < named) (p : x ≡ getD names n 0)
+    (q : y ≡ getD names (2048 + n) 0) where
   -- the token's place
   pub token-inside : x + y ≤ length file
   token-inside = rw (p, q) (table .inside n l)
@@ -147,7 +152,8 @@ module _ {file names : List ℕ} {named n x y : ℕ} (table : Table file names n
 
   -- a token that is not filed writes the words of `file-token`: at most the shorter name, in the name table
   token-stops : {names′ out out′ : List ℕ} {at : ℕ} {w : Limit} (rows : List ℕ) (mark : ℕ) → names′ ≡ token-table file names named n → out′ ≡ out
-      → file-words (filing (token-table file names named n) rows out (mark + 1) at) (token-words file names named n) ≡ stopped (filing (token-table file names named n) rows out (mark + 1) at)
+      → file-words (filing (token-table file names named n) rows out (mark + 1) at) (token-words file names named n)
+      ≡ stopped (filing (token-table file names named n) rows out (mark + 1) at)
       → Sorts-as (file-token file named (filing names rows out (mark + 1) at) n) names′ rows out′ mark at (sorted.Over w)
   unfolding file-token stopped
   token-stops rows mark e o s = as-over (rw s refl) (rw s e) (rw s refl) (rw s o)
@@ -167,12 +173,14 @@ module _ {file names : List ℕ} {named n x y : ℕ} (table : Table file names n
         sym (rw (token-length, ← token-part, w, z) (take-take (y - 4) y (drop x file) (omega arith)))
 
     -- the slice of names then
-    token-slice : {names′ : List ℕ} → names′ ≡ spell-table file names named x (x + y - 4) (look-up (names-of file names named) (part file x (x + y - 4))) → names′ ≡ token-table file names named n
+    token-slice : {names′ : List ℕ} → names′ ≡ spell-table file names named x (x + y - 4) (look-up (names-of file names named) (part file x (x + y - 4)))
+        → names′ ≡ token-table file names named n
     unfolding token-table
     token-slice e = rw (yes, ← p, ← q) e
 
     -- a token and the shorter name, filed
-    token-two : {names′ out out′ : List ℕ} {total m at : ℕ} {r : Sorted} → Table file names′ total → names-of file names′ total ≡ spell (names-of file names named) (part file x (x + y - 4))
+    token-two : {names′ out out′ : List ℕ} {total m at : ℕ} {r : Sorted} → Table file names′ total
+        → names-of file names′ total ≡ spell (names-of file names named) (part file x (x + y - 4))
         → named ≤ total → ((k : ℕ) → k < named → name-of file names′ k ≡ name-of file names k)
         → ((k : ℕ) → k < named → is-excluded names′ k ≡ is-excluded names k) → name-of file names′ m ≡ part file x (x + y - 4) → m < total
         → 16384 ≤ length out → Two out out′ total n m at r
@@ -183,7 +191,14 @@ module _ {file names : List ℕ} {named n x y : ℕ} (table : Table file names n
         rw (token-yes (name-of file names n) yes)
         (kind-filed {e = at + 2} {total = total} (record {
           kind = refl;
-          disjuncts = rw (e, part-two out at (n + 4096) (m + 4096) (omega arith), sets-two (name-of file names′) n m (omega arith) (omega arith), same n l, is, token-short) refl;
+          disjuncts = rw (
+            e,
+            part-two out at (n + 4096) (m + 4096) (omega arith),
+            sets-two (name-of file names′) n m (omega arith) (omega arith),
+            same n l,
+            is,
+            token-short,
+          ) refl;
           ends = refl;
           high = fits;
           entry-words = rw (e, part-two out at (n + 4096) (m + 4096) (omega arith)) (entries-are-two total n m (omega arith) k few);
@@ -201,7 +216,8 @@ module _ {file names : List ℕ} {named n x y : ℕ} (table : Table file names n
     token-out : {out out′ : List ℕ} {total m at : ℕ} {r : Sorted} → Two out out′ total n m at r → Same-but at (sorted-end at r - at) out out′
     unfolding sorted-end
     token-out {out} {m = m} {at} (both fits e) =
-        rw e (same-then (same-set at (at + 2 - at) out at (n + 4096) (omega arith) (omega arith)) (same-set at (at + 2 - at) (set out at (n + 4096)) (at + 1) (m + 4096) (omega arith) (omega arith)))
+        rw e (same-then (same-set at (at + 2 - at) out at (n + 4096) (omega arith) (omega arith))
+        (same-set at (at + 2 - at) (set out at (n + 4096)) (at + 1) (m + 4096) (omega arith) (omega arith)))
     token-out {out} {at = at} (over past e) = rw e (same-self at (8192 - at) out)
 
     -- the entries of a token are its own and that of the number which spelling the shorter name answers
@@ -211,7 +227,8 @@ module _ {file names : List ℕ} {named n x y : ℕ} (table : Table file names n
     token-entries e = rw (yes, ← p, ← q, ← e) refl
 
     -- filing a token and the shorter name writes the words of `file-token`
-    token-two-as : {names′ out out′ : List ℕ} {total m at : ℕ} {r : Sorted} → names′ ≡ token-table file names named n → token-words file names named n ≡ some ((n + 4096) ∷ (m + 4096) ∷ []) → Two out out′ total n m at r
+    token-two-as : {names′ out out′ : List ℕ} {total m at : ℕ} {r : Sorted} → names′ ≡ token-table file names named n
+        → token-words file names named n ≡ some ((n + 4096) ∷ (m + 4096) ∷ []) → Two out out′ total n m at r
         → (rows : List ℕ) (mark : ℕ) → Sorts-as (file-token file named (filing names rows out (mark + 1) at) n) names′ rows out′ mark at r
     unfolding file-token file-words put
     token-two-as {m = m} {at} w ws (both fits e) rows mark =
@@ -219,7 +236,8 @@ module _ {file names : List ℕ} {named n x y : ℕ} (table : Table file names n
         as-kind {e = at + 2} (rw (ws, le-ltb 8192 (at + 2) fits, w, e, z) refl)
     token-two-as {at = at} w ws (over past e) rows mark = token-stops rows mark w e (rw (ws, lt-ltb 8192 (at + 2) past) refl)
 
-    module _ {names′ : List ℕ} {s : Spelled} (answer : s ≡ spell-answer named (look-up (names-of file names named) (part file x (x + y - 4)))) (slice : names′ ≡ spell-table file names named x (x + y - 4) (look-up (names-of file names named) (part file x (x + y - 4)))) where
+    module _ {names′ : List ℕ} {s : Spelled} (answer : s ≡ spell-answer named (look-up (names-of file names named) (part file x (x + y - 4))))
+        (slice : names′ ≡ spell-table file names named x (x + y - 4) (look-up (names-of file names named) (part file x (x + y - 4)))) where
       -- spelling the shorter name: what its answer says
       token-spelled : Spelling file names names′ named x (x + y - 4) s
       token-spelled = spell-law table x (x + y - 4) (token-asks .1) (token-asks .2) names′ s answer slice
@@ -233,7 +251,8 @@ module _ {file names : List ℕ} {named n x y : ℕ} (table : Table file names n
       token-new-small e = let k = spelled-new token-spelled e in omega (arith, k .number, k .few)
 
       -- the shorter name was known
-      pub token-known : {out out′ : List ℕ} {m at : ℕ} {r : Sorted} → s ≡ spelled.Known m → 16384 ≤ length out → Two out out′ named n m at r → Tokens file names out names′ out′ named n at r
+      pub token-known : {out out′ : List ℕ} {m at : ℕ} {r : Sorted} → s ≡ spelled.Known m → 16384 ≤ length out → Two out out′ named n m at r
+          → Tokens file names out names′ out′ named n at r
       unfolding spelled-number
       token-known e room two =
           let k = spelled-known token-spelled e in
@@ -245,7 +264,8 @@ module _ {file names : List ℕ} {named n x y : ℕ} (table : Table file names n
           }
 
       -- it is new
-      pub token-new : {out out′ : List ℕ} {m at : ℕ} {r : Sorted} → s ≡ spelled.New m → 16384 ≤ length out → Two out out′ (named + 1) n m at r → Tokens file names out names′ out′ named n at r
+      pub token-new : {out out′ : List ℕ} {m at : ℕ} {r : Sorted} → s ≡ spelled.New m → 16384 ≤ length out → Two out out′ (named + 1) n m at r
+          → Tokens file names out names′ out′ named n at r
       unfolding spelled-number
       token-new e room two =
           let k = spelled-new token-spelled e in
@@ -273,7 +293,9 @@ module _ {file names : List ℕ} {named n x y : ℕ} (table : Table file names n
             kinds = rw (token-yes (name-of file names n) yes)
                 (names-over (rw (
                   ← token-short,
-                  cond-false (mem (part file x (x + y - 4)) (names-of file names named)) (names-of file names named) (names-of file names named ++ (part file x (x + y - 4) ∷ [])) (not-T (mem (part file x (x + y - 4)) (names-of file names named)) (k .absent)),
+                  cond-false (mem (part file x (x + y - 4)) (names-of file names named)) (names-of file names named)
+                      (names-of file names named ++ (part file x (x + y - 4) ∷ []))
+                      (not-T (mem (part file x (x + y - 4)) (names-of file names named)) (k .absent)),
                   length-append,
                   names-length file names named,
                 ) (omega (arith, k .full))));
@@ -293,7 +315,8 @@ module _ {file names : List ℕ} {named n x y : ℕ} (table : Table file names n
     token-entry = rw no refl
 
     -- a token alone, filed
-    pub token-one : {out : List ℕ} {at : ℕ} → at < 8192 → 16384 ≤ length out → Tokens file names out names (set out at (n + 4096)) named n at (sorted.Kind (asum.Triggers 1) (at + 1) named)
+    pub token-one : {out : List ℕ} {at : ℕ} → at < 8192 → 16384 ≤ length out
+        → Tokens file names out names (set out at (n + 4096)) named n at (sorted.Kind (asum.Triggers 1) (at + 1) named)
     unfolding sorted-end fold-left entries sum Sum-triggers file-token file-words put
     token-one {out} {at} h room =
         let few = table .few in

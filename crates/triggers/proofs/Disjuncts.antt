@@ -46,7 +46,8 @@ some-disjunct w ws = ⊎-elim
 before-more : (w : ℕ) (ws vs : List ℕ) → disjuncts-of-words (ws ++ vs) ≡ disjuncts-of-words ws ++ disjuncts-of-words vs → w < 4096 → Ends (w ∷ ws)
     → before-first (entry-number w) (disjuncts-of-words (ws ++ vs)) ≡ before-first (entry-number w) (disjuncts-of-words ws) ++ disjuncts-of-words vs
 before-more w [] vs ih l c = absurd (let z : 4096 ≤ w = c 0 refl in omega arith)
-before-more w (v ∷ ws) vs ih l c = ap (before-first (entry-number w)) ih ∙ before-append (entry-number w) (disjuncts-of-words (v ∷ ws)) (disjuncts-of-words vs) (some-disjunct v ws)
+before-more w (v ∷ ws) vs ih l c = ap (before-first (entry-number w)) ih
+    ∙ before-append (entry-number w) (disjuncts-of-words (v ∷ ws)) (disjuncts-of-words vs) (some-disjunct v ws)
 
 -- the disjuncts of words after words whose last ends its disjunct
 disjuncts-append : (ws vs : List ℕ) → Ends ws → disjuncts-of-words (ws ++ vs) ≡ disjuncts-of-words ws ++ disjuncts-of-words vs
@@ -58,7 +59,8 @@ disjuncts-append (w ∷ ws) vs c = ⊎-elim
     (below w 4096)
 
 -- the sets of entries after entries whose last ends its disjunct
-pub sets-append : (name : ℕ → Name) {named : ℕ} (ws vs : List ℕ) → Entries named ws → disjuncts-of name (ws ++ vs) ≡ disjuncts-of name ws ++ disjuncts-of name vs
+pub sets-append : (name : ℕ → Name) {named : ℕ} (ws vs : List ℕ) → Entries named ws
+    → disjuncts-of name (ws ++ vs) ≡ disjuncts-of name ws ++ disjuncts-of name vs
 unfolding disjuncts-of
 sets-append name ws vs c = rw (disjuncts-append ws vs (c .closed), map-append)
 
@@ -102,7 +104,8 @@ module _ (out : List ℕ) (at end named : ℕ) (few : named ≤ 2048) (long : en
     pub block-sets : (name : ℕ → Name) → disjuncts-of name (part marked at end) ≡ from-list (map name (part out at end)) ∷ []
     unfolding disjuncts-of
     block-sets name =
-        let same : part marked at (end - 1) ≡ part out at (end - 1) = part-same out marked (end - 1 - at) at (end - 1) refl (omega arith) (omega (arith, marked-long)) (λ i l. marked-other i (λ e. omega arith)) in
+        let same : part marked at (end - 1) ≡ part out at (end - 1) = part-same out marked (end - 1 - at) at (end - 1) refl (omega arith)
+        (omega (arith, marked-long)) (λ i l. marked-other i (λ e. omega arith)) in
         ap (map (λ ns. from-list (map name ns)))
         (ap disjuncts-of-words (part-last marked at end some marked-long ∙ ap₂ (λ ws w. ws ++ (w ∷ [])) same marked-last)
         ∙ block-words (part out at (end - 1)) (getD out (end - 1) 0) (omega (arith, small (end - 1) (omega arith) (omega arith)))
@@ -115,8 +118,10 @@ module _ (out : List ℕ) (at end named : ℕ) (few : named ≤ 2048) (long : en
     -- they are entries
     pub block-entries : Entries named (part marked at end)
     block-entries = record {
-      small = λ w m. low w (part-elim {l = marked} {a = at} {e = end} marked-long m .place) (part-elim {l = marked} {a = at} {e = end} marked-long m .low) (part-elim {l = marked} {a = at} {e = end} marked-long m .high) (part-elim {l = marked} {a = at} {e = end} marked-long m .is);
-      flagged = λ w m. high w (part-elim {l = marked} {a = at} {e = end} marked-long m .place) (part-elim {l = marked} {a = at} {e = end} marked-long m .low) (part-elim {l = marked} {a = at} {e = end} marked-long m .high) (part-elim {l = marked} {a = at} {e = end} marked-long m .is);
+      small = λ w m. low w (part-elim {l = marked} {a = at} {e = end} marked-long m .place) (part-elim {l = marked} {a = at} {e = end} marked-long m .low)
+          (part-elim {l = marked} {a = at} {e = end} marked-long m .high) (part-elim {l = marked} {a = at} {e = end} marked-long m .is);
+      flagged = λ w m. high w (part-elim {l = marked} {a = at} {e = end} marked-long m .place) (part-elim {l = marked} {a = at} {e = end} marked-long m .low)
+          (part-elim {l = marked} {a = at} {e = end} marked-long m .high) (part-elim {l = marked} {a = at} {e = end} marked-long m .is);
       closed = λ i e.
           let q : i ≡ end - 1 - at = omega (arith, part-length marked at end marked-long) in
           rw (q, part-at marked at end (end - 1) (omega arith) (omega arith), marked-last) (omega arith);
@@ -141,7 +146,8 @@ empty-words out at h =
     ∙ ap₂ (λ ws w. ws ++ (w ∷ [])) (part-nil (set out at 6144) at at (omega arith)) (getD-set-same out at 6144 0 h)
 
 -- is one disjunct without names
-pub empty-sets : (name : ℕ → Name) (out : List ℕ) (at : ℕ) → at < length out → disjuncts-of name (part (set out at 6144) at (at + 1)) ≡ from-list (map name []) ∷ []
+pub empty-sets : (name : ℕ → Name) (out : List ℕ) (at : ℕ) → at < length out
+    → disjuncts-of name (part (set out at 6144) at (at + 1)) ≡ from-list (map name []) ∷ []
 unfolding disjuncts-of disjuncts-of-words entry-number
 empty-sets name out at h = rw (empty-words out at h)
 

@@ -61,19 +61,25 @@ full-none p = let z : _≡_ {A = ℕ} 0 1 = cc in omega arith
 files-one : {name : ℕ → Name} {named at end : ℕ} {s : List Name} {out out′ : List ℕ} {r : Filed} → named ≤ 2048 → 8192 ≤ length out
     → Gathers name named s at 8192 out (gathered.Names end) → Closes out out′ at end r → Files name named (s ∷ []) at out′ r
 files-one {name} {named} {at} {end} {s} {out} few long (all-names is count fits small) (last some q) =
-    rw q (all-sets (block-sets out at end named few (omega arith) small some name ∙ ap (_∷ []) is) refl (omega (arith, entries-one s)) fits (block-entries out at end named few (omega arith) small some))
+    rw q (all-sets (block-sets out at end named few (omega arith) small some name ∙ ap (_∷ []) is) refl (omega (arith, entries-one s)) fits
+    (block-entries out at end named few (omega arith) small some))
 files-one {name} {named} {at} {end} {s} {out} few long (all-names is count fits small) (empty e l q) =
-    rw q (all-sets (empty-sets name out at (omega arith) ∙ ap (_∷ []) (ap (λ ws. from-list (map name ws)) (sym (part-nil out at end (omega arith))) ∙ is)) refl (omega (arith, entries-one s)) (omega arith) (empty-entries named out at (omega arith)))
+    rw q (all-sets (empty-sets name out at (omega arith) ∙ ap (_∷ []) (ap (λ ws. from-list (map name ws)) (sym (part-nil out at end (omega arith))) ∙ is)) refl
+    (omega (arith, entries-one s)) (omega arith) (empty-entries named out at (omega arith)))
 files-one {at} {s} few long (all-names is count fits small) (over e l q) = no-room (omega (arith, entries-one s))
 
 -- a set without room has none as a disjunct
-files-over : {name : ℕ → Name} {named at : ℕ} {s : List Name} {out : List ℕ} → Gathers name named s at 8192 out gathered.Full → Files name named (s ∷ []) at out filed.Full
+files-over : {name : ℕ → Name} {named at : ℕ} {s : List Name} {out : List ℕ} → Gathers name named s at 8192 out gathered.Full
+    → Files name named (s ∷ []) at out filed.Full
 files-over {s} (no-names p f) = no-room (omega (arith, entries-one s))
 
-module _ {names rows out names₁ rows₁ out₁ : List ℕ} {named mark at : ℕ} (s : List Name → (ℕ → Name) → List Name) (less : named ≤ 2048) (h : Opened names rows out mark at) where
+module _ {names rows out names₁ rows₁ out₁ : List ℕ} {named mark at : ℕ} (s : List Name → (ℕ → Name) → List Name) (less : named ≤ 2048)
+    (h : Opened names rows out mark at) where
   -- a set without room comes to no disjunct
-  comes-over : {f : Filing} → ((exclude : List Name) (name : ℕ → Name) → Named exclude name names named → Gathers name named (s exclude name) at 8192 out₁ gathered.Full)
-      → Gathered names rows out names₁ rows₁ out₁ mark at 8192 gathered.Full → Files-as f 1 names₁ rows₁ out₁ mark at filed.Full → Comes names rows out names₁ rows₁ out₁ named mark at (λ exclude name. s exclude name ∷ []) f 1 filed.Full
+  comes-over : {f : Filing} → ((exclude : List Name) (name : ℕ → Name) → Named exclude name names named → Gathers name named
+      (s exclude name) at 8192 out₁ gathered.Full)
+      → Gathered names rows out names₁ rows₁ out₁ mark at 8192 gathered.Full → Files-as f 1 names₁ rows₁ out₁ mark at filed.Full
+      → Comes names rows out names₁ rows₁ out₁ named mark at (λ exclude name. s exclude name ∷ []) f 1 filed.Full
   unfolding ended filed-end
   comes-over g p x = record {
     files = λ exclude name d. files-over (g exclude name d);
@@ -89,7 +95,8 @@ module _ {names rows out names₁ rows₁ out₁ : List ℕ} {named mark at : �
     filed-as = x;
   }
 
-  module _ {end : ℕ} (g : (exclude : List Name) (name : ℕ → Name) → Named exclude name names named → Gathers name named (s exclude name) at 8192 out₁ (gathered.Names end)) (p : Gathered names rows out names₁ rows₁ out₁ mark at 8192 (gathered.Names end)) where
+  module _ {end : ℕ} (g : (exclude : List Name) (name : ℕ → Name) → Named exclude name names named → Gathers name named (s exclude name) at 8192 out₁
+      (gathered.Names end)) (p : Gathered names rows out names₁ rows₁ out₁ mark at 8192 (gathered.Names end)) where
     -- where a set ends
     set-ends : (at ≤ end) × (end ≤ 8192)
     unfolding ended
@@ -105,7 +112,8 @@ module _ {names rows out names₁ rows₁ out₁ : List ℕ} {named mark at : �
     set-long = rw (set-same .same-length) (h .high)
 
     -- a set that was gathered and ended comes to one disjunct
-    comes-one : {f : Filing} {r : Filed} {out₂ : List ℕ} → Closes out₁ out₂ at end r → Files-as f 1 names₁ rows₁ out₂ mark at r → Comes names rows out names₁ rows₁ out₂ named mark at (λ exclude name. s exclude name ∷ []) f 1 r
+    comes-one : {f : Filing} {r : Filed} {out₂ : List ℕ} → Closes out₁ out₂ at end r → Files-as f 1 names₁ rows₁ out₂ mark at r
+        → Comes names rows out names₁ rows₁ out₂ named mark at (λ exclude name. s exclude name ∷ []) f 1 r
     unfolding filed-end
     comes-one (last some q) x = record {
       files = λ exclude name d. files-one less set-long (g exclude name d) (last some q);
@@ -125,7 +133,8 @@ module _ {names rows out names₁ rows₁ out₁ : List ℕ} {named mark at : �
       filled = record {
         names-same = p .names-same;
         rows-same = p .rows-same;
-        out-same = rw q (same-then (same-wider at (at + 1 - at) (omega arith) (omega arith) set-same) (same-set at (at + 1 - at) out₁ at 6144 (omega arith) (omega arith)));
+        out-same = rw q (same-then (same-wider at (at + 1 - at) (omega arith) (omega arith) set-same)
+            (same-set at (at + 1 - at) out₁ at 6144 (omega arith) (omega arith)));
         low = omega arith;
         high = omega arith;
         few = λ n e z. let w = answer-end z in let v = answer-count z in omega arith;
@@ -148,21 +157,26 @@ module _ {names rows out names₁ rows₁ out₁ : List ℕ} {named mark at : �
     }
 
 -- what ending a disjunct asks
-pub one-asks : {names rows out names₁ rows₁ out₁ : List ℕ} {mark at end : ℕ} {w : Walked} → Opened names rows out mark at → Gathered names rows out names₁ rows₁ out₁ mark at 8192 w → w ≡ gathered.Names end
+pub one-asks : {names rows out names₁ rows₁ out₁ : List ℕ} {mark at end : ℕ} {w : Walked} → Opened names rows out mark at
+    → Gathered names rows out names₁ rows₁ out₁ mark at 8192 w → w ≡ gathered.Names end
     → (at ≤ end) × (end ≤ 8192) × (8192 ≤ length out₁) × (at < end → getD out₁ (end - 1) 0 < 2048)
 unfolding ended
 one-asks {names} {rows} {out} {names₁} {rows₁} {out₁} {mark} {at} {end} h p e =
     let q : Gathered names rows out names₁ rows₁ out₁ mark at 8192 (gathered.Names end) = rw e at p in
     (q .grows, q .fits, rw (q .out-same .same-length) (h .high), λ l. q .small (end - 1) (omega arith) (omega arith))
 
-module _ {names rows out names₁ rows₁ out₁ : List ℕ} {named mark at : ℕ} {v : Visit} {w : Walked} (s : List Name → (ℕ → Name) → List Name) (less : named ≤ 2048) (h : Opened names rows out mark at)
-    (g : (exclude : List Name) (name : ℕ → Name) → Named exclude name names named → Gathers name named (s exclude name) at 8192 out₁ w) (p : Gathered names rows out names₁ rows₁ out₁ mark at 8192 w) (x : Walks-as v names rows out names₁ rows₁ out₁ mark at w) where
+module _ {names rows out names₁ rows₁ out₁ : List ℕ} {named mark at : ℕ} {v : Visit} {w : Walked} (s : List Name → (ℕ → Name) → List Name)
+    (less : named ≤ 2048) (h : Opened names rows out mark at)
+    (g : (exclude : List Name) (name : ℕ → Name) → Named exclude name names named → Gathers name named (s exclude name) at 8192 out₁ w)
+    (p : Gathered names rows out names₁ rows₁ out₁ mark at 8192 w) (x : Walks-as v names rows out names₁ rows₁ out₁ mark at w) where
   -- an answer without room
-  pub one-over : w ≡ gathered.Full → Comes names rows out names₁ rows₁ out₁ named mark at (λ exclude name. s exclude name ∷ []) (file-set (filing names rows out mark at) v) 1 filed.Full
+  pub one-over : w ≡ gathered.Full → Comes names rows out names₁ rows₁ out₁ named mark at (λ exclude name. s exclude name ∷ [])
+      (file-set (filing names rows out mark at) v) 1 filed.Full
   one-over e = comes-over s less h (λ exclude name d. rw e at (g exclude name d)) (rw e at p) (words-over h x e)
 
   -- the disjunct that was ended
-  pub one-closed : {end : ℕ} {r : Filed} {out₂ : List ℕ} → w ≡ gathered.Names end → Closes out₁ out₂ at end r → Comes names rows out names₁ rows₁ out₂ named mark at (λ exclude name. s exclude name ∷ []) (file-set (filing names rows out mark at) v) 1 r
+  pub one-closed : {end : ℕ} {r : Filed} {out₂ : List ℕ} → w ≡ gathered.Names end → Closes out₁ out₂ at end r
+      → Comes names rows out names₁ rows₁ out₂ named mark at (λ exclude name. s exclude name ∷ []) (file-set (filing names rows out mark at) v) 1 r
   one-closed e q = comes-one s less h (λ exclude name d. rw e at (g exclude name d)) (rw e at p) q (words-closed h x e (one-asks h p e .1) q)
 
 -- the last entry is marked
@@ -186,9 +200,12 @@ unfolding after
 files-then {name} {at = at} {m = m} {s} {t} {out} {out′} long (all-sets a b c d f) same (all-sets {e = e} a′ b′ c′ d′ f′) =
     let more = entries-append s t in
     let l : length out′ ≡ length out = same .same-length in
-    let kept : part out′ at m ≡ part out at m = part-same out out′ (m - at) at m refl (omega arith) (omega arith) (λ i h. same .same-words i (λ x y. omega arith)) in
-    let whole : part out′ at e ≡ part out at m ++ part out′ m e = part-split out′ (m - at) at m e refl (omega arith) (omega arith) (omega arith) ∙ ap (_++ part out′ m e) kept in
-    all-sets (ap (disjuncts-of name) whole ∙ sets-append name (part out at m) (part out′ m e) f ∙ ap₂ _++_ a a′) (ap₂ _+_ b b′ ∙ sym (length-append s t)) (omega arith) d′ (rw whole (entries-then (part out at m) (part out′ m e) f f′))
+    let kept : part out′ at m ≡ part out at m = part-same out out′ (m - at) at m refl (omega arith) (omega arith)
+    (λ i h. same .same-words i (λ x y. omega arith)) in
+    let whole : part out′ at e ≡ part out at m ++ part out′ m e = part-split out′ (m - at) at m e refl (omega arith) (omega arith) (omega arith)
+    ∙ ap (_++ part out′ m e) kept in
+    all-sets (ap (disjuncts-of name) whole ∙ sets-append name (part out at m) (part out′ m e) f ∙ ap₂ _++_ a a′) (ap₂ _+_ b b′ ∙ sym (length-append s t))
+    (omega arith) d′ (rw whole (entries-then (part out at m) (part out′ m e) f f′))
 files-then {s = s} {t = t} long (all-sets a b c d f) same (no-room p) = no-room (omega (arith, entries-append s t))
 
 -- where the entries of a later answer end
@@ -199,7 +216,8 @@ after-end n filed.Full = refl
 
 -- the marks after it are below the next
 after-fresh : {names rows : List ℕ} (mark at n m : ℕ) (r : Filed) → at ≤ m → ((k e : ℕ) → r ≡ filed.Sets k e → k + m ≤ e)
-    → ((k e : ℕ) → r ≡ filed.Sets k e → Fresh names rows (mark + (m - at) + (e - m))) → (k e : ℕ) → after n r ≡ filed.Sets k e → Fresh names rows (mark + (e - at))
+    → ((k e : ℕ) → r ≡ filed.Sets k e → Fresh names rows (mark + (m - at) + (e - m))) → (k e : ℕ) → after n r ≡ filed.Sets k e
+    → Fresh names rows (mark + (e - at))
 unfolding after
 after-fresh mark at n m (filed.Sets p q) lo few f k e z =
     let w = answer-end z in
@@ -229,11 +247,13 @@ module _ {names rows out names₁ rows₁ out₁ : List ℕ} {named mark at coun
       let li = d .filled .low in
       let q = after-end n r in
       record {
-        files = λ exclude name k. files-then (rw (c .filled .out-same .same-length) long) (c .files exclude name k) (d .filled .out-same) (d .files exclude name (named-marked (c .filled .names-same) less k));
+        files = λ exclude name k. files-then (rw (c .filled .out-same .same-length) long) (c .files exclude name k) (d .filled .out-same)
+            (d .files exclude name (named-marked (c .filled .names-same) less k));
         filled = record {
           names-same = same-then (c .filled .names-same) (d .filled .names-same);
           rows-same = same-then (c .filled .rows-same) (d .filled .rows-same);
-          out-same = rw q (same-then (same-wider at (filed-end r - at) (omega arith) (omega arith) (c .filled .out-same)) (same-wider at (filed-end r - at) lo (omega arith) (d .filled .out-same)));
+          out-same = rw q (same-then (same-wider at (filed-end r - at) (omega arith) (omega arith) (c .filled .out-same))
+              (same-wider at (filed-end r - at) lo (omega arith) (d .filled .out-same)));
           low = rw q (omega arith);
           high = rw q (d .filled .high);
           few = after-few at n m r (c .filled .few n m refl) (d .filled .few);
@@ -243,18 +263,30 @@ module _ {names rows out names₁ rows₁ out₁ : List ℕ} {named mark at coun
       }
 
   -- the same disjuncts, said in another way
-  pub comes-as : {t : Sets} {g : Filing} {as-many : ℕ} {r : Filed} → ((exclude : List Name) (name : ℕ → Name) → s exclude name ≡ t exclude name) → f ≡ g → count ≡ as-many
+  pub comes-as : {t : Sets} {g : Filing} {as-many : ℕ} {r : Filed} → ((exclude : List Name) (name : ℕ → Name) → s exclude name ≡ t exclude name) → f ≡ g
+      → count ≡ as-many
       → Comes names rows out names₁ rows₁ out₁ named mark at s f count r → Comes names rows out names₁ rows₁ out₁ named mark at t g as-many r
-  comes-as q p n c = record { files = λ exclude name d. rw (q exclude name) at (c .files exclude name d); filled = c .filled; filed-as = words-as p n (c .filed-as) }
+  comes-as q p n c = record {
+    files = λ exclude name d. rw (q exclude name) at (c .files exclude name d);
+    filled = c .filled;
+    filed-as = words-as p n (c .filed-as);
+  }
 
   -- the same answer
-  pub comes-is : {r r′ : Filed} → r ≡ r′ → Comes names rows out names₁ rows₁ out₁ named mark at s f count r → Comes names rows out names₁ rows₁ out₁ named mark at s f count r′
+  pub comes-is : {r r′ : Filed} → r ≡ r′ → Comes names rows out names₁ rows₁ out₁ named mark at s f count r
+      → Comes names rows out names₁ rows₁ out₁ named mark at s f count r′
   comes-is e c = rw e at c
 
   -- where there is no room for disjuncts there is none for more
-  pub comes-more : {t : Sets} {g : Filing} {as-many : ℕ} → ((exclude : List Name) (name : ℕ → Name) → entries (s exclude name) ≤ entries (t exclude name)) → (f .full ≡ true → g ≡ f)
+  pub comes-more : {t : Sets} {g : Filing} {as-many : ℕ} → ((exclude : List Name) (name : ℕ → Name) → entries (s exclude name) ≤ entries (t exclude name))
+      → (f .full ≡ true → g ≡ f)
       → Comes names rows out names₁ rows₁ out₁ named mark at s f count filed.Full → Comes names rows out names₁ rows₁ out₁ named mark at t g as-many filed.Full
-  comes-more {t} q p c = record { files = λ exclude name d. full (q exclude name) (c .files exclude name d); filled = c .filled; filed-as = words-more p (c .filed-as) }
+  comes-more {t} q p c = record {
+    files = λ exclude name d. full (q exclude name) (c .files exclude name d);
+    filled = c .filled;
+    filed-as = words-more p
+        (c .filed-as);
+  }
     where
       full : {name : ℕ → Name} {u v : List (List Name)} → entries u ≤ entries v → Files name named u at out₁ filed.Full → Files name named v at out₁ filed.Full
       full h (no-room p) = no-room (omega arith)
@@ -262,10 +294,12 @@ module _ {names rows out names₁ rows₁ out₁ : List ℕ} {named mark at coun
 -- no disjunct is filed
 files-none : (name : ℕ → Name) (named at : ℕ) (out : List ℕ) → at ≤ 8192 → Files name named [] at out (filed.Sets 0 at)
 unfolding disjuncts-of disjuncts-of-words entries sum
-files-none name named at out h = all-sets {n = 0} {e = at} (rw (part-nil out at at (omega arith))) refl (omega arith) h (rw (part-nil out at at (omega arith)) (no-entries named))
+files-none name named at out h = all-sets {n = 0} {e = at} (rw (part-nil out at at (omega arith))) refl (omega arith) h
+    (rw (part-nil out at at (omega arith)) (no-entries named))
 
 -- no disjunct comes to none
-pub comes-none : {names rows out : List ℕ} {named mark at : ℕ} → Opened names rows out mark at → Comes names rows out names rows out named mark at (λ exclude name. []) (filing names rows out mark at) 0 (filed.Sets 0 at)
+pub comes-none : {names rows out : List ℕ} {named mark at : ℕ} → Opened names rows out mark at
+    → Comes names rows out names rows out named mark at (λ exclude name. []) (filing names rows out mark at) 0 (filed.Sets 0 at)
 unfolding filed-end
 comes-none {names} {rows} {out} {named} {mark} {at} h = record {
   files = λ exclude name d. files-none name named at out (h .low);
@@ -310,7 +344,8 @@ unfolding after
 after-sets n k e j p q = rw (p, q)
 
 -- filing after filing, said in another way
-pub comes-next : {names rows out names₁ rows₁ out₁ names₂ rows₂ out₂ : List ℕ} {named mark at count n m more as-many : ℕ} {f g : Filing} {r : Filed} (s t u : Sets) (step : Filing → Filing) → named ≤ 2048 → 8192 ≤ length out
+pub comes-next : {names rows out names₁ rows₁ out₁ names₂ rows₂ out₂ : List ℕ} {named mark at count n m more as-many : ℕ} {f g : Filing} {r : Filed}
+    (s t u : Sets) (step : Filing → Filing) → named ≤ 2048 → 8192 ≤ length out
     → ((exclude : List Name) (name : ℕ → Name) → s exclude name ++ t exclude name ≡ u exclude name) → step f ≡ g → count + more ≡ as-many
     → Comes names rows out names₁ rows₁ out₁ named mark at s f count (filed.Sets n m)
     → Comes names₁ rows₁ out₁ names₂ rows₂ out₂ named (mark + (m - at)) m t (step (filing names₁ rows₁ out₁ (mark + (m - at)) m)) more r
@@ -320,13 +355,16 @@ comes-next s t u step few long q p i c d = comes-as q p i (comes-then t step few
 -- ---- the promises of the functions
 
 -- they hold of what filing comes to
-pub posts : {names rows out names₁ rows₁ out₁ : List ℕ} {named mark at count : ℕ} {s : Sets} {f : Filing} {r : Filed} → Comes names rows out names₁ rows₁ out₁ named mark at s f count r
-    → ((exclude : List Name) (name : ℕ → Name) → Named exclude name names named → Files name named (s exclude name) at out₁ r) × (Filled names rows out names₁ rows₁ out₁ mark at r × Files-as f count names₁ rows₁ out₁ mark at r)
+pub posts : {names rows out names₁ rows₁ out₁ : List ℕ} {named mark at count : ℕ} {s : Sets} {f : Filing} {r : Filed}
+    → Comes names rows out names₁ rows₁ out₁ named mark at s f count r
+    → ((exclude : List Name) (name : ℕ → Name) → Named exclude name names named → Files name named (s exclude name) at out₁ r)
+    × (Filled names rows out names₁ rows₁ out₁ mark at r × Files-as f count names₁ rows₁ out₁ mark at r)
 posts c = (c .files, (c .filled, c .filed-as))
 
 -- and say what it comes to
 pub comes-of : {names rows out names₁ rows₁ out₁ : List ℕ} {named mark at count : ℕ} {f : Filing} {r : Filed} (s : Sets)
-    → ((exclude : List Name) (name : ℕ → Name) → Named exclude name names named → Files name named (s exclude name) at out₁ r) × (Filled names rows out names₁ rows₁ out₁ mark at r × Files-as f count names₁ rows₁ out₁ mark at r)
+    → ((exclude : List Name) (name : ℕ → Name) → Named exclude name names named → Files name named (s exclude name) at out₁ r)
+    × (Filled names rows out names₁ rows₁ out₁ mark at r × Files-as f count names₁ rows₁ out₁ mark at r)
     → Comes names rows out names₁ rows₁ out₁ named mark at s f count r
 comes-of s p = record { files = p .0; filled = p .1 .0; filed-as = p .1 .1 }
 
@@ -337,24 +375,37 @@ abbrev pub term-sets : List ℕ → List ℕ → ℕ → ℕ → ℕ → Sets
 term-sets refs rows used many t exclude name = term-set refs rows used many t exclude name ∷ []
 
 -- the first has no room
-pub two-first : {names rows out names₁ rows₁ out₁ refs : List ℕ} {used many named mark at count : ℕ} {f : Filing} {r : Filed} (t u : ℕ) → Rows refs rows used many named → r ≡ filed.Full
+pub two-first : {names rows out names₁ rows₁ out₁ refs : List ℕ} {used many named mark at count : ℕ} {f : Filing} {r : Filed} (t u : ℕ)
+    → Rows refs rows used many named → r ≡ filed.Full
     → Comes names rows out names₁ rows₁ out₁ named mark at (term-sets refs rows used many t) f count r
     → Comes names rows out names₁ rows₁ out₁ named mark at (λ exclude name. term-set refs rows used many t exclude name ∷ term-set refs rows used many u exclude name ∷ []) (file-list refs used many f (u ∷ [])) 2 filed.Full
-two-first {rows = rows} {refs = refs} {used} {many} {f = f} t u h e c = comes-more (λ exclude name. omega (arith, entries-append (term-set refs rows used many t exclude name ∷ []) (term-set refs rows used many u exclude name ∷ []))) (list-stays refs used many f (u ∷ [])) (comes-is e c)
+two-first {rows = rows} {refs = refs} {used} {many} {f = f} t u h e c = comes-more
+    (λ exclude name. omega (arith, entries-append (term-set refs rows used many t exclude name ∷ []) (term-set refs rows used many u exclude name ∷ [])))
+    (list-stays refs used many f (u ∷ [])) (comes-is e c)
 
-module _ {names rows out names₁ rows₁ out₁ names₂ rows₂ out₂ refs : List ℕ} {used many named mark at n m : ℕ} {f : Filing} {r : Filed} (t u : ℕ) (h : Rows refs rows used many named) (long : 8192 ≤ length out)
+module _ {names rows out names₁ rows₁ out₁ names₂ rows₂ out₂ refs : List ℕ} {used many named mark at n m : ℕ} {f : Filing} {r : Filed} (t u : ℕ)
+    (h : Rows refs rows used many named) (long : 8192 ≤ length out)
     (c : Comes names rows out names₁ rows₁ out₁ named mark at (term-sets refs rows used many t) f 1 (filed.Sets n m))
-    (d : Comes names₁ rows₁ out₁ names₂ rows₂ out₂ named (mark + (m - at)) m (term-sets refs rows₁ used many u) (file-list refs used many (filing names₁ rows₁ out₁ (mark + (m - at)) m) (u ∷ [])) 1 r) where
+    (d : Comes names₁ rows₁ out₁ names₂ rows₂ out₂ named (mark + (m - at)) m (term-sets refs rows₁ used many u)
+    (file-list refs used many (filing names₁ rows₁ out₁ (mark + (m - at)) m) (u ∷ [])) 1 r) where
   -- both, with the answer of the second
-  two-then : Comes names rows out names₂ rows₂ out₂ named mark at (λ exclude name. term-set refs rows used many t exclude name ∷ term-set refs rows used many u exclude name ∷ []) (file-list refs used many f (u ∷ [])) 2 (after n r)
-  two-then = comes-next _ _ _ (λ f. file-list refs used many f (u ∷ [])) (h .few-names) long (λ exclude name. ap (λ ts. term-set refs rows used many t exclude name ∷ free-top-level-names exclude ts u ∷ []) (terms-marked name (c .filled .rows-same) h)) refl refl c d
+  two-then : Comes names rows out names₂ rows₂ out₂ named mark at
+      (λ exclude name. term-set refs rows used many t exclude name ∷ term-set refs rows used many u exclude name ∷ []) (file-list refs used many f (u ∷ [])) 2
+      (after n r)
+  two-then = comes-next _ _ _ (λ f. file-list refs used many f (u ∷ [])) (h .few-names) long
+      (λ exclude name. ap (λ ts. term-set refs rows used many t exclude name ∷ free-top-level-names exclude ts u ∷ [])
+      (terms-marked name (c .filled .rows-same) h)) refl refl c d
 
   -- the second has no room
-  pub two-full : r ≡ filed.Full → Comes names rows out names₂ rows₂ out₂ named mark at (λ exclude name. term-set refs rows used many t exclude name ∷ term-set refs rows used many u exclude name ∷ []) (file-list refs used many f (u ∷ [])) 2 filed.Full
+  pub two-full : r ≡ filed.Full → Comes names rows out names₂ rows₂ out₂ named mark at
+      (λ exclude name. term-set refs rows used many t exclude name ∷ term-set refs rows used many u exclude name ∷ [])
+      (file-list refs used many f (u ∷ [])) 2 filed.Full
   two-full e = comes-is (after-full n e) two-then
 
   -- both are filed
-  pub two-both : {k e : ℕ} → r ≡ filed.Sets k e → Comes names rows out names₂ rows₂ out₂ named mark at (λ exclude name. term-set refs rows used many t exclude name ∷ term-set refs rows used many u exclude name ∷ []) (file-list refs used many f (u ∷ [])) 2 (filed.Sets 2 e)
+  pub two-both : {k e : ℕ} → r ≡ filed.Sets k e → Comes names rows out names₂ rows₂ out₂ named mark at
+      (λ exclude name. term-set refs rows used many t exclude name ∷ term-set refs rows used many u exclude name ∷ []) (file-list refs used many f (u ∷ [])) 2
+      (filed.Sets 2 e)
   two-both {k} {e} q =
       let x = words-count refl (c .filed-as) in
       let y = words-count q (d .filed-as) in

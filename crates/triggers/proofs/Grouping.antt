@@ -39,7 +39,8 @@ patterns-asks {rows = rows} {many = many} r t l =
     (r .row-room, r .few-rows, l, u, omega (arith, r .in-order (bare-of rows t) u, r .in-use (bare-of rows t) u, r .few-references))
 
 -- what is read of them
-pub patterns-read : (rows : List ℕ) (used many t : ℕ) {n u w e : ℕ} → n ≡ groups-at rows t → u ≡ bare-of rows t → w ≡ row-start rows u → e ≡ row-end rows used many u
+pub patterns-read : (rows : List ℕ) (used many t : ℕ) {n u w e : ℕ} → n ≡ groups-at rows t → u ≡ bare-of rows t → w ≡ row-start rows u
+    → e ≡ row-end rows used many u
     → (n ≡ groups-at rows t) × (w + 1 ≡ row-start rows (bare-of rows t) + 1) × (e ≡ row-end rows used many (bare-of rows t))
 patterns-read rows used many t a b p q = (a, ap (_+ 1) (p ∙ ap (row-start rows) b), q ∙ ap (row-end rows used many) b)
 
@@ -85,54 +86,82 @@ module _ {refs rows : List ℕ} {used many named t groups u e : ℕ} (r : Rows r
 
     -- the group filed after those before it
     pub groups-then : {names out names₁ rows₁ out₁ names₂ rows₂ out₂ : List ℕ} {mark at end : ℕ} {f : Filed} → 8192 ≤ length out
-        → Comes names rows out names₁ rows₁ out₁ named mark at (λ exclude name. map (names-of exclude name) (groups-of-words (patterns refs rows used many u) g)) (fold-left (file-list refs used many) (filing names rows out mark at) (groups-of-words (patterns refs rows used many u) g)) g (filed.Sets g end)
-        → Comes names₁ rows₁ out₁ names₂ rows₂ out₂ named (mark + (end - at)) end (λ exclude name. group-names exclude (terms-of name refs rows₁ used many) (terms-of-words (part refs a b)) ∷ []) (file-list refs used many (filing names₁ rows₁ out₁ (mark + (end - at)) end) (terms-of-words (part refs a b))) 1 f
-        → Comes names rows out names₂ rows₂ out₂ named mark at (λ exclude name. map (names-of exclude name) (groups-of-words (patterns refs rows used many u) (g + 1))) (fold-left (file-list refs used many) (filing names rows out mark at) (groups-of-words (patterns refs rows used many u) (g + 1))) (g + 1) (after g f)
-    groups-then {names} {out} {mark = mark} {at} long c d = comes-next _ _ _ (λ f. file-list refs used many f (terms-of-words (part refs a b))) (r .few-names) long
+        → Comes names rows out names₁ rows₁ out₁ named mark at (λ exclude name. map (names-of exclude name)
+        (groups-of-words (patterns refs rows used many u) g))
+        (fold-left (file-list refs used many) (filing names rows out mark at) (groups-of-words (patterns refs rows used many u) g)) g (filed.Sets g end)
+        → Comes names₁ rows₁ out₁ names₂ rows₂ out₂ named (mark + (end - at)) end
+        (λ exclude name. group-names exclude (terms-of name refs rows₁ used many) (terms-of-words (part refs a b)) ∷ [])
+        (file-list refs used many (filing names₁ rows₁ out₁ (mark + (end - at)) end) (terms-of-words (part refs a b))) 1 f
+        → Comes names rows out names₂ rows₂ out₂ named mark at (λ exclude name. map (names-of exclude name)
+        (groups-of-words (patterns refs rows used many u) (g + 1)))
+        (fold-left (file-list refs used many) (filing names rows out mark at) (groups-of-words (patterns refs rows used many u) (g + 1))) (g + 1)
+        (after g f)
+    groups-then {names} {out} {mark = mark} {at} long c d = comes-next _ _ _ (λ f. file-list refs used many f (terms-of-words (part refs a b)))
+        (r .few-names) long
         (λ exclude name.
-        ap (λ x. map (names-of exclude name) (groups-of-words (patterns refs rows used many u) g) ++ (x ∷ [])) (ap₂ (group-names exclude) (terms-marked name (c .filled .rows-same) r) group-terms)
+        ap (λ x. map (names-of exclude name) (groups-of-words (patterns refs rows used many u) g) ++ (x ∷ []))
+        (ap₂ (group-names exclude) (terms-marked name (c .filled .rows-same) r) group-terms)
         ∙ groups-more (names-of exclude name) (patterns refs rows used many u) g)
-        (ap (file-list refs used many (fold-left (file-list refs used many) (filing names rows out mark at) (groups-of-words (patterns refs rows used many u) g))) group-terms ∙ filed-group refs used many (filing names rows out mark at) (patterns refs rows used many u) g) refl c d
+        (ap (file-list refs used many (fold-left (file-list refs used many) (filing names rows out mark at)
+        (groups-of-words (patterns refs rows used many u) g))) group-terms
+        ∙ filed-group refs used many (filing names rows out mark at) (patterns refs rows used many u) g) refl c d
 
   module _ {names out names₁ rows₁ out₁ : List ℕ} {mark at : ℕ} (l : t < many) where
     -- where a group has no room there is none for all
     pub groups-full : {g count : ℕ} {f : Filed} → g < groups → f ≡ filed.Full
-        → Comes names rows out names₁ rows₁ out₁ named mark at (λ exclude name. map (names-of exclude name) (groups-of-words (patterns refs rows used many u) (g + 1))) (fold-left (file-list refs used many) (filing names rows out mark at) (groups-of-words (patterns refs rows used many u) (g + 1))) (g + 1) (after g f)
-        → Comes names rows out names₁ rows₁ out₁ named mark at (λ exclude name. triggers-of-term exclude (terms-of name refs rows used many) t) (file-groups refs used many (filing names rows out mark at) t) count filed.Full
+        → Comes names rows out names₁ rows₁ out₁ named mark at (λ exclude name. map (names-of exclude name)
+        (groups-of-words (patterns refs rows used many u) (g + 1)))
+        (fold-left (file-list refs used many) (filing names rows out mark at) (groups-of-words (patterns refs rows used many u) (g + 1))) (g + 1)
+        (after g f)
+        → Comes names rows out names₁ rows₁ out₁ named mark at (λ exclude name. triggers-of-term exclude (terms-of name refs rows used many) t)
+        (file-groups refs used many (filing names rows out mark at) t) count filed.Full
     groups-full {g} h e c = comes-as (triggers-all r l all) (filed-all refs used many (filing names rows out mark at) all) refl
-        (comes-more (λ exclude name. groups-fewer (names-of exclude name) (patterns refs rows used many u) (g + 1) groups (omega arith)) (filed-groups refs used many (filing names rows out mark at) (patterns refs rows used many u) (g + 1) groups (omega arith)) (comes-is (after-full g e) c))
+        (comes-more (λ exclude name. groups-fewer (names-of exclude name) (patterns refs rows used many u) (g + 1) groups (omega arith))
+        (filed-groups refs used many (filing names rows out mark at) (patterns refs rows used many u) (g + 1) groups (omega arith))
+        (comes-is (after-full g e) c))
 
     -- all groups are the triggers
     pub groups-done : {g end : ℕ} → g ≤ groups → groups ≤ g
-        → Comes names rows out names₁ rows₁ out₁ named mark at (λ exclude name. map (names-of exclude name) (groups-of-words (patterns refs rows used many u) g)) (fold-left (file-list refs used many) (filing names rows out mark at) (groups-of-words (patterns refs rows used many u) g)) g (filed.Sets g end)
-        → Comes names rows out names₁ rows₁ out₁ named mark at (λ exclude name. triggers-of-term exclude (terms-of name refs rows used many) t) (file-groups refs used many (filing names rows out mark at) t) (groups-at rows t) (filed.Sets groups end)
+        → Comes names rows out names₁ rows₁ out₁ named mark at (λ exclude name. map (names-of exclude name)
+        (groups-of-words (patterns refs rows used many u) g))
+        (fold-left (file-list refs used many) (filing names rows out mark at) (groups-of-words (patterns refs rows used many u) g)) g (filed.Sets g end)
+        → Comes names rows out names₁ rows₁ out₁ named mark at (λ exclude name. triggers-of-term exclude (terms-of name refs rows used many) t)
+        (file-groups refs used many (filing names rows out mark at) t) (groups-at rows t) (filed.Sets groups end)
     groups-done {g} {end} h k c =
         let q : g ≡ groups = omega arith in
         comes-as
         (λ exclude name. ap (λ n. map (names-of exclude name) (groups-of-words (patterns refs rows used many u) n)) q ∙ triggers-all r l all exclude name)
-        (ap (λ n. fold-left (file-list refs used many) (filing names rows out mark at) (groups-of-words (patterns refs rows used many u) n)) q ∙ filed-all refs used many (filing names rows out mark at) all)
+        (ap (λ n. fold-left (file-list refs used many) (filing names rows out mark at) (groups-of-words (patterns refs rows used many u) n)) q
+        ∙ filed-all refs used many (filing names rows out mark at) all)
         (q ∙ all .counted ∙ sym (groups-all rows t u (all .bare) (all .is-all)))
         (comes-is (ap (λ n. filed.Sets n end) q) c)
 
 -- one group more, with its answer
-pub groups-again : {names rows out names₁ rows₁ out₁ names₂ rows₂ out₂ : List ℕ} {named mark mark₁ at m k e : ℕ} {f : Filed} {s t : Sets} {x y : Filing} (g : ℕ) → f ≡ filed.Sets k e
+pub groups-again : {names rows out names₁ rows₁ out₁ names₂ rows₂ out₂ : List ℕ} {named mark mark₁ at m k e : ℕ} {f : Filed} {s t : Sets} {x y : Filing}
+    (g : ℕ) → f ≡ filed.Sets k e
     → Comes names₁ rows₁ out₁ names₂ rows₂ out₂ named mark₁ m t y 1 f
-    → Comes names rows out names₂ rows₂ out₂ named mark at s x (g + 1) (after g f) → Comes names rows out names₂ rows₂ out₂ named mark at s x (g + 1) (filed.Sets (g + 1) e)
+    → Comes names rows out names₂ rows₂ out₂ named mark at s x (g + 1) (after g f)
+    → Comes names rows out names₂ rows₂ out₂ named mark at s x (g + 1) (filed.Sets (g + 1) e)
 groups-again {k = k} {e = e} g p d c =
     let q = words-count p (d .filed-as) in
     comes-is (after-sets g k e (g + 1) p (omega arith)) c
 
 -- before the first group nothing is filed
-pub groups-start : {rows names out : List ℕ} {named mark at : ℕ} (f : List Name → (ℕ → Name) → List ℕ → List Name) (step : Filing → List ℕ → Filing) (ws : List ℕ) → Opened names rows out mark at
-    → Comes names rows out names rows out named mark at (λ exclude name. map (f exclude name) (groups-of-words ws 0)) (fold-left step (filing names rows out mark at) (groups-of-words ws 0)) 0 (filed.Sets 0 at)
+pub groups-start : {rows names out : List ℕ} {named mark at : ℕ} (f : List Name → (ℕ → Name) → List ℕ → List Name) (step : Filing → List ℕ → Filing)
+    (ws : List ℕ) → Opened names rows out mark at
+    → Comes names rows out names rows out named mark at (λ exclude name. map (f exclude name) (groups-of-words ws 0))
+    (fold-left step (filing names rows out mark at) (groups-of-words ws 0)) 0 (filed.Sets 0 at)
 unfolding groups-of-words fold-left
 groups-start f step ws h = comes-none h
 
 -- a term without groups files nothing
-pub groups-none : {refs rows names out : List ℕ} {used many named mark at groups : ℕ} (t : ℕ) → Rows refs rows used many named → t < many → groups ≡ groups-at rows t → groups ≡ 0 → Opened names rows out mark at
-    → Comes names rows out names rows out named mark at (λ exclude name. triggers-of-term exclude (terms-of name refs rows used many) t) (file-groups refs used many (filing names rows out mark at) t) (groups-at rows t) (filed.Sets 0 at)
+pub groups-none : {refs rows names out : List ℕ} {used many named mark at groups : ℕ} (t : ℕ) → Rows refs rows used many named → t < many
+    → groups ≡ groups-at rows t → groups ≡ 0 → Opened names rows out mark at
+    → Comes names rows out names rows out named mark at (λ exclude name. triggers-of-term exclude (terms-of name refs rows used many) t)
+    (file-groups refs used many (filing names rows out mark at) t) (groups-at rows t) (filed.Sets 0 at)
 groups-none {refs} {rows} {names} {out} {used} {many} {mark = mark} {at} t r l c z h =
-    comes-as (λ exclude name. sym (triggers-none r l c z exclude name)) (filed-none refs used many (filing names rows out mark at) t c z) (sym z ∙ c) (comes-none h)
+    comes-as (λ exclude name. sym (triggers-none r l c z exclude name)) (filed-none refs used many (filing names rows out mark at) t c z) (sym z ∙ c)
+    (comes-none h)
 
 -- ---- the terms of a list
 
@@ -143,7 +172,8 @@ unfolding collect
 list-more f refs a i t h l e = rw (terms-more refs a i h l, collect-append, e, append-nil)
 
 -- the triggers of fewer terms take no more entries
-list-fewer : (f : ℕ → List (List Name)) (refs : List ℕ) (a i e : ℕ) → a ≤ i → i ≤ e → e ≤ length refs → entries (collect f (terms-of-words (part refs a i))) ≤ entries (collect f (terms-of-words (part refs a e)))
+list-fewer : (f : ℕ → List (List Name)) (refs : List ℕ) (a i e : ℕ) → a ≤ i → i ≤ e → e ≤ length refs
+    → entries (collect f (terms-of-words (part refs a i))) ≤ entries (collect f (terms-of-words (part refs a e)))
 list-fewer f refs a i e h k l =
     rw (terms-split refs a i e h k l, collect-append)
     (omega (arith, entries-append (collect f (terms-of-words (part refs a i))) (collect f (terms-of-words (part refs i e)))))
@@ -161,21 +191,29 @@ list-sets refs rows used many a e exclude name = collect (triggers-of-term exclu
 abbrev pub list-count : List ℕ → List ℕ → ℕ → ℕ → ℕ
 list-count refs rows a e = sum (map (groups-at rows) (terms-of-words (part refs a e)))
 
-module _ {refs rows names out : List ℕ} {used many named mark at a e : ℕ} (r : Rows refs rows used many named) (h : Opened names rows out mark at) (in-use : e ≤ used) where
+module _ {refs rows names out : List ℕ} {used many named mark at a e : ℕ} (r : Rows refs rows used many named) (h : Opened names rows out mark at)
+    (in-use : e ≤ used) where
   -- no term files nothing
-  pub list-start : {i : ℕ} → i ≡ a → Comes names rows out names rows out named mark at (list-sets refs rows used many a i) (file-parts refs used many (filing names rows out mark at) (terms-of-words (part refs a i))) (list-count refs rows a i) (filed.Sets 0 at)
+  pub list-start : {i : ℕ} → i ≡ a → Comes names rows out names rows out named mark at (list-sets refs rows used many a i)
+      (file-parts refs used many (filing names rows out mark at) (terms-of-words (part refs a i))) (list-count refs rows a i) (filed.Sets 0 at)
   unfolding file-parts terms-of-words fold-left sum
-  list-start {i} q = comes-as (λ exclude name. list-none (triggers-of-term exclude (terms-of name refs rows used many)) refs a i q) (rw (part-nil refs a i (omega arith))) (rw (part-nil refs a i (omega arith))) (comes-none h)
+  list-start {i} q = comes-as (λ exclude name. list-none (triggers-of-term exclude (terms-of name refs rows used many)) refs a i q)
+      (rw (part-nil refs a i (omega arith))) (rw (part-nil refs a i (omega arith))) (comes-none h)
 
-  module _ {names₁ rows₁ out₁ names₂ rows₂ out₂ : List ℕ} {count end i t : ℕ} {f : Filed} (low : a ≤ i) (high : i < e) (is : t ≡ getD refs i 0 % 4096) (lower : t < many)
-      (c : Comes names rows out names₁ rows₁ out₁ named mark at (list-sets refs rows used many a i) (file-parts refs used many (filing names rows out mark at) (terms-of-words (part refs a i))) (list-count refs rows a i) (filed.Sets count end))
-      (d : Comes names₁ rows₁ out₁ names₂ rows₂ out₂ named (mark + (end - at)) end (λ exclude name. triggers-of-term exclude (terms-of name refs rows₁ used many) t) (file-groups refs used many (filing names₁ rows₁ out₁ (mark + (end - at)) end) t) (groups-at rows₁ t) f) where
+  module _ {names₁ rows₁ out₁ names₂ rows₂ out₂ : List ℕ} {count end i t : ℕ} {f : Filed} (low : a ≤ i) (high : i < e) (is : t ≡ getD refs i 0 % 4096)
+      (lower : t < many)
+      (c : Comes names rows out names₁ rows₁ out₁ named mark at (list-sets refs rows used many a i)
+      (file-parts refs used many (filing names rows out mark at) (terms-of-words (part refs a i))) (list-count refs rows a i) (filed.Sets count end))
+      (d : Comes names₁ rows₁ out₁ names₂ rows₂ out₂ named (mark + (end - at)) end
+      (λ exclude name. triggers-of-term exclude (terms-of name refs rows₁ used many) t)
+      (file-groups refs used many (filing names₁ rows₁ out₁ (mark + (end - at)) end) t) (groups-at rows₁ t) f) where
     -- the references are in the slice
     list-fits : i < length refs
     list-fits = omega (arith, r .few-references, r .ref-room)
 
     -- the term's after those before it
-    list-then : Comes names rows out names₂ rows₂ out₂ named mark at (list-sets refs rows used many a (i + 1)) (file-parts refs used many (filing names rows out mark at) (terms-of-words (part refs a (i + 1)))) (list-count refs rows a (i + 1)) (after count f)
+    list-then : Comes names rows out names₂ rows₂ out₂ named mark at (list-sets refs rows used many a (i + 1))
+        (file-parts refs used many (filing names rows out mark at) (terms-of-words (part refs a (i + 1)))) (list-count refs rows a (i + 1)) (after count f)
     list-then = comes-next _ _ _ (λ f. file-groups refs used many f t) (r .few-names) (h .high)
         (λ exclude name.
         ap (λ ts. list-sets refs rows used many a i exclude name ++ triggers-of-term exclude ts t) (terms-marked name (c .filled .rows-same) r)
@@ -184,20 +222,26 @@ module _ {refs rows names out : List ℕ} {used many named mark at a e : ℕ} (r
         (ap (λ n. list-count refs rows a i + n) (groups-marked (c .filled .rows-same) r t lower) ∙ counted-more rows refs a i t low list-fits is) c d
 
     -- where there is no room for them there is none for all
-    pub list-full : f ≡ filed.Full → Comes names rows out names₂ rows₂ out₂ named mark at (list-sets refs rows used many a e) (file-parts refs used many (filing names rows out mark at) (terms-of-words (part refs a e))) (list-count refs rows a e) filed.Full
+    pub list-full : f ≡ filed.Full → Comes names rows out names₂ rows₂ out₂ named mark at (list-sets refs rows used many a e)
+        (file-parts refs used many (filing names rows out mark at) (terms-of-words (part refs a e))) (list-count refs rows a e) filed.Full
     list-full q = comes-more
-        (λ exclude name. list-fewer (triggers-of-term exclude (terms-of name refs rows used many)) refs a (i + 1) e (omega arith) (omega arith) (omega (arith, r .few-references, r .ref-room)))
+        (λ exclude name. list-fewer (triggers-of-term exclude (terms-of name refs rows used many)) refs a (i + 1) e (omega arith) (omega arith)
+        (omega (arith, r .few-references, r .ref-room)))
         (filed-parts refs used many (filing names rows out mark at) a (i + 1) (omega arith) e (omega arith) (omega (arith, r .few-references, r .ref-room)))
         (comes-is (after-full count q) list-then)
 
     -- the triggers up to the next place
-    pub list-next : {k m : ℕ} → f ≡ filed.Sets k m → Comes names rows out names₂ rows₂ out₂ named mark at (list-sets refs rows used many a (i + 1)) (file-parts refs used many (filing names rows out mark at) (terms-of-words (part refs a (i + 1)))) (list-count refs rows a (i + 1)) (filed.Sets (count + k) m)
+    pub list-next : {k m : ℕ} → f ≡ filed.Sets k m → Comes names rows out names₂ rows₂ out₂ named mark at (list-sets refs rows used many a (i + 1))
+        (file-parts refs used many (filing names rows out mark at) (terms-of-words (part refs a (i + 1)))) (list-count refs rows a (i + 1))
+        (filed.Sets (count + k) m)
     list-next {k} {m} q = comes-is (after-sets count k m (count + k) q refl) list-then
 
   -- the triggers up to the end
   pub list-done : {names₁ rows₁ out₁ : List ℕ} {i : ℕ} {f : Filed} → a ≤ i → i ≤ e → e ≤ i
-      → Comes names rows out names₁ rows₁ out₁ named mark at (list-sets refs rows used many a i) (file-parts refs used many (filing names rows out mark at) (terms-of-words (part refs a i))) (list-count refs rows a i) f
-      → Comes names rows out names₁ rows₁ out₁ named mark at (list-sets refs rows used many a e) (file-parts refs used many (filing names rows out mark at) (terms-of-words (part refs a e))) (list-count refs rows a e) f
+      → Comes names rows out names₁ rows₁ out₁ named mark at (list-sets refs rows used many a i)
+      (file-parts refs used many (filing names rows out mark at) (terms-of-words (part refs a i))) (list-count refs rows a i) f
+      → Comes names rows out names₁ rows₁ out₁ named mark at (list-sets refs rows used many a e)
+      (file-parts refs used many (filing names rows out mark at) (terms-of-words (part refs a e))) (list-count refs rows a e) f
   list-done {i = i} k x y c =
       let q : i ≡ e = omega arith in
       rw q at c
@@ -235,10 +279,13 @@ pub empty-none : {refs rows : List ℕ} {used many named t groups : ℕ} → Row
 unfolding is-empty
 empty-none r l c z exclude name = rw (triggers-none r l c z exclude name)
 
-module _ {refs rows : List ℕ} {used many named t groups u e : ℕ} (r : Rows refs rows used many named) (l : t < many) (all : All refs rows used many t groups u e) where
+module _ {refs rows : List ℕ} {used many named t groups u e : ℕ} (r : Rows refs rows used many named) (l : t < many)
+    (all : All refs rows used many t groups u e) where
   -- two groups and more are not empty
-  pub empty-more : (groups ≡ 0 → ⊥) → (groups ≡ 1 → ⊥) → (exclude : List Name) (name : ℕ → Name) → false ≡ is-empty (triggers-of-term exclude (terms-of name refs rows used many) t)
-  empty-more a b exclude name = rw (← (triggers-all r l all exclude name)) (empty-many (map (group-names exclude (terms-of name refs rows used many)) (groups-of-words (patterns refs rows used many u) groups))
+  pub empty-more : (groups ≡ 0 → ⊥) → (groups ≡ 1 → ⊥) → (exclude : List Name) (name : ℕ → Name)
+      → false ≡ is-empty (triggers-of-term exclude (terms-of name refs rows used many) t)
+  empty-more a b exclude name = rw (← (triggers-all r l all exclude name))
+      (empty-many (map (group-names exclude (terms-of name refs rows used many)) (groups-of-words (patterns refs rows used many u) groups))
       (λ q. a (sym (triggers-length (group-names exclude (terms-of name refs rows used many)) (patterns refs rows used many u) groups) ∙ q))
       (λ q. b (sym (triggers-length (group-names exclude (terms-of name refs rows used many)) (patterns refs rows used many u) groups) ∙ q)))
 
@@ -247,8 +294,11 @@ module _ {refs rows : List ℕ} {used many named t groups u e : ℕ} (r : Rows r
     pub single-asks : (a ≤ e) × (e ≤ used) × ((i : ℕ) → a ≤ i → i < e → getD refs i 0 % 4096 < many)
     single-asks =
         let b = groups-first r all starts in
-        let few = all .lower in
-        (groups-asks r all b .0, omega (arith, all .ends, r .in-use u few), λ i x y. omega (arith, all .ends, r .lower u i few (omega arith) (omega (arith, all .ends))))
+        let few = all .lower in (
+          groups-asks r all b .0,
+          omega (arith, all .ends, r .in-use u few),
+          λ i x y. omega (arith, all .ends, r .lower u i few (omega arith) (omega (arith, all .ends))),
+        )
 
     -- they are the terms of the group
     single-terms : terms-of-words (part refs a e) ≡ group-of-words (patterns refs rows used many u) 0
@@ -258,7 +308,9 @@ module _ {refs rows : List ℕ} {used many named t groups u e : ℕ} (r : Rows r
         group-terms r all b (sym last)
 
     -- they are the one trigger
-    pub single-trigger : (exclude : List Name) (name : ℕ → Name) → triggers-of-term exclude (terms-of name refs rows used many) t ≡ group-names exclude (terms-of name refs rows used many) (terms-of-words (part refs a e)) ∷ []
+    pub single-trigger : (exclude : List Name) (name : ℕ → Name)
+        → triggers-of-term exclude (terms-of name refs rows used many) t
+        ≡ group-names exclude (terms-of name refs rows used many) (terms-of-words (part refs a e)) ∷ []
     unfolding groups-of-words
     single-trigger exclude name =
         sym (triggers-all r l all exclude name)
@@ -288,7 +340,8 @@ module _ {refs rows : List ℕ} {used many named t groups u e : ℕ} (r : Rows r
       single-some e = single-words true (answer-full at _ (sym e ∙ x .answer))
 
     -- a gathered set that has no name is empty, and one that has no room is not
-    pub single-empty : (exclude : List Name) {name : ℕ → Name} {at n : ℕ} {out : List ℕ} {f : Walked} → f ≡ gathered.Names n → Gathers name named (group-names exclude (terms-of name refs rows used many) (terms-of-words (part refs a e))) at at out f
+    pub single-empty : (exclude : List Name) {name : ℕ → Name} {at n : ℕ} {out : List ℕ} {f : Walked} → f ≡ gathered.Names n
+        → Gathers name named (group-names exclude (terms-of name refs rows used many) (terms-of-words (part refs a e))) at at out f
         → true ≡ is-empty (triggers-of-term exclude (terms-of name refs rows used many) t)
     single-empty exclude {name} p g = rw (single-trigger exclude name) (empty-nil _ (none (rw p at g)))
       where
@@ -296,7 +349,8 @@ module _ {refs rows : List ℕ} {used many named t groups u e : ℕ} (r : Rows r
         none (all-names is count fits small) = omega arith
 
     -- the other answer
-    pub single-full : (exclude : List Name) {name : ℕ → Name} {at : ℕ} {out : List ℕ} {f : Walked} → f ≡ gathered.Full → Gathers name named (group-names exclude (terms-of name refs rows used many) (terms-of-words (part refs a e))) at at out f
+    pub single-full : (exclude : List Name) {name : ℕ → Name} {at : ℕ} {out : List ℕ} {f : Walked} → f ≡ gathered.Full
+        → Gathers name named (group-names exclude (terms-of name refs rows used many) (terms-of-words (part refs a e))) at at out f
         → false ≡ is-empty (triggers-of-term exclude (terms-of name refs rows used many) t)
     single-full exclude {name} p g = rw (single-trigger exclude name) (empty-some _ (some (rw p at g)))
       where
@@ -304,10 +358,12 @@ module _ {refs rows : List ℕ} {used many named t groups u e : ℕ} (r : Rows r
         some (no-room h f) = omega arith
 
 -- tables that nothing was marked in
-pub tables-kept : (names rows : List ℕ) (mark : ℕ) → Fresh names rows mark → Same-but 8192 2048 names names × Same-but 12288 4096 rows rows × Fresh names rows (mark + 1)
+pub tables-kept : (names rows : List ℕ) (mark : ℕ) → Fresh names rows mark
+    → Same-but 8192 2048 names names × Same-but 12288 4096 rows rows × Fresh names rows (mark + 1)
 tables-kept names rows mark f = (same-self 8192 2048 names, same-self 12288 4096 rows, fresh-later mark (mark + 1) (omega arith) f)
 
 -- tables that one set was marked in
-pub tables-gathered : {names rows out names′ rows′ out′ : List ℕ} {mark at room : ℕ} {r : Walked} → Fresh names rows mark → Gathered names rows out names′ rows′ out′ mark at room r
+pub tables-gathered : {names rows out names′ rows′ out′ : List ℕ} {mark at room : ℕ} {r : Walked} → Fresh names rows mark
+    → Gathered names rows out names′ rows′ out′ mark at room r
     → Same-but 8192 2048 names names′ × Same-but 12288 4096 rows rows′ × Fresh names′ rows′ (mark + 1)
 tables-gathered f g = (g .names-same, g .rows-same, fresh-next f g)

@@ -23,12 +23,19 @@ use Rattle.triggers.specs.Filings.{groups-under}
 use Rattle.triggers.proofs.Disjuncts.{entries-append}
 
 -- a row's node stays
-node-same : {rows rows′ : List ℕ} (name : ℕ → Name) (refs : List ℕ) (used many : ℕ) → Same-but 12288 4096 rows rows′ → many ≤ 4096 → (t : ℕ) → t < many → node-of name refs rows′ used many t ≡ node-of name refs rows used many t
+node-same : {rows rows′ : List ℕ} (name : ℕ → Name) (refs : List ℕ) (used many : ℕ) → Same-but 12288 4096 rows rows′ → many ≤ 4096 → (t : ℕ) → t < many
+    → node-of name refs rows′ used many t ≡ node-of name refs rows used many t
 unfolding node-of row-op row-kind row-head
-node-same name refs used many s few t l = rw (word-same s t (omega arith), start-same s t (omega arith), extra-same s t (omega arith), end-same s used many t few l)
+node-same name refs used many s few t l = rw (
+  word-same s t (omega arith),
+  start-same s t (omega arith),
+  extra-same s t (omega arith),
+  end-same s used many t few l,
+)
 
 -- the terms of a table do not change with its marks
-pub terms-marked : {refs rows rows′ : List ℕ} {used many named : ℕ} (name : ℕ → Name) → Same-but 12288 4096 rows rows′ → Rows refs rows used many named → terms-of name refs rows′ used many ≡ terms-of name refs rows used many
+pub terms-marked : {refs rows rows′ : List ℕ} {used many named : ℕ} (name : ℕ → Name) → Same-but 12288 4096 rows rows′ → Rows refs rows used many named
+    → terms-of name refs rows′ used many ≡ terms-of name refs rows used many
 unfolding terms-of nodes-below
 terms-marked {refs} {rows} {rows′} {used} {many} name s r = ap (fold-left add-term []) (go many (omega arith))
   where
@@ -37,7 +44,8 @@ terms-marked {refs} {rows} {rows′} {used} {many} name s r = ap (fold-left add-
     go (suc n) l = ap₂ (λ ns m. ns ++ (m ∷ [])) (go n (omega arith)) (node-same name refs used many s (r .few-rows) n (omega arith))
 
 -- how many groups a term has does not change with marks
-pub groups-marked : {refs rows rows′ : List ℕ} {used many named : ℕ} → Same-but 12288 4096 rows rows′ → Rows refs rows used many named → (t : ℕ) → t < many → groups-at rows′ t ≡ groups-at rows t
+pub groups-marked : {refs rows rows′ : List ℕ} {used many named : ℕ} → Same-but 12288 4096 rows rows′ → Rows refs rows used many named → (t : ℕ) → t < many
+    → groups-at rows′ t ≡ groups-at rows t
 unfolding groups-at
 groups-marked {rows = rows} s r t l =
     let few = r .few-rows in
@@ -45,7 +53,8 @@ groups-marked {rows = rows} s r t l =
     rw (bare-same s t (omega arith), kind-same s (bare-of rows t) (omega arith), extra-same s (bare-of rows t) (omega arith))
 
 -- names for a table are names for it with other marks
-pub named-marked : {exclude : List Name} {name : ℕ → Name} {names names′ : List ℕ} {named : ℕ} → Same-but 8192 2048 names names′ → named ≤ 2048 → Named exclude name names named → Named exclude name names′ named
+pub named-marked : {exclude : List Name} {name : ℕ → Name} {names names′ : List ℕ} {named : ℕ} → Same-but 8192 2048 names names′ → named ≤ 2048
+    → Named exclude name names named → Named exclude name names′ named
 named-marked s few d = record {
   distinct = d .distinct;
   excluded = λ n l. excluded-same s n (omega arith) ∙ d .excluded n l;
@@ -91,15 +100,18 @@ module _ {refs rows : List ℕ} {used many named t groups : ℕ} (r : Rows refs 
       ap (map (group-names exclude terms)) (groups-count r name l ∙ ap (groups-of-words words) (sym counts ∙ z))
 
 -- the groups of a term with groups
-pub groups-here : {refs rows : List ℕ} {used many t groups u e : ℕ} → All refs rows used many t groups u e → groups-of-words (patterns refs rows used many u) groups ≡ groups-under refs used many rows t
+pub groups-here : {refs rows : List ℕ} {used many t groups u e : ℕ} → All refs rows used many t groups u e
+    → groups-of-words (patterns refs rows used many u) groups ≡ groups-under refs used many rows t
 unfolding groups-under
 groups-here {refs} {rows} {used} {many} {t} {groups} {u} a = ap₂ groups-of-words
     (part-drop refs (row-start rows u) (row-end rows used many u) 1 ∙ ap (λ v. part refs (row-start rows v + 1) (row-end rows used many v)) (a .bare))
     (a .counted ∙ sym (groups-all rows t u (a .bare) (a .is-all)))
 
 -- the triggers of a term with groups
-pub triggers-all : {refs rows : List ℕ} {used many named t groups u e : ℕ} → Rows refs rows used many named → t < many → All refs rows used many t groups u e → (exclude : List Name) (name : ℕ → Name)
-    → map (group-names exclude (terms-of name refs rows used many)) (groups-of-words (patterns refs rows used many u) groups) ≡ triggers-of-term exclude (terms-of name refs rows used many) t
+pub triggers-all : {refs rows : List ℕ} {used many named t groups u e : ℕ} → Rows refs rows used many named → t < many → All refs rows used many t groups u e
+    → (exclude : List Name) (name : ℕ → Name)
+    → map (group-names exclude (terms-of name refs rows used many)) (groups-of-words (patterns refs rows used many u) groups)
+    ≡ triggers-of-term exclude (terms-of name refs rows used many) t
 unfolding triggers-of-term groups-under
 triggers-all {refs} {rows} {used} {many} r l a exclude name =
     ap (map (group-names exclude (terms-of name refs rows used many))) (groups-here a ∙ sym (groups-count r name l))
@@ -107,7 +119,8 @@ triggers-all {refs} {rows} {used} {many} r l a exclude name =
 -- ---- the groups so far
 
 -- one group more
-pub groups-more : (f : List ℕ → List Name) (ws : List ℕ) (g : ℕ) → map f (groups-of-words ws g) ++ (f (group-of-words ws g) ∷ []) ≡ map f (groups-of-words ws (g + 1))
+pub groups-more : (f : List ℕ → List Name) (ws : List ℕ) (g : ℕ)
+    → map f (groups-of-words ws g) ++ (f (group-of-words ws g) ∷ []) ≡ map f (groups-of-words ws (g + 1))
 unfolding groups-of-words
 groups-more f ws g = rw (add-one g, map-append)
 
@@ -118,6 +131,10 @@ groups-fewer f ws m zero h =
     let e : m ≡ 0 = omega arith in
     rw e (omega arith)
 groups-fewer f ws m (suc n) h = ⊎-elim
-    (λ (k : m < suc n). rw (map-append) (omega (arith, entries-append (map f (groups-of-words ws n)) (f (group-of-words ws n) ∷ []), groups-fewer f ws m n (omega arith))))
+    (λ (k : m < suc n). rw (map-append) (omega (
+      arith,
+      entries-append (map f (groups-of-words ws n)) (f (group-of-words ws n) ∷ []),
+      groups-fewer f ws m n (omega arith),
+    )))
     (λ (k : suc n ≤ m). let e : m ≡ suc n = omega arith in rw e (omega arith))
     (below m (suc n))

@@ -37,7 +37,8 @@ entry-length (n ∷ []) h = refl
 entry-length (n ∷ m ∷ ns) h = ap suc (entry-length (m ∷ ns) (omega arith))
 
 -- its entries are the numbers, with 4096 added to the last
-entry-put : (ns : List ℕ) (at i : ℕ) (out : List ℕ) → i + 1 ≡ at + length ns → at ≤ i → i < length out → put at (set-words ns) out ≡ set (put at ns out) i (getD (put at ns out) i 0 + 4096)
+entry-put : (ns : List ℕ) (at i : ℕ) (out : List ℕ) → i + 1 ≡ at + length ns → at ≤ i → i < length out
+    → put at (set-words ns) out ≡ set (put at ns out) i (getD (put at ns out) i 0 + 4096)
 unfolding set-words put
 entry-put [] at i out e h l = absurd (let z : ⊥ = omega arith in z)
 entry-put (n ∷ []) at i out e h l =
@@ -46,7 +47,8 @@ entry-put (n ∷ []) at i out e h l =
 entry-put (n ∷ m ∷ ns) at i out e h l = entry-put (m ∷ ns) (at + 1) i (set out at n) (omega arith) (omega arith) (rw (length-set out at n) l)
 
 -- a filed set, by whether it has room and by the words that it writes
-set-by : (f : Filing) (v : Visit) {b : Bool} {ws : List ℕ} → (v .full || ltb 8192 (f .end + length (set-words (v .found)))) ≡ b → cond b (v .found) (set-words (v .found)) ≡ ws
+set-by : (f : Filing) (v : Visit) {b : Bool} {ws : List ℕ} → (v .full || ltb 8192 (f .end + length (set-words (v .found)))) ≡ b
+    → cond b (v .found) (set-words (v .found)) ≡ ws
     → file-set f v ≡ record {
       names = marked-at 8192 (f .mark) (v .found) (f .names);
       rows = marked-at 12288 (f .mark) (v .walked) (f .rows);
@@ -62,7 +64,8 @@ set-by f v p q = rw (p, q)
 filing-as : {a a′ b b′ c c′ : List ℕ} {m m′ e e′ : ℕ} → a ≡ a′ → b ≡ b′ → c ≡ c′ → m ≡ m′ → e ≡ e′ → filing a b c m e ≡ filing a′ b′ c′ m′ e′
 filing-as p q s t u = rw (p, q, s, t, u)
 
-module _ {names rows out names₁ rows₁ out₁ : List ℕ} {mark at : ℕ} {v : Visit} {w : Walked} (h : Opened names rows out mark at) (x : Walks-as v names rows out names₁ rows₁ out₁ mark at w) where
+module _ {names rows out names₁ rows₁ out₁ : List ℕ} {mark at : ℕ} {v : Visit} {w : Walked} (h : Opened names rows out mark at)
+    (x : Walks-as v names rows out names₁ rows₁ out₁ mark at w) where
   -- a set whose names have no room
   pub words-over : w ≡ gathered.Full → Files-as (file-set (filing names rows out mark at) v) 1 names₁ rows₁ out₁ mark at filed.Full
   words-over e =
@@ -70,12 +73,14 @@ module _ {names rows out names₁ rows₁ out₁ : List ℕ} {mark at : ℕ} {v 
       rw (set-by (filing names rows out mark at) v {b = true} (rw q) refl) (as-full refl (x .name-words) (x .row-words) (x .out-words))
 
   -- a set that was ended
-  pub words-closed : {end : ℕ} {out₂ : List ℕ} {r : Filed} → w ≡ gathered.Names end → end ≤ 8192 → Closes out₁ out₂ at end r → Files-as (file-set (filing names rows out mark at) v) 1 names₁ rows₁ out₂ mark at r
+  pub words-closed : {end : ℕ} {out₂ : List ℕ} {r : Filed} → w ≡ gathered.Names end → end ≤ 8192 → Closes out₁ out₂ at end r
+      → Files-as (file-set (filing names rows out mark at) v) 1 names₁ rows₁ out₂ mark at r
   unfolding set-words put
   words-closed {end} {out₂} e fits (last some q) =
       let (going, ends) = answer-names at v (sym e ∙ x .answer) in
       let long : length (set-words (v .found)) ≡ length (v .found) = entry-length (v .found) (omega arith) in
-      let written : put at (set-words (v .found)) out ≡ out₂ = entry-put (v .found) at (end - 1) out (omega arith) (omega arith) (omega (arith, h .high)) ∙ sym (q ∙ ap (λ o. set o (end - 1) (getD o (end - 1) 0 + 4096)) (x .out-words)) in
+      let written : put at (set-words (v .found)) out ≡ out₂ = entry-put (v .found) at (end - 1) out (omega arith) (omega arith) (omega (arith, h .high))
+      ∙ sym (q ∙ ap (λ o. set o (end - 1) (getD o (end - 1) 0 + 4096)) (x .out-words)) in
       as-sets {e = end} refl
       (set-by (filing names rows out mark at) v {b = false} (rw (going, le-ltb 8192 (at + length (set-words (v .found))) (omega arith))) refl
       ∙ filing-as (sym (x .name-words)) (sym (x .row-words)) written (omega arith) (omega arith))
@@ -83,13 +88,16 @@ module _ {names rows out names₁ rows₁ out₁ : List ℕ} {mark at : ℕ} {v 
     where
       none : (ns : List ℕ) → v .found ≡ ns → Files-as (file-set (filing names rows out mark at) v) 1 names₁ rows₁ out₂ mark at (filed.Sets 1 (at + 1))
       none [] n = as-sets {e = at + 1} refl
-          (set-by (filing names rows out mark at) v {b = false} {ws = 6144 ∷ []} (rw (answer-names at v (sym e ∙ x .answer) .0, n, le-ltb 8192 (at + 1) (omega arith))) (rw n)
-          ∙ filing-as (sym (x .name-words)) (sym (x .row-words)) (sym (q ∙ ap (λ o. set o at 6144) (x .out-words ∙ ap (λ ns. put at ns out) n))) (omega arith) refl)
+          (set-by (filing names rows out mark at) v {b = false} {ws = 6144 ∷ []}
+          (rw (answer-names at v (sym e ∙ x .answer) .0, n, le-ltb 8192 (at + 1) (omega arith))) (rw n)
+          ∙ filing-as (sym (x .name-words)) (sym (x .row-words)) (sym (q ∙ ap (λ o. set o at 6144) (x .out-words ∙ ap (λ ns. put at ns out) n)))
+          (omega arith) refl)
       none (m ∷ ns) n = absurd (let z : ⊥ = omega (arith, answer-names at v (sym e ∙ x .answer) .1, ap length n) in z)
   words-closed {end} {out₂} e fits (over i l q) = none (v .found) refl
     where
       none : (ns : List ℕ) → v .found ≡ ns → Files-as (file-set (filing names rows out mark at) v) 1 names₁ rows₁ out₂ mark at filed.Full
-      none [] n = rw (set-by (filing names rows out mark at) v {b = true} {ws = v .found} (rw (answer-names at v (sym e ∙ x .answer) .0, n, lt-ltb 8192 (at + 1) (omega arith))) refl)
+      none [] n = rw (set-by (filing names rows out mark at) v {b = true} {ws = v .found}
+          (rw (answer-names at v (sym e ∙ x .answer) .0, n, lt-ltb 8192 (at + 1) (omega arith))) refl)
           (as-full refl (x .name-words) (x .row-words) (q ∙ x .out-words))
       none (m ∷ ns) n = absurd (let z : ⊥ = omega (arith, answer-names at v (sym e ∙ x .answer) .1, ap length n) in z)
 
@@ -101,23 +109,29 @@ after n (filed.Sets m e) = filed.Sets (n + m) e
 after n filed.Full = filed.Full
 
 -- sets after sets
-pub words-then : {names₁ rows₁ out₁ names₂ rows₂ out₂ : List ℕ} {mark at n m i j : ℕ} {f : Filing} {r : Filed} (step : Filing → Filing) → at ≤ m → m ≤ filed-end r
-    → Files-as f i names₁ rows₁ out₁ mark at (filed.Sets n m) → Files-as (step (filing names₁ rows₁ out₁ (mark + (m - at)) m)) j names₂ rows₂ out₂ (mark + (m - at)) m r
+pub words-then : {names₁ rows₁ out₁ names₂ rows₂ out₂ : List ℕ} {mark at n m i j : ℕ} {f : Filing} {r : Filed} (step : Filing → Filing) → at ≤ m
+    → m ≤ filed-end r
+    → Files-as f i names₁ rows₁ out₁ mark at (filed.Sets n m)
+    → Files-as (step (filing names₁ rows₁ out₁ (mark + (m - at)) m)) j names₂ rows₂ out₂ (mark + (m - at)) m r
     → Files-as (step f) (i + j) names₂ rows₂ out₂ mark at (after n r)
 unfolding after filed-end
-words-then {names₂} {rows₂} {out₂} step l k (as-sets a p) (as-sets {e = e} b q) = as-sets {e = e} (ap₂ _+_ a b) (ap step p ∙ q ∙ ap (λ k. filing names₂ rows₂ out₂ k e) (omega arith))
+words-then {names₂} {rows₂} {out₂} step l k (as-sets a p) (as-sets {e = e} b q) = as-sets {e = e} (ap₂ _+_ a b)
+    (ap step p ∙ q ∙ ap (λ k. filing names₂ rows₂ out₂ k e) (omega arith))
 words-then step l k (as-sets a p) (as-full x y z w) = rw p (as-full x y z w)
 
 -- the same filing, said in another way
-pub words-as : {names₁ rows₁ out₁ : List ℕ} {mark at i j : ℕ} {f g : Filing} {r : Filed} → f ≡ g → i ≡ j → Files-as f i names₁ rows₁ out₁ mark at r → Files-as g j names₁ rows₁ out₁ mark at r
+pub words-as : {names₁ rows₁ out₁ : List ℕ} {mark at i j : ℕ} {f g : Filing} {r : Filed} → f ≡ g → i ≡ j → Files-as f i names₁ rows₁ out₁ mark at r
+    → Files-as g j names₁ rows₁ out₁ mark at r
 words-as p q x = rw (← p, ← q) x
 
 -- where there is no room for sets there is none for more
-pub words-more : {names₁ rows₁ out₁ : List ℕ} {mark at i j : ℕ} {f g : Filing} → (f .full ≡ true → g ≡ f) → Files-as f i names₁ rows₁ out₁ mark at filed.Full → Files-as g j names₁ rows₁ out₁ mark at filed.Full
+pub words-more : {names₁ rows₁ out₁ : List ℕ} {mark at i j : ℕ} {f g : Filing} → (f .full ≡ true → g ≡ f) → Files-as f i names₁ rows₁ out₁ mark at filed.Full
+    → Files-as g j names₁ rows₁ out₁ mark at filed.Full
 words-more q (as-full x y z w) = rw (q x) (as-full x y z w)
 
 -- how many sets an answer has
-pub words-count : {names₁ rows₁ out₁ : List ℕ} {mark at i n e : ℕ} {f : Filing} {r : Filed} → r ≡ filed.Sets n e → Files-as f i names₁ rows₁ out₁ mark at r → n ≡ i
+pub words-count : {names₁ rows₁ out₁ : List ℕ} {mark at i n e : ℕ} {f : Filing} {r : Filed} → r ≡ filed.Sets n e → Files-as f i names₁ rows₁ out₁ mark at r
+    → n ≡ i
 words-count q (as-sets a p) = let z : _ ≡ _ = q in cc
 words-count q (as-full x y z w) = let z : _≡_ {A = ℕ} 0 1 = cc in let n : ⊥ = omega arith in absurd n
 
@@ -126,7 +140,8 @@ pub words-none : {names rows out : List ℕ} {mark at : ℕ} → Files-as (filin
 words-none {names} {rows} {out} {mark} {at} = as-sets {e = at} refl (ap (λ k. filing names rows out k at) (omega arith))
 
 -- what stays as it is without room stays so over a list
-fold-stays : {A : Type 0} (g : Filing → A → Filing) → ((f : Filing) (x : A) → f .full ≡ true → g f x ≡ f) → (f : Filing) (l : List A) → f .full ≡ true → fold-left g f l ≡ f
+fold-stays : {A : Type 0} (g : Filing → A → Filing) → ((f : Filing) (x : A) → f .full ≡ true → g f x ≡ f) → (f : Filing) (l : List A) → f .full ≡ true
+    → fold-left g f l ≡ f
 unfolding fold-left
 fold-stays g s f [] h = refl
 fold-stays g s f (x ∷ l) h = rw (s f x h) (fold-stays g s f l h)
@@ -144,7 +159,8 @@ module _ (refs : List ℕ) (used many : ℕ) where
 
   module _ (f : Filing) where
     -- one group more
-    pub filed-group : (ws : List ℕ) (g : ℕ) → file-list refs used many (fold-left (file-list refs used many) f (groups-of-words ws g)) (group-of-words ws g) ≡ fold-left (file-list refs used many) f (groups-of-words ws (g + 1))
+    pub filed-group : (ws : List ℕ) (g : ℕ) → file-list refs used many (fold-left (file-list refs used many) f (groups-of-words ws g)) (group-of-words ws g)
+        ≡ fold-left (file-list refs used many) f (groups-of-words ws (g + 1))
     unfolding groups-of-words fold-left
     filed-group ws g = rw (add-one g) (sym (fold-left-append (file-list refs used many) f (groups-of-words ws g) (group-of-words ws g ∷ [])))
 
@@ -158,12 +174,14 @@ module _ (refs : List ℕ) (used many : ℕ) where
     filed-groups ws m (suc n) h x = ⊎-elim
         (λ (k : m < suc n).
         let q = filed-groups ws m n (omega arith) x in
-        fold-left-append (file-list refs used many) f (groups-of-words ws n) (group-of-words ws n ∷ []) ∙ list-stays (fold-left (file-list refs used many) f (groups-of-words ws n)) (group-of-words ws n) (rw q x) ∙ q)
+        fold-left-append (file-list refs used many) f (groups-of-words ws n) (group-of-words ws n ∷ [])
+        ∙ list-stays (fold-left (file-list refs used many) f (groups-of-words ws n)) (group-of-words ws n) (rw q x) ∙ q)
         (λ (k : suc n ≤ m). let e : m ≡ suc n = omega arith in rw e)
         (below m (suc n))
 
     -- the groups of a term
-    pub filed-all : {t groups u e : ℕ} → All refs (f .rows) used many t groups u e → fold-left (file-list refs used many) f (groups-of-words (patterns refs (f .rows) used many u) groups) ≡ file-groups refs used many f t
+    pub filed-all : {t groups u e : ℕ} → All refs (f .rows) used many t groups u e
+        → fold-left (file-list refs used many) f (groups-of-words (patterns refs (f .rows) used many u) groups) ≡ file-groups refs used many f t
     unfolding file-groups
     filed-all a = ap (fold-left (file-list refs used many) f) (groups-here a)
 
@@ -175,9 +193,14 @@ module _ (refs : List ℕ) (used many : ℕ) where
     module _ (a i : ℕ) (low : a ≤ i) where
       -- one term more
       pub filed-part : (t : ℕ) → i < length refs → t ≡ getD refs i 0 % 4096
-          → file-groups refs used many (file-parts refs used many f (terms-of-words (part refs a i))) t ≡ file-parts refs used many f (terms-of-words (part refs a (i + 1)))
+          → file-groups refs used many (file-parts refs used many f (terms-of-words (part refs a i))) t
+          ≡ file-parts refs used many f (terms-of-words (part refs a (i + 1)))
       unfolding file-parts fold-left
-      filed-part t l is = rw (terms-more refs a i low l, fold-left-append (file-groups refs used many) f (terms-of-words (part refs a i)) (getD refs i 0 % 4096 ∷ []), is)
+      filed-part t l is = rw (
+        terms-more refs a i low l,
+        fold-left-append (file-groups refs used many) f (terms-of-words (part refs a i)) (getD refs i 0 % 4096 ∷ []),
+        is,
+      )
 
       -- after a term without room none is filed
       pub filed-parts : (e : ℕ) → i ≤ e → e ≤ length refs → file-parts refs used many f (terms-of-words (part refs a i)) .full ≡ true
@@ -185,14 +208,20 @@ module _ (refs : List ℕ) (used many : ℕ) where
       unfolding file-parts
       filed-parts e k l x =
           rw (terms-split refs a i e low k l, fold-left-append (file-groups refs used many) f (terms-of-words (part refs a i)) (terms-of-words (part refs i e)))
-          (fold-stays (file-groups refs used many) groups-stay (fold-left (file-groups refs used many) f (terms-of-words (part refs a i))) (terms-of-words (part refs i e)) x)
+          (fold-stays (file-groups refs used many) groups-stay (fold-left (file-groups refs used many) f (terms-of-words (part refs a i)))
+          (terms-of-words (part refs i e)) x)
 
 -- the groups of the terms up to a place and of the term there
 pub counted-more : (rows refs : List ℕ) (a i t : ℕ) → a ≤ i → i < length refs → t ≡ getD refs i 0 % 4096
     → sum (map (groups-at rows) (terms-of-words (part refs a i))) + groups-at rows t ≡ sum (map (groups-at rows) (terms-of-words (part refs a (i + 1))))
 unfolding sum
 counted-more rows refs a i t low l is =
-    rw (terms-more refs a i low l, map-append (groups-at rows) (terms-of-words (part refs a i)) (getD refs i 0 % 4096 ∷ []), sum-append (map (groups-at rows) (terms-of-words (part refs a i))) (groups-at rows (getD refs i 0 % 4096) ∷ []), is)
+    rw (
+      terms-more refs a i low l,
+      map-append (groups-at rows) (terms-of-words (part refs a i)) (getD refs i 0 % 4096 ∷ []),
+      sum-append (map (groups-at rows) (terms-of-words (part refs a i))) (groups-at rows (getD refs i 0 % 4096) ∷ []),
+      is,
+    )
     (omega arith)
 
 -- ---- the walk that finds no name
@@ -206,19 +235,29 @@ module _ (refs : List ℕ) (used many : ℕ) (names rows out : List ℕ) (t mark
   -- with two or more it is no
   pub asked-more : (groups ≡ 0 → ⊥) → (groups ≡ 1 → ⊥) → Asks-as (ask-empty refs used many names rows t) names rows out names rows out mark false
   unfolding ask-empty marked-at fold-left
-  asked-more z n = rw (← counts, ne-eqb groups 1 n, lt-ltb 1 groups (omega arith)) (record { answer = refl; name-words = refl; row-words = refl; out-words = refl })
+  asked-more z n = rw (← counts, ne-eqb groups 1 n, lt-ltb 1 groups (omega arith))
+      (record { answer = refl; name-words = refl; row-words = refl; out-words = refl })
 
 -- the walk of one group, without room
-pub walked-one : {refs rows : List ℕ} {used many t groups u e : ℕ} (names : List ℕ) (a at : ℕ) → All refs rows used many t groups u e → groups ≡ 1 → terms-of-words (part refs a e) ≡ group-of-words (patterns refs rows used many u) 0
+pub walked-one : {refs rows : List ℕ} {used many t groups u e : ℕ} (names : List ℕ) (a at : ℕ) → All refs rows used many t groups u e → groups ≡ 1
+    → terms-of-words (part refs a e) ≡ group-of-words (patterns refs rows used many u) 0
     → visit-list names refs rows used many (at - at) (terms-of-words (part refs a e)) ≡ ask-empty refs used many names rows t
 unfolding ask-empty concat groups-of-words
 walked-one {refs} {rows} {used} {many} {t} {groups} {u} {e} names a at all one is =
     let room : at - at ≡ 0 = omega arith in
-    let here : groups-under refs used many rows t ≡ group-of-words (patterns refs rows used many u) 0 ∷ [] = sym (groups-here all) ∙ ap (groups-of-words (patterns refs rows used many u)) one in
-    rw (groups-all rows t u (all .bare) (all .is-all) ∙ sym (all .counted) ∙ one, here, append-nil (group-of-words (patterns refs rows used many u) 0), room, is)
+    let here : groups-under refs used many rows t ≡ group-of-words (patterns refs rows used many u) 0 ∷ [] = sym (groups-here all)
+    ∙ ap (groups-of-words (patterns refs rows used many u)) one in
+    rw (
+      groups-all rows t u (all .bare) (all .is-all) ∙ sym (all .counted) ∙ one,
+      here,
+      append-nil (group-of-words (patterns refs rows used many u) 0),
+      room,
+      is,
+    )
 
 -- gathering without room leaves the names
-pub names-kept : {names rows out names′ rows′ out′ : List ℕ} {mark at : ℕ} {r : Walked} → Gathered names rows out names′ rows′ out′ mark at at r → names′ ≡ names
+pub names-kept : {names rows out names′ rows′ out′ : List ℕ} {mark at : ℕ} {r : Walked} → Gathered names rows out names′ rows′ out′ mark at at r
+    → names′ ≡ names
 names-kept {names} {names′ = names′} {out′ = out′} {at = at} {r = r} g =
     ext-getD 0 names′ names (g .names-same .same-length) (λ i l. ⊎-elim
     (λ (h : i < 8192). g .names-same .same-words i (λ a b. omega arith))

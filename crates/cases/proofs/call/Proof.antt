@@ -75,7 +75,7 @@ same-length-7 c = search needs
 
 returns : tie.Need-returns
 returns c =
-    let fits = simp length-take at (kept-room _ _ _ _ (c .before .before .before .before .before .before .before .before .before .before .before .before .before .before .filter .ensures .gives .answered)) in
+    let fits = simp length-take at (kept-room _ _ _ _ (c .before .before .before .before .before .before .before .before .before .before .before .before .before .before .filter .ensures .0 .gives .answered)) in
     omega (arith, c .before .before .before .before .before .before .before .before .before .before .before .before .before .before .before .before .before .before .before .before .before .before .before .before .before .before .before .before .before .before .pre .lent-out)
 
 pub call-spec : {M : Type 1} → statement M

@@ -34,7 +34,7 @@ slice-aggregate-print c = search needs
 
 print-requires : tie.Need-print-requires
 print-requires c κs =
-    let fits = kept-room _ _ _ _ (c .before .before .before .before .before .before .before .before .filter .ensures .gives .answered) in
+    let fits = kept-room _ _ _ _ (c .before .before .before .before .before .before .before .before .filter .ensures .0 .gives .answered) in
     (c .before .before .before .before .before .before .before .before .before .before .before .before .before .before .before .before .before .pre, omega arith)
 
 slice-aggregate-write-all : tie.Need-slice-aggregate-write-all

@@ -44,10 +44,15 @@ same-text-requires c κs =
 
 returns : tie.Need-returns Inv-loop μ-loop
 returns c =
-    let pre = c .before .before .before .before .before .before .before .before .pre in
-    let loop = c .before .before .before .before .before .loop .inv in
-    let same = sym (c .before .same-text .ensures) ∙ c .if1 .taken in
-    sym (loop .2 ∙ code-here _ _ _ _ (c .before .before .before .before .loop-test .taken) (omega arith) (pre .2) (c .before .before .before .find .ensures) _ _ same)
+    let at-same-text = c .before in
+    let at-find = at-same-text .before .before in
+    let at-loop-test = at-find .before in
+    let at-loop = at-loop-test .before in
+    let entry = at-loop .before .before .before in
+    let pre = entry .pre in
+    let loop = at-loop .loop .inv in
+    let same = sym (at-same-text .same-text .ensures) ∙ c .if1 .taken in
+    sym (loop .2 ∙ code-here _ _ _ _ (at-loop-test .loop-test .taken) (omega arith) (pre .2) (at-find .find .ensures) _ _ same)
 
 add-place : tie.Need-add-place Inv-loop μ-loop
 add-place c = omega arith

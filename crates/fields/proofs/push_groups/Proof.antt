@@ -57,12 +57,14 @@ same-length c =
 
 returns : tie.Need-returns Inv-loop μ-loop
 returns c =
-    let many = c .before .before .before .before .before in
+    let at-r = c .before in
+    let many = at-r .before .before .before .before in
     let step = many .push-many .ensures in
     let inv = many .before .before .before .before .before .before .before .loop .inv in
     let test = many .before .before .before .before .before .before .loop-test .taken in
-    let number = number-read (inv .1 .placed) most-number (many .before .before .before .before .before .number .ensures) (many .before .before .before .n .given .1) in
-    pushes-not (same-then (inv .2) (step .kept)) _ (inv .0 ∙ rw (groups-on _ _ _ _ _ _ test, number, run-not step (c .before .r .given .1)))
+    let number = number-read (inv .1 .placed) most-number (many .before .before .before .before .before .number .ensures)
+    (many .before .before .before .n .given .1) in
+    pushes-not (same-then (inv .2) (step .kept)) _ (inv .0 ∙ rw (groups-on _ _ _ _ _ _ test, number, run-not step (at-r .r .given .1)))
 
 enum-known-r-2 : tie.Need-enum-known-r-2 Inv-loop μ-loop
 enum-known-r-2 c = c .match .keys2

@@ -35,7 +35,10 @@ enum-known-r : tie.Need-enum-known-r Inv-loop μ-loop
 enum-known-r c = c .match .keys2
 
 same-length : tie.Need-same-length Inv-loop μ-loop
-same-length c = c .before .before .before .before .before .push-term .ensures .kept .same-length ∙ c .before .before .before .before .before .before .before .before .loop .inv .2 .same-length
+same-length c =
+    let at-push-term = c .before .before .before .before .before in
+    let at-loop = at-push-term .before .before .before in
+    at-push-term .push-term .ensures .kept .same-length ∙ at-loop .loop .inv .2 .same-length
 
 returns : tie.Need-returns Inv-loop μ-loop
 returns c =

@@ -92,28 +92,35 @@ same-length-3 c =
 
 returns-3 : tie.Need-returns-3
 returns-3 c =
-    let grouping = c .before .before .before .before .before in
+    let at-r = c .before in
+    let grouping = at-r .before .before .before .before in
     let counting = grouping .before .before .before .before .before in
     let step = counting .before .before .before .before .before .before .push-term .ensures in
     let at = counting .before .before .one .given .1 in
     let number = number-read (step .ahead _ _ at .placed) most-number (counting .number .ensures) (grouping .before .before .before .g .given .1) in
-    quantifies-not (no-groups _ _ _ _ (run-at step at) number (run-not (grouping .push-groups .ensures) (c .before .r .given .1))) (same-then (step .kept) (grouping .push-groups .ensures .kept))
+    quantifies-not (no-groups _ _ _ _ (run-at step at) number (run-not (grouping .push-groups .ensures) (at-r .r .given .1)))
+    (same-then (step .kept) (grouping .push-groups .ensures .kept))
 
 same-length-4 : tie.Need-same-length-4
 same-length-4 c = c .before .before .before .before .before .before .before .before .refs .given
 
 returns-4 : tie.Need-returns-4
 returns-4 c =
-    let counting = c .before .before .before in
+    let at-r2 = c .before in
+    let counting = at-r2 .before .before in
     let step = counting .before .before .before .before .before .before .push-term .ensures in
     let at = counting .before .before .one .given .1 in
-    quantifies-not (no-number _ _ _ _ (run-at step at) (number-not (step .ahead _ _ at .placed) most-number (counting .number .ensures) (c .before .r2 .given .1))) (step .kept)
+    quantifies-not (no-number _ _ _ _ (run-at step at) (number-not (step .ahead _ _ at .placed) most-number (counting .number .ensures) (at-r2 .r2 .given .1)))
+    (step .kept)
 
 same-length-5 : tie.Need-same-length-5
 same-length-5 c = c .before .before .before .before .refs .given
 
 returns-5 : tie.Need-returns-5
-returns-5 c = quantifies-not (no-body _ _ _ _ (run-not (c .before .before .before .before .before .push-term .ensures) (c .before .r3 .given .1))) (c .before .before .before .before .before .push-term .ensures .kept)
+returns-5 c =
+    let at-r3 = c .before in
+    let at-push-term = at-r3 .before .before .before .before in
+    quantifies-not (no-body _ _ _ _ (run-not (at-push-term .push-term .ensures) (at-r3 .r3 .given .1))) (at-push-term .push-term .ensures .kept)
 
 pub push-quantifier-spec : {M : Type 1} → statement M
 push-quantifier-spec =

@@ -24,7 +24,10 @@ loop-holds : tie.Need-loop-holds Inv-loop μ-loop
 loop-holds c = (refl, ahead-none (c .before .before .pre), same-self _ _ _)
 
 push-term-requires : tie.Need-push-term-requires Inv-loop μ-loop
-push-term-requires c κs = (pushable-then (c .before .before .before .before .before .before .pre) (c .before .before .before .loop .inv .1) (c .before .before .before .loop .inv .2), omega arith)
+push-term-requires c κs =
+    let at-loop = c .before .before .before in
+    let entry = at-loop .before .before .before in
+    (pushable-then (entry .pre) (at-loop .loop .inv .1) (at-loop .loop .inv .2), omega arith)
 
 enum-known-more : tie.Need-enum-known-more Inv-loop μ-loop
 enum-known-more c = c .match .keys1
@@ -65,7 +68,9 @@ same-length-2 : tie.Need-same-length-2 Inv-loop μ-loop
 same-length-2 c = c .before .before .loop .inv .2 .same-length
 
 returns-2 : tie.Need-returns-2 Inv-loop μ-loop
-returns-2 c = pushes-at (c .before .before .loop .inv .2) _ _ (c .before .before .loop .inv .0 ∙ rest-none _ _ _ _ _ (c .if1 .left)) (c .before .before .loop .inv .1)
+returns-2 c =
+    let at-loop = c .before .before in
+    pushes-at (at-loop .loop .inv .2) _ _ (at-loop .loop .inv .0 ∙ rest-none _ _ _ _ _ (c .if1 .left)) (at-loop .loop .inv .1)
 
 pub push-rest-spec : {M : Type 1} → statement M
 push-rest-spec =

@@ -119,9 +119,11 @@ same-length-7 c = c .before .before .before .before .refs .given
 
 returns-3 : tie.Need-returns-3
 returns-3 c =
-    let pushing = c .before .before .before .before .before in
-    let read = reads-name (pushing .before .before .before .before .before .before .before .read-name .ensures) (pushing .before .before .before .n .given .1) in
-    let refused = rest-refused _ _ _ _ (run-not (pushing .push-rest .ensures) (c .before .r .given .1)) in
+    let at-r = c .before in
+    let pushing = at-r .before .before .before .before in
+    let read = reads-name (pushing .before .before .before .before .before .before .before .read-name .ensures)
+    (pushing .before .before .before .n .given .1) in
+    let refused = rest-refused _ _ _ _ (run-not (pushing .push-rest .ensures) (at-r .r .given .1)) in
     line-not (call-said _ _ (read .said) ∙ rw refused) (read .spelled .longer .kept) (pushing .push-rest .ensures .kept)
 
 same-length-8 : tie.Need-same-length-8

@@ -26,14 +26,20 @@ same-length c = c .before .names .given
 
 returns : tie.Need-returns
 returns c =
-    let reading = c .before .before .before .before .before .before .before in
+    let at-spell-name = c .before .before in
+    let at-start = at-spell-name .before .before .before in
+    let reading = at-start .before .before in
     let entry = reading .before .before .before in
     let placed = entry .pre .1 in
-    let next = name-next _ _ placed _ _ _ (sym (reading .name .ensures) ∙ c .before .before .before .before .before .start .given .1) .0 in
-    name-read (field-name placed (reading .name .ensures) (c .before .before .before .before .before .start .given .1)) (c .before .before .spell-name .ensures) (next .onward)
+    let next = name-next _ _ placed _ _ _ (sym (reading .name .ensures) ∙ at-start .start .given .1) .0 in
+    name-read (field-name placed (reading .name .ensures) (at-start .start .given .1)) (at-spell-name .spell-name .ensures) (next .onward)
 
 returns-2 : tie.Need-returns-2
-returns-2 c = name-not (field-not (c .before .before .before .before .before .before .pre .1) (c .before .before .before .name .ensures) (c .before .r .given .1)) refl
+returns-2 c =
+    let at-r = c .before in
+    let at-name = at-r .before .before in
+    let entry = at-name .before .before .before in
+    name-not (field-not (entry .pre .1) (at-name .name .ensures) (at-r .r .given .1)) refl
 
 pub read-name-spec : {M : Type 1} → statement M
 read-name-spec =

@@ -106,7 +106,10 @@ returns-3 c =
     line-not (op-said _ _ (read .said) ∙ rw refused) (same-self _ _ _) (pushing .push-rest .ensures .kept)
 
 returns-4 : tie.Need-returns-4
-returns-4 c = line-not (word-refused _ _ (reads-op-not (c .before .before .before .read-op-word .ensures) (c .before .r2 .given .1))) (same-self _ _ _) (same-self _ _ _)
+returns-4 c =
+    let at-r2 = c .before in
+    let at-read-op-word = at-r2 .before .before in
+    line-not (word-refused _ _ (reads-op-not (at-read-op-word .read-op-word .ensures) (at-r2 .r2 .given .1))) (same-self _ _ _) (same-self _ _ _)
 
 pub read-op-spec : {M : Type 1} → statement M
 read-op-spec =

@@ -13,7 +13,10 @@ enum-known-start c = c .match .keys1
 
 op-word-requires : tie.Need-op-word-requires
 op-word-requires c κs =
-    let next = field-next _ _ (c .before .before .before .before .before .pre) _ _ _ (sym (c .before .before .before .field .ensures) ∙ c .before .start .given .1) in
+    let at-start = c .before in
+    let at-field = at-start .before .before in
+    let entry = at-field .before .before in
+    let next = field-next _ _ (entry .pre) _ _ _ (sym (at-field .field .ensures) ∙ at-start .start .given .1) in
     (next .ordered, next .inside)
 
 enum-known-op : tie.Need-enum-known-op
@@ -27,15 +30,21 @@ enum-known-r c = c .match .keys2
 
 returns : tie.Need-returns
 returns c =
-    let reading = c .before .before .before .before .before .before .before in
+    let at-op = c .before in
+    let at-op-word = at-op .before .before in
+    let at-start = at-op-word .before .before in
+    let reading = at-start .before .before in
     let entry = reading .before .before in
-    let next = field-next _ _ (entry .pre) _ _ _ (sym (reading .field .ensures) ∙ c .before .before .before .before .before .start .given .1) in
-    op-there (entry .pre) (reading .field .ensures) (c .before .before .before .before .before .start .given .1) (c .before .before .before .op-word .ensures) (c .before .op .given .1) (next .onward)
+    let next = field-next _ _ (entry .pre) _ _ _ (sym (reading .field .ensures) ∙ at-start .start .given .1) in
+    op-there (entry .pre) (reading .field .ensures) (at-start .start .given .1) (at-op-word .op-word .ensures) (at-op .op .given .1) (next .onward)
 
 returns-2 : tie.Need-returns-2
 returns-2 c =
-    let entry = c .before .before .before .before .before .before .before .before in
-    op-lacks (entry .pre) (c .before .before .before .before .before .before .field .ensures) (c .before .before .before .before .start .given .1) (c .before .before .op-word .ensures) (c .enum-told .given .1)
+    let at-op-word = c .before .before in
+    let at-start = at-op-word .before .before in
+    let at-field = at-start .before .before in
+    let entry = at-field .before .before in
+    op-lacks (entry .pre) (at-field .field .ensures) (at-start .start .given .1) (at-op-word .op-word .ensures) (c .enum-told .given .1)
 
 returns-3 : tie.Need-returns-3
 returns-3 c = field-lacks (c .before .before .before .before .before .pre) (c .before .before .before .field .ensures) (c .before .r .given .1)

@@ -81,7 +81,10 @@ same-length-3 c = c .before .rows .given
 
 returns : tie.Need-returns
 unfolding term-kind quantifier-kind
-returns c = reads-kind _ _ (c .before .before .before .before .before .before .before .before .enum-told .given .1) (c .before .before .before .before .read-free .ensures)
+returns c =
+    let at-read-free = c .before .before .before .before in
+    let at-enum-told = at-read-free .before .before .before .before in
+    reads-kind _ _ (at-enum-told .enum-told .given .1) (at-read-free .read-free .ensures)
 
 same-length-4 : tie.Need-same-length-4
 same-length-4 c = refl
@@ -122,7 +125,10 @@ same-length-12 c = c .before .rows4 .given
 
 returns-4 : tie.Need-returns-4
 unfolding term-kind quantifier-kind
-returns-4 c = reads-kind _ _ (c .before .before .before .before .before .before .before .before .enum-told4 .given .1) (c .before .before .before .before .read-op .ensures)
+returns-4 c =
+    let at-read-op = c .before .before .before .before in
+    let at-enum-told4 = at-read-op .before .before .before .before in
+    reads-kind _ _ (at-enum-told4 .enum-told4 .given .1) (at-read-op .read-op .ensures)
 
 same-length-13 : tie.Need-same-length-13
 same-length-13 c = refl
@@ -135,7 +141,10 @@ same-length-15 c = c .before .rows5 .given
 
 returns-5 : tie.Need-returns-5
 unfolding term-kind quantifier-kind
-returns-5 c = reads-kind _ _ (c .before .before .before .before .before .before .before .before .enum-told5 .given .1) (c .before .before .before .before .read-quantifier .ensures)
+returns-5 c =
+    let at-read-quantifier = c .before .before .before .before in
+    let at-enum-told5 = at-read-quantifier .before .before .before .before in
+    reads-kind _ _ (at-enum-told5 .enum-told5 .given .1) (at-read-quantifier .read-quantifier .ensures)
 
 same-length-16 : tie.Need-same-length-16
 same-length-16 c = refl
@@ -148,7 +157,10 @@ same-length-18 c = c .before .rows6 .given
 
 returns-6 : tie.Need-returns-6
 unfolding term-kind quantifier-kind
-returns-6 c = reads-kind _ _ (c .before .before .before .before .before .before .before .before .enum-told6 .given .1) (c .before .before .before .before .read-quantifier2 .ensures)
+returns-6 c =
+    let at-read-quantifier2 = c .before .before .before .before in
+    let at-enum-told6 = at-read-quantifier2 .before .before .before .before in
+    reads-kind _ _ (at-enum-told6 .enum-told6 .given .1) (at-read-quantifier2 .read-quantifier2 .ensures)
 
 same-length-19 : tie.Need-same-length-19
 same-length-19 c = refl
@@ -161,7 +173,10 @@ same-length-21 c = c .before .rows7 .given
 
 returns-7 : tie.Need-returns-7
 unfolding term-kind quantifier-kind
-returns-7 c = reads-kind _ _ (c .before .before .before .before .before .before .before .before .enum-told7 .given .1) (c .before .before .before .before .read-let .ensures)
+returns-7 c =
+    let at-read-let = c .before .before .before .before in
+    let at-enum-told7 = at-read-let .before .before .before .before in
+    reads-kind _ _ (at-enum-told7 .enum-told7 .given .1) (at-read-let .read-let .ensures)
 
 same-length-22 : tie.Need-same-length-22
 same-length-22 c = refl
@@ -174,7 +189,10 @@ same-length-24 c = c .before .rows8 .given
 
 returns-8 : tie.Need-returns-8
 unfolding term-kind quantifier-kind
-returns-8 c = reads-kind _ _ (c .before .before .before .before .before .before .before .before .enum-told8 .given .1) (c .before .before .before .before .read-label .ensures)
+returns-8 c =
+    let at-read-label = c .before .before .before .before in
+    let at-enum-told8 = at-read-label .before .before .before .before in
+    reads-kind _ _ (at-enum-told8 .enum-told8 .given .1) (at-read-label .read-label .ensures)
 
 pub read-term-spec : {M : Type 1} → statement M
 read-term-spec =

@@ -2,6 +2,7 @@
 use mathlib.Core.Path.{sym, _∙_}
 use borrow.Author.Needs.{needs}
 use Rattle.filter.proofs.Laws.{long, leaves-7, leaves-judged}
+use Rattle.filter.proofs.Demands.{demands-met}
 use Rattle.filter.proofs.filter.Statement.{statement}
 use Rattle.filter.proofs.filter.Tie as tie
 
@@ -15,7 +16,8 @@ returns : tie.Need-returns
 returns c =
     let if1 = c .before in
     let too-short = if1 .before in
-    leaves-7 _ _ _ _ _ _ _ _ _ (sym (too-short .too-short .ensures) ∙ if1 .if1 .taken) (c .refused .ensures)
+    let leaves = leaves-7 _ _ _ _ _ _ _ _ _ (sym (too-short .too-short .ensures) ∙ if1 .if1 .taken) (c .refused .ensures) in
+    (leaves, demands-met _ leaves)
 
 judge-requires : tie.Need-judge-requires
 judge-requires c κs =
@@ -49,7 +51,8 @@ returns-2 c =
     let judge = c .before .before .before .before .before .before .before .before .before .before .before .before .before .before in
     let if1 = judge .before .before .before .before .before .before .before .before in
     let too-short = if1 .before in
-    leaves-judged _ _ _ _ _ _ _ _ _ _ _ _ _ _ _ _ (sym (too-short .too-short .ensures) ∙ if1 .if1 .left) (judge .judge .ensures)
+    let leaves = leaves-judged _ _ _ _ _ _ _ _ _ _ _ _ _ _ _ _ (sym (too-short .too-short .ensures) ∙ if1 .if1 .left) (judge .judge .ensures) in
+    (leaves, demands-met _ leaves)
 
 pub filter-spec : {M : Type 1} → statement M
 filter-spec =

@@ -1,8 +1,6 @@
 -- `filter::list_kept` meets its contract.
 use native.Mathlib.Omega.{arith}
-use Rattle.model.specs.Outcome.{working-words}
-use Rattle.words.proofs.Slices.{same-then, same-wider}
-use Rattle.filter.proofs.Answers.{run-over, listed, visits-small, rounds-small}
+use Rattle.filter.proofs.Answers.{run-over, listed, slice-rest, visits-small, rounds-small}
 use Rattle.filter.proofs.list_kept.Statement.{statement}
 use Rattle.filter.proofs.list_kept.Tie as tie
 
@@ -40,14 +38,14 @@ same-length : tie.Need-same-length
 same-length c =
     let prune = c .before .before .before .before in
     let run-ask = prune .before .before .before .before in
-    same-then (same-wider 0 working-words (omega arith) (omega arith) (run-ask .run-ask .ensures .same)) (prune .prune .ensures .same) .same-length
+    slice-rest (run-ask .run-ask .ensures .same) (prune .prune .ensures .same) .same-length
 
 returns : tie.Need-returns
 returns c =
     let prune = c .before .before .before .before in
     let run-ask = prune .before .before .before .before in
     let entry = run-ask .before .before .before .before .before .before .before in
-    (listed (entry .pre) (run-ask .run-ask .ensures) (prune .prune .ensures), same-then (same-wider 0 working-words (omega arith) (omega arith) (run-ask .run-ask .ensures .same)) (prune .prune .ensures .same))
+    (listed (entry .pre) (run-ask .run-ask .ensures) (prune .prune .ensures), slice-rest (run-ask .run-ask .ensures .same) (prune .prune .ensures .same))
 
 pub list-kept-spec : {M : Type 1} → statement M
 list-kept-spec =

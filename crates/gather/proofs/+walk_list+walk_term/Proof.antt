@@ -62,22 +62,31 @@ walk-list-μ-loop names₀ refs rows₀ out₀ used many a e mark count room i�
 
 walk-list-loop-holds : (t : ℕ) → walk-list-lts.Need-loop-holds (list-claims t) (walk-list-at t) walk-list.Post walk-list-Inv-loop walk-list-μ-loop
 walk-list-loop-holds t c =
-    let start = c .before .before .before .before in
-    (omega arith, omega (arith, start .pre .1 .1 .in-order), walks-none (start .pre .1 .0), follow-nil (start .args .refs .now) (start .args .used) (start .args .many) (start .args .a))
+    let start = c .before .before .before .before in (
+      omega arith,
+      omega (arith, start .pre .1 .1 .in-order),
+      walks-none (start .pre .1 .0),
+      follow-nil (start .args .refs .now) (start .args .used) (start .args .many) (start .args .a),
+    )
 
-walk-list-reference-requires : (t : ℕ) → walk-list-lts.Need-reference-requires (list-claims t) (walk-list-at t) walk-list.Post walk-list-Inv-loop walk-list-μ-loop
+walk-list-reference-requires : (t : ℕ) → walk-list-lts.Need-reference-requires (list-claims t)
+    (walk-list-at t) walk-list.Post walk-list-Inv-loop walk-list-μ-loop
 walk-list-reference-requires t c κs =
     let start = c .before .before .before .before .before .before in
     omega (arith, start .pre .1 .0 .table .ref-room, start .pre .1 .0 .table .few-references, start .pre .1 .1 .in-use)
 
-walk-list-walk-term-requires : (t : ℕ) → walk-list-lts.Need-walk-term-requires (list-claims t) (walk-list-at t) walk-list.Post walk-list-Inv-loop walk-list-μ-loop
+walk-list-walk-term-requires : (t : ℕ) → walk-list-lts.Need-walk-term-requires (list-claims t)
+    (walk-list-at t) walk-list.Post walk-list-Inv-loop walk-list-μ-loop
 walk-list-walk-term-requires t c κs =
-    let start = c .before .before .before .before .before .before .before .before .before .before in
-    let loop = c .before .before .before .before .before in
+    let at-reference = c .before .before .before in
+    let loop = at-reference .before .before in
+    let start = loop .before .before .before .before .before in
     let low = loop .loop .inv .0 in
     let high : loop .loop .i < start .args .e = omega arith in
-    let is = c .before .before .before .reference .ensures in
-    (list-falls (start .args .refs .now) low high is (start .pre .0), (ready-then (start .pre .1 .0) (loop .loop .inv .2), in-table-at (start .pre .1 .1) low high is))
+    let is = at-reference .reference .ensures in (
+      list-falls (start .args .refs .now) low high is (start .pre .0),
+      (ready-then (start .pre .1 .0) (loop .loop .inv .2), in-table-at (start .pre .1 .1) low high is),
+    )
 
 walk-list-enum-known-more : (t : ℕ) → walk-list-lts.Need-enum-known-more (list-claims t) (walk-list-at t) walk-list.Post walk-list-Inv-loop walk-list-μ-loop
 walk-list-enum-known-more t c = c .match .keys1
@@ -87,14 +96,19 @@ walk-list-enum-told t c = c .match .keys2
 
 walk-list-returns : (t : ℕ) → walk-list-lts.Need-returns (list-claims t) (walk-list-at t) walk-list.Post walk-list-Inv-loop walk-list-μ-loop
 walk-list-returns t c =
-    let start = c .before .before .before .before .before .before .before .before .before .before .before .before .before .before .before .before .before .before .before in
-    let at = c .before .before .before .before .before .before .before .before .before .before .before .before .before in
+    let at-step = c .before .before .before .before .before .before .before .before in
+    let at-reference = at-step .before .before .before .before in
+    let at = at-reference .before in
+    let start = at .before .before .before .before .before .before in
     let low = at .before .loop .inv .0 in
     let high : at .before .loop .i < start .args .e = omega arith in
-    let is = c .before .before .before .before .before .before .before .before .before .before .before .before .reference .ensures in
-    let term = c .before .before .before .before .before .before .before .before in (
-      walks-stop high (walks-next (start .pre .1 .0) (start .pre .1 .1) low high is (at .before .loop .inv .2) (walks-is (c .enum-told .given .1) (term .walk-term .ensures .0))),
-      follow-stop (start .pre .1 .0) (start .pre .1 .1) low high (follow-next (start .pre .1 .0) (start .pre .1 .1) low high is (at .before .loop .inv .3) (follows-is (c .enum-told .given .1) (term .walk-term .ensures .1))),
+    let is = at-reference .reference .ensures in
+    let term = at-step in (
+      walks-stop high (walks-next (start .pre .1 .0) (start .pre .1 .1) low high is (at .before .loop .inv .2)
+          (walks-is (c .enum-told .given .1) (term .walk-term .ensures .0))),
+      follow-stop (start .pre .1 .0) (start .pre .1 .1) low high
+          (follow-next (start .pre .1 .0) (start .pre .1 .1) low high is (at .before .loop .inv .3)
+          (follows-is (c .enum-told .given .1) (term .walk-term .ensures .1))),
     )
 
 walk-list-same-length : (t : ℕ) → walk-list-lts.Need-same-length (list-claims t) (walk-list-at t) walk-list.Post walk-list-Inv-loop walk-list-μ-loop
@@ -114,16 +128,21 @@ walk-list-loop-less t c = omega arith
 
 walk-list-loop-again : (t : ℕ) → walk-list-lts.Need-loop-again (list-claims t) (walk-list-at t) walk-list.Post walk-list-Inv-loop walk-list-μ-loop
 walk-list-loop-again t c =
-    let start = c .before .before .before .before .before .before .before .before .before .before .before .before .before .before .before .before .before .before .before .before in
-    let at = c .before .before .before .before .before .before .before .before .before .before .before .before .before .before in
+    let at-more = c .before in
+    let at-step = at-more .before .before .before .before .before .before .before .before in
+    let at-reference = at-step .before .before .before .before in
+    let at = at-reference .before in
+    let start = at .before .before .before .before .before .before in
     let low = at .before .loop .inv .0 in
     let high : at .before .loop .i < start .args .e = omega arith in
-    let is = c .before .before .before .before .before .before .before .before .before .before .before .before .before .reference .ensures in
-    let term = c .before .before .before .before .before .before .before .before .before in (
+    let is = at-reference .reference .ensures in
+    let term = at-step in (
       omega arith,
       omega arith,
-      walks-next (start .pre .1 .0) (start .pre .1 .1) low high is (at .before .loop .inv .2) (walks-is (c .before .more .given .1) (term .walk-term .ensures .0)),
-      follow-next (start .pre .1 .0) (start .pre .1 .1) low high is (at .before .loop .inv .3) (follows-is (c .before .more .given .1) (term .walk-term .ensures .1)),
+      walks-next (start .pre .1 .0) (start .pre .1 .1) low high is (at .before .loop .inv .2)
+          (walks-is (at-more .more .given .1) (term .walk-term .ensures .0)),
+      follow-next (start .pre .1 .0) (start .pre .1 .1) low high is (at .before .loop .inv .3)
+          (follows-is (at-more .more .given .1) (term .walk-term .ensures .1)),
     )
 
 walk-list-returns-2 : (t : ℕ) → walk-list-lts.Need-returns-2 (list-claims t) (walk-list-at t) walk-list.Post walk-list-Inv-loop walk-list-μ-loop
@@ -174,11 +193,13 @@ walk-term-enum-told t c = c .match .keys2
 
 walk-term-returns-2 : (t : ℕ) → walk-term-lts.Need-returns-2 (term-claims t) (walk-term-at t) walk-term.Post
 walk-term-returns-2 t c =
-    let start = c .before .before .before .before .before .before .before .before .before .before .before .before .before .before .before .before .before in
-    let test = c .before .before .before .before .before .before .before .before .before .before in
-    let head = c .before .before .before .before .before .before in (
+    let at-step = c .before .before .before .before .before .before in
+    let test = at-step .before .before .before .before in
+    let start = test .before .before .before .before .before .before .before in
+    let head = at-step in (
       walks-head-full (start .pre .1 .0) (steps-is (c .enum-told .given .1) (head .gather-head .ensures .0)),
-      follow-head-full (start .pre .1 .0) (start .pre .1 .1) (λ e. test .if1 .left (test .before .at .ensures ∙ e)) (follows-is (c .enum-told .given .1) (head .gather-head .ensures .1)),
+      follow-head-full (start .pre .1 .0) (start .pre .1 .1) (λ e. test .if1 .left (test .before .at .ensures ∙ e))
+          (follows-is (c .enum-told .given .1) (head .gather-head .ensures .1)),
     )
 
 walk-term-same-length-2 : (t : ℕ) → walk-term-lts.Need-same-length-2 (term-claims t) (walk-term-at t) walk-term.Post
@@ -192,18 +213,29 @@ walk-term-same-length-4 t c = walk-term-returns-2 t c .0 .steps .out-same .same-
 
 walk-term-start-requires : (t : ℕ) → walk-term-lts.Need-start-requires (term-claims t) (walk-term-at t) walk-term.Post
 walk-term-start-requires t c κs =
-    let start = c .before .before .before .before .before .before .before .before .before .before .before .before .before .before .before .before .before .before .before in
+    let up = c .before .before .before .before .before .before .before .before .before .before .before .before in
+    let start = up .before .before .before .before .before .before .before in
     omega (arith, start .pre .1 .1, start .pre .1 .0 .table .few-rows, start .pre .1 .0 .table .row-room)
 
 walk-term-end-requires : (t : ℕ) → walk-term-lts.Need-end-requires (term-claims t) (walk-term-at t) walk-term.Post
 walk-term-end-requires t c κs =
-    let start = c .before .before .before .before .before .before .before .before .before .before .before .before .before .before .before .before .before .before .before .before .before in
+    let up = c .before .before .before .before .before .before .before .before .before .before .before .before in
+    let start = up .before .before .before .before .before .before .before .before .before in
     omega (arith, start .pre .1 .1, start .pre .1 .0 .table .few-rows, start .pre .1 .0 .table .row-room)
 
 walk-term-walk-list-requires : (t : ℕ) → walk-term-lts.Need-walk-list-requires (term-claims t) (walk-term-at t) walk-term.Post
 walk-term-walk-list-requires t c κs =
-    let start = c .before .before .before .before .before .before .before .before .before .before .before .before .before .before .before .before .before .before .before .before .before .before .before .before .before in
-    (term-falls (start .pre .1 .0 .table) (start .pre .1 .1) (c .before .before .before .before .before .start .ensures) (c .before .before .before .end .ensures) (start .pre .0), (ready-then (start .pre .1 .0) (walks-names (start .pre .1 .0) (steps-is (c .before .before .before .before .before .before .before .before .own .given .1) (c .before .before .before .before .before .before .before .before .before .before .before .before .before .before .gather-head .ensures .0))), references-of (start .pre .1 .0 .table) (start .pre .1 .1) (c .before .before .before .before .before .start .ensures) (c .before .before .before .end .ensures)))
+    let at-end = c .before .before .before in
+    let at-start = at-end .before .before in
+    let at-own = at-start .before .before .before in
+    let at-gather-head = at-own .before .before .before .before .before .before in
+    let start = at-gather-head .before .before .before .before .before .before .before .before .before .before .before in (
+      term-falls (start .pre .1 .0 .table) (start .pre .1 .1) (at-start .start .ensures) (at-end .end .ensures) (start .pre .0),
+      (
+        ready-then (start .pre .1 .0) (walks-names (start .pre .1 .0) (steps-is (at-own .own .given .1) (at-gather-head .gather-head .ensures .0))),
+        references-of (start .pre .1 .0 .table) (start .pre .1 .1) (at-start .start .ensures) (at-end .end .ensures),
+      ),
+    )
 
 walk-term-enum-known-n : (t : ℕ) → walk-term-lts.Need-enum-known-n (term-claims t) (walk-term-at t) walk-term.Post
 walk-term-enum-known-n t c = c .match2 .keys1
@@ -213,15 +245,18 @@ walk-term-enum-told-2 t c = c .match2 .keys2
 
 walk-term-returns-3 : (t : ℕ) → walk-term-lts.Need-returns-3 (term-claims t) (walk-term-at t) walk-term.Post
 walk-term-returns-3 t c =
-    let start = c .before .before .before .before .before .before .before .before .before .before .before .before .before .before .before .before .before .before .before .before .before .before .before .before .before .before .before .before .before .before .before .before .before .before in
-    let test = c .before .before .before .before .before .before .before .before .before .before .before .before .before .before .before .before .before .before .before .before .before .before .before .before .before .before .before in
-    let head = c .before .before .before .before .before .before .before .before .before .before .before .before .before .before .before .before .before .before .before .before .before .before .before in
-    let own = c .before .before .before .before .before .before .before .before .before .before .before .before .before .before .before .before .before in
-    let from = c .before .before .before .before .before .before .before .before .before .before .before .before .before .before in
-    let to = c .before .before .before .before .before .before .before .before .before .before .before .before in
-    let list = c .before .before .before .before .before .before .before .before in (
-      walks-term (start .pre .1 .0) (from .start .ensures) (to .end .ensures) (steps-is (own .own .given .1) (head .gather-head .ensures .0)) (walks-is (c .enum-told2 .given .1) (list .walk-list .ensures .0)),
-      follow-list-full (start .pre .1 .0) (start .pre .1 .1) (λ e. test .if1 .left (test .before .at .ensures ∙ e)) (from .start .ensures) (to .end .ensures) (follows-is (own .own .given .1) (head .gather-head .ensures .1)) (follows-is (c .enum-told2 .given .1) (list .walk-list .ensures .1)),
+    let at-step = c .before .before .before .before .before .before .before .before in
+    let to = at-step .before .before .before .before in
+    let from = to .before .before in
+    let own = from .before .before .before in
+    let head = own .before .before .before .before .before .before in
+    let test = head .before .before .before .before in
+    let start = test .before .before .before .before .before .before .before in
+    let list = at-step in (
+      walks-term (start .pre .1 .0) (from .start .ensures) (to .end .ensures) (steps-is (own .own .given .1) (head .gather-head .ensures .0))
+          (walks-is (c .enum-told2 .given .1) (list .walk-list .ensures .0)),
+      follow-list-full (start .pre .1 .0) (start .pre .1 .1) (λ e. test .if1 .left (test .before .at .ensures ∙ e)) (from .start .ensures) (to .end .ensures)
+          (follows-is (own .own .given .1) (head .gather-head .ensures .1)) (follows-is (c .enum-told2 .given .1) (list .walk-list .ensures .1)),
     )
 
 walk-term-same-length-5 : (t : ℕ) → walk-term-lts.Need-same-length-5 (term-claims t) (walk-term-at t) walk-term.Post
@@ -235,30 +270,40 @@ walk-term-same-length-7 t c = walk-term-returns-3 t c .0 .steps .out-same .same-
 
 walk-term-add-rows : (t : ℕ) → walk-term-lts.Need-add-rows (term-claims t) (walk-term-at t) walk-term.Post
 walk-term-add-rows t c =
-    let start = c .before .before .before .before .before .before .before .before .before .before .before .before .before .before .before .before .before .before .before .before .before .before .before .before .before .before .before .before .before .before .before .before .before .before .before in
+    let up = c .before .before .before .before .before .before .before .before .before .before .before .before in
+    let up-2 = up .before .before .before .before .before .before .before .before .before .before .before .before in
+    let start = up-2 .before .before .before .before .before .before .before .before .before .before .before in
     omega (arith, start .pre .1 .1, start .pre .1 .0 .table .few-rows)
 
 walk-term-mul-rows : (t : ℕ) → walk-term-lts.Need-mul-rows (term-claims t) (walk-term-at t) walk-term.Post
 walk-term-mul-rows t c =
-    let start = c .before .before .before .before .before .before .before .before .before .before .before .before .before .before .before .before .before .before .before .before .before .before .before .before .before .before .before .before .before .before .before .before .before .before .before in
+    let up = c .before .before .before .before .before .before .before .before .before .before .before .before in
+    let up-2 = up .before .before .before .before .before .before .before .before .before .before .before .before in
+    let start = up-2 .before .before .before .before .before .before .before .before .before .before .before in
     omega (arith, start .pre .1 .1, start .pre .1 .0 .table .few-rows)
 
 walk-term-slice-write-rows : (t : ℕ) → walk-term-lts.Need-slice-write-rows (term-claims t) (walk-term-at t) walk-term.Post
 walk-term-slice-write-rows t c =
-    let start = c .before .before .before .before .before .before .before .before .before .before .before .before .before .before .before .before .before .before .before .before .before .before .before .before .before .before .before .before .before .before .before .before .before .before .before in
-    omega (arith, start .pre .1 .1, start .pre .1 .0 .table .few-rows, start .pre .1 .0 .table .row-room, c .before .before .before .before .before .before .before .before .before .walk-list .kept .1 .1 .0)
+    let at-walk-list = c .before .before .before .before .before .before .before .before .before in
+    let up = at-walk-list .before .before .before .before .before .before .before .before .before .before .before .before in
+    let start = up .before .before .before .before .before .before .before .before .before .before .before .before .before .before in
+    omega (arith, start .pre .1 .1, start .pre .1 .0 .table .few-rows, start .pre .1 .0 .table .row-room, at-walk-list .walk-list .kept .1 .1 .0)
 
 walk-term-returns-4 : (t : ℕ) → walk-term-lts.Need-returns-4 (term-claims t) (walk-term-at t) walk-term.Post
 walk-term-returns-4 t c =
-    let start = c .before .before .before .before .before .before .before .before .before .before .before .before .before .before .before .before .before .before .before .before .before .before .before .before .before .before .before .before .before .before .before .before .before .before .before in
-    let test = c .before .before .before .before .before .before .before .before .before .before .before .before .before .before .before .before .before .before .before .before .before .before .before .before .before .before .before .before in
-    let head = c .before .before .before .before .before .before .before .before .before .before .before .before .before .before .before .before .before .before .before .before .before .before .before .before in
-    let own = c .before .before .before .before .before .before .before .before .before .before .before .before .before .before .before .before .before .before in
-    let from = c .before .before .before .before .before .before .before .before .before .before .before .before .before .before .before in
-    let to = c .before .before .before .before .before .before .before .before .before .before .before .before .before in
-    let list = c .before .before .before .before .before .before .before .before .before in (
-      walks-marked (start .pre .1 .0) (start .pre .1 .1) (walks-term (start .pre .1 .0) (from .start .ensures) (to .end .ensures) (steps-is (own .own .given .1) (head .gather-head .ensures .0)) (walks-is (c .before .n .given .1) (list .walk-list .ensures .0))),
-      follow-marked (start .pre .1 .0) (start .pre .1 .1) (λ e. test .if1 .left (test .before .at .ensures ∙ e)) (from .start .ensures) (to .end .ensures) (follows-is (own .own .given .1) (head .gather-head .ensures .1)) (follows-is (c .before .n .given .1) (list .walk-list .ensures .1)),
+    let at-n = c .before in
+    let at-step = at-n .before .before .before .before .before .before .before .before in
+    let to = at-step .before .before .before .before in
+    let from = to .before .before in
+    let own = from .before .before .before in
+    let head = own .before .before .before .before .before .before in
+    let test = head .before .before .before .before in
+    let start = test .before .before .before .before .before .before .before in
+    let list = at-step in (
+      walks-marked (start .pre .1 .0) (start .pre .1 .1) (walks-term (start .pre .1 .0) (from .start .ensures) (to .end .ensures)
+          (steps-is (own .own .given .1) (head .gather-head .ensures .0)) (walks-is (at-n .n .given .1) (list .walk-list .ensures .0))),
+      follow-marked (start .pre .1 .0) (start .pre .1 .1) (λ e. test .if1 .left (test .before .at .ensures ∙ e)) (from .start .ensures) (to .end .ensures)
+          (follows-is (own .own .given .1) (head .gather-head .ensures .1)) (follows-is (at-n .n .given .1) (list .walk-list .ensures .1)),
     )
 
 walk-term-same-length-8 : (t : ℕ) → walk-term-lts.Need-same-length-8 (term-claims t) (walk-term-at t) walk-term.Post

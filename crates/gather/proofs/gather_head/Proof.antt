@@ -91,18 +91,25 @@ same-length-3 c = search needs
 
 returns-4 : tie.Need-returns-4
 returns-4 c =
-    let back = c .before .before .before .before .before .before .before .before in
+    let at-if3 = c .before in
+    let at-at = at-if3 .before in
+    let at-if2 = at-at .before .before in
+    let at-is-excluded = at-if2 .before in
+    let at-head = at-is-excluded .before .before in
+    let back = at-head .before in
     let start = back .before .before .before .before .before in
-    let after-if2 = c .before .before .before .before .if2 in
-    let after-is-excluded = c .before .before .before .before .before .is-excluded in
-    let after-head = c .before .before .before .before .before .before .before .head in
+    let after-if2 = at-if2 .if2 in
+    let after-is-excluded = at-is-excluded .is-excluded in
+    let after-head = at-head .head in
     let after-if1 = back .if1 in
     let after-has-head = back .before .has-head in
     let is = after-head .ensures in
     let has = sym (after-has-head .ensures) ∙ not-false _ (after-if1 .left) in
     let counted = sym (after-is-excluded .ensures) ∙ after-if2 .left in
-    let new : name-mark (start .args .names .now) (after-head .result) ≡ start .args .mark → ⊥ = λ e. c .before .if3 .left (c .before .before .at .ensures ∙ e) in
-    (head-over (start .pre) (start .args .mark) _ is has counted new (c .if4 .taken), follow-over (start .pre) (start .args .mark) _ is has counted new (c .if4 .taken))
+    let new : name-mark (start .args .names .now) (after-head .result) ≡ start .args .mark → ⊥ = λ e. at-if3 .if3 .left (at-at .at .ensures ∙ e) in (
+      head-over (start .pre) (start .args .mark) _ is has counted new (c .if4 .taken),
+      follow-over (start .pre) (start .args .mark) _ is has counted new (c .if4 .taken),
+    )
 
 cast-out : tie.Need-cast-out
 cast-out c =
@@ -161,18 +168,25 @@ same-length-5 c = search needs
 
 returns-5 : tie.Need-returns-5
 returns-5 c =
-    let back = c .before .before .before .before .before .before .before .before in
+    let at-if3 = c .before in
+    let at-at = at-if3 .before in
+    let at-if2 = at-at .before .before in
+    let at-is-excluded = at-if2 .before in
+    let at-head = at-is-excluded .before .before in
+    let back = at-head .before in
     let start = back .before .before .before .before .before in
-    let after-if2 = c .before .before .before .before .if2 in
-    let after-is-excluded = c .before .before .before .before .before .is-excluded in
-    let after-head = c .before .before .before .before .before .before .before .head in
+    let after-if2 = at-if2 .if2 in
+    let after-is-excluded = at-is-excluded .is-excluded in
+    let after-head = at-head .head in
     let after-if1 = back .if1 in
     let after-has-head = back .before .has-head in
     let is = after-head .ensures in
     let has = sym (after-has-head .ensures) ∙ not-false _ (after-if1 .left) in
     let counted = sym (after-is-excluded .ensures) ∙ after-if2 .left in
-    let new : name-mark (start .args .names .now) (after-head .result) ≡ start .args .mark → ⊥ = λ e. c .before .if3 .left (c .before .before .at .ensures ∙ e) in
-    (head-added (start .pre) (start .args .mark) _ is has counted new (c .if4 .left), follow-added (start .pre) (start .args .mark) _ is has counted new (c .if4 .left))
+    let new : name-mark (start .args .names .now) (after-head .result) ≡ start .args .mark → ⊥ = λ e. at-if3 .if3 .left (at-at .at .ensures ∙ e) in (
+      head-added (start .pre) (start .args .mark) _ is has counted new (c .if4 .left),
+      follow-added (start .pre) (start .args .mark) _ is has counted new (c .if4 .left),
+    )
 
 pub gather-head-spec : {M : Type 1} → statement M
 gather-head-spec =

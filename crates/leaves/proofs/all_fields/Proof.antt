@@ -10,10 +10,10 @@ use Rattle.leaves.proofs.all_fields.Statement.{statement}
 use Rattle.leaves.proofs.all_fields.Tie as tie
 
 abbrev Inv-loop : tie.InvT-loop
-Inv-loop file table₀ many known₀ c₀ table known c = (length table ≡ length table₀) × Table file table known × Placed file c
+Inv-loop file table₀ named known₀ c₀ table known c = (length table ≡ length table₀) × Table file table known × Placed file c
 
 abbrev μ-loop : tie.MeasureT-loop
-μ-loop file table₀ many known₀ c₀ table known c = c .end + 1 - c .at
+μ-loop file table₀ named known₀ c₀ table known c = c .end + 1 - c .at
 
 loop-holds : tie.Need-loop-holds Inv-loop μ-loop
 loop-holds c = (refl, c .before .before .pre .0, c .before .before .pre .1)
@@ -26,18 +26,28 @@ enum-known-start c = c .match .keys1
 
 field-and-token-requires : tie.Need-field-and-token-requires Inv-loop μ-loop
 field-and-token-requires c κs =
-    let read = field-next _ _ (c .before .before .before .before .before .before .before .loop .inv .2) _ _ _ (sym (c .before .before .before .before .field .ensures) ∙ c .before .before .start .given .1) in
-    (c .before .before .before .before .before .before .before .loop .inv .1, read .ordered, read .inside)
+    let at-start = c .before .before in
+    let at-field = at-start .before .before in
+    let at-loop = at-field .before .before .before in
+    let read = field-next _ _ (at-loop .loop .inv .2) _ _ _ (sym (at-field .field .ensures) ∙ at-start .start .given .1) in
+    (at-loop .loop .inv .1, read .ordered, read .inside)
 
 loop-less : tie.Need-loop-less Inv-loop μ-loop
 loop-less c =
-    let read = field-next _ _ (c .before .before .before .before .before .before .before .before .before .before .loop .inv .2) _ _ _ (sym (c .before .before .before .before .before .before .before .field .ensures) ∙ c .before .before .before .before .before .start .given .1) in
+    let at-start = c .before .before .before .before .before in
+    let at-field = at-start .before .before in
+    let at-loop = at-field .before .before .before in
+    let read = field-next _ _ (at-loop .loop .inv .2) _ _ _ (sym (at-field .field .ensures) ∙ at-start .start .given .1) in
     omega (arith, read .onward)
 
 loop-again : tie.Need-loop-again Inv-loop μ-loop
 loop-again c =
-    let read = field-next _ _ (c .before .before .before .before .before .before .before .before .before .before .loop .inv .2) _ _ _ (sym (c .before .before .before .before .before .before .before .field .ensures) ∙ c .before .before .before .before .before .start .given .1) in
-    (omega arith, c .before .before .field-and-token .ensures, read .onward .placed)
+    let at-field-and-token = c .before .before in
+    let at-start = at-field-and-token .before .before .before in
+    let at-field = at-start .before .before in
+    let at-loop = at-field .before .before .before in
+    let read = field-next _ _ (at-loop .loop .inv .2) _ _ _ (sym (at-field .field .ensures) ∙ at-start .start .given .1) in
+    (omega arith, at-field-and-token .field-and-token .ensures, read .onward .placed)
 
 enum-told : tie.Need-enum-told Inv-loop μ-loop
 enum-told c = c .match .keys2

@@ -10,10 +10,10 @@ use Rattle.leaves.proofs.all_lines.Statement.{statement}
 use Rattle.leaves.proofs.all_lines.Tie as tie
 
 abbrev Inv-loop : tie.InvT-loop
-Inv-loop file table₀ many₀ from₀ table many from = (length table ≡ length table₀) × Table file table many
+Inv-loop file table₀ named₀ from₀ table named from = (length table ≡ length table₀) × Table file table named
 
 abbrev μ-loop : tie.MeasureT-loop
-μ-loop file table₀ many₀ from₀ table many from = length file - from
+μ-loop file table₀ named₀ from₀ table named from = length file - from
 
 loop-holds : tie.Need-loop-holds Inv-loop μ-loop
 loop-holds c = (refl, c .before .before .pre)
@@ -22,13 +22,20 @@ find-requires : tie.Need-find-requires Inv-loop μ-loop
 find-requires c κs = search needs
 
 one-line-requires : tie.Need-one-line-requires Inv-loop μ-loop
-one-line-requires c κs = (c .before .before .before .loop .inv .1, mark-from _ _ _ _ _ (c .before .find .ensures), mark-to _ _ _ _ _ (c .before .find .ensures) (omega arith) (omega arith))
+one-line-requires c κs =
+    let at-find = c .before in
+    let at-loop = at-find .before .before in
+    (at-loop .loop .inv .1, mark-from _ _ _ _ _ (at-find .find .ensures), mark-to _ _ _ _ _ (at-find .find .ensures) (omega arith) (omega arith))
 
 add-from : tie.Need-add-from Inv-loop μ-loop
-add-from c = omega (arith, mark-to _ _ _ _ _ (c .before .before .before .before .find .ensures) (omega arith) (omega arith), mark-from _ _ _ _ _ (c .before .before .before .before .find .ensures))
+add-from c =
+    let at-find = c .before .before .before .before in
+    omega (arith, mark-to _ _ _ _ _ (at-find .find .ensures) (omega arith) (omega arith), mark-from _ _ _ _ _ (at-find .find .ensures))
 
 loop-less : tie.Need-loop-less Inv-loop μ-loop
-loop-less c = omega (arith, mark-to _ _ _ _ _ (c .before .before .before .before .find .ensures) (omega arith) (omega arith), mark-from _ _ _ _ _ (c .before .before .before .before .find .ensures))
+loop-less c =
+    let at-find = c .before .before .before .before in
+    omega (arith, mark-to _ _ _ _ _ (at-find .find .ensures) (omega arith) (omega arith), mark-from _ _ _ _ _ (at-find .find .ensures))
 
 loop-again : tie.Need-loop-again Inv-loop μ-loop
 loop-again c = (omega arith, c .before .before .one-line .ensures)

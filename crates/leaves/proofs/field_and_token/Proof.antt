@@ -35,21 +35,6 @@ sub-spell c = search needs
 spell-requires : tie.Need-spell-requires
 spell-requires c κs = search needs
 
-slice-aggregate-put : tie.Need-slice-aggregate-put
-slice-aggregate-put c = search needs
-
-put-requires : tie.Need-put-requires
-put-requires c κs = search needs
-
-put-spelled-requires : tie.Need-put-spelled-requires
-put-spelled-requires c κs = search needs
-
-slice-aggregate-put-2 : tie.Need-slice-aggregate-put-2
-slice-aggregate-put-2 c = search needs
-
-put-requires-2 : tie.Need-put-requires-2
-put-requires-2 c κs = search needs
-
 grown-requires : tie.Need-grown-requires
 grown-requires c κs = search needs
 
@@ -58,8 +43,13 @@ same-length-3 c = search needs
 
 returns-3 : tie.Need-returns-3
 returns-3 c =
-    let pre = c .before .before .before .before .before .before .before .before .before .before .before .before .before .before .before .before .before .before .before .before .pre in
-    grown-table (c .before .before .before .before .before .before .before .before .before .before .before .before .before .before .before .before .one-field .ensures) _ _ (omega (arith, c .before .before .before .before .before .before .before .before .before .before .before .before .before .if1 .left)) (omega (arith, pre .2)) _ _ _ (c .before .before .before .before .before .before .before .before .spell .ensures .0) (c .before .before .before .before .before .before .before .before .spell .ensures .1) (c .grown .ensures)
+    let spell = c .before .before .before in
+    let long = spell .before .before .before .before .before in
+    let field = long .before .before .before in
+    let entry = field .before .before .before .before in
+    let answer = spell .spell .ensures .0 in
+    let slice = spell .spell .ensures .1 in
+    grown-table (field .one-field .ensures) _ _ (omega (arith, long .if1 .left)) (omega (arith, entry .pre .2)) _ _ _ answer slice (c .grown .ensures)
 
 pub field-and-token-spec : {M : Type 1} → statement M
 field-and-token-spec =
@@ -75,11 +65,6 @@ field-and-token-spec =
     returns-2
     sub-spell
     spell-requires
-    slice-aggregate-put
-    put-requires
-    put-spelled-requires
-    slice-aggregate-put-2
-    put-requires-2
     grown-requires
     same-length-3
     returns-3)

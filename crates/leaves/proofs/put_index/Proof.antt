@@ -1,14 +1,14 @@
--- `leaves::put_index` is safe and ends. The loop's invariant: `r` is at most how many names there are.
+-- `leaves::put_index` is safe and ends. The loop's invariant: `r` is at most how named names there are.
 use Prim.Native.Nat.{_≤_, _-_}
 use borrow.Author.Needs.{needs}
 use Rattle.leaves.proofs.put_index.Statement.{statement}
 use Rattle.leaves.proofs.put_index.Tie as tie
 
 abbrev Inv-loop : tie.InvT-loop
-Inv-loop file table many r₀ r = r ≤ many
+Inv-loop file table named r₀ r = r ≤ named
 
 abbrev μ-loop : tie.MeasureT-loop
-μ-loop file table many r₀ r = many - r
+μ-loop file table named r₀ r = named - r
 
 slice-aggregate-put : tie.Need-slice-aggregate-put Inv-loop μ-loop
 slice-aggregate-put c = search needs

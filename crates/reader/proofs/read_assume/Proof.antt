@@ -21,10 +21,13 @@ spelled-requires c κs = search needs
 
 read-fact-requires : tie.Need-read-fact-requires
 read-fact-requires c κs =
-    let at-i = c .before .before .before .before .before .before in
+    let at-spelled = c .before .before .before .before in
+    let at-i = at-spelled .before .before in
     let at-read-name = at-i .before .before .before .before in
     let entry = at-read-name .before .before .before .before .before .before .before .before in
-    (spelled-standing (entry .args .n) (entry .pre .0) ((reads-name (at-read-name .read-name .ensures) (at-i .i .given .1)) .spelled) (c .spelled .ensures), many-few (entry .pre .0) (c .spelled .ensures), (reads-name (at-read-name .read-name .ensures) (at-i .i .given .1)) .onward .placed, entry .pre .2)
+    let word = reads-name (at-read-name .read-name .ensures) (at-i .i .given .1) in
+    let counts = at-spelled .spelled .ensures in
+    (spelled-standing (entry .args .n) (entry .pre .0) (word .spelled) counts, many-few (entry .pre .0) counts, word .onward .placed, entry .pre .2)
 
 enum-known-r : tie.Need-enum-known-r
 enum-known-r c = c .match .keys2
@@ -44,11 +47,13 @@ same-length-4 c = search needs
 returns : tie.Need-returns
 returns c =
     let at-read-fact = c .before .before .before .before .before .before .before .before in
-    let at-spelled = at-read-fact .before in
-    let at-i = at-spelled .before .before .before .before .before .before in
+    let at-spelled = at-read-fact .before .before .before .before .before in
+    let at-i = at-spelled .before .before in
     let at-read-name = at-i .before .before .before .before in
     let entry = at-read-name .before .before .before .before .before .before .before .before in
-    assume-line _ (entry .pre .0) (reads-name (at-read-name .read-name .ensures) (at-i .i .given .1)) (at-spelled .spelled .ensures) (at-read-fact .read-fact .ensures .1) (at-read-fact .read-fact .ensures .0)
+    let word = reads-name (at-read-name .read-name .ensures) (at-i .i .given .1) in
+    let fact = at-read-fact .read-fact .ensures in
+    assume-line _ (entry .pre .0) word (at-spelled .spelled .ensures) (fact .1) (fact .0)
 
 same-length-5 : tie.Need-same-length-5
 same-length-5 c = search needs

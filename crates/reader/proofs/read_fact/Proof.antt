@@ -34,8 +34,12 @@ add-fact-requires c κs =
     let at-last-term = at-t .before .before in
     let at-flag = at-last-term .before .before in
     let at-number = at-flag .before .before in
-    let entry = at-number .before .before .before .before .before .before .before in
-    (entry .pre .0, last-below _ _ (last-term (at-last-term .last-term .ensures) (at-t .t .given .1)), entry .pre .3, number-below 1 (entry .pre .2) (at-number .number .ensures) (at-flag .flag .given .1))
+    let entry = at-number .before .before .before .before .before .before .before in (
+      entry .pre .0,
+      last-below _ _ (last-term (at-last-term .last-term .ensures) (at-t .t .given .1)),
+      entry .pre .3,
+      number-below 1 (entry .pre .2) (at-number .number .ensures) (at-flag .flag .given .1),
+    )
 
 enum-known-r : tie.Need-enum-known-r
 enum-known-r c = c .match2 .keys2
@@ -62,16 +66,22 @@ returns c =
     let at-last-term = at-t .before .before in
     let at-flag = at-last-term .before .before in
     let at-number = at-flag .before .before in
-    let entry = at-number .before .before .before .before .before .before .before in
-    (fact-adds (at-flag .flag .given .0 .0) (λ m. fact-is _ m _ (number-read (entry .pre .2) 1 (at-number .number .ensures) (at-flag .flag .given .1)) (last-term (at-last-term .last-term .ensures) (at-t .t .given .1))) (at-add-fact .add-fact .ensures .0), at-add-fact .add-fact .ensures .1)
+    let entry = at-number .before .before .before .before .before .before .before in (
+      fact-adds (at-flag .flag .given .0 .0) (λ m. fact-is _ m _ (number-read (entry .pre .2) 1 (at-number .number .ensures) (at-flag .flag .given .1))
+          (last-term (at-last-term .last-term .ensures) (at-t .t .given .1))) (at-add-fact .add-fact .ensures .0),
+      at-add-fact .add-fact .ensures .1,
+    )
 
 returns-2 : tie.Need-returns-2
 returns-2 c =
     let at-last-term = c .before .before .before in
     let at-flag = at-last-term .before .before in
     let at-number = at-flag .before .before in
-    let entry = at-number .before .before .before .before .before .before .before in
-    (fact-stops (λ m. fact-term-not _ m _ (number-read (entry .pre .2) 1 (at-number .number .ensures) (at-flag .flag .given .1)) (last-refusal (at-last-term .last-term .ensures) (c .before .r .given .1))) refl, untouched)
+    let entry = at-number .before .before .before .before .before .before .before in (
+      fact-stops (λ m. fact-term-not _ m _ (number-read (entry .pre .2) 1 (at-number .number .ensures) (at-flag .flag .given .1))
+          (last-refusal (at-last-term .last-term .ensures) (c .before .r .given .1))) refl,
+      untouched,
+    )
 
 returns-3 : tie.Need-returns-3
 returns-3 c =

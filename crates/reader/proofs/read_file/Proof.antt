@@ -7,7 +7,6 @@ use Rattle.records.proofs.Standing.{standing-opens}
 use Rattle.reader.specs.Lines.{Past, read-stops}
 use Rattle.reader.proofs.Naming.{past-none, past-more}
 use Rattle.reader.proofs.Lines.{Reading-on, no-lines, on-first, cleared-standing, on-open, on-next, on-refused, opened-read, lower}
-use borrow.Author.Needs.{needs}
 use Rattle.reader.proofs.read_file.Statement.{statement}
 use Rattle.reader.proofs.read_file.Tie as tie
 
@@ -57,13 +56,20 @@ same-length-5 c =
 returns-2 : tie.Need-returns-2 Inv-loop μ-loop
 returns-2 c =
     let at-loop = c .before .before .before in
-    record { reads = on-open (at-loop .loop .inv .0) (c .before .before .loop-test .taken) (c .before .find .ensures) (c .if2 .taken); past = at-loop .loop .inv .1 }
+    record {
+      reads = on-open (at-loop .loop .inv .0) (c .before .before .loop-test .taken) (c .before .find .ensures) (c .if2 .taken);
+      past = at-loop .loop .inv .1;
+    }
 
 read-line-requires : tie.Need-read-line-requires Inv-loop μ-loop
 read-line-requires c κs =
     let at-find = c .before .before .before .before .before .before in
-    let at-loop = at-find .before .before in
-    (at-loop .loop .inv .0 .standing, mark-from _ _ _ _ _ (at-find .find .ensures), mark-to _ _ _ _ _ (at-find .find .ensures) (at-loop .loop .inv .0 .inside) (omega arith), omega (arith, at-loop .loop .inv .0 .counts, at-loop .loop .inv .0 .inside, at-loop .loop .inv .0 .short))
+    let at-loop = at-find .before .before in (
+      at-loop .loop .inv .0 .standing,
+      mark-from _ _ _ _ _ (at-find .find .ensures),
+      mark-to _ _ _ _ _ (at-find .find .ensures) (at-loop .loop .inv .0 .inside) (omega arith),
+      omega (arith, at-loop .loop .inv .0 .counts, at-loop .loop .inv .0 .inside, at-loop .loop .inv .0 .short),
+    )
 
 enum-known-next : tie.Need-enum-known-next Inv-loop μ-loop
 enum-known-next c = c .match .keys1
@@ -108,22 +114,30 @@ returns-3 c =
     let at-find = at-if2 .before in
     let at-loop-test = at-find .before in
     let at-loop = at-loop-test .before in
-    record { reads = on-refused (at-loop .loop .inv .0) (at-loop-test .loop-test .taken) (at-find .find .ensures) (lower _ _ (mark-to _ _ _ _ _ (at-find .find .ensures) (at-loop .loop .inv .0 .inside) (omega arith)) (at-if2 .if2 .left)) (at-read-line .read-line .ensures .reads) (c .before .r .given .1); past = past-more (at-loop .loop .inv .1) (at-read-line .read-line .ensures .past) }
+    record {
+      reads = on-refused (at-loop .loop .inv .0) (at-loop-test .loop-test .taken) (at-find .find .ensures)
+          (lower _ _ (mark-to _ _ _ _ _ (at-find .find .ensures) (at-loop .loop .inv .0 .inside) (omega arith)) (at-if2 .if2 .left))
+          (at-read-line .read-line .ensures .reads) (c .before .r .given .1);
+      past = past-more (at-loop .loop .inv .1) (at-read-line .read-line .ensures .past);
+    }
 
 add-n : tie.Need-add-n Inv-loop μ-loop
 add-n c =
-    let at-loop = c .before .before .before .before .before .before .before .before .before .before .before .before .before .before .before .before .before .before .before .before .before .before in
+    let up = c .before .before .before .before .before .before .before .before .before .before .before .before in
+    let at-loop = up .before .before .before .before .before .before .before .before .before .before in
     omega (arith, at-loop .loop .inv .0 .counts, at-loop .loop .inv .0 .inside, at-loop .loop .inv .0 .short)
 
 add-from : tie.Need-add-from Inv-loop μ-loop
 add-from c =
-    let at-find = c .before .before .before .before .before .before .before .before .before .before .before .before .before .before .before .before .before .before .before .before in
+    let up = c .before .before .before .before .before .before .before .before .before .before .before .before in
+    let at-find = up .before .before .before .before .before .before .before .before in
     let at-loop = at-find .before .before in
     omega (arith, mark-to _ _ _ _ _ (at-find .find .ensures) (at-loop .loop .inv .0 .inside) (omega arith), at-loop .loop .inv .0 .short)
 
 loop-less : tie.Need-loop-less Inv-loop μ-loop
 loop-less c =
-    let at-find = c .before .before .before .before .before .before .before .before .before .before .before .before .before .before .before .before .before .before .before .before in
+    let up = c .before .before .before .before .before .before .before .before .before .before .before .before in
+    let at-find = up .before .before .before .before .before .before .before .before in
     let at-loop-test = at-find .before in
     omega (arith, mark-from _ _ _ _ _ (at-find .find .ensures), at-loop-test .loop-test .taken)
 
@@ -133,8 +147,12 @@ loop-again c =
     let at-if2 = at-read-line .before .before .before .before .before .before in
     let at-find = at-if2 .before in
     let at-loop-test = at-find .before in
-    let at-loop = at-loop-test .before in
-    (on-next (at-loop .loop .inv .0) (at-loop-test .loop-test .taken) (at-find .find .ensures) (lower _ _ (mark-to _ _ _ _ _ (at-find .find .ensures) (at-loop .loop .inv .0 .inside) (omega arith)) (at-if2 .if2 .left)) (at-read-line .read-line .ensures .reads) (c .before .next .given .1), past-more (at-loop .loop .inv .1) (at-read-line .read-line .ensures .past))
+    let at-loop = at-loop-test .before in (
+      on-next (at-loop .loop .inv .0) (at-loop-test .loop-test .taken) (at-find .find .ensures)
+          (lower _ _ (mark-to _ _ _ _ _ (at-find .find .ensures) (at-loop .loop .inv .0 .inside) (omega arith)) (at-if2 .if2 .left))
+          (at-read-line .read-line .ensures .reads) (c .before .next .given .1),
+      past-more (at-loop .loop .inv .1) (at-read-line .read-line .ensures .past),
+    )
 
 open-macros-requires : tie.Need-open-macros-requires Inv-loop μ-loop
 open-macros-requires c κs =
@@ -145,7 +163,8 @@ same-length-11 : tie.Need-same-length-11 Inv-loop μ-loop
 same-length-11 c =
     let at-loop-test = c .before .before .before .before .before in
     let at-loop = at-loop-test .before in
-    (opened-read (at-loop .loop .inv .0) (at-loop-test .loop-test .left) (at-loop .loop .inv .1) (c .before .before .open-macros .ensures)) .past .name-words .same-length
+    (opened-read (at-loop .loop .inv .0) (at-loop-test .loop-test .left) (at-loop .loop .inv .1)
+    (c .before .before .open-macros .ensures)) .past .name-words .same-length
 
 same-length-12 : tie.Need-same-length-12 Inv-loop μ-loop
 same-length-12 c =

@@ -52,7 +52,8 @@ returns-2 c =
     let call = told .before .before .before .before in
     let entry = call .before .before .before .before .before .before .before .before in
     let name = reads-name (call .read-name .ensures) (told .i .given .1) in
-    fun-line _ (entry .pre .0) name (added .before .spelled .ensures) (added .add-fun .ensures .1) (c .before .before .before .before .before .before .before .before .if1 .left) (added .add-fun .ensures .0)
+    fun-line _ (entry .pre .0) name (added .before .spelled .ensures) (added .add-fun .ensures .1)
+    (c .before .before .before .before .before .before .before .before .if1 .left) (added .add-fun .ensures .0)
 
 same-length-4 : tie.Need-same-length-4
 same-length-4 c = search needs

@@ -1,7 +1,5 @@
 -- `reader::read_kind` meets its contract: each sort of line by its own.
 use Rattle.model.specs.declared.Refusal.the-variants as refusal
-use Rattle.fields.specs.Wording.{kind-result}
-use Rattle.reader.specs.Lines.{kind-content}
 use Rattle.reader.proofs.Lifting.{ask-read, term-read}
 use Rattle.reader.proofs.Recording.{line-not, kind-ask, kind-term, kind-record, kind-none, line-said}
 use borrow.Author.Needs.{needs}

@@ -17,8 +17,10 @@ enum-known-start c = c .match .keys1
 line-kind-requires : tie.Need-line-kind-requires
 line-kind-requires c κs =
     let at-field = c .before .before .before in
-    let entry = at-field .before .before .before .before .before .before .before in
-    ((field-placed (entry .pre .1) (entry .pre .2) (entry .pre .0 .tables .name-table .short) (at-field .field .ensures) (c .before .start .given .1)) .1, (field-placed (entry .pre .1) (entry .pre .2) (entry .pre .0 .tables .name-table .short) (at-field .field .ensures) (c .before .start .given .1)) .2)
+    let entry = at-field .before .before .before .before .before .before .before in (
+      (field-placed (entry .pre .1) (entry .pre .2) (entry .pre .0 .tables .name-table .short) (at-field .field .ensures) (c .before .start .given .1)) .1,
+      (field-placed (entry .pre .1) (entry .pre .2) (entry .pre .0 .tables .name-table .short) (at-field .field .ensures) (c .before .start .given .1)) .2,
+    )
 
 counted-requires : tie.Need-counted-requires
 counted-requires c κs =
@@ -30,14 +32,19 @@ returns c =
     let at-start = c .before .before .before .before in
     let at-field = at-start .before .before in
     let entry = at-field .before .before .before .before .before .before .before in
-    line-not _ _ _ _ _ _ _ _ refusal.Form (parse-count _ _ (fields-first _ _ _ (entry .pre .1) (entry .pre .2) (entry .pre .0 .tables .name-table .short) (at-field .field .ensures) (at-start .start .given .1)) _ (c .before .before .line-kind .ensures) (not-true (c .before .counted .ensures) (c .if1 .taken)))
+    line-not _ _ _ _ _ _ _ _ refusal.Form (parse-count _ _ (fields-first _ _ _ (entry .pre .1) (entry .pre .2) (entry .pre .0 .tables .name-table .short)
+    (at-field .field .ensures) (at-start .start .given .1)) _ (c .before .before .line-kind .ensures)
+    (not-true (c .before .counted .ensures) (c .if1 .taken)))
 
 read-kind-requires : tie.Need-read-kind-requires
 read-kind-requires c κs =
     let at-start = c .before .before .before .before .before .before .before .before .before in
     let at-field = at-start .before .before in
-    let entry = at-field .before .before .before .before .before .before .before in
-    (entry .pre .0, (field-placed (entry .pre .1) (entry .pre .2) (entry .pre .0 .tables .name-table .short) (at-field .field .ensures) (at-start .start .given .1)) .0, entry .pre .3)
+    let entry = at-field .before .before .before .before .before .before .before in (
+      entry .pre .0,
+      (field-placed (entry .pre .1) (entry .pre .2) (entry .pre .0 .tables .name-table .short) (at-field .field .ensures) (at-start .start .given .1)) .0,
+      entry .pre .3,
+    )
 
 enum-known-r : tie.Need-enum-known-r
 enum-known-r c = c .match .keys2
@@ -66,7 +73,9 @@ returns-2 c =
     let at-start = at-line-kind .before .before in
     let at-field = at-start .before .before in
     let entry = at-field .before .before .before .before .before .before .before in
-    line-said (parse-on _ _ (fields-first _ _ _ (entry .pre .1) (entry .pre .2) (entry .pre .0 .tables .name-table .short) (at-field .field .ensures) (at-start .start .given .1)) _ (at-line-kind .line-kind .ensures) (not-false (at-counted .counted .ensures) (at-if1 .if1 .left))) (at-read-kind .read-kind .ensures)
+    line-said (parse-on _ _ (fields-first _ _ _ (entry .pre .1) (entry .pre .2) (entry .pre .0 .tables .name-table .short) (at-field .field .ensures)
+    (at-start .start .given .1)) _ (at-line-kind .line-kind .ensures) (not-false (at-counted .counted .ensures) (at-if1 .if1 .left)))
+    (at-read-kind .read-kind .ensures)
 
 returns-3 : tie.Need-returns-3
 returns-3 c =

@@ -37,7 +37,8 @@ returns c =
     let at-named = at-spelled .before .before .before .before in
     let at-spell-rest = at-named .before .before .before .before in
     let entry = at-spell-rest .before .before .before .before .before .before .before .before in
-    retain-line _ (entry .pre .0) (at-spell-rest .spell-rest .ensures) (at-named .named .given .1) (at-spelled .spelled .ensures) (c .before .before .add-retain .ensures .0) (c .before .before .add-retain .ensures .1)
+    retain-line _ (entry .pre .0) (at-spell-rest .spell-rest .ensures) (at-named .named .given .1) (at-spelled .spelled .ensures)
+    (c .before .before .add-retain .ensures .0) (c .before .before .add-retain .ensures .1)
 
 same-length-3 : tie.Need-same-length-3
 same-length-3 c = search needs

@@ -21,8 +21,12 @@ read-goal-requires : tie.Need-read-goal-requires
 read-goal-requires c κs =
     let at-q = c .before .before .before .before .before in
     let at-number = at-q .before .before in
-    let entry = at-number .before .before .before .before .before .before .before in
-    (entry .pre .0, number-placed 255 (entry .pre .1) (at-number .number .ensures) (at-q .q .given .1), entry .pre .2, number-below 255 (entry .pre .1) (at-number .number .ensures) (at-q .q .given .1))
+    let entry = at-number .before .before .before .before .before .before .before in (
+      entry .pre .0,
+      number-placed 255 (entry .pre .1) (at-number .number .ensures) (at-q .q .given .1),
+      entry .pre .2,
+      number-below 255 (entry .pre .1) (at-number .number .ensures) (at-q .q .given .1),
+    )
 
 enum-known-r : tie.Need-enum-known-r
 enum-known-r c = c .match .keys2

@@ -1,8 +1,8 @@
 -- `records::add_def` meets its contract.
-use Prim.Native.Nat.{_≤_, _<_}
 use native.Mathlib.Omega.{arith}
+use Rattle.model.specs.Outcome.{working-words}
 use Rattle.records.specs.Adding.{full}
-use Rattle.records.proofs.Funs.{same-all, row-past, small-row, untouched}
+use Rattle.records.proofs.Funs.{row-past, small-row, untouched}
 use Rattle.records.proofs.Uses.{gathered-uses, gathered-over, gathered-past, past-taken, def-repeated, def-crowded, def-over, def-added}
 use borrow.Author.Needs.{needs}
 use Rattle.records.proofs.add_def.Statement.{statement}
@@ -13,18 +13,23 @@ use Rattle.gather.proofs.gather_term.Reads as gather-term-reads
 use Rattle.records.proofs.put_record.Reads as put-record-reads
 use Rattle.records.proofs.with_record.Reads as with-record-reads
 use Rattle.words.proofs.at.Reads as at-reads
+use Rattle.words.proofs.Slices.{same-self}
 
 returns : tie.Need-returns
 returns c = (full (c .if1 .taken), untouched)
 
 add-at : tie.Need-add-at
 add-at c =
-    let (st, known) = c .before .before .before .before .before .before .before .before .before .pre .0 (c .before .if1 .left) in
+    let at-if1 = c .before in
+    let entry = at-if1 .before .before .before .before .before .before .before .before in
+    let (st, known) = entry .pre .0 (at-if1 .if1 .left) in
     omega (arith, st .tables .name-table .room, st .tables .name-table .few, known)
 
 at-requires : tie.Need-at-requires
 at-requires c κs =
-    let (st, known) = c .before .before .before .before .before .before .before .before .before .pre .0 (c .before .if1 .left) in
+    let at-if1 = c .before in
+    let entry = at-if1 .before .before .before .before .before .before .before .before in
+    let (st, known) = entry .pre .0 (at-if1 .if1 .left) in
     omega (arith, st .tables .name-table .room, st .tables .name-table .few, known)
 
 same-length : tie.Need-same-length
@@ -32,26 +37,37 @@ same-length c = search needs
 
 returns-2 : tie.Need-returns-2
 returns-2 c =
-    let (st, known) = c .before .before .before .before .before .before .before .before .before .before .before .pre .0 (c .before .before .before .if1 .left) in
-    (def-repeated st _ known (c .before .at .ensures) _ (c .if2 .taken), untouched)
+    let at-at = c .before in
+    let at-if1 = at-at .before .before in
+    let entry = at-if1 .before .before .before .before .before .before .before .before in
+    let (st, known) = entry .pre .0 (at-if1 .if1 .left) in
+    (def-repeated st _ known (at-at .at .ensures) _ (c .if2 .taken), untouched)
 
 same-length-2 : tie.Need-same-length-2
 same-length-2 c = search needs
 
 returns-3 : tie.Need-returns-3
 returns-3 c =
-    let (st, known) = c .before .before .before .before .before .before .before .before .before .before .before .before .before .pre .0 (c .before .before .before .before .before .if1 .left) in
-    (def-crowded st _ known (c .before .before .before .at .ensures) _ (c .before .before .if2 .left) (c .if3 .taken), untouched)
+    let at-if2 = c .before .before in
+    let at-at = at-if2 .before in
+    let at-if1 = at-at .before .before in
+    let entry = at-if1 .before .before .before .before .before .before .before .before in
+    let (st, known) = entry .pre .0 (at-if1 .if1 .left) in
+    (def-crowded st _ known (at-at .at .ensures) _ (at-if2 .if2 .left) (c .if3 .taken), untouched)
 
 cast-mark : tie.Need-cast-mark
 cast-mark c =
-    let st = c .before .before .before .before .before .before .before .before .before .before .before .before .before .before .pre .0 (c .before .before .before .before .before .before .if1 .left) .0 in
+    let at-if1 = c .before .before .before .before .before .before in
+    let entry = at-if1 .before .before .before .before .before .before .before .before in
+    let st = entry .pre .0 (at-if1 .if1 .left) .0 in
     omega (arith, st .few-marks, st .recorded .few, st .recorded .few-entries)
 
 gather-term-requires : tie.Need-gather-term-requires
 gather-term-requires c κs =
-    let st = c .before .before .before .before .before .before .before .before .before .before .before .before .before .before .before .before .before .pre .0 (c .before .before .before .before .before .before .before .before .before .if1 .left) .0 in
-    (st .tables .term-table, st .tables .name-table .room, c .before .before .before .before .before .before .before .before .before .before .before .before .before .before .before .before .before .pre .1, st .fresh, st .recorded .few-uses, omega (arith, st .recorded .out-room))
+    let at-if1 = c .before .before .before .before .before .before .before .before .before in
+    let entry = at-if1 .before .before .before .before .before .before .before .before in
+    let st = entry .pre .0 (at-if1 .if1 .left) .0 in
+    (st .tables .term-table, st .tables .name-table .room, entry .pre .1, st .fresh, st .recorded .few-uses, omega (arith, st .recorded .out-room))
 
 enum-known-uses : tie.Need-enum-known-uses
 enum-known-uses c = c .match .keys1
@@ -70,40 +86,64 @@ same-length-5 c = search needs
 
 returns-4 : tie.Need-returns-4
 returns-4 c =
-    let (st, known) = c .before .before .before .before .before .before .before .before .before .before .before .before .before .before .before .before .before .before .before .before .before .before .before .before .before .before .pre .0 (c .before .before .before .before .before .before .before .before .before .before .before .before .before .before .before .before .before .before .if1 .left) in
-    let slices = c .before .before .before .before .before .before .before .before .gather-term .ensures .1 .0 in (
-      def-over st _ known (c .before .before .before .before .before .before .before .before .before .before .before .before .before .before .before .before .at .ensures) _ (c .before .before .before .before .before .before .before .before .before .before .before .before .before .before .before .if2 .left) (gathered-over st _ (c .before .before .before .before .before .before .before .before .gather-term .ensures .0) slices (c .enum-told .given .1)),
-      gathered-past st _ (c .before .before .before .before .before .before .before .before .gather-term .ensures .0) slices (same-all 0 16384 _),
+    let at-gather-term = c .before .before .before .before .before .before .before .before in
+    let at-if2 = at-gather-term .before .before .before .before .before .before .before in
+    let at-at = at-if2 .before in
+    let at-if1 = at-at .before .before in
+    let entry = at-if1 .before .before .before .before .before .before .before .before in
+    let (st, known) = entry .pre .0 (at-if1 .if1 .left) in
+    let slices = at-gather-term .gather-term .ensures .1 .0 in (
+      def-over st _ known (at-at .at .ensures) _ (at-if2 .if2 .left)
+          (gathered-over st _ (at-gather-term .gather-term .ensures .0) slices (c .enum-told .given .1)),
+      gathered-past st _ (at-gather-term .gather-term .ensures .0) slices (same-self 0 working-words _),
     )
 
 add-names : tie.Need-add-names
 add-names c =
-    let (st, known) = c .before .before .before .before .before .before .before .before .before .before .before .before .before .before .before .before .before .before .before .before .before .before .before .before .before .before .before .before .pre .0 (c .before .before .before .before .before .before .before .before .before .before .before .before .before .before .before .before .before .before .before .before .if1 .left) in
+    let up = c .before .before .before .before .before .before .before .before .before .before .before .before .before .before .before .before in
+    let at-if1 = up .before .before .before .before in
+    let entry = at-if1 .before .before .before .before .before .before .before .before in
+    let (st, known) = entry .pre .0 (at-if1 .if1 .left) in
     omega (arith, st .tables .name-table .room, st .tables .name-table .few, known)
 
 cast-names : tie.Need-cast-names
 cast-names c =
-    let (st, known) = c .before .before .before .before .before .before .before .before .before .before .before .before .before .before .before .before .before .before .before .before .before .before .before .before .before .before .before .before .pre .0 (c .before .before .before .before .before .before .before .before .before .before .before .before .before .before .before .before .before .before .before .before .if1 .left) in
+    let up = c .before .before .before .before .before .before .before .before .before .before .before .before .before .before .before .before in
+    let at-if1 = up .before .before .before .before in
+    let entry = at-if1 .before .before .before .before .before .before .before .before in
+    let (st, known) = entry .pre .0 (at-if1 .if1 .left) in
     omega (arith, st .tables .name-table .room, st .tables .name-table .few, known)
 
 add-names-2 : tie.Need-add-names-2
 add-names-2 c =
-    let (st, known) = c .before .before .before .before .before .before .before .before .before .before .before .before .before .before .before .before .before .before .before .before .before .before .before .before .before .before .before .before .pre .0 (c .before .before .before .before .before .before .before .before .before .before .before .before .before .before .before .before .before .before .before .before .if1 .left) in
+    let up = c .before .before .before .before .before .before .before .before .before .before .before .before .before .before .before .before in
+    let at-if1 = up .before .before .before .before in
+    let entry = at-if1 .before .before .before .before .before .before .before .before in
+    let (st, known) = entry .pre .0 (at-if1 .if1 .left) in
     omega (arith, st .tables .name-table .room, st .tables .name-table .few, known)
 
 mul-names : tie.Need-mul-names
 mul-names c =
-    let (st, known) = c .before .before .before .before .before .before .before .before .before .before .before .before .before .before .before .before .before .before .before .before .before .before .before .before .before .before .before .before .pre .0 (c .before .before .before .before .before .before .before .before .before .before .before .before .before .before .before .before .before .before .before .before .if1 .left) in
+    let up = c .before .before .before .before .before .before .before .before .before .before .before .before .before .before .before .before in
+    let at-if1 = up .before .before .before .before in
+    let entry = at-if1 .before .before .before .before .before .before .before .before in
+    let (st, known) = entry .pre .0 (at-if1 .if1 .left) in
     omega (arith, st .tables .name-table .room, st .tables .name-table .few, known)
 
 slice-write-names : tie.Need-slice-write-names
 slice-write-names c =
-    let (st, known) = c .before .before .before .before .before .before .before .before .before .before .before .before .before .before .before .before .before .before .before .before .before .before .before .before .before .before .before .before .pre .0 (c .before .before .before .before .before .before .before .before .before .before .before .before .before .before .before .before .before .before .before .before .if1 .left) in
-    omega (arith, st .tables .name-table .room, st .tables .name-table .few, known, c .before .before .before .before .before .before .before .before .before .before .gather-term .ensures .1 .0 .names-same .same-length)
+    let at-gather-term = c .before .before .before .before .before .before .before .before .before .before in
+    let at-if1 = at-gather-term .before .before .before .before .before .before .before .before .before .before in
+    let entry = at-if1 .before .before .before .before .before .before .before .before in
+    let (st, known) = entry .pre .0 (at-if1 .if1 .left) in
+    omega (arith, st .tables .name-table .room, st .tables .name-table .few, known, at-gather-term .gather-term .ensures .1 .0 .names-same .same-length)
 
 add-with-record : tie.Need-add-with-record
 add-with-record c =
-    let st = c .before .before .before .before .before .before .before .before .before .before .before .before .before .before .before .before .before .before .before .before .before .before .before .before .before .before .before .before .before .pre .0 (c .before .before .before .before .before .before .before .before .before .before .before .before .before .before .before .before .before .before .before .before .before .if1 .left) .0 in
+    let up = c .before .before .before .before .before .before .before .before .before .before .before .before .before .before .before .before in
+    let at-if1 = up .before .before .before .before .before in
+    let entry = at-if1 .before .before .before .before .before .before .before .before in
+    let st = entry .pre .0 (at-if1 .if1 .left) .0 in
     omega (arith, st .few-marks, st .recorded .few, st .recorded .few-entries)
 
 with-record-requires : tie.Need-with-record-requires
@@ -111,12 +151,18 @@ with-record-requires c κs = search needs
 
 put-record-requires : tie.Need-put-record-requires
 put-record-requires c κs =
-    let (st, known) = c .before .before .before .before .before .before .before .before .before .before .before .before .before .before .before .before .before .before .before .before .before .before .before .before .before .before .before .before .before .before .before .pre .0 (c .before .before .before .before .before .before .before .before .before .before .before .before .before .before .before .before .before .before .before .before .before .before .before .if1 .left) in
-    let uses = gathered-uses st _ (c .before .before .before .before .before .before .before .before .before .before .before .before .before .gather-term .ensures .0) (c .before .before .before .before .before .before .before .before .before .before .before .before .before .gather-term .ensures .1 .0) (c .before .before .before .before .before .uses .given .1) in (
-      c .before .before .before .before .before .before .before .before .before .before .before .before .before .before .before .before .before .before .if3 .left,
+    let at-with-record = c .before in
+    let at-uses = at-with-record .before .before .before .before in
+    let at-gather-term = at-uses .before .before .before .before .before .before .before .before in
+    let at-if3 = at-gather-term .before .before .before .before .before in
+    let at-if1 = at-if3 .before .before .before .before .before in
+    let entry = at-if1 .before .before .before .before .before .before .before .before in
+    let (st, known) = entry .pre .0 (at-if1 .if1 .left) in
+    let uses = gathered-uses st _ (at-gather-term .gather-term .ensures .0) (at-gather-term .gather-term .ensures .1 .0) (at-uses .uses .given .1) in (
+      at-if3 .if3 .left,
       st .recorded .room,
-      small-row _ _ _ _ _ _ _ _ _ _ st (c .before .with-record .ensures) (st .recorded .few-entries) (uses .fits) (omega arith) (c .before .before .before .before .before .before .before .before .before .before .before .before .before .before .before .before .before .before .before .before .before .before .before .before .before .before .before .before .before .before .before .pre .2)
-          (omega (arith, st .tables .name-table .few, known)) (omega (arith, c .before .before .before .before .before .before .before .before .before .before .before .before .before .before .before .before .before .before .before .before .before .before .before .before .before .before .before .before .before .before .before .pre .1, st .tables .term-table .few-rows)) (omega arith) (omega arith),
+      small-row _ _ _ _ _ _ _ _ _ _ st (at-with-record .with-record .ensures) (st .recorded .few-entries) (uses .fits) (omega arith) (entry .pre .2)
+          (omega (arith, st .tables .name-table .few, known)) (omega (arith, entry .pre .1, st .tables .term-table .few-rows)) (omega arith) (omega arith),
     )
 
 same-length-6 : tie.Need-same-length-6
@@ -133,12 +179,21 @@ same-length-9 c = search needs
 
 returns-5 : tie.Need-returns-5
 returns-5 c =
-    let (st, known) = c .before .before .before .before .before .before .before .before .before .before .before .before .before .before .before .before .before .before .before .before .before .before .before .before .before .before .before .before .before .before .before .before .before .before .pre .0 (c .before .before .before .before .before .before .before .before .before .before .before .before .before .before .before .before .before .before .before .before .before .before .before .before .before .before .if1 .left) in
-    let row = c .before .before .put-record .ensures in
-    let slices = c .before .before .before .before .before .before .before .before .before .before .before .before .before .before .before .before .gather-term .ensures .1 .0 in
-    let uses = gathered-uses st _ (c .before .before .before .before .before .before .before .before .before .before .before .before .before .before .before .before .gather-term .ensures .0) slices (c .before .before .before .before .before .before .before .before .uses .given .1) in (
-      def-added st _ known (c .before .before .before .before .before .before .before .before .before .before .before .before .before .before .before .before .before .before .before .before .before .before .before .before .at .ensures) _ (c .before .before .before .before .before .before .before .before .before .before .before .before .before .before .before .before .before .before .before .before .before .before .before .if2 .left) (c .before .before .before .before .before .before .before .before .before .before .before .before .before .before .before .before .before .before .before .before .before .if3 .left) (c .before .before .before .before .with-record .ensures) row uses,
-      past-taken _ _ (omega (arith, st .tables .name-table .few, known)) (gathered-past st _ (c .before .before .before .before .before .before .before .before .before .before .before .before .before .before .before .before .gather-term .ensures .0) slices (row-past row)),
+    let at-put-record = c .before .before in
+    let at-with-record = at-put-record .before .before in
+    let at-uses = at-with-record .before .before .before .before in
+    let at-gather-term = at-uses .before .before .before .before .before .before .before .before in
+    let at-if3 = at-gather-term .before .before .before .before .before in
+    let at-if2 = at-if3 .before .before in
+    let at-at = at-if2 .before in
+    let at-if1 = at-at .before .before in
+    let entry = at-if1 .before .before .before .before .before .before .before .before in
+    let (st, known) = entry .pre .0 (at-if1 .if1 .left) in
+    let row = at-put-record .put-record .ensures in
+    let slices = at-gather-term .gather-term .ensures .1 .0 in
+    let uses = gathered-uses st _ (at-gather-term .gather-term .ensures .0) slices (at-uses .uses .given .1) in (
+      def-added st _ known (at-at .at .ensures) _ (at-if2 .if2 .left) (at-if3 .if3 .left) (at-with-record .with-record .ensures) row uses,
+      past-taken _ _ (omega (arith, st .tables .name-table .few, known)) (gathered-past st _ (at-gather-term .gather-term .ensures .0) slices (row-past row)),
     )
 
 pub add-def-spec : {M : Type 1} → statement M

@@ -1,6 +1,6 @@
 -- `records::add_fact` meets its contract.
 use native.Mathlib.Omega.{arith}
-use mathlib.Core.Path.{_≡_, sym, _∙_}
+use mathlib.Core.Path.{sym, _∙_}
 use Rattle.records.specs.Adding.{full, excluded}
 use Rattle.summary.proofs.Answering.{limited-done}
 use Rattle.records.proofs.Funs.{untouched}
@@ -19,12 +19,16 @@ returns c = (full (c .if1 .taken), untouched)
 
 add-at : tie.Need-add-at
 add-at c =
-    let (st, known) = c .before .before .before .before .before .before .before .before .before .pre .0 (c .before .if1 .left) in
+    let at-if1 = c .before in
+    let entry = at-if1 .before .before .before .before .before .before .before .before in
+    let (st, known) = entry .pre .0 (at-if1 .if1 .left) in
     omega (arith, st .tables .name-table .room, st .tables .name-table .few, known)
 
 at-requires : tie.Need-at-requires
 at-requires c κs =
-    let (st, known) = c .before .before .before .before .before .before .before .before .before .pre .0 (c .before .if1 .left) in
+    let at-if1 = c .before in
+    let entry = at-if1 .before .before .before .before .before .before .before .before in
+    let (st, known) = entry .pre .0 (at-if1 .if1 .left) in
     omega (arith, st .tables .name-table .room, st .tables .name-table .few, known)
 
 same-length : tie.Need-same-length
@@ -32,32 +36,46 @@ same-length c = search needs
 
 returns-2 : tie.Need-returns-2
 returns-2 c =
-    let (st, known) = c .before .before .before .before .before .before .before .before .before .before .before .pre .0 (c .before .before .before .if1 .left) in
-    (fact-repeated st (c .before .before .before .before .before .before .before .before .before .before .before .args .line) known (c .before .at .ensures) (c .before .before .before .before .before .before .before .before .before .before .before .args .flag) (c .before .before .before .before .before .before .before .before .before .before .before .args .t) (c .if2 .taken), untouched)
+    let at-at = c .before in
+    let at-if1 = at-at .before .before in
+    let entry = at-if1 .before .before .before .before .before .before .before .before in
+    let (st, known) = entry .pre .0 (at-if1 .if1 .left) in
+    (fact-repeated st (entry .args .line) known (at-at .at .ensures) (entry .args .flag) (entry .args .t) (omega (arith, c .if2 .taken)), untouched)
 
 same-length-2 : tie.Need-same-length-2
 same-length-2 c = search needs
 
 returns-3 : tie.Need-returns-3
 returns-3 c =
-    let (st, known) = c .before .before .before .before .before .before .before .before .before .before .before .before .before .pre .0 (c .before .before .before .before .before .if1 .left) in
-    (fact-crowded st (c .before .before .before .before .before .before .before .before .before .before .before .before .before .args .line) known (c .before .before .before .at .ensures) (c .before .before .before .before .before .before .before .before .before .before .before .before .before .args .flag) (c .before .before .before .before .before .before .before .before .before .before .before .before .before .args .t) (c .before .before .if2 .left) (c .if3 .taken), untouched)
+    let at-if2 = c .before in
+    let at-at = at-if2 .before in
+    let at-if1 = at-at .before .before in
+    let entry = at-if1 .before .before .before .before .before .before .before .before in
+    let (st, known) = entry .pre .0 (at-if1 .if1 .left) in
+    (fact-crowded st (entry .args .line) known (at-at .at .ensures) (entry .args .flag) (entry .args .t) (at-if2 .if2 .left) (c .if3 .taken), untouched)
 
 summarize-assumption-requires : tie.Need-summarize-assumption-requires
 summarize-assumption-requires c κs =
-    let (st, known) = c .before .before .before .before .before .before .before .before .before .before .before .before .before .before .before .before .pre .0 (c .before .before .before .before .before .before .before .before .if1 .left) in
-    fact-asked st known (c .before .before .before .before .before .before .before .before .before .before .before .before .before .before .before .before .pre .1)
+    let at-if1 = c .before .before .before .before .before .before .before in
+    let entry = at-if1 .before .before .before .before .before .before .before .before in
+    let (st, known) = entry .pre .0 (at-if1 .if1 .left) in
+    fact-asked st known (entry .pre .1)
 
 enum-known-s : tie.Need-enum-known-s
 enum-known-s c = c .match .keys1
 
 put-fact-requires : tie.Need-put-fact-requires
 put-fact-requires c κs =
-    let (st, known) = c .before .before .before .before .before .before .before .before .before .before .before .before .before .before .before .before .before .before .before .before .before .before .before .before .before .before .before .before .before .pre .0 (c .before .before .before .before .before .before .before .before .before .before .before .before .before .before .before .before .before .before .before .before .before .if1 .left) in
-    let done = sym (c .before .before .before .before .s .given .1) ∙ c .before .before .before .before .before .before .before .before .before .before .before .before .summarize-assumption .ensures .0 excluded (excludes-here st) in
-    let lists = c .before .before .before .before .before .before .before .before .before .before .before .before .summarize-assumption .ensures .1 .0 excluded (excludes-here st) _ (c .before .before .before .before .s .given .1) in
-    let slices = c .before .before .before .before .before .before .before .before .before .before .before .before .summarize-assumption .ensures .1 .1 .0 in
-    fact-puttable st known (c .before .before .before .before .before .before .before .before .before .before .before .before .before .before .before .before .before .before .before .before .before .before .before .before .before .before .before .before .before .pre .1) done lists slices (c .before .before .before .before .before .before .before .before .before .before .before .before .before .before .before .before .if3 .left) (c .before .before .before .before .before .before .before .before .before .before .before .before .before .before .before .before .before .before .before .before .before .before .before .before .before .before .before .before .before .pre .2) (c .before .before .before .before .before .before .before .before .before .before .before .before .before .before .before .before .before .before .before .before .before .before .before .before .before .before .before .before .before .pre .3)
+    let at-s = c .before .before .before .before in
+    let at-summarize-assumption = at-s .before .before .before .before .before .before .before .before in
+    let at-if3 = at-summarize-assumption .before .before .before .before in
+    let at-if1 = at-if3 .before .before .before .before in
+    let entry = at-if1 .before .before .before .before .before .before .before .before in
+    let (st, known) = entry .pre .0 (at-if1 .if1 .left) in
+    let done = sym (at-s .s .given .1) ∙ at-summarize-assumption .summarize-assumption .ensures .0 excluded (excludes-here st) in
+    let lists = at-summarize-assumption .summarize-assumption .ensures .1 .0 excluded (excludes-here st) _ (at-s .s .given .1) in
+    let slices = at-summarize-assumption .summarize-assumption .ensures .1 .1 .0 in
+    fact-puttable st known (entry .pre .1) done lists slices (at-if3 .if3 .left) (entry .pre .2) (entry .pre .3)
 
 enum-told : tie.Need-enum-told
 enum-told c = c .match .keys2
@@ -76,12 +94,22 @@ same-length-6 c = search needs
 
 returns-4 : tie.Need-returns-4
 returns-4 c =
-    let (st, known) = c .before .before .before .before .before .before .before .before .before .before .before .before .before .before .before .before .before .before .before .before .before .before .before .before .before .before .before .before .before .before .before .before .before .before .before .before .pre .0 (c .before .before .before .before .before .before .before .before .before .before .before .before .before .before .before .before .before .before .before .before .before .before .before .before .before .before .before .before .if1 .left) in
-    let done = sym (c .before .before .before .before .before .before .before .before .before .before .before .s .given .1) ∙ c .before .before .before .before .before .before .before .before .before .before .before .before .before .before .before .before .before .before .before .summarize-assumption .ensures .0 excluded (excludes-here st) in
-    let slices = c .before .before .before .before .before .before .before .before .before .before .before .before .before .before .before .before .before .before .before .summarize-assumption .ensures .1 .1 .0 in
-    let lists = c .before .before .before .before .before .before .before .before .before .before .before .before .before .before .before .before .before .before .before .summarize-assumption .ensures .1 .0 excluded (excludes-here st) _ (c .before .before .before .before .before .before .before .before .before .before .before .s .given .1) in
-    let puts = c .before .before .before .before .before .before .put-fact .ensures in (
-      fact-added st (c .before .before .before .before .before .before .before .before .before .before .before .before .before .before .before .before .before .before .before .before .before .before .before .before .before .before .before .before .before .before .before .before .before .before .before .before .args .line) known (c .before .before .before .before .before .before .before .before .before .before .before .before .before .before .before .before .before .before .before .before .before .before .before .before .before .before .at .ensures) (c .before .before .before .before .before .before .before .before .before .before .before .before .before .before .before .before .before .before .before .before .before .before .before .before .before .before .before .before .before .before .before .before .before .before .before .before .args .flag) (c .before .before .before .before .before .before .before .before .before .before .before .before .before .before .before .before .before .before .before .before .before .before .before .before .before .before .before .before .before .before .before .before .before .before .before .before .args .t) (c .before .before .before .before .before .before .before .before .before .before .before .before .before .before .before .before .before .before .before .before .before .before .before .before .before .if2 .left) (c .before .before .before .before .before .before .before .before .before .before .before .before .before .before .before .before .before .before .before .before .before .before .before .if3 .left) done lists slices puts,
+    let at-put-fact = c .before .before .before .before .before .before in
+    let at-s = at-put-fact .before .before .before .before .before in
+    let at-summarize-assumption = at-s .before .before .before .before .before .before .before .before in
+    let at-if3 = at-summarize-assumption .before .before .before .before in
+    let at-if2 = at-if3 .before in
+    let at-at = at-if2 .before in
+    let at-if1 = at-at .before .before in
+    let entry = at-if1 .before .before .before .before .before .before .before .before in
+    let (st, known) = entry .pre .0 (at-if1 .if1 .left) in
+    let done = sym (at-s .s .given .1) ∙ at-summarize-assumption .summarize-assumption .ensures .0 excluded (excludes-here st) in
+    let slices = at-summarize-assumption .summarize-assumption .ensures .1 .1 .0 in
+    let lists = at-summarize-assumption .summarize-assumption .ensures .1 .0 excluded (excludes-here st) _ (at-s .s .given .1) in
+    let free = at-if2 .if2 .left in
+    let room = at-if3 .if3 .left in
+    let puts = at-put-fact .put-fact .ensures in (
+      fact-added st (entry .args .line) known (at-at .at .ensures) (entry .args .flag) (entry .args .t) free room done lists slices puts,
       fact-past slices (limited-done _ done .2) (omega (arith, st .tables .name-table .few, known)) puts,
     )
 
@@ -96,9 +124,15 @@ same-length-9 c = search needs
 
 returns-5 : tie.Need-returns-5
 returns-5 c =
-    let (st, known) = c .before .before .before .before .before .before .before .before .before .before .before .before .before .before .before .before .before .before .before .before .before .before .before .before .before .pre .0 (c .before .before .before .before .before .before .before .before .before .before .before .before .before .before .before .before .before .if1 .left) in (
-      fact-over st (c .before .before .before .before .before .before .before .before .before .before .before .before .before .before .before .before .before .before .before .before .before .before .before .before .before .args .line) known (c .before .before .before .before .before .before .before .before .before .before .before .before .before .before .before .at .ensures) (c .before .before .before .before .before .before .before .before .before .before .before .before .before .before .before .before .before .before .before .before .before .before .before .before .before .args .flag) (c .before .before .before .before .before .before .before .before .before .before .before .before .before .before .before .before .before .before .before .before .before .before .before .before .before .args .t) (c .before .before .before .before .before .before .before .before .before .before .before .before .before .before .if2 .left) (sym (c .enum-told .given .1) ∙ c .before .before .before .before .before .before .before .before .summarize-assumption .ensures .0 excluded (excludes-here st)),
-      over-past (c .before .before .before .before .before .before .before .before .summarize-assumption .ensures .1 .1 .0),
+    let at-summarize-assumption = c .before .before .before .before .before .before .before .before in
+    let at-if2 = at-summarize-assumption .before .before .before .before .before in
+    let at-at = at-if2 .before in
+    let at-if1 = at-at .before .before in
+    let entry = at-if1 .before .before .before .before .before .before .before .before in
+    let (st, known) = entry .pre .0 (at-if1 .if1 .left) in
+    let over = sym (c .enum-told .given .1) ∙ at-summarize-assumption .summarize-assumption .ensures .0 excluded (excludes-here st) in (
+      fact-over st (entry .args .line) known (at-at .at .ensures) (entry .args .flag) (entry .args .t) (at-if2 .if2 .left) over,
+      over-past (at-summarize-assumption .summarize-assumption .ensures .1 .1 .0),
     )
 
 pub add-fact-spec : {M : Type 1} → statement M

@@ -1,11 +1,10 @@
 -- `records::chain_entries` meets its contract. The loop's invariant: the entries up to `e` are on their chains.
-use Prim.Native.Nat.{ℕ, _+_, _-_, _%_, _≤_, _<_}
-use mathlib.Core.Path.{_≡_, refl, sym, _∙_, ap}
-use lib.ListN.{length, getD, length-set}
-use Rattle.records.specs.Columns.{last-entry}
+use Prim.Native.Nat.{_-_, _%_, _≤_}
+use mathlib.Core.Path.{ap}
+use lib.ListN.{length-set}
+use Rattle.triggers.specs.Entries.{last-flag}
 use Rattle.records.specs.Writing.{Chains}
 use Rattle.records.proofs.Chaining.{chain-start, chain-none, chain-one, chain-end}
-use borrow.Author.Needs.{needs}
 use native.Mathlib.Omega.{arith}
 use Rattle.records.proofs.chain_entries.Statement.{statement}
 use Rattle.records.proofs.chain_entries.Tie as tie
@@ -48,8 +47,14 @@ loop-less c = omega arith
 
 loop-again : tie.Need-loop-again Inv-loop μ-loop
 loop-again c =
-    let done = c .before .before .before .before .loop .inv .2 in
-    (omega arith, omega arith, chain-none done (c .before .before .before .before .loop .inv .0) (omega arith) (c .before .before .before .before .before .before .before .pre .5) _ (ap (λ w. w % last-entry) (c .before .at .ensures)) (c .if1 .taken))
+    let at-at = c .before in
+    let at-loop = at-at .before .before .before in
+    let entry = at-loop .before .before .before in
+    let done = at-loop .loop .inv .2 in (
+      omega arith,
+      omega arith,
+      chain-none done (at-loop .loop .inv .0) (omega arith) (entry .pre .5) _ (ap (λ w. w % last-flag) (at-at .at .ensures)) (c .if1 .taken),
+    )
 
 add-out-2 : tie.Need-add-out-2 Inv-loop μ-loop
 add-out-2 c = omega arith
@@ -86,8 +91,15 @@ loop-less-2 c = omega arith
 
 loop-again-2 : tie.Need-loop-again-2 Inv-loop μ-loop
 loop-again-2 c =
-    let done = c .before .before .before .before .before .loop .inv .2 in
-    (omega arith, omega arith, chain-one done (c .before .before .before .before .before .loop .inv .0) (omega arith) (c .before .before .before .before .before .before .before .before .pre .5) _ (ap (λ w. w % last-entry) (c .before .before .at .ensures)) (c .before .before .before .before .before .before .before .before .pre .4) (c .before .if1 .left))
+    let at-if1 = c .before in
+    let at-at = at-if1 .before in
+    let at-loop = at-at .before .before .before in
+    let entry = at-loop .before .before .before in
+    let done = at-loop .loop .inv .2 in (
+      omega arith,
+      omega arith,
+      chain-one done (at-loop .loop .inv .0) (omega arith) (entry .pre .5) _ (ap (λ w. w % last-flag) (at-at .at .ensures)) (entry .pre .4) (at-if1 .if1 .left),
+    )
 
 same-length : tie.Need-same-length Inv-loop μ-loop
 same-length c = omega arith

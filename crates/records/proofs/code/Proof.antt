@@ -1,7 +1,6 @@
 -- `records::code` meets its contract.
 use native.Mathlib.Omega.{arith}
 use Rattle.records.proofs.Coding.{code-drop, code-ambient, code-root, code-triggers}
-use borrow.Author.Needs.{needs}
 use Rattle.records.proofs.code.Statement.{statement}
 use Rattle.records.proofs.code.Tie as tie
 use Rattle.records.proofs.code.Reads as reads

@@ -1,12 +1,10 @@
 -- `records::find_opened` meets its contract. The loop's invariant: the numbers among the names before the n-th are found.
 use native.Mathlib.Omega.{arith}
-use Prim.Native.Nat.{_+_, _-_, _≤_, _<_}
+use Prim.Native.Nat.{_-_, _≤_}
 use mathlib.Core.Path.{_≡_, refl}
 use mathlib.Core.Logic.{inl, inr}
 use lib.ListN.{length, length-set}
-use Rattle.records.specs.Macros.{macro-count}
 use Rattle.records.proofs.Opening.{Finding, finding-none, finding-other, finding-one, finding-end}
-use borrow.Author.Needs.{needs}
 use native.Mathlib.Omega.{arith}
 use Rattle.records.proofs.find_opened.Statement.{statement}
 use Rattle.records.proofs.find_opened.Tie as tie
@@ -36,13 +34,19 @@ loop-less : tie.Need-loop-less Inv-loop μ-loop
 loop-less c = omega arith
 
 loop-again : tie.Need-loop-again Inv-loop μ-loop
-loop-again c = (finding-other (c .before .before .before .loop .inv .0) (c .before .at .ensures) (inl (c .if1 .taken)), omega arith, c .before .before .before .loop .inv .2)
+loop-again c =
+    let at-at = c .before in
+    let at-loop = at-at .before .before in
+    (finding-other (at-loop .loop .inv .0) (at-at .at .ensures) (inl (c .if1 .taken)), omega arith, at-loop .loop .inv .2)
 
 loop-less-2 : tie.Need-loop-less-2 Inv-loop μ-loop
 loop-less-2 c = omega arith
 
 loop-again-2 : tie.Need-loop-again-2 Inv-loop μ-loop
-loop-again-2 c = (finding-other (c .before .before .before .before .loop .inv .0) (c .before .before .at .ensures) (inr (c .if2 .taken)), omega arith, c .before .before .before .before .loop .inv .2)
+loop-again-2 c =
+    let at-at = c .before .before in
+    let at-loop = at-at .before .before in
+    (finding-other (at-loop .loop .inv .0) (at-at .at .ensures) (inr (c .if2 .taken)), omega arith, at-loop .loop .inv .2)
 
 cast-found : tie.Need-cast-found Inv-loop μ-loop
 cast-found c = omega arith
@@ -51,13 +55,20 @@ mul-found : tie.Need-mul-found Inv-loop μ-loop
 mul-found c = omega arith
 
 slice-write-found : tie.Need-slice-write-found Inv-loop μ-loop
-slice-write-found c = omega (arith, c .before .before .before .before .before .before .before .pre .2, c .before .before .before .before .loop .inv .2)
+slice-write-found c =
+    let at-loop = c .before .before .before .before in
+    let entry = at-loop .before .before .before in
+    omega (arith, entry .pre .2, at-loop .loop .inv .2)
 
 loop-less-3 : tie.Need-loop-less-3 Inv-loop μ-loop
 loop-less-3 c = omega arith
 
 loop-again-3 : tie.Need-loop-again-3 Inv-loop μ-loop
-loop-again-3 c = (finding-one (c .before .before .before .before .loop .inv .0) (c .before .before .at .ensures) (c .before .if1 .left) (c .if2 .left), omega arith, simp length-set (c .before .before .before .before .loop .inv .2))
+loop-again-3 c =
+    let at-if1 = c .before in
+    let at-at = at-if1 .before in
+    let at-loop = at-at .before .before in
+    (finding-one (at-loop .loop .inv .0) (at-at .at .ensures) (at-if1 .if1 .left) (c .if2 .left), omega arith, simp length-set (at-loop .loop .inv .2))
 
 same-length : tie.Need-same-length Inv-loop μ-loop
 same-length c = c .before .loop .inv .2

@@ -1,7 +1,6 @@
 -- `records::found_word` meets its contract.
 use native.Mathlib.Omega.{arith}
 use Rattle.records.proofs.Opening.{number-low, word-below, word-above, word-missing, word-there}
-use borrow.Author.Needs.{needs}
 use Rattle.records.proofs.found_word.Statement.{statement}
 use Rattle.records.proofs.found_word.Tie as tie
 use Rattle.records.proofs.found_word.Reads as reads
@@ -18,16 +17,31 @@ at-requires : tie.Need-at-requires
 at-requires c κs = omega (arith, c .before .before .before .pre .0)
 
 returns-3 : tie.Need-returns-3
-returns-3 c = word-missing _ _ (c .before .before .before .if1 .left) (c .before .before .if2 .left) (c .before .at .ensures) (c .if3 .taken)
+returns-3 c =
+    let at-at = c .before in
+    let at-if2 = at-at .before in
+    let at-if1 = at-if2 .before in
+    word-missing _ _ (at-if1 .if1 .left) (at-if2 .if2 .left) (at-at .at .ensures) (c .if3 .taken)
 
 sub-result : tie.Need-sub-result
 sub-result c = omega arith
 
 add-result : tie.Need-add-result
-add-result c = omega (arith, number-low (c .before .before .before .before .before .args .found .now) (c .before .at .ensures) (c .before .before .before .before .before .pre .1) (c .before .before .before .if1 .left) (c .before .before .if2 .left))
+add-result c =
+    let at-at = c .before in
+    let at-if2 = at-at .before in
+    let at-if1 = at-if2 .before in
+    let entry = at-if1 .before .before in
+    omega (arith, number-low (entry .args .found .now) (at-at .at .ensures) (entry .pre .1) (at-if1 .if1 .left) (at-if2 .if2 .left))
 
 returns-4 : tie.Need-returns-4
-returns-4 c = word-there _ _ (c .before .before .before .if1 .left) (c .before .before .if2 .left) (c .before .at .ensures) (c .if3 .left) (number-low (c .before .before .before .before .before .args .found .now) (c .before .at .ensures) (c .before .before .before .before .before .pre .1) (c .before .before .before .if1 .left) (c .before .before .if2 .left))
+returns-4 c =
+    let at-at = c .before in
+    let at-if2 = at-at .before in
+    let at-if1 = at-if2 .before in
+    let entry = at-if1 .before .before in
+    word-there _ _ (at-if1 .if1 .left) (at-if2 .if2 .left) (at-at .at .ensures) (c .if3 .left)
+    (number-low (entry .args .found .now) (at-at .at .ensures) (entry .pre .1) (at-if1 .if1 .left) (at-if2 .if2 .left))
 
 pub found-word-spec : {M : Type 1} → statement M
 found-word-spec =

@@ -1,7 +1,6 @@
 -- `records::is_def` meets its contract.
 use native.Mathlib.Omega.{arith}
 use Rattle.records.proofs.Opening.{not-def, def-by}
-use borrow.Author.Needs.{needs}
 use Rattle.records.proofs.is_def.Statement.{statement}
 use Rattle.records.proofs.is_def.Tie as tie
 use Rattle.records.proofs.is_def.Reads as reads

@@ -1,8 +1,6 @@
 -- `records::macro_word` meets its contract.
 use native.Mathlib.Omega.{arith}
-use mathlib.Core.Path.{_∙_}
 use Rattle.records.proofs.Opening.{word-def, word-other}
-use borrow.Author.Needs.{needs}
 use Rattle.records.proofs.macro_word.Statement.{statement}
 use Rattle.records.proofs.macro_word.Tie as tie
 use Rattle.records.proofs.macro_word.Reads as reads
@@ -18,10 +16,16 @@ at-requires : tie.Need-at-requires
 at-requires c κs = omega arith
 
 is-def-requires : tie.Need-is-def-requires
-is-def-requires c κs = (omega (arith, c .at .ensures, c .before .before .before .before .pre .3), c .before .before .before .before .pre .2)
+is-def-requires c κs =
+    let entry = c .before .before .before .before in
+    (omega (arith, c .at .ensures, entry .pre .3), entry .pre .2)
 
 returns : tie.Need-returns
-returns c = word-def _ _ _ _ (c .before .before .at .ensures) (c .before .is-def .ensures) (c .if1 .taken) (omega (arith, c .before .before .at .ensures, c .before .before .before .before .before .before .pre .3))
+returns c =
+    let at-is-def = c .before in
+    let at-at = at-is-def .before in
+    let entry = at-at .before .before .before .before in
+    word-def _ _ _ _ (at-at .at .ensures) (at-is-def .is-def .ensures) (c .if1 .taken) (omega (arith, at-at .at .ensures, entry .pre .3))
 
 add-at-2 : tie.Need-add-at-2
 add-at-2 c = omega arith
@@ -30,10 +34,17 @@ at-requires-2 : tie.Need-at-requires-2
 at-requires-2 c κs = omega arith
 
 found-word-requires : tie.Need-found-word-requires
-found-word-requires c κs = (c .before .before .before .before .before .before .before .pre .4, c .before .before .before .before .before .before .before .pre .5)
+found-word-requires c κs =
+    let entry = c .before .before .before .before .before .before .before in
+    (entry .pre .4, entry .pre .5)
 
 returns-2 : tie.Need-returns-2
-returns-2 c = word-other _ _ _ _ (c .before .before .before .before .at .ensures) (c .before .before .before .is-def .ensures) (c .before .before .if1 .left) (c .before .at2 .ensures) (c .found-word .ensures)
+returns-2 c =
+    let at-at2 = c .before in
+    let at-if1 = at-at2 .before in
+    let at-is-def = at-if1 .before in
+    let at-at = at-is-def .before in
+    word-other _ _ _ _ (at-at .at .ensures) (at-is-def .is-def .ensures) (at-if1 .if1 .left) (at-at2 .at2 .ensures) (c .found-word .ensures)
 
 pub macro-word-spec : {M : Type 1} → statement M
 macro-word-spec =

@@ -1,12 +1,10 @@
 -- `records::open_macros` meets its contract. The loop's invariant: the words of the names before the n-th are written.
 use native.Mathlib.Omega.{arith}
 use Prim.Native.Nat.{_-_, _≤_}
-use mathlib.Core.Path.{_≡_, refl, sym, _∙_}
-use lib.ListN.{length-set}
+use mathlib.Core.Path.{refl, sym}
 use Rattle.model.proofs.ListLaws.{zero-at}
 use Rattle.records.specs.Macros.{macro-count, Found, Opens}
 use Rattle.records.proofs.Opening.{found-low, opens-none, opens-more, taken-low, opens-end}
-use borrow.Author.Needs.{needs}
 use native.Mathlib.Omega.{arith}
 use Rattle.records.proofs.open_macros.Statement.{statement}
 use Rattle.records.proofs.open_macros.Tie as tie
@@ -25,7 +23,9 @@ slice-aggregate-find-opened : tie.Need-slice-aggregate-find-opened Inv-loop μ-l
 slice-aggregate-find-opened c = refl
 
 find-opened-requires : tie.Need-find-opened-requires Inv-loop μ-loop
-find-opened-requires c κs = (c .before .before .before .before .pre .0, c .before .before .before .before .pre .1, refl, zero-at macro-count)
+find-opened-requires c κs =
+    let entry = c .before .before .before .before in
+    (entry .pre .0, entry .pre .1, refl, zero-at macro-count)
 
 loop-holds : tie.Need-loop-holds Inv-loop μ-loop
 loop-holds c = (opens-none _ _ _, c .before .find-opened .ensures, omega arith)
@@ -38,8 +38,17 @@ slice-aggregate-macro-word c = sym (c .before .before .before .loop .inv .1 .siz
 
 macro-word-requires : tie.Need-macro-word-requires Inv-loop μ-loop
 macro-word-requires c κs =
-    let (o, f, h) = c .before .before .before .loop .inv in
-    (omega (arith, c .before .before .before .before .before .before .before .before .before .before .pre .0), omega (arith, c .before .before .before .before .before .before .before .before .before .before .pre .1, o .same .same-length), c .before .before .before .before .before .before .before .before .before .before .pre .2, taken-low o f (c .before .before .loop-test .taken) (c .before .before .before .before .before .before .before .before .before .before .pre .0) (c .before .before .before .before .before .before .before .before .before .before .pre .3), f .size, found-low f (c .before .before .before .before .before .before .before .before .before .before .pre .0))
+    let at-loop-test = c .before .before in
+    let at-loop = at-loop-test .before in
+    let entry = at-loop .before .before .before .before .before .before .before in
+    let (o, f, h) = at-loop .loop .inv in (
+      omega (arith, entry .pre .0),
+      omega (arith, entry .pre .1, o .same .same-length),
+      entry .pre .2,
+      taken-low o f (at-loop-test .loop-test .taken) (entry .pre .0) (entry .pre .3),
+      f .size,
+      found-low f (entry .pre .0),
+    )
 
 cast-names : tie.Need-cast-names Inv-loop μ-loop
 cast-names c = omega (arith, c .macro-word .ensures .1)
@@ -51,15 +60,21 @@ mul-names : tie.Need-mul-names Inv-loop μ-loop
 mul-names c = omega arith
 
 slice-write-names : tie.Need-slice-write-names Inv-loop μ-loop
-slice-write-names c = omega (arith, c .before .before .before .before .before .before .before .before .before .before .before .pre .0, c .before .before .before .before .before .before .before .before .before .before .before .pre .1, c .before .before .before .before .loop .inv .0 .same .same-length)
+slice-write-names c =
+    let at-loop = c .before .before .before .before in
+    let entry = at-loop .before .before .before .before .before .before .before in
+    omega (arith, entry .pre .0, entry .pre .1, at-loop .loop .inv .0 .same .same-length)
 
 loop-less : tie.Need-loop-less Inv-loop μ-loop
 loop-less c = omega arith
 
 loop-again : tie.Need-loop-again Inv-loop μ-loop
 loop-again c =
-    let (o, f, h) = c .before .before .before .before .loop .inv in
-    (opens-more o f (c .before .before .before .loop-test .taken) (c .before .before .before .before .before .before .before .before .before .before .before .pre .0) (c .before .before .before .before .before .before .before .before .before .before .before .pre .1) (c .macro-word .ensures .0), f, omega arith)
+    let at-loop-test = c .before .before .before in
+    let at-loop = at-loop-test .before in
+    let entry = at-loop .before .before .before .before .before .before .before in
+    let (o, f, h) = at-loop .loop .inv in
+    (opens-more o f (at-loop-test .loop-test .taken) (entry .pre .0) (entry .pre .1) (c .macro-word .ensures .0), f, omega arith)
 
 same-length : tie.Need-same-length Inv-loop μ-loop
 same-length c = c .before .loop .inv .0 .same .same-length

@@ -47,7 +47,10 @@ same-length : tie.Need-same-length
 same-length c = search needs
 
 returns : tie.Need-returns
-returns c = rowed _ _ _ _ _ _ _ _ (c .before .before .before .before .before .before .before .before .before .before .pre .0) (c .before .before .before .before .before .before .before .before .before .before .pre .1) (c .before .before .put-row .ensures)
+returns c =
+    let at-put-row = c .before .before in
+    let entry = at-put-row .before .before .before .before .before .before .before .before in
+    rowed _ _ _ _ _ _ _ _ (entry .pre .0) (entry .pre .1) (at-put-row .put-row .ensures)
 
 pub put-record-spec : {M : Type 1} → statement M
 put-record-spec =

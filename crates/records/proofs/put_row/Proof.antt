@@ -1,5 +1,5 @@
 -- `records::put_row` meets its contract. The loop's invariant: what is left to write comes to the row.
-use Prim.Native.Nat.{_+_, _-_, _≤_}
+use Prim.Native.Nat.{_-_, _≤_}
 use mathlib.Core.Path.{_≡_, refl, sym, _∙_}
 use lib.ListN.{length, drop}
 use Rattle.records.specs.Writing.{put-row}
@@ -45,7 +45,10 @@ loop-less : tie.Need-loop-less Inv-loop μ-loop
 loop-less c = omega arith
 
 loop-again : tie.Need-loop-again Inv-loop μ-loop
-loop-again c = (c .before .before .loop .inv .0 ∙ put-on _ _ _ _ (c .before .loop-test .taken), search needs, omega arith)
+loop-again c =
+    let at-loop-test = c .before in
+    let at-loop = at-loop-test .before in
+    (at-loop .loop .inv .0 ∙ put-on _ _ _ _ (at-loop-test .loop-test .taken), search needs, omega arith)
 
 same-length : tie.Need-same-length Inv-loop μ-loop
 same-length c = omega arith

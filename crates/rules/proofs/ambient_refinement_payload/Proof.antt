@@ -22,8 +22,12 @@ returns c =
 
 returns-2 : tie.Need-returns-2
 returns-2 c =
-    let start = c .before .before .before .before .before .before .before .before in
-    (payload-squash _ _ (two-found (start .pre .0) (start .pre .1) squash (c .before .before .before .call-two .ensures) (c .before .payload .given .1)), two-within (start .pre .0 .term-table) (start .pre .1) (start .args .names .now) 20 (c .before .before .before .call-two .ensures) (c .before .payload .given .1) .1)
+    let at-payload = c .before in
+    let at-call-two = at-payload .before .before in
+    let start = at-call-two .before .before .before .before .before in (
+      payload-squash _ _ (two-found (start .pre .0) (start .pre .1) squash (at-call-two .call-two .ensures) (at-payload .payload .given .1)),
+      two-within (start .pre .0 .term-table) (start .pre .1) (start .args .names .now) 20 (at-call-two .call-two .ensures) (at-payload .payload .given .1) .1,
+    )
 
 pub ambient-refinement-payload-spec : {M : Type 1} → statement M
 ambient-refinement-payload-spec = tie.close (tie.spec call-two-requires enum-known-payload enum-told returns returns-2)

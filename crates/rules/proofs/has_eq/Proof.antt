@@ -22,8 +22,13 @@ returns c =
 
 call-two-requires : tie.Need-call-two-requires
 call-two-requires c κs =
-    let start = c .before .before .before .before .before .before .before .before in
-    (start .pre .0 .term-table, start .pre .0 .name-table .room, one-within (start .pre .0 .term-table) (start .pre .1) (start .args .names .now) 6 (c .before .before .before .call-one .ensures) (c .before .valid .given .1))
+    let at-valid = c .before in
+    let at-call-one = at-valid .before .before in
+    let start = at-call-one .before .before .before .before .before in (
+      start .pre .0 .term-table,
+      start .pre .0 .name-table .room,
+      one-within (start .pre .0 .term-table) (start .pre .1) (start .args .names .now) 6 (at-call-one .call-one .ensures) (at-valid .valid .given .1),
+    )
 
 enum-known-ty : tie.Need-enum-known-ty
 enum-known-ty c = c .match2 .keys1
@@ -33,15 +38,30 @@ enum-told-2 c = c .match2 .keys2
 
 returns-2 : tie.Need-returns-2
 returns-2 c =
-    let start = c .before .before .before .before .before .before .before .before .before .before .before in
-    let inner = one-within (start .pre .0 .term-table) (start .pre .1) (start .args .names .now) 6 (c .before .before .before .before .before .before .call-one .ensures) (c .before .before .before .before .valid .given .1) in
-    (has-eq-valid _ _ (one-found (start .pre .0) (start .pre .1) valid (c .before .before .before .before .before .before .call-one .ensures) (c .before .before .before .before .valid .given .1)) (two-no (start .pre .0) inner prims-has-eq (c .before .before .call-two .ensures) (c .enum-told2 .given .1)), λ u e. never-is e)
+    let at-call-two = c .before .before in
+    let at-valid = at-call-two .before .before in
+    let at-call-one = at-valid .before .before in
+    let start = at-call-one .before .before .before .before .before in
+    let inner = one-within (start .pre .0 .term-table) (start .pre .1) (start .args .names .now) 6 (at-call-one .call-one .ensures)
+    (at-valid .valid .given .1) in (
+      has-eq-valid _ _ (one-found (start .pre .0) (start .pre .1) valid (at-call-one .call-one .ensures) (at-valid .valid .given .1))
+          (two-no (start .pre .0) inner prims-has-eq (at-call-two .call-two .ensures) (c .enum-told2 .given .1)),
+      λ u e. never-is e,
+    )
 
 returns-3 : tie.Need-returns-3
 returns-3 c =
-    let start = c .before .before .before .before .before .before .before .before .before .before .before .before in
-    let inner = one-within (start .pre .0 .term-table) (start .pre .1) (start .args .names .now) 6 (c .before .before .before .before .before .before .before .call-one .ensures) (c .before .before .before .before .before .valid .given .1) in
-    (has-eq-is _ _ (one-found (start .pre .0) (start .pre .1) valid (c .before .before .before .before .before .before .before .call-one .ensures) (c .before .before .before .before .before .valid .given .1)) (two-found (start .pre .0) inner prims-has-eq (c .before .before .before .call-two .ensures) (c .before .ty .given .1)), λ u e. is-within e (two-within (start .pre .0 .term-table) inner (start .args .names .now) 21 (c .before .before .before .call-two .ensures) (c .before .ty .given .1) .1))
+    let at-ty = c .before in
+    let at-call-two = at-ty .before .before in
+    let at-valid = at-call-two .before .before in
+    let at-call-one = at-valid .before .before in
+    let start = at-call-one .before .before .before .before .before in
+    let inner = one-within (start .pre .0 .term-table) (start .pre .1) (start .args .names .now) 6 (at-call-one .call-one .ensures)
+    (at-valid .valid .given .1) in (
+      has-eq-is _ _ (one-found (start .pre .0) (start .pre .1) valid (at-call-one .call-one .ensures) (at-valid .valid .given .1))
+          (two-found (start .pre .0) inner prims-has-eq (at-call-two .call-two .ensures) (at-ty .ty .given .1)),
+      λ u e. is-within e (two-within (start .pre .0 .term-table) inner (start .args .names .now) 21 (at-call-two .call-two .ensures) (at-ty .ty .given .1) .1),
+    )
 
 pub has-eq-spec : {M : Type 1} → statement M
 has-eq-spec = tie.close (tie.spec call-one-requires enum-known-valid enum-told returns call-two-requires enum-known-ty enum-told-2 returns-2 returns-3)

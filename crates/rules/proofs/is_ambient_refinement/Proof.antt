@@ -26,8 +26,12 @@ has-head-requires c κs =
 
 returns-2 : tie.Need-returns-2
 returns-2 c =
-    let start = c .before .before .before .before .before .before .before .before in
-    refinement-none _ _ (sym (is-call-law (start .pre .0) (start .pre .1) squash) ∙ sym (c .before .before .before .is-call .ensures) ∙ c .before .before .if1 .left) (head-no (start .pre .0) (start .pre .1) (sym (c .before .has-head .ensures) ∙ not-true _ (c .if2 .taken)))
+    let at-has-head = c .before in
+    let at-if1 = at-has-head .before in
+    let at-is-call = at-if1 .before in
+    let start = at-is-call .before .before .before .before .before in
+    refinement-none _ _ (sym (is-call-law (start .pre .0) (start .pre .1) squash) ∙ sym (at-is-call .is-call .ensures) ∙ at-if1 .if1 .left)
+    (head-no (start .pre .0) (start .pre .1) (sym (at-has-head .has-head .ensures) ∙ not-true _ (c .if2 .taken)))
 
 head-requires : tie.Need-head-requires
 head-requires c κs =
@@ -39,14 +43,36 @@ slice-aggregate-name-starts c = search needs
 
 name-starts-requires : tie.Need-name-starts-requires
 name-starts-requires c κs =
-    let start = c .before .before .before .before .before .before .before .before .before .before in
-    (start .pre .0 .name-table, head-within (start .pre .0) (start .pre .1) (sym (c .before .before .before .has-head .ensures) ∙ not-false _ (c .before .before .if2 .left)) (c .before .head .ensures))
+    let at-head = c .before in
+    let at-if2 = at-head .before in
+    let at-has-head = at-if2 .before in
+    let start = at-has-head .before .before .before .before .before .before .before in (
+      start .pre .0 .name-table,
+      head-within (start .pre .0) (start .pre .1) (sym (at-has-head .has-head .ensures) ∙ not-false _ (at-if2 .if2 .left)) (at-head .head .ensures),
+    )
 
 returns-3 : tie.Need-returns-3
 unfolding bytes
 returns-3 c =
-    let start = c .before .before .before .before .before .before .before .before .before .before .before in
-    refinement-head _ _ (sym (is-call-law (start .pre .0) (start .pre .1) squash) ∙ sym (c .before .before .before .before .before .before .is-call .ensures) ∙ c .before .before .before .before .before .if1 .left) (head-found (start .pre .0) (start .pre .1) (sym (c .before .before .before .before .has-head .ensures) ∙ not-false _ (c .before .before .before .if2 .left)) (c .before .before .head .ensures)) (c .name-starts .ensures)
+    let at-head = c .before .before in
+    let at-if2 = at-head .before in
+    let at-has-head = at-if2 .before in
+    let at-if1 = at-has-head .before in
+    let at-is-call = at-if1 .before in
+    let start = at-is-call .before .before .before .before .before in
+    refinement-head _ _ (sym (is-call-law (start .pre .0) (start .pre .1) squash) ∙ sym (at-is-call .is-call .ensures) ∙ at-if1 .if1 .left)
+    (head-found (start .pre .0) (start .pre .1) (sym (at-has-head .has-head .ensures) ∙ not-false _ (at-if2 .if2 .left)) (at-head .head .ensures))
+    (c .name-starts .ensures)
 
 pub is-ambient-refinement-spec : {M : Type 1} → statement M
-is-ambient-refinement-spec = tie.close (tie.spec is-call-requires returns has-head-requires returns-2 head-requires slice-aggregate-name-starts name-starts-requires returns-3)
+is-ambient-refinement-spec =
+    tie.close
+    (tie.spec
+    is-call-requires
+    returns
+    has-head-requires
+    returns-2
+    head-requires
+    slice-aggregate-name-starts
+    name-starts-requires
+    returns-3)

@@ -19,18 +19,26 @@ head-requires c κs =
 
 add-at : tie.Need-add-at
 add-at c =
-    let start = c .before .before .before .before .before in
-    omega (arith, call-small (start .args .rows .now) (start .args .t) (start .pre .3) (c .before .before .kind .ensures) (c .before .if1 .left) (c .head .ensures))
+    let at-if1 = c .before in
+    let at-kind = at-if1 .before in
+    let start = at-kind .before .before .before in
+    omega (arith, call-small (start .args .rows .now) (start .args .t) (start .pre .3) (at-kind .kind .ensures) (at-if1 .if1 .left) (c .head .ensures))
 
 at-requires : tie.Need-at-requires
 at-requires c κs =
-    let start = c .before .before .before .before .before in
-    omega (arith, call-small (start .args .rows .now) (start .args .t) (start .pre .3) (c .before .before .kind .ensures) (c .before .if1 .left) (c .head .ensures))
+    let at-if1 = c .before in
+    let at-kind = at-if1 .before in
+    let start = at-kind .before .before .before in
+    omega (arith, call-small (start .args .rows .now) (start .args .t) (start .pre .3) (at-kind .kind .ensures) (at-if1 .if1 .left) (c .head .ensures))
 
 returns-2 : tie.Need-returns-2
 returns-2 c =
-    let start = c .before .before .before .before .before .before in
-    call-coded (start .args .names .now) (start .args .rows .now) (start .args .t) (start .args .code) (c .before .before .before .kind .ensures) (c .before .before .if1 .left) (c .before .head .ensures) (c .at .ensures)
+    let at-head = c .before in
+    let at-if1 = at-head .before in
+    let at-kind = at-if1 .before in
+    let start = at-kind .before .before .before in
+    call-coded (start .args .names .now) (start .args .rows .now) (start .args .t) (start .args .code) (at-kind .kind .ensures) (at-if1 .if1 .left)
+    (at-head .head .ensures) (c .at .ensures)
 
 pub is-call-spec : {M : Type 1} → statement M
 is-call-spec = tie.close (tie.spec kind-requires returns head-requires add-at at-requires returns-2)

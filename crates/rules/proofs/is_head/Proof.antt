@@ -10,8 +10,10 @@ has-head-requires c κs = (c .before .before .pre .1, c .before .before .pre .2)
 
 returns : tie.Need-returns
 returns c =
-    let start = c .before .before .before .before in
-    head-other (start .args .names .now) (start .args .rows .now) (start .args .t) (start .args .code) (c .before .has-head .ensures) (not-true _ (c .if1 .taken))
+    let at-has-head = c .before in
+    let start = at-has-head .before .before .before in
+    head-other (start .args .names .now) (start .args .rows .now) (start .args .t) (start .args .code) (at-has-head .has-head .ensures)
+    (not-true _ (c .if1 .taken))
 
 head-requires : tie.Need-head-requires
 head-requires c κs =
@@ -20,18 +22,34 @@ head-requires c κs =
 
 add-at : tie.Need-add-at
 add-at c =
-    let start = c .before .before .before .before .before in
-    omega (arith, head-small (start .args .rows .now) (start .args .t) (start .pre .3) (c .before .before .has-head .ensures) (not-false _ (c .before .if1 .left)) (c .head .ensures))
+    let at-if1 = c .before in
+    let at-has-head = at-if1 .before in
+    let start = at-has-head .before .before .before in
+    omega (
+      arith,
+      head-small (start .args .rows .now) (start .args .t) (start .pre .3) (at-has-head .has-head .ensures) (not-false _ (at-if1 .if1 .left))
+          (c .head .ensures),
+    )
 
 at-requires : tie.Need-at-requires
 at-requires c κs =
-    let start = c .before .before .before .before .before in
-    omega (arith, head-small (start .args .rows .now) (start .args .t) (start .pre .3) (c .before .before .has-head .ensures) (not-false _ (c .before .if1 .left)) (c .head .ensures))
+    let at-if1 = c .before in
+    let at-has-head = at-if1 .before in
+    let start = at-has-head .before .before .before in
+    omega (
+      arith,
+      head-small (start .args .rows .now) (start .args .t) (start .pre .3) (at-has-head .has-head .ensures) (not-false _ (at-if1 .if1 .left))
+          (c .head .ensures),
+    )
 
 returns-2 : tie.Need-returns-2
 returns-2 c =
-    let start = c .before .before .before .before .before .before in
-    head-coded (start .args .names .now) (start .args .rows .now) (start .args .t) (start .args .code) (c .before .before .before .has-head .ensures) (not-false _ (c .before .before .if1 .left)) (c .before .head .ensures) (c .at .ensures)
+    let at-head = c .before in
+    let at-if1 = at-head .before in
+    let at-has-head = at-if1 .before in
+    let start = at-has-head .before .before .before in
+    head-coded (start .args .names .now) (start .args .rows .now) (start .args .t) (start .args .code) (at-has-head .has-head .ensures)
+    (not-false _ (at-if1 .if1 .left)) (at-head .head .ensures) (c .at .ensures)
 
 pub is-head-spec : {M : Type 1} → statement M
 is-head-spec = tie.close (tie.spec has-head-requires returns head-requires add-at at-requires returns-2)

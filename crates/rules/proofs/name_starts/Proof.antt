@@ -31,8 +31,11 @@ starts-with-requires c κs =
 
 returns : tie.Need-returns
 returns c =
-    let start = c .before .before .before .before .before .before in
-    starts-law (start .args .file .now) (start .args .names .now) (start .args .n) (start .args .prefix .now) (c .before .before .at .ensures) (c .before .at2 .ensures) (c .starts-with .ensures)
+    let at-at2 = c .before in
+    let at-at = at-at2 .before in
+    let start = at-at .before .before .before .before in
+    starts-law (start .args .file .now) (start .args .names .now) (start .args .n) (start .args .prefix .now) (at-at .at .ensures) (at-at2 .at2 .ensures)
+    (c .starts-with .ensures)
 
 pub name-starts-spec : {M : Type 1} → statement M
 name-starts-spec = tie.close (tie.spec at-requires add-at at-requires-2 add-e starts-with-requires returns)

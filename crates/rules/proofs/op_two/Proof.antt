@@ -11,8 +11,10 @@ is-op-requires c κs = row-ready (c .before .before .pre .0) (c .before .before 
 
 returns : tie.Need-returns
 returns c =
-    let start = c .before .before .before .before in
-    op-two-other (start .args .refs .now) (start .args .rows .now) (start .args .used) (start .args .many) (start .args .t) (start .args .op) (sym (c .before .is-op .ensures) ∙ not-true _ (c .if1 .taken))
+    let at-is-op = c .before in
+    let start = at-is-op .before .before .before in
+    op-two-other (start .args .refs .now) (start .args .rows .now) (start .args .used) (start .args .many) (start .args .t) (start .args .op)
+    (sym (at-is-op .is-op .ensures) ∙ not-true _ (c .if1 .taken))
 
 count-requires : tie.Need-count-requires
 count-requires c κs =
@@ -21,8 +23,12 @@ count-requires c κs =
 
 returns-2 : tie.Need-returns-2
 returns-2 c =
-    let start = c .before .before .before .before .before .before in
-    op-two-count (start .args .refs .now) (start .args .rows .now) (start .args .used) (start .args .many) (start .args .t) (start .args .op) (sym (c .before .before .before .is-op .ensures) ∙ not-false _ (c .before .before .if1 .left)) (c .before .count .ensures) (λ e. omega (arith, e))
+    let at-count = c .before in
+    let at-if1 = at-count .before in
+    let at-is-op = at-if1 .before in
+    let start = at-is-op .before .before .before in
+    op-two-count (start .args .refs .now) (start .args .rows .now) (start .args .used) (start .args .many) (start .args .t) (start .args .op)
+    (sym (at-is-op .is-op .ensures) ∙ not-false _ (at-if1 .if1 .left)) (at-count .count .ensures) (λ e. omega (arith, e))
 
 nth-requires : tie.Need-nth-requires
 nth-requires c κs =
@@ -36,8 +42,13 @@ nth-requires-2 c κs =
 
 returns-3 : tie.Need-returns-3
 returns-3 c =
-    let start = c .before .before .before .before .before .before .before .before in
-    op-two-call (start .args .refs .now) (start .args .rows .now) (start .args .used) (start .args .many) (start .args .t) (start .args .op) (sym (c .before .before .before .before .before .is-op .ensures) ∙ not-false _ (c .before .before .before .before .if1 .left)) (c .before .before .before .count .ensures) (omega arith) (c .before .nth .ensures) (c .nth2 .ensures)
+    let at-nth = c .before in
+    let at-count = at-nth .before .before in
+    let at-if1 = at-count .before in
+    let at-is-op = at-if1 .before in
+    let start = at-is-op .before .before .before in
+    op-two-call (start .args .refs .now) (start .args .rows .now) (start .args .used) (start .args .many) (start .args .t) (start .args .op)
+    (sym (at-is-op .is-op .ensures) ∙ not-false _ (at-if1 .if1 .left)) (at-count .count .ensures) (omega arith) (at-nth .nth .ensures) (c .nth2 .ensures)
 
 pub op-two-spec : {M : Type 1} → statement M
 op-two-spec = tie.close (tie.spec is-op-requires returns count-requires returns-2 nth-requires nth-requires-2 returns-3)

@@ -25,8 +25,11 @@ returns c =
 returns-2 : tie.Need-returns-2
 unfolding Within
 returns-2 c =
-    let start = c .before .before .before .before .before .before .before .before in
-    chooses (rule-10-holds _ _ _ _ (op-two-found (start .pre .0) (start .pre .2) eq-word (c .before .before .before .op-two .ensures) (c .before .left .given .1))) (op-within (start .pre .0 .term-table) (start .pre .2) 2 (c .before .before .before .op-two .ensures) (c .before .left .given .1))
+    let at-left = c .before in
+    let at-op-two = at-left .before .before in
+    let start = at-op-two .before .before .before .before .before in
+    chooses (rule-10-holds _ _ _ _ (op-two-found (start .pre .0) (start .pre .2) eq-word (at-op-two .op-two .ensures) (at-left .left .given .1)))
+    (op-within (start .pre .0 .term-table) (start .pre .2) 2 (at-op-two .op-two .ensures) (at-left .left .given .1))
 
 pub rule-10-spec : {M : Type 1} → statement M
 rule-10-spec = tie.close (tie.spec op-two-requires enum-known-left enum-told returns returns-2)

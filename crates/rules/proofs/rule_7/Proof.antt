@@ -22,8 +22,10 @@ returns c =
 returns-2 : tie.Need-returns-2
 unfolding Within
 returns-2 c =
-    let start = c .before .before .before .before .before .before in
-    chooses (rule-7-holds _ _ _ _ (op-found (start .pre .0) (start .pre .2) and-word (sym (c .before .is-op .ensures) ∙ not-false _ (c .if1 .left)))) (start .pre .2)
+    let at-is-op = c .before in
+    let start = at-is-op .before .before .before .before .before in
+    chooses (rule-7-holds _ _ _ _ (op-found (start .pre .0) (start .pre .2) and-word (sym (at-is-op .is-op .ensures) ∙ not-false _ (c .if1 .left))))
+    (start .pre .2)
 
 pub rule-7-spec : {M : Type 1} → statement M
 rule-7-spec = tie.close (tie.spec is-op-requires returns returns-2)

@@ -36,14 +36,23 @@ name-starts-requires c κs =
 returns-2 : tie.Need-returns-2
 unfolding Within bytes
 returns-2 c =
-    let start = c .before .before .before .before .before .before .before .before .before .before .before in
-    holds-not (rule-8-name _ _ _ _ (op-two-found (start .pre .0) (start .pre .2) eq-word (c .before .before .before .before .before .before .op-two .ensures) (c .before .before .before .before .left .given .1)) (c .before .name-starts .ensures) (not-true _ (c .if1 .taken)))
+    let at-name-starts = c .before in
+    let at-left = at-name-starts .before .before .before in
+    let at-op-two = at-left .before .before in
+    let start = at-op-two .before .before .before .before .before in
+    holds-not (rule-8-name _ _ _ _ (op-two-found (start .pre .0) (start .pre .2) eq-word (at-op-two .op-two .ensures) (at-left .left .given .1))
+    (at-name-starts .name-starts .ensures) (not-true _ (c .if1 .taken)))
 
 returns-3 : tie.Need-returns-3
 unfolding Within bytes
 returns-3 c =
-    let start = c .before .before .before .before .before .before .before .before .before .before .before in
-    chooses (rule-8-holds _ _ _ _ (op-two-found (start .pre .0) (start .pre .2) eq-word (c .before .before .before .before .before .before .op-two .ensures) (c .before .before .before .before .left .given .1)) (c .before .name-starts .ensures) (not-false _ (c .if1 .left))) (op-within (start .pre .0 .term-table) (start .pre .2) 2 (c .before .before .before .before .before .before .op-two .ensures) (c .before .before .before .before .left .given .1) .0)
+    let at-name-starts = c .before in
+    let at-left = at-name-starts .before .before .before in
+    let at-op-two = at-left .before .before in
+    let start = at-op-two .before .before .before .before .before in
+    chooses (rule-8-holds _ _ _ _ (op-two-found (start .pre .0) (start .pre .2) eq-word (at-op-two .op-two .ensures) (at-left .left .given .1))
+    (at-name-starts .name-starts .ensures) (not-false _ (c .if1 .left)))
+    (op-within (start .pre .0 .term-table) (start .pre .2) 2 (at-op-two .op-two .ensures) (at-left .left .given .1) .0)
 
 pub rule-8-spec : {M : Type 1} → statement M
 rule-8-spec = tie.close (tie.spec op-two-requires enum-known-left enum-told returns slice-aggregate-name-starts name-starts-requires returns-2 returns-3)

@@ -13,15 +13,15 @@ at-requires c κs = search needs
 returns : tie.Need-returns
 returns c = flag-off _ _ _ _ (c .before .at .ensures) (c .if1 .taken)
 
-pretyping-axioms-requires : tie.Need-pretyping-axioms-requires
-pretyping-axioms-requires c κs = search needs
+options-of-requires : tie.Need-options-of-requires
+options-of-requires c κs = search needs
 
 returns-2 : tie.Need-returns-2
 returns-2 c =
     let if1 = c .before in
     let at = if1 .before in
     let entry = at .before .before in
-    flag-on _ _ _ _ _ (at .at .ensures) (if1 .if1 .left) (c .pretyping-axioms .ensures (entry .args .k .query))
+    flag-on _ _ _ _ _ (at .at .ensures) (if1 .if1 .left) (c .options-of .ensures .0 (entry .args .k .query) .pretyping-axioms-is)
 
 pub retained-spec : {M : Type 1} → statement M
-retained-spec = tie.close (tie.spec add-at at-requires returns pretyping-axioms-requires returns-2)
+retained-spec = tie.close (tie.spec add-at at-requires returns options-of-requires returns-2)

@@ -35,20 +35,21 @@ returns-3 c =
     let at = if2 .before .before in
     starts-no _ _ _ _ (at .at .ensures) _ (if2 .if2 .left) (at3 .at3 .ensures) (c .if3 .taken)
 
-no-ambients-requires : tie.Need-no-ambients-requires
-no-ambients-requires c κs = search needs
+options-of-requires : tie.Need-options-of-requires
+options-of-requires c κs = search needs
 
 returns-4 : tie.Need-returns-4
 returns-4 c =
-    let if3 = c .before in
+    let options-of = c .before in
+    let if3 = options-of .before in
     let at3 = if3 .before in
     let if2 = at3 .before in
     let at = if2 .before .before in
     let entry = at .before .before in
-    starts-ambient _ _ _ _ (at .at .ensures) _ _ (if2 .if2 .left) (at3 .at3 .ensures) (if3 .if3 .left) (c .no-ambients .ensures (entry .args .k .query))
+    starts-ambient _ _ _ _ (at .at .ensures) _ _ (if2 .if2 .left) (at3 .at3 .ensures) (if3 .if3 .left) (options-of .options-of .ensures .0 (entry .args .k .query) .no-ambients-is)
 
 pub starts-spec : {M : Type 1} → statement M
 starts-spec =
     tie.close
-    (tie.spec add-at at-requires add-at-2 at-requires-2 returns returns-2 add-at-3 at-requires-3 returns-3 no-ambients-requires
+    (tie.spec add-at at-requires add-at-2 at-requires-2 returns returns-2 add-at-3 at-requires-3 returns-3 options-of-requires
     returns-4)

@@ -28,7 +28,8 @@ slice-aggregate-same-text c = search needs
 same-text-requires : tie.Need-same-text-requires Inv-loop μ-loop
 same-text-requires c κs =
     let end = mark-to _ _ _ _ _ (c .before .before .find .ensures) (omega arith) (omega arith) in
-    (mark-from _ _ _ _ _ (c .before .find2 .ensures), omega (arith, mark-to _ _ _ _ _ (c .before .find2 .ensures) (mark-from _ _ _ _ _ (c .before .before .find .ensures)) end))
+    let begin = mark-from _ _ _ _ _ (c .before .before .find .ensures) in
+    (mark-from _ _ _ _ _ (c .before .find2 .ensures), omega (arith, mark-to _ _ _ _ _ (c .before .find2 .ensures) begin end))
 
 returns : tie.Need-returns Inv-loop μ-loop
 returns c = search needs

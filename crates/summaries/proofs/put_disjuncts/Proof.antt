@@ -27,7 +27,9 @@ add-put-set : tie.Need-add-put-set Inv-loop μ-loop
 add-put-set c = search needs
 
 put-set-requires : tie.Need-put-set-requires Inv-loop μ-loop
-put-set-requires c κs = (c .before .before .before .before .before .before .before .before .before .pre .0, omega (arith, c .before .before .before .before .before .before .before .before .before .pre .1))
+put-set-requires c κs =
+    let entry = c .before .before .before .before .before .before .before .before .before in
+    (entry .pre .0, omega (arith, entry .pre .1))
 
 add-from : tie.Need-add-from Inv-loop μ-loop
 add-from c = search needs

@@ -35,7 +35,11 @@ put-requires-2 : tie.Need-put-requires-2 Inv-loop μ-loop
 put-requires-2 c κs = search needs
 
 name-part-requires : tie.Need-name-part-requires Inv-loop μ-loop
-name-part-requires c κs = (c .before .before .before .before .before .before .before .before .before .before .before .pre .0, rw (c .before .before .before .at .ensures) (c .before .before .before .before .before .before .before .before .before .before .before .pre .0 .numbers _ (c .before .before .before .before .loop-test .taken)))
+name-part-requires c κs =
+    let at = c .before .before .before in
+    let turn = at .before in
+    let entry = turn .before .before .before .before .before .before .before in
+    (entry .pre .0, rw (at .at .ensures) (entry .pre .0 .numbers _ (turn .loop-test .taken)))
 
 put-requires-3 : tie.Need-put-requires-3 Inv-loop μ-loop
 put-requires-3 c κs = search needs

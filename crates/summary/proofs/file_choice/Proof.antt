@@ -14,10 +14,14 @@ add-file-term c = search needs
 
 file-term-requires : tie.Need-file-term-requires
 file-term-requires c κs =
-    let back = c .before .before .before .before .before .before .before .before in
+    let at-choice = c .before .before .before .before in
+    let back = at-choice .before .before .before .before in
     let start = back .before .before .before in
-    let after-choice = c .before .before .before .before .choice in
-    (start .pre .0 .term-table, begun-opened (start .pre .2) (omega arith) (omega arith), within-one (start .args .named) (start .args .many) (after-choice .given .1) (start .pre .1))
+    let after-choice = at-choice .choice in (
+      start .pre .0 .term-table,
+      begun-opened (start .pre .2) (omega arith) (omega arith),
+      within-one (start .args .named) (start .args .many) (after-choice .given .1) (start .pre .1),
+    )
 
 filed-requires : tie.Need-filed-requires
 filed-requires c κs = search needs
@@ -30,10 +34,15 @@ add-file-terms c = search needs
 
 file-terms-requires : tie.Need-file-terms-requires
 file-terms-requires c κs =
-    let back = c .before .before .before .before .before .before .before .before in
+    let at-choice2 = c .before .before .before .before in
+    let back = at-choice2 .before .before .before .before in
     let start = back .before .before .before in
-    let after-choice2 = c .before .before .before .before .choice2 in
-    (start .pre .0 .term-table, begun-opened (start .pre .2) (omega arith) (omega arith), within-two (start .args .named) (start .args .many) (after-choice2 .given .1) (start .pre .1) .0, within-two (start .args .named) (start .args .many) (after-choice2 .given .1) (start .pre .1) .1)
+    let after-choice2 = at-choice2 .choice2 in (
+      start .pre .0 .term-table,
+      begun-opened (start .pre .2) (omega arith) (omega arith),
+      within-two (start .args .named) (start .args .many) (after-choice2 .given .1) (start .pre .1) .0,
+      within-two (start .args .named) (start .args .many) (after-choice2 .given .1) (start .pre .1) .1,
+    )
 
 filed-requires-2 : tie.Need-filed-requires-2
 filed-requires-2 c κs = search needs
@@ -46,10 +55,14 @@ add-triggers-of-term c = search needs
 
 triggers-of-term-requires : tie.Need-triggers-of-term-requires
 triggers-of-term-requires c κs =
-    let back = c .before .before .before .before .before .before .before .before in
+    let at-choice3 = c .before .before .before .before in
+    let back = at-choice3 .before .before .before .before in
     let start = back .before .before .before in
-    let after-choice3 = c .before .before .before .before .choice3 in
-    (start .pre .0 .term-table, begun-opened (start .pre .2) (omega arith) (omega arith), within-groups (start .args .named) (start .args .many) (after-choice3 .given .1) (start .pre .1))
+    let after-choice3 = at-choice3 .choice3 in (
+      start .pre .0 .term-table,
+      begun-opened (start .pre .2) (omega arith) (omega arith),
+      within-groups (start .args .named) (start .args .many) (after-choice3 .given .1) (start .pre .1),
+    )
 
 filed-requires-3 : tie.Need-filed-requires-3
 filed-requires-3 c κs = search needs
@@ -69,8 +82,13 @@ enum-known-choice-5 c = search needs
 
 file-token-requires : tie.Need-file-token-requires
 file-token-requires c κs =
-    let start = c .before .before .before .before .before .before .before .before .before .before in
-    (start .pre .0 .name-table, within-token (start .args .named) (start .args .many) (c .before .before .before .choice5 .given .1) (start .pre .1), start .pre .2 .low, start .pre .2 .room)
+    let at-choice5 = c .before .before .before in
+    let start = at-choice5 .before .before .before .before .before .before .before in (
+      start .pre .0 .name-table,
+      within-token (start .args .named) (start .args .many) (at-choice5 .choice5 .given .1) (start .pre .1),
+      start .pre .2 .low,
+      start .pre .2 .room,
+    )
 
 enum-told : tie.Need-enum-told
 enum-told c = search needs
@@ -102,12 +120,14 @@ same-length-3 c = search needs
 
 returns : tie.Need-returns
 returns c =
-    let back = c .before .before .before .before .before .before .before .before in
+    let at-file-term = c .before .before .before .before .before .before .before in
+    let back = at-file-term .before in
     let back2 = back .before .before .before .before .before .before .before .before in
     let start = back2 .before .before .before in
-    let after-file-term = c .before .before .before .before .before .before .before .file-term in
+    let after-file-term = at-file-term .file-term in
     let after-choice = back .before .before .before .before .choice in
-    choose-one (start .pre .0) (after-choice .given .1) (after-file-term .ensures .0) (after-file-term .ensures .1 .0) (after-file-term .ensures .1 .1) (c .filed .ensures)
+    choose-one (start .pre .0) (after-choice .given .1) (after-file-term .ensures .0) (after-file-term .ensures .1 .0) (after-file-term .ensures .1 .1)
+    (c .filed .ensures)
 
 same-length-4 : tie.Need-same-length-4
 same-length-4 c = search needs
@@ -120,12 +140,14 @@ same-length-6 c = search needs
 
 returns-2 : tie.Need-returns-2
 returns-2 c =
-    let back = c .before .before .before .before .before .before .before .before in
+    let at-file-terms = c .before .before .before .before .before .before .before in
+    let back = at-file-terms .before in
     let back2 = back .before .before .before .before .before .before .before .before in
     let start = back2 .before .before .before in
-    let after-file-terms = c .before .before .before .before .before .before .before .file-terms in
+    let after-file-terms = at-file-terms .file-terms in
     let after-choice2 = back .before .before .before .before .choice2 in
-    choose-two (start .pre .0) (after-choice2 .given .1) (after-file-terms .ensures .0) (after-file-terms .ensures .1 .0) (after-file-terms .ensures .1 .1) (c .filed2 .ensures)
+    choose-two (start .pre .0) (after-choice2 .given .1) (after-file-terms .ensures .0) (after-file-terms .ensures .1 .0) (after-file-terms .ensures .1 .1)
+    (c .filed2 .ensures)
 
 same-length-7 : tie.Need-same-length-7
 same-length-7 c = search needs
@@ -138,12 +160,14 @@ same-length-9 c = search needs
 
 returns-3 : tie.Need-returns-3
 returns-3 c =
-    let back = c .before .before .before .before .before .before .before .before in
+    let at-triggers-of-term = c .before .before .before .before .before .before .before in
+    let back = at-triggers-of-term .before in
     let back2 = back .before .before .before .before .before .before .before .before in
     let start = back2 .before .before .before in
-    let after-triggers-of-term = c .before .before .before .before .before .before .before .triggers-of-term in
+    let after-triggers-of-term = at-triggers-of-term .triggers-of-term in
     let after-choice3 = back .before .before .before .before .choice3 in
-    choose-groups (start .pre .0) (after-choice3 .given .1) (after-triggers-of-term .ensures .0) (after-triggers-of-term .ensures .1 .0) (after-triggers-of-term .ensures .1 .1) (c .filed3 .ensures)
+    choose-groups (start .pre .0) (after-choice3 .given .1) (after-triggers-of-term .ensures .0) (after-triggers-of-term .ensures .1 .0)
+    (after-triggers-of-term .ensures .1 .1) (c .filed3 .ensures)
 
 same-length-10 : tie.Need-same-length-10
 same-length-10 c = search needs

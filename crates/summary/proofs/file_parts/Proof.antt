@@ -27,13 +27,15 @@ filed-requires c κs = search needs
 
 returns : tie.Need-returns
 returns c =
-    let back = c .before .before .before .before .before .before .before .before in
+    let at-triggers-of-list = c .before .before .before .before .before .before .before in
+    let back = at-triggers-of-list .before in
     let back2 = back .before .before .before .before .before .before .before .before in
     let start = back2 .before .before .before in
-    let after-triggers-of-list = c .before .before .before .before .before .before .before .triggers-of-list in
+    let after-triggers-of-list = at-triggers-of-list .triggers-of-list in
     let after-end = back .before .before .before .end in
     let after-start = back .before .before .before .before .before .start in
-    parts-sorts (start .args .t) (start .pre .0) (start .pre .2) (after-start .ensures) (after-end .ensures) (after-triggers-of-list .ensures .0) (after-triggers-of-list .ensures .1 .0) (after-triggers-of-list .ensures .1 .1) (c .filed .ensures)
+    parts-sorts (start .args .t) (start .pre .0) (start .pre .2) (after-start .ensures) (after-end .ensures) (after-triggers-of-list .ensures .0)
+    (after-triggers-of-list .ensures .1 .0) (after-triggers-of-list .ensures .1 .1) (c .filed .ensures)
 
 same-length : tie.Need-same-length
 same-length c = returns c .0 .marks .names-same .same-length

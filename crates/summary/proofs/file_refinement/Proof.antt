@@ -13,10 +13,12 @@ is-empty-requires c κs =
 
 returns : tie.Need-returns
 returns c =
-    let back = c .before .before .before .before .before .before .before .before in
+    let at-is-empty = c .before .before .before .before .before .before .before in
+    let back = at-is-empty .before in
     let start = back .before .before .before .before .before .before .before in
-    let after-is-empty = c .before .before .before .before .before .before .before .is-empty in
-    refinement-empty (start .args .t) (start .pre .0) (after-is-empty .ensures .0) (after-is-empty .ensures .1 .0) (after-is-empty .ensures .1 .1) (c .if1 .taken) (start .pre .1 .low)
+    let after-is-empty = at-is-empty .is-empty in
+    refinement-empty (start .args .t) (start .pre .0) (after-is-empty .ensures .0) (after-is-empty .ensures .1 .0) (after-is-empty .ensures .1 .1)
+    (c .if1 .taken) (start .pre .1 .low)
 
 add-triggers-of-term : tie.Need-add-triggers-of-term
 add-triggers-of-term c = search needs
@@ -26,22 +28,28 @@ triggers-of-term-requires c κs =
     let back = c .before .before .before .before .before .before .before .before in
     let back2 = back .before .before .before .before .before .before .before .before in
     let start = back2 .before .before in
-    let after-is-empty = back .before .before .is-empty in
-    (rows-marked (after-is-empty .ensures .1 .0 .1) (start .pre .0), begun-then (start .pre .1) (after-is-empty .ensures .1 .0) (after-is-empty .ensures .1 .1 .out-words), start .pre .2)
+    let after-is-empty = back .before .before .is-empty in (
+      rows-marked (after-is-empty .ensures .1 .0 .1) (start .pre .0),
+      begun-then (start .pre .1) (after-is-empty .ensures .1 .0) (after-is-empty .ensures .1 .1 .out-words),
+      start .pre .2,
+    )
 
 filed-requires : tie.Need-filed-requires
 filed-requires c κs = search needs
 
 returns-2 : tie.Need-returns-2
 returns-2 c =
-    let back = c .before .before .before .before .before .before .before .before in
+    let at-triggers-of-term = c .before .before .before .before .before .before .before in
+    let back = at-triggers-of-term .before in
     let back2 = back .before .before .before .before .before .before .before .before in
     let back3 = back2 .before .before .before .before .before .before .before .before in
     let start = back3 .before .before in
-    let after-triggers-of-term = c .before .before .before .before .before .before .before .triggers-of-term in
+    let after-triggers-of-term = at-triggers-of-term .triggers-of-term in
     let after-if1 = back .before .before .before .if1 in
     let after-is-empty = back2 .before .before .is-empty in
-    refinement-more (start .args .t) (start .pre .0) (after-is-empty .ensures .0) (after-is-empty .ensures .1 .0) (after-is-empty .ensures .1 .1) (after-if1 .left) (after-triggers-of-term .ensures .0) (after-triggers-of-term .ensures .1 .0) (after-triggers-of-term .ensures .1 .1) (c .filed .ensures)
+    refinement-more (start .args .t) (start .pre .0) (after-is-empty .ensures .0) (after-is-empty .ensures .1 .0) (after-is-empty .ensures .1 .1)
+    (after-if1 .left) (after-triggers-of-term .ensures .0) (after-triggers-of-term .ensures .1 .0) (after-triggers-of-term .ensures .1 .1)
+    (c .filed .ensures)
 
 same-length : tie.Need-same-length
 same-length c = returns c .0 .marks .names-same .same-length

@@ -32,11 +32,16 @@ ends-with-requires c κs =
 returns : tie.Need-returns
 unfolding bytes
 returns c =
-    let back = c .before .before .before .before .before .before .before .before in
+    let at-if1 = c .before in
+    let at-ends-with = at-if1 .before in
+    let at-at2 = at-ends-with .before .before in
+    let at-at = at-at2 .before .before in
+    let back = at-at .before .before in
     let start = back .before .before .before in
-    let after-at2 = c .before .before .before .before .at2 in
-    let after-at = c .before .before .before .before .before .before .at in
-    let no = token-ends (start .pre .0) (start .pre .1) (after-at .ensures) (after-at2 .ensures) (c .before .before .ends-with .ensures) (not-true _ (c .before .if1 .taken)) in
+    let after-at2 = at-at2 .at2 in
+    let after-at = at-at .at in
+    let no = token-ends (start .pre .0) (start .pre .1) (after-at .ensures) (after-at2 .ensures) (at-ends-with .ends-with .ensures)
+    (not-true _ (at-if1 .if1 .taken)) in
     token-over (start .pre .0) (start .pre .1) (after-at .ensures) (after-at2 .ensures) no (c .if2 .taken)
 
 add-out : tie.Need-add-out
@@ -57,32 +62,50 @@ add-t24 c = search needs
 returns-2 : tie.Need-returns-2
 unfolding bytes
 returns-2 c =
-    let back = c .before .before .before .before .before .before .before .before in
+    let at-if1 = c .before in
+    let at-ends-with = at-if1 .before in
+    let at-at2 = at-ends-with .before .before in
+    let at-at = at-at2 .before .before in
+    let back = at-at .before .before in
     let start = back .before .before .before in
-    let after-at2 = c .before .before .before .before .at2 in
-    let after-at = c .before .before .before .before .before .before .at in
-    let no = token-ends (start .pre .0) (start .pre .1) (after-at .ensures) (after-at2 .ensures) (c .before .before .ends-with .ensures) (not-true _ (c .before .if1 .taken)) in
+    let after-at2 = at-at2 .at2 in
+    let after-at = at-at .at in
+    let no = token-ends (start .pre .0) (start .pre .1) (after-at .ensures) (after-at2 .ensures) (at-ends-with .ends-with .ensures)
+    (not-true _ (at-if1 .if1 .taken)) in
     token-one (start .pre .0) (start .pre .1) (after-at .ensures) (after-at2 .ensures) no (c .if2 .left) (start .pre .3)
 
 sub-spell : tie.Need-sub-spell
 unfolding bytes
 sub-spell c =
-    let back = c .before .before .before .before .before .before .before .before in
+    let at-if1 = c .before in
+    let at-ends-with = at-if1 .before in
+    let at-at2 = at-ends-with .before .before in
+    let at-at = at-at2 .before .before in
+    let back = at-at .before .before in
     let start = back .before .before .before in
-    let after-at2 = c .before .before .before .before .at2 in
-    let after-at = c .before .before .before .before .before .before .at in
-    let yes = token-ends (start .pre .0) (start .pre .1) (after-at .ensures) (after-at2 .ensures) (c .before .before .ends-with .ensures) (not-false _ (c .before .if1 .left)) in
+    let after-at2 = at-at2 .at2 in
+    let after-at = at-at .at in
+    let yes = token-ends (start .pre .0) (start .pre .1) (after-at .ensures) (after-at2 .ensures) (at-ends-with .ends-with .ensures)
+    (not-false _ (at-if1 .if1 .left)) in
     token-asks (start .pre .0) (start .pre .1) (after-at .ensures) (after-at2 .ensures) yes .0
 
 spell-requires : tie.Need-spell-requires
 unfolding bytes
 spell-requires c κs =
-    let back = c .before .before .before .before .before .before .before .before in
+    let at-if1 = c .before in
+    let at-ends-with = at-if1 .before in
+    let at-at2 = at-ends-with .before .before in
+    let at-at = at-at2 .before .before in
+    let back = at-at .before .before in
     let start = back .before .before .before in
-    let after-at2 = c .before .before .before .before .at2 in
-    let after-at = c .before .before .before .before .before .before .at in
-    let yes = token-ends (start .pre .0) (start .pre .1) (after-at .ensures) (after-at2 .ensures) (c .before .before .ends-with .ensures) (not-false _ (c .before .if1 .left)) in
-    (start .pre .0, token-asks (start .pre .0) (start .pre .1) (after-at .ensures) (after-at2 .ensures) yes .1, token-asks (start .pre .0) (start .pre .1) (after-at .ensures) (after-at2 .ensures) yes .2)
+    let after-at2 = at-at2 .at2 in
+    let after-at = at-at .at in
+    let yes = token-ends (start .pre .0) (start .pre .1) (after-at .ensures) (after-at2 .ensures) (at-ends-with .ends-with .ensures)
+    (not-false _ (at-if1 .if1 .left)) in (
+      start .pre .0,
+      token-asks (start .pre .0) (start .pre .1) (after-at .ensures) (after-at2 .ensures) yes .1,
+      token-asks (start .pre .0) (start .pre .1) (after-at .ensures) (after-at2 .ensures) yes .2,
+    )
 
 enum-known-m : tie.Need-enum-known-m
 enum-known-m c = search needs
@@ -90,16 +113,23 @@ enum-known-m c = search needs
 put-two-requires : tie.Need-put-two-requires
 unfolding bytes
 put-two-requires c κs =
-    let back = c .before .before .before .before .before .before .before .before in
+    let at-m = c .before .before in
+    let at-spell = at-m .before .before .before .before in
+    let back = at-spell .before .before in
     let back2 = back .before .before .before .before .before .before .before .before in
     let start = back2 .before .before in
-    let after-spell = c .before .before .before .before .before .before .spell in
+    let after-spell = at-spell .spell in
     let after-if1 = back .if1 in
     let after-ends-with = back .before .ends-with in
     let after-at2 = back .before .before .before .at2 in
     let after-at = back .before .before .before .before .before .at in
-    let yes = token-ends (start .pre .0) (start .pre .1) (after-at .ensures) (after-at2 .ensures) (after-ends-with .ensures) (not-false _ (after-if1 .left)) in
-    (omega (arith, start .pre .1, start .pre .0 .few), token-known-small (start .pre .0) (start .pre .1) (after-at .ensures) (after-at2 .ensures) yes (after-spell .ensures .0) (after-spell .ensures .1) (c .before .before .m .given .1), start .pre .2, start .pre .3)
+    let yes = token-ends (start .pre .0) (start .pre .1) (after-at .ensures) (after-at2 .ensures) (after-ends-with .ensures) (not-false _ (after-if1 .left)) in (
+      omega (arith, start .pre .1, start .pre .0 .few),
+      token-known-small (start .pre .0) (start .pre .1) (after-at .ensures) (after-at2 .ensures) yes (after-spell .ensures .0) (after-spell .ensures .1)
+          (at-m .m .given .1),
+      start .pre .2,
+      start .pre .3,
+    )
 
 enum-known-m-2 : tie.Need-enum-known-m-2
 enum-known-m-2 c = search needs
@@ -110,16 +140,23 @@ add-put-two c = search needs
 put-two-requires-2 : tie.Need-put-two-requires-2
 unfolding bytes
 put-two-requires-2 c κs =
-    let back = c .before .before .before .before .before .before .before .before in
+    let at-m2 = c .before .before in
+    let at-spell = at-m2 .before .before .before .before in
+    let back = at-spell .before .before in
     let back2 = back .before .before .before .before .before .before .before .before in
     let start = back2 .before .before in
-    let after-spell = c .before .before .before .before .before .before .spell in
+    let after-spell = at-spell .spell in
     let after-if1 = back .if1 in
     let after-ends-with = back .before .ends-with in
     let after-at2 = back .before .before .before .at2 in
     let after-at = back .before .before .before .before .before .at in
-    let yes = token-ends (start .pre .0) (start .pre .1) (after-at .ensures) (after-at2 .ensures) (after-ends-with .ensures) (not-false _ (after-if1 .left)) in
-    (omega (arith, start .pre .1, start .pre .0 .few), token-new-small (start .pre .0) (start .pre .1) (after-at .ensures) (after-at2 .ensures) yes (after-spell .ensures .0) (after-spell .ensures .1) (c .before .before .m2 .given .1), start .pre .2, start .pre .3)
+    let yes = token-ends (start .pre .0) (start .pre .1) (after-at .ensures) (after-at2 .ensures) (after-ends-with .ensures) (not-false _ (after-if1 .left)) in (
+      omega (arith, start .pre .1, start .pre .0 .few),
+      token-new-small (start .pre .0) (start .pre .1) (after-at .ensures) (after-at2 .ensures) yes (after-spell .ensures .0) (after-spell .ensures .1)
+          (at-m2 .m2 .given .1),
+      start .pre .2,
+      start .pre .3,
+    )
 
 enum-told : tie.Need-enum-told
 enum-told c = search needs
@@ -127,45 +164,55 @@ enum-told c = search needs
 returns-3 : tie.Need-returns-3
 unfolding bytes
 returns-3 c =
-    let back = c .before .before .before .before .before .before .before .before in
+    let at-put-two = c .before .before in
+    let at-m = at-put-two .before .before .before in
+    let back = at-m .before .before .before in
     let back2 = back .before .before .before .before .before .before .before .before in
     let start = back2 .before .before .before .before .before in
-    let after-m = c .before .before .before .before .before .m in
+    let after-m = at-m .m in
     let after-spell = back .before .spell in
     let after-if1 = back .before .before .before .if1 in
     let after-ends-with = back .before .before .before .before .ends-with in
     let after-at2 = back .before .before .before .before .before .before .at2 in
     let after-at = back2 .at in
     let yes = token-ends (start .pre .0) (start .pre .1) (after-at .ensures) (after-at2 .ensures) (after-ends-with .ensures) (not-false _ (after-if1 .left)) in
-    token-known (start .pre .0) (start .pre .1) (after-at .ensures) (after-at2 .ensures) yes (after-spell .ensures .0) (after-spell .ensures .1) (after-m .given .1) (start .pre .3) (c .before .before .put-two .ensures)
+    token-known (start .pre .0) (start .pre .1) (after-at .ensures) (after-at2 .ensures) yes (after-spell .ensures .0) (after-spell .ensures .1)
+    (after-m .given .1) (start .pre .3) (at-put-two .put-two .ensures)
 
 returns-4 : tie.Need-returns-4
 unfolding bytes
 returns-4 c =
-    let back = c .before .before .before .before .before .before .before .before in
+    let at-put-two2 = c .before .before in
+    let at-m2 = at-put-two2 .before .before .before in
+    let back = at-m2 .before .before .before in
     let back2 = back .before .before .before .before .before .before .before .before in
     let start = back2 .before .before .before .before .before in
-    let after-m2 = c .before .before .before .before .before .m2 in
+    let after-m2 = at-m2 .m2 in
     let after-spell = back .before .spell in
     let after-if1 = back .before .before .before .if1 in
     let after-ends-with = back .before .before .before .before .ends-with in
     let after-at2 = back .before .before .before .before .before .before .at2 in
     let after-at = back2 .at in
     let yes = token-ends (start .pre .0) (start .pre .1) (after-at .ensures) (after-at2 .ensures) (after-ends-with .ensures) (not-false _ (after-if1 .left)) in
-    token-new (start .pre .0) (start .pre .1) (after-at .ensures) (after-at2 .ensures) yes (after-spell .ensures .0) (after-spell .ensures .1) (after-m2 .given .1) (start .pre .3) (c .before .before .put-two2 .ensures)
+    token-new (start .pre .0) (start .pre .1) (after-at .ensures) (after-at2 .ensures) yes (after-spell .ensures .0) (after-spell .ensures .1)
+    (after-m2 .given .1) (start .pre .3) (at-put-two2 .put-two2 .ensures)
 
 returns-5 : tie.Need-returns-5
 unfolding bytes
 returns-5 c =
-    let back = c .before .before .before .before .before .before .before .before in
+    let at-spell = c .before .before .before .before in
+    let at-if1 = at-spell .before .before in
+    let at-ends-with = at-if1 .before in
+    let back = at-ends-with .before in
     let start = back .before .before .before .before .before .before .before .before in
-    let after-spell = c .before .before .before .before .spell in
-    let after-if1 = c .before .before .before .before .before .before .if1 in
-    let after-ends-with = c .before .before .before .before .before .before .before .ends-with in
+    let after-spell = at-spell .spell in
+    let after-if1 = at-if1 .if1 in
+    let after-ends-with = at-ends-with .ends-with in
     let after-at2 = back .before .at2 in
     let after-at = back .before .before .before .at in
     let yes = token-ends (start .pre .0) (start .pre .1) (after-at .ensures) (after-at2 .ensures) (after-ends-with .ensures) (not-false _ (after-if1 .left)) in
-    token-full (start .pre .0) (start .pre .1) (after-at .ensures) (after-at2 .ensures) yes (after-spell .ensures .0) (after-spell .ensures .1) (c .enum-told .given .1)
+    token-full (start .pre .0) (start .pre .1) (after-at .ensures) (after-at2 .ensures) yes (after-spell .ensures .0) (after-spell .ensures .1)
+    (c .enum-told .given .1)
 
 same-length : tie.Need-same-length
 same-length c = search needs

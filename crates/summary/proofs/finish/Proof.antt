@@ -36,17 +36,30 @@ enum-told c = search needs
 
 returns : tie.Need-returns
 returns c =
-    let back = c .before .before .before .before .before .before .before .before in
+    let at-n = c .before in
+    let back = at-n .before .before .before .before .before .before .before in
     let start = back .before .before .before .before .before .before .before .before .before in
     let after-gather-term = back .before .gather-term in
-    record { walked = after-gather-term .result; answer = ap (finished (start .args .kind) (start .args .end) (start .args .total) (start .args .mark)) (sym (c .before .n .given .1)); free-names = after-gather-term .ensures .0; slices = after-gather-term .ensures .1 .0; words-as = after-gather-term .ensures .1 .1 }
+    record {
+      walked = after-gather-term .result;
+      answer = ap (finished (start .args .kind) (start .args .end) (start .args .total) (start .args .mark)) (sym (at-n .n .given .1));
+      free-names = after-gather-term .ensures .0;
+      slices = after-gather-term .ensures .1 .0;
+      words-as = after-gather-term .ensures .1 .1;
+    }
 
 returns-2 : tie.Need-returns-2
 returns-2 c =
     let back = c .before .before .before .before .before .before .before .before in
     let start = back .before .before .before .before .before .before .before .before in
     let after-gather-term = back .gather-term in
-    record { walked = after-gather-term .result; answer = ap (finished (start .args .kind) (start .args .end) (start .args .total) (start .args .mark)) (sym (c .enum-told .given .1)); free-names = after-gather-term .ensures .0; slices = after-gather-term .ensures .1 .0; words-as = after-gather-term .ensures .1 .1 }
+    record {
+      walked = after-gather-term .result;
+      answer = ap (finished (start .args .kind) (start .args .end) (start .args .total) (start .args .mark)) (sym (c .enum-told .given .1));
+      free-names = after-gather-term .ensures .0;
+      slices = after-gather-term .ensures .1 .0;
+      words-as = after-gather-term .ensures .1 .1;
+    }
 
 same-length : tie.Need-same-length
 same-length c = returns c .slices .names-same .same-length

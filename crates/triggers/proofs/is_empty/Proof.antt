@@ -26,13 +26,16 @@ same-length c = refl
 
 returns-2 : tie.Need-returns-2
 returns-2 c =
-    let start = c .before .before .before .before .before .before .before .before .before .before in
-    let after-pattern-groups = c .before .before .before .before .pattern-groups in
+    let at-if1 = c .before .before in
+    let at-pattern-groups = at-if1 .before .before in
+    let start = at-pattern-groups .before .before .before .before .before .before in
+    let after-pattern-groups = at-pattern-groups .pattern-groups in
     let a = start .args in
     let patterns = after-pattern-groups .ensures in
-    let some = c .before .before .if1 .left in
+    let some = at-if1 .if1 .left in
     let all = all-there (start .pre .0) (start .pre .2) (patterns .0) some refl (patterns .2) in
-    let words = asked-more (a .refs .now) (a .used) (a .many) (a .names .now) (a .rows .now) (a .out .now) (a .t) (a .mark) (patterns .0) some (c .if2 .taken) in
+    let words = asked-more (a .refs .now) (a .used) (a .many) (a .names .now) (a .rows .now) (a .out .now) (a .t) (a .mark) (patterns .0) some
+    (c .if2 .taken) in
     (λ exclude name d. empty-more (start .pre .0) (start .pre .2) all some (c .if2 .taken) exclude name, (tables-kept _ _ _ (start .pre .1 .fresh), words))
 
 same-length-2 : tie.Need-same-length-2

@@ -27,8 +27,12 @@ end-requires c κs =
 
 returns : tie.Need-returns
 returns c =
-    let start = c .before .before .before .before .before in
-    patterns-read (start .args .rows .now) (start .args .used) (start .args .many) (start .args .t) (c .before .before .before .group-count .ensures) (c .before .before .bare .ensures) (c .before .start .ensures) (c .end .ensures)
+    let at-start = c .before in
+    let at-bare = at-start .before in
+    let at-group-count = at-bare .before in
+    let start = at-group-count .before .before in
+    patterns-read (start .args .rows .now) (start .args .used) (start .args .many) (start .args .t) (at-group-count .group-count .ensures)
+    (at-bare .bare .ensures) (at-start .start .ensures) (c .end .ensures)
 
 pub pattern-groups-spec : {M : Type 1} → statement M
 pattern-groups-spec =

@@ -16,7 +16,8 @@ abbrev Inv-loop : tie.InvT-loop
 Inv-loop names₀ refs rows₀ out₀ named used many a e mark at end₀ count₀ i₀ names rows out end count i =
     (a ≤ i)
     × (i ≤ e)
-    × Comes names₀ rows₀ out₀ names rows out named mark at (list-sets refs rows₀ used many a i) (file-parts refs used many (filing names₀ rows₀ out₀ mark at) (terms-of-words (part refs a i))) (list-count refs rows₀ a i) (filed.Sets count end)
+    × Comes names₀ rows₀ out₀ names rows out named mark at (list-sets refs rows₀ used many a i)
+    (file-parts refs used many (filing names₀ rows₀ out₀ mark at) (terms-of-words (part refs a i))) (list-count refs rows₀ a i) (filed.Sets count end)
 
 abbrev μ-loop : tie.MeasureT-loop
 μ-loop names₀ refs rows₀ out₀ named used many a e mark at end₀ count₀ i₀ names rows out end count i = e - i
@@ -35,12 +36,21 @@ sub-triggers-of-term : tie.Need-sub-triggers-of-term Inv-loop μ-loop
 sub-triggers-of-term c = comes-ends (c .before .before .before .before .before .loop .inv .2) .0
 
 add-triggers-of-term : tie.Need-add-triggers-of-term Inv-loop μ-loop
-add-triggers-of-term c = omega (arith, c .before .before .before .before .before .before .before .before .before .before .pre .1 .few-marks, comes-ends (c .before .before .before .before .before .loop .inv .2) .0, comes-ends (c .before .before .before .before .before .loop .inv .2) .1)
+add-triggers-of-term c =
+    let at-loop = c .before .before .before .before .before in
+    let entry = at-loop .before .before .before .before .before in
+    omega (arith, entry .pre .1 .few-marks, comes-ends (at-loop .loop .inv .2) .0, comes-ends (at-loop .loop .inv .2) .1)
 
 triggers-of-term-requires : tie.Need-triggers-of-term-requires Inv-loop μ-loop
 triggers-of-term-requires c κs =
-    let start = c .before .before .before .before .before .before .before .before .before .before in
-    (rows-marked (c .before .before .before .before .before .loop .inv .2 .filled .rows-same) (start .pre .0), opened-then (start .pre .1) (c .before .before .before .before .before .loop .inv .2), omega (arith, c .before .before .before .reference .ensures, start .pre .4 (c .before .before .before .before .before .loop .i) (c .before .before .before .before .before .loop .inv .0) (c .before .before .before .before .loop-test .taken)))
+    let at-reference = c .before .before .before in
+    let at-loop-test = at-reference .before in
+    let at-loop = at-loop-test .before in
+    let start = at-loop .before .before .before .before .before in (
+      rows-marked (at-loop .loop .inv .2 .filled .rows-same) (start .pre .0),
+      opened-then (start .pre .1) (at-loop .loop .inv .2),
+      omega (arith, at-reference .reference .ensures, start .pre .4 (at-loop .loop .i) (at-loop .loop .inv .0) (at-loop-test .loop-test .taken)),
+    )
 
 enum-known-more : tie.Need-enum-known-more Inv-loop μ-loop
 enum-known-more c = c .match .keys1
@@ -50,8 +60,17 @@ enum-told c = c .match .keys2
 
 returns : tie.Need-returns Inv-loop μ-loop
 returns c =
-    let start = c .before .before .before .before .before .before .before .before .before .before .before .before .before .before .before .before .before .before .before in
-    posts (list-full (start .pre .0) (start .pre .1) (start .pre .3) (c .before .before .before .before .before .before .before .before .before .before .before .before .before .before .loop .inv .0) (c .before .before .before .before .before .before .before .before .before .before .before .before .before .loop-test .taken) (c .before .before .before .before .before .before .before .before .before .before .before .before .reference .ensures) (omega (arith, c .before .before .before .before .before .before .before .before .before .before .before .before .reference .ensures, start .pre .4 (c .before .before .before .before .before .before .before .before .before .before .before .before .before .before .loop .i) (c .before .before .before .before .before .before .before .before .before .before .before .before .before .before .loop .inv .0) (c .before .before .before .before .before .before .before .before .before .before .before .before .before .loop-test .taken))) (c .before .before .before .before .before .before .before .before .before .before .before .before .before .before .loop .inv .2) (comes-of _ (c .before .before .before .before .before .before .before .before .triggers-of-term .ensures)) (c .enum-told .given .1))
+    let at-triggers-of-term = c .before .before .before .before .before .before .before .before in
+    let at-reference = at-triggers-of-term .before .before .before .before in
+    let at-loop-test = at-reference .before in
+    let at-loop = at-loop-test .before in
+    let start = at-loop .before .before .before .before .before in
+    posts (list-full (start .pre .0) (start .pre .1) (start .pre .3) (at-loop .loop .inv .0) (at-loop-test .loop-test .taken)
+    (at-reference .reference .ensures) (omega (
+      arith,
+      at-reference .reference .ensures,
+      start .pre .4 (at-loop .loop .i) (at-loop .loop .inv .0) (at-loop-test .loop-test .taken),
+    )) (at-loop .loop .inv .2) (comes-of _ (at-triggers-of-term .triggers-of-term .ensures)) (c .enum-told .given .1))
 
 same-length : tie.Need-same-length Inv-loop μ-loop
 same-length c = returns c .1 .0 .names-same .same-length
@@ -63,7 +82,17 @@ same-length-3 : tie.Need-same-length-3 Inv-loop μ-loop
 same-length-3 c = returns c .1 .0 .out-same .same-length
 
 add-count : tie.Need-add-count Inv-loop μ-loop
-add-count c = omega (arith, comes-ends (c .before .before .before .before .before .before .before .before .before .before .before .before .before .before .before .loop .inv .2) .1, comes-ends (c .before .before .before .before .before .before .before .before .before .before .before .before .before .before .before .loop .inv .2) .2, comes-ends (comes-is (c .before .more .given .1) (comes-of _ (c .before .before .before .before .before .before .before .before .before .triggers-of-term .ensures))) .1, comes-ends (comes-is (c .before .more .given .1) (comes-of _ (c .before .before .before .before .before .before .before .before .before .triggers-of-term .ensures))) .2)
+add-count c =
+    let at-more = c .before in
+    let at-triggers-of-term = at-more .before .before .before .before .before .before .before .before in
+    let at-loop = at-triggers-of-term .before .before .before .before .before .before in
+    omega (
+      arith,
+      comes-ends (at-loop .loop .inv .2) .1,
+      comes-ends (at-loop .loop .inv .2) .2,
+      comes-ends (comes-is (at-more .more .given .1) (comes-of _ (at-triggers-of-term .triggers-of-term .ensures))) .1,
+      comes-ends (comes-is (at-more .more .given .1) (comes-of _ (at-triggers-of-term .triggers-of-term .ensures))) .2,
+    )
 
 add-i : tie.Need-add-i Inv-loop μ-loop
 add-i c = omega arith
@@ -73,13 +102,25 @@ loop-less c = omega arith
 
 loop-again : tie.Need-loop-again Inv-loop μ-loop
 loop-again c =
-    let start = c .before .before .before .before .before .before .before .before .before .before .before .before .before .before .before .before .before .before .before .before in
-    (omega (arith, c .before .before .before .before .before .before .before .before .before .before .before .before .before .before .before .loop .inv .0), omega (arith, c .before .before .before .before .before .before .before .before .before .before .before .before .before .before .loop-test .taken), list-next (start .pre .0) (start .pre .1) (start .pre .3) (c .before .before .before .before .before .before .before .before .before .before .before .before .before .before .before .loop .inv .0) (c .before .before .before .before .before .before .before .before .before .before .before .before .before .before .loop-test .taken) (c .before .before .before .before .before .before .before .before .before .before .before .before .before .reference .ensures) (omega (arith, c .before .before .before .before .before .before .before .before .before .before .before .before .before .reference .ensures, start .pre .4 (c .before .before .before .before .before .before .before .before .before .before .before .before .before .before .before .loop .i) (c .before .before .before .before .before .before .before .before .before .before .before .before .before .before .before .loop .inv .0) (c .before .before .before .before .before .before .before .before .before .before .before .before .before .before .loop-test .taken))) (c .before .before .before .before .before .before .before .before .before .before .before .before .before .before .before .loop .inv .2) (comes-of _ (c .before .before .before .before .before .before .before .before .before .triggers-of-term .ensures)) (c .before .more .given .1))
+    let at-more = c .before in
+    let at-triggers-of-term = at-more .before .before .before .before .before .before .before .before in
+    let at-reference = at-triggers-of-term .before .before .before .before in
+    let at-loop-test = at-reference .before in
+    let at-loop = at-loop-test .before in
+    let start = at-loop .before .before .before .before .before in (
+      omega (arith, at-loop .loop .inv .0),
+      omega (arith, at-loop-test .loop-test .taken),
+      list-next (start .pre .0) (start .pre .1) (start .pre .3) (at-loop .loop .inv .0) (at-loop-test .loop-test .taken) (at-reference .reference .ensures)
+          (omega (arith, at-reference .reference .ensures, start .pre .4 (at-loop .loop .i) (at-loop .loop .inv .0) (at-loop-test .loop-test .taken)))
+          (at-loop .loop .inv .2) (comes-of _ (at-triggers-of-term .triggers-of-term .ensures)) (at-more .more .given .1),
+    )
 
 returns-2 : tie.Need-returns-2 Inv-loop μ-loop
 returns-2 c =
-    let start = c .before .before .before .before .before .before in
-    posts (list-done (start .pre .0) (start .pre .1) (start .pre .3) (c .before .loop .inv .0) (c .before .loop .inv .1) (c .loop-test .left) (c .before .loop .inv .2))
+    let at-loop = c .before in
+    let start = at-loop .before .before .before .before .before in
+    posts (list-done (start .pre .0) (start .pre .1) (start .pre .3) (at-loop .loop .inv .0) (at-loop .loop .inv .1) (c .loop-test .left)
+    (at-loop .loop .inv .2))
 
 same-length-4 : tie.Need-same-length-4 Inv-loop μ-loop
 same-length-4 c = returns-2 c .1 .0 .names-same .same-length

@@ -21,7 +21,10 @@ Inv-loop names₀ refs rows₀ out₀ named used many t mark at groups a₀ e en
     All refs rows₀ used many t groups (bare-of rows₀ t) e
     × (g ≤ groups)
     × Before refs (row-start rows₀ (bare-of rows₀ t) + 1) (row-end rows₀ used many (bare-of rows₀ t)) g a
-    × Comes names₀ rows₀ out₀ names rows out named mark at (λ exclude name. map (group-names exclude (terms-of name refs rows₀ used many)) (groups-of-words (patterns refs rows₀ used many (bare-of rows₀ t)) g)) (fold-left (file-list refs used many) (filing names₀ rows₀ out₀ mark at) (groups-of-words (patterns refs rows₀ used many (bare-of rows₀ t)) g)) g (filed.Sets g end)
+    × Comes names₀ rows₀ out₀ names rows out named mark at (λ exclude name. map (group-names exclude (terms-of name refs rows₀ used many))
+    (groups-of-words (patterns refs rows₀ used many (bare-of rows₀ t)) g))
+    (fold-left (file-list refs used many) (filing names₀ rows₀ out₀ mark at) (groups-of-words (patterns refs rows₀ used many (bare-of rows₀ t)) g)) g
+    (filed.Sets g end)
 
 abbrev μ-loop : tie.MeasureT-loop
 μ-loop names₀ refs rows₀ out₀ named used many t mark at groups a₀ e end₀ g₀ names rows out a end g = groups - g
@@ -46,21 +49,28 @@ loop-holds c =
     (all, omega arith, groups-first (start .pre .0) all (c .before .pattern-groups .ensures .1), groups-start _ _ _ (start .pre .1))
 
 group-end-requires : tie.Need-group-end-requires Inv-loop μ-loop
-group-end-requires c κs = groups-asks (c .before .before .before .before .before .before .before .before .before .pre .0) (c .before .loop .inv .0) (c .before .loop .inv .2)
+group-end-requires c κs =
+    let at-loop = c .before in
+    let entry = at-loop .before .before .before .before .before .before .before .before in
+    groups-asks (entry .pre .0) (at-loop .loop .inv .0) (at-loop .loop .inv .2)
 
 sub-file-list : tie.Need-sub-file-list Inv-loop μ-loop
 sub-file-list c = comes-ends (c .before .before .before .before .before .loop .inv .3) .0
 
 add-file-list : tie.Need-add-file-list Inv-loop μ-loop
 add-file-list c =
-    let ends = comes-ends (c .before .before .before .before .before .loop .inv .3) in
-    omega (arith, c .before .before .before .before .before .before .before .before .before .before .before .before .before .pre .1 .few-marks, ends .0, ends .1)
+    let at-loop = c .before .before .before .before .before in
+    let entry = at-loop .before .before .before .before .before .before .before .before in
+    let ends = comes-ends (at-loop .loop .inv .3) in
+    omega (arith, entry .pre .1 .few-marks, ends .0, ends .1)
 
 file-list-requires : tie.Need-file-list-requires Inv-loop μ-loop
 file-list-requires c κs =
-    let start = c .before .before .before .before .before .before .before .before .before .before .before .before .before in
-    let asks = group-asks (start .pre .0) (c .before .before .before .before .before .loop .inv .0) (c .before .before .before .before .before .loop .inv .2) (c .before .before .before .group-end .ensures) in
-    (rows-marked (c .before .before .before .before .before .loop .inv .3 .filled .rows-same) (start .pre .0), opened-then (start .pre .1) (c .before .before .before .before .before .loop .inv .3), asks .0, asks .1, asks .2)
+    let at-group-end = c .before .before .before in
+    let at-loop = at-group-end .before .before in
+    let start = at-loop .before .before .before .before .before .before .before .before in
+    let asks = group-asks (start .pre .0) (at-loop .loop .inv .0) (at-loop .loop .inv .2) (at-group-end .group-end .ensures) in
+    (rows-marked (at-loop .loop .inv .3 .filled .rows-same) (start .pre .0), opened-then (start .pre .1) (at-loop .loop .inv .3), asks .0, asks .1, asks .2)
 
 enum-known-next : tie.Need-enum-known-next Inv-loop μ-loop
 enum-known-next c = c .match .keys1
@@ -70,8 +80,14 @@ enum-told c = c .match .keys2
 
 returns-2 : tie.Need-returns-2 Inv-loop μ-loop
 returns-2 c =
-    let start = c .before .before .before .before .before .before .before .before .before .before .before .before .before .before .before .before .before .before .before .before .before .before in
-    posts (groups-full (start .pre .0) (c .before .before .before .before .before .before .before .before .before .before .before .before .before .before .loop .inv .0) (start .pre .2) (c .before .before .before .before .before .before .before .before .before .before .before .before .before .loop-test .taken) (c .enum-told .given .1) (groups-then (start .pre .0) (c .before .before .before .before .before .before .before .before .before .before .before .before .before .before .loop .inv .0) (c .before .before .before .before .before .before .before .before .before .before .before .before .before .before .loop .inv .2) (c .before .before .before .before .before .before .before .before .before .before .before .before .group-end .ensures) (start .pre .1 .high) (c .before .before .before .before .before .before .before .before .before .before .before .before .before .before .loop .inv .3) (comes-of _ (c .before .before .before .before .before .before .before .before .file-list .ensures))))
+    let at-file-list = c .before .before .before .before .before .before .before .before in
+    let at-group-end = at-file-list .before .before .before .before in
+    let at-loop-test = at-group-end .before in
+    let at-loop = at-loop-test .before in
+    let start = at-loop .before .before .before .before .before .before .before .before in
+    posts (groups-full (start .pre .0) (at-loop .loop .inv .0) (start .pre .2) (at-loop-test .loop-test .taken) (c .enum-told .given .1)
+    (groups-then (start .pre .0) (at-loop .loop .inv .0) (at-loop .loop .inv .2) (at-group-end .group-end .ensures) (start .pre .1 .high)
+    (at-loop .loop .inv .3) (comes-of _ (at-file-list .file-list .ensures))))
 
 same-length-2 : tie.Need-same-length-2 Inv-loop μ-loop
 same-length-2 c = returns-2 c .1 .0 .names-same .same-length
@@ -90,8 +106,18 @@ loop-less c = omega arith
 
 loop-again : tie.Need-loop-again Inv-loop μ-loop
 loop-again c =
-    let start = c .before .before .before .before .before .before .before .before .before .before .before .before .before .before .before .before .before .before .before .before .before .before .before in
-    (c .before .before .before .before .before .before .before .before .before .before .before .before .before .before .before .loop .inv .0, omega arith, groups-next (start .pre .0) (c .before .before .before .before .before .before .before .before .before .before .before .before .before .before .before .loop .inv .0) (c .before .before .before .before .before .before .before .before .before .before .before .before .before .before .before .loop .inv .2) (c .before .before .before .before .before .before .before .before .before .before .before .before .before .group-end .ensures), groups-again (c .before .before .before .before .before .before .before .before .before .before .before .before .before .before .before .loop .g) (c .before .next .given .1) (comes-of _ (c .before .before .before .before .before .before .before .before .before .file-list .ensures)) (groups-then (start .pre .0) (c .before .before .before .before .before .before .before .before .before .before .before .before .before .before .before .loop .inv .0) (c .before .before .before .before .before .before .before .before .before .before .before .before .before .before .before .loop .inv .2) (c .before .before .before .before .before .before .before .before .before .before .before .before .before .group-end .ensures) (start .pre .1 .high) (c .before .before .before .before .before .before .before .before .before .before .before .before .before .before .before .loop .inv .3) (comes-of _ (c .before .before .before .before .before .before .before .before .before .file-list .ensures))))
+    let at-next = c .before in
+    let at-file-list = at-next .before .before .before .before .before .before .before .before in
+    let at-group-end = at-file-list .before .before .before .before in
+    let at-loop = at-group-end .before .before in
+    let start = at-loop .before .before .before .before .before .before .before .before in (
+      at-loop .loop .inv .0,
+      omega arith,
+      groups-next (start .pre .0) (at-loop .loop .inv .0) (at-loop .loop .inv .2) (at-group-end .group-end .ensures),
+      groups-again (at-loop .loop .g) (at-next .next .given .1) (comes-of _ (at-file-list .file-list .ensures))
+          (groups-then (start .pre .0) (at-loop .loop .inv .0) (at-loop .loop .inv .2) (at-group-end .group-end .ensures) (start .pre .1 .high)
+          (at-loop .loop .inv .3) (comes-of _ (at-file-list .file-list .ensures))),
+    )
 
 returns-3 : tie.Need-returns-3 Inv-loop μ-loop
 returns-3 c =

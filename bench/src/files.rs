@@ -1,0 +1,190 @@
+//! The files that are timed.
+
+use std::fs;
+use std::io;
+use std::path::Path;
+
+use compare::export::export;
+use compare::text::Text;
+
+/// Where a file comes from.
+#[derive(Clone, Copy, PartialEq, Eq)]
+pub enum Sort {
+    Export,
+    Real,
+    Ugly,
+}
+
+/// A file that is timed.
+pub struct Sample {
+    pub name: String,
+    pub sort: Sort,
+    pub file: Vec<u8>,
+}
+
+/// The seed of the files that look like exports.
+pub const EXPORT_SEED: u64 = 1;
+
+/// Files that look like what F* exports.
+pub fn exports() -> Vec<Sample> {
+    let sample = |(name, bytes): (&str, usize)| Sample {
+        name: format!("export-like, {name}"),
+        sort: Sort::Export,
+        file: export(EXPORT_SEED, bytes),
+    };
+    [("2 KB", 2_000), ("16 KB", 16_000), ("65 KB", 65_535)].map(sample).into()
+}
+
+/// Every `.in` of a folder, by name.
+pub fn real(folder: &Path) -> io::Result<Vec<Sample>> {
+    let mut samples = Vec::new();
+    for entry in fs::read_dir(folder)? {
+        let path = entry?.path();
+        if path.extension().is_some_and(|extension| extension == "in") {
+            let name = path.file_stem().unwrap_or_default().to_string_lossy().into_owned();
+            samples.push(Sample { name, sort: Sort::Real, file: fs::read(&path)? });
+        }
+    }
+    samples.sort_by(|left, right| left.name.cmp(&right.name));
+    Ok(samples)
+}
+
+/// Files that ask for much work.
+pub fn ugly() -> Vec<Sample> {
+    let files: [(&str, Vec<u8>); 9] = [
+        ("a deep chain named by a thousand records", deep_chain()),
+        ("a wide term named by a thousand records", wide_term()),
+        ("an `and` of references to a run of labels", labels()),
+        ("1,024 rounds", rounds()),
+        ("names in descending order", descending()),
+        ("names that share 250 bytes", long_names()),
+        ("thousands of empty groups", empty_groups()),
+        ("refused at the last line", refused_last()),
+        ("no file at all", Vec::new()),
+    ];
+    files.map(|(name, file)| Sample { name: name.to_owned(), sort: Sort::Ugly, file }).into()
+}
+
+/// Each term names the one before twice, and each record the last.
+fn deep_chain() -> Vec<u8> {
+    let mut text = Text::ask(0, 4);
+    let mut last = text.free("p");
+    for _ in 0..2_300 {
+        last = text.call("f", &[last, last]);
+    }
+    for index in 0..500 {
+        text.assume(format!("a{index}"), 0, last);
+        text.root(0, "r", last);
+    }
+    text.finish()
+}
+
+/// A term that names another 16,000 times, and each record names it.
+fn wide_term() -> Vec<u8> {
+    let mut text = Text::ask(0, 4);
+    let part = text.free("p");
+    let wide = text.op("and", &vec![part; 16_000]);
+    for index in 0..1_000 {
+        text.assume(format!("a{index}"), 0, wide);
+    }
+    text.root(0, "r", part);
+    text.finish()
+}
+
+/// Each part comes down to an `all` of no group through 2,000 labels, asked by many facts.
+fn labels() -> Vec<u8> {
+    let mut text = Text::ask(0, 0);
+    let body = text.free("p");
+    let mut inner = text.all(body, &[]);
+    for _ in 0..2_000 {
+        inner = text.label(inner);
+    }
+    let conjunction = text.op("and", &vec![inner; 5_000]);
+    for index in 0..800 {
+        text.assume(format!("a{index}"), 0, conjunction);
+    }
+    text.root(0, "r", conjunction);
+    text.finish()
+}
+
+/// Each fact brings the next.
+fn rounds() -> Vec<u8> {
+    let mut text = Text::ask(0, 0);
+    let mut term = text.free("p0");
+    text.root(0, "p0", term);
+    for index in 1..1_024 {
+        let next = text.free(format!("p{index}"));
+        let fact = text.all(next, &[vec![term]]);
+        text.assume(format!("a{}", 1_024 - index), 0, fact);
+        term = next;
+    }
+    text.finish()
+}
+
+/// Each name comes before all that were spelled.
+fn descending() -> Vec<u8> {
+    let mut text = Text::ask(0, 0);
+    for index in (0..2_048).rev() {
+        text.free(format!("Head.Strobe.n{index:04}"));
+    }
+    text.finish()
+}
+
+/// Names that differ only behind their 250th byte, spelled twice.
+fn long_names() -> Vec<u8> {
+    let mut text = Text::ask(0, 0);
+    let start = "n".repeat(250);
+    for index in 0..240 {
+        text.free(format!("{start}{:05}", index % 120));
+    }
+    text.finish()
+}
+
+/// An `all` and a `some` of groups that name nothing.
+fn empty_groups() -> Vec<u8> {
+    let mut text = Text::ask(0, 0);
+    let body = text.free("p");
+    let some = text.some(body, &vec![Vec::new(); 25_000]);
+    let all = text.all(some, &vec![Vec::new(); 2_000]);
+    text.assume("a", 0, all);
+    text.root(0, "r", all);
+    text.finish()
+}
+
+/// A long file whose last line has no newline.
+fn refused_last() -> Vec<u8> {
+    let mut file = export(EXPORT_SEED, 65_000);
+    file.pop();
+    file
+}
+
+#[cfg(test)]
+mod tests {
+    use super::*;
+    use compare::{filter_file, Outcome};
+
+    #[test]
+    fn ugly_files_are_what_they_say() {
+        for sample in ugly() {
+            let lines = sample.file.iter().filter(|&&byte| byte == b'\n').count() as u32;
+            match (sample.name.as_str(), filter_file(&sample.file)) {
+                ("refused at the last line", answer) => {
+                    assert_eq!(answer, Outcome::Refused { number: 1, place: lines + 1 });
+                }
+                ("no file at all", answer) => assert_eq!(answer, Outcome::Refused { number: 1, place: 1 }),
+                ("1,024 rounds", Outcome::Kept { lines, rounds, .. }) => {
+                    assert_eq!((lines.len(), rounds), (1_023, 1_024))
+                }
+                (name, Outcome::Refused { number, place }) => panic!("{name}: refused, {number}, {place}"),
+                (_, Outcome::Kept { .. }) => {}
+            }
+        }
+    }
+
+    #[test]
+    fn a_folder_is_read_by_name() {
+        let folder = Path::new(env!("CARGO_MANIFEST_DIR")).join("../examples");
+        let names: Vec<String> = real(&folder).unwrap().into_iter().map(|sample| sample.name).collect();
+        assert!(names.len() > 3 && names.is_sorted() && names.contains(&"worked".to_owned()));
+    }
+}

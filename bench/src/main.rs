@@ -1,0 +1,131 @@
+//! Times the proved filter beside the independent version, file by file, in one run.
+//!
+//! `bench [--real DIR] [--document FILE] [--picture FILE] [--quick]` prints a table: over files that look like what F*
+//! exports, over every `.in` of a folder of real queries, and over ugly ones. `--document` also puts it into a document,
+//! between the lines `<!-- table -->` and `<!-- end of table -->`; `--picture` draws time against file size for both.
+//! `--quick` measures shortly, to see that all works. Where valgrind is there, the instructions inside each call are
+//! counted as well: they do not depend on the load of the machine.
+
+mod date;
+mod files;
+mod instructions;
+mod picture;
+mod sides;
+mod table;
+mod timing;
+
+use std::fs;
+use std::io;
+use std::path::{Path, PathBuf};
+use std::process::ExitCode;
+
+use compare::export::export;
+use files::Sample;
+use table::Row;
+use timing::Times;
+
+/// The sizes of the files of the picture.
+const PICTURE_BYTES: [usize; 10] = [2_000, 4_000, 8_000, 16_000, 24_000, 32_000, 40_000, 48_000, 56_000, 65_535];
+
+#[derive(Default)]
+struct Options {
+    real: Option<PathBuf>,
+    document: Option<PathBuf>,
+    picture: Option<PathBuf>,
+    quick: bool,
+}
+
+fn main() -> ExitCode {
+    let args: Vec<String> = std::env::args().skip(1).collect();
+    if let [flag, side, path] = args.as_slice() {
+        if flag == instructions::ONCE {
+            return done(instructions::run_once(side, Path::new(path)));
+        }
+    }
+    let mut options = Options::default();
+    let mut args = args.into_iter();
+    while let Some(arg) = args.next() {
+        match arg.as_str() {
+            "--real" => options.real = args.next().map(PathBuf::from),
+            "--document" => options.document = args.next().map(PathBuf::from),
+            "--picture" => options.picture = args.next().map(PathBuf::from),
+            "--quick" => options.quick = true,
+            _ => {
+                eprintln!("usage: bench [--real DIR] [--document FILE] [--picture FILE] [--quick]");
+                return ExitCode::from(2);
+            }
+        }
+    }
+    done(run(&options))
+}
+
+fn done(result: io::Result<()>) -> ExitCode {
+    match result {
+        Ok(()) => ExitCode::SUCCESS,
+        Err(error) => {
+            eprintln!("bench: {error}");
+            ExitCode::FAILURE
+        }
+    }
+}
+
+fn run(options: &Options) -> io::Result<()> {
+    let mut samples = files::exports();
+    if let Some(folder) = &options.real {
+        samples.extend(files::real(folder)?);
+    }
+    samples.extend(files::ugly());
+
+    let counting = instructions::valgrind();
+    if !counting {
+        eprintln!("valgrind is not there: no instructions are counted");
+    }
+    let mut rows = Vec::new();
+    for sample in &samples {
+        eprintln!("{}", sample.name);
+        rows.push(row(sample, options.quick, counting)?);
+    }
+    let table = format!("{}\n\n{}", conditions(), table::markdown(&rows));
+    println!("{table}");
+
+    if let Some(path) = &options.document {
+        let text = fs::read_to_string(path)?;
+        let text = table::put(&text, &table)
+            .ok_or_else(|| io::Error::other(format!("{} has no place for the table", path.display())))?;
+        fs::write(path, text)?;
+    }
+    if let Some(path) = &options.picture {
+        let points: Vec<(usize, Times)> = PICTURE_BYTES
+            .iter()
+            .map(|&bytes| {
+                eprintln!("a file of {bytes} bytes");
+                let file = export(files::EXPORT_SEED, bytes);
+                (file.len(), timing::time(&file, options.quick))
+            })
+            .collect();
+        fs::write(path, picture::draw(&points))?;
+    }
+    Ok(())
+}
+
+fn row(sample: &Sample, quick: bool, counting: bool) -> io::Result<Row> {
+    let answer = sides::same_answer(&sample.file)
+        .ok_or_else(|| io::Error::other(format!("the two differ on {}", sample.name)))?;
+    Ok(Row {
+        name: sample.name.clone(),
+        sort: sample.sort,
+        bytes: sample.file.len(),
+        answer,
+        times: timing::time(&sample.file, quick),
+        instructions: if counting { Some(instructions::count(&sample.file)?) } else { None },
+    })
+}
+
+/// When and where the table was made.
+fn conditions() -> String {
+    let processor = fs::read_to_string("/proc/cpuinfo").ok().and_then(|text| {
+        let line = text.lines().find(|line| line.starts_with("model name"))?;
+        Some(line.split_once(':')?.1.trim().to_owned())
+    });
+    format!("{}, {}.", date::today(), processor.as_deref().unwrap_or("processor not known"))
+}

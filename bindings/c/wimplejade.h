@@ -1,0 +1,90 @@
+/* The fact filter, proved in Rattle, as a C function.
+ *
+ * The archive is target/staticlib/libwimplejade.a; `rt staticlib wimplejade` proves the crate and writes it. It is for
+ * x86-64 Linux and needs no other library.
+ */
+#ifndef WIMPLEJADE_H
+#define WIMPLEJADE_H
+
+#include <stddef.h>
+#include <stdint.h>
+
+#ifdef __cplusplus
+extern "C" {
+#endif
+
+/* The words that each working slice must have at least. */
+#define WIMPLEJADE_WORKING_WORDS 16384
+
+/* No accepted file keeps more lines: a result slice of so many words is never too short. */
+#define WIMPLEJADE_MOST_KEPT 1024
+
+/* The bytes that a file may have. */
+#define WIMPLEJADE_MOST_BYTES 65535
+
+/* The stack, in bytes, that is enough for every call. What a call really takes is measured by `make stack`. */
+#define WIMPLEJADE_STACK_BYTES (2u << 20)
+
+/* Why a call is refused; the comment says what `place` is then. A line is counted from 1. */
+enum wimplejade_refusal {
+    WIMPLEJADE_ACCEPTED = 0, /* not refused; 0 */
+    WIMPLEJADE_FORM = 1,     /* not a line of the file's form; the line */
+    WIMPLEJADE_NAME = 2,     /* a field is no name; the line */
+    WIMPLEJADE_NUMBER = 3,   /* a field is no number, or outside its range; the line */
+    WIMPLEJADE_TERM = 4,     /* a term number that is not there yet; the line */
+    WIMPLEJADE_REPEATED = 5, /* the name of an earlier assume, fun or def; the line */
+    WIMPLEJADE_LIMIT = 6,    /* the line passes a limit; the line */
+    WIMPLEJADE_WORKING = 7,  /* a working slice is too short; 0 */
+    WIMPLEJADE_ROOM = 8,     /* the result slice is shorter than the kept lines; how many they are */
+    WIMPLEJADE_SIZE = 9      /* the file has more than WIMPLEJADE_MOST_BYTES; 0 */
+};
+
+/* The answer of a call. After a refusal kept, visits and rounds are 0. */
+struct wimplejade_answer {
+    uint32_t refusal; /* one of enum wimplejade_refusal */
+    uint32_t place;
+    uint32_t kept;   /* how many lines are kept */
+    uint32_t visits; /* the trigger entries whose name was met */
+    uint32_t rounds; /* the rounds of the run */
+};
+
+/* Filters a file.
+ *
+ * A slice is passed as a pointer and the number of its elements: bytes of the file, 32-bit words of the others.
+ * `working0` to `working5` are the six working slices, `result` takes the kept line numbers in their order.
+ *
+ * The call always returns, whatever the file holds and however short a slice is. It writes nothing but the slices as
+ * said here, allocates nothing, keeps nothing between calls, and reads and writes no file.
+ *
+ *   accepted       result holds `kept` line numbers from its start, and past them what it held before; the first
+ *                  WIMPLEJADE_WORKING_WORDS words of each working slice are 0, the rest is as before
+ *   refused, 7     every slice is as before
+ *   refused else   result is as before; the working slices as when accepted
+ *
+ * That much is proved, for callers that keep these conditions, which nothing checks:
+ *
+ * - No pointer is null, not even that of an empty slice, and those to words are aligned for uint32_t.
+ * - Each points to as many elements as its count says, in one object, at most PTRDIFF_MAX bytes long. The file may lie
+ *   in memory that cannot be written, the other seven may not.
+ * - The words may hold anything, but have been written once: memory straight from malloc has not, from calloc it has.
+ * - No two of the eight slices overlap, and none overlaps the answer.
+ * - While the call runs, nobody else writes any of the slices, and nobody else reads the seven that it may write: no
+ *   other thread, no signal handler, and, for a mapped file, no other process. Calls on slices of their own may run at
+ *   the same time.
+ * - The thread has WIMPLEJADE_STACK_BYTES of stack left, and a guard page below. Without them a file of deep terms can
+ *   end the process.
+ */
+struct wimplejade_answer wimplejade_filter(const uint8_t *file, size_t file_bytes,
+                                           uint32_t *working0, size_t working0_words,
+                                           uint32_t *working1, size_t working1_words,
+                                           uint32_t *working2, size_t working2_words,
+                                           uint32_t *working3, size_t working3_words,
+                                           uint32_t *working4, size_t working4_words,
+                                           uint32_t *working5, size_t working5_words,
+                                           uint32_t *result, size_t result_words);
+
+#ifdef __cplusplus
+}
+#endif
+
+#endif

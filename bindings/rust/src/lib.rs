@@ -1,0 +1,132 @@
+//! The proved fact filter.
+//!
+//! A file holds terms, facts over them, definitions, declarations, and the roots of a query. The filter keeps the facts
+//! that the roots can touch, as F*'s context pruning does, and with option 4 the definitions and declarations that come
+//! with them. The repository's README describes the file; the filter itself is proved in Rattle and linked here as an
+//! archive.
+//!
+//! ```
+//! let file = b"ask,0,0\nfree,p\nleaf\nall,1,1,1,0\nassume,fact,0,2\nroot,0,goal,0\n";
+//!
+//! let mut filter = wimplejade::Filter::new();
+//! let kept = filter.run(file)?;
+//! assert_eq!(kept.records[0].line, 5);
+//! assert_eq!(kept.records[0].name, b"fact");
+//! assert_eq!((kept.visits, kept.rounds), (1, 2));
+//!
+//! let refusal = filter.run(b"ask,0,8\n").unwrap_err();
+//! assert_eq!(refusal.to_string(), "line 1: a field is no number, or one out of its range");
+//! # Ok::<(), wimplejade::Refusal>(())
+//! ```
+//!
+//! What is proved is the call, [`answer`], over slices that its caller lends. [`filter`] gives its answer as a `Result`,
+//! [`Filter`] lends it slices of its own and finds the names of the kept lines; these and the declaration of the C function
+//! are plain Rust.
+//!
+//! # Stack
+//!
+//! A call takes stack for each level of the deepest term, of which there can be 4,096. [`STACK_BYTES`] is enough for every
+//! file; a thread that Rust starts has as much unless it is told otherwise. A thread with less may end the process, as
+//! every overflow of the stack does.
+
+mod call;
+mod refusal;
+
+pub use call::{answer, filter, Answer, Counts};
+pub use refusal::Refusal;
+
+use std::fmt;
+
+/// Words that each working slice must have.
+pub const WORKING_WORDS: usize = 16_384;
+
+/// The most lines that an accepted file can keep.
+pub const MOST_KEPT: usize = 1_024;
+
+/// The bytes that a file may have.
+pub const MOST_BYTES: usize = 65_535;
+
+/// Stack that is enough for every call.
+pub const STACK_BYTES: usize = 2 << 20;
+
+/// A filter with the slices that a call needs, some 400 KB. It can run any number of files, one after the other.
+#[derive(Clone, Debug)]
+pub struct Filter {
+    working: [Vec<u32>; 6],
+    result: Vec<u32>,
+}
+
+impl Filter {
+    /// A filter whose slices are long enough for every file.
+    pub fn new() -> Self {
+        Filter { working: std::array::from_fn(|_| vec![0; WORKING_WORDS]), result: vec![0; MOST_KEPT] }
+    }
+
+    /// Filters a file.
+    ///
+    /// # Errors
+    ///
+    /// The file is refused: see [`Refusal`]. [`Refusal::Working`] and [`Refusal::Room`] do not occur, since the slices
+    /// are long enough.
+    pub fn run<'f>(&mut self, file: &'f [u8]) -> Result<Kept<'f>, Refusal> {
+        let counts = filter(file, self.working.each_mut().map(Vec::as_mut_slice), &mut self.result)?;
+        let lines: Vec<&[u8]> = file.split(|&byte| byte == b'\n').collect();
+        let record = |&line: &u32| Record { line, name: name(lines[line as usize - 1]) };
+        let records = self.result[..counts.kept as usize].iter().map(record).collect();
+        Ok(Kept { records, visits: counts.visits, rounds: counts.rounds })
+    }
+}
+
+impl Default for Filter {
+    fn default() -> Self {
+        Filter::new()
+    }
+}
+
+/// The name of an assume, def or fun line: its second field.
+fn name(line: &[u8]) -> &[u8] {
+    line.split(|&byte| byte == b',').nth(1).expect("a kept line is an assume, def or fun line")
+}
+
+/// What a file keeps.
+#[derive(Clone, Debug, PartialEq, Eq)]
+pub struct Kept<'f> {
+    /// The kept records in their order: the reached facts by name in byte order, then the ambient facts, last filed first;
+    /// with option 4 the definitions and then the declarations, each group in the order of F*'s pruning.
+    pub records: Vec<Record<'f>>,
+    /// The filed trigger entries whose name was met.
+    pub visits: u32,
+    /// The rounds of the run; the last one triggers no fact.
+    pub rounds: u32,
+}
+
+impl<'f> Kept<'f> {
+    /// The line numbers of the kept records, in their order.
+    pub fn lines(&self) -> impl ExactSizeIterator<Item = u32> + '_ {
+        self.records.iter().map(|record| record.line)
+    }
+
+    /// The names of the kept records, in their order.
+    pub fn names(&self) -> impl ExactSizeIterator<Item = &'f [u8]> + '_ {
+        self.records.iter().map(|record| record.name)
+    }
+}
+
+/// As the program `factfilter` prints it.
+impl fmt::Display for Kept<'_> {
+    fn fmt(&self, out: &mut fmt::Formatter) -> fmt::Result {
+        for Record { line, name } in &self.records {
+            writeln!(out, "kept,{line},{}", String::from_utf8_lossy(name))?;
+        }
+        writeln!(out, "sum,{},{},{}", self.records.len(), self.visits, self.rounds)
+    }
+}
+
+/// A kept record.
+#[derive(Clone, Copy, Debug, PartialEq, Eq)]
+pub struct Record<'f> {
+    /// Its line in the file, from 1.
+    pub line: u32,
+    /// Its name, a part of the file. Names are ASCII.
+    pub name: &'f [u8],
+}

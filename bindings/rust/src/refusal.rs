@@ -1,0 +1,130 @@
+//! Why a call is refused.
+
+use std::error::Error;
+use std::fmt;
+
+/// Why a call is refused. Lines are counted from 1.
+///
+/// A refused call has written nothing to the result slice.
+#[derive(Clone, Copy, Debug, PartialEq, Eq, Hash)]
+pub enum Refusal {
+    /// 1: not a line of the file's form: an unknown kind or op word, fields lacking or left over, `ask` not exactly on
+    /// line 1, no final newline, an empty file.
+    Form { line: u32 },
+    /// 2: a field is no name: 1 to 255 bytes from `!` to `~`, no comma.
+    Name { line: u32 },
+    /// 3: a field is no number, or a query, an options number or a flag is outside its range.
+    Number { line: u32 },
+    /// 4: a term number that is not below the line's own, or that no term line before a record has.
+    Term { line: u32 },
+    /// 5: an assume, fun or def has the name of an earlier one of the three.
+    Repeated { line: u32 },
+    /// 6: the line passes a limit other than the file's bytes.
+    Limit { line: u32 },
+    /// 7: a working slice has fewer than [`WORKING_WORDS`](crate::WORKING_WORDS) words.
+    Working,
+    /// 8: the result slice has fewer words than lines are kept.
+    Room { kept: u32 },
+    /// 9: the file has more than [`MOST_BYTES`](crate::MOST_BYTES) bytes.
+    Size,
+}
+
+impl Refusal {
+    /// The refusal of a number from 1 to 9 at a place.
+    pub(crate) fn of(number: u32, place: u32) -> Option<Self> {
+        Some(match number {
+            1 => Refusal::Form { line: place },
+            2 => Refusal::Name { line: place },
+            3 => Refusal::Number { line: place },
+            4 => Refusal::Term { line: place },
+            5 => Refusal::Repeated { line: place },
+            6 => Refusal::Limit { line: place },
+            7 => Refusal::Working,
+            8 => Refusal::Room { kept: place },
+            9 => Refusal::Size,
+            _ => return None,
+        })
+    }
+
+    /// The number of the refusal, from 1 to 9.
+    pub fn number(&self) -> u32 {
+        match self {
+            Refusal::Form { .. } => 1,
+            Refusal::Name { .. } => 2,
+            Refusal::Number { .. } => 3,
+            Refusal::Term { .. } => 4,
+            Refusal::Repeated { .. } => 5,
+            Refusal::Limit { .. } => 6,
+            Refusal::Working => 7,
+            Refusal::Room { .. } => 8,
+            Refusal::Size => 9,
+        }
+    }
+
+    /// The place of the refusal: the line, for 8 the number of kept lines, for 7 and 9 it is 0.
+    pub fn place(&self) -> u32 {
+        self.line().unwrap_or(match self {
+            Refusal::Room { kept } => *kept,
+            _ => 0,
+        })
+    }
+
+    /// The line that is refused, where one is.
+    pub fn line(&self) -> Option<u32> {
+        match self {
+            Refusal::Form { line }
+            | Refusal::Name { line }
+            | Refusal::Number { line }
+            | Refusal::Term { line }
+            | Refusal::Repeated { line }
+            | Refusal::Limit { line } => Some(*line),
+            Refusal::Working | Refusal::Room { .. } | Refusal::Size => None,
+        }
+    }
+}
+
+/// In words, after the line.
+impl fmt::Display for Refusal {
+    fn fmt(&self, out: &mut fmt::Formatter) -> fmt::Result {
+        if let Some(line) = self.line() {
+            write!(out, "line {line}: ")?;
+        }
+        match self {
+            Refusal::Form { .. } => write!(out, "not a line of a fact file"),
+            Refusal::Name { .. } => write!(out, "a field is no name"),
+            Refusal::Number { .. } => write!(out, "a field is no number, or one out of its range"),
+            Refusal::Term { .. } => write!(out, "no term line before has this number"),
+            Refusal::Repeated { .. } => write!(out, "the name is taken by an earlier assume, fun or def"),
+            Refusal::Limit { .. } => write!(out, "the line passes a limit"),
+            Refusal::Working => write!(out, "a working slice is too short"),
+            Refusal::Room { kept } => write!(out, "the result slice is too short for {kept} kept lines"),
+            Refusal::Size => write!(out, "the file has more than 65,535 bytes"),
+        }
+    }
+}
+
+impl Error for Refusal {}
+
+#[cfg(test)]
+mod tests {
+    use super::*;
+
+    #[test]
+    fn each_number_is_one_refusal() {
+        for number in 1..=9 {
+            let refusal = Refusal::of(number, 12).unwrap();
+            assert_eq!(refusal.number(), number);
+            assert_eq!(refusal.place(), if [7, 9].contains(&number) { 0 } else { 12 });
+            assert_eq!(refusal.line(), (number <= 6).then_some(12));
+        }
+        assert_eq!(Refusal::of(0, 0), None);
+        assert_eq!(Refusal::of(10, 0), None);
+    }
+
+    #[test]
+    fn in_words() {
+        assert_eq!(Refusal::Name { line: 7 }.to_string(), "line 7: a field is no name");
+        assert_eq!(Refusal::Room { kept: 3 }.to_string(), "the result slice is too short for 3 kept lines");
+        assert_eq!(Refusal::Size.to_string(), "the file has more than 65,535 bytes");
+    }
+}

@@ -1,0 +1,139 @@
+//! Calls of the linked library.
+
+use std::error::Error;
+use std::fs;
+use std::path::Path;
+
+use wimplejade::{filter, Counts, Filter, Refusal, MOST_BYTES, WORKING_WORDS};
+
+const WORKED: &[u8] = b"ask,0,4\nfree,p\nfree,q\ncall,f,0\nall,2,1,1,2\nassume,a1,0,3\nfun,f\ndef,g,1\ncall,g\n\
+    op,eq,4,1\nassume,e1,0,5\nop,and,2,4\nroot,0,r,6\n";
+
+/// What a slice that is lent holds before a call.
+const DIRT: u32 = 0xdead_beef;
+
+/// Six working slices of these lengths, and a result slice, all dirty.
+fn lent(words: [usize; 6], room: usize) -> ([Vec<u32>; 6], Vec<u32>) {
+    (words.map(|words| vec![DIRT; words]), vec![DIRT; room])
+}
+
+#[test]
+fn the_worked_example() {
+    let mut filter = Filter::new();
+    let kept = filter.run(WORKED).unwrap();
+    assert_eq!(kept.to_string(), "kept,6,a1\nkept,11,e1\nkept,8,g\nkept,7,f\nsum,4,4,2\n");
+    assert_eq!(kept.lines().collect::<Vec<_>>(), [6, 11, 8, 7]);
+    assert_eq!(kept.names().collect::<Vec<_>>(), [&b"a1"[..], b"e1", b"g", b"f"]);
+}
+
+#[test]
+fn names_are_parts_of_the_file_and_outlive_the_next_run() {
+    let mut filter = Filter::new();
+    let kept = filter.run(WORKED).unwrap();
+    filter.run(b"ask,0,0\n").unwrap();
+    let at = WORKED.windows(3).position(|part| part == b"e1,").unwrap();
+    assert_eq!(kept.records[1].name.as_ptr(), WORKED[at..].as_ptr());
+    assert_eq!(kept.records[1].name, b"e1");
+}
+
+#[test]
+fn a_filter_runs_many_files() {
+    let mut filter = Filter::default();
+    for _ in 0..3 {
+        assert_eq!(filter.run(WORKED).unwrap().records.len(), 4);
+        assert_eq!(filter.run(b"").unwrap_err(), Refusal::Form { line: 1 });
+    }
+}
+
+#[test]
+fn every_refusal_of_the_exporter() {
+    let long = vec![b'\n'; MOST_BYTES + 1];
+    let many = format!("ask,0,0\n{}", "fun,f\n".repeat(2));
+    let records = format!("ask,0,0\n{}", "retain\n".repeat(1_025));
+    let refused: [(&[u8], Refusal); 8] = [
+        (b"", Refusal::Form { line: 1 }),
+        (b"ask,0,0", Refusal::Form { line: 1 }),
+        (b"ask,0,0\nfree,p q\n", Refusal::Name { line: 2 }),
+        (b"ask,256,0\n", Refusal::Number { line: 1 }),
+        (b"ask,0,0\nlabel,0\n", Refusal::Term { line: 2 }),
+        (many.as_bytes(), Refusal::Repeated { line: 3 }),
+        (records.as_bytes(), Refusal::Limit { line: 1_026 }),
+        (&long, Refusal::Size),
+    ];
+    let mut filter = Filter::new();
+    for (file, refusal) in refused {
+        assert_eq!(filter.run(file), Err(refusal));
+    }
+}
+
+#[test]
+fn a_refusal_is_an_error() {
+    fn run(file: &[u8]) -> Result<u32, Box<dyn Error>> {
+        Ok(Filter::new().run(file)?.rounds)
+    }
+    assert_eq!(run(WORKED).unwrap(), 2);
+    assert_eq!(run(b"ask,0,8\n").unwrap_err().to_string(), "line 1: a field is no number, or one out of its range");
+}
+
+#[test]
+fn lent_slices_come_back_as_said() {
+    let lengths = [0, 1, 2, 3, 4, 5].map(|more| WORKING_WORDS + more);
+    let (mut working, mut result) = lent(lengths, 6);
+    let counts = filter(WORKED, working.each_mut().map(Vec::as_mut_slice), &mut result);
+    assert_eq!(counts, Ok(Counts { kept: 4, visits: 4, rounds: 2 }));
+    assert_eq!(result, [6, 11, 8, 7, DIRT, DIRT]);
+    for words in &working {
+        assert!(words[..WORKING_WORDS].iter().all(|&word| word == 0));
+        assert!(words[WORKING_WORDS..].iter().all(|&word| word == DIRT));
+    }
+}
+
+#[test]
+fn a_result_slice_of_exactly_the_kept_lines() {
+    for (room, answer) in [
+        (4, Ok(Counts { kept: 4, visits: 4, rounds: 2 })),
+        (3, Err(Refusal::Room { kept: 4 })),
+        (0, Err(Refusal::Room { kept: 4 })),
+    ] {
+        let (mut working, mut result) = lent([WORKING_WORDS; 6], room);
+        assert_eq!(filter(WORKED, working.each_mut().map(Vec::as_mut_slice), &mut result), answer);
+        assert_eq!(result == vec![DIRT; room], answer.is_err());
+    }
+}
+
+#[test]
+fn a_short_working_slice_touches_nothing() {
+    for short in 0..6 {
+        let mut lengths = [WORKING_WORDS; 6];
+        lengths[short] -= 1;
+        let (mut working, mut result) = lent(lengths, 6);
+        let refused = filter(b"", working.each_mut().map(Vec::as_mut_slice), &mut result);
+        assert_eq!(refused, Err(Refusal::Working));
+        assert_eq!((working, result), lent(lengths, 6));
+    }
+}
+
+#[test]
+fn the_examples() {
+    let folder = Path::new(env!("CARGO_MANIFEST_DIR")).join("../../examples");
+    let mut filter = Filter::new();
+    let mut count = 0;
+    for entry in fs::read_dir(&folder).unwrap() {
+        let path = entry.unwrap().path();
+        if path.extension().is_some_and(|extension| extension == "in") {
+            let expected = fs::read_to_string(path.with_extension("out")).unwrap();
+            assert_eq!(filter.run(&fs::read(&path).unwrap()).unwrap().to_string(), expected, "{}", path.display());
+            count += 1;
+        }
+    }
+    assert!(count >= 4, "{count} examples");
+}
+
+#[test]
+fn the_deepest_term_fits_the_stack() {
+    let chain: String = (0..4_095).map(|term| format!("call,f,{term}\n")).collect();
+    let file = format!("ask,0,0\nfree,p\n{chain}assume,a,0,4095\nroot,0,r,4095\n");
+    let run = move || Filter::new().run(file.as_bytes()).map(|kept| kept.records.len());
+    let thread = std::thread::Builder::new().stack_size(wimplejade::STACK_BYTES).spawn(run).unwrap();
+    assert_eq!(thread.join().unwrap(), Ok(1));
+}

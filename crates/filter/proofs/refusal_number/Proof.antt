@@ -1,0 +1,81 @@
+-- `filter::refusal_number` meets its contract.
+use Rattle.filter.proofs.Answers.{numbers, number-is}
+use Rattle.filter.proofs.refusal_number.Statement.{statement}
+use Rattle.filter.proofs.refusal_number.Tie as tie
+
+enum-told : tie.Need-enum-told
+enum-told c = c .match .keys1
+
+enum-told-2 : tie.Need-enum-told-2
+enum-told-2 c = c .match .keys2
+
+enum-told-3 : tie.Need-enum-told-3
+enum-told-3 c = c .match .keys3
+
+enum-told-4 : tie.Need-enum-told-4
+enum-told-4 c = c .match .keys4
+
+enum-told-5 : tie.Need-enum-told-5
+enum-told-5 c = c .match .keys5
+
+enum-told-6 : tie.Need-enum-told-6
+enum-told-6 c = c .match .keys6
+
+enum-told-7 : tie.Need-enum-told-7
+enum-told-7 c = c .match .keys7
+
+enum-told-8 : tie.Need-enum-told-8
+enum-told-8 c = c .match .keys8
+
+enum-told-9 : tie.Need-enum-told-9
+enum-told-9 c = c .match .keys9
+
+returns : tie.Need-returns
+returns c = number-is (c .enum-told .given .1) (numbers .0)
+
+returns-2 : tie.Need-returns-2
+returns-2 c = number-is (c .enum-told2 .given .1) (numbers .1)
+
+returns-3 : tie.Need-returns-3
+returns-3 c = number-is (c .enum-told3 .given .1) (numbers .2)
+
+returns-4 : tie.Need-returns-4
+returns-4 c = number-is (c .enum-told4 .given .1) (numbers .3)
+
+returns-5 : tie.Need-returns-5
+returns-5 c = number-is (c .enum-told5 .given .1) (numbers .4)
+
+returns-6 : tie.Need-returns-6
+returns-6 c = number-is (c .enum-told6 .given .1) (numbers .5)
+
+returns-7 : tie.Need-returns-7
+returns-7 c = number-is (c .enum-told7 .given .1) (numbers .6)
+
+returns-8 : tie.Need-returns-8
+returns-8 c = number-is (c .enum-told8 .given .1) (numbers .7)
+
+returns-9 : tie.Need-returns-9
+returns-9 c = number-is (c .enum-told9 .given .1) (numbers .8)
+
+pub refusal-number-spec : {M : Type 1} → statement M
+refusal-number-spec =
+    tie.close
+    (tie.spec
+    enum-told
+    enum-told-2
+    enum-told-3
+    enum-told-4
+    enum-told-5
+    enum-told-6
+    enum-told-7
+    enum-told-8
+    enum-told-9
+    returns
+    returns-2
+    returns-3
+    returns-4
+    returns-5
+    returns-6
+    returns-7
+    returns-8
+    returns-9)

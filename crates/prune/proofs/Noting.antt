@@ -1,0 +1,207 @@
+-- Names noted: the lists of items one after the other, and the stamps that stand in the slice then.
+use Prim.Native.Nat.{ℕ, suc, _+_, _-_, _≤_, _<_}
+use native.Mathlib.Omega.{arith}
+use mathlib.Core.Path.{_≡_, refl, sym, _∙_, ap}
+use mathlib.Core.Bool.{Bool, true, false, cond}
+use mathlib.Core.List.{List, [], _∷_, _++_, map, List·Memᴰ, List·Memᴰ·head, List·Memᴰ·tail, Memᴰ·cast}
+use lib.Dec.{T, eqb, ltb, not-T, eqb→eq, ltb→lt}
+use lib.ListN.{length, getD}
+use borrow.Author.Tests.{eq-eqb}
+use Rattle.model.specs.Lists.{keep, part}
+use Rattle.model.specs.Reading.{most-records}
+use Rattle.model.specs.declared.Counts.{Counts}
+use Rattle.model.proofs.ListLaws.{cond-case, true-T, any-intro, any-elim}
+use Rattle.model.proofs.PartLaws.{part-cons, part-nil, part-elim}
+use Rattle.words.specs.Slices.{word-limit}
+use Rattle.records.specs.Columns.{uses-start, uses-end}
+use Rattle.records.specs.States.{uses-at}
+use Rattle.scan.specs.Steps.{marks, is-met}
+use Rattle.scan.proofs.Marks.{marks-length, marks-old, marks-out, met-in, new-intro}
+use Rattle.prune.specs.Listing.{from, is-goal, goal-records, has, stamped}
+use Rattle.prune.specs.Loops.{kept-column, most-stamps, noted, Notes}
+use Rattle.prune.proofs.Picking.{kept-skip, kept-take, kept-end}
+
+-- ---- one record
+
+-- another slice of the same length
+pub notes-then : {recs out run v : List ℕ} {k : Counts} → Notes recs out run k → length v ≡ length run → Notes recs out v k
+notes-then n e = let r = n .room in record { recorded = n .recorded; few = n .few; room = omega arith }
+
+module _ {recs out run : List ℕ} {k : Counts} (n : Notes recs out run k) {i : ℕ} (h : i < k .records) where
+  -- the free names of a record are names of the table
+  pub uses-small : {m : ℕ} → List·Memᴰ m (uses-at recs out i) → m < k .named
+  uses-small q =
+      let a = n .recorded .uses-in i h in
+      let b = n .recorded .few-uses in
+      let c = n .recorded .out-room in
+      let p = part-elim {l = out} {a = uses-start recs i} {e = uses-end recs i} (omega arith) q in
+      let d = p .high in
+      let s = n .recorded .use-words (p .place) (omega arith) in
+      let e = p .is in
+      omega arith
+
+  -- where they stand
+  pub uses-place : {a e s : ℕ} → a ≡ uses-start recs i → e ≡ uses-end recs i → s ≤ most-stamps
+      → (a ≤ e) × (e ≤ length out) × ((j : ℕ) → a ≤ j → j < e → getD out j 0 < length run) × (s < word-limit)
+  uses-place {a} {e} {s} p q l =
+      let up = n .recorded .rising i h in
+      let low = n .recorded .uses-in i h in
+      let few = n .recorded .few-uses in
+      let room = n .recorded .out-room in
+      (omega arith, omega arith, λ j b d. let w = n .recorded .use-words j (omega arith) in let m = n .few in let r = n .room in omega arith, omega arith)
+
+pub record-noted : (recs out run v : List ℕ) (i a e s : ℕ) → a ≡ uses-start recs i → e ≡ uses-end recs i → v ≡ marks s run (part out a e)
+    → v ≡ marks s run (uses-at recs out i)
+record-noted recs out run v i a e s p q m = rw (← p, ← q) m
+
+-- ---- lists of names
+
+pub noted-length : (s : ℕ) (w : List ℕ) (ls : List (List ℕ)) → length (noted s w ls) ≡ length w
+unfolding noted
+noted-length s w [] = refl
+noted-length s w (l ∷ ls) = noted-length (s + 1) (marks s w l) ls ∙ marks-length s w l
+
+pub noted-append : (s : ℕ) (w : List ℕ) (ls ms : List (List ℕ)) → noted s w (ls ++ ms) ≡ noted (s + length ls) (noted s w ls) ms
+unfolding noted
+noted-append s w [] ms = ap (λ (t : ℕ). noted t w ms) (omega arith)
+noted-append s w (l ∷ ls) ms =
+    noted-append (s + 1) (marks s w l) ls ms ∙ ap (λ (t : ℕ). noted t (noted (s + 1) (marks s w l) ls) ms) (omega arith)
+
+-- a word that no list has stays
+pub noted-out : (s : ℕ) (w : List ℕ) (ls : List (List ℕ)) (i : ℕ) → ((l : List ℕ) → List·Memᴰ l ls → List·Memᴰ i l → ⊥)
+    → getD (noted s w ls) i 0 ≡ getD w i 0
+unfolding noted
+noted-out s w [] i o = refl
+noted-out s w (l ∷ ls) i o =
+    noted-out (s + 1) (marks s w l) ls i (λ m j k. o m (List·Memᴰ·tail j) k) ∙ marks-out s w l i (λ m. o l (List·Memᴰ·head refl) m)
+
+-- a stamp stays
+noted-old : (s : ℕ) (w : List ℕ) (ls : List (List ℕ)) (n : ℕ) → 0 < getD w n 0 → getD (noted s w ls) n 0 ≡ getD w n 0
+unfolding noted
+noted-old s w [] n h = refl
+noted-old s w (l ∷ ls) n h =
+    let e = marks-old s w l n h in noted-old (s + 1) (marks s w l) ls n (omega arith) ∙ e
+
+-- a number that a list has
+has-elim : (n : ℕ) (l : List ℕ) → T (has n l) → List·Memᴰ n l
+unfolding has
+has-elim n l t = let (m, i, e) = any-elim (λ m. eqb m n) l t in Memᴰ·cast (sym (eqb→eq m n e)) i
+
+has-not : (n : ℕ) (l : List ℕ) → has n l ≡ false → List·Memᴰ n l → ⊥
+unfolding has
+has-not n l e m = let t = any-intro (λ m. eqb m n) m (true-T (eq-eqb n n refl)) in absurd (rw e at t)
+
+-- a name without a stamp is noted with that of its list
+first-noted : (s : ℕ) (w l : List ℕ) (n : ℕ) → 0 < s → n < length w → getD w n 0 ≡ 0 → List·Memᴰ n l → getD (marks s w l) n 0 ≡ s
+unfolding is-met
+first-noted s w l n p h z m =
+    new-intro s w l n p h (met-in s w l p h m) (not-T (ltb 0 (getD w n 0)) (λ t. let x = ltb→lt 0 (getD w n 0) t in omega arith))
+
+-- the stamps in a slice that had none are the places of the lists
+pub noted-stamped : (s : ℕ) (w : List ℕ) (ls : List (List ℕ)) (n : ℕ) → 0 < s → n < length w → getD w n 0 ≡ 0
+    → getD (noted s w ls) n 0 ≡ stamped s ls n
+unfolding noted stamped
+noted-stamped s w [] n p h z = z
+noted-stamped s w (l ∷ ls) n p h z = go (has n l) refl (noted-stamped (s + 1) (marks s w l) ls n (omega arith) (rw (marks-length s w l) h))
+  where
+    go : (b : Bool) → has n l ≡ b → (getD (marks s w l) n 0 ≡ 0 → getD (noted (s + 1) (marks s w l) ls) n 0 ≡ stamped (s + 1) ls n)
+        → getD (noted (s + 1) (marks s w l) ls) n 0 ≡ cond b s (stamped (s + 1) ls n)
+    go true e ih =
+        let m = has-elim n l (true-T e) in
+        let f = first-noted s w l n p h z m in
+        noted-old (s + 1) (marks s w l) ls n (omega arith) ∙ f
+    go false e ih = ih (marks-out s w l n (λ m. has-not n l e m) ∙ z)
+
+-- stamps are no higher than the last place
+pub stamped-low : (s : ℕ) (ls : List (List ℕ)) (n : ℕ) → 0 < s → stamped s ls n < s + length ls
+unfolding stamped
+stamped-low s [] n p = omega arith
+stamped-low s (l ∷ ls) n p =
+    let ih = stamped-low (s + 1) ls n (omega arith) in cond-case (λ x. x < s + suc (length ls)) (has n l) (omega arith) (omega arith)
+
+-- ---- the kept facts
+
+-- those from place j on are left
+pub record Facts-to (recs out : List ℕ) (named : ℕ) (w₀ : List ℕ) (count : ℕ) (w : List ℕ) (j : ℕ) : Type 0 where
+  pub high : j ≤ count
+  pub same-length : length w ≡ length w₀
+  pub left : noted 1 w₀ (map (uses-at recs out) (part w₀ kept-column (kept-column + count)))
+      ≡ noted (j + 1) w (map (uses-at recs out) (part w₀ (kept-column + j) (kept-column + count)))
+  pub same : (i : ℕ) → named ≤ i → getD w i 0 ≡ getD w₀ i 0
+
+pub facts-start : (recs out : List ℕ) (named : ℕ) (w : List ℕ) (count : ℕ) → Facts-to recs out named w count w 0
+facts-start recs out named w count = record { high = omega arith; same-length = refl; left = refl; same = λ i h. refl }
+
+module _ {recs out w₀ : List ℕ} {k : Counts} {count : ℕ} {w : List ℕ} {j : ℕ} (n : Notes recs out w₀ k) (few : count ≤ most-records)
+    (f : Facts-to recs out (k .named) w₀ count w j) where
+  -- the fact at place j is still there
+  pub fact-there : {x : ℕ} → x ≡ getD w (kept-column + j) 0 → x ≡ getD w₀ (kept-column + j) 0
+  fact-there e = e ∙ f .same (kept-column + j) (let a = n .few in omega arith)
+
+  pub facts-next : {x : ℕ} {v : List ℕ} → j < count → x ≡ getD w (kept-column + j) 0 → x < k .records
+      → v ≡ marks (j + 1) w (uses-at recs out x) → Facts-to recs out (k .named) w₀ count v (j + 1)
+  unfolding noted
+  facts-next {x} {v} h e s m =
+      let room = n .room in
+      let z : kept-column + j + 1 ≡ kept-column + (j + 1) = omega arith in
+      record {
+        high = omega arith;
+        same-length = ap length m ∙ marks-length (j + 1) w (uses-at recs out x) ∙ f .same-length;
+        left = f .left ∙ rw (part-cons w₀ (kept-column + j) (kept-column + count) (omega arith) (omega arith), ← (fact-there e), z, m);
+        same = λ i l.
+            ap (λ (u : List ℕ). getD u i 0) m
+            ∙ marks-out (j + 1) w (uses-at recs out x) i (λ q. let a = uses-small n s q in omega arith) ∙ f .same i l;
+      }
+
+  pub facts-end : count ≤ j → w ≡ noted 1 w₀ (map (uses-at recs out) (part w₀ kept-column (kept-column + count)))
+  unfolding noted
+  facts-end h = sym (f .left ∙ rw (part-nil w₀ (kept-column + j) (kept-column + count) (omega arith)))
+
+-- ---- the roots of the query
+
+-- those from record i on are left
+pub record Roots-to (recs out : List ℕ) (k : Counts) (w₀ : List ℕ) (m : ℕ) (w : List ℕ) (s i : ℕ) : Type 0 where
+  pub high : i ≤ k .records
+  pub low : s ≤ m + i
+  pub same-length : length w ≡ length w₀
+  pub left : noted (m + 1) w₀ (map (uses-at recs out) (goal-records recs k))
+      ≡ noted (s + 1) w (map (uses-at recs out) (keep (is-goal recs k) (from i (k .records - i))))
+  pub stamps : m + length (goal-records recs k) ≡ s + length (keep (is-goal recs k) (from i (k .records - i)))
+
+pub roots-start : (recs out : List ℕ) (k : Counts) (w : List ℕ) (m : ℕ) → Roots-to recs out k w m w m 0
+roots-start recs out k w m =
+    let e : k .records - 0 ≡ k .records = omega arith in
+    record { high = omega arith; low = omega arith; same-length = refl; left = rw e; stamps = rw e }
+
+module _ {recs out : List ℕ} {k : Counts} {w₀ : List ℕ} {m : ℕ} {w : List ℕ} {s i : ℕ} (f : Roots-to recs out k w₀ m w s i) where
+  -- another record
+  pub roots-skip : {b : Bool} → i < k .records → b ≡ is-goal recs k i → b ≡ false → Roots-to recs out k w₀ m w s (i + 1)
+  roots-skip h e z =
+      let low = f .low in
+      let next = kept-skip (is-goal recs k) i (k .records) h (sym e ∙ z) in
+      record { high = omega arith; low = omega arith; same-length = f .same-length; left = f .left ∙ rw next; stamps = f .stamps ∙ rw next }
+
+  -- a root of the query
+  pub roots-next : {b : Bool} {v : List ℕ} → i < k .records → b ≡ is-goal recs k i → b ≡ true → v ≡ marks (s + 1) w (uses-at recs out i)
+      → Roots-to recs out k w₀ m v (s + 1) (i + 1)
+  unfolding noted
+  roots-next {b} {v} h e z q =
+      let low = f .low in
+      let next = kept-take (is-goal recs k) i (k .records) h (sym e ∙ z) in
+      record {
+        high = omega arith;
+        low = omega arith;
+        same-length = ap length q ∙ marks-length (s + 1) w (uses-at recs out i) ∙ f .same-length;
+        left = f .left ∙ rw (next, q);
+        stamps = f .stamps ∙ rw next (omega arith);
+      }
+
+  pub roots-end : k .records ≤ i → w ≡ noted (m + 1) w₀ (map (uses-at recs out) (goal-records recs k))
+  unfolding noted
+  roots-end h = sym (f .left ∙ rw (kept-end (is-goal recs k) i (k .records) h))
+
+  pub roots-stamps : k .records ≤ i → s ≡ m + length (goal-records recs k)
+  roots-stamps h =
+      let e = f .stamps in
+      let d = ap length (kept-end (is-goal recs k) i (k .records) h) in
+      omega arith

@@ -1,0 +1,111 @@
+-- Lists written behind each other in the kept list.
+use Prim.Native.Nat.{ℕ, suc, _+_, _-_, _≤_, _<_}
+use native.Mathlib.Omega.{arith}
+use mathlib.Core.Path.{_≡_, refl, sym, _∙_, ap}
+use mathlib.Core.List.{List, [], _∷_, _++_, append-nil}
+use lib.ListN.{length, getD, set, length-append}
+use lib.Seq.{sets, length-sets, getD-set-other}
+use borrow.Author.Tests.{eq-eqb, ne-eqb}
+use Rattle.model.specs.Reading.{most-records}
+use Rattle.prune.specs.Listing.{one}
+use Rattle.prune.specs.Loops.{kept-column, Lists}
+
+-- words before a place are not written from it on
+pub sets-below : (w : List ℕ) (a : ℕ) (l : List ℕ) (j : ℕ) → j < a → getD (sets w a l) j 0 ≡ getD w j 0
+sets-below w a [] j h = refl
+sets-below w a (x ∷ l) j h = sets-below (set w a x) (suc a) l j (omega arith) ∙ getD-set-other w a j x 0 (λ e. omega arith)
+
+-- nor those behind the list
+pub sets-above : (w : List ℕ) (a : ℕ) (l : List ℕ) (j : ℕ) → a + length l ≤ j → getD (sets w a l) j 0 ≡ getD w j 0
+sets-above w a [] j h = refl
+sets-above w a (x ∷ l) j h = sets-above (set w a x) (suc a) l j (omega arith) ∙ getD-set-other w a j x 0 (λ e. omega arith)
+
+-- one list after the other
+sets-append : (w : List ℕ) (a : ℕ) (l k : List ℕ) → sets w a (l ++ k) ≡ sets (sets w a l) (a + length l) k
+sets-append w a [] k = ap (λ (b : ℕ). sets w b k) (omega arith)
+sets-append w a (x ∷ l) k = sets-append (set w a x) (suc a) l k ∙ ap (λ (b : ℕ). sets (sets (set w a x) (suc a) l) b k) (omega arith)
+
+-- the rest of a list of records is still to be written
+pub record Going (w : List ℕ) (m : ℕ) (whole : List ℕ) (v : List ℕ) (to : ℕ) (rest : List ℕ) : Type 0 where
+  pub same : sets w (kept-column + m) whole ≡ sets v (kept-column + to) rest
+  pub count : m + length whole ≡ to + length rest
+
+module _ {w : List ℕ} {m : ℕ} {whole v : List ℕ} {to : ℕ} {rest : List ℕ} (g : Going w m whole v to rest) where
+  pub going-length : length v ≡ length w
+  going-length = sym (length-sets v (kept-column + to) rest) ∙ ap length (sym (g .same)) ∙ length-sets w (kept-column + m) whole
+
+  -- the columns before the kept list stay
+  pub going-below : (j : ℕ) → j < kept-column → getD v j 0 ≡ getD w j 0
+  going-below j h =
+      sym (sets-below v (kept-column + to) rest j (omega arith)) ∙ ap (λ (u : List ℕ). getD u j 0) (sym (g .same))
+      ∙ sets-below w (kept-column + m) whole j (omega arith)
+
+  -- and those behind it
+  pub going-above : m + length whole ≤ most-records → (j : ℕ) → kept-column + most-records ≤ j → getD v j 0 ≡ getD w j 0
+  going-above f j h =
+      let c = g .count in
+      sym (sets-above v (kept-column + to) rest j (omega arith)) ∙ ap (λ (u : List ℕ). getD u j 0) (sym (g .same))
+      ∙ sets-above w (kept-column + m) whole j (omega arith)
+
+  pub going-end : rest ≡ [] → Lists w m whole v to
+  going-end e = record {
+    written = sym (g .same ∙ ap (sets v (kept-column + to)) e);
+    count = let c = g .count in let d = ap length e in omega arith;
+  }
+
+pub going-start : (w : List ℕ) (m : ℕ) (whole : List ℕ) → Going w m whole w m whole
+going-start w m whole = record { same = refl; count = refl }
+
+-- a list of records written is as long as the slice it is written to
+pub lists-length : {w : List ℕ} {m : ℕ} {l v : List ℕ} {to : ℕ} → Lists w m l v to → length v ≡ length w
+lists-length {w} {m} {l} p = ap length (p .written) ∙ length-sets w (kept-column + m) l
+
+-- a list written, the rest still to come
+pub going-list : {w : List ℕ} {m : ℕ} {whole v u : List ℕ} {to next : ℕ} {l rest all : List ℕ} → Going w m whole v to all → all ≡ l ++ rest
+    → Lists v to l u next → Going w m whole u next rest
+going-list {v} {to} {l} {rest} g e p =
+    let c = g .count in
+    let n = p .count in
+    let d = length-append l rest in
+    let f = ap length e in
+    record {
+      same = g .same ∙ ap (sets v (kept-column + to)) e ∙ sets-append v (kept-column + to) l rest
+          ∙ rw (p .written, n) (ap (λ (b : ℕ). sets (sets v (kept-column + to) l) b rest) (omega arith));
+      count = omega arith;
+    }
+
+-- there is room for a list that stands before others
+pub list-room : {w : List ℕ} {m : ℕ} {whole v : List ℕ} {to : ℕ} {all : List ℕ} (l rest : List ℕ) → Going w m whole v to all
+    → all ≡ l ++ rest → m + length whole ≤ most-records → to + length l ≤ most-records
+list-room l rest g e h = let c = g .count in let d = ap length e in let f = length-append l rest in omega arith
+
+-- two lists written one after the other
+pub lists-both : {w v u : List ℕ} {m mid to : ℕ} {l k : List ℕ} → Lists w m l v mid → Lists v mid k u to → Lists w m (l ++ k) u to
+lists-both {w} {m} {l} {k} p q =
+    going-end (going-list (going-list (going-start w m (l ++ k)) refl p) (sym (append-nil k)) q) refl
+
+-- nothing is written
+pub lists-none : (w : List ℕ) (m : ℕ) → Lists w m [] w m
+lists-none w m = record { written = refl; count = omega arith }
+
+module _ {w : List ℕ} {m : ℕ} {whole v : List ℕ} {to : ℕ} {all : List ℕ} {t x : ℕ} (rest : List ℕ) (g : Going w m whole v to all)
+    (e : all ≡ one x ++ rest) (p : t ≡ x) where
+  -- nothing is picked
+  pub pick-none : t ≡ 0 → Going w m whole v to rest
+  unfolding one
+  pick-none z = going-list {l = []} g (e ∙ rw (eq-eqb x 0 (sym p ∙ z))) (lists-none v to)
+
+  -- a record is picked and written
+  pub pick-one : (t ≡ 0 → ⊥) → Going w m whole (set v (kept-column + to) (t - 1)) (to + 1) rest
+  unfolding one
+  pick-one z =
+      going-list {l = (t - 1) ∷ []} g (e ∙ rw (ne-eqb x 0 (λ y. z (p ∙ y)), ← p)) (record { written = refl; count = refl })
+
+  -- room for one more
+  pub pick-room : (t ≡ 0 → ⊥) → m + length whole ≤ most-records → to < most-records
+  unfolding one
+  pick-room z h =
+      let c = g .count in
+      let f : all ≡ (t - 1) ∷ rest = e ∙ rw (ne-eqb x 0 (λ y. z (p ∙ y)), ← p) in
+      let d = ap length f in
+      omega arith

@@ -1,0 +1,177 @@
+//! The proved filter against the independent version: the answer, the list, the counts, and every word of the lent slices.
+
+mod lend;
+pub mod shrink;
+
+use compare::case::Case;
+use compare::random::Random;
+use compare::{filter, limits, Outcome, LONG_ENOUGH};
+use wimplejade::Answer;
+
+pub use lend::Lender;
+
+/// What is tried: a call on a file and lent slices.
+pub type Call = fn(&[u8], [&mut [u32]; 6], &mut [u32]) -> Answer;
+
+/// The lengths of the slices that are lent with a file.
+#[derive(Clone, Copy, Debug, PartialEq, Eq)]
+pub struct Lengths {
+    /// Words of the six working slices.
+    pub works: [usize; 6],
+    /// Words of the result slice.
+    pub room: usize,
+}
+
+/// The most words by which a working slice is longer than it must be.
+const MOST_MORE: usize = 40;
+
+impl Lengths {
+    /// Lengths for a case: its own where it has some, else odd ones that are long enough, with a result slice that is now
+    /// and then exact or short.
+    pub fn of(case: &Case, kept: usize, random: &mut Random) -> Self {
+        if (case.works, case.room) != (LONG_ENOUGH, limits::RECORDS) {
+            return Lengths { works: case.works, room: case.room };
+        }
+        let works = LONG_ENOUGH.map(|words| words + random.below(MOST_MORE));
+        let room = match random.below(8) {
+            0 => kept,
+            1 => kept.saturating_sub(1),
+            2 => random.below(kept + 1),
+            3..=5 => kept + random.below(20),
+            _ => limits::RECORDS + random.below(20),
+        };
+        Lengths { works, room }
+    }
+}
+
+/// What the independent version says to a file with slices of these lengths, given what it says with long ones.
+pub fn with_lengths<'f>(outcome: &Outcome<'f>, file: &'f [u8], lengths: Lengths) -> Outcome<'f> {
+    let long = lengths.works.iter().all(|&words| words >= limits::WORK_WORDS);
+    match outcome {
+        Outcome::Kept { lines, .. } if long && lines.len() <= lengths.room => outcome.clone(),
+        _ => expected(file, lengths),
+    }
+}
+
+/// What the independent version says to a file with slices of these lengths.
+pub fn expected(file: &[u8], lengths: Lengths) -> Outcome<'_> {
+    filter(file, lengths.works, lengths.room)
+}
+
+/// The answer that an outcome is.
+pub fn answer_of(outcome: &Outcome) -> Answer {
+    match outcome {
+        Outcome::Refused { number, place } => Answer { refusal: *number, place: *place, kept: 0, visits: 0, rounds: 0 },
+        Outcome::Kept { lines, visits, rounds, .. } => {
+            Answer { refusal: 0, place: 0, kept: lines.len() as u32, visits: *visits, rounds: *rounds }
+        }
+    }
+}
+
+/// How a call differs from what document 01 says of it, if it does.
+pub fn difference(call: Call, lender: &mut Lender, file: &[u8], lengths: Lengths, outcome: &Outcome) -> Option<String> {
+    lender.lend(lengths);
+    let (working, result) = lender.slices();
+    let answer = call(file, working, result);
+    let right = answer_of(outcome);
+    if answer != right {
+        return Some(format!("the answer is {answer:?}, by the independent version {right:?}"));
+    }
+    let lines: &[u32] = match outcome {
+        Outcome::Kept { lines, .. } => lines,
+        Outcome::Refused { .. } => &[],
+    };
+    lender.fault(lines, right.refusal == 7)
+}
+
+#[cfg(test)]
+mod tests {
+    use super::*;
+    use compare::generate;
+
+    /// The independent version as a call that does all that document 01 says.
+    fn right(file: &[u8], mut working: [&mut [u32]; 6], result: &mut [u32]) -> Answer {
+        let works = working.each_ref().map(|words| words.len());
+        let outcome = filter(file, works, result.len());
+        let answer = answer_of(&outcome);
+        if answer.refusal != 7 {
+            for words in &mut working {
+                words[..limits::WORK_WORDS].fill(0);
+            }
+        }
+        if let Outcome::Kept { lines, .. } = outcome {
+            result[..lines.len()].copy_from_slice(&lines);
+        }
+        answer
+    }
+
+    /// How many of some files a call differs on.
+    fn differing(call: Call) -> usize {
+        let (mut lender, mut random, mut count) = (Lender::new(1), Random::new(2), 0);
+        for case in generate::cases(3, 400) {
+            let lengths = Lengths::of(&case, 2, &mut random);
+            let outcome = expected(&case.file, lengths);
+            count += usize::from(difference(call, &mut lender, &case.file, lengths, &outcome).is_some());
+        }
+        count
+    }
+
+    #[test]
+    fn a_right_call_does_not_differ() {
+        assert_eq!(differing(right), 0);
+    }
+
+    #[test]
+    fn wrong_calls_differ() {
+        let wrong: [(&str, Call); 8] = [
+            ("a visit more", |file, working, result| {
+                let answer = right(file, working, result);
+                Answer { visits: answer.visits + u32::from(answer.visits > 2), ..answer }
+            }),
+            ("a round less", |file, working, result| {
+                let answer = right(file, working, result);
+                Answer { rounds: answer.rounds.min(2), ..answer }
+            }),
+            ("a refusal with a count", |file, working, result| {
+                let answer = right(file, working, result);
+                Answer { visits: answer.visits.max(u32::from(answer.refusal == 6)), ..answer }
+            }),
+            ("a list in another order", |file, working, result| {
+                let answer = right(file, working, result);
+                result[..answer.kept as usize].reverse();
+                answer
+            }),
+            ("a word past the list", |file, working, result| {
+                let answer = right(file, working, result);
+                if let Some(word) = result.get_mut(answer.kept as usize) {
+                    *word ^= 1;
+                }
+                answer
+            }),
+            ("a working word left", |file, mut working, result| {
+                let answer = right(file, working.each_mut().map(|words| &mut **words), result);
+                if answer.refusal == 0 {
+                    working[3][16_383] = 1;
+                }
+                answer
+            }),
+            ("a working word past the end cleared", |file, mut working, result| {
+                let answer = right(file, working.each_mut().map(|words| &mut **words), result);
+                if let (1..=6, Some(word)) = (answer.refusal, working[5].get_mut(16_384)) {
+                    *word = 0;
+                }
+                answer
+            }),
+            ("cleared after 7", |file, mut working, result| {
+                let answer = right(file, working.each_mut().map(|words| &mut **words), result);
+                if answer.refusal == 7 {
+                    working.into_iter().for_each(|words| words.fill(0));
+                }
+                answer
+            }),
+        ];
+        for (name, call) in wrong {
+            assert!(differing(call) > 0, "{name}");
+        }
+    }
+}
