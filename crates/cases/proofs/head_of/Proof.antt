@@ -55,7 +55,7 @@ returns-5 : tie.Need-returns-5
 returns-5 c =
     let within = mark-to _ _ _ _ _ (c .before .before .before .before .before .before .before .find .ensures) (omega arith) (omega arith) in
     let end = mark-to _ _ _ _ _ (c .before .before .find2 .ensures) (omega arith) (omega arith) in
-    fits-placed _ _ _ _ (mark-from _ _ _ _ _ (c .before .before .find2 .ensures)) end (c .sizes-at .ensures)
+    fits-placed _ _ _ (c .sizes-at .result) (mark-from _ _ _ _ _ (c .before .before .find2 .ensures)) end (c .sizes-at .ensures)
 
 pub head-of-spec : {M : Type 1} → statement M
 head-of-spec =

@@ -1,13 +1,11 @@
-use native.Mathlib.Omega.{arith}
+-- `cases::one_case` meets its contract.
+use lib.ListN.{length-take, length-drop}
+use Rattle.printing.proofs.Texts.{counted}
+use Rattle.cases.proofs.Laws.{case-placed}
 use borrow.Author.Needs.{needs}
+use native.Mathlib.Omega.{arith}
 use Rattle.cases.proofs.one_case.Statement.{statement}
 use Rattle.cases.proofs.one_case.Tie as tie
-use Rattle.cases.proofs.one_case.Reads as reads
-use Rattle.cases.proofs.one_case.Lts as lts
-use Rattle.cases.proofs.head_of.Reads as head-of-reads
-use Rattle.cases.proofs.put.Reads as put-reads
-use Rattle.cases.proofs.run.Reads as run-reads
-use Rattle.text.proofs.find.Reads as find-reads
 
 find-requires : tie.Need-find-requires
 find-requires c κs = search needs
@@ -22,7 +20,7 @@ returns : tie.Need-returns
 returns c = search needs
 
 slice-aggregate-head : tie.Need-slice-aggregate-head
-slice-aggregate-head c = ?
+slice-aggregate-head c = counted _ _ (omega arith)
 
 head-of-requires : tie.Need-head-of-requires
 head-of-requires c κs = search needs
@@ -52,13 +50,13 @@ put-requires-3 : tie.Need-put-requires-3
 put-requires-3 c κs = search needs
 
 sub-put : tie.Need-sub-put
-sub-put c = ?
+sub-put c = case-placed _ _ _ _ _ (c .before .before .before .before .a .given .1) (c .before .before .before .before .before .before .head-of .ensures) .0
 
 part-put-start : tie.Need-part-put-start
-part-put-start c = ?
+part-put-start c = case-placed _ _ _ _ _ (c .before .before .before .before .a .given .1) (c .before .before .before .before .before .before .head-of .ensures) .0
 
 part-put-end : tie.Need-part-put-end
-part-put-end c = ?
+part-put-end c = case-placed _ _ _ _ _ (c .before .before .before .before .a .given .1) (c .before .before .before .before .before .before .head-of .ensures) .1
 
 put-requires-4 : tie.Need-put-requires-4
 put-requires-4 c κs = search needs
@@ -82,7 +80,9 @@ part-run-end : tie.Need-part-run-end
 part-run-end c = search needs
 
 run-requires : tie.Need-run-requires
-run-requires c κs = ?
+run-requires c κs =
+    let placed = case-placed _ _ _ _ _ (c .before .before .before .before .before .before .before .before .before .a .given .1) (c .before .before .before .before .before .before .before .before .before .before .before .head-of .ensures) in
+    (simp (length-take, length-drop) (omega (arith, placed .2 .file)), placed .2)
 
 enum-told : tie.Need-enum-told
 enum-told c = search needs
