@@ -7,25 +7,7 @@ ghost use mathlib.Core.Path.{_≡_};
 ghost use lib.ListN.{length, getD};
 ghost use Rattle.model.specs.Lists.{part};
 ghost use Rattle.model.specs.Lines.{fields};
-ghost use Rattle.model.specs.Outcome.{refusal-number};
 ghost use Rattle.printing.specs.Printed.{show, Puts, Holds, Starts, second, name-on, kept-line, sum-line, refused-line, reason, reason-line, Answered, outcome-line};
-
-// Document 01's number of a refusal.
-pub fn refusal_number(r: Refusal) -> u32
-    ensures { λ n. ⌜ n ≡ refusal-number r ⌝ }
-{
-    match r {
-        Refusal::Form => 1,
-        Refusal::Name => 2,
-        Refusal::Number => 3,
-        Refusal::Term => 4,
-        Refusal::Repeated => 5,
-        Refusal::Limit => 6,
-        Refusal::Working => 7,
-        Refusal::Room => 8,
-        Refusal::Size => 9,
-    }
-}
 
 // Writes bytes from a place on; where they end.
 fn put(text: &mut [u8], at: usize, bytes: &[u8]) -> usize
@@ -129,7 +111,7 @@ pub fn refused_line(r: Refusal, place: u32, text: &mut [u8]) -> usize
     ensures { λ n. ⌜ Holds (refused-line r place) (now (text .exit)) n ⌝ }
 {
     let mut at = put(text, 0, b"refused,");
-    at = put_number(text, at, refusal_number(r));
+    at = put_number(text, at, filter::refusal_number(r));
     at = put(text, at, b",");
     at = put_number(text, at, place);
     put(text, at, b"\n")
@@ -188,7 +170,7 @@ pub fn reason_line(r: Refusal, place: u32, text: &mut [u8]) -> usize
     requires { ⌜ 128 ≤ length (now text) ⌝ }
     ensures { λ n. ⌜ Holds (reason-line r place) (now (text .exit)) n ⌝ }
 {
-    if 6 < refusal_number(r) {
+    if 6 < filter::refusal_number(r) {
         let at = put_reason(text, 0, r);
         return put(text, at, b"\n");
     }
