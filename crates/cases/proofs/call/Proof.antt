@@ -35,19 +35,25 @@ slice-relend-prefix-filter-5 : tie.Need-slice-relend-prefix-filter-5
 slice-relend-prefix-filter-5 c = search needs
 
 slice-aggregate-filter-5 : tie.Need-slice-aggregate-filter-5
-slice-aggregate-filter-5 c = counted _ _ (c .before .before .before .before .before .before .before .before .before .before .before .before .before .pre .lent-4)
+slice-aggregate-filter-5 c =
+    let at-pre = c .before .before .before .before .before .before .before .before .before .before .before .before .before in
+    counted _ _ (at-pre .pre .lent-4)
 
 slice-relend-prefix-filter-6 : tie.Need-slice-relend-prefix-filter-6
 slice-relend-prefix-filter-6 c = search needs
 
 slice-aggregate-filter-6 : tie.Need-slice-aggregate-filter-6
-slice-aggregate-filter-6 c = counted _ _ (c .before .before .before .before .before .before .before .before .before .before .before .before .before .before .pre .lent-5)
+slice-aggregate-filter-6 c =
+    let at-pre = c .before .before .before .before .before .before .before .before .before .before .before .before .before .before in
+    counted _ _ (at-pre .pre .lent-5)
 
 slice-relend-prefix-filter-7 : tie.Need-slice-relend-prefix-filter-7
 slice-relend-prefix-filter-7 c = search needs
 
 slice-aggregate-filter-7 : tie.Need-slice-aggregate-filter-7
-slice-aggregate-filter-7 c = counted _ _ (c .before .before .before .before .before .before .before .before .before .before .before .before .before .before .before .pre .lent-out)
+slice-aggregate-filter-7 c =
+    let at-pre = c .before .before .before .before .before .before .before .before .before .before .before .before .before .before .before in
+    counted _ _ (at-pre .pre .lent-out)
 
 filter-requires : tie.Need-filter-requires
 filter-requires c κs = search needs
@@ -75,8 +81,10 @@ same-length-7 c = search needs
 
 returns : tie.Need-returns
 returns c =
-    let fits = simp length-take at (kept-room _ _ _ _ (c .before .before .before .before .before .before .before .before .before .before .before .before .before .before .filter .ensures .0 .gives .answered)) in
-    omega (arith, c .before .before .before .before .before .before .before .before .before .before .before .before .before .before .before .before .before .before .before .before .before .before .before .before .before .before .before .before .before .before .pre .lent-out)
+    let at-filter = c .before .before .before .before .before .before .before .before .before .before .before .before .before .before in
+    let at-pre = at-filter .before .before .before .before .before .before .before .before .before .before .before .before .before .before .before .before in
+    let fits = simp length-take at (kept-room _ _ _ _ (at-filter .filter .ensures .0 .gives .answered)) in
+    omega (arith, at-pre .pre .lent-out)
 
 pub call-spec : {M : Type 1} → statement M
 call-spec =

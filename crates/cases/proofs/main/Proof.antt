@@ -30,7 +30,10 @@ array-share-prefix-window : tie.Need-array-share-prefix-window Inv-loop μ-loop
 array-share-prefix-window c = omega (arith, c .before .before .refill .ensures, c .before .before .before .before .before .loop .inv .0)
 
 slice-aggregate-one-case : tie.Need-slice-aggregate-one-case Inv-loop μ-loop
-slice-aggregate-one-case c = counted _ _ (omega (arith, c .before .before .before .refill .ensures, c .before .before .before .before .before .before .loop .inv .0))
+slice-aggregate-one-case c =
+    let at-refill = c .before .before .before in
+    let at-loop = at-refill .before .before .before in
+    counted _ _ (omega (arith, at-refill .refill .ensures, at-loop .loop .inv .0))
 
 one-case-requires : tie.Need-one-case-requires Inv-loop μ-loop
 one-case-requires c κs = search needs
@@ -42,7 +45,10 @@ loop-less : tie.Need-loop-less Inv-loop μ-loop
 loop-less c = omega arith
 
 loop-again : tie.Need-loop-again Inv-loop μ-loop
-loop-again c = (omega (arith, c .before .before .before .before .before .before .before .loop .inv .0), omega (arith, c .before .before .before .before .refill .ensures, c .before .before .before .before .before .before .before .loop .inv .0, simp length-take at (c .one-case .ensures)), omega (arith, c .before .before .before .before .refill .ensures, c .before .before .before .before .before .before .before .loop .inv .0))
+loop-again c =
+    let at-refill = c .before .before .before .before in
+    let at-loop = at-refill .before .before .before in
+    (omega (arith, at-loop .loop .inv .0), omega (arith, at-refill .refill .ensures, at-loop .loop .inv .0, simp length-take at (c .one-case .ensures)), omega (arith, at-refill .refill .ensures, at-loop .loop .inv .0))
 
 returns-2 : tie.Need-returns-2 Inv-loop μ-loop
 returns-2 c = search needs

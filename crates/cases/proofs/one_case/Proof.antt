@@ -53,7 +53,10 @@ sub-put : tie.Need-sub-put
 sub-put c = case-placed _ _ _ _ _ (c .before .before .before .before .a .given .1) (c .before .before .before .before .before .before .head-of .ensures) .0
 
 part-put-start : tie.Need-part-put-start
-part-put-start c = case-placed _ _ _ _ _ (c .before .before .before .before .a .given .1) (c .before .before .before .before .before .before .head-of .ensures) .0
+part-put-start c =
+    let at-a = c .before .before .before .before in
+    let at-head-of = at-a .before .before in
+    case-placed _ _ _ _ _ (at-a .a .given .1) (at-head-of .head-of .ensures) .0
 
 part-put-end : tie.Need-part-put-end
 part-put-end c = case-placed _ _ _ _ _ (c .before .before .before .before .a .given .1) (c .before .before .before .before .before .before .head-of .ensures) .1
@@ -81,7 +84,9 @@ part-run-end c = search needs
 
 run-requires : tie.Need-run-requires
 run-requires c κs =
-    let placed = case-placed _ _ _ _ _ (c .before .before .before .before .before .before .before .before .before .a .given .1) (c .before .before .before .before .before .before .before .before .before .before .before .head-of .ensures) in
+    let at-a = c .before .before .before .before .before .before .before .before .before in
+    let at-head-of = at-a .before .before in
+    let placed = case-placed _ _ _ _ _ (at-a .a .given .1) (at-head-of .head-of .ensures) in
     (simp (length-take, length-drop) (omega (arith, placed .2 .file)), placed .2)
 
 enum-told : tie.Need-enum-told

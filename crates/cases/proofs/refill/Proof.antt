@@ -50,13 +50,23 @@ read-full-requires : tie.Need-read-full-requires Inv-loop μ-loop
 read-full-requires c κs = search needs
 
 add-result : tie.Need-add-result Inv-loop μ-loop
-add-result c = omega (arith, c .before .before .before .before .before .loop .inv, c .before .before .before .before .before .before .before .pre .0, c .before .before .before .before .before .before .before .pre .1, c .before .before .read-full .ensures .0, simp (length-take, length-drop) at (c .before .window .given .0))
+add-result c =
+    let at-window = c .before in
+    let at-read-full = at-window .before in
+    let at-loop = at-read-full .before .before .before in
+    let at-pre = at-loop .before .before in
+    omega (arith, at-loop .loop .inv, at-pre .pre .0, at-pre .pre .1, at-read-full .read-full .ensures .0, simp (length-take, length-drop) at (at-window .window .given .0))
 
 same-length : tie.Need-same-length Inv-loop μ-loop
 same-length c = c .before .window .given .1 ∙ c .before .before .before .before .before .loop .inv
 
 returns : tie.Need-returns Inv-loop μ-loop
-returns c = omega (arith, c .before .before .before .before .before .loop .inv, c .before .before .before .before .before .before .before .pre .0, c .before .before .before .before .before .before .before .pre .1, c .before .before .read-full .ensures .0, simp (length-take, length-drop) at (c .before .window .given .0))
+returns c =
+    let at-window = c .before in
+    let at-read-full = at-window .before in
+    let at-loop = at-read-full .before .before .before in
+    let at-pre = at-loop .before .before in
+    omega (arith, at-loop .loop .inv, at-pre .pre .0, at-pre .pre .1, at-read-full .read-full .ensures .0, simp (length-take, length-drop) at (at-window .window .given .0))
 
 pub refill-spec : {M : Type 1} → statement M
 refill-spec =

@@ -74,7 +74,10 @@ slice-aggregate-print : tie.Need-slice-aggregate-print
 slice-aggregate-print c = search needs
 
 print-requires : tie.Need-print-requires
-print-requires c κs = (c .before .before .before .before .before .before .before .before .before .before .before .before .before .before .before .before .before .before .before .before .before .before .before .before .before .before .before .before .before .before .before .before .before .before .before .before .before .before .pre .0, omega (arith, c .before .before .before .before .before .before .before .before .call .ensures))
+print-requires c κs =
+    let at-call = c .before .before .before .before .before .before .before .before in
+    let at-pre = at-call .before .before .before .before .before .before .before .before .before .before .before .before .before .before .before .before .before .before .before .before .before .before .before .before .before .before .before .before .before .before in
+    (at-pre .pre .0, omega (arith, at-call .call .ensures))
 
 slice-aggregate-put-slices : tie.Need-slice-aggregate-put-slices
 slice-aggregate-put-slices c = search needs

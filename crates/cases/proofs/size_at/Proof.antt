@@ -36,7 +36,11 @@ cast-n : tie.Need-cast-n Inv-loop μ-loop
 cast-n c = omega (arith, c .before .before .before .shared-slice-known .given (c .before .before .before .before .before .loop .i))
 
 add-n : tie.Need-add-n Inv-loop μ-loop
-add-n c = omega (arith, c .before .before .before .before .before .before .pre, c .before .before .before .before .before .loop .inv, c .before .before .before .shared-slice-known .given (c .before .before .before .before .before .loop .i))
+add-n c =
+    let at-shared-slice-known = c .before .before .before in
+    let at-loop = at-shared-slice-known .before .before in
+    let at-pre = at-loop .before in
+    omega (arith, at-pre .pre, at-loop .loop .inv, at-shared-slice-known .shared-slice-known .given (at-loop .loop .i))
 
 returns-4 : tie.Need-returns-4 Inv-loop μ-loop
 returns-4 c = tt

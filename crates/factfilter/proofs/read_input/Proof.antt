@@ -49,20 +49,33 @@ count-requires : tie.Need-count-requires Inv-loop μ-loop
 count-requires c κs = search needs
 
 same-length-2 : tie.Need-same-length-2 Inv-loop μ-loop
-same-length-2 c = c .before .before .before .before .before .before .buffer .given .1 ∙ c .before .before .before .before .before .before .before .before .before .before .loop .inv .0
+same-length-2 c =
+    let at-buffer = c .before .before .before .before .before .before in
+    let at-loop = at-buffer .before .before .before .before in
+    at-buffer .buffer .given .1 ∙ at-loop .loop .inv .0
 
 returns-2 : tie.Need-returns-2 Inv-loop μ-loop
 unfolding bytes-read
 returns-2 c = omega (arith, c .before .before .before .before .before .before .buffer .given .1)
 
 add-n : tie.Need-add-n Inv-loop μ-loop
-add-n c = omega (arith, c .before .before .before .before .before .before .buffer .given .1, simp (length-take, length-drop) at (c .before .count .ensures .0 .0))
+add-n c =
+    let at-count = c .before in
+    let at-buffer = at-count .before .before .before .before .before in
+    omega (arith, at-buffer .buffer .given .1, simp (length-take, length-drop) at (at-count .count .ensures .0 .0))
 
 loop-less : tie.Need-loop-less Inv-loop μ-loop
-loop-less c = omega (arith, c .before .before .before .before .before .before .buffer .given .1, simp (length-take, length-drop) at (c .before .count .ensures .0 .0))
+loop-less c =
+    let at-count = c .before in
+    let at-buffer = at-count .before .before .before .before .before in
+    omega (arith, at-buffer .buffer .given .1, simp (length-take, length-drop) at (at-count .count .ensures .0 .0))
 
 loop-again : tie.Need-loop-again Inv-loop μ-loop
-loop-again c = (c .before .before .before .before .before .before .buffer .given .1 ∙ c .before .before .before .before .before .before .before .before .before .before .loop .inv .0, omega (arith, c .before .before .before .before .before .before .buffer .given .1, simp (length-take, length-drop) at (c .before .count .ensures .0 .0)))
+loop-again c =
+    let at-count = c .before in
+    let at-buffer = at-count .before .before .before .before .before in
+    let at-loop = at-buffer .before .before .before .before in
+    (at-buffer .buffer .given .1 ∙ at-loop .loop .inv .0, omega (arith, at-buffer .buffer .given .1, simp (length-take, length-drop) at (at-count .count .ensures .0 .0)))
 
 same-length-3 : tie.Need-same-length-3 Inv-loop μ-loop
 same-length-3 c = c .before .loop .inv .0

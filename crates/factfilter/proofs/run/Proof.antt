@@ -34,8 +34,10 @@ slice-aggregate-print c = search needs
 
 print-requires : tie.Need-print-requires
 print-requires c κs =
-    let fits = kept-room _ _ _ _ (c .before .before .before .before .before .before .before .before .filter .ensures .0 .gives .answered) in
-    (c .before .before .before .before .before .before .before .before .before .before .before .before .before .before .before .before .before .pre, omega arith)
+    let at-filter = c .before .before .before .before .before .before .before .before in
+    let at-pre = at-filter .before .before .before .before .before .before .before .before .before in
+    let fits = kept-room _ _ _ _ (at-filter .filter .ensures .0 .gives .answered) in
+    (at-pre .pre, omega arith)
 
 slice-aggregate-write-all : tie.Need-slice-aggregate-write-all
 slice-aggregate-write-all c = search needs

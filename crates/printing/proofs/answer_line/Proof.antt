@@ -23,7 +23,11 @@ same-length : tie.Need-same-length
 same-length c = search needs
 
 returns : tie.Need-returns
-returns c = kept-answered _ _ _ _ _ _ (c .before .before .before .before .before .before .enum-told .given .1) (c .before .before .before .before .before .if1 .taken) (c .before .before .kept-line .ensures)
+returns c =
+    let at-kept-line = c .before .before in
+    let at-if1 = at-kept-line .before .before .before in
+    let at-enum-told = at-if1 .before in
+    kept-answered _ _ _ _ _ _ (at-enum-told .enum-told .given .1) (at-if1 .if1 .taken) (at-kept-line .kept-line .ensures)
 
 sum-line-requires : tie.Need-sum-line-requires
 sum-line-requires c κs = search needs
@@ -38,7 +42,11 @@ same-length-2 : tie.Need-same-length-2
 same-length-2 c = search needs
 
 returns-2 : tie.Need-returns-2
-returns-2 c = sum-answered _ _ _ _ _ _ (c .before .before .before .before .before .enum-told .given .1) (c .before .before .before .before .if1 .left) (c .before .before .sum-line .ensures)
+returns-2 c =
+    let at-sum-line = c .before .before in
+    let at-if1 = at-sum-line .before .before in
+    let at-enum-told = at-if1 .before in
+    sum-answered _ _ _ _ _ _ (at-enum-told .enum-told .given .1) (at-if1 .if1 .left) (at-sum-line .sum-line .ensures)
 
 same-length-3 : tie.Need-same-length-3
 same-length-3 c = search needs

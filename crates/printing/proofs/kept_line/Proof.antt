@@ -39,8 +39,14 @@ same-length c = search needs
 returns : tie.Need-returns
 unfolding bytes
 returns c =
-    let text = puts-then (puts-then (puts-then (puts-then (c .before .before .before .before .before .before .before .before .before .before .before .before .before .before .before .before .before .before .before .before .put .ensures) (c .before .before .before .before .before .before .before .before .before .before .before .before .before .before .before .before .put-number .ensures .0)) (c .before .before .before .before .before .before .before .before .before .before .before .put2 .ensures)) (c .before .before .before .before .before .before .before .put3 .ensures)) (c .before .before .put4 .ensures) in
-    held text (kept-parts _ _ _ (c .before .before .before .before .before .before .before .before .before .before .before .before .before .before .before .before .before .before .before .before .before .before .before .name-on .ensures .0))
+    let at-put4 = c .before .before in
+    let at-put3 = at-put4 .before .before .before .before .before in
+    let at-put2 = at-put3 .before .before .before .before in
+    let at-put-number = at-put2 .before .before .before .before .before in
+    let at-put = at-put-number .before .before .before .before in
+    let at-name-on = at-put .before .before .before in
+    let text = puts-then (puts-then (puts-then (puts-then (at-put .put .ensures) (at-put-number .put-number .ensures .0)) (at-put2 .put2 .ensures)) (at-put3 .put3 .ensures)) (at-put4 .put4 .ensures) in
+    held text (kept-parts _ _ _ (at-name-on .name-on .ensures .0))
 
 pub kept-line-spec : {M : Type 1} → statement M
 kept-line-spec =

@@ -46,8 +46,10 @@ loop-less c =
 
 loop-again : tie.Need-loop-again Inv-loop μ-loop
 loop-again c =
-    let loop = c .before .before .loop in
-    let room = c .before .before .before .before .before .pre .0 in
+    let at-loop = c .before .before in
+    let at-pre = at-loop .before .before .before in
+    let loop = at-loop .loop in
+    let room = at-pre .pre .0 in
     (length-set (loop .starts) (loop .many) (loop .from) ∙ loop .inv .0, starting-next _ _ _ _ _ (loop .inv .1) (omega arith) (omega (arith, loop .inv .1 .few, loop .inv .0)) (c .find .ensures))
 
 same-length : tie.Need-same-length Inv-loop μ-loop

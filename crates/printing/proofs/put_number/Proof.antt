@@ -25,8 +25,10 @@ same-length c = search needs
 
 returns : tie.Need-returns
 returns c =
-    let few = few-digits _ _ (c .before .before .before .before .before .decimal .ensures .1 .0) (omega arith) in
-    (puts-same (c .before .before .put .ensures) (c .before .before .before .before .before .decimal .ensures .1 .1 ∙ shown _ _ (omega arith) (c .before .before .before .before .before .decimal .ensures .1 .0)), omega (arith, c .before .before .put .ensures .ends))
+    let at-put = c .before .before in
+    let at-decimal = at-put .before .before .before in
+    let few = few-digits _ _ (at-decimal .decimal .ensures .1 .0) (omega arith) in
+    (puts-same (at-put .put .ensures) (at-decimal .decimal .ensures .1 .1 ∙ shown _ _ (omega arith) (at-decimal .decimal .ensures .1 .0)), omega (arith, at-put .put .ensures .ends))
 
 pub put-number-spec : {M : Type 1} → statement M
 put-number-spec =

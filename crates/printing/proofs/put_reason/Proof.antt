@@ -92,63 +92,90 @@ same-length c = search needs
 
 returns : tie.Need-returns
 unfolding reason bytes
-returns c = (rw (c .before .before .before .before .before .enum-told .given .1) (c .before .before .put .ensures), omega (arith, c .before .before .put .ensures .ends))
+returns c =
+    let at-put = c .before .before in
+    let at-enum-told = at-put .before .before .before in
+    (rw (at-enum-told .enum-told .given .1) (at-put .put .ensures), omega (arith, at-put .put .ensures .ends))
 
 same-length-2 : tie.Need-same-length-2
 same-length-2 c = search needs
 
 returns-2 : tie.Need-returns-2
 unfolding reason bytes
-returns-2 c = (rw (c .before .before .before .before .before .enum-told2 .given .1) (c .before .before .put2 .ensures), omega (arith, c .before .before .put2 .ensures .ends))
+returns-2 c =
+    let at-put2 = c .before .before in
+    let at-enum-told2 = at-put2 .before .before .before in
+    (rw (at-enum-told2 .enum-told2 .given .1) (at-put2 .put2 .ensures), omega (arith, at-put2 .put2 .ensures .ends))
 
 same-length-3 : tie.Need-same-length-3
 same-length-3 c = search needs
 
 returns-3 : tie.Need-returns-3
 unfolding reason bytes
-returns-3 c = (rw (c .before .before .before .before .before .enum-told3 .given .1) (c .before .before .put3 .ensures), omega (arith, c .before .before .put3 .ensures .ends))
+returns-3 c =
+    let at-put3 = c .before .before in
+    let at-enum-told3 = at-put3 .before .before .before in
+    (rw (at-enum-told3 .enum-told3 .given .1) (at-put3 .put3 .ensures), omega (arith, at-put3 .put3 .ensures .ends))
 
 same-length-4 : tie.Need-same-length-4
 same-length-4 c = search needs
 
 returns-4 : tie.Need-returns-4
 unfolding reason bytes
-returns-4 c = (rw (c .before .before .before .before .before .enum-told4 .given .1) (c .before .before .put4 .ensures), omega (arith, c .before .before .put4 .ensures .ends))
+returns-4 c =
+    let at-put4 = c .before .before in
+    let at-enum-told4 = at-put4 .before .before .before in
+    (rw (at-enum-told4 .enum-told4 .given .1) (at-put4 .put4 .ensures), omega (arith, at-put4 .put4 .ensures .ends))
 
 same-length-5 : tie.Need-same-length-5
 same-length-5 c = search needs
 
 returns-5 : tie.Need-returns-5
 unfolding reason bytes
-returns-5 c = (rw (c .before .before .before .before .before .enum-told5 .given .1) (c .before .before .put5 .ensures), omega (arith, c .before .before .put5 .ensures .ends))
+returns-5 c =
+    let at-put5 = c .before .before in
+    let at-enum-told5 = at-put5 .before .before .before in
+    (rw (at-enum-told5 .enum-told5 .given .1) (at-put5 .put5 .ensures), omega (arith, at-put5 .put5 .ensures .ends))
 
 same-length-6 : tie.Need-same-length-6
 same-length-6 c = search needs
 
 returns-6 : tie.Need-returns-6
 unfolding reason bytes
-returns-6 c = (rw (c .before .before .before .before .before .enum-told6 .given .1) (c .before .before .put6 .ensures), omega (arith, c .before .before .put6 .ensures .ends))
+returns-6 c =
+    let at-put6 = c .before .before in
+    let at-enum-told6 = at-put6 .before .before .before in
+    (rw (at-enum-told6 .enum-told6 .given .1) (at-put6 .put6 .ensures), omega (arith, at-put6 .put6 .ensures .ends))
 
 same-length-7 : tie.Need-same-length-7
 same-length-7 c = search needs
 
 returns-7 : tie.Need-returns-7
 unfolding reason bytes
-returns-7 c = (rw (c .before .before .before .before .before .enum-told7 .given .1) (c .before .before .put7 .ensures), omega (arith, c .before .before .put7 .ensures .ends))
+returns-7 c =
+    let at-put7 = c .before .before in
+    let at-enum-told7 = at-put7 .before .before .before in
+    (rw (at-enum-told7 .enum-told7 .given .1) (at-put7 .put7 .ensures), omega (arith, at-put7 .put7 .ensures .ends))
 
 same-length-8 : tie.Need-same-length-8
 same-length-8 c = search needs
 
 returns-8 : tie.Need-returns-8
 unfolding reason bytes
-returns-8 c = (rw (c .before .before .before .before .before .enum-told8 .given .1) (c .before .before .put8 .ensures), omega (arith, c .before .before .put8 .ensures .ends))
+returns-8 c =
+    let at-put8 = c .before .before in
+    let at-enum-told8 = at-put8 .before .before .before in
+    (rw (at-enum-told8 .enum-told8 .given .1) (at-put8 .put8 .ensures), omega (arith, at-put8 .put8 .ensures .ends))
 
 same-length-9 : tie.Need-same-length-9
 same-length-9 c = search needs
 
 returns-9 : tie.Need-returns-9
 unfolding reason bytes
-returns-9 c = (rw (c .before .before .before .before .before .enum-told9 .given .1) (c .before .before .put9 .ensures), omega (arith, c .before .before .put9 .ensures .ends))
+returns-9 c =
+    let at-put9 = c .before .before in
+    let at-enum-told9 = at-put9 .before .before .before in
+    (rw (at-enum-told9 .enum-told9 .given .1) (at-put9 .put9 .ensures), omega (arith, at-put9 .put9 .ensures .ends))
 
 pub put-reason-spec : {M : Type 1} → statement M
 put-reason-spec =

@@ -24,8 +24,12 @@ same-length c = search needs
 returns : tie.Need-returns
 unfolding bytes
 returns c =
-    let text = puts-then (c .before .before .before .before .before .before .before .put-reason .ensures .0) (c .before .before .put .ensures) in
-    held text (reason-alone _ _ _ (c .before .before .before .before .before .before .before .before .before .before .refusal-number .ensures) (c .before .before .before .before .before .before .before .before .before .if1 .taken))
+    let at-put = c .before .before in
+    let at-put-reason = at-put .before .before .before .before .before in
+    let at-if1 = at-put-reason .before .before in
+    let at-refusal-number = at-if1 .before in
+    let text = puts-then (at-put-reason .put-reason .ensures .0) (at-put .put .ensures) in
+    held text (reason-alone _ _ _ (at-refusal-number .refusal-number .ensures) (at-if1 .if1 .taken))
 
 slice-aggregate-put-2 : tie.Need-slice-aggregate-put-2
 slice-aggregate-put-2 c = search needs
@@ -57,8 +61,15 @@ same-length-2 c = search needs
 returns-2 : tie.Need-returns-2
 unfolding bytes
 returns-2 c =
-    let text = puts-then (puts-then (puts-then (puts-then (c .before .before .before .before .before .before .before .before .before .before .before .before .before .before .before .before .before .before .before .before .put2 .ensures) (c .before .before .before .before .before .before .before .before .before .before .before .before .before .before .before .before .put-number .ensures .0)) (c .before .before .before .before .before .before .before .before .before .before .before .put3 .ensures)) (c .before .before .before .before .before .before .before .put-reason2 .ensures .0)) (c .before .before .put4 .ensures) in
-    held text (reason-parts _ _ _ (c .before .before .before .before .before .before .before .before .before .before .before .before .before .before .before .before .before .before .before .before .before .before .before .before .refusal-number .ensures) (c .before .before .before .before .before .before .before .before .before .before .before .before .before .before .before .before .before .before .before .before .before .before .before .if1 .left))
+    let at-put4 = c .before .before in
+    let at-put-reason2 = at-put4 .before .before .before .before .before in
+    let at-put3 = at-put-reason2 .before .before .before .before in
+    let at-put-number = at-put3 .before .before .before .before .before in
+    let at-put2 = at-put-number .before .before .before .before in
+    let at-if1 = at-put2 .before .before .before in
+    let at-refusal-number = at-if1 .before in
+    let text = puts-then (puts-then (puts-then (puts-then (at-put2 .put2 .ensures) (at-put-number .put-number .ensures .0)) (at-put3 .put3 .ensures)) (at-put-reason2 .put-reason2 .ensures .0)) (at-put4 .put4 .ensures) in
+    held text (reason-parts _ _ _ (at-refusal-number .refusal-number .ensures) (at-if1 .if1 .left))
 
 pub reason-line-spec : {M : Type 1} → statement M
 reason-line-spec =

@@ -39,8 +39,14 @@ same-length c = search needs
 returns : tie.Need-returns
 unfolding bytes
 returns c =
-    let text = puts-then (puts-then (puts-then (puts-then (c .before .before .before .before .before .before .before .before .before .before .before .before .before .before .before .before .before .before .before .before .before .put .ensures) (c .before .before .before .before .before .before .before .before .before .before .before .before .before .before .before .before .put-number .ensures .0)) (c .before .before .before .before .before .before .before .before .before .before .before .put2 .ensures)) (c .before .before .before .before .before .before .before .put-number2 .ensures .0)) (c .before .before .put3 .ensures) in
-    held text (refused-parts _ _ _ (c .before .before .before .before .before .before .before .before .before .before .before .before .before .before .before .before .before .refusal-number .ensures))
+    let at-put3 = c .before .before in
+    let at-put-number2 = at-put3 .before .before .before .before .before in
+    let at-put2 = at-put-number2 .before .before .before .before in
+    let at-put-number = at-put2 .before .before .before .before .before in
+    let at-refusal-number = at-put-number .before in
+    let at-put = at-refusal-number .before .before .before .before in
+    let text = puts-then (puts-then (puts-then (puts-then (at-put .put .ensures) (at-put-number .put-number .ensures .0)) (at-put2 .put2 .ensures)) (at-put-number2 .put-number2 .ensures .0)) (at-put3 .put3 .ensures) in
+    held text (refused-parts _ _ _ (at-refusal-number .refusal-number .ensures))
 
 pub refused-line-spec : {M : Type 1} → statement M
 refused-line-spec =

@@ -47,10 +47,13 @@ part-result-end-2 c =
 
 returns-2 : tie.Need-returns-2
 returns-2 c =
-    let args = c .before .before .before .before .before in
-    let first = mark-to _ _ _ _ _ (c .before .before .before .find .ensures) (args .pre .0) (args .pre .1) in
-    let last = mark-to _ _ _ _ _ (c .before .find2 .ensures) (omega arith) (args .pre .1) in
-    (second-some _ _ _ _ _ (args .pre .1) (c .before .before .before .find .ensures) (omega arith) (c .before .find2 .ensures) last, part-short _ (c .before .before .before .find .result + 1) (c .before .find2 .result) (omega arith))
+    let at-find2 = c .before in
+    let at-find = at-find2 .before .before in
+    let at-before = at-find .before in
+    let args = at-before .before in
+    let first = mark-to _ _ _ _ _ (at-find .find .ensures) (args .pre .0) (args .pre .1) in
+    let last = mark-to _ _ _ _ _ (at-find2 .find2 .ensures) (omega arith) (args .pre .1) in
+    (second-some _ _ _ _ _ (args .pre .1) (at-find .find .ensures) (omega arith) (at-find2 .find2 .ensures) last, part-short _ (at-find .find .result + 1) (at-find2 .find2 .result) (omega arith))
 
 pub second-field-spec : {M : Type 1} → statement M
 second-field-spec =

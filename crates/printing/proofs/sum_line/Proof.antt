@@ -45,8 +45,15 @@ same-length c = search needs
 returns : tie.Need-returns
 unfolding bytes
 returns c =
-    let first = puts-then (puts-then (puts-then (c .before .before .before .before .before .before .before .before .before .before .before .before .before .before .before .before .before .before .before .before .before .before .before .before .before .before .before .before .before .put .ensures) (c .before .before .before .before .before .before .before .before .before .before .before .before .before .before .before .before .before .before .before .before .before .before .before .before .before .put-number .ensures .0)) (c .before .before .before .before .before .before .before .before .before .before .before .before .before .before .before .before .before .before .before .before .put2 .ensures)) (c .before .before .before .before .before .before .before .before .before .before .before .before .before .before .before .before .put-number2 .ensures .0) in
-    let text = puts-then (puts-then (puts-then first (c .before .before .before .before .before .before .before .before .before .before .before .put3 .ensures)) (c .before .before .before .before .before .before .before .put-number3 .ensures .0)) (c .before .before .put4 .ensures) in
+    let at-put4 = c .before .before in
+    let at-put-number3 = at-put4 .before .before .before .before .before in
+    let at-put3 = at-put-number3 .before .before .before .before in
+    let at-put-number2 = at-put3 .before .before .before .before .before in
+    let at-put2 = at-put-number2 .before .before .before .before in
+    let at-put-number = at-put2 .before .before .before .before .before in
+    let at-put = at-put-number .before .before .before .before in
+    let first = puts-then (puts-then (puts-then (at-put .put .ensures) (at-put-number .put-number .ensures .0)) (at-put2 .put2 .ensures)) (at-put-number2 .put-number2 .ensures .0) in
+    let text = puts-then (puts-then (puts-then first (at-put3 .put3 .ensures)) (at-put-number3 .put-number3 .ensures .0)) (at-put4 .put4 .ensures) in
     held text (sum-parts _ _ _)
 
 pub sum-line-spec : {M : Type 1} → statement M
