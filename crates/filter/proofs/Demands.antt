@@ -29,7 +29,7 @@ use Rattle.demands.proofs.Demand3.{reached-closed, reached-least, reached-liste
 use Rattle.demands.proofs.FileOrder.{file-order}
 use Rattle.demands.proofs.Slices.{slices-exact}
 use Rattle.demands.proofs.Queries.{other-queries-do-not-matter}
-use Rattle.filter.specs.Call.{verdict-number}
+use Rattle.filter.specs.Call.{verdict-number, lines-of}
 use Rattle.filter.specs.Demands.{Call, works, Left, Accepts, Refuses, Comes-back, Demand-1, Demand-2, Demand-3, Demands-met, Other-queries-of-calls}
 use Rattle.filter.proofs.Answers.{numbers}
 
@@ -312,11 +312,7 @@ demands-met c left = record {
 
 -- ---- two calls
 
--- the parts of a list
-lines-of : Outcome → List ℕ
-lines-of (refusal-at r place) = []
-lines-of (list l seen turns) = l
-
+-- the visits and the rounds of a list
 visits-of : Outcome → ℕ
 visits-of (refusal-at r place) = 0
 visits-of (list l seen turns) = seen

@@ -1,36 +1,37 @@
 -- `filter::clear_all` meets its contract.
+use native.Mathlib.Omega.{arith}
 use Rattle.filter.proofs.clear_all.Statement.{statement}
 use Rattle.filter.proofs.clear_all.Tie as tie
 
 clear-requires : tie.Need-clear-requires
 clear-requires c κs =
     let entry = c .before .before .before .before .before .before .before in
-    entry .pre .long-0
+    omega (arith, entry .pre .long-0)
 
 clear-requires-2 : tie.Need-clear-requires-2
 clear-requires-2 c κs =
     let entry = c .before .before .before .before .before .before .before .before .before .before .before in
-    entry .pre .long-1
+    omega (arith, entry .pre .long-1)
 
 clear-requires-3 : tie.Need-clear-requires-3
 clear-requires-3 c κs =
     let entry = c .before .before .before .before .before .before .before .before .before .before .before .before .before .before .before in
-    entry .pre .long-2
+    omega (arith, entry .pre .long-2)
 
 clear-requires-4 : tie.Need-clear-requires-4
 clear-requires-4 c κs =
     let entry = c .before .before .before .before .before .before .before .before .before .before .before .before .before .before .before .before .before .before .before in
-    entry .pre .long-3
+    omega (arith, entry .pre .long-3)
 
 clear-requires-5 : tie.Need-clear-requires-5
 clear-requires-5 c κs =
     let entry = c .before .before .before .before .before .before .before .before .before .before .before .before .before .before .before .before .before .before .before .before .before .before .before in
-    entry .pre .long-4
+    omega (arith, entry .pre .long-4)
 
 clear-requires-6 : tie.Need-clear-requires-6
 clear-requires-6 c κs =
     let entry = c .before .before .before .before .before .before .before .before .before .before .before .before .before .before .before .before .before .before .before .before .before .before .before .before .before .before .before in
-    entry .pre .long-5
+    omega (arith, entry .pre .long-5)
 
 same-length : tie.Need-same-length
 same-length c =

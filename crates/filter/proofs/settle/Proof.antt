@@ -1,4 +1,5 @@
 -- `filter::settle` meets its contract.
+use native.Mathlib.Omega.{arith}
 use borrow.Author.Needs.{needs}
 use Rattle.filter.proofs.Laws.{settle-8, settle-list, kept-there}
 use Rattle.filter.proofs.settle.Statement.{statement}
@@ -19,7 +20,8 @@ copy-requires : tie.Need-copy-requires
 copy-requires c κs =
     let if1 = c .before in
     let args = if1 .before .before .before in
-    (kept-there (args .args .run .now) _ (args .pre .0) (args .pre .1), if1 .if1 .left)
+    let there = kept-there (args .args .run .now) (args .args .a .kept) (args .pre .0) (args .pre .1) in
+    (omega (arith, there), omega (arith, if1 .if1 .left))
 
 same-length : tie.Need-same-length
 same-length c = search needs
