@@ -36,6 +36,7 @@ use Rattle.scan.specs.Steps.{run-end}
 use Rattle.scan.specs.Tables.{held-of}
 use Rattle.scan.specs.Runs.{run-of, Ran}
 use Rattle.scan.specs.declared.Scan.{Scan}
+use Rattle.scan.proofs.Numbers.{count-upto}
 use Rattle.scan.proofs.Joining.{holds}
 use Rattle.prune.specs.Loops.{kept-column, prune-end}
 use Rattle.prune.specs.Kept.{reached-of, kept-of, Run-over, Pruned}
@@ -100,15 +101,6 @@ decls-few name recs out (suc n) =
       decls-few name recs out n,
       summary-few name recs out n (record-kind recs n),
     )
-
-count-upto : (p : ℕ → Bool) (n : ℕ) → count p (upto n) ≤ n
-unfolding count upto
-count-upto p zero = omega arith
-count-upto p (suc n) = go (p n) (count-upto p n)
-  where
-    go : (b : Bool) → count p (upto n) ≤ n → cond b (1 + count p (upto n)) (count p (upto n)) ≤ suc n
-    go true h = omega arith
-    go false h = omega arith
 
 count-true : {A : Type 0} (l : List A) → count (λ (a : A). true) l ≡ length l
 unfolding count
