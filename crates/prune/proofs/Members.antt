@@ -1,10 +1,9 @@
 -- What is picked are records of the table.
-use Prim.Native.Nat.{ℕ, zero, suc, _+_, _-_, _≤_, _<_}
+use Prim.Native.Nat.{ℕ, suc, _-_, _≤_, _<_}
 use native.Mathlib.Omega.{arith}
 use mathlib.Core.Path.{_≡_, refl}
 use mathlib.Core.Bool.{Bool, true, false, cond}
-use mathlib.Core.Logic.{⊎-elim}
-use mathlib.Core.List.{List, [], _∷_, List·Memᴰ, List·Memᴰ·not-nil, List·Memᴰ·cases-cons}
+use mathlib.Core.List.{List, [], _∷_, List·Memᴰ, List·Memᴰ·not-nil}
 use lib.Dec.{eqb}
 use borrow.Author.Tests.{eqb-false}
 use Rattle.model.specs.Reading.{no-ambients}
@@ -14,30 +13,28 @@ use Rattle.records.specs.States.{ask-of}
 use Rattle.scan.specs.Held.{upto}
 use Rattle.scan.specs.Steps.{is-reached}
 use Rattle.scan.proofs.Numbers.{upto-elim}
+use Rattle.scan.proofs.Background.{only}
 use Rattle.prune.specs.Listing.{from, one, picked, taker, reached-at, ambient-at, is-goal, reached-records, ambient-records, goal-records}
+use Rattle.prune.proofs.Ranges.{from-below}
 use Rattle.prune.proofs.Picking.{ambient-small}
 
-one-elim : (t : ℕ) {x : ℕ} → List·Memᴰ x (one t) → (t ≡ 0 → ⊥) × (x ≡ t - 1)
+-- a record by its number and one
+pub one-elim : (t : ℕ) {i : ℕ} → List·Memᴰ i (one t) → t ≡ suc i
 unfolding one
-one-elim t {x} m = go (eqb t 0) refl m
+one-elim t {i} m = go (eqb t 0) refl m
   where
-    go : (b : Bool) → eqb t 0 ≡ b → List·Memᴰ x (cond b [] ((t - 1) ∷ [])) → (t ≡ 0 → ⊥) × (x ≡ t - 1)
+    go : (b : Bool) → eqb t 0 ≡ b → List·Memᴰ i (cond b [] ((t - 1) ∷ [])) → t ≡ suc i
     go true e m = absurd (List·Memᴰ·not-nil m)
-    go false e m = (eqb-false t 0 e, ⊎-elim (λ q. q) (λ q. absurd (List·Memᴰ·not-nil q)) (List·Memᴰ·cases-cons m))
+    go false e m = let d = eqb-false t 0 e in let q = only m in omega arith
+
+-- what is picked, by the number that picks it
+pub picked-elim : (pick : ℕ → ℕ) (l : List ℕ) {i : ℕ} → List·Memᴰ i (picked pick l) → (r : ℕ) × List·Memᴰ r l × (pick r ≡ suc i)
+unfolding picked
+picked-elim pick l m = let (r, a, b) = collect-elim (λ r. one (pick r)) l m in (r, a, one-elim (pick r) b)
 
 -- what is picked of numbers that pick records below a bound
 picked-small : (pick : ℕ → ℕ) (l : List ℕ) (n : ℕ) → ((r : ℕ) → List·Memᴰ r l → pick r ≤ n) → {x : ℕ} → List·Memᴰ x (picked pick l) → x < n
-unfolding picked
-picked-small pick l n low {x} m =
-    let (r, i, o) = collect-elim (λ r. one (pick r)) l m in
-    let (d, e) = one-elim (pick r) o in
-    let b = low r i in
-    omega (arith, d)
-
-from-elim : (s n : ℕ) {k : ℕ} → List·Memᴰ k (from s n) → k < s + n
-unfolding from
-from-elim s zero m = absurd (List·Memᴰ·not-nil m)
-from-elim s (suc n) m = ⊎-elim (λ e. omega arith) (λ i. let h = from-elim (s + 1) n i in omega arith) (List·Memᴰ·cases-cons m)
+picked-small pick l n low m = let (r, i, e) = picked-elim pick l m in let b = low r i in omega arith
 
 reached-low : (names run : List ℕ) (r : ℕ) → reached-at names run r ≤ taker names r
 unfolding reached-at
@@ -49,7 +46,7 @@ pub reached-small : (names w : List ℕ) (named n : ℕ) → ((r : ℕ) → r < 
     → List·Memᴰ x (reached-records names w named) → x < n
 reached-small names w named n low m =
     picked-small (reached-at names w) (from 0 named) n
-    (λ r i. let a = reached-low names w r in let b = from-elim 0 named i in let c = low r (omega arith) in omega arith) m
+    (λ r i. let a = reached-low names w r in let c = low r (from-below named i) in omega arith) m
 
 pub ambients-small : (recs : List ℕ) (k : Counts) {x : ℕ} → List·Memᴰ x (ambient-records recs k) → x < k .records
 unfolding ambient-records
@@ -62,4 +59,4 @@ ambients-small recs k {x} m = go (no-ambients (ask-of k)) m
         (λ r i. let a = ambient-small recs r refl in let b = upto-elim (k .records) i in omega arith) m
 
 pub goals-small : (recs : List ℕ) (k : Counts) {x : ℕ} → List·Memᴰ x (goal-records recs k) → x < k .records
-goals-small recs k m = let a = from-elim 0 (k .records) (keep-elim (is-goal recs k) (from 0 (k .records)) m .0) in omega arith
+goals-small recs k m = from-below (k .records) (keep-elim (is-goal recs k) (from 0 (k .records)) m .0)

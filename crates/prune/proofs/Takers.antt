@@ -1,5 +1,5 @@
 -- The records that took the names: that of a name is what `model` finds by the name; all numbers listed are those of records.
-use Prim.Native.Nat.{ℕ, zero, suc, _+_, _-_, _<_}
+use Prim.Native.Nat.{ℕ, zero, suc, _+_, _-_, _≤_, _<_}
 use native.Mathlib.Numerals.{add-one}
 use native.Mathlib.Omega.{arith}
 use mathlib.Core.Path.{_≡_, refl, sym, ap, _∙_, subst}
@@ -28,6 +28,7 @@ use Rattle.scan.proofs.Numbers.{set-intro, set-elim, upto-elim}
 use Rattle.scan.proofs.Background.{only}
 use Rattle.prune.specs.Listing.{from, one, picked, taker, reached-at, kind-at, ambient-at, is-goal, reached-records, ambient-records, fact-records, items, stamp-records, kind-records, decl-records, item-stamp, kept-records}
 use Rattle.prune.specs.Kept.{reached-of}
+use Rattle.prune.proofs.Members.{picked-elim, reached-small, ambients-small, goals-small}
 use Rattle.prune.proofs.Ranges.{keep-keep, keep-only, from-below}
 
 -- ---- a record listed by its number and one
@@ -47,22 +48,6 @@ one-suc t i e =
 nonzero : (i : ℕ) → eqb (suc i) 0 ≡ false
 nonzero i = ne-eqb (suc i) 0 (λ e. omega arith)
 
--- the number that a record was listed by
-one-elim : (t : ℕ) {i : ℕ} → List·Memᴰ i (one t) → t ≡ suc i
-one-elim t {i} m =
-    ⊎-elim
-    (λ (z : t ≡ 0). absurd (List·Memᴰ·not-nil (rw (one-zero t z) at m)))
-    (λ (z : t ≡ 0 → ⊥).
-    let p : t ≡ suc (t - 1) = omega arith in
-    let e : i ≡ t - 1 = only (rw (one-suc t (t - 1) p) at m) in
-    omega arith)
-    (equal t 0)
-
--- the number that a picked record was picked by
-picked-elim : (pick : ℕ → ℕ) (l : List ℕ) {i : ℕ} → List·Memᴰ i (picked pick l) → (r : ℕ) × List·Memᴰ r l × (pick r ≡ suc i)
-unfolding picked
-picked-elim pick l m = let (r, a, b) = collect-elim (λ r. one (pick r)) l m in (r, a, one-elim (pick r) b)
-
 -- a number or 0, by a test
 cond-suc : (b : Bool) (t : ℕ) {i : ℕ} → cond b t 0 ≡ suc i → t ≡ suc i
 cond-suc true t e = e
@@ -73,28 +58,11 @@ cond-zero : (b : Bool) (t : ℕ) {i : ℕ} → cond b 0 t ≡ suc i → t ≡ su
 cond-zero true t e = absurd (omega arith)
 cond-zero false t e = e
 
--- a reached record of a rank is its taker
-reached-taker : (names run : List ℕ) (r : ℕ) {i : ℕ} → reached-at names run r ≡ suc i → taker names r ≡ suc i
-unfolding reached-at
-reached-taker names run r e = cond-suc (is-reached run (taker names r - 1)) (taker names r) (cond-zero (eqb (taker names r) 0) _ e)
-
 -- a record of a kind of a rank is its taker
 kind-taker : (names recs : List ℕ) (kind r : ℕ) {i : ℕ} → kind-at names recs kind r ≡ suc i → taker names r ≡ suc i
 unfolding kind-at
 kind-taker names recs kind r e =
     cond-suc (eqb (record-kind recs (taker names r - 1)) kind) (taker names r) (cond-zero (eqb (taker names r) 0) _ e)
-
--- an ambient is picked by its own number
-ambient-self : (recs : List ℕ) (j : ℕ) {i : ℕ} → ambient-at recs j ≡ suc i → j ≡ i
-unfolding ambient-at
-ambient-self recs j e =
-    let z = cond-suc (is-ambient (kind-of-code (summary-code recs j))) (j + 1) (cond-suc (eqb (record-kind recs j) assume-kind) _ e) in
-    omega arith
-
--- a member of a list that may be left out
-none-elim : (b : Bool) {i : ℕ} {l : List ℕ} → List·Memᴰ i (cond b [] l) → List·Memᴰ i l
-none-elim true m = absurd (List·Memᴰ·not-nil m)
-none-elim false m = m
 
 module _ {file names recs out : List ℕ} {k : Counts} (x : Filled file names recs out k) where
   -- what took a name is a record
@@ -203,29 +171,22 @@ module _ {file names recs out : List ℕ} {k : Counts} (x : Filled file names re
 
   -- ---- all numbers listed are those of records
 
-  -- the reached
-  reached-small : (run : List ℕ) (i : ℕ) → List·Memᴰ i (picked (reached-at names run) (from 0 (k .named))) → i < k .records
-  reached-small run i m =
-      let (r, a, b) = picked-elim (reached-at names run) (from 0 (k .named)) m in
-      taker-low r i (from-below (k .named) a) (reached-taker names run r b)
-
-  -- the ambients
-  ambient-small : (i : ℕ) → List·Memᴰ i (ambient-records recs k) → i < k .records
-  unfolding ambient-records
-  ambient-small i m =
-      let (j, a, b) = picked-elim (ambient-at recs) (upto (k .records)) (none-elim (no-ambients (ask-of k)) m) in
-      rw (← (ambient-self recs j b)) (upto-elim (k .records) a)
+  -- a rank picks no more than the last record
+  low : (r : ℕ) → r < k .named → taker names r ≤ k .records
+  low r h = x .stocked .taken .low (ranked names r) (omega (arith, x .table .numbers r h, x .table .few))
 
   -- the kept facts
   pub facts-small : (run : List ℕ) (i : ℕ) → List·Memᴰ i (fact-records names recs run k) → i < k .records
   unfolding fact-records
-  facts-small run i m = ⊎-elim (reached-small run i) (ambient-small i) (List·Memᴰ·append-cases (reached-records names run (k .named)) m)
+  facts-small run i m =
+      ⊎-elim (reached-small names run (k .named) (k .records) low) (ambients-small recs k)
+      (List·Memᴰ·append-cases (reached-records names run (k .named)) m)
 
   -- the items
   pub items-small : (run : List ℕ) (i : ℕ) → List·Memᴰ i (items names recs run k) → i < k .records
   unfolding items
   items-small run i m =
-      ⊎-elim (facts-small run i) (λ n. from-below (k .records) (keep-elim (is-goal recs k) (from 0 (k .records)) n .0))
+      ⊎-elim (facts-small run i) (goals-small recs k)
       (List·Memᴰ·append-cases (fact-records names recs run k) m)
 
   -- the definitions, or the declarations
