@@ -66,3 +66,17 @@ zeroing-next {column} {size} {before} {after} {i} z h room = record {
 
 pub zeroing-end : {column size : ℕ} {before after : List ℕ} {i : ℕ} → Zeroing column size before after i → column + size ≤ i → Zeroed column size before after
 zeroing-end z h = record { same = z .same; zero = λ j a b. z .zero j a (omega arith) }
+
+-- one block more
+pub zeroing-block : {column size : ℕ} {before after last : List ℕ} {i n : ℕ}
+    → Zeroing column size before after i → Zeroed i n after last → i + n ≤ column + size → Zeroing column size before last (i + n)
+zeroing-block {column} {size} {before} {after} {last} {i} {n} z b h = record {
+  low = omega (arith, z .low);
+  high = h;
+  same = same-then (z .same) (same-wider column size (z .low) h (b .same));
+  zero = λ j p q. go j p q (ltb j i) refl;
+}
+  where
+    go : (j : ℕ) → column ≤ j → j < i + n → (t : Bool) → ltb j i ≡ t → getD last j 0 ≡ 0
+    go j p q true e = let l = ltb-true j i e in b .same .same-words j (λ u v. omega arith) ∙ z .zero j p l
+    go j p q false e = b .zero j (ltb-false j i e) q

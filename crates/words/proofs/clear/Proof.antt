@@ -2,7 +2,7 @@
 use Prim.Native.Nat.{_-_}
 use native.Mathlib.Omega.{arith}
 use borrow.Author.Needs.{needs}
-use Rattle.words.proofs.Slices.{Zeroing, zeroing-start, zeroing-next, zeroing-end}
+use Rattle.words.proofs.Slices.{Zeroing, zeroing-start, zeroing-block, zeroing-end}
 use Rattle.words.proofs.clear.Statement.{statement}
 use Rattle.words.proofs.clear.Tie as tie
 
@@ -18,22 +18,35 @@ add-end c = search needs
 loop-holds : tie.Need-loop-holds Inv-loop μ-loop
 loop-holds c = zeroing-start _ _ _
 
-mul-w : tie.Need-mul-w Inv-loop μ-loop
-mul-w c = search needs
+sub-next-block : tie.Need-sub-next-block Inv-loop μ-loop
+sub-next-block c = omega arith
 
-slice-write-w : tie.Need-slice-write-w Inv-loop μ-loop
-slice-write-w c =
-    let loop = c .before in
-    omega (arith, loop .before .pre, loop .loop .inv .same .same-length)
+next-block-requires : tie.Need-next-block-requires Inv-loop μ-loop
+next-block-requires c κs = omega arith
+
+clear-block-requires : tie.Need-clear-block-requires Inv-loop μ-loop
+clear-block-requires c κs =
+    let next = c .before in
+    let loop = next .before .before in
+    omega (arith, next .next-block .ensures, loop .loop .inv .same .same-length, loop .before .before .pre)
 
 add-i : tie.Need-add-i Inv-loop μ-loop
-add-i c = omega arith
+add-i c =
+    let next = c .before .before .before .before in
+    let test = next .before in
+    omega (arith, next .next-block .ensures, test .loop-test .taken, test .before .before .before .pre)
 
 loop-less : tie.Need-loop-less Inv-loop μ-loop
-loop-less c = omega arith
+loop-less c =
+    let next = c .before .before .before .before in
+    omega (arith, next .next-block .ensures, next .before .loop-test .taken)
 
 loop-again : tie.Need-loop-again Inv-loop μ-loop
-loop-again c = let loop = c .before in zeroing-next (loop .loop .inv) (c .loop-test .taken) (loop .before .pre)
+loop-again c =
+    let next = c .before .before .before .before in
+    let loop = next .before .before in
+    zeroing-block (loop .loop .inv) (c .before .before .clear-block .ensures)
+    (omega (arith, next .next-block .ensures, next .before .loop-test .taken))
 
 same-length : tie.Need-same-length Inv-loop μ-loop
 same-length c = c .before .loop .inv .same .same-length
@@ -43,4 +56,17 @@ returns c = zeroing-end (c .before .loop .inv) (c .loop-test .left)
 
 pub clear-spec : {M : Type 1} → statement M
 clear-spec =
-    tie.close (tie.spec Inv-loop μ-loop add-end loop-holds mul-w slice-write-w add-i loop-less loop-again same-length returns)
+    tie.close
+    (tie.spec
+    Inv-loop
+    μ-loop
+    add-end
+    loop-holds
+    sub-next-block
+    next-block-requires
+    clear-block-requires
+    add-i
+    loop-less
+    loop-again
+    same-length
+    returns)
