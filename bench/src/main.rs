@@ -3,7 +3,8 @@
 //! `bench [--real DIR] [--document FILE] [--picture FILE] [--quick]` prints a table: over files that look like what F*
 //! exports, over every `.in` of a folder of real queries, and over ugly ones. `--document` also puts it into a document,
 //! between the lines `<!-- table -->` and `<!-- end of table -->`; `--picture` draws time against file size for both.
-//! `--quick` measures shortly, to see that all works. Where valgrind is there, the instructions inside each call are
+//! `--quick` measures shortly, to see that all works. `--worst SEED SECONDS FILE` looks for the file on which the library takes
+//! longest instead, and writes it. Where valgrind is there, the instructions inside each call are
 //! counted as well: they do not depend on the load of the machine.
 
 mod date;
@@ -13,11 +14,13 @@ mod picture;
 mod sides;
 mod table;
 mod timing;
+mod worst;
 
 use std::fs;
 use std::io;
 use std::path::{Path, PathBuf};
 use std::process::ExitCode;
+use std::time::Duration;
 
 use compare::export::export;
 use files::Sample;
@@ -42,6 +45,11 @@ fn main() -> ExitCode {
             return done(instructions::run_once(side, Path::new(path)));
         }
     }
+    if let [flag, seed, seconds, path] = args.as_slice() {
+        if let ("--worst", Ok(seed), Ok(seconds)) = (flag.as_str(), seed.parse(), seconds.parse()) {
+            return done(worst(seed, Duration::from_secs(seconds), Path::new(path)));
+        }
+    }
     let mut options = Options::default();
     let mut args = args.into_iter();
     while let Some(arg) = args.next() {
@@ -51,7 +59,7 @@ fn main() -> ExitCode {
             "--picture" => options.picture = args.next().map(PathBuf::from),
             "--quick" => options.quick = true,
             _ => {
-                eprintln!("usage: bench [--real DIR] [--document FILE] [--picture FILE] [--quick]");
+                eprintln!("usage: bench [--real DIR] [--document FILE] [--picture FILE] [--quick] | bench --worst SEED SECONDS FILE");
                 return ExitCode::from(2);
             }
         }
@@ -104,6 +112,18 @@ fn run(options: &Options) -> io::Result<()> {
             })
             .collect();
         fs::write(path, picture::draw(&points))?;
+    }
+    Ok(())
+}
+
+/// Looks for the worst file, writes it, and says what it takes.
+fn worst(seed: u64, within: Duration, path: &Path) -> io::Result<()> {
+    let (shape, file) = worst::search(seed, within);
+    fs::write(path, &file)?;
+    let answer = sides::same_answer(&file).ok_or_else(|| io::Error::other("the two differ on this file"))?;
+    println!("{shape:?}: {} bytes, {answer}, {:.1} µs", file.len(), timing::time(&file, true).library);
+    if instructions::valgrind() {
+        println!("{} instructions", instructions::count(&file)?.library);
     }
     Ok(())
 }

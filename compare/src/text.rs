@@ -2,7 +2,7 @@
 
 use std::fmt::Display;
 
-use crate::terms::TermId;
+pub use crate::terms::TermId;
 
 /// A file under construction, which counts its term lines.
 #[derive(Clone, Default)]
