@@ -3,9 +3,9 @@ ghost use Prim.Native.Nat.{_+_, _≤_, _<_};
 ghost use mathlib.Core.Path.{_≡_};
 ghost use lib.ListN.{length};
 ghost use Rattle.model.specs.Lists.{part};
-ghost use Rattle.model.specs.Names.{order};
 ghost use Rattle.model.specs.Reading.{most-names};
 ghost use Rattle.model.specs.Outcome.{working-words};
+ghost use Rattle.text.specs.Parts.{shared, comparison};
 ghost use Rattle.names.specs.Known.{head-code};
 ghost use Rattle.names.specs.Table.{length-column, name-start, name-length, Table, is-excluded, name-of, names-of, look-up, index-with, spell-answer, spell-table};
 
@@ -53,35 +53,43 @@ pub fn head_code(file: &[u8], a: usize, e: usize) -> u32
     0
 }
 
-// The order of the name of a number and of the part from `a` up to `e`.
-fn compare(file: &[u8], w: &[u32], n: usize, a: usize, e: usize) -> Order
-    requires { ⌜ (length-column + n < length (now w)) × (name-start (now w) n + name-length (now w) n ≤ length (now file)) × (a ≤ e) × (e ≤ length (now file)) ⌝ }
-    ensures { λ r. ⌜ r ≡ order (name-of (now (file .entry)) (now (w .entry)) n) (part (now (file .entry)) a e) ⌝ }
+// How the name of a number stands to the part from `a` up to `e`, of which it is known to share the first `from` bytes.
+fn compare(file: &[u8], w: &[u32], n: usize, a: usize, e: usize, from: usize) -> text::Comparison
+    requires { ⌜ (length-column + n < length (now w)) × (name-start (now w) n + name-length (now w) n ≤ length (now file)) × (a ≤ e) × (e ≤ length (now file)) × (from ≤ shared (name-of (now file) (now w) n) (part (now file) a e)) ⌝ }
+    ensures { λ r. ⌜ r ≡ comparison (name-of (now (file .entry)) (now (w .entry)) n) (part (now (file .entry)) a e) ⌝ }
 {
-    let from = words::at(w, n);
+    let start = words::at(w, n);
     let size = words::at(w, LENGTH + n);
-    text::order(file, from, from + size, a, e)
+    text::compare_from(file, start, start + size, a, e, from)
 }
 
-// The number of the name from `a` up to `e`, or the rank where it belongs: a binary search in the byte-order index.
+// The number of the name from `a` up to `e`, or the rank where it belongs: a binary search in the byte-order index. The name
+// shares `below` bytes with the name before the rank `low` and `above` bytes with the one at `high`, or none where there is no
+// such name; what stands between the two shares the lesser number of bytes with it.
 pub fn look_up(file: &[u8], w: &[u32], named: usize, a: usize, e: usize) -> Found
     requires { ⌜ Table (now file) (now w) named × (a ≤ e) × (e ≤ length (now file)) ⌝ }
     ensures { λ r. ⌜ r ≡ look-up (names-of (now (file .entry)) (now (w .entry)) named) (part (now (file .entry)) a e) ⌝ }
 {
     let mut low: usize = 0;
     let mut high = named;
+    let mut below: usize = 0;
+    let mut above: usize = 0;
     while low < high {
         let middle = low + (high - low) / 2;
         let n = words::at(w, INDEX + middle);
-        match compare(file, w, n, a, e) {
+        let met = compare(file, w, n, a, e, text::lesser(below, above));
+        let order = met.order;
+        match order {
             Order::Before => {
                 low = middle + 1;
+                below = met.shared;
             }
             Order::Same => {
                 return Found::At(n);
             }
             Order::After => {
                 high = middle;
+                above = met.shared;
             }
         }
     }
