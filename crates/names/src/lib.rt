@@ -6,7 +6,7 @@ ghost use Rattle.model.specs.Lists.{part};
 ghost use Rattle.model.specs.Reading.{most-names};
 ghost use Rattle.model.specs.Outcome.{working-words};
 ghost use Rattle.text.specs.Parts.{shared, comparison};
-ghost use Rattle.names.specs.Known.{head-code};
+ghost use Rattle.names.specs.Known.{head-code, known-text};
 ghost use Rattle.names.specs.Table.{length-column, name-start, name-length, Table, is-excluded, name-of, names-of, look-up, index-with, spell-answer, spell-table};
 
 // What a look-up finds: the name's number, or the rank where the name belongs in byte order.
@@ -30,27 +30,53 @@ pub const INDEX: usize = 4096;
 
 pub const CODE: usize = 6144;
 
-// The known names in the order of their codes.
-const KNOWN: [u8; 249] =
-    *b"SFuel,ZFuel,HasType,HasTypeZ,HasTypeFuel,Valid,ApplyTT,ApplyTF,Prims.lex_t,is-BoxBool,is-BoxInt,is-BoxString,is-BoxReal,is-BoxProp,BoxBool,BoxInt,BoxString,BoxReal,BoxProp,Prims.squash,Prims.hasEq,IsTotFun,is-Tm_arrow,Term_constr_id,__uu__PartialApp";
+// The known names in the order of their codes, each behind its length.
+const KNOWN: [u8; 250] =
+    *b"\x05SFuel\x05ZFuel\x07HasType\x08HasTypeZ\x0bHasTypeFuel\x05Valid\x07ApplyTT\x07ApplyTF\x0bPrims.lex_t\x0ais-BoxBool\x09is-BoxInt\x0cis-BoxString\x0ais-BoxReal\x0ais-BoxProp\x07BoxBool\x06BoxInt\x09BoxString\x07BoxReal\x07BoxProp\x0cPrims.squash\x0bPrims.hasEq\x08IsTotFun\x0bis-Tm_arrow\x0eTerm_constr_id\x10__uu__PartialApp";
+
+// The lengths of the shortest known name and of the longest.
+const SHORTEST: usize = 5;
+
+const LONGEST: usize = 16;
 
 // The head code of the part from `a` up to `e`: its place among the known names from 1, or 0.
 pub fn head_code(file: &[u8], a: usize, e: usize) -> u32
     requires { ⌜ (a ≤ e) × (e ≤ length (now file)) ⌝ }
     ensures { λ r. ⌜ r ≡ head-code (part (now (file .entry)) a e) ⌝ }
 {
-    let known = KNOWN;
+    if e - a < SHORTEST {
+        return 0;
+    }
+    if LONGEST < e - a {
+        return 0;
+    }
+    code_in(file, a, e, &KNOWN)
+}
+
+// The same of a part of any length, from the known names, each behind its length.
+fn code_in(file: &[u8], a: usize, e: usize, known: &[u8]) -> u32
+    requires { ⌜ (a ≤ e) × (e ≤ length (now file)) × (now known ≡ known-text) ⌝ }
+    ensures { λ r. ⌜ r ≡ head-code (part (now (file .entry)) a e) ⌝ }
+{
     let mut code: u32 = 1;
     let mut i: usize = 0;
-    while i <= 249 {
-        let stop = text::find(&known, b',', i, 249);
-        if text::same_text(file, a, e, &known[i..stop]) {
+    while i < known.len() {
+        let start = i + 1;
+        let stop = start + wide(known[i]);
+        if text::same_text(file, a, e, &known[start..stop]) {
             return code;
         }
         code += 1;
-        i = stop + 1;
+        i = stop;
     }
     0
+}
+
+// A byte as a number.
+fn wide(b: u8) -> usize
+    ensures { λ r. ⌜ r ≡ b ⌝ }
+{
+    b as usize
 }
 
 // How the name of a number stands to the part from `a` up to `e`, of which it is known to share the first `from` bytes.
