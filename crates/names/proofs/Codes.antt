@@ -112,7 +112,8 @@ left-next {known} {i} {code} {name} {answer} left h stop e = go (left .names) (l
 pub left-end : {known : List ℕ} {i code : ℕ} {name : Name} {answer : ℕ} → Left known i code name answer → length known ≤ i
     → answer ≡ 0
 unfolding packed code-from
-left-end {known} {i} {code} {name} {answer} left h = go (left .names) (sym (drop-of-length-le known h) ∙ left .stand) (left .codes)
+left-end {known} {i} {code} {name} {answer} left h =
+    go (left .names) (sym (drop-of-length-le known h) ∙ left .stand) (left .codes)
   where
     go : (ns : List Name) → [] ≡ packed ns → answer ≡ code-from code ns name → answer ≡ 0
     go [] p q = q

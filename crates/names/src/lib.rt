@@ -53,7 +53,7 @@ pub fn head_code(file: &[u8], a: usize, e: usize) -> u32
     code_in(file, a, e, &KNOWN)
 }
 
-// The same of a part of any length, from the known names, each behind its length.
+// The head code of a part of any length, by the text of the known names.
 fn code_in(file: &[u8], a: usize, e: usize, known: &[u8]) -> u32
     requires { ⌜ (a ≤ e) × (e ≤ length (now file)) × (now known ≡ known-text) ⌝ }
     ensures { λ r. ⌜ r ≡ head-code (part (now (file .entry)) a e) ⌝ }
@@ -79,7 +79,7 @@ fn wide(b: u8) -> usize
     b as usize
 }
 
-// How the name of a number stands to the part from `a` up to `e`, of which it is known to share the first `from` bytes.
+// How the name of a number stands to the part from `a` up to `e`, whose first `from` bytes it is known to share.
 fn compare(file: &[u8], w: &[u32], n: usize, a: usize, e: usize, from: usize) -> text::Comparison
     requires { ⌜ (length-column + n < length (now w)) × (name-start (now w) n + name-length (now w) n ≤ length (now file)) × (a ≤ e) × (e ≤ length (now file)) × (from ≤ shared (name-of (now file) (now w) n) (part (now file) a e)) ⌝ }
     ensures { λ r. ⌜ r ≡ comparison (name-of (now (file .entry)) (now (w .entry)) n) (part (now (file .entry)) a e) ⌝ }

@@ -405,10 +405,12 @@ compared-behind (suc k) (b ∷ bs) (c ∷ cs) h = go (eqb b c) refl h (compared-
 
     go : (t : Bool) → eqb b c ≡ t → suc k ≤ cond t (1 + shared bs cs) 0
         → (k ≤ shared bs cs → comparison bs cs ≡ behind k (comparison (drop k bs) (drop k cs)))
-        → made (by-byte (compare b c) (order bs cs)) (cond t (1 + shared bs cs) 0) ≡ behind (suc k) (comparison (drop k bs) (drop k cs))
+        → made (by-byte (compare b c) (order bs cs)) (cond t (1 + shared bs cs) 0)
+        ≡ behind (suc k) (comparison (drop k bs) (drop k cs))
     go true d h later =
         let same = later (omega arith) in
-        let more : 1 + shared bs cs ≡ suc k + shared (drop k bs) (drop k cs) = omega (arith, ap (λ (x : Comparison). x .shared) same) in
+        let more : 1 + shared bs cs ≡ suc k + shared (drop k bs) (drop k cs) =
+        omega (arith, ap (λ (x : Comparison). x .shared) same) in
         ap₂ made (by-equal (compare b c) (order bs cs) d ∙ ap (λ (x : Comparison). x .order) same) more
     go false d h later = absurd (omega arith)
 
@@ -458,17 +460,21 @@ module _ (s t : List ℕ) (a e b f i : ℕ) (k : e ≤ length s) (l : f ≤ leng
     shared-differ d = rw (part-cons s (a + i) e h k, part-cons t (b + i) f g l, ne-eqb (getD s (a + i) 0) (getD t (b + i) 0) d)
 
     -- the first part has the smaller byte
-    pub compared-less : getD s (a + i) 0 < getD t (b + i) 0 → comparison (part s a e) (part t b f) ≡ record { order = Before; shared = i }
+    pub compared-less : getD s (a + i) 0 < getD t (b + i) 0
+        → comparison (part s a e) (part t b f) ≡ record { order = Before; shared = i }
     compared-less d =
         let x = getD s (a + i) 0 in
         let y = getD t (b + i) 0 in
         last Before
         (order-cons s t (a + i) e (b + i) f h k g l
-        ∙ by-less (compare x y) (order (part s (a + i + 1) e) (part t (b + i + 1) f)) (le-leb x y (omega arith)) (ne-eqb x y (λ z. omega arith)))
+        ∙ by-less (compare x y) (order (part s (a + i + 1) e) (part t (b + i + 1) f))
+        (le-leb x y (omega arith))
+        (ne-eqb x y (λ z. omega arith)))
         (shared-differ (λ z. omega arith))
 
     -- the first part has the larger byte
-    pub compared-more : getD t (b + i) 0 < getD s (a + i) 0 → comparison (part s a e) (part t b f) ≡ record { order = After; shared = i }
+    pub compared-more : getD t (b + i) 0 < getD s (a + i) 0
+        → comparison (part s a e) (part t b f) ≡ record { order = After; shared = i }
     compared-more d =
         let x = getD s (a + i) 0 in
         let y = getD t (b + i) 0 in

@@ -1,4 +1,5 @@
--- `names::code_in` meets its contract. The loop's invariant: the head code is the code from `code` on among the known names from `i` on.
+-- `names::code_in` meets its contract. The loop's invariant: the head code is the code from `code` on among the known names from
+-- `i` on.
 use Prim.Native.Nat.{_+_, _-_}
 use mathlib.Core.Path.{sym, _∙_}
 use native.Mathlib.Omega.{arith}
@@ -56,7 +57,8 @@ returns : tie.Need-returns Inv-loop μ-loop
 returns c =
     let now = c .before .before .before .before .before .before .loop in
     let size = c .before .before .before .wide in
-    let next = left-next (now .inv) (c .before .before .before .before .before .loop-test .taken) (now .i + 1 + size .result) (omega arith) in
+    let more = c .before .before .before .before .before .loop-test .taken in
+    let next = left-next (now .inv) more (now .i + 1 + size .result) (omega arith) in
     sym (next .here (sym (c .before .same-text .ensures) ∙ c .if1 .taken))
 
 add-code : tie.Need-add-code Inv-loop μ-loop
@@ -69,7 +71,8 @@ loop-again : tie.Need-loop-again Inv-loop μ-loop
 loop-again c =
     let now = c .before .before .before .before .before .before .loop in
     let size = c .before .before .before .wide in
-    let next = left-next (now .inv) (c .before .before .before .before .before .loop-test .taken) (now .i + 1 + size .result) (omega arith) in
+    let more = c .before .before .before .before .before .loop-test .taken in
+    let next = left-next (now .inv) more (now .i + 1 + size .result) (omega arith) in
     next .on (sym (c .before .same-text .ensures) ∙ c .if1 .left)
 
 returns-2 : tie.Need-returns-2 Inv-loop μ-loop

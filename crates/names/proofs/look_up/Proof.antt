@@ -1,4 +1,5 @@
--- `names::look_up` meets its contract. The loop's invariant: the search stands at `low` and `high`, with the bytes that are shared there.
+-- `names::look_up` meets its contract. The loop's invariant: the search stands at `low` and `high`, with the bytes that are shared
+-- there.
 use Prim.Native.Nat.{_+_, _-_, _/_, _<_}
 use mathlib.Core.Path.{sym, ap, _∙_}
 use Rattle.model.proofs.SetLaws.{order-same}
@@ -100,7 +101,9 @@ loop-again-2 c =
 returns-2 : tie.Need-returns-2 Inv-loop μ-loop
 returns-2 c =
     let now = c .before .loop in
-    sym (look-up-missing (c .before .before .before .before .pre .0) (now .low) _ (omega arith) (now .inv .before) (λ q h l. now .inv .after q (omega arith) l))
+    let table = c .before .before .before .before .pre .0 in
+    let inv = now .inv in
+    sym (look-up-missing table (now .low) _ (omega arith) (inv .before) (λ q h l. inv .after q (omega arith) l))
 
 pub look-up-spec : {M : Type 1} → statement M
 look-up-spec =

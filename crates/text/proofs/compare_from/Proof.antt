@@ -59,7 +59,8 @@ loop-less c = omega arith
 loop-again : tie.Need-loop-again Inv-loop μ-loop
 loop-again c =
     let pre = c .before .before .before .before .before .before .before .pre in
-    shared-on _ _ _ _ _ _ _ (pre .1) (pre .3) (c .before .before .before .before .loop .inv) (omega arith) (omega arith) (omega arith)
+    let inv = c .before .before .before .before .loop .inv in
+    shared-on _ _ _ _ _ _ _ (pre .1) (pre .3) inv (omega arith) (omega arith) (omega arith)
 
 returns-3 : tie.Need-returns-3 Inv-loop μ-loop
 returns-3 c =
