@@ -15,6 +15,7 @@ use Rattle.model.proofs.ListLaws.{T-true, T-false, true-T}
 use Rattle.model.proofs.SetLaws.{same-refl, same-eq, mem-first, mem-later, from-list-mem}
 use Rattle.names.specs.Known.{known-names, code-from, head-code}
 use Rattle.names.specs.Table.{name-of, names-of, Table}
+use Rattle.names.proofs.Codes.{known-length}
 
 -- ---- codes
 
@@ -93,11 +94,6 @@ code-first k (m ∷ ms) ls n p = go (same n m) (mem n ms) (code-from (k + 1) (ms
 -- the known names, as bytes
 known : List Name
 known = map bytes known-names
-
--- there are 25
-known-length : length known ≡ 25
-unfolding known known-names common-names
-known-length = refl
 
 -- no two of them are the same
 known-distinct : T (all-distinct known)

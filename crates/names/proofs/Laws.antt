@@ -1,5 +1,5 @@
 -- Laws of a table of names, said of plain lists: its names by number and by rank, and what a look-up answers.
-use Prim.Native.Nat.{ℕ, zero, suc, _+_, _≤_, _<_, zero-le}
+use Prim.Native.Nat.{ℕ, zero, suc, _+_, _-_, _≤_, _<_, zero-le}
 use native.Mathlib.Numerals.{one-add}
 use native.Mathlib.Nat.{zero-add, add-zero, add-assoc, eq-or-lt-of-le, not-suc-le-zero}
 use native.Mathlib.Omega.{arith}
@@ -18,6 +18,9 @@ use Rattle.model.specs.declared.Order.{Order}
 use Rattle.model.specs.declared.Order.the-variants.{Before, After}
 use Rattle.model.proofs.ListLaws.{T-true, T-false, any-append, count-append}
 use Rattle.model.proofs.SetLaws.{order-flip, order-trans, order-irrefl, Compared, first, equal, second, compared, same-refl, same-eq, mem-cons, mem-first, mem-later, mem-append, add-mem, Ascending, empty, one, ascending-tail, ascending-head, ascending-cons, ascending-add, ascending-ext}
+use Rattle.text.specs.declared.Comparison.{Comparison}
+use Rattle.text.specs.Parts.{shared, comparison}
+use Rattle.text.proofs.Laws.{shared-between}
 use Rattle.names.specs.declared.Found.{Found}
 use Rattle.names.specs.declared.Found.the-variants.{At, Missing}
 use Rattle.names.specs.Table.{name-of, ranked, names-of, Table, place-from, is-before, rank-among, found-or, look-up}
@@ -297,15 +300,52 @@ pub name-row : (file w : List ℕ) (n start size : ℕ) → start ≡ getD w n 0
 unfolding name-of
 name-row file w n start size p q = rw (p, q)
 
--- and so is the order of it and a name
-pub order-row : (file w : List ℕ) (n start size : ℕ) (name : Name) → start ≡ getD w n 0 → size ≡ getD w (2048 + n) 0
-    → order (part file start (start + size)) name ≡ order (name-of file w n) name
-order-row file w n start size name p q = rw (name-row file w n start size p q)
+-- what is shared with the name of a number is shared with that part
+pub shared-row : (file w : List ℕ) (n start size : ℕ) (name : Name) (k : ℕ) → start ≡ getD w n 0 → size ≡ getD w (2048 + n) 0
+    → k ≤ shared (name-of file w n) name → k ≤ shared (part file start (start + size)) name
+shared-row file w n start size name k p q h = rw (name-row file w n start size p q) h
 
--- the order of a rank's name, from the number that was read there and the order that was answered
-pub met : (file w : List ℕ) (m n : ℕ) (name : Name) (r o : Order) → n ≡ ranked w m → r ≡ order (name-of file w n) name → r ≡ o
-    → order (name-at file w m) name ≡ o
-met file w m n name r o p q t = rw (← p) (sym q ∙ t)
+-- and how that part stands to a name is how the name of the number does
+pub comparison-row : (file w : List ℕ) (n start size : ℕ) (name : Name) → start ≡ getD w n 0 → size ≡ getD w (2048 + n) 0
+    → comparison (part file start (start + size)) name ≡ comparison (name-of file w n) name
+comparison-row file w n start size name p q = rw (name-row file w n start size p q)
+
+-- what was answered of the number that a rank has, said of the rank's name: its order
+pub met-order : (file w : List ℕ) (m n : ℕ) (name : Name) (r : Comparison) (o : Order) → n ≡ ranked w m
+    → r ≡ comparison (name-of file w n) name → r .order ≡ o → order (name-at file w m) name ≡ o
+unfolding comparison
+met-order file w m n name r o p q t = rw (← p) (sym (ap (λ (c : Comparison). c .order) q) ∙ t)
+
+-- and the bytes that it shares
+pub met-shared : (file w : List ℕ) (m n : ℕ) (name : Name) (r : Comparison) → n ≡ ranked w m
+    → r ≡ comparison (name-of file w n) name → r .shared ≡ shared (name-at file w m) name
+unfolding comparison
+met-shared file w m n name r p q = rw (← p) (ap (λ (c : Comparison). c .shared) q)
+
+-- how a search stands: the names of the ranks below `low` stand before the name, and those from `high` on after it; `below` bytes
+-- are shared with the name before `low` and `above` with that at `high`, and none where there is no such name
+pub record Searching (file w : List ℕ) (named : ℕ) (name : Name) (low high below above : ℕ) : Type 0 where
+  pub within : low ≤ high
+  pub inside : high ≤ named
+  pub before : (q : ℕ) → q < low → order (name-at file w q) name ≡ Before
+  pub after : (q : ℕ) → high ≤ q → q < named → order (name-at file w q) name ≡ After
+  pub first : low ≡ 0 → below ≡ 0
+  pub low-shares : (q : ℕ) → low ≡ q + 1 → below ≤ shared (name-at file w q) name
+  pub last : named ≤ high → above ≡ 0
+  pub high-shares : high < named → above ≤ shared (name-at file w high) name
+
+-- a search begins with every rank, and nothing known of what is shared
+pub search-start : (file w : List ℕ) (named : ℕ) (name : Name) → Searching file w named name 0 named 0 0
+search-start file w named name = record {
+  within = zero-le;
+  inside = omega arith;
+  before = λ q h. absurd (omega arith);
+  after = λ q h l. absurd (omega arith);
+  first = λ h. refl;
+  low-shares = λ q h. zero-le;
+  last = λ h. refl;
+  high-shares = λ h. zero-le;
+}
 
 -- a name that a table lacks: the names at the ranks below one stand before it, and the others after it
 pub record Lacks (file w : List ℕ) (named : ℕ) (name : Name) (rank : ℕ) : Type 0 where
@@ -363,6 +403,55 @@ module _ {file w : List ℕ} {named : ℕ} (table : Table file w named) where
       let first = order-flip name (name-at file w m) .1 p in
       order-flip name (name-at file w q) .0 (order-trans name (name-at file w m) (name-at file w q) first (table .ascending m q h k)))
       (eq-or-lt-of-le l)
+
+  module _ {name : Name} {low high below above : ℕ} (now : Searching file w named name low high below above) (m : ℕ)
+      (l : low ≤ m) (h : m < high) where
+    -- the name of a rank between the two shares what the names at both ends share
+    pub search-shares : (k : ℕ) → k ≤ below → k ≤ above → k ≤ shared (name-at file w m) name
+    search-shares k p q =
+        ⊎-elim
+        (λ (z : 0 ≡ low). omega (arith, now .first (sym z)))
+        (λ (f : 0 < low).
+        ⊎-elim
+        (λ (z : named ≤ high). omega (arith, now .last z))
+        (λ (g : high < named).
+        shared-between k (name-at file w (low - 1)) (name-at file w m) (name-at file w high) name
+        (table .ascending (low - 1) m (omega arith) (omega arith))
+        (table .ascending m high h g)
+        (omega (arith, now .low-shares (low - 1) (omega arith)))
+        (omega (arith, now .high-shares g)))
+        (below-or named high))
+        (eq-or-lt-of-le zero-le)
+
+    -- the rank's name stands before the name: the search goes on above it
+    pub search-above : (k : ℕ) → order (name-at file w m) name ≡ Before → k ≡ shared (name-at file w m) name
+        → Searching file w named name (m + 1) high k above
+    search-above k p e = record {
+      within = omega arith;
+      inside = now .inside;
+      before = all-before m name (omega (arith, now .inside)) p;
+      after = now .after;
+      first = λ z. absurd (omega arith);
+      low-shares = λ q z.
+          let d : m ≡ q = omega arith in
+          rw (← d) (omega arith);
+      last = now .last;
+      high-shares = now .high-shares;
+    }
+
+    -- it stands after the name: the search goes on below it
+    pub search-below : (k : ℕ) → order (name-at file w m) name ≡ After → k ≡ shared (name-at file w m) name
+        → Searching file w named name low m below k
+    search-below k p e = record {
+      within = l;
+      inside = omega (arith, now .inside);
+      before = now .before;
+      after = all-after m name p;
+      first = now .first;
+      low-shares = now .low-shares;
+      last = λ z. absurd (omega (arith, now .inside));
+      high-shares = λ z. omega arith;
+    }
 
   -- a name that stands at a rank is found there
   pub look-up-at : (r : ℕ) (name : Name) → r < named → name-at file w r ≡ name → look-up (names-of file w named) name ≡ At (ranked w r)

@@ -3,6 +3,7 @@ use Prim.Native.Nat.{ℕ, _+_}
 use Prim.Native.String.{String}
 use mathlib.Core.Bool.{cond}
 use mathlib.Core.List.{List, [], _∷_, _++_, map}
+use lib.ListN.{length}
 use Rattle.model.specs.Names.{Name, bytes, same}
 use Rattle.model.specs.Summaries.{common-names}
 
@@ -27,6 +28,15 @@ known-names =
     ∷ "Term_constr_id"
     ∷ "__uu__PartialApp"
     ∷ [])
+
+-- names in one text, each behind its length
+unfoldable pub packed : List Name → List ℕ
+packed [] = []
+packed (n ∷ ns) = length n ∷ n ++ packed ns
+
+-- the text of the known names
+unfoldable pub known-text : List ℕ
+known-text = packed (map bytes known-names)
 
 -- the code of a name among names whose first has the code n: 0 where it is none of them
 unfoldable pub code-from : ℕ → List Name → Name → ℕ

@@ -3,10 +3,10 @@ ghost use Prim.Native.Nat.{_+_, _≤_, _<_};
 ghost use mathlib.Core.Path.{_≡_};
 ghost use lib.ListN.{length};
 ghost use Rattle.model.specs.Lists.{part};
-ghost use Rattle.model.specs.Names.{order};
 ghost use Rattle.model.specs.Reading.{most-names};
 ghost use Rattle.model.specs.Outcome.{working-words};
-ghost use Rattle.names.specs.Known.{head-code};
+ghost use Rattle.text.specs.Parts.{shared, comparison};
+ghost use Rattle.names.specs.Known.{head-code, known-text};
 ghost use Rattle.names.specs.Table.{length-column, name-start, name-length, Table, is-excluded, name-of, names-of, look-up, index-with, spell-answer, spell-table};
 
 // What a look-up finds: the name's number, or the rank where the name belongs in byte order.
@@ -30,58 +30,92 @@ pub const INDEX: usize = 4096;
 
 pub const CODE: usize = 6144;
 
-// The known names in the order of their codes.
-const KNOWN: [u8; 249] =
-    *b"SFuel,ZFuel,HasType,HasTypeZ,HasTypeFuel,Valid,ApplyTT,ApplyTF,Prims.lex_t,is-BoxBool,is-BoxInt,is-BoxString,is-BoxReal,is-BoxProp,BoxBool,BoxInt,BoxString,BoxReal,BoxProp,Prims.squash,Prims.hasEq,IsTotFun,is-Tm_arrow,Term_constr_id,__uu__PartialApp";
+// The known names in the order of their codes, each behind its length.
+const KNOWN: [u8; 250] =
+    *b"\x05SFuel\x05ZFuel\x07HasType\x08HasTypeZ\x0bHasTypeFuel\x05Valid\x07ApplyTT\x07ApplyTF\x0bPrims.lex_t\x0ais-BoxBool\x09is-BoxInt\x0cis-BoxString\x0ais-BoxReal\x0ais-BoxProp\x07BoxBool\x06BoxInt\x09BoxString\x07BoxReal\x07BoxProp\x0cPrims.squash\x0bPrims.hasEq\x08IsTotFun\x0bis-Tm_arrow\x0eTerm_constr_id\x10__uu__PartialApp";
+
+// The lengths of the shortest known name and of the longest.
+const SHORTEST: usize = 5;
+
+const LONGEST: usize = 16;
 
 // The head code of the part from `a` up to `e`: its place among the known names from 1, or 0.
 pub fn head_code(file: &[u8], a: usize, e: usize) -> u32
     requires { ⌜ (a ≤ e) × (e ≤ length (now file)) ⌝ }
     ensures { λ r. ⌜ r ≡ head-code (part (now (file .entry)) a e) ⌝ }
 {
-    let known = KNOWN;
+    if e - a < SHORTEST {
+        return 0;
+    }
+    if LONGEST < e - a {
+        return 0;
+    }
+    code_in(file, a, e, &KNOWN)
+}
+
+// The head code of a part of any length, by the text of the known names.
+fn code_in(file: &[u8], a: usize, e: usize, known: &[u8]) -> u32
+    requires { ⌜ (a ≤ e) × (e ≤ length (now file)) × (now known ≡ known-text) ⌝ }
+    ensures { λ r. ⌜ r ≡ head-code (part (now (file .entry)) a e) ⌝ }
+{
     let mut code: u32 = 1;
     let mut i: usize = 0;
-    while i <= 249 {
-        let stop = text::find(&known, b',', i, 249);
-        if text::same_text(file, a, e, &known[i..stop]) {
+    while i < known.len() {
+        let start = i + 1;
+        let stop = start + wide(known[i]);
+        if text::same_text(file, a, e, &known[start..stop]) {
             return code;
         }
         code += 1;
-        i = stop + 1;
+        i = stop;
     }
     0
 }
 
-// The order of the name of a number and of the part from `a` up to `e`.
-fn compare(file: &[u8], w: &[u32], n: usize, a: usize, e: usize) -> Order
-    requires { ⌜ (length-column + n < length (now w)) × (name-start (now w) n + name-length (now w) n ≤ length (now file)) × (a ≤ e) × (e ≤ length (now file)) ⌝ }
-    ensures { λ r. ⌜ r ≡ order (name-of (now (file .entry)) (now (w .entry)) n) (part (now (file .entry)) a e) ⌝ }
+// A byte as a number.
+fn wide(b: u8) -> usize
+    ensures { λ r. ⌜ r ≡ b ⌝ }
 {
-    let from = words::at(w, n);
-    let size = words::at(w, LENGTH + n);
-    text::order(file, from, from + size, a, e)
+    b as usize
 }
 
-// The number of the name from `a` up to `e`, or the rank where it belongs: a binary search in the byte-order index.
+// How the name of a number stands to the part from `a` up to `e`, whose first `from` bytes it is known to share.
+fn compare(file: &[u8], w: &[u32], n: usize, a: usize, e: usize, from: usize) -> text::Comparison
+    requires { ⌜ (length-column + n < length (now w)) × (name-start (now w) n + name-length (now w) n ≤ length (now file)) × (a ≤ e) × (e ≤ length (now file)) × (from ≤ shared (name-of (now file) (now w) n) (part (now file) a e)) ⌝ }
+    ensures { λ r. ⌜ r ≡ comparison (name-of (now (file .entry)) (now (w .entry)) n) (part (now (file .entry)) a e) ⌝ }
+{
+    let start = words::at(w, n);
+    let size = words::at(w, LENGTH + n);
+    text::compare_from(file, start, start + size, a, e, from)
+}
+
+// The number of the name from `a` up to `e`, or the rank where it belongs: a binary search in the byte-order index. The name
+// shares `below` bytes with the name before the rank `low` and `above` bytes with the one at `high`, or none where there is no
+// such name; what stands between the two shares the lesser number of bytes with it.
 pub fn look_up(file: &[u8], w: &[u32], named: usize, a: usize, e: usize) -> Found
     requires { ⌜ Table (now file) (now w) named × (a ≤ e) × (e ≤ length (now file)) ⌝ }
     ensures { λ r. ⌜ r ≡ look-up (names-of (now (file .entry)) (now (w .entry)) named) (part (now (file .entry)) a e) ⌝ }
 {
     let mut low: usize = 0;
     let mut high = named;
+    let mut below: usize = 0;
+    let mut above: usize = 0;
     while low < high {
         let middle = low + (high - low) / 2;
         let n = words::at(w, INDEX + middle);
-        match compare(file, w, n, a, e) {
+        let met = compare(file, w, n, a, e, text::lesser(below, above));
+        let order = met.order;
+        match order {
             Order::Before => {
                 low = middle + 1;
+                below = met.shared;
             }
             Order::Same => {
                 return Found::At(n);
             }
             Order::After => {
                 high = middle;
+                above = met.shared;
             }
         }
     }

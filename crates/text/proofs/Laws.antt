@@ -1,16 +1,17 @@
 -- What the functions of this crate rest on, said of plain lists: parts of a file, the first mark in one, fields, names, numbers, byte order, lines.
 use Prim.Native.Nat.{ℕ, zero, suc, _+_, _-_, _*_, _≤_, _<_, zero-le, suc-le-suc, compare, Ordering, Ordering·lt, Ordering·eq, Ordering·gt}
 use native.Mathlib.Numerals.{add-one, one-add}
-use native.Mathlib.Nat.{add-zero, sub-zero, not-suc-le-zero, zero-sub, suc-sub-suc}
+use native.Mathlib.Nat.{zero-add, add-zero, sub-zero, not-suc-le-zero, zero-sub, suc-sub-suc}
 use native.Mathlib.Omega.{arith}
-use mathlib.Core.Path.{_≡_, refl, sym, ap, _∙_}
+use mathlib.Core.Path.{_≡_, refl, sym, ap, ap₂, _∙_}
+use mathlib.Core.Logic.{_↔_}
 use mathlib.Core.Bool.{Bool, true, false, cond, and-false, true≢false, false≢true}
 use mathlib.Core.List.{List, [], _∷_}
 use mathlib.Core.Option.{Option, none, some}
 use lib.ListN.{length, take, drop, getD, length-take, length-drop, drop-of-length-le}
 use lib.Seq.{drop-cons, take-nil, take-all, take-length, take-take, drop-drop}
 use lib.Dec.{leb, ltb, eqb, isLe, isEq}
-use borrow.Author.Tests.{eq-eqb, ne-eqb, le-leb, lt-leb, lt-ltb, le-ltb, ltb-true, leb-true, leb-false}
+use borrow.Author.Tests.{eqb-true, eq-eqb, ne-eqb, le-leb, lt-leb, lt-ltb, le-ltb, ltb-true, leb-true, leb-false}
 use Rattle.model.specs.Lists.{all, when, _>>=_, part}
 use Rattle.model.specs.Names.{Name, order, by-byte, same, is-same, starts-with, ends-with}
 use Rattle.model.specs.Lines.{Line, lines, line-cons, Field, fields, field-cons, is-name-byte, is-name, is-digit, decimal, number}
@@ -20,13 +21,14 @@ use Rattle.model.specs.declared.Order.the-variants.{Before, Same, After}
 use Rattle.model.specs.declared.Refusal.{Refusal}
 use Rattle.model.specs.declared.Refusal.the-variants as refusal
 use Rattle.model.proofs.PartLaws.{part-all, part-cons, part-drop, part-length, part-nil, part-rest, part-take}
+use Rattle.text.specs.declared.Comparison.{Comparison}
 use Rattle.text.specs.declared.Cursor.{Cursor}
 use Rattle.text.specs.declared.Decimal.the-variants as answer
 use Rattle.text.specs.declared.FieldStep.{FieldStep}
 use Rattle.text.specs.declared.FieldStep.the-variants as field
 use Rattle.text.specs.declared.NumberStep.{NumberStep}
 use Rattle.text.specs.declared.NumberStep.the-variants as numbered
-use Rattle.text.specs.Parts.{before, mark-at, as-decimal, Placed, fields-left, field-at, as-name, name-at, at-most, as-number, number-at, as-term, term-at, field-result, number-result}
+use Rattle.text.specs.Parts.{before, mark-at, shared, comparison, as-decimal, Placed, fields-left, field-at, as-name, name-at, at-most, as-number, number-at, as-term, term-at, field-result, number-result}
 
 -- ---- parts
 
@@ -288,24 +290,10 @@ same-sized s a e word k h = same-lengths (part s a e) word (rw (part-length s a 
 pub same-start : (s : List ℕ) (a e : ℕ) (word : Name) → same (part s a e) word ≡ same (part s (a + 0) e) (part word 0 (length word))
 same-start s a e word = rw (part-start s a e, part-all word)
 
--- two parts, as both stand where a loop begins
-pub order-start : (s t : List ℕ) (a e b f : ℕ) → order (part s a e) (part t b f) ≡ order (part s (a + 0) e) (part t (b + 0) f)
-order-start s t a e b f = rw (part-start s a e, part-start t b f)
-
 -- the part of s from p up to e against the part of t from q up to f
 module _ (s t : List ℕ) (p e q f : ℕ) where
-  -- the first part is over, and the second is not
-  pub order-before : e ≤ p → q < f → f ≤ length t → order (part s p e) (part t q f) ≡ Before
-  unfolding order
-  order-before h l m = rw (part-nil s p e h, part-cons t q f l m)
-
-  -- the second part is over, and the first is not
-  pub order-after : p < e → e ≤ length s → f ≤ q → order (part s p e) (part t q f) ≡ After
-  unfolding order
-  order-after h k l = rw (part-cons s p e h k, part-nil t q f l)
-
   -- both parts are over
-  pub order-same : e ≤ p → f ≤ q → order (part s p e) (part t q f) ≡ Same
+  order-same : e ≤ p → f ≤ q → order (part s p e) (part t q f) ≡ Same
   unfolding order
   order-same h l = rw (part-nil s p e h, part-nil t q f l)
 
@@ -320,35 +308,15 @@ module _ (s t : List ℕ) (p e q f : ℕ) where
     unfolding order
     order-cons = rw (part-cons s p e h k, part-cons t q f l m)
 
-    -- the first part has the smaller byte
-    pub order-less : getD s p 0 < getD t q 0 → order (part s p e) (part t q f) ≡ Before
-    order-less d =
-        order-cons
-        ∙ by-less (compare (getD s p 0) (getD t q 0)) (order (part s (p + 1) e) (part t (q + 1) f))
-        (le-leb (getD s p 0) (getD t q 0) (omega arith))
-        (ne-eqb (getD s p 0) (getD t q 0) (λ b. omega arith))
-
-    -- the first part has the larger byte
-    pub order-more : getD t q 0 < getD s p 0 → order (part s p e) (part t q f) ≡ After
-    order-more d =
-        order-cons
-        ∙ by-more (compare (getD s p 0) (getD t q 0)) (order (part s (p + 1) e) (part t (q + 1) f))
-        (lt-leb (getD s p 0) (getD t q 0) d)
-
-    -- the bytes are equal: on with the next two positions
-    pub order-on : (p′ q′ : ℕ) → p′ ≡ p + 1 → q′ ≡ q + 1 → getD s p 0 ≡ getD t q 0
-        → order (part s p e) (part t q f) ≡ order (part s p′ e) (part t q′ f)
-    order-on p′ q′ x y d =
-        rw (x, y)
-        (order-cons
-        ∙ by-equal (compare (getD s p 0) (getD t q 0)) (order (part s (p + 1) e) (part t (q + 1) f))
-        (eq-eqb (getD s p 0) (getD t q 0) d))
-
     -- the bytes are equal: whether the parts are the same is said by the next two positions
     pub same-on : (p′ q′ : ℕ) → p′ ≡ p + 1 → q′ ≡ q + 1 → getD s p 0 ≡ getD t q 0
         → same (part s p e) (part t q f) ≡ same (part s p′ e) (part t q′ f)
     unfolding same
-    same-on p′ q′ x y d = ap is-same (order-on p′ q′ x y d)
+    same-on p′ q′ x y d =
+        rw (x, y, order-cons)
+        (ap is-same
+        (by-equal (compare (getD s p 0) (getD t q 0)) (order (part s (p + 1) e) (part t (q + 1) f))
+        (eq-eqb (getD s p 0) (getD t q 0) d)))
 
     -- the bytes differ: the parts are not the same
     pub same-differ : (getD s p 0 ≡ getD t q 0 → ⊥) → same (part s p e) (part t q f) ≡ false
@@ -357,6 +325,171 @@ module _ (s t : List ℕ) (p e q f : ℕ) where
         rw order-cons
         (by-other (compare (getD s p 0) (getD t q 0)) (order (part s (p + 1) e) (part t (q + 1) f))
         (ne-eqb (getD s p 0) (getD t q 0) d))
+
+-- ---- bytes that two lists share at their starts
+
+-- there are no more than the first list has
+shared-first : (n m : List ℕ) → shared n m ≤ length n
+unfolding shared
+shared-first [] m = omega arith
+shared-first (b ∷ bs) [] = omega arith
+shared-first (b ∷ bs) (c ∷ cs) = go (eqb b c) (shared-first bs cs)
+  where
+    go : (t : Bool) → shared bs cs ≤ length bs → cond t (1 + shared bs cs) 0 ≤ suc (length bs)
+    go true h = omega arith
+    go false h = omega arith
+
+-- nor than the second has
+shared-second : (n m : List ℕ) → shared n m ≤ length m
+unfolding shared
+shared-second [] m = omega arith
+shared-second (b ∷ bs) [] = omega arith
+shared-second (b ∷ bs) (c ∷ cs) = go (eqb b c) (shared-second bs cs)
+  where
+    go : (t : Bool) → shared bs cs ≤ length cs → cond t (1 + shared bs cs) 0 ≤ suc (length cs)
+    go true h = omega arith
+    go false h = omega arith
+
+-- a byte more is shared where the first bytes are equal, and only there
+shared-cons : (k a d : ℕ) (n x : List ℕ) → (suc k ≤ shared (a ∷ n) (d ∷ x)) ↔ ((a ≡ d) × (k ≤ shared n x))
+unfolding shared
+shared-cons k a d n x = (go (eqb a d) refl, λ (e, h). rw (eq-eqb a d e) (omega arith))
+  where
+    go : (t : Bool) → eqb a d ≡ t → suc k ≤ cond t (1 + shared n x) 0 → (a ≡ d) × (k ≤ shared n x)
+    go true e h = (eqb-true a d e, omega arith)
+    go false e h = absurd (omega arith)
+
+-- a list before another has no larger first byte, and where these are equal the others are in that order
+before-cons : (a b : ℕ) (n m : List ℕ) → order (a ∷ n) (b ∷ m) ≡ Before → (a ≤ b) × (a ≡ b → order n m ≡ Before)
+unfolding order
+before-cons a b n m p = (go (leb a b) refl, λ e. sym (by-equal (compare a b) (order n m) (eq-eqb a b e)) ∙ p)
+  where
+    go : (t : Bool) → leb a b ≡ t → a ≤ b
+    go true d = leb-true a b d
+    go false d =
+        let after = by-more (compare a b) (order n m) d in
+        let z : _≡_ {A = ℕ} 0 1 = cc in
+        absurd (omega arith)
+
+-- a list between two others in byte order shares with any list what they both share with it
+pub shared-between : (k : ℕ) (u m v x : List ℕ) → order u m ≡ Before → order m v ≡ Before → k ≤ shared u x → k ≤ shared v x
+    → k ≤ shared m x
+unfolding order shared
+shared-between zero u m v x p q g h = zero-le
+shared-between (suc k) [] m v x p q g h = absurd (omega arith)
+shared-between (suc k) (a ∷ u) m v [] p q g h = absurd (omega arith)
+shared-between (suc k) (a ∷ u) m [] (d ∷ x) p q g h = absurd (omega arith)
+shared-between (suc k) (a ∷ u) [] (c ∷ v) (d ∷ x) p q g h = let z : _≡_ {A = ℕ} 0 1 = cc in absurd (omega arith)
+shared-between (suc k) (a ∷ u) (b ∷ m) (c ∷ v) (d ∷ x) p q g h =
+    let (a≡d, more-u) = shared-cons k a d u x .0 g in
+    let (c≡d, more-v) = shared-cons k c d v x .0 h in
+    let (a≤b, rest-p) = before-cons a b u m p in
+    let (b≤c, rest-q) = before-cons b c m v q in
+    shared-cons k b d m x .1
+    (omega arith, shared-between k u m v x (rest-p (omega arith)) (rest-q (omega arith)) more-u more-v)
+
+-- a comparison behind k bytes that are shared, as that of the whole
+behind : ℕ → Comparison → Comparison
+behind k c = record { order = c .order; shared = k + c .shared }
+
+-- bytes that are shared do not change how the lists stand to each other
+compared-behind : (k : ℕ) (n m : List ℕ) → k ≤ shared n m → comparison n m ≡ behind k (comparison (drop k n) (drop k m))
+unfolding comparison behind shared order
+compared-behind zero n m h = rw (zero-add (shared n m))
+compared-behind (suc k) [] m h = absurd (omega arith)
+compared-behind (suc k) (b ∷ bs) [] h = absurd (omega arith)
+compared-behind (suc k) (b ∷ bs) (c ∷ cs) h = go (eqb b c) refl h (compared-behind k bs cs)
+  where
+    made : Order → ℕ → Comparison
+    made o n = record { order = o; shared = n }
+
+    go : (t : Bool) → eqb b c ≡ t → suc k ≤ cond t (1 + shared bs cs) 0
+        → (k ≤ shared bs cs → comparison bs cs ≡ behind k (comparison (drop k bs) (drop k cs)))
+        → made (by-byte (compare b c) (order bs cs)) (cond t (1 + shared bs cs) 0)
+        ≡ behind (suc k) (comparison (drop k bs) (drop k cs))
+    go true d h later =
+        let same = later (omega arith) in
+        let more : 1 + shared bs cs ≡ suc k + shared (drop k bs) (drop k cs) =
+        omega (arith, ap (λ (x : Comparison). x .shared) same) in
+        ap₂ made (by-equal (compare b c) (order bs cs) d ∙ ap (λ (x : Comparison). x .order) same) more
+    go false d h later = absurd (omega arith)
+
+module _ (s t : List ℕ) (a e b f i : ℕ) (k : e ≤ length s) (l : f ≤ length t) (past : i ≤ shared (part s a e) (part t b f)) where
+  -- the shared bytes lie within both parts
+  pub shared-within : (i ≤ e - a) × (i ≤ f - b)
+  shared-within = (
+    omega (arith, shared-first (part s a e) (part t b f), part-length s a e k),
+    omega (arith, shared-second (part s a e) (part t b f), part-length t b f l),
+  )
+
+  -- the parts stand to each other as what is left of them does
+  left : comparison (part s a e) (part t b f) ≡ behind i (comparison (part s (a + i) e) (part t (b + i) f))
+  left = compared-behind i (part s a e) (part t b f) past ∙ rw (part-drop s a e i, part-drop t b f i)
+
+  -- where no more is shared, the order of what is left is the order
+  last : (o : Order) → order (part s (a + i) e) (part t (b + i) f) ≡ o → shared (part s (a + i) e) (part t (b + i) f) ≡ 0
+      → comparison (part s a e) (part t b f) ≡ record { order = o; shared = i }
+  unfolding behind comparison
+  last o p q = left ∙ rw (p, q, add-zero i)
+
+  -- the first part is over, and the second is not
+  pub compared-shorter : e ≤ a + i → b + i < f → comparison (part s a e) (part t b f) ≡ record { order = Before; shared = i }
+  unfolding order shared
+  compared-shorter h g =
+      last Before
+      (rw (part-nil s (a + i) e h, part-cons t (b + i) f g l))
+      (rw (part-nil s (a + i) e h))
+
+  -- the second part is over, and the first is not
+  pub compared-longer : a + i < e → f ≤ b + i → comparison (part s a e) (part t b f) ≡ record { order = After; shared = i }
+  unfolding order shared
+  compared-longer h g =
+      last After
+      (rw (part-cons s (a + i) e h k, part-nil t (b + i) f g))
+      (rw (part-cons s (a + i) e h k, part-nil t (b + i) f g))
+
+  -- both parts are over
+  pub compared-same : e ≤ a + i → f ≤ b + i → comparison (part s a e) (part t b f) ≡ record { order = Same; shared = i }
+  unfolding shared
+  compared-same h g = last Same (order-same s t (a + i) e (b + i) f h g) (rw (part-nil s (a + i) e h))
+
+  module _ (h : a + i < e) (g : b + i < f) where
+    -- the next bytes differ: no more is shared
+    shared-differ : (getD s (a + i) 0 ≡ getD t (b + i) 0 → ⊥) → shared (part s (a + i) e) (part t (b + i) f) ≡ 0
+    unfolding shared
+    shared-differ d = rw (part-cons s (a + i) e h k, part-cons t (b + i) f g l, ne-eqb (getD s (a + i) 0) (getD t (b + i) 0) d)
+
+    -- the first part has the smaller byte
+    pub compared-less : getD s (a + i) 0 < getD t (b + i) 0
+        → comparison (part s a e) (part t b f) ≡ record { order = Before; shared = i }
+    compared-less d =
+        let x = getD s (a + i) 0 in
+        let y = getD t (b + i) 0 in
+        last Before
+        (order-cons s t (a + i) e (b + i) f h k g l
+        ∙ by-less (compare x y) (order (part s (a + i + 1) e) (part t (b + i + 1) f))
+        (le-leb x y (omega arith))
+        (ne-eqb x y (λ z. omega arith)))
+        (shared-differ (λ z. omega arith))
+
+    -- the first part has the larger byte
+    pub compared-more : getD t (b + i) 0 < getD s (a + i) 0
+        → comparison (part s a e) (part t b f) ≡ record { order = After; shared = i }
+    compared-more d =
+        let x = getD s (a + i) 0 in
+        let y = getD t (b + i) 0 in
+        last After
+        (order-cons s t (a + i) e (b + i) f h k g l
+        ∙ by-more (compare x y) (order (part s (a + i + 1) e) (part t (b + i + 1) f)) (lt-leb x y d))
+        (shared-differ (λ z. omega arith))
+
+    -- the next bytes are equal: one more is shared
+    pub shared-on : getD s (a + i) 0 ≡ getD t (b + i) 0 → i + 1 ≤ shared (part s a e) (part t b f)
+    unfolding shared comparison behind
+    shared-on d =
+        let one : shared (part s (a + i) e) (part t (b + i) f) ≡ 1 + shared (part s (a + i + 1) e) (part t (b + i + 1) f) =
+        rw (part-cons s (a + i) e h k, part-cons t (b + i) f g l, eq-eqb (getD s (a + i) 0) (getD t (b + i) 0) d) in
+        omega (arith, one, ap (λ (c : Comparison). c .shared) left)
 
 -- a part with too few bytes does not begin with the word
 pub starts-short : (s : List ℕ) (a e : ℕ) (word : Name) → e ≤ length s → e - a < length word → starts-with (part s a e) word ≡ false

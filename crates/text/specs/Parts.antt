@@ -6,10 +6,12 @@ use mathlib.Core.Option.{Option, none, some}
 use lib.ListN.{length, take, drop}
 use lib.Dec.{leb, ltb, eqb}
 use Rattle.model.specs.Lists.{part}
+use Rattle.model.specs.Names.{order}
 use Rattle.model.specs.Lines.{Field, fields, is-name, number}
 use Rattle.model.specs.Reading.{Result, ok, refused}
 use Rattle.model.specs.declared.Refusal.{Refusal}
 use Rattle.model.specs.declared.Refusal.the-variants as refusal
+use Rattle.text.specs.declared.Comparison.{Comparison}
 use Rattle.text.specs.declared.Cursor.{Cursor}
 use Rattle.text.specs.declared.Decimal.{Decimal}
 use Rattle.text.specs.declared.Decimal.the-variants as decimal
@@ -26,6 +28,16 @@ before mark (b ∷ bs) = let more = before mark bs in cond (eqb b mark) 0 (1 + m
 -- the first position from `at` up to `end` where the mark stands, or `end`
 unfoldable pub mark-at : ℕ → List ℕ → ℕ → ℕ → ℕ
 mark-at mark s at end = at + before mark (part s at end)
+
+-- how many bytes two lists share at their starts
+unfoldable pub shared : List ℕ → List ℕ → ℕ
+shared [] m = 0
+shared (b ∷ bs) [] = 0
+shared (b ∷ bs) (c ∷ cs) = let more = shared bs cs in cond (eqb b c) (1 + more) 0
+
+-- how two lists of bytes stand to each other, as the answer of a call
+unfoldable pub comparison : List ℕ → List ℕ → Comparison
+comparison n m = record { order = order n m; shared = shared n m }
 
 -- what `number` gives, as the answer of a call
 unfoldable pub as-decimal : Option ℕ → Decimal

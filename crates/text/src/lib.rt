@@ -1,12 +1,12 @@
 use model::Order;
 use model::Refusal;
-ghost use Prim.Native.Nat.{_≤_};
+ghost use Prim.Native.Nat.{_≤_, min};
 ghost use mathlib.Core.Path.{_≡_};
 ghost use lib.ListN.{length};
 ghost use Rattle.model.specs.Lists.{part};
-ghost use Rattle.model.specs.Names.{order, same, starts-with, ends-with};
+ghost use Rattle.model.specs.Names.{same, starts-with, ends-with};
 ghost use Rattle.model.specs.Lines.{fields, is-name, number};
-ghost use Rattle.text.specs.Parts.{mark-at, as-decimal, Placed, field-at, name-at, number-at, term-at};
+ghost use Rattle.text.specs.Parts.{mark-at, as-decimal, shared, comparison, Placed, field-at, name-at, number-at, term-at};
 
 // A place in a line: the next field starts at `at`, and the line's bytes end before `end`. Past `end` no field is left.
 pub struct Cursor {
@@ -18,6 +18,12 @@ pub struct Cursor {
 pub enum Decimal {
     Value(u32),
     Nothing,
+}
+
+// How two parts of a file stand to each other: their byte order, and how many bytes they share at their starts.
+pub struct Comparison {
+    pub order: Order,
+    pub shared: usize,
 }
 
 // The next field of a line, from `start` up to `end`, and the cursor after it; or the refusal.
@@ -34,6 +40,16 @@ pub enum FieldStep {
 pub enum NumberStep {
     Number(u32, Cursor),
     Refused(Refusal),
+}
+
+// The lesser of two numbers.
+pub fn lesser(a: usize, b: usize) -> usize
+    ensures { λ r. ⌜ r ≡ min a b ⌝ }
+{
+    if a < b {
+        return a;
+    }
+    b
 }
 
 // The first position from `at` up to `end` where `mark` stands, or `end`.
@@ -168,30 +184,49 @@ pub fn ends_with(s: &[u8], a: usize, e: usize, suffix: &[u8]) -> bool
     same_text(s, e - suffix.len(), e, suffix)
 }
 
-// The byte order of the parts from `a` up to `e` and from `b` up to `f`, a prefix first.
-pub fn order(s: &[u8], a: usize, e: usize, b: usize, f: usize) -> Order
-    requires { ⌜ (a ≤ e) × (e ≤ length (now s)) × (b ≤ f) × (f ≤ length (now s)) ⌝ }
-    ensures { λ r. ⌜ r ≡ order (part (now (s .entry)) a e) (part (now (s .entry)) b f) ⌝ }
+// The byte order of the parts from `a` up to `e` and from `b` up to `f`, a prefix first, and how many bytes they share at their
+// starts. The first `from` bytes are known to be shared, and are not looked at.
+pub fn compare_from(s: &[u8], a: usize, e: usize, b: usize, f: usize, from: usize) -> Comparison
+    requires { ⌜ (a ≤ e) × (e ≤ length (now s)) × (b ≤ f) × (f ≤ length (now s)) × (from ≤ shared (part (now s) a e) (part (now s) b f)) ⌝ }
+    ensures { λ r. ⌜ r ≡ comparison (part (now (s .entry)) a e) (part (now (s .entry)) b f) ⌝ }
 {
-    let mut i = 0;
-    while i < e - a {
-        if f - b <= i {
-            return Order::After;
-        }
+    let one = e - a;
+    let other = f - b;
+    let both = lesser(one, other);
+    let mut i = from;
+    while i < both {
         let x = s[a + i];
         let y = s[b + i];
-        if x < y {
-            return Order::Before;
-        }
-        if y < x {
-            return Order::After;
+        if x != y {
+            if x < y {
+                return Comparison {
+                    order: Order::Before,
+                    shared: i,
+                };
+            }
+            return Comparison {
+                order: Order::After,
+                shared: i,
+            };
         }
         i += 1;
     }
-    if e - a < f - b {
-        return Order::Before;
+    if one < other {
+        return Comparison {
+            order: Order::Before,
+            shared: i,
+        };
     }
-    Order::Same
+    if other < one {
+        return Comparison {
+            order: Order::After,
+            shared: i,
+        };
+    }
+    Comparison {
+        order: Order::Same,
+        shared: i,
+    }
 }
 
 impl Cursor {

@@ -1,98 +1,37 @@
--- `names::head_code` meets its contract. The loop's invariant: the head code is the code from `code` on among the known names from `i` on.
-use Prim.Native.Nat.{_+_, _-_, _≤_}
-use mathlib.Core.Path.{_≡_, refl, sym, _∙_}
-use lib.ListN.{length}
-use Rattle.model.specs.Names.{bytes}
-use Rattle.model.specs.Lines.{fields, field-cons}
-use Rattle.text.specs.Parts.{fields-left}
-use Rattle.text.proofs.Laws.{mark-from, mark-to}
-use Rattle.model.specs.Summaries.{common-names}
-use Rattle.names.specs.Known.{head-code, code-from, known-names}
-use Rattle.names.proofs.Codes.{code-here, code-on, code-end}
+-- `names::head_code` meets its contract.
+use mathlib.Core.Path.{refl, sym}
 use native.Mathlib.Omega.{arith}
-use Rattle.model.specs.Lists.{part}
+use Rattle.model.specs.Names.{bytes}
+use Rattle.model.specs.Summaries.{common-names}
+use Rattle.names.specs.Known.{known-names, packed, known-text}
+use Rattle.names.proofs.Codes.{head-short, head-long}
 use Rattle.names.proofs.head_code.Statement.{statement}
 use Rattle.names.proofs.head_code.Tie as tie
 
-abbrev Inv-loop : tie.InvT-loop
-Inv-loop file a e known code₀ i₀ code i =
-    (code ≤ i + 1)
-    × (i ≤ 250)
-    × (length known ≡ 249)
-    × (head-code (part file a e) ≡ code-from code (fields-left known (record { at = i; end = 249 })) (part file a e))
+sub-if1 : tie.Need-sub-if1
+sub-if1 c = omega arith
 
-abbrev μ-loop : tie.MeasureT-loop
-μ-loop file a e known code₀ i₀ code i = 250 - i
+returns : tie.Need-returns
+returns c = sym (head-short _ _ _ (c .before .before .pre .1) (omega arith))
 
-loop-holds : tie.Need-loop-holds Inv-loop μ-loop
-unfolding head-code known-names common-names bytes fields-left fields field-cons
-loop-holds c = (omega arith, omega arith, refl, refl)
+sub-if2 : tie.Need-sub-if2
+sub-if2 c = omega arith
 
-slice-aggregate-find : tie.Need-slice-aggregate-find Inv-loop μ-loop
-slice-aggregate-find c = refl
+returns-2 : tie.Need-returns-2
+returns-2 c = sym (head-long _ _ _ (c .before .before .before .pre .1) (omega arith))
 
-find-requires : tie.Need-find-requires Inv-loop μ-loop
-find-requires c κs = (omega arith, omega arith)
+slice-aggregate-code-in : tie.Need-slice-aggregate-code-in
+slice-aggregate-code-in c = refl
 
-sub-same-text : tie.Need-sub-same-text Inv-loop μ-loop
-sub-same-text c = mark-from _ _ _ _ _ (c .find .ensures)
+code-in-requires : tie.Need-code-in-requires
+unfolding known-text packed known-names common-names bytes
+code-in-requires c κs =
+    let pre = c .before .before .before .before .pre in
+    (pre .0, pre .1, refl)
 
-part-same-text-start : tie.Need-part-same-text-start Inv-loop μ-loop
-part-same-text-start c = mark-from _ _ _ _ _ (c .before .find .ensures)
-
-part-same-text-end : tie.Need-part-same-text-end Inv-loop μ-loop
-part-same-text-end c = mark-to _ _ _ _ _ (c .before .find .ensures) (c .before .before .before .loop-test .taken) (omega arith)
-
-same-text-requires : tie.Need-same-text-requires Inv-loop μ-loop
-same-text-requires c κs = c .before .before .before .before .before .before .before .pre
-
-returns : tie.Need-returns Inv-loop μ-loop
-returns c =
-    let same = sym (c .before .same-text .ensures) ∙ c .if1 .taken in
-    sym (c .before .before .before .before .before .before .before .loop .inv .3 ∙ code-here _ _ _ _ (c .before .before .before .before .before .before .loop-test .taken) (omega arith) (omega arith) (c .before .before .before .before .find .ensures) _ _ same)
-
-add-code : tie.Need-add-code Inv-loop μ-loop
-add-code c = omega arith
-
-add-i : tie.Need-add-i Inv-loop μ-loop
-add-i c =
-    let stop = c .before .before .before .before .find .ensures in
-    omega (arith, mark-to _ _ _ _ _ stop (c .before .before .before .before .before .before .loop-test .taken) (omega arith))
-
-loop-less : tie.Need-loop-less Inv-loop μ-loop
-loop-less c = omega (arith, mark-from _ _ _ _ _ (c .before .before .before .before .find .ensures))
-
-loop-again : tie.Need-loop-again Inv-loop μ-loop
-loop-again c =
-    let stop = c .before .before .before .before .find .ensures in
-    let from = mark-from _ _ _ _ _ stop in
-    let to = mark-to _ _ _ _ _ stop (c .before .before .before .before .before .before .loop-test .taken) (omega arith) in
-    let other = sym (c .before .same-text .ensures) ∙ c .if1 .left in (
-      omega arith,
-      omega arith,
-      refl,
-      c .before .before .before .before .before .before .before .loop .inv .3 ∙ code-on _ _ _ _ (c .before .before .before .before .before .before .loop-test .taken) (omega arith) (omega arith) stop _ _ other,
-    )
-
-returns-2 : tie.Need-returns-2 Inv-loop μ-loop
-returns-2 c = sym (c .before .loop .inv .3 ∙ code-end _ _ _ _ _ (c .loop-test .left))
+returns-3 : tie.Need-returns-3
+returns-3 c = c .code-in .ensures
 
 pub head-code-spec : {M : Type 1} → statement M
 head-code-spec =
-    tie.close
-    (tie.spec
-    Inv-loop
-    μ-loop
-    loop-holds
-    slice-aggregate-find
-    find-requires
-    sub-same-text
-    part-same-text-start
-    part-same-text-end
-    same-text-requires
-    returns
-    add-code
-    add-i
-    loop-less
-    loop-again
-    returns-2)
+    tie.close (tie.spec sub-if1 returns sub-if2 returns-2 slice-aggregate-code-in code-in-requires returns-3)

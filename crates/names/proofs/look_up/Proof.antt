@@ -1,28 +1,24 @@
--- `names::look_up` meets its contract. The loop's invariant: the ranks below `low` stand before the name, and those from `high` on after it.
-use Prim.Native.Nat.{ℕ, _+_, _-_, _/_, _≤_, _<_}
-use mathlib.Core.Path.{_≡_, sym, ap, _∙_}
-use Rattle.model.specs.Names.{order}
-use Rattle.model.specs.declared.Order.the-variants.{Before, After}
+-- `names::look_up` meets its contract. The loop's invariant: the search stands at `low` and `high`, with the bytes that are shared
+-- there.
+use Prim.Native.Nat.{_+_, _-_, _/_, _<_}
+use mathlib.Core.Path.{sym, ap, _∙_}
 use Rattle.model.proofs.SetLaws.{order-same}
 use Rattle.names.specs.declared.Found.the-variants.{At}
-use Rattle.names.proofs.Laws.{name-at, met, all-before, all-after, look-up-at, look-up-missing}
+use Rattle.names.proofs.Laws.{met-order, met-shared, Searching, search-start, search-shares, search-above, search-below, look-up-at, look-up-missing}
 use native.Mathlib.Omega.{arith}
 use Rattle.model.specs.Lists.{part}
 use Rattle.names.proofs.look_up.Statement.{statement}
 use Rattle.names.proofs.look_up.Tie as tie
 
 abbrev Inv-loop : tie.InvT-loop
-Inv-loop file w named a e low₀ high₀ low high =
-    (low ≤ high)
-    × (high ≤ named)
-    × ((q : ℕ) → q < low → order (name-at file w q) (part file a e) ≡ Before)
-    × ((q : ℕ) → high ≤ q → q < named → order (name-at file w q) (part file a e) ≡ After)
+Inv-loop file w named a e low₀ high₀ below₀ above₀ low high below above =
+    Searching file w named (part file a e) low high below above
 
 abbrev μ-loop : tie.MeasureT-loop
-μ-loop file w named a e low₀ high₀ low high = high - low
+μ-loop file w named a e low₀ high₀ below₀ above₀ low high below above = high - low
 
 loop-holds : tie.Need-loop-holds Inv-loop μ-loop
-loop-holds c = (omega arith, omega arith, λ q h. absurd (omega arith), λ q h l. absurd (omega arith))
+loop-holds c = search-start _ _ _ _
 
 sub-middle : tie.Need-sub-middle Inv-loop μ-loop
 sub-middle c = omega arith
@@ -36,14 +32,23 @@ add-at c = omega arith
 at-requires : tie.Need-at-requires Inv-loop μ-loop
 at-requires c κs = omega (arith, c .before .before .before .before .pre .0 .room)
 
+lesser-requires : tie.Need-lesser-requires Inv-loop μ-loop
+lesser-requires c κs = tt
+
 compare-requires : tie.Need-compare-requires Inv-loop μ-loop
 compare-requires c κs =
-    let now = c .before .before .loop in
+    let start = c .before .before .before .before .before .before in
+    let table = start .pre .0 in
+    let now = c .before .before .before .loop in
     let middle = now .low + (now .high - now .low) / 2 in
-    let table = c .before .before .before .before .before .pre .0 in
-    let n = c .at .result in
-    let known : n < c .before .before .before .before .before .args .named = rw (c .at .ensures) (table .numbers middle (omega arith)) in
-    (omega (arith, table .room, table .few), table .inside n known, c .before .before .before .before .before .pre .1, c .before .before .before .before .before .pre .2)
+    let at = c .before .at in
+    let known : at .result < start .args .named = rw (at .ensures) (table .numbers middle (omega arith)) in (
+      omega (arith, table .room, table .few),
+      table .inside (at .result) known,
+      start .pre .1,
+      start .pre .2,
+      rw (at .ensures) (search-shares table (now .inv) middle (omega arith) (omega arith) _ (omega arith) (omega arith)),
+    )
 
 enum-told : tie.Need-enum-told Inv-loop μ-loop
 enum-told c = c .match .keys1
@@ -56,22 +61,26 @@ loop-less c = omega arith
 
 loop-again : tie.Need-loop-again Inv-loop μ-loop
 loop-again c =
-    let now = c .before .before .before .before .before .loop in
+    let table = c .before .before .before .before .before .before .before .before .before .pre .0 in
+    let now = c .before .before .before .before .before .before .loop in
     let middle = now .low + (now .high - now .low) / 2 in
-    let table = c .before .before .before .before .before .before .before .before .pre .0 in
-    let order = met _ _ middle _ _ _ _ (c .before .before .before .at .ensures) (c .before .before .compare .ensures) (c .enum-told .given .1) in
-    (omega arith, omega arith, all-before table middle _ (omega arith) order, now .inv .3)
+    let read = c .before .before .before .before .at .ensures in
+    let said = c .before .before .compare .ensures in
+    let order = met-order _ _ middle _ _ _ _ read said (c .enum-told .given .1) in
+    search-above table (now .inv) middle (omega arith) (omega arith) _ order (met-shared _ _ middle _ _ _ read said)
 
 enum-told-2 : tie.Need-enum-told-2 Inv-loop μ-loop
 enum-told-2 c = c .match .keys2
 
 returns : tie.Need-returns Inv-loop μ-loop
 returns c =
-    let now = c .before .before .before .before .before .loop in
+    let table = c .before .before .before .before .before .before .before .before .before .pre .0 in
+    let now = c .before .before .before .before .before .before .loop in
     let middle = now .low + (now .high - now .low) / 2 in
-    let table = c .before .before .before .before .before .before .before .before .pre .0 in
-    let order = met _ _ middle _ _ _ _ (c .before .before .before .at .ensures) (c .before .before .compare .ensures) (c .enum-told2 .given .1) in
-    ap At (c .before .before .before .at .ensures) ∙ sym (look-up-at table middle _ (omega arith) (order-same order))
+    let read = c .before .before .before .before .at .ensures in
+    let said = c .before .before .compare .ensures in
+    let order = met-order _ _ middle _ _ _ _ read said (c .enum-told2 .given .1) in
+    ap At read ∙ sym (look-up-at table middle _ (omega arith) (order-same order))
 
 enum-told-3 : tie.Need-enum-told-3 Inv-loop μ-loop
 enum-told-3 c = c .match .keys3
@@ -81,16 +90,20 @@ loop-less-2 c = omega arith
 
 loop-again-2 : tie.Need-loop-again-2 Inv-loop μ-loop
 loop-again-2 c =
-    let now = c .before .before .before .before .before .loop in
+    let table = c .before .before .before .before .before .before .before .before .before .pre .0 in
+    let now = c .before .before .before .before .before .before .loop in
     let middle = now .low + (now .high - now .low) / 2 in
-    let table = c .before .before .before .before .before .before .before .before .pre .0 in
-    let order = met _ _ middle _ _ _ _ (c .before .before .before .at .ensures) (c .before .before .compare .ensures) (c .enum-told3 .given .1) in
-    (omega arith, omega arith, now .inv .2, all-after table middle _ order)
+    let read = c .before .before .before .before .at .ensures in
+    let said = c .before .before .compare .ensures in
+    let order = met-order _ _ middle _ _ _ _ read said (c .enum-told3 .given .1) in
+    search-below table (now .inv) middle (omega arith) (omega arith) _ order (met-shared _ _ middle _ _ _ read said)
 
 returns-2 : tie.Need-returns-2 Inv-loop μ-loop
 returns-2 c =
     let now = c .before .loop in
-    sym (look-up-missing (c .before .before .before .before .pre .0) (now .low) _ (omega arith) (now .inv .2) (λ q h l. now .inv .3 q (omega arith) l))
+    let table = c .before .before .before .before .pre .0 in
+    let inv = now .inv in
+    sym (look-up-missing table (now .low) _ (omega arith) (inv .before) (λ q h l. inv .after q (omega arith) l))
 
 pub look-up-spec : {M : Type 1} → statement M
 look-up-spec =
@@ -103,6 +116,7 @@ look-up-spec =
     add-middle
     add-at
     at-requires
+    lesser-requires
     compare-requires
     enum-told
     add-low
