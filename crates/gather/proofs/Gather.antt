@@ -20,9 +20,9 @@ use Rattle.gather.proofs.Naming.{occurs-named, term-set, list-set, star
 fresh-name : {names rows : List ℕ} {mark : ℕ} → Fresh names rows mark → (k : ℕ) → k < 2048 → name-mark names k ≡ mark → ⊥
 fresh-name new k l e = let h = new .name-marks k l in omega arith
 
--- and no term
-pub fresh-row : {names refs rows : List ℕ} {used many named mark t : ℕ} → Rows refs rows used many named → Fresh names rows mark → t < many
-    → row-mark rows t ≡ mark → ⊥
+-- and no row
+pub fresh-row : {names refs rows : List ℕ} {used many named mark t : ℕ} → Rows refs rows used many named → Fresh names rows mark
+    → t < many → row-mark rows t ≡ mark → ⊥
 fresh-row {t} r new l e =
     let few = r .few-rows in
     let h = new .row-marks t (omega arith) in

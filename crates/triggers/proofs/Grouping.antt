@@ -171,6 +171,10 @@ groups-none {refs} {rows} {names} {out} {used} {many} {mark = mark} {at} t r l c
 
 -- ---- the terms of a list
 
+-- the term of a reference is as low as the reference says
+pub term-low : {t u many : ℕ} → t ≡ u → u < many → t < many
+term-low is l = rw is l
+
 -- the triggers of the terms up to a place and of the term there
 list-more : {A : Type 0} (f : ℕ → List A) (refs : List ℕ) (a i t : ℕ) → a ≤ i → i < length refs → t ≡ getD refs i 0 % 4096
     → collect f (terms-of-words (part refs a i)) ++ f t ≡ collect f (terms-of-words (part refs a (i + 1)))
@@ -249,8 +253,8 @@ module _ {refs rows names out : List ℕ} {used many named mark at a e : ℕ} (r
       (file-parts refs used many (filing names rows out mark at) (terms-of-words (part refs a i))) (list-count refs rows a i)
       (filed.Sets count end)
       → Comes names rows out names₁ rows₁ out₁ named mark at (list-sets refs rows used many a (i + 1))
-      (file-parts refs used many (filing names rows out mark at) (terms-of-words (part refs a (i + 1)))) (list-count refs rows a (i + 1))
-      (filed.Sets count end)
+      (file-parts refs used many (filing names rows out mark at) (terms-of-words (part refs a (i + 1))))
+      (list-count refs rows a (i + 1)) (filed.Sets count end)
   list-pass {count = count} {end} {t = t} low high is lower g z c =
       let same : count + 0 ≡ count = omega arith in
       comes-is (ap (λ n. filed.Sets n end) same)

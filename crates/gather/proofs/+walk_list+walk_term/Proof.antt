@@ -46,11 +46,27 @@ walk-term-below t =
 
 -- what the calls of `walk_list` ask and tell, at the measure t
 abbrev list-claims : ℕ → walk-list-lts.Claims
-list-claims t = (reference-reads.Asked, reference-reads.Learnt, at-reads.Asked, at-reads.Learnt, walk-term-below t, walk-term.Post)
+list-claims t = (
+  reference-reads.Asked,
+  reference-reads.Learnt,
+  at-reads.Asked,
+  at-reads.Learnt,
+  walk-term-below t,
+  walk-term.Post,
+)
 
 -- what the calls of `walk_term` ask and tell
 abbrev term-claims : ℕ → walk-term-lts.Claims
-term-claims t = (gather-head-reads.Asked, gather-head-reads.Learnt, start-reads.Asked, start-reads.Learnt, end-reads.Asked, end-reads.Learnt, walk-list-below t, walk-list.Post)
+term-claims t = (
+  gather-head-reads.Asked,
+  gather-head-reads.Learnt,
+  start-reads.Asked,
+  start-reads.Learnt,
+  end-reads.Asked,
+  end-reads.Learnt,
+  walk-list-below t,
+  walk-list.Post,
+)
 
 abbrev walk-list-Inv-loop : walk-list-lts.InvT-loop
 walk-list-Inv-loop names₀ refs rows₀ out₀ used many a e mark count room i₀ n₀ names rows out i n =
@@ -268,10 +284,11 @@ walk-term-walk-list-requires t c κs =
     let from = to .before .before in
     let own = from .before .before .before in
     let head = own .before .before .before .before .before .before in
-    let start = head .before .before .before .before .before .before .before .before in (
+    let start = head .before .before .before .before .before .before .before .before in
+    let names = walks-names (start .pre .1 .0) (steps-is (own .own .given .1) (head .gather-head .ensures .0)) in (
       term-falls (start .pre .1 .0 .table) (start .pre .1 .1) (from .start .ensures) (to .end .ensures) (start .pre .0),
       (
-        ready-then (start .pre .1 .0) (walks-names (start .pre .1 .0) (steps-is (own .own .given .1) (head .gather-head .ensures .0))),
+        ready-then (start .pre .1 .0) names,
         references-of (start .pre .1 .0 .table) (start .pre .1 .1) (from .start .ensures) (to .end .ensures),
       ),
     )
@@ -309,22 +326,25 @@ walk-term-same-length-6 t c = walk-term-returns-2 t c .0 .steps .out-same .same-
 
 walk-term-add-rows : (t : ℕ) → walk-term-lts.Need-add-rows (term-claims t) (walk-term-at t) walk-term.Post
 walk-term-add-rows t c =
-    let up = c .before .before .before .before .before .before .before .before .before in
-    let head = up .before .before .before .before .before .before .before .before .before .before .before .before .before .before .before in
+    let list = c .before .before .before .before .before .before .before .before .before in
+    let own = list .before .before .before .before .before .before .before .before .before in
+    let head = own .before .before .before .before .before .before in
     let start = head .before .before .before .before .before .before .before .before in
     omega (arith, start .pre .1 .1, start .pre .1 .0 .table .few-rows)
 
 walk-term-mul-rows : (t : ℕ) → walk-term-lts.Need-mul-rows (term-claims t) (walk-term-at t) walk-term.Post
 walk-term-mul-rows t c =
-    let up = c .before .before .before .before .before .before .before .before .before in
-    let head = up .before .before .before .before .before .before .before .before .before .before .before .before .before .before .before in
+    let list = c .before .before .before .before .before .before .before .before .before in
+    let own = list .before .before .before .before .before .before .before .before .before in
+    let head = own .before .before .before .before .before .before in
     let start = head .before .before .before .before .before .before .before .before in
     omega (arith, start .pre .1 .1, start .pre .1 .0 .table .few-rows)
 
 walk-term-slice-write-rows : (t : ℕ) → walk-term-lts.Need-slice-write-rows (term-claims t) (walk-term-at t) walk-term.Post
 walk-term-slice-write-rows t c =
     let list = c .before .before .before .before .before .before .before .before .before in
-    let head = list .before .before .before .before .before .before .before .before .before .before .before .before .before .before .before in
+    let own = list .before .before .before .before .before .before .before .before .before in
+    let head = own .before .before .before .before .before .before in
     let start = head .before .before .before .before .before .before .before .before in
     omega (
       arith,

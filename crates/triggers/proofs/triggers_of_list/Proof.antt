@@ -1,5 +1,5 @@
 -- `triggers::triggers_of_list` meets its contract. The loop's invariant: the triggers of the terms before `i` are filed.
-use Prim.Native.Nat.{_-_, _≤_, _<_}
+use Prim.Native.Nat.{_-_, _≤_}
 use native.Mathlib.Omega.{arith}
 use mathlib.Core.Path.{refl}
 use Rattle.model.specs.Lists.{part}
@@ -8,7 +8,7 @@ use Rattle.gather.proofs.Walking.{rows-marked}
 use Rattle.triggers.specs.declared.Filed.the-variants as filed
 use Rattle.triggers.specs.Filings.{filing, file-parts}
 use Rattle.triggers.proofs.Filing.{Comes, opened-then, comes-of, comes-is, comes-ends, posts}
-use Rattle.triggers.proofs.Grouping.{count-asks, list-sets, list-count, list-start, list-full, list-next, list-pass, list-done}
+use Rattle.triggers.proofs.Grouping.{term-low, count-asks, list-sets, list-count, list-start, list-full, list-next, list-pass, list-done}
 use Rattle.triggers.proofs.triggers_of_list.Statement.{statement}
 use Rattle.triggers.proofs.triggers_of_list.Tie as tie
 
@@ -44,7 +44,7 @@ group-count-requires c κs =
     let low = at-loop .loop .inv .0 in
     let high = at-loop-test .loop-test .taken in
     let is = at-reference .reference .ensures in
-    let here : at-reference .reference .result < start .args .many = omega (arith, is, start .pre .4 (at-loop .loop .i) low high) in
+    let here = term-low is (start .pre .4 (at-loop .loop .i) low high) in
     count-asks (rows-marked (at-loop .loop .inv .2 .filled .rows-same) (start .pre .0)) (at-reference .reference .result) here
 
 loop-less : tie.Need-loop-less Inv-loop μ-loop
@@ -59,7 +59,7 @@ loop-again c =
     let low = at-loop .loop .inv .0 in
     let high = at-loop-test .loop-test .taken in
     let is = at-reference .reference .ensures in
-    let here : at-reference .reference .result < start .args .many = omega (arith, is, start .pre .4 (at-loop .loop .i) low high) in (
+    let here = term-low is (start .pre .4 (at-loop .loop .i) low high) in (
       omega (arith, low),
       omega (arith, high),
       list-pass (start .pre .0) (start .pre .1) (start .pre .3) low high is here (c .before .group-count .ensures) (c .if1 .taken)
@@ -84,8 +84,9 @@ triggers-of-term-requires c κs =
     let low = at-loop .loop .inv .0 in
     let high = at-loop-test .loop-test .taken in
     let is = at-reference .reference .ensures in
-    let here : at-reference .reference .result < start .args .many = omega (arith, is, start .pre .4 (at-loop .loop .i) low high) in
-    (rows-marked (at-loop .loop .inv .2 .filled .rows-same) (start .pre .0), opened-then (start .pre .1) (at-loop .loop .inv .2), here)
+    let here = term-low is (start .pre .4 (at-loop .loop .i) low high) in
+    let filed = at-loop .loop .inv .2 in
+    (rows-marked (filed .filled .rows-same) (start .pre .0), opened-then (start .pre .1) filed, here)
 
 enum-known-more : tie.Need-enum-known-more Inv-loop μ-loop
 enum-known-more c = c .match .keys1
@@ -103,7 +104,7 @@ returns c =
     let low = at-loop .loop .inv .0 in
     let high = at-loop-test .loop-test .taken in
     let is = at-reference .reference .ensures in
-    let here : at-reference .reference .result < start .args .many = omega (arith, is, start .pre .4 (at-loop .loop .i) low high) in
+    let here = term-low is (start .pre .4 (at-loop .loop .i) low high) in
     posts (list-full (start .pre .0) (start .pre .1) (start .pre .3) low high is here (at-loop .loop .inv .2)
     (comes-of _ (at-triggers-of-term .triggers-of-term .ensures)) (c .enum-told .given .1))
 
@@ -139,7 +140,7 @@ loop-again-2 c =
     let low = at-loop .loop .inv .0 in
     let high = at-loop-test .loop-test .taken in
     let is = at-reference .reference .ensures in
-    let here : at-reference .reference .result < start .args .many = omega (arith, is, start .pre .4 (at-loop .loop .i) low high) in (
+    let here = term-low is (start .pre .4 (at-loop .loop .i) low high) in (
       omega (arith, low),
       omega (arith, high),
       list-next (start .pre .0) (start .pre .1) (start .pre .3) low high is here (at-loop .loop .inv .2)
