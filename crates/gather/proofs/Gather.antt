@@ -11,7 +11,7 @@ use Rattle.model.specs.Summaries.{free-top-level-names, group-names}
 use Rattle.model.proofs.PartLaws.{part-elim, part-intro}
 use Rattle.gather.specs.declared.Walked.{Walked}
 use Rattle.terms.specs.Rows.{terms-of-words, terms-of, Rows}
-use Rattle.gather.specs.Sets.{name-mark, Fresh, Named, ended, Gathers, Gathered}
+use Rattle.gather.specs.Sets.{row-mark, name-mark, Fresh, Named, ended, Gathers, Gathered}
 use Rattle.gather.specs.Walks.{Free, Among, Ready, References, Steps, Walks, Listed}
 use Rattle.terms.proofs.Table.{rows-named}
 use Rattle.gather.proofs.Naming.{occurs-named, term-set, list-set, start-listed, steps-gathers}
@@ -19,6 +19,14 @@ use Rattle.gather.proofs.Naming.{occurs-named, term-set, list-set, star
 -- no name has a new mark yet
 fresh-name : {names rows : List ℕ} {mark : ℕ} → Fresh names rows mark → (k : ℕ) → k < 2048 → name-mark names k ≡ mark → ⊥
 fresh-name new k l e = let h = new .name-marks k l in omega arith
+
+-- and no row
+pub fresh-row : {names refs rows : List ℕ} {used many named mark t : ℕ} → Rows refs rows used many named → Fresh names rows mark
+    → t < many → row-mark rows t ≡ mark → ⊥
+fresh-row {t} r new l e =
+    let few = r .few-rows in
+    let h = new .row-marks t (omega arith) in
+    omega arith
 
 -- the names with the mark are those in the slice
 marks-of : {P : ℕ → Type 0} {names out names′ out′ : List ℕ} {mark from room : ℕ} {answer : Walked} → ((k : ℕ) → k < 2048 → name-mark names k ≡ mark → ⊥)

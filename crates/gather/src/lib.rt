@@ -1,4 +1,5 @@
 ghost use Prim.Native.Nat.{ℕ, _-_, _≤_, _<_};
+ghost use mathlib.Core.Path.{_≡_};
 ghost use mathlib.Core.List.{List};
 ghost use lib.ListN.{length, getD};
 ghost use Rattle.model.specs.Lists.{part};
@@ -6,7 +7,7 @@ ghost use Rattle.model.specs.Names.{Name};
 ghost use Rattle.model.specs.Outcome.{working-words};
 ghost use Rattle.model.specs.Summaries.{free-top-level-names, group-names};
 ghost use Rattle.terms.specs.Rows.{term-of, terms-of-words, terms-of, Rows};
-ghost use Rattle.gather.specs.Sets.{Fresh, Named, Gathers, Gathered};
+ghost use Rattle.gather.specs.Sets.{row-mark, Fresh, Named, Gathers, Gathered};
 ghost use Rattle.gather.specs.Visits.{visit-term, visit-list, Walks-as};
 ghost use Rattle.gather.specs.Walks.{Own, Free, Among, Heads, Ready, References, Steps, Walks, head-part, term-part, list-part, Follows};
 
@@ -53,8 +54,8 @@ fn gather_head(
     Walked::Names(count + 1)
 }
 
-// Adds the free names of a term: its head's, then those of the terms that it names. A term is marked after these, and a
-// term with the mark is not walked again.
+// Adds the free names of a term that has no mark: its head's, then those of the terms that it names. The term is marked
+// after these.
 fn walk_term(
     names: &mut [u32],
     refs: &[u32],
@@ -67,13 +68,10 @@ fn walk_term(
     count: usize,
     room: usize,
 ) -> Walked
-    requires { ⌜ Ready (now names) (now refs) (now rows) (now out) used many mark count room × (t < many) ⌝ }
+    requires { ⌜ Ready (now names) (now refs) (now rows) (now out) used many mark count room × (t < many) × (row-mark (now rows) t ≡ mark → ⊥) ⌝ }
     ensures set { λ r. ⌜ Walks (Free (now (names .entry)) (now (refs .entry)) (now (rows .entry)) used many t) (now (names .entry)) (now (refs .entry)) (now (rows .entry)) (now (out .entry)) (now (names .exit)) (now (rows .exit)) (now (out .exit)) used many mark count room r ⌝ }
     ensures walk { λ r. ⌜ Follows (term-part (now (refs .entry)) used many t) (now (names .entry)) (now (rows .entry)) (now (out .entry)) (now (names .exit)) (now (rows .exit)) (now (out .exit)) mark count room r ⌝ }
 {
-    if words::at(rows, ROW_MARK + t) == mark as usize {
-        return Walked::Names(count);
-    }
     let Walked::Names(own) = gather_head(names, rows, out, t, mark, count, room) else {
         return Walked::Full;
     };
@@ -87,7 +85,7 @@ fn walk_term(
     Walked::Names(n)
 }
 
-// Adds the free names of the terms that the references from `a` up to `e` name.
+// Adds the free names of the terms that the references from `a` up to `e` name. A term with the mark is not walked again.
 fn walk_list(
     names: &mut [u32],
     refs: &[u32],
@@ -109,12 +107,15 @@ fn walk_list(
     let mut n = count;
     while i < e {
         let t = terms::reference(refs, i);
+        i += 1;
+        if words::at(rows, ROW_MARK + t) == mark as usize {
+            continue;
+        }
         let Walked::Names(more) = walk_term(names, refs, rows, out, used, many, t, mark, n, room)
         else {
             return Walked::Full;
         };
         n = more;
-        i += 1;
     }
     Walked::Names(n)
 }

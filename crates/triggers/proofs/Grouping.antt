@@ -19,6 +19,7 @@ use Rattle.gather.specs.Sets.{Fresh, Gathers, all-names, no-room, Gathered}
 use Rattle.gather.specs.Visits.{visit-list, marked-at, Walks-as}
 use Rattle.gather.specs.declared.Walked.{Walked}
 use Rattle.gather.specs.declared.Walked.the-variants as gathered
+use Rattle.gather.proofs.Walking.{rows-marked}
 use Rattle.gather.proofs.Rendering.{answer-names, answer-full}
 use Rattle.words.proofs.Slices.{same-self}
 use Rattle.triggers.specs.declared.Filed.{Filed}
@@ -29,7 +30,7 @@ use Rattle.triggers.proofs.Disjuncts.{entries-append}
 use Rattle.triggers.proofs.Marked.{terms-marked, groups-marked, All, patterns, triggers-all, triggers-none, groups-more, groups-fewer}
 use Rattle.gather.proofs.Fresh.{fresh-later, fresh-next}
 use Rattle.triggers.proofs.Words.{after, words-count, filed-group, filed-groups, filed-all, filed-none, filed-part, filed-parts, counted-more, walked-one, names-kept, out-kept}
-use Rattle.triggers.proofs.Filing.{Sets, Comes, after-full, after-sets, comes-as, comes-is, comes-more, comes-next, comes-none}
+use Rattle.triggers.proofs.Filing.{Sets, Comes, after-full, after-sets, comes-as, comes-is, comes-more, comes-next, comes-none, opened-then}
 
 -- what reading the groups of a term asks
 pub patterns-asks : {refs rows : List ℕ} {used many named : ℕ} → Rows refs rows used many named → (t : ℕ) → t < many
@@ -37,6 +38,11 @@ pub patterns-asks : {refs rows : List ℕ} {used many named : ℕ} → Rows refs
 patterns-asks {rows = rows} {many = many} r t l =
     let u : bare-of rows t < many = omega (arith, bare-low r t l) in
     (r .row-room, r .few-rows, l, u, omega (arith, r .in-order (bare-of rows t) u, r .in-use (bare-of rows t) u, r .few-references))
+
+-- what counting them asks
+pub count-asks : {refs rows : List ℕ} {used many named : ℕ} → Rows refs rows used many named → (t : ℕ) → t < many
+    → (16384 ≤ length rows) × (t < 4096) × (bare-of rows t < 4096)
+count-asks r t l = (r .row-room, omega (arith, r .few-rows), omega (arith, r .few-rows, bare-low r t l))
 
 -- what is read of them
 pub patterns-read : (rows : List ℕ) (used many t : ℕ) {n u w e : ℕ} → n ≡ groups-at rows t → u ≡ bare-of rows t → w ≡ row-start rows u
@@ -165,6 +171,10 @@ groups-none {refs} {rows} {names} {out} {used} {many} {mark = mark} {at} t r l c
 
 -- ---- the terms of a list
 
+-- the term of a reference is as low as the reference says
+pub term-low : {t u many : ℕ} → t ≡ u → u < many → t < many
+term-low is l = rw is l
+
 -- the triggers of the terms up to a place and of the term there
 list-more : {A : Type 0} (f : ℕ → List A) (refs : List ℕ) (a i t : ℕ) → a ≤ i → i < length refs → t ≡ getD refs i 0 % 4096
     → collect f (terms-of-words (part refs a i)) ++ f t ≡ collect f (terms-of-words (part refs a (i + 1)))
@@ -235,6 +245,20 @@ module _ {refs rows names out : List ℕ} {used many named mark at a e : ℕ} (r
         (file-parts refs used many (filing names rows out mark at) (terms-of-words (part refs a (i + 1)))) (list-count refs rows a (i + 1))
         (filed.Sets (count + k) m)
     list-next {k} {m} q = comes-is (after-sets count k m (count + k) q refl) list-then
+
+  -- a term without groups is passed over
+  pub list-pass : {names₁ rows₁ out₁ : List ℕ} {count end i t groups : ℕ} → a ≤ i → i < e → t ≡ getD refs i 0 % 4096 → t < many
+      → groups ≡ groups-at rows₁ t → groups ≡ 0
+      → Comes names rows out names₁ rows₁ out₁ named mark at (list-sets refs rows used many a i)
+      (file-parts refs used many (filing names rows out mark at) (terms-of-words (part refs a i))) (list-count refs rows a i)
+      (filed.Sets count end)
+      → Comes names rows out names₁ rows₁ out₁ named mark at (list-sets refs rows used many a (i + 1))
+      (file-parts refs used many (filing names rows out mark at) (terms-of-words (part refs a (i + 1))))
+      (list-count refs rows a (i + 1)) (filed.Sets count end)
+  list-pass {count = count} {end} {t = t} low high is lower g z c =
+      let same : count + 0 ≡ count = omega arith in
+      comes-is (ap (λ n. filed.Sets n end) same)
+      (list-next low high is lower c (groups-none t (rows-marked (c .filled .rows-same) r) lower g z (opened-then h c)) refl)
 
   -- the triggers up to the end
   pub list-done : {names₁ rows₁ out₁ : List ℕ} {i : ℕ} {f : Filed} → a ≤ i → i ≤ e → e ≤ i

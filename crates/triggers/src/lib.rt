@@ -232,7 +232,7 @@ pub fn triggers_of_term(
     Filed::Sets(groups, end)
 }
 
-// Files the triggers of each term that the references from `a` up to `e` name, in order.
+// Files the triggers of each term that the references from `a` up to `e` name, in order. A term without groups is passed over.
 pub fn triggers_of_list(
     names: &mut [u32],
     refs: &[u32],
@@ -256,6 +256,10 @@ pub fn triggers_of_list(
     let mut i = a;
     while i < e {
         let t = terms::reference(refs, i);
+        i += 1;
+        if terms::group_count(rows, t) == 0 {
+            continue;
+        }
         let Filed::Sets(more, next) = triggers_of_term(
             names,
             refs,
@@ -272,7 +276,6 @@ pub fn triggers_of_list(
         };
         count += more;
         end = next;
-        i += 1;
     }
     Filed::Sets(count, end)
 }

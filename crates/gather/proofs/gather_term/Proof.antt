@@ -1,5 +1,5 @@
 -- `gather::gather_term` meets its contract: a walk under a new mark.
-use Rattle.gather.proofs.Gather.{ready-start, gathers-term, gathered-of}
+use Rattle.gather.proofs.Gather.{fresh-row, ready-start, gathers-term, gathered-of}
 use Rattle.gather.proofs.Rendering.{follows-start}
 use Rattle.gather.specs.Visits.{visit-term}
 use Rattle.gather.specs.Walks.{term-part}
@@ -10,8 +10,11 @@ use Rattle.gather.proofs.gather_term.Tie as tie
 
 walk-term-requires : tie.Need-walk-term-requires
 walk-term-requires c κs =
-    let start = c .before .before .before .before .before .before .before in
-    (ready-start (start .pre .0) (start .pre .3) (start .pre .1) (omega arith) (omega arith), start .pre .2)
+    let start = c .before .before .before .before .before .before .before in (
+      ready-start (start .pre .0) (start .pre .3) (start .pre .1) (omega arith) (omega arith),
+      start .pre .2,
+      fresh-row (start .pre .0) (start .pre .3) (start .pre .2),
+    )
 
 same-length : tie.Need-same-length
 same-length c = search needs

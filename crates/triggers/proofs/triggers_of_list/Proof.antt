@@ -8,7 +8,7 @@ use Rattle.gather.proofs.Walking.{rows-marked}
 use Rattle.triggers.specs.declared.Filed.the-variants as filed
 use Rattle.triggers.specs.Filings.{filing, file-parts}
 use Rattle.triggers.proofs.Filing.{Comes, opened-then, comes-of, comes-is, comes-ends, posts}
-use Rattle.triggers.proofs.Grouping.{list-sets, list-count, list-start, list-full, list-next, list-done}
+use Rattle.triggers.proofs.Grouping.{term-low, count-asks, list-sets, list-count, list-start, list-full, list-next, list-pass, list-done}
 use Rattle.triggers.proofs.triggers_of_list.Statement.{statement}
 use Rattle.triggers.proofs.triggers_of_list.Tie as tie
 
@@ -32,25 +32,61 @@ reference-requires c κs =
     let start = c .before .before .before .before .before .before in
     omega (arith, start .pre .0 .ref-room, start .pre .0 .few-references, start .pre .3)
 
+add-i : tie.Need-add-i Inv-loop μ-loop
+add-i c = omega arith
+
+group-count-requires : tie.Need-group-count-requires Inv-loop μ-loop
+group-count-requires c κs =
+    let at-reference = c .before in
+    let at-loop-test = at-reference .before in
+    let at-loop = at-loop-test .before in
+    let start = at-loop .before .before .before .before .before in
+    let low = at-loop .loop .inv .0 in
+    let high = at-loop-test .loop-test .taken in
+    let is = at-reference .reference .ensures in
+    let here = term-low is (start .pre .4 (at-loop .loop .i) low high) in
+    count-asks (rows-marked (at-loop .loop .inv .2 .filled .rows-same) (start .pre .0)) (at-reference .reference .result) here
+
+loop-less : tie.Need-loop-less Inv-loop μ-loop
+loop-less c = omega arith
+
+loop-again : tie.Need-loop-again Inv-loop μ-loop
+loop-again c =
+    let at-reference = c .before .before .before in
+    let at-loop-test = at-reference .before in
+    let at-loop = at-loop-test .before in
+    let start = at-loop .before .before .before .before .before in
+    let low = at-loop .loop .inv .0 in
+    let high = at-loop-test .loop-test .taken in
+    let is = at-reference .reference .ensures in
+    let here = term-low is (start .pre .4 (at-loop .loop .i) low high) in (
+      omega (arith, low),
+      omega (arith, high),
+      list-pass (start .pre .0) (start .pre .1) (start .pre .3) low high is here (c .before .group-count .ensures) (c .if1 .taken)
+          (at-loop .loop .inv .2),
+    )
+
 sub-triggers-of-term : tie.Need-sub-triggers-of-term Inv-loop μ-loop
-sub-triggers-of-term c = comes-ends (c .before .before .before .before .before .loop .inv .2) .0
+sub-triggers-of-term c = comes-ends (c .before .before .before .before .before .before .before .before .loop .inv .2) .0
 
 add-triggers-of-term : tie.Need-add-triggers-of-term Inv-loop μ-loop
 add-triggers-of-term c =
-    let at-loop = c .before .before .before .before .before in
+    let at-loop = c .before .before .before .before .before .before .before .before in
     let entry = at-loop .before .before .before .before .before in
     omega (arith, entry .pre .1 .few-marks, comes-ends (at-loop .loop .inv .2) .0, comes-ends (at-loop .loop .inv .2) .1)
 
 triggers-of-term-requires : tie.Need-triggers-of-term-requires Inv-loop μ-loop
 triggers-of-term-requires c κs =
-    let at-reference = c .before .before .before in
+    let at-reference = c .before .before .before .before .before .before in
     let at-loop-test = at-reference .before in
     let at-loop = at-loop-test .before in
-    let start = at-loop .before .before .before .before .before in (
-      rows-marked (at-loop .loop .inv .2 .filled .rows-same) (start .pre .0),
-      opened-then (start .pre .1) (at-loop .loop .inv .2),
-      omega (arith, at-reference .reference .ensures, start .pre .4 (at-loop .loop .i) (at-loop .loop .inv .0) (at-loop-test .loop-test .taken)),
-    )
+    let start = at-loop .before .before .before .before .before in
+    let low = at-loop .loop .inv .0 in
+    let high = at-loop-test .loop-test .taken in
+    let is = at-reference .reference .ensures in
+    let here = term-low is (start .pre .4 (at-loop .loop .i) low high) in
+    let filed = at-loop .loop .inv .2 in
+    (rows-marked (filed .filled .rows-same) (start .pre .0), opened-then (start .pre .1) filed, here)
 
 enum-known-more : tie.Need-enum-known-more Inv-loop μ-loop
 enum-known-more c = c .match .keys1
@@ -61,16 +97,16 @@ enum-told c = c .match .keys2
 returns : tie.Need-returns Inv-loop μ-loop
 returns c =
     let at-triggers-of-term = c .before .before .before .before .before .before .before .before in
-    let at-reference = at-triggers-of-term .before .before .before .before in
+    let at-reference = at-triggers-of-term .before .before .before .before .before .before .before in
     let at-loop-test = at-reference .before in
     let at-loop = at-loop-test .before in
     let start = at-loop .before .before .before .before .before in
-    posts (list-full (start .pre .0) (start .pre .1) (start .pre .3) (at-loop .loop .inv .0) (at-loop-test .loop-test .taken)
-    (at-reference .reference .ensures) (omega (
-      arith,
-      at-reference .reference .ensures,
-      start .pre .4 (at-loop .loop .i) (at-loop .loop .inv .0) (at-loop-test .loop-test .taken),
-    )) (at-loop .loop .inv .2) (comes-of _ (at-triggers-of-term .triggers-of-term .ensures)) (c .enum-told .given .1))
+    let low = at-loop .loop .inv .0 in
+    let high = at-loop-test .loop-test .taken in
+    let is = at-reference .reference .ensures in
+    let here = term-low is (start .pre .4 (at-loop .loop .i) low high) in
+    posts (list-full (start .pre .0) (start .pre .1) (start .pre .3) low high is here (at-loop .loop .inv .2)
+    (comes-of _ (at-triggers-of-term .triggers-of-term .ensures)) (c .enum-told .given .1))
 
 same-length : tie.Need-same-length Inv-loop μ-loop
 same-length c = returns c .1 .0 .names-same .same-length
@@ -85,34 +121,30 @@ add-count : tie.Need-add-count Inv-loop μ-loop
 add-count c =
     let at-more = c .before in
     let at-triggers-of-term = at-more .before .before .before .before .before .before .before .before in
-    let at-loop = at-triggers-of-term .before .before .before .before .before .before in
-    omega (
-      arith,
-      comes-ends (at-loop .loop .inv .2) .1,
-      comes-ends (at-loop .loop .inv .2) .2,
-      comes-ends (comes-is (at-more .more .given .1) (comes-of _ (at-triggers-of-term .triggers-of-term .ensures))) .1,
-      comes-ends (comes-is (at-more .more .given .1) (comes-of _ (at-triggers-of-term .triggers-of-term .ensures))) .2,
-    )
+    let at-loop = at-triggers-of-term .before .before .before .before .before .before .before .before .before in
+    let before = comes-ends (at-loop .loop .inv .2) in
+    let after = comes-ends (comes-is (at-more .more .given .1) (comes-of _ (at-triggers-of-term .triggers-of-term .ensures))) in
+    omega (arith, before .1, before .2, after .1, after .2)
 
-add-i : tie.Need-add-i Inv-loop μ-loop
-add-i c = omega arith
+loop-less-2 : tie.Need-loop-less-2 Inv-loop μ-loop
+loop-less-2 c = omega arith
 
-loop-less : tie.Need-loop-less Inv-loop μ-loop
-loop-less c = omega arith
-
-loop-again : tie.Need-loop-again Inv-loop μ-loop
-loop-again c =
+loop-again-2 : tie.Need-loop-again-2 Inv-loop μ-loop
+loop-again-2 c =
     let at-more = c .before in
     let at-triggers-of-term = at-more .before .before .before .before .before .before .before .before in
-    let at-reference = at-triggers-of-term .before .before .before .before in
+    let at-reference = at-triggers-of-term .before .before .before .before .before .before .before in
     let at-loop-test = at-reference .before in
     let at-loop = at-loop-test .before in
-    let start = at-loop .before .before .before .before .before in (
-      omega (arith, at-loop .loop .inv .0),
-      omega (arith, at-loop-test .loop-test .taken),
-      list-next (start .pre .0) (start .pre .1) (start .pre .3) (at-loop .loop .inv .0) (at-loop-test .loop-test .taken) (at-reference .reference .ensures)
-          (omega (arith, at-reference .reference .ensures, start .pre .4 (at-loop .loop .i) (at-loop .loop .inv .0) (at-loop-test .loop-test .taken)))
-          (at-loop .loop .inv .2) (comes-of _ (at-triggers-of-term .triggers-of-term .ensures)) (at-more .more .given .1),
+    let start = at-loop .before .before .before .before .before in
+    let low = at-loop .loop .inv .0 in
+    let high = at-loop-test .loop-test .taken in
+    let is = at-reference .reference .ensures in
+    let here = term-low is (start .pre .4 (at-loop .loop .i) low high) in (
+      omega (arith, low),
+      omega (arith, high),
+      list-next (start .pre .0) (start .pre .1) (start .pre .3) low high is here (at-loop .loop .inv .2)
+          (comes-of _ (at-triggers-of-term .triggers-of-term .ensures)) (at-more .more .given .1),
     )
 
 returns-2 : tie.Need-returns-2 Inv-loop μ-loop
@@ -139,6 +171,10 @@ triggers-of-list-spec =
     μ-loop
     loop-holds
     reference-requires
+    add-i
+    group-count-requires
+    loop-less
+    loop-again
     sub-triggers-of-term
     add-triggers-of-term
     triggers-of-term-requires
@@ -149,9 +185,8 @@ triggers-of-list-spec =
     same-length-3
     returns
     add-count
-    add-i
-    loop-less
-    loop-again
+    loop-less-2
+    loop-again-2
     same-length-4
     same-length-5
     same-length-6
