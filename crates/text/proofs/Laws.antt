@@ -192,6 +192,13 @@ module _ (s : List ℕ) (i e : ℕ) (h : i < e) (k : e ≤ length s) where
   unfolding when
   number-leading b n = rw (number-zero b, lt-leb (e - (i + 1)) 0 (omega arith))
 
+-- a search that goes on n bytes after i, where the byte there is not the mark
+pub mark-step : (mark : ℕ) (s : List ℕ) (at i n e : ℕ) → i + n < e → e ≤ length s → mark-at mark s at e ≡ mark-at mark s (i + n) e
+    → (getD s (i + n) 0 ≡ mark → ⊥) → mark-at mark s at e ≡ mark-at mark s (i + suc n) e
+mark-step mark s at i n e h k d b =
+    let next : i + n + 1 ≡ i + suc n = omega arith in
+    rw (← next) (d ∙ mark-on s (i + n) e h k mark b)
+
 -- ---- a part from i up to e with no byte left
 
 module _ (s : List ℕ) (i e : ℕ) (h : e ≤ i) where

@@ -37,19 +37,43 @@ pub enum NumberStep {
     Refused(Refusal),
 }
 
-// The first position from `at` up to `end` where `mark` stands, or `end`.
+// The first position from `at` up to `end` where `mark` stands, or `end`, where few bytes are left.
+fn find_near(s: &[u8], mark: u8, at: usize, end: usize) -> usize
+    requires { ⌜ (at ≤ end) × (end ≤ length (now s)) ⌝ }
+    ensures { λ r. ⌜ r ≡ mark-at mark (now (s .entry)) at end ⌝ }
+{
+    let mut j = at;
+    while j < end {
+        if s[j] == mark {
+            return j;
+        }
+        j += 1;
+    }
+    end
+}
+
+// The first position from `at` up to `end` where `mark` stands, or `end`. Four bytes are looked at in a turn.
 pub fn find(s: &[u8], mark: u8, at: usize, end: usize) -> usize
     requires { ⌜ (at ≤ end) × (end ≤ length (now s)) ⌝ }
     ensures { λ r. ⌜ r ≡ mark-at mark (now (s .entry)) at end ⌝ }
 {
     let mut i = at;
-    while i < end {
+    while 4 <= end - i {
         if s[i] == mark {
             return i;
         }
-        i += 1;
+        if s[i + 1] == mark {
+            return i + 1;
+        }
+        if s[i + 2] == mark {
+            return i + 2;
+        }
+        if s[i + 3] == mark {
+            return i + 3;
+        }
+        i += 4;
     }
-    end
+    find_near(s, mark, i, end)
 }
 
 // How many fields stand from `at` up to `end`.
