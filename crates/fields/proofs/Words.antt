@@ -191,7 +191,8 @@ module _ (n key : ℕ) (f : Field) (k : Keyed f key) where
   kind-later a b = rw (ne-eqb n 1 a, eq-eqb key ask b) at kind-key
 
   -- another kind on another line
-  pub kind-other : {x : Result LineKind} → (n ≡ 1 → ⊥) → (key ≡ ask → ⊥) → x ≡ need refusal.Form (look kinds key) → x ≡ kind-field n f
+  pub kind-other : {x : Result LineKind} → (n ≡ 1 → ⊥) → (key ≡ ask → ⊥) → x ≡ need refusal.Form (look kinds key)
+      → x ≡ kind-field n f
   kind-other a b d = d ∙ (rw (ne-eqb n 1 a, ne-eqb key ask b) at kind-key)
 
 -- ---- op words

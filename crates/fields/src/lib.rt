@@ -58,25 +58,43 @@ pub enum OpWord {
     No,
 }
 
-// The keys of the words: a 1, then the bytes of the word.
+// The keys of the kinds and of the op words: a 1, then the bytes of the word.
 const ASK: u64 = 0x1_61_73_6b;
+
 const FREE: u64 = 0x1_66_72_65_65;
+
 const LEAF: u64 = 0x1_6c_65_61_66;
+
 const CALL: u64 = 0x1_63_61_6c_6c;
+
 const OP: u64 = 0x1_6f_70;
+
 const ALL: u64 = 0x1_61_6c_6c;
+
 const SOME: u64 = 0x1_73_6f_6d_65;
+
 const LET: u64 = 0x1_6c_65_74;
+
 const LABEL: u64 = 0x1_6c_61_62_65_6c;
+
 const ASSUME: u64 = 0x1_61_73_73_75_6d_65;
+
 const FUN: u64 = 0x1_66_75_6e;
+
 const DEF: u64 = 0x1_64_65_66;
+
 const RETAIN: u64 = 0x1_72_65_74_61_69_6e;
+
 const ROOT: u64 = 0x1_72_6f_6f_74;
+
 const TRUE: u64 = 0x1_74_72_75_65;
+
 const IFF: u64 = 0x1_69_66_66;
+
 const EQ: u64 = 0x1_65_71;
+
 const AND: u64 = 0x1_61_6e_64;
+
 const OTHER: u64 = 0x1_6f_74_68_65_72;
 
 // The most bytes that a word has.

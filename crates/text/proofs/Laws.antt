@@ -77,7 +77,7 @@ pub byte-below : (b : ℕ) → b ≤ 0x2c → (b ≡ 0x2c → ⊥) → is-name-b
 unfolding is-name-byte
 byte-below b h n = rw (le-leb b 0x7e (omega arith), ne-eqb b 0x2c n, and-true, and-true)
 
--- and so is one above it
+-- and so is one above the comma
 pub byte-above : (b : ℕ) → 0x2c < b → is-name-byte b ≡ leb b 0x7e
 unfolding is-name-byte
 byte-above b h = rw (le-leb 0x21 b (omega arith), ne-eqb b 0x2c (λ e. omega arith), and-true)
@@ -134,13 +134,15 @@ unfolding number valued decimal when is-digit
 number-bad [] h = refl
 number-bad (b ∷ bs) h = go bs (eqb b 0x30) refl h
   where
-    go : (bs : List ℕ) (t : Bool) → eqb b 0x30 ≡ t → valued 0 (b ∷ bs) ≡ none → cond t (when (leb (length bs) 0) 0) (valued 0 (b ∷ bs)) ≡ none
+    go : (bs : List ℕ) (t : Bool) → eqb b 0x30 ≡ t → valued 0 (b ∷ bs) ≡ none
+        → cond t (when (leb (length bs) 0) 0) (valued 0 (b ∷ bs)) ≡ none
     go bs false d h = h
     go (c ∷ cs) true d h = rw (lt-leb (suc (length cs)) 0 (omega arith))
     go [] true d h = let e = eqb-true b 0x30 d in rw e at h
 
 -- bytes that make a value are that number, where there is one and no zero leads others
-pub number-value : (l : List ℕ) (n : ℕ) → 0 < length l → (getD l 0 0 ≡ 0x30 → length l ≤ 1) → valued 0 l ≡ some n → number l ≡ some n
+pub number-value : (l : List ℕ) (n : ℕ) → 0 < length l → (getD l 0 0 ≡ 0x30 → length l ≤ 1) → valued 0 l ≡ some n
+    → number l ≡ some n
 unfolding number valued decimal when is-digit
 number-value [] n h z v = absurd (not-suc-le-zero h)
 number-value (b ∷ bs) n h z v = go bs (eqb b 0x30) refl z v
@@ -455,12 +457,12 @@ fields-part s at e m h k d =
 
 -- ---- a walk over the bytes of the first field of a part
 
--- the bytes of a list all pass the test
+-- a byte that passes the test: the others decide
 pub passes : (test : ℕ → Bool) (b : ℕ) → test b ≡ true → (l : List ℕ) → all test (b ∷ l) ≡ all test l
 unfolding all
 passes test b h l = rw h
 
--- one does not
+-- a byte that fails it: the list does
 pub fails : (test : ℕ → Bool) (b : ℕ) → test b ≡ false → (l : List ℕ) → all test (b ∷ l) ≡ false
 unfolding all
 fails test b h l = rw h
@@ -503,7 +505,8 @@ module _ {A : Type 0} (s : List ℕ) (at e : ℕ) (asked : List ℕ → A) where
         (rw on at (w .said)) ∙ ap left (part-cons s i m (omega arith) (omega arith))
 
     -- at another byte that goes into what is left: on
-    pub walk-on : (getD s i 0 ≡ 0x2c → ⊥) → (more : List ℕ → A) → ((l : List ℕ) → left (getD s i 0 ∷ l) ≡ more l) → Walk (i + 1) more
+    pub walk-on : (getD s i 0 ≡ 0x2c → ⊥) → (more : List ℕ → A) → ((l : List ℕ) → left (getD s i 0 ∷ l) ≡ more l)
+        → Walk (i + 1) more
     walk-on b more f =
         record {
           from = omega arith;
@@ -513,7 +516,8 @@ module _ {A : Type 0} (s : List ℕ) (at e : ℕ) (asked : List ℕ → A) where
         }
 
     -- at another byte that decides
-    pub walk-out : (getD s i 0 ≡ 0x2c → ⊥) → (x : A) → ((l : List ℕ) → left (getD s i 0 ∷ l) ≡ x) → asked (part s at (mark-at 0x2c s at e)) ≡ x
+    pub walk-out : (getD s i 0 ≡ 0x2c → ⊥) → (x : A) → ((l : List ℕ) → left (getD s i 0 ∷ l) ≡ x)
+        → asked (part s at (mark-at 0x2c s at e)) ≡ x
     walk-out b x f = walk-cons b ∙ f (part s (i + 1) (mark-at 0x2c s (i + 1) e))
 
 -- ---- lines
@@ -616,7 +620,8 @@ module _ (s : List ℕ) (c : Cursor) (m : ℕ) (h : c .at ≤ c .end) (k : m ≡
   name-bad t = rw (field-some s c m h k, name-byte (part s (c .at) m) t)
 
   -- a number is asked of it
-  pub number-read : (limit : ℕ) → at-most limit (record { at = m + 1; end = c .end }) (number (part s (c .at) m)) ≡ number-at limit s c
+  pub number-read : (limit : ℕ)
+      → at-most limit (record { at = m + 1; end = c .end }) (number (part s (c .at) m)) ≡ number-at limit s c
   unfolding number-at as-number
   number-read limit = rw (field-some s c m h k)
 

@@ -207,7 +207,7 @@ fn sized_name(at: usize, stop: usize, end: usize) -> FieldStep
     }
 }
 
-// The number from `at` up to `stop` in a line that ends at `end`, digits of the value `n`: one at least, no leading zero, at most `limit`.
+// The number from `at` up to `stop` in a line that ends at `end`, digits of the value `n`: one digit at least, no zero in front.
 fn valued_number(s: &[u8], at: usize, stop: usize, end: usize, n: u32, limit: u32) -> NumberStep
     requires { ⌜ (at ≤ stop) × (stop ≤ length (now s)) × (length (now s) ≤ 65535) × (valued 0 (part (now s) at stop) ≡ some n) ⌝ }
     ensures { λ r. ⌜ r ≡ at-most limit (record { at = stop + 1; end = end }) (number (part (now (s .entry)) at stop)) ⌝ }

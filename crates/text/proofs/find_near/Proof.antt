@@ -22,7 +22,8 @@ shared-slice-read-if1 c = omega arith
 returns : tie.Need-returns Inv-loop μ-loop
 returns c =
     let left = c .before .before .loop-test .taken in
-    sym (c .before .before .before .loop .inv .1 ∙ mark-here _ _ _ left (c .before .before .before .before .pre .1) _ (c .if1 .taken))
+    let loop = c .before .before .before in
+    sym (loop .loop .inv .1 ∙ mark-here _ _ _ left (loop .before .pre .1) _ (c .if1 .taken))
 
 add-j : tie.Need-add-j Inv-loop μ-loop
 add-j c = omega arith
@@ -33,7 +34,8 @@ loop-less c = omega arith
 loop-again : tie.Need-loop-again Inv-loop μ-loop
 loop-again c =
     let left = c .before .before .loop-test .taken in
-    (omega arith, c .before .before .before .loop .inv .1 ∙ mark-on _ _ _ left (c .before .before .before .before .pre .1) _ (c .if1 .left))
+    let loop = c .before .before .before in
+    (omega arith, loop .loop .inv .1 ∙ mark-on _ _ _ left (loop .before .pre .1) _ (c .if1 .left))
 
 returns-2 : tie.Need-returns-2 Inv-loop μ-loop
 returns-2 c = sym (c .before .loop .inv .1 ∙ mark-end _ _ _ (c .loop-test .left) _ (c .before .loop .inv .0))

@@ -15,7 +15,9 @@ shared-slice-read-if3 : tie.Need-shared-slice-read-if3
 shared-slice-read-if3 c = omega arith
 
 returns-2 : tie.Need-returns-2
-returns-2 c = most-none _ _ _ (number-leading _ _ _ (omega arith) (c .before .before .before .before .pre .1) (c .if3 .taken) (λ e. omega arith))
+returns-2 c =
+    let pre = c .before .before .before .before .pre in
+    most-none _ _ _ (number-leading _ _ _ (omega arith) (pre .1) (c .if3 .taken) (λ e. omega arith))
 
 add-t14 : tie.Need-add-t14
 add-t14 c = omega arith
@@ -24,8 +26,8 @@ returns-3 : tie.Need-returns-3
 returns-3 c =
     let pre = c .before .before .before .pre in
     let number = number-part _ _ _ _ (omega arith) (pre .1)
-        (λ zero. ⊎-elim (λ w. absurd (w .2 .left zero)) (λ w. w .left) (c .before .if2 .came))
-        (pre .3)
+    (λ zero. ⊎-elim (λ w. absurd (w .2 .left zero)) (λ w. w .left) (c .before .if2 .came))
+    (pre .3)
     in
     most-good _ _ _ _ number (c .if4 .taken)
 
@@ -33,8 +35,8 @@ returns-4 : tie.Need-returns-4
 returns-4 c =
     let pre = c .before .before .before .pre in
     let number = number-part _ _ _ _ (omega arith) (pre .1)
-        (λ zero. ⊎-elim (λ w. absurd (w .2 .left zero)) (λ w. w .left) (c .before .if2 .came))
-        (pre .3)
+    (λ zero. ⊎-elim (λ w. absurd (w .2 .left zero)) (λ w. w .left) (c .before .if2 .came))
+    (pre .3)
     in
     most-over _ _ _ _ number (c .if4 .left)
 

@@ -1,5 +1,5 @@
 -- `text::Cursor::name` meets its contract. The loop's invariant: the field's bytes are of a name if those from `i` on are.
-use Prim.Native.Nat.{_≤_, _-_}
+use Prim.Native.Nat.{_-_}
 use mathlib.Core.Path.{refl, sym, _∙_}
 use mathlib.Core.Bool.{false}
 use native.Mathlib.Omega.{arith}
@@ -32,10 +32,12 @@ is-name-byte-requires c κs = search needs
 returns-2 : tie.Need-returns-2 Inv-loop μ-loop
 returns-2 c =
     let test = c .before .before .before .before in
+    let left = test .loop-test .taken in
     let loop = test .before in
     let entry = loop .before .before .before .before in
     let bad = sym (c .before .before .is-name-byte .ensures) ∙ not-true _ (c .before .if2 .taken) in
-    let out = walk-out _ _ _ _ _ _ (loop .loop .inv) (test .loop-test .taken) (entry .pre .inside) (c .if3 .taken) false (fails _ _ bad) in
+    let inside = entry .pre .inside in
+    let out = walk-out _ _ _ _ _ _ (loop .loop .inv) left inside (c .if3 .taken) false (fails _ _ bad) in
     name-bad _ _ _ (loop .before .if1 .left) refl out
 
 sized-name-requires : tie.Need-sized-name-requires Inv-loop μ-loop
@@ -45,9 +47,11 @@ returns-3 : tie.Need-returns-3 Inv-loop μ-loop
 unfolding all
 returns-3 c =
     let test = c .before .before .before .before .before in
+    let left = test .loop-test .taken in
     let loop = test .before in
     let entry = loop .before .before .before .before in
-    let (stop, good) = walk-comma _ _ _ _ _ _ (loop .loop .inv) (test .loop-test .taken) (entry .pre .inside) (c .before .if3 .left) in
+    let inside = entry .pre .inside in
+    let (stop, good) = walk-comma _ _ _ _ _ _ (loop .loop .inv) left inside (c .before .if3 .left) in
     c .sized-name .ensures ∙ name-sized _ _ _ (loop .before .if1 .left) stop (omega arith) good
 
 add-i : tie.Need-add-i Inv-loop μ-loop
@@ -59,11 +63,12 @@ loop-less c = omega arith
 loop-again : tie.Need-loop-again Inv-loop μ-loop
 loop-again c =
     let test = c .before .before .before in
+    let left = test .loop-test .taken in
     let loop = test .before in
     let entry = loop .before .before .before .before in
     let good = sym (c .before .is-name-byte .ensures) ∙ not-false _ (c .if2 .left) in
     let other = byte-other _ good in
-    walk-on _ _ _ _ _ _ (loop .loop .inv) (test .loop-test .taken) (entry .pre .inside) other _ (passes _ _ good)
+    walk-on _ _ _ _ _ _ (loop .loop .inv) left (entry .pre .inside) other _ (passes _ _ good)
 
 sized-name-requires-2 : tie.Need-sized-name-requires-2 Inv-loop μ-loop
 sized-name-requires-2 c κs = omega arith

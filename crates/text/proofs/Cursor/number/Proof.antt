@@ -1,4 +1,4 @@
--- `text::Cursor::number` meets its contract. The loop's invariant: the field's value is what the value so far and the digits from `i` on make.
+-- `text::Cursor::number` meets its contract. The loop's invariant: the value is made of the value so far and the bytes from `i` on.
 use Prim.Native.Nat.{_≤_, _-_}
 use Rattle.text.specs.Parts.{valued}
 use mathlib.Core.Path.{refl, sym, _∙_}
@@ -26,35 +26,42 @@ shared-slice-read-b c = omega arith
 returns-2 : tie.Need-returns-2 Inv-loop μ-loop
 returns-2 c =
     let test = c .before .before .before in
+    let left = test .loop-test .taken in
     let loop = test .before in
     let entry = loop .before .before .before .before in
     let bad = digit-low _ (c .before .if2 .taken) in
-    let out = walk-out _ _ _ _ _ _ (loop .loop .inv .1) (test .loop-test .taken) (entry .pre .inside) (c .if3 .taken) none (valued-bad _ _ bad) in
+    let inside = entry .pre .inside in
+    let out = walk-out _ _ _ _ _ _ (loop .loop .inv .1) left inside (c .if3 .taken) none (valued-bad _ _ bad) in
     number-none _ _ _ (loop .before .if1 .left) refl _ out
 
 valued-number-requires : tie.Need-valued-number-requires Inv-loop μ-loop
 valued-number-requires c κs =
     let test = c .before .before .before in
+    let left = test .loop-test .taken in
     let loop = test .before in
     let entry = loop .before .before .before .before in
-    let (stop, value) = walk-comma _ _ _ _ _ _ (loop .loop .inv .1) (test .loop-test .taken) (entry .pre .inside) (c .if3 .left) in
+    let (stop, value) = walk-comma _ _ _ _ _ _ (loop .loop .inv .1) left (entry .pre .inside) (c .if3 .left) in
     (loop .loop .inv .1 .from, omega arith, entry .pre .short, value ∙ valued-end _ (loop .loop .inv .0))
 
 returns-3 : tie.Need-returns-3 Inv-loop μ-loop
 returns-3 c =
     let test = c .before .before .before .before in
+    let left = test .loop-test .taken in
     let loop = test .before in
     let entry = loop .before .before .before .before in
-    let (stop, value) = walk-comma _ _ _ _ _ _ (loop .loop .inv .1) (test .loop-test .taken) (entry .pre .inside) (c .before .if3 .left) in
+    let inside = entry .pre .inside in
+    let (stop, value) = walk-comma _ _ _ _ _ _ (loop .loop .inv .1) left inside (c .before .if3 .left) in
     c .valued-number .ensures ∙ number-read _ _ _ (loop .before .if1 .left) stop _
 
 returns-4 : tie.Need-returns-4 Inv-loop μ-loop
 returns-4 c =
     let test = c .before .before .before in
+    let left = test .loop-test .taken in
     let loop = test .before in
     let entry = loop .before .before .before .before in
     let bad = digit-high _ (c .if4 .taken) in
-    let out = walk-out _ _ _ _ _ _ (loop .loop .inv .1) (test .loop-test .taken) (entry .pre .inside) (λ e. omega arith) none (valued-bad _ _ bad) in
+    let inside = entry .pre .inside in
+    let out = walk-out _ _ _ _ _ _ (loop .loop .inv .1) left inside (λ e. omega arith) none (valued-bad _ _ bad) in
     number-none _ _ _ (loop .before .if1 .left) refl _ out
 
 mul-n : tie.Need-mul-n Inv-loop μ-loop
@@ -69,11 +76,12 @@ add-n c = omega arith
 returns-5 : tie.Need-returns-5 Inv-loop μ-loop
 returns-5 c =
     let test = c .before .before .before .before in
+    let left = test .loop-test .taken in
     let loop = test .before in
     let entry = loop .before .before .before .before in
     let good = digit-good _ (c .before .before .if2 .left) (c .before .if4 .left) in
     let past = valued-past _ _ good (c .if5 .taken) in
-    let out = walk-out _ _ _ _ _ _ (loop .loop .inv .1) (test .loop-test .taken) (entry .pre .inside) (λ e. omega arith) none past in
+    let out = walk-out _ _ _ _ _ _ (loop .loop .inv .1) left (entry .pre .inside) (λ e. omega arith) none past in
     number-none _ _ _ (loop .before .if1 .left) refl _ out
 
 add-i : tie.Need-add-i Inv-loop μ-loop
@@ -85,10 +93,12 @@ loop-less c = omega arith
 loop-again : tie.Need-loop-again Inv-loop μ-loop
 loop-again c =
     let test = c .before .before .before .before in
+    let left = test .loop-test .taken in
     let loop = test .before in
     let entry = loop .before .before .before .before in
     let good = digit-good _ (c .before .before .if2 .left) (c .before .if4 .left) in
-    let on = walk-on _ _ _ _ _ _ (loop .loop .inv .1) (test .loop-test .taken) (entry .pre .inside) (λ e. omega arith) _ (valued-on _ _ good) in
+    let inside = entry .pre .inside in
+    let on = walk-on _ _ _ _ _ _ (loop .loop .inv .1) left inside (λ e. omega arith) _ (valued-on _ _ good) in
     (c .if5 .left, on)
 
 valued-number-requires-2 : tie.Need-valued-number-requires-2 Inv-loop μ-loop
