@@ -1,18 +1,17 @@
 -- Laws of words: the place of a field among words and what stands there, the kind of a line, the number of its fields.
-use Prim.Native.Nat.{ℕ, zero, suc, _+_, _≤_, _<_}
+use Prim.Native.Nat.{ℕ, zero, suc, _+_, _-_, _*_, _≤_, _<_}
 use Prim.Native.String.{String}
 use native.Mathlib.Omega.{arith}
-use mathlib.Core.Path.{_≡_, refl, sym, ap, _∙_}
-use mathlib.Core.Logic.{⊎-elim}
-use mathlib.Core.Bool.{Bool, true, false, cond, not, Bool·beq}
+use mathlib.Core.Path.{_≡_, refl, sym, ap, ap₂, _∙_}
+use mathlib.Core.Bool.{Bool, true, false, cond, not, _&&_, Bool·beq, and-eq-true-iff}
 use mathlib.Core.List.{List, [], _∷_}
 use mathlib.Core.Option.{Option, none, some}
-use lib.ListN.{length}
-use lib.Dec.{eqb}
-use borrow.Author.Tests.{eq-eqb, ne-eqb}
-use Rattle.model.specs.Lists.{holds}
+use lib.ListN.{length, getD}
+use lib.Dec.{leb, ltb, eqb, eqb→eq, eqb-refl}
+use borrow.Author.Tests.{eq-eqb, ne-eqb, ltb-true, leb-true}
+use Rattle.model.specs.Lists.{all, holds, part}
 use Rattle.model.specs.Names.{bytes, same}
-use Rattle.model.specs.Lines.{Field, fields}
+use Rattle.model.specs.Lines.{Field}
 use Rattle.model.specs.Summaries.{op-number}
 use Rattle.model.specs.Reading.{Result, ok, refused, _>>=_, need, next, word, op-words, kinds, kind-field, fixed-count, content, parse}
 use Rattle.model.specs.declared.LineKind.{LineKind}
@@ -20,83 +19,137 @@ use Rattle.model.specs.declared.LineKind.the-variants as kind
 use Rattle.model.specs.declared.Op.{Op}
 use Rattle.model.specs.declared.Op.the-variants as op
 use Rattle.model.specs.declared.Refusal.the-variants as refusal
-use Rattle.model.proofs.PartLaws.{part-all}
-use Rattle.text.specs.Parts.{fields-left}
-use Rattle.text.proofs.Laws.{left-some}
+use Rattle.model.proofs.PartLaws.{part-cons, part-nil}
+use Rattle.model.proofs.ListLaws.{T-ext}
+use Rattle.model.proofs.SetLaws.{same-eq, eq-same}
+use Rattle.text.proofs.Laws.{same-sized}
 use Rattle.terms.specs.Rows.{op-of-code}
-use Rattle.terms.proofs.Laws.{equal}
-use Rattle.names.specs.Known.{code-from}
 use Rattle.fields.specs.declared.Kind.{Kind}
 use Rattle.fields.specs.declared.Kind.the-variants as kinded
 use Rattle.fields.specs.declared.OpWord.the-variants as worded
-use Rattle.fields.specs.Wording.{pick, term-kind, record-kind, kind-result, fixed-of, count-of, well-counted, as-op}
+use Rattle.fields.specs.Wording.{packed, key-of, is-byte, is-short, Keyed, look, term-kind, record-kind, kind-result, fixed-of, count-of, well-counted, as-op}
 
--- ---- places
+-- ---- keys
 
--- a place among the fields of a text is that among the fields from its start on
-pub code-start : (l : List ℕ) (f : Field) → code-from 1 (fields l) f ≡ code-from 1 (fields-left l (record { at = 0; end = length l })) f
-code-start l f = ap (λ ks. code-from 1 ks f) (sym (left-some l (record { at = 0; end = length l }) (omega arith) ∙ ap fields (part-all l)))
+-- bytes packed after a number make no smaller one
+packed-from : (n : ℕ) (l : List ℕ) → n ≤ packed n l
+unfolding packed
+packed-from n [] = omega arith
+packed-from n (b ∷ bs) = omega (arith, packed-from (n * 256 + b) bs)
 
--- a place is no lower than that of the first word
-code-later : (k n : ℕ) (ks : List Field) (f : Field) → 0 < k → k < n → code-from n ks f ≡ k → ⊥
-unfolding code-from
-code-later k n [] f p h e = omega arith
-code-later k n (w ∷ ks) f p h e = go (same f w) e (code-later k (n + 1) ks f p (omega arith))
+-- bytes of which all are bytes: the first is, and the others are
+byte-first : (b : ℕ) (bs : List ℕ) → all is-byte (b ∷ bs) ≡ true → (b < 256) × (all is-byte bs ≡ true)
+unfolding all is-byte
+byte-first b bs h = let (x, y) = and-eq-true-iff (ltb b 256) (all is-byte bs) .0 h in (ltb-true b 256 x, y)
+
+-- bytes that make one number after numbers of the same size are the same
+packed-same : (m n : ℕ) (f g : List ℕ) → all is-byte f ≡ true → all is-byte g ≡ true → m < n * 256 → n < m * 256
+    → packed m f ≡ packed n g → (m ≡ n) × (f ≡ g)
+unfolding packed
+packed-same m n [] [] p q h k e = (e, refl)
+packed-same m n [] (b ∷ bs) p q h k e = absurd (omega (arith, packed-from (n * 256 + b) bs))
+packed-same m n (a ∷ l) [] p q h k e = absurd (omega (arith, packed-from (m * 256 + a) l))
+packed-same m n (a ∷ l) (b ∷ bs) p q h k e =
+    let (x, xs) = byte-first a l p in
+    let (y, ys) = byte-first b bs q in
+    let (d, rest) = packed-same (m * 256 + a) (n * 256 + b) l bs xs ys (omega arith) (omega arith) e in
+    (omega arith, ap₂ _∷_ (omega arith) rest)
+
+-- a field's own key tells it from every word
+pub key-short : (f : Field) {key : ℕ} → all is-byte f ≡ true → key ≡ key-of f → Keyed f key
+unfolding key-of is-short
+key-short f {key} p e = record { tells = λ w h. tell w (and-eq-true-iff (leb (length w) 6) (all is-byte w) .0 h .1) }
   where
-    go : (t : Bool) → cond t n (code-from (n + 1) ks f) ≡ k → (code-from (n + 1) ks f ≡ k → ⊥) → ⊥
-    go true e later = omega arith
-    go false e later = later e
+    tell : (w : Field) → all is-byte w ≡ true → same f w ≡ eqb key (key-of w)
+    tell w q = rw e
+        (T-ext (λ t. rw (same-eq t) (eqb-refl (packed 1 w)))
+        (λ t. eq-same (packed-same 1 1 f w p q (omega arith) (omega arith) (eqb→eq (packed 1 f) (packed 1 w) t) .1)))
 
--- the first place is that of the first word
-first-place : (w : Field) (ks : List Field) (f : Field) → eqb (code-from 1 (w ∷ ks) f) 1 ≡ same f w
-unfolding code-from
-first-place w ks f = go (same f w)
+-- a part that is longer than any word is none
+pub key-long : (s : List ℕ) (a e : ℕ) → e ≤ length s → 6 < e - a → Keyed (part s a e) 0
+unfolding key-of is-short
+key-long s a e k h = record { tells = tell }
   where
-    go : (t : Bool) → eqb (cond t 1 (code-from (1 + 1) ks f)) 1 ≡ t
-    go true = refl
-    go false = ne-eqb (code-from (1 + 1) ks f) 1 (code-later 1 (1 + 1) ks f (omega arith) (omega arith))
+    tell : (w : Field) → is-short w ≡ true → same (part s a e) w ≡ eqb 0 (key-of w)
+    tell w t =
+        let l = leb-true (length w) 6 (and-eq-true-iff (leb (length w) 6) (all is-byte w) .0 t .0) in
+        same-sized s a e w k (λ d. omega arith) ∙ sym (ne-eqb 0 (packed 1 w) (λ d. omega (arith, packed-from 1 w)))
 
--- a number that is none of those from 1 up to another
-unfoldable pub Others : ℕ → ℕ → Type 0
-Others p zero = Unit {0}
-Others p (suc n) = Others p n × (p ≡ suc n → ⊥)
+-- how large the key of n bytes is at most
+unfoldable pub weight : ℕ → ℕ
+weight zero = 2
+weight (suc n) = weight n * 256
 
--- it is no given one of them
-other-place : (p i n : ℕ) → Others p n → 0 < i → i ≤ n → p ≡ i → ⊥
-unfolding Others
-other-place p i zero h a b e = omega arith
-other-place p i (suc n) (h, last) a b e = ⊎-elim (λ (d : i ≡ suc n). last (e ∙ d)) (λ (d : i ≡ suc n → ⊥). other-place p i n h a (omega arith) e)
-    (equal i (suc n))
+-- the key before any byte is 1
+pub weight-start : (a : ℕ) → 1 < weight (a - a)
+unfolding weight
+weight-start a =
+    let n : a - a ≡ 0 = omega arith in
+    rw n (omega arith)
+
+-- fewer bytes, a smaller key
+weight-le : (m n : ℕ) → m ≤ n → weight m ≤ weight n
+unfolding weight
+weight-le zero zero h = omega arith
+weight-le zero (suc n) h = omega (arith, weight-le zero n (omega arith))
+weight-le (suc m) zero h = absurd (omega arith)
+weight-le (suc m) (suc n) h = omega (arith, weight-le m n (omega arith))
+
+-- another byte finds room
+pub weight-room : (a i e : ℕ) → i < e → e - a ≤ 6 → weight (i - a) ≤ 2199023255552
+unfolding weight
+weight-room a i e h k = weight-le (i - a) 5 (omega arith)
+
+-- and is packed
+pub weight-on : (key b a i : ℕ) → a ≤ i → key < weight (i - a) → b < 256 → key * 256 + b < weight (i + 1 - a)
+unfolding weight
+weight-on key b a i h k l =
+    let n : i + 1 - a ≡ suc (i - a) = omega arith in
+    rw n (omega arith)
+
+-- a part from i up to e with bytes left: the byte at i is packed
+pub packed-on : (s : List ℕ) (i e key : ℕ) → i < e → e ≤ length s
+    → packed key (part s i e) ≡ packed (key * 256 + getD s i 0) (part s (i + 1) e)
+unfolding packed
+packed-on s i e key h k = rw (part-cons s i e h k)
+
+-- one with no byte left: the key is made
+pub packed-end : (s : List ℕ) (i e key : ℕ) → e ≤ i → packed key (part s i e) ≡ key
+unfolding packed
+packed-end s i e key h = rw (part-nil s i e h)
 
 module _ {A : Type 0} where
-  -- the words of a list, as fields
-  unfoldable pub spelt : List (String × A) → List Field
-  spelt [] = []
-  spelt ((w, a) ∷ ws) = bytes w ∷ spelt ws
+  -- whether every word of a list is short
+  unfoldable pub are-short : List (String × A) → Bool
+  are-short [] = true
+  are-short ((w, a) ∷ ws) = is-short (bytes w) && are-short ws
 
-  -- what a field stands for stands at its place
-  word-pick : (n : ℕ) (ws : List (String × A)) (f : Field) → 0 < n → word ws f ≡ pick n ws (code-from n (spelt ws) f)
-  unfolding word pick spelt code-from
-  word-pick n [] f p = refl
-  word-pick n ((w, a) ∷ ws) f p = go (same f (bytes w)) (word-pick (n + 1) ws f (omega arith))
-    where
-      later : ℕ
-      later = code-from (n + 1) (spelt ws) f
+  -- what a field stands for is what its key stands for
+  word-look : (ws : List (String × A)) (f : Field) {key : ℕ} → are-short ws ≡ true → Keyed f key → word ws f ≡ look ws key
+  unfolding word look are-short
+  word-look [] f h k = refl
+  word-look ((w, a) ∷ ws) f h k =
+      let (x, xs) = and-eq-true-iff (is-short (bytes w)) (are-short ws) .0 h in
+      rw (k .tells (bytes w) x, word-look ws f xs k)
 
-      go : (t : Bool) → word ws f ≡ pick (n + 1) ws later
-          → cond t (some a) (word ws f) ≡ cond (eqb (cond t n later) n) (some a) (pick (n + 1) ws (cond t n later))
-      go true ih = rw (eq-eqb n n refl)
-      go false ih = rw (ne-eqb later n (code-later n (n + 1) (spelt ws) f p (omega arith))) ih
+  -- a number that is the key of no word, after what is known before
+  unfoldable pub Apart : Type 0 → ℕ → List (String × A) → Type 0
+  Apart P key [] = P
+  Apart P key ((w, a) ∷ ws) = Apart (P × (key ≡ key-of (bytes w) → ⊥)) key ws
 
-  -- nothing stands at a place that no word has
-  pick-none : (n : ℕ) (ws : List (String × A)) (p : ℕ) → ((i : ℕ) → n ≤ i → i < n + length ws → p ≡ i → ⊥) → none ≡ pick n ws p
-  unfolding pick
-  pick-none n [] p h = refl
-  pick-none n ((w, a) ∷ ws) p h = rw (ne-eqb p n (h n (omega arith) (omega arith))) (pick-none (n + 1) ws p (λ i a b. h i (omega arith) (omega arith)))
+  -- what is known before
+  apart-start : (P : Type 0) (key : ℕ) (ws : List (String × A)) → Apart P key ws → P
+  unfolding Apart
+  apart-start P key [] h = h
+  apart-start P key ((w, a) ∷ ws) h = apart-start (P × (key ≡ key-of (bytes w) → ⊥)) key ws h .0
 
-  -- nor where no arm of a `match` on the place has it
-  pub pick-other : (ws : List (String × A)) (p : ℕ) → Others p (length ws) → none ≡ pick 1 ws p
-  pick-other ws p h = pick-none 1 ws p (λ i a b. other-place p i (length ws) h (omega arith) (omega arith))
+  -- a key that no word has stands for nothing
+  pub look-none : (P : Type 0) (key : ℕ) (ws : List (String × A)) → Apart P key ws → none ≡ look ws key
+  unfolding Apart look
+  look-none P key [] h = refl
+  look-none P key ((w, a) ∷ ws) h =
+      let Q = P × (key ≡ key-of (bytes w) → ⊥) in
+      rw (ne-eqb key (key-of (bytes w)) (apart-start Q key ws h .1)) (look-none Q key ws h)
 
 -- ---- the kind of a line
 
@@ -109,49 +162,50 @@ kind-tested none false = refl
 kind-tested (some k) true = refl
 kind-tested (some k) false = refl
 
--- the first kind is `ask`
-ask-place : (f : Field) → eqb (code-from 1 (spelt kinds) f) 1 ≡ same f (bytes "ask")
-unfolding kinds spelt
-ask-place f = first-place (bytes "ask") _ f
+-- the key of `ask`
+abbrev pub ask : ℕ
+ask = key-of (bytes "ask")
 
-module _ (n p : ℕ) (f : Field) (e : p ≡ code-from 1 (spelt kinds) f) where
-  -- the kind of a line by the place of its first field
-  kind-place : cond (Bool·beq (eqb n 1) (eqb p 1)) (need refusal.Form (pick 1 kinds p)) (refused refusal.Form) ≡ kind-field n f
-  unfolding kind-field
-  kind-place =
-      let t : eqb p 1 ≡ same f (bytes "ask") = ap (λ q. eqb q 1) e ∙ ask-place f in
-      let o : word kinds f ≡ pick 1 kinds p = word-pick 1 kinds f (omega arith) ∙ ap (pick 1 kinds) (sym e) in
-      sym (kind-tested (word kinds f) (Bool·beq (eqb n 1) (same f (bytes "ask"))) ∙ rw (o, ← t))
+module _ (n key : ℕ) (f : Field) (k : Keyed f key) where
+  -- the kind of a line by the key of its first field
+  kind-key : cond (Bool·beq (eqb n 1) (eqb key ask)) (need refusal.Form (look kinds key)) (refused refusal.Form) ≡ kind-field n f
+  unfolding kind-field kinds are-short is-short is-byte all bytes
+  kind-key =
+      let t : same f (bytes "ask") ≡ eqb key ask = k .tells (bytes "ask") refl in
+      let o : word kinds f ≡ look kinds key = word-look kinds f refl k in
+      sym (kind-tested (word kinds f) (Bool·beq (eqb n 1) (same f (bytes "ask"))) ∙ rw (o, t))
 
   -- `ask` on line 1
-  pub kind-ask : n ≡ 1 → p ≡ 1 → kind-result kinded.Ask ≡ kind-field n f
-  unfolding kind-result need pick kinds
-  kind-ask a b = rw (eq-eqb n 1 a, b) at kind-place
+  pub kind-ask : n ≡ 1 → key ≡ ask → kind-result kinded.Ask ≡ kind-field n f
+  unfolding kind-result need look kinds key-of packed bytes
+  kind-ask a b = rw (eq-eqb n 1 a, b) at kind-key
 
   -- another kind on line 1
-  pub kind-first : n ≡ 1 → (p ≡ 1 → ⊥) → kind-result kinded.No ≡ kind-field n f
+  pub kind-first : n ≡ 1 → (key ≡ ask → ⊥) → kind-result kinded.No ≡ kind-field n f
   unfolding kind-result
-  kind-first a b = rw (eq-eqb n 1 a, ne-eqb p 1 b) at kind-place
+  kind-first a b = rw (eq-eqb n 1 a, ne-eqb key ask b) at kind-key
 
   -- `ask` on another line
-  pub kind-later : (n ≡ 1 → ⊥) → p ≡ 1 → kind-result kinded.No ≡ kind-field n f
+  pub kind-later : (n ≡ 1 → ⊥) → key ≡ ask → kind-result kinded.No ≡ kind-field n f
   unfolding kind-result
-  kind-later a b = rw (ne-eqb n 1 a, eq-eqb p 1 b) at kind-place
+  kind-later a b = rw (ne-eqb n 1 a, eq-eqb key ask b) at kind-key
 
   -- another kind on another line
-  pub kind-other : {x : Result LineKind} → (n ≡ 1 → ⊥) → (p ≡ 1 → ⊥) → x ≡ need refusal.Form (pick 1 kinds p) → x ≡ kind-field n f
-  kind-other a b k = k ∙ (rw (ne-eqb n 1 a, ne-eqb p 1 b) at kind-place)
+  pub kind-other : {x : Result LineKind} → (n ≡ 1 → ⊥) → (key ≡ ask → ⊥) → x ≡ need refusal.Form (look kinds key)
+      → x ≡ kind-field n f
+  kind-other a b d = d ∙ (rw (ne-eqb n 1 a, ne-eqb key ask b) at kind-key)
 
 -- ---- op words
 
--- the op word at the place of a field
-pub op-place : {p n : ℕ} (f : Field) → p ≡ code-from 1 (spelt op-words) f → p ≡ n → as-op (pick 1 op-words n) ≡ as-op (word op-words f)
-op-place f e h = ap as-op (ap (pick 1 op-words) (sym h ∙ e) ∙ sym (word-pick 1 op-words f (omega arith)))
+-- the op word with the key of a field
+pub op-key : {key n : ℕ} (f : Field) → Keyed f key → key ≡ n → as-op (look op-words n) ≡ as-op (word op-words f)
+unfolding op-words are-short is-short is-byte all bytes
+op-key {key} {n} f k h = ap as-op (ap (look op-words) (sym h) ∙ sym (word-look op-words f refl k))
 
 -- no op word
-pub op-none : {p : ℕ} (f : Field) → p ≡ code-from 1 (spelt op-words) f → Others p 5 → worded.No ≡ as-op (word op-words f)
-unfolding as-op op-words
-op-none {p} f e h = ap as-op (pick-other op-words p h) ∙ op-place f e refl
+pub op-none : {key : ℕ} (f : Field) → Keyed f key → Apart (Unit {0}) key op-words → worded.No ≡ as-op (word op-words f)
+unfolding as-op
+op-none {key} f k h = ap as-op (look-none (Unit {0}) key op-words h) ∙ op-key f k refl
 
 -- an op word from its number
 pub op-back : (w : Op) → op-of-code (op-number w) ≡ w

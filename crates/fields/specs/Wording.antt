@@ -1,12 +1,14 @@
 -- What a field says as a word: the kind of a line, and the word of an `op`.
-use Prim.Native.Nat.{ℕ, _+_}
+use Prim.Native.Nat.{ℕ, _+_, _*_}
 use Prim.Native.String.{String}
-use mathlib.Core.Bool.{Bool, cond, not}
+use mathlib.Core.Path.{_≡_}
+use mathlib.Core.Bool.{Bool, true, cond, not, _&&_}
 use mathlib.Core.List.{List, [], _∷_}
 use mathlib.Core.Option.{Option, none, some}
 use lib.ListN.{length}
-use lib.Dec.{eqb}
-use Rattle.model.specs.Lists.{holds}
+use lib.Dec.{leb, ltb, eqb}
+use Rattle.model.specs.Lists.{all, holds}
+use Rattle.model.specs.Names.{bytes, same}
 use Rattle.model.specs.Lines.{Field}
 use Rattle.model.specs.Reading.{Result, ok, refused, fixed-count}
 use Rattle.model.specs.declared.LineKind.{LineKind}
@@ -22,10 +24,31 @@ use Rattle.fields.specs.declared.Kind.the-variants as kinded
 use Rattle.fields.specs.declared.OpWord.{OpWord}
 use Rattle.fields.specs.declared.OpWord.the-variants as worded
 
--- what stands at a place of a list of words whose first has the place n
-unfoldable pub pick : {A : Type 0} → ℕ → List (String × A) → ℕ → Option A
-pick n [] place = none
-pick n ((w, a) ∷ ws) place = let other = pick (n + 1) ws place in cond (eqb place n) (some a) other
+-- bytes as one number, to the base 256, after the number n
+unfoldable pub packed : ℕ → List ℕ → ℕ
+packed n [] = n
+packed n (b ∷ bs) = packed (n * 256 + b) bs
+
+-- the key of a word: a 1, then its bytes
+unfoldable pub key-of : Field → ℕ
+key-of w = packed 1 w
+
+-- whether a number is a byte
+unfoldable pub is-byte : ℕ → Bool
+is-byte b = ltb b 256
+
+-- whether a field has at most 6 bytes
+unfoldable pub is-short : Field → Bool
+is-short w = leb (length w) 6 && all is-byte w
+
+-- a number that tells a field from every word: it is the key of the word that the field is, and of no other
+pub record Keyed (f : Field) (key : ℕ) : Type 0 where
+  pub tells : (w : Field) → is-short w ≡ true → same f w ≡ eqb key (key-of w)
+
+-- what the word with a key stands for
+unfoldable pub look : {A : Type 0} → List (String × A) → ℕ → Option A
+look [] key = none
+look ((w, a) ∷ ws) key = let other = look ws key in cond (eqb key (key-of (bytes w))) (some a) other
 
 -- the kind of a term line, as `model` has it
 unfoldable pub term-kind : TermKind → LineKind

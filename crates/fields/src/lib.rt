@@ -17,9 +17,8 @@ ghost use Rattle.model.specs.Reading.{need, word, op-words, kinds, kind-field, 
 ghost use Rattle.model.specs.declared.LineKind.the-variants as kind;
 ghost use Rattle.model.specs.declared.Refusal.the-variants as refusal;
 ghost use Rattle.text.specs.Parts.{Placed, fields-left};
-ghost use Rattle.names.specs.Known.{code-from};
 ghost use Rattle.names.specs.Table.{Table};
-ghost use Rattle.fields.specs.Wording.{pick, term-kind, kind-result, count-of, fixed-of, well-counted, as-op};
+ghost use Rattle.fields.specs.Wording.{Keyed, look, term-kind, kind-result, count-of, fixed-of, well-counted, as-op};
 ghost use Rattle.fields.specs.Pushing.{most-number, push-one, push-many, push-rest, push-groups, Pushable, Pushes};
 ghost use Rattle.fields.specs.Spelling.{Begun, Spells, Reads-name, Spells-rest};
 ghost use Rattle.fields.specs.Growing.{Reads-op, Quantifies, quantifier-kind, is-over, grown-to, Stands, Reads-term};
@@ -59,43 +58,84 @@ pub enum OpWord {
     No,
 }
 
-// The place from 1 of the part from `a` up to `e` among words parted by commas; 0 where it is none of them.
-fn place_of(file: &[u8], a: usize, e: usize, list: &[u8]) -> usize
-    requires { ⌜ (a ≤ e) × (e ≤ length (now file)) × (length (now list) ≤ 65535) ⌝ }
-    ensures { λ r. ⌜ r ≡ code-from 1 (fields (now (list .entry))) (part (now (file .entry)) a e) ⌝ }
+// The keys of the kinds and of the op words: a 1, then the bytes of the word.
+const ASK: u64 = 0x1_61_73_6b;
+
+const FREE: u64 = 0x1_66_72_65_65;
+
+const LEAF: u64 = 0x1_6c_65_61_66;
+
+const CALL: u64 = 0x1_63_61_6c_6c;
+
+const OP: u64 = 0x1_6f_70;
+
+const ALL: u64 = 0x1_61_6c_6c;
+
+const SOME: u64 = 0x1_73_6f_6d_65;
+
+const LET: u64 = 0x1_6c_65_74;
+
+const LABEL: u64 = 0x1_6c_61_62_65_6c;
+
+const ASSUME: u64 = 0x1_61_73_73_75_6d_65;
+
+const FUN: u64 = 0x1_66_75_6e;
+
+const DEF: u64 = 0x1_64_65_66;
+
+const RETAIN: u64 = 0x1_72_65_74_61_69_6e;
+
+const ROOT: u64 = 0x1_72_6f_6f_74;
+
+const TRUE: u64 = 0x1_74_72_75_65;
+
+const IFF: u64 = 0x1_69_66_66;
+
+const EQ: u64 = 0x1_65_71;
+
+const AND: u64 = 0x1_61_6e_64;
+
+const OTHER: u64 = 0x1_6f_74_68_65_72;
+
+// The most bytes that a word has.
+const LONGEST_WORD: usize = 6;
+
+// The key of the part from `a` up to `e`, which no other field has; 0 where it is longer than any word.
+fn word_key(file: &[u8], a: usize, e: usize) -> u64
+    requires { ⌜ (a ≤ e) × (e ≤ length (now file)) ⌝ }
+    ensures { λ r. ⌜ Keyed (part (now (file .entry)) a e) r ⌝ }
 {
-    let mut place: usize = 1;
-    let mut i: usize = 0;
-    while i <= list.len() {
-        let stop = text::find(list, b',', i, list.len());
-        if text::same_text(file, a, e, &list[i..stop]) {
-            return place;
-        }
-        place += 1;
-        i = stop + 1;
+    if LONGEST_WORD < e - a {
+        return 0;
     }
-    0
+    let mut key: u64 = 1;
+    let mut i = a;
+    while i < e {
+        key = key * 256 + file[i] as u64;
+        i += 1;
+    }
+    key
 }
 
-// The kind whose word stands at a place among the words of the kinds.
-fn kind_at(place: usize) -> Kind
-    ensures { λ r. ⌜ kind-result r ≡ need refusal.Form (pick 1 kinds place) ⌝ }
+// The kind whose word has a key.
+fn kind_of(key: u64) -> Kind
+    ensures { λ r. ⌜ kind-result r ≡ need refusal.Form (look kinds key) ⌝ }
 {
-    match place {
-        1 => Kind::Ask,
-        2 => Kind::Term(TermKind::Free),
-        3 => Kind::Term(TermKind::Leaf),
-        4 => Kind::Term(TermKind::Call),
-        5 => Kind::Term(TermKind::Op),
-        6 => Kind::Term(TermKind::All),
-        7 => Kind::Term(TermKind::Some),
-        8 => Kind::Term(TermKind::Let),
-        9 => Kind::Term(TermKind::Label),
-        10 => Kind::Record(RecordKind::Assume),
-        11 => Kind::Record(RecordKind::Fun),
-        12 => Kind::Record(RecordKind::Def),
-        13 => Kind::Record(RecordKind::Retain),
-        14 => Kind::Record(RecordKind::Root),
+    match key {
+        ASK => Kind::Ask,
+        FREE => Kind::Term(TermKind::Free),
+        LEAF => Kind::Term(TermKind::Leaf),
+        CALL => Kind::Term(TermKind::Call),
+        OP => Kind::Term(TermKind::Op),
+        ALL => Kind::Term(TermKind::All),
+        SOME => Kind::Term(TermKind::Some),
+        LET => Kind::Term(TermKind::Let),
+        LABEL => Kind::Term(TermKind::Label),
+        ASSUME => Kind::Record(RecordKind::Assume),
+        FUN => Kind::Record(RecordKind::Fun),
+        DEF => Kind::Record(RecordKind::Def),
+        RETAIN => Kind::Record(RecordKind::Retain),
+        ROOT => Kind::Record(RecordKind::Root),
         _ => Kind::No,
     }
 }
@@ -105,22 +145,17 @@ pub fn line_kind(file: &[u8], n: usize, a: usize, e: usize) -> Kind
     requires { ⌜ (a ≤ e) × (e ≤ length (now file)) ⌝ }
     ensures { λ r. ⌜ kind-result r ≡ kind-field n (part (now (file .entry)) a e) ⌝ }
 {
-    let place = place_of(
-        file,
-        a,
-        e,
-        b"ask,free,leaf,call,op,all,some,let,label,assume,fun,def,retain,root",
-    );
+    let key = word_key(file, a, e);
     if n == 1 {
-        if place == 1 {
+        if key == ASK {
             return Kind::Ask;
         }
         return Kind::No;
     }
-    if place == 1 {
+    if key == ASK {
         return Kind::No;
     }
-    kind_at(place)
+    kind_of(key)
 }
 
 // The op word that stands from `a` up to `e`.
@@ -128,12 +163,12 @@ pub fn op_word(file: &[u8], a: usize, e: usize) -> OpWord
     requires { ⌜ (a ≤ e) × (e ≤ length (now file)) ⌝ }
     ensures { λ r. ⌜ r ≡ as-op (word op-words (part (now (file .entry)) a e)) ⌝ }
 {
-    match place_of(file, a, e, b"true,iff,eq,and,other") {
-        1 => OpWord::Is(Op::TrueOp),
-        2 => OpWord::Is(Op::Iff),
-        3 => OpWord::Is(Op::Eq),
-        4 => OpWord::Is(Op::And),
-        5 => OpWord::Is(Op::Other),
+    match word_key(file, a, e) {
+        TRUE => OpWord::Is(Op::TrueOp),
+        IFF => OpWord::Is(Op::Iff),
+        EQ => OpWord::Is(Op::Eq),
+        AND => OpWord::Is(Op::And),
+        OTHER => OpWord::Is(Op::Other),
         _ => OpWord::No,
     }
 }

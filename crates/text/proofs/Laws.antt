@@ -5,13 +5,13 @@ use native.Mathlib.Nat.{zero-add, add-zero, sub-zero, not-suc-le-zero, zero-sub,
 use native.Mathlib.Omega.{arith}
 use mathlib.Core.Path.{_≡_, refl, sym, ap, ap₂, _∙_}
 use mathlib.Core.Logic.{_↔_}
-use mathlib.Core.Bool.{Bool, true, false, cond, and-false, true≢false, false≢true}
+use mathlib.Core.Bool.{Bool, true, false, cond, and-true, and-false, true≢false, false≢true}
 use mathlib.Core.List.{List, [], _∷_}
 use mathlib.Core.Option.{Option, none, some}
 use lib.ListN.{length, take, drop, getD, length-take, length-drop, drop-of-length-le}
 use lib.Seq.{drop-cons, take-nil, take-all, take-length, take-take, drop-drop}
 use lib.Dec.{leb, ltb, eqb, isLe, isEq}
-use borrow.Author.Tests.{eqb-true, eq-eqb, ne-eqb, le-leb, lt-leb, lt-ltb, le-ltb, ltb-true, leb-true, leb-false}
+use borrow.Author.Tests.{eq-eqb, ne-eqb, eqb-true, le-leb, lt-leb, lt-ltb, le-ltb, ltb-true, leb-true, leb-false}
 use Rattle.model.specs.Lists.{all, when, _>>=_, part}
 use Rattle.model.specs.Names.{Name, order, by-byte, same, is-same, starts-with, ends-with}
 use Rattle.model.specs.Lines.{Line, lines, line-cons, Field, fields, field-cons, is-name-byte, is-name, is-digit, decimal, number}
@@ -23,12 +23,11 @@ use Rattle.model.specs.declared.Refusal.the-variants as refusal
 use Rattle.model.proofs.PartLaws.{part-all, part-cons, part-drop, part-length, part-nil, part-rest, part-take}
 use Rattle.text.specs.declared.Comparison.{Comparison}
 use Rattle.text.specs.declared.Cursor.{Cursor}
-use Rattle.text.specs.declared.Decimal.the-variants as answer
 use Rattle.text.specs.declared.FieldStep.{FieldStep}
 use Rattle.text.specs.declared.FieldStep.the-variants as field
 use Rattle.text.specs.declared.NumberStep.{NumberStep}
 use Rattle.text.specs.declared.NumberStep.the-variants as numbered
-use Rattle.text.specs.Parts.{before, mark-at, shared, comparison, as-decimal, Placed, fields-left, field-at, as-name, name-at, at-most, as-number, number-at, as-term, term-at, field-result, number-result}
+use Rattle.text.specs.Parts.{before, mark-at, shared, comparison, Placed, fields-left, field-at, as-name, sized-name, name-at, valued, at-most, as-number, number-at, as-term, term-at, field-result, number-result}
 
 -- ---- parts
 
@@ -66,25 +65,24 @@ fields-cons b bs = go (eqb b 0x2c)
 
 -- ---- tests of a byte
 
--- a byte below the range is not of a name
-pub byte-low : (b : ℕ) → b < 0x21 → is-name-byte b ≡ false
-unfolding is-name-byte
-byte-low b h = rw (lt-leb 0x21 b h)
-
--- a byte above the range is not of a name
-pub byte-high : (b : ℕ) → 0x7e < b → is-name-byte b ≡ false
-unfolding is-name-byte
-byte-high b h = rw (lt-leb b 0x7e h, and-false)
-
 -- a comma is not of a name
 pub byte-comma : (b : ℕ) → b ≡ 0x2c → is-name-byte b ≡ false
 unfolding is-name-byte
 byte-comma b h = rw h
 
--- a byte in the range that is no comma is of a name
-pub byte-good : (b : ℕ) → 0x21 ≤ b → b ≤ 0x7e → (b ≡ 0x2c → ⊥) → is-name-byte b ≡ true
+-- a byte of a name is no comma
+pub byte-other : (b : ℕ) → is-name-byte b ≡ true → b ≡ 0x2c → ⊥
+byte-other b h e = true≢false (sym h ∙ byte-comma b e)
+
+-- another byte up to the comma is of a name if it is in the range
+pub byte-below : (b : ℕ) → b ≤ 0x2c → (b ≡ 0x2c → ⊥) → is-name-byte b ≡ leb 0x21 b
 unfolding is-name-byte
-byte-good b low high comma = rw (le-leb 0x21 b low, le-leb b 0x7e high, ne-eqb b 0x2c comma)
+byte-below b h n = rw (le-leb b 0x7e (omega arith), ne-eqb b 0x2c n, and-true, and-true)
+
+-- and so is one above the comma
+pub byte-above : (b : ℕ) → 0x2c < b → is-name-byte b ≡ leb b 0x7e
+unfolding is-name-byte
+byte-above b h = rw (le-leb 0x21 b (omega arith), ne-eqb b 0x2c (λ e. omega arith), and-true)
 
 -- a byte below `0` is no digit
 pub digit-low : (b : ℕ) → b < 0x30 → is-digit b ≡ false
@@ -103,10 +101,6 @@ digit-good b low high = rw (le-leb 0x30 b low, le-leb b 0x39 high)
 
 -- ---- numbers
 
--- the number that digits make after the value n, if it is not too large
-unfoldable pub valued : ℕ → List ℕ → Option ℕ
-valued n l = decimal n l >>= λ m. when (leb m 65535) m
-
 -- a value that is too large stays so
 pub valued-large : (n : ℕ) (l : List ℕ) → 65535 < n → valued n l ≡ none
 unfolding valued decimal when
@@ -117,17 +111,49 @@ valued-large n (b ∷ bs) h = go (is-digit b) (decimal (n * 10 + (b - 0x30)) bs)
     go true o e = e
     go false o e = refl
 
--- an answer that is a value is of a number
-decimal-some : (o : Option ℕ) (v : ℕ) → as-decimal o ≡ answer.Value v → o ≡ some v
-unfolding as-decimal
-decimal-some none v h = cc
-decimal-some (some n) v h = cc
+-- no byte more: the number is the value so far
+pub valued-end : (n : ℕ) → n ≤ 65535 → valued n [] ≡ some n
+unfolding valued decimal when
+valued-end n k = rw (le-leb n 65535 k)
 
--- an answer that is none is of no number
-decimal-none : (o : Option ℕ) → as-decimal o ≡ answer.Nothing → o ≡ none
-unfolding as-decimal
-decimal-none none h = refl
-decimal-none (some n) h = cc
+-- a byte that is a digit goes into the value
+pub valued-on : (n b : ℕ) → is-digit b ≡ true → (l : List ℕ) → valued n (b ∷ l) ≡ valued (n * 10 + (b - 0x30)) l
+unfolding valued decimal
+valued-on n b d l = rw d
+
+-- a byte that is no digit: no number
+pub valued-bad : (n b : ℕ) → is-digit b ≡ false → (l : List ℕ) → valued n (b ∷ l) ≡ none
+unfolding valued decimal
+valued-bad n b d l = rw d
+
+-- a digit that makes the value too large: no number
+pub valued-past : (n b : ℕ) → is-digit b ≡ true → 65535 < n * 10 + (b - 0x30) → (l : List ℕ) → valued n (b ∷ l) ≡ none
+valued-past n b d h l = valued-on n b d l ∙ valued-large (n * 10 + (b - 0x30)) l h
+
+-- bytes that make no value are no number
+pub number-bad : (l : List ℕ) → valued 0 l ≡ none → number l ≡ none
+unfolding number valued decimal when is-digit
+number-bad [] h = refl
+number-bad (b ∷ bs) h = go bs (eqb b 0x30) refl h
+  where
+    go : (bs : List ℕ) (t : Bool) → eqb b 0x30 ≡ t → valued 0 (b ∷ bs) ≡ none
+        → cond t (when (leb (length bs) 0) 0) (valued 0 (b ∷ bs)) ≡ none
+    go bs false d h = h
+    go (c ∷ cs) true d h = rw (lt-leb (suc (length cs)) 0 (omega arith))
+    go [] true d h = let e = eqb-true b 0x30 d in rw e at h
+
+-- bytes that make a value are that number, where there is one and no zero leads others
+pub number-value : (l : List ℕ) (n : ℕ) → 0 < length l → (getD l 0 0 ≡ 0x30 → length l ≤ 1) → valued 0 l ≡ some n
+    → number l ≡ some n
+unfolding number valued decimal when is-digit
+number-value [] n h z v = absurd (not-suc-le-zero h)
+number-value (b ∷ bs) n h z v = go bs (eqb b 0x30) refl z v
+  where
+    go : (bs : List ℕ) (t : Bool) → eqb b 0x30 ≡ t → (b ≡ 0x30 → length (b ∷ bs) ≤ 1) → valued 0 (b ∷ bs) ≡ some n
+        → cond t (when (leb (length bs) 0) 0) (valued 0 (b ∷ bs)) ≡ some n
+    go bs false d z v = v
+    go (c ∷ cs) true d z v = absurd (omega (arith, z (eqb-true b 0x30 d)))
+    go [] true d z v = let e = eqb-true b 0x30 d in rw e at v
 
 -- ---- a part from i up to e with bytes left: what the byte at i says
 
@@ -165,31 +191,17 @@ module _ (s : List ℕ) (i e : ℕ) (h : i < e) (k : e ≤ length s) where
   unfolding number
   number-zero b = rw (part-cons s i e h k, eq-eqb (getD s i 0) 0x30 b, part-length s (i + 1) e k)
 
-  -- `0` alone is the number 0
-  pub number-alone : getD s i 0 ≡ 0x30 → e - i ≡ 1 → number (part s i e) ≡ some 0
-  unfolding when
-  number-alone b n = rw (number-zero b, le-leb (e - (i + 1)) 0 (omega arith))
-
   -- `0` before another byte: no number
   pub number-leading : getD s i 0 ≡ 0x30 → (e - i ≡ 1 → ⊥) → number (part s i e) ≡ none
   unfolding when
   number-leading b n = rw (number-zero b, lt-leb (e - (i + 1)) 0 (omega arith))
 
-  -- the byte is not `0`: the part is the number that its digits make
-  pub number-digits : (getD s i 0 ≡ 0x30 → ⊥) → number (part s i e) ≡ valued 0 (part s i e)
-  unfolding number valued
-  number-digits b = rw (part-cons s i e h k, ne-eqb (getD s i 0) 0x30 b)
-
-  -- the byte is a digit: it goes into the value
-  pub valued-on : (n : ℕ) → is-digit (getD s i 0) ≡ true
-      → valued n (part s i e) ≡ valued (n * 10 + (getD s i 0 - 0x30)) (part s (i + 1) e)
-  unfolding valued decimal
-  valued-on n d = rw (part-cons s i e h k, d)
-
-  -- the byte is no digit: no number
-  pub valued-bad : (n : ℕ) → is-digit (getD s i 0) ≡ false → valued n (part s i e) ≡ none
-  unfolding valued decimal
-  valued-bad n d = rw (part-cons s i e h k, d)
+-- a search that goes on n bytes after i, where the byte there is not the mark
+pub mark-step : (mark : ℕ) (s : List ℕ) (at i n e : ℕ) → i + n < e → e ≤ length s → mark-at mark s at e ≡ mark-at mark s (i + n) e
+    → (getD s (i + n) 0 ≡ mark → ⊥) → mark-at mark s at e ≡ mark-at mark s (i + suc n) e
+mark-step mark s at i n e h k d b =
+    let next : i + n + 1 ≡ i + suc n = omega arith in
+    rw (← next) (d ∙ mark-on s (i + n) e h k mark b)
 
 -- ---- a part from i up to e with no byte left
 
@@ -219,10 +231,13 @@ module _ (s : List ℕ) (i e : ℕ) (h : e ≤ i) where
   unfolding number
   number-empty = rw (part-nil s i e h)
 
-  -- the number is the value so far
-  pub valued-end : (n : ℕ) → n ≤ 65535 → valued n (part s i e) ≡ some n
-  unfolding valued decimal when
-  valued-end n k = rw (part-nil s i e h, le-leb n 65535 k)
+-- a part whose bytes make a value is that number, where it has one and no zero leads others
+pub number-part : (s : List ℕ) (a e n : ℕ) → a < e → e ≤ length s → (getD s a 0 ≡ 0x30 → e - a ≤ 1)
+    → valued 0 (part s a e) ≡ some n → number (part s a e) ≡ some n
+number-part s a e n h k z v =
+    let size = part-length s a e k in
+    let first : getD (part s a e) 0 0 ≡ getD s a 0 = rw (part-cons s a e h k) in
+    number-value (part s a e) n (omega arith) (λ d. omega (arith, z (sym first ∙ d))) v
 
 -- ---- a name's length
 
@@ -236,6 +251,11 @@ pub name-bytes : (s : List ℕ) (a e : ℕ) → e ≤ length s → a < e → e -
     → is-name (part s a e) ≡ all is-name-byte (part s a e)
 unfolding is-name
 name-bytes s a e k h m = rw (part-length s a e k, le-leb 1 (e - a) (omega arith), le-leb (e - a) 255 m)
+
+-- a field with a byte that may not stand in a name is none
+name-byte : (f : Field) → all is-name-byte f ≡ false → is-name f ≡ false
+unfolding is-name
+name-byte f h = rw (h, and-false)
 
 -- ---- byte order
 
@@ -568,6 +588,71 @@ fields-part : (s : List ℕ) (at e m : ℕ) → at ≤ e → e ≤ length s → 
 fields-part s at e m h k d =
     rw (d, fields-split (part s at e), mark-front 0x2c s at e h k, mark-back 0x2c s at e, after-part s (mark-at 0x2c s at e) e k)
 
+-- ---- a walk over the bytes of the first field of a part
+
+-- a byte that passes the test: the others decide
+pub passes : (test : ℕ → Bool) (b : ℕ) → test b ≡ true → (l : List ℕ) → all test (b ∷ l) ≡ all test l
+unfolding all
+passes test b h l = rw h
+
+-- a byte that fails it: the list does
+pub fails : (test : ℕ → Bool) (b : ℕ) → test b ≡ false → (l : List ℕ) → all test (b ∷ l) ≡ false
+unfolding all
+fails test b h l = rw h
+
+module _ {A : Type 0} (s : List ℕ) (at e : ℕ) (asked : List ℕ → A) where
+  -- a walk that stands at i: what is asked of the field from `at` on is what is left to ask from i on
+  pub record Walk (i : ℕ) (left : List ℕ → A) : Type 0 where
+    pub from : at ≤ i
+    pub upto : i ≤ e
+    pub stop : mark-at 0x2c s at e ≡ mark-at 0x2c s i e
+    pub said : asked (part s at (mark-at 0x2c s at e)) ≡ left (part s i (mark-at 0x2c s i e))
+
+  -- at its start
+  pub walk-start : at ≤ e → Walk at asked
+  walk-start h = record { from = omega arith; upto = h; stop = refl; said = refl }
+
+  -- at its end: the field ends there
+  pub walk-end : (i : ℕ) (left : List ℕ → A) → Walk i left → e ≤ i → (e ≡ mark-at 0x2c s at e) × (asked (part s at e) ≡ left [])
+  walk-end i left w h =
+      let m : mark-at 0x2c s i e ≡ e = mark-end s i e h 0x2c (w .upto) in
+      let k : mark-at 0x2c s at e ≡ e = w .stop ∙ m in
+      (sym k, (rw (k, m) at (w .said)) ∙ ap left (part-nil s i e h))
+
+  module _ (i : ℕ) (left : List ℕ → A) (w : Walk i left) (h : i < e) (k : e ≤ length s) where
+    -- at a comma: the field ends there
+    pub walk-comma : getD s i 0 ≡ 0x2c → (i ≡ mark-at 0x2c s at e) × (asked (part s at i) ≡ left [])
+    walk-comma b =
+        let m : mark-at 0x2c s i e ≡ i = mark-here s i e h k 0x2c b in
+        let n : mark-at 0x2c s at e ≡ i = w .stop ∙ m in
+        (sym n, (rw (n, m) at (w .said)) ∙ ap left (part-nil s i i (omega arith)))
+
+    -- at another byte: it comes before the rest of the field
+    walk-cons : (getD s i 0 ≡ 0x2c → ⊥)
+        → asked (part s at (mark-at 0x2c s at e)) ≡ left (getD s i 0 ∷ part s (i + 1) (mark-at 0x2c s (i + 1) e))
+    walk-cons b =
+        let m = mark-at 0x2c s (i + 1) e in
+        let on : mark-at 0x2c s i e ≡ m = mark-on s i e h k 0x2c b in
+        let low = mark-from m 0x2c s (i + 1) e refl in
+        let high = mark-to m 0x2c s (i + 1) e refl (omega arith) k in
+        (rw on at (w .said)) ∙ ap left (part-cons s i m (omega arith) (omega arith))
+
+    -- at another byte that goes into what is left: on
+    pub walk-on : (getD s i 0 ≡ 0x2c → ⊥) → (more : List ℕ → A) → ((l : List ℕ) → left (getD s i 0 ∷ l) ≡ more l)
+        → Walk (i + 1) more
+    walk-on b more f =
+        record {
+          from = omega arith;
+          upto = omega arith;
+          stop = w .stop ∙ mark-on s i e h k 0x2c b;
+          said = walk-cons b ∙ f (part s (i + 1) (mark-at 0x2c s (i + 1) e));
+        }
+
+    -- at another byte that decides
+    pub walk-out : (getD s i 0 ≡ 0x2c → ⊥) → (x : A) → ((l : List ℕ) → left (getD s i 0 ∷ l) ≡ x)
+        → asked (part s at (mark-at 0x2c s at e)) ≡ x
+    walk-out b x f = walk-cons b ∙ f (part s (i + 1) (mark-at 0x2c s (i + 1) e))
+
 -- ---- lines
 
 -- whether a list has an element
@@ -655,34 +740,45 @@ module _ (s : List ℕ) (c : Cursor) (r : Refusal) (h : field-at s c ≡ field.R
   unfolding number-at as-number
   number-refused limit = rw h
 
--- a field is answered: its bytes decide
-module _ (s : List ℕ) (c : Cursor) (a e : ℕ) (n : Cursor) (h : field-at s c ≡ field.Part a e n) where
-  -- a field that is a name
-  pub name-good : true ≡ is-name (part s a e) → name-at s c ≡ field.Part a e n
+-- the next field ends at m
+module _ (s : List ℕ) (c : Cursor) (m : ℕ) (h : c .at ≤ c .end) (k : m ≡ mark-at 0x2c s (c .at) (c .end)) where
+  -- its bytes may stand in a name: its length decides
+  pub name-sized : m ≤ length s → all is-name-byte (part s (c .at) m) ≡ true → sized-name (c .at) m (c .end) ≡ name-at s c
+  unfolding name-at as-name sized-name is-name
+  name-sized l t = rw (field-some s c m h k, t, part-length s (c .at) m l, and-true)
+
+  -- one may not
+  pub name-bad : all is-name-byte (part s (c .at) m) ≡ false → field.Refused refusal.Name ≡ name-at s c
   unfolding name-at as-name
-  name-good t = rw (h, ← t)
+  name-bad t = rw (field-some s c m h k, name-byte (part s (c .at) m) t)
 
-  -- a field that is no name
-  pub name-bad : false ≡ is-name (part s a e) → name-at s c ≡ field.Refused refusal.Name
-  unfolding name-at as-name
-  name-bad t = rw (h, ← t)
+  -- a number is asked of it
+  pub number-read : (limit : ℕ)
+      → at-most limit (record { at = m + 1; end = c .end }) (number (part s (c .at) m)) ≡ number-at limit s c
+  unfolding number-at as-number
+  number-read limit = rw (field-some s c m h k)
 
-  -- a field that is no number
-  pub number-none : (limit : ℕ) → as-decimal (number (part s a e)) ≡ answer.Nothing → number-at limit s c ≡ numbered.Refused refusal.Number
-  unfolding number-at as-number at-most
-  number-none limit d = rw (h, decimal-none (number (part s a e)) d)
+  -- its bytes make no value
+  pub number-none : (limit : ℕ) → valued 0 (part s (c .at) m) ≡ none → numbered.Refused refusal.Number ≡ number-at limit s c
+  unfolding at-most
+  number-none limit d = rw (number-bad (part s (c .at) m) d) at (number-read limit)
 
-  -- a field that is a number of at most `limit`
-  pub number-good : (limit v : ℕ) → as-decimal (number (part s a e)) ≡ answer.Value v → v ≤ limit
-      → number-at limit s c ≡ numbered.Number v n
-  unfolding number-at as-number at-most
-  number-good limit v d k = rw (h, decimal-some (number (part s a e)) v d, le-leb v limit k)
+-- what a number field answers
+module _ (limit : ℕ) (next : Cursor) (o : Option ℕ) where
+  -- no number
+  pub most-none : o ≡ none → numbered.Refused refusal.Number ≡ at-most limit next o
+  unfolding at-most
+  most-none d = rw d
 
-  -- a field that is a larger number
-  pub number-over : (limit v : ℕ) → as-decimal (number (part s a e)) ≡ answer.Value v → limit < v
-      → number-at limit s c ≡ numbered.Refused refusal.Number
-  unfolding number-at as-number at-most
-  number-over limit v d k = rw (h, decimal-some (number (part s a e)) v d, lt-leb v limit k)
+  -- a number of at most `limit`
+  pub most-good : (v : ℕ) → o ≡ some v → v ≤ limit → numbered.Number v next ≡ at-most limit next o
+  unfolding at-most
+  most-good v d k = rw (d, le-leb v limit k)
+
+  -- a larger number
+  pub most-over : (v : ℕ) → o ≡ some v → limit < v → numbered.Refused refusal.Number ≡ at-most limit next o
+  unfolding at-most
+  most-over v d k = rw (d, lt-leb v limit k)
 
 module _ (count : ℕ) (s : List ℕ) (c : Cursor) where
   -- where no number is answered, no term is

@@ -1,20 +1,18 @@
 -- Positions in a file: lines, fields and what stands in them, over the definitions of `model`.
 use Prim.Native.Nat.{ℕ, _+_, _-_, _≤_}
-use mathlib.Core.Bool.{cond}
+use mathlib.Core.Bool.{cond, _&&_}
 use mathlib.Core.List.{List, [], _∷_}
 use mathlib.Core.Option.{Option, none, some}
 use lib.ListN.{length, take, drop}
 use lib.Dec.{leb, ltb, eqb}
-use Rattle.model.specs.Lists.{part}
+use Rattle.model.specs.Lists.{when, _>>=_, part}
 use Rattle.model.specs.Names.{order}
-use Rattle.model.specs.Lines.{Field, fields, is-name, number}
+use Rattle.model.specs.Lines.{Field, fields, is-name, decimal, number}
 use Rattle.model.specs.Reading.{Result, ok, refused}
 use Rattle.model.specs.declared.Refusal.{Refusal}
 use Rattle.model.specs.declared.Refusal.the-variants as refusal
 use Rattle.text.specs.declared.Comparison.{Comparison}
 use Rattle.text.specs.declared.Cursor.{Cursor}
-use Rattle.text.specs.declared.Decimal.{Decimal}
-use Rattle.text.specs.declared.Decimal.the-variants as decimal
 use Rattle.text.specs.declared.FieldStep.{FieldStep}
 use Rattle.text.specs.declared.FieldStep.the-variants as field
 use Rattle.text.specs.declared.NumberStep.{NumberStep}
@@ -39,11 +37,6 @@ shared (b ∷ bs) (c ∷ cs) = let more = shared bs cs in cond (eqb b c) (1 + mo
 unfoldable pub comparison : List ℕ → List ℕ → Comparison
 comparison n m = record { order = order n m; shared = shared n m }
 
--- what `number` gives, as the answer of a call
-unfoldable pub as-decimal : Option ℕ → Decimal
-as-decimal none = decimal.Nothing
-as-decimal (some n) = decimal.Value n
-
 -- a cursor within a file that is not too long
 pub record Placed (s : List ℕ) (c : Cursor) : Type 0 where
   pub inside : c .end ≤ length s
@@ -66,9 +59,20 @@ unfoldable pub as-name : List ℕ → FieldStep → FieldStep
 as-name s (field.Part a e next) = cond (is-name (part s a e)) (field.Part a e next) (field.Refused refusal.Name)
 as-name s (field.Refused r) = field.Refused r
 
+-- the field from `at` up to `stop`, whose bytes may stand in a name: its length decides
+unfoldable pub sized-name : ℕ → ℕ → ℕ → FieldStep
+sized-name at stop end =
+    cond (leb 1 (stop - at) && leb (stop - at) 255)
+    (field.Part at stop (record { at = stop + 1; end = end }))
+    (field.Refused refusal.Name)
+
 -- the next field, a name
 unfoldable pub name-at : List ℕ → Cursor → FieldStep
 name-at s c = as-name s (field-at s c)
+
+-- the number that digits make after the value n, if it is not too large
+unfoldable pub valued : ℕ → List ℕ → Option ℕ
+valued n l = decimal n l >>= λ m. when (leb m 65535) m
 
 -- what was read of a field that is a number of at most `limit`: 3
 unfoldable pub at-most : ℕ → Cursor → Option ℕ → NumberStep

@@ -1,23 +1,24 @@
 use model::Order;
 use model::Refusal;
-ghost use Prim.Native.Nat.{_≤_, min};
+ghost use Prim.Native.Nat.{_≤_, _+_, min};
 ghost use mathlib.Core.Path.{_≡_};
+ghost use mathlib.Core.Option.{some};
 ghost use lib.ListN.{length};
 ghost use Rattle.model.specs.Lists.{part};
 ghost use Rattle.model.specs.Names.{same, starts-with, ends-with};
-ghost use Rattle.model.specs.Lines.{fields, is-name, number};
-ghost use Rattle.text.specs.Parts.{mark-at, as-decimal, shared, comparison, Placed, field-at, name-at, number-at, term-at};
+ghost use Rattle.model.specs.Lines.{fields, is-name-byte, is-name, number};
+ghost use Rattle.text.specs.Parts.{mark-at, shared, comparison, Placed, field-at, sized-name, name-at, valued, at-most, number-at, term-at};
+
+// The longest name.
+const MOST_LENGTH: usize = 255;
+
+// The largest number.
+const MOST_NUMBER: u32 = 65535;
 
 // A place in a line: the next field starts at `at`, and the line's bytes end before `end`. Past `end` no field is left.
 pub struct Cursor {
     pub at: usize,
     pub end: usize,
-}
-
-// A decimal number, or none.
-pub enum Decimal {
-    Value(u32),
-    Nothing,
 }
 
 // How two parts of a file stand to each other: their byte order, and how many bytes they share at their starts.
@@ -52,19 +53,43 @@ pub fn lesser(a: usize, b: usize) -> usize
     b
 }
 
-// The first position from `at` up to `end` where `mark` stands, or `end`.
+// The first position from `at` up to `end` where `mark` stands, or `end`, where few bytes are left.
+fn find_near(s: &[u8], mark: u8, at: usize, end: usize) -> usize
+    requires { ⌜ (at ≤ end) × (end ≤ length (now s)) ⌝ }
+    ensures { λ r. ⌜ r ≡ mark-at mark (now (s .entry)) at end ⌝ }
+{
+    let mut j = at;
+    while j < end {
+        if s[j] == mark {
+            return j;
+        }
+        j += 1;
+    }
+    end
+}
+
+// The first position from `at` up to `end` where `mark` stands, or `end`. Four bytes are looked at in a turn.
 pub fn find(s: &[u8], mark: u8, at: usize, end: usize) -> usize
     requires { ⌜ (at ≤ end) × (end ≤ length (now s)) ⌝ }
     ensures { λ r. ⌜ r ≡ mark-at mark (now (s .entry)) at end ⌝ }
 {
     let mut i = at;
-    while i < end {
+    while 4 <= end - i {
         if s[i] == mark {
             return i;
         }
-        i += 1;
+        if s[i + 1] == mark {
+            return i + 1;
+        }
+        if s[i + 2] == mark {
+            return i + 2;
+        }
+        if s[i + 3] == mark {
+            return i + 3;
+        }
+        i += 4;
     }
-    end
+    find_near(s, mark, i, end)
 }
 
 // How many fields stand from `at` up to `end`.
@@ -83,6 +108,19 @@ pub fn count_fields(s: &[u8], at: usize, end: usize) -> usize
     n
 }
 
+// Whether a name may hold a byte.
+fn is_name_byte(b: u8) -> bool
+    ensures { λ r. ⌜ r ≡ is-name-byte b ⌝ }
+{
+    if b <= b',' {
+        if b == b',' {
+            return false;
+        }
+        return 0x21 <= b;
+    }
+    b <= 0x7e
+}
+
 // Whether the part from `a` up to `e` is a name.
 pub fn is_name(s: &[u8], a: usize, e: usize) -> bool
     requires { ⌜ (a ≤ e) × (e ≤ length (now s)) ⌝ }
@@ -91,57 +129,17 @@ pub fn is_name(s: &[u8], a: usize, e: usize) -> bool
     if a == e {
         return false;
     }
-    if 255 < e - a {
+    if MOST_LENGTH < e - a {
         return false;
     }
     let mut i = a;
     while i < e {
-        let b = s[i];
-        if b < 0x21 {
-            return false;
-        }
-        if 0x7e < b {
-            return false;
-        }
-        if b == b',' {
+        if !is_name_byte(s[i]) {
             return false;
         }
         i += 1;
     }
     true
-}
-
-// The number that the part from `a` up to `e` is. Digits past the largest number are not looked at.
-pub fn number_of(s: &[u8], a: usize, e: usize) -> Decimal
-    requires { ⌜ (a ≤ e) × (e ≤ length (now s)) ⌝ }
-    ensures { λ r. ⌜ r ≡ as-decimal (number (part (now (s .entry)) a e)) ⌝ }
-{
-    if a == e {
-        return Decimal::Nothing;
-    }
-    if s[a] == b'0' {
-        if e - a == 1 {
-            return Decimal::Value(0);
-        }
-        return Decimal::Nothing;
-    }
-    let mut n: u32 = 0;
-    let mut i = a;
-    while i < e {
-        let b = s[i];
-        if b < b'0' {
-            return Decimal::Nothing;
-        }
-        if b'9' < b {
-            return Decimal::Nothing;
-        }
-        n = n * 10 + (b - b'0') as u32;
-        if 65535 < n {
-            return Decimal::Nothing;
-        }
-        i += 1;
-    }
-    Decimal::Value(n)
 }
 
 // Whether the part from `a` up to `e` is the word.
@@ -229,6 +227,40 @@ pub fn compare_from(s: &[u8], a: usize, e: usize, b: usize, f: usize, from: usiz
     }
 }
 
+// The field from `at` up to `stop` in a line that ends at `end`: its bytes may stand in a name, and its length decides.
+fn sized_name(at: usize, stop: usize, end: usize) -> FieldStep
+    requires { ⌜ (at ≤ stop) × (stop ≤ 65535) ⌝ }
+    ensures { λ r. ⌜ r ≡ sized-name at stop end ⌝ }
+{
+    match stop - at {
+        1..=MOST_LENGTH => FieldStep::Part {
+            start: at,
+            end: stop,
+            next: Cursor { at: stop + 1, end },
+        },
+        _ => FieldStep::Refused(Refusal::Name),
+    }
+}
+
+// The number from `at` up to `stop` in a line that ends at `end`, digits of the value `n`: one digit at least, no zero in front.
+fn valued_number(s: &[u8], at: usize, stop: usize, end: usize, n: u32, limit: u32) -> NumberStep
+    requires { ⌜ (at ≤ stop) × (stop ≤ length (now s)) × (length (now s) ≤ 65535) × (valued 0 (part (now s) at stop) ≡ some n) ⌝ }
+    ensures { λ r. ⌜ r ≡ at-most limit (record { at = stop + 1; end = end }) (number (part (now (s .entry)) at stop)) ⌝ }
+{
+    if stop == at {
+        return NumberStep::Refused(Refusal::Number);
+    }
+    if 1 < stop - at {
+        if s[at] == b'0' {
+            return NumberStep::Refused(Refusal::Number);
+        }
+    }
+    if n <= limit {
+        return NumberStep::Number(n, Cursor { at: stop + 1, end });
+    }
+    NumberStep::Refused(Refusal::Number)
+}
+
 impl Cursor {
     // The next field.
     pub fn field(self, s: &[u8]) -> FieldStep
@@ -248,41 +280,60 @@ impl Cursor {
         }
     }
 
-    // The next field, a name.
+    // The next field, a name. Its bytes are judged on the way to its end.
     pub fn name(self, s: &[u8]) -> FieldStep
         requires { ⌜ Placed (now s) self ⌝ }
         ensures { λ r. ⌜ r ≡ name-at (now (s .entry)) self ⌝ }
     {
-        match self.field(s) {
-            FieldStep::Part { start, end, next } => {
-                if is_name(s, start, end) {
-                    FieldStep::Part { start, end, next }
-                } else {
-                    FieldStep::Refused(Refusal::Name)
-                }
-            }
-            FieldStep::Refused(r) => FieldStep::Refused(r),
+        let at = self.at;
+        let end = self.end;
+        if self.end < self.at {
+            return FieldStep::Refused(Refusal::Form);
         }
+        let mut i = at;
+        while i < end {
+            let b = s[i];
+            if !is_name_byte(b) {
+                if b != b',' {
+                    return FieldStep::Refused(Refusal::Name);
+                }
+                return sized_name(at, i, end);
+            }
+            i += 1;
+        }
+        sized_name(at, end, end)
     }
 
-    // The next field, a number of at most `limit`.
+    // The next field, a number of at most `limit`. Its digits are added up on the way to its end, to the sixth at most.
     pub fn number(self, s: &[u8], limit: u32) -> NumberStep
         requires { ⌜ Placed (now s) self ⌝ }
         ensures { λ r. ⌜ r ≡ number-at limit (now (s .entry)) self ⌝ }
     {
-        match self.field(s) {
-            FieldStep::Part { start, end, next } => match number_of(s, start, end) {
-                Decimal::Value(n) => {
-                    if n <= limit {
-                        NumberStep::Number(n, next)
-                    } else {
-                        NumberStep::Refused(Refusal::Number)
-                    }
-                }
-                Decimal::Nothing => NumberStep::Refused(Refusal::Number),
-            },
-            FieldStep::Refused(r) => NumberStep::Refused(r),
+        let at = self.at;
+        let end = self.end;
+        if self.end < self.at {
+            return NumberStep::Refused(Refusal::Form);
         }
+        let mut n: u32 = 0;
+        let mut i = at;
+        while i < end {
+            let b = s[i];
+            if b < b'0' {
+                if b != b',' {
+                    return NumberStep::Refused(Refusal::Number);
+                }
+                return valued_number(s, at, i, end, n, limit);
+            }
+            if b'9' < b {
+                return NumberStep::Refused(Refusal::Number);
+            }
+            n = n * 10 + (b - b'0') as u32;
+            if MOST_NUMBER < n {
+                return NumberStep::Refused(Refusal::Number);
+            }
+            i += 1;
+        }
+        valued_number(s, at, end, end, n, limit)
     }
 
     // The next field, the number of one of `count` terms.
