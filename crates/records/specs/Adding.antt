@@ -39,7 +39,7 @@ judge n s c =
 
 -- what adding a record comes to: a name of its line had no room; or the line is refused; or the tables have the record
 pub data Adds (file names refs rows recs out names′ rows′ recs′ out′ : List ℕ) (k : Counts) (line : ℕ) (c : Content) : Step → Type 0 where
-  full : most-names < k .named → Adds file names refs rows recs out names′ rows′ recs′ out′ k line c (step.Refused refusal.Limit)
+  full : most-names < k .named → Adds file names refs rows recs out names′ rows′ recs′ out′ k line c (step.Refused refusal.FullNames)
   stops : {x : Refusal} → k .named ≤ most-names → judge line (state-of file names refs rows recs out k) c ≡ refused x
       → Adds file names refs rows recs out names′ rows′ recs′ out′ k line c (step.Refused x)
   added : {k′ : Counts} → judge line (state-of file names refs rows recs out k) c ≡ ok (state-of file names′ refs rows′ recs′ out′ k′)
