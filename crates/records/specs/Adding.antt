@@ -40,12 +40,15 @@ judge n s c =
     let limited = under-limits (limits after) after in
     cond (repeats excluded n s c) (refused refusal.Repeated) limited
 
--- the refusal where a fact passes a limit of its summary and there are so many records before it: names come before the record
--- lines, these before entries and uses
+-- the refusal where a line passes the limit of entries or of uses, so many records being there before it
+unfoldable pub behind-records : ℕ → Refusal
+behind-records records = cond (leb most-records records) refusal.FullRecords refusal.FullTriggers
+
+-- the refusal where a fact passes a limit of its summary
 unfoldable pub over-refusal : Limit → ℕ → Refusal
 over-refusal limit.Names records = refusal.FullNames
-over-refusal limit.Entries records = cond (leb most-records records) refusal.FullRecords refusal.FullTriggers
-over-refusal limit.Uses records = cond (leb most-records records) refusal.FullRecords refusal.FullTriggers
+over-refusal limit.Entries records = behind-records records
+over-refusal limit.Uses records = behind-records records
 
 -- what adding a record comes to: a name of its line had no room; or the line is refused; or the tables have the record
 pub data Adds (file names refs rows recs out names′ rows′ recs′ out′ : List ℕ) (k : Counts) (line : ℕ) (c : Content) : Step → Type 0 where

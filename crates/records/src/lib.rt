@@ -20,7 +20,7 @@ ghost use Rattle.records.specs.OptionsOf.{most-options, options-value, O
 ghost use Rattle.records.specs.Filing.{Chained};
 ghost use Rattle.records.specs.Macros.{macro-count, is-def, found-word, word-from, Found, Opens};
 ghost use Rattle.records.specs.Writing.{put-row, with-record, Small, Rowed, Chains, Puttable, Puts};
-ghost use Rattle.records.specs.Adding.{over-refusal, Standing, Adds, Untouched};
+ghost use Rattle.records.specs.Adding.{behind-records, over-refusal, Standing, Adds, Untouched};
 
 // The columns of the records slice, by the record's number.
 pub const KIND: usize = 0;
@@ -377,17 +377,25 @@ fn put_fact(
     next
 }
 
-// The refusal where a fact passes a limit of its summary: names come before the record lines, these before entries and uses.
-fn over(limit: Limit, records: usize) -> Refusal
-    ensures { λ r. ⌜ r ≡ over-refusal limit records ⌝ }
+// The refusal where a line passes the limit of entries or of uses: the record lines come before them.
+fn behind_records(records: usize) -> Refusal
+    ensures { λ r. ⌜ r ≡ behind-records records ⌝ }
 {
-    if let Limit::Names = limit {
-        return Refusal::FullNames;
-    }
     if model::MOST_RECORDS <= records {
         return Refusal::FullRecords;
     }
     Refusal::FullTriggers
+}
+
+// The refusal where a fact passes a limit of its summary: names come before all others.
+fn over(limit: Limit, records: usize) -> Refusal
+    ensures { λ r. ⌜ r ≡ over-refusal limit records ⌝ }
+{
+    match limit {
+        Limit::Names => Refusal::FullNames,
+        Limit::Entries => behind_records(records),
+        Limit::Uses => behind_records(records),
+    }
 }
 
 // Adds the fact of an `assume` record, its name and its term by number: it is filed whether it is retainable or not.
