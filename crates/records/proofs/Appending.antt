@@ -233,14 +233,15 @@ pub record One-record (file names refs rows : List ℕ) (k : Counts) (line : ℕ
   pub few-names : length (fold-left spell (names-of file names (k .named))
       (spelled c ++ trimmed excluded (terms-in file names refs rows (k .used) (k .many)) c)) ≤ most-names
 
-module _ {file names refs rows recs out : List ℕ} {k : Counts} (st : Standing file names refs rows recs out k) {line : ℕ} {c : Content}
-    (one : One-record file names refs rows k line c) where
+module _ {file names refs rows recs out : List ℕ} {k : Counts} (st : Standing file names refs rows recs out k) {line : ℕ}
+    {c : Content} (one : One-record file names refs rows k line c) where
   -- the names and terms with the line are within their limits
   tables-within : Tables-within (add-line excluded line (state-of file names refs rows recs out k) c)
   unfolding add-line state-of fold-left collect
   tables-within = record {
     names = one .few-names;
-    terms = rw (one .no-term) (omega (arith, terms-length file names refs rows (k .used) (k .many), st .tables .term-table .few-rows));
+    terms = rw (one .no-term)
+        (omega (arith, terms-length file names refs rows (k .used) (k .many), st .tables .term-table .few-rows));
     references = rw (one .no-term) (omega (arith, st .tables .term-table .few-references));
   }
 
@@ -269,7 +270,8 @@ module _ {file names refs rows recs out names′ rows′ recs′ out′ : List �
     -- a limit is passed
     pub record-beyond : {x : Refusal} → Beyond (add-line excluded line (state-of file names refs rows recs out k) c) x
         → Adds file names refs rows recs out names′ rows′ recs′ out′ k line c (step.Refused x)
-    record-beyond {x} b = stops {x = x} (st .tables .name-table .few) (judged-beyond line (state-of file names refs rows recs out k) c new b)
+    record-beyond {x} b =
+        stops {x = x} (st .tables .name-table .few) (judged-beyond line (state-of file names refs rows recs out k) c new b)
 
     module _ (one : One-record file names refs rows k line c) where
       -- there are as many records as may be

@@ -122,7 +122,8 @@ module _ {file names refs rows recs out : List ℕ} {k : Counts} (st : Standing 
 
   -- as many records as may be
   pub fun-crowded : {names′ recs′ : List ℕ} → w ≤ 0 → most-records ≤ k .records
-      → Adds file names refs rows recs out names′ rows recs′ out k line (fun (name-of file names i)) (step.Refused refusal.FullRecords)
+      → Adds file names refs rows recs out names′ rows recs′ out k line (fun (name-of file names i))
+      (step.Refused refusal.FullRecords)
   unfolding nodes spelled trimmed summarize-decl root-of
   fun-crowded z h = record-crowded st line (fun (name-of file names i)) (fun-new z)
       (record { no-term = refl; one = refl; few-names = named-within st known }) h

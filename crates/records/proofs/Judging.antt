@@ -50,8 +50,10 @@ pub data Beyond (s : State) : Refusal → Type 0 where
   many-terms : length (s .names) ≤ most-names → most-terms < length (s .terms) → Beyond s refusal.FullTerms
   many-references : length (s .names) ≤ most-names → most-references < s .references → Beyond s refusal.FullTerms
   many-records : Tables-within s → most-records < length (s .decls) + length (s .roots) → Beyond s refusal.FullRecords
-  many-entries : Tables-within s → length (s .decls) + length (s .roots) ≤ most-records → most-entries < s .entries → Beyond s refusal.FullTriggers
-  many-uses : Tables-within s → length (s .decls) + length (s .roots) ≤ most-records → most-uses < s .uses → Beyond s refusal.FullTriggers
+  many-entries : Tables-within s → length (s .decls) + length (s .roots) ≤ most-records → most-entries < s .entries
+      → Beyond s refusal.FullTriggers
+  many-uses : Tables-within s → length (s .decls) + length (s .roots) ≤ most-records → most-uses < s .uses
+      → Beyond s refusal.FullTriggers
 
 -- the state is the value then
 pub within-limits : (s : State) → Within s → under-limits (limits s) s ≡ ok s
@@ -130,7 +132,8 @@ module _ (n : ℕ) (s : State) (c : Content) where
   judged-repeated e = rw e
 
   -- a limit
-  pub judged-beyond : repeats excluded n s c ≡ false → {x : Refusal} → Beyond (add-line excluded n s c) x → judge n s c ≡ refused x
+  pub judged-beyond : repeats excluded n s c ≡ false → {x : Refusal} → Beyond (add-line excluded n s c) x
+      → judge n s c ≡ refused x
   unfolding judge
   judged-beyond e b = rw e (beyond-limits (add-line excluded n s c) b)
 

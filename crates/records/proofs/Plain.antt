@@ -39,11 +39,12 @@ unfolding fold-left
 spelled-before file names named i ns h = ap (λ l. fold-left spell l ns) (spelled-again file names named i h)
 
 -- spelling it leaves the names within their limit
-pub named-within : {file names refs rows recs out : List ℕ} {k : Counts} → Standing file names refs rows recs out k → {i : ℕ} → i < k .named
-    → length (fold-left spell (names-of file names (k .named)) (name-of file names i ∷ [])) ≤ most-names
+pub named-within : {file names refs rows recs out : List ℕ} {k : Counts} → Standing file names refs rows recs out k → {i : ℕ}
+    → i < k .named → length (fold-left spell (names-of file names (k .named)) (name-of file names i ∷ [])) ≤ most-names
 unfolding fold-left
 named-within {file} {names} {k = k} st {i} known =
-    rw (spelled-again file names (k .named) i known) (omega (arith, names-length file names (k .named), st .tables .name-table .few))
+    rw (spelled-again file names (k .named) i known)
+    (omega (arith, names-length file names (k .named), st .tables .name-table .few))
 
 -- no entries take none
 no-entries : (name : ℕ → Name) (out : List ℕ) (a : ℕ) → entries (disjuncts-of name (part out a a)) ≡ 0

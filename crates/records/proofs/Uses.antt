@@ -131,6 +131,7 @@ module _ {file names refs rows recs out : List ℕ} {k : Counts} (st : Standing 
   unfolding summarize-decl collect taken-by
   def-new h = repeats-free st line (def (name-of file names i) t) known refl (omega arith)
 
+  -- the line is one record
   def-one : One-record file names refs rows k line (def (name-of file names i) t)
   unfolding nodes spelled trimmed summarize-decl root-of
   def-one = record { no-term = refl; one = refl; few-names = named-within st known }
@@ -150,7 +151,8 @@ module _ {file names refs rows recs out : List ℕ} {k : Counts} (st : Standing 
     -- more uses than may be
     pub def-over : k .records < most-records
         → most-uses < k .uses + length (free-top-level-names excluded (terms-in file names refs rows (k .used) (k .many)) t)
-        → Adds file names refs rows recs out names′ rows′ recs′ out′ k line (def (name-of file names i) t) (step.Refused refusal.FullTriggers)
+        → Adds file names refs rows recs out names′ rows′ recs′ out′ k line (def (name-of file names i) t)
+        (step.Refused refusal.FullTriggers)
     unfolding add-line state-of summarize-decl root-of uses-of sum
     def-over few h = record-over st line (def (name-of file names i) t) (def-new free) def-one few (inr (omega arith))
 
@@ -195,19 +197,22 @@ module _ {file names refs rows recs out : List ℕ} {k : Counts} (st : Standing 
   unfolding state-of summarize-decl collect taken-by
   root-new = repeats-none line (state-of file names refs rows recs out k) (root query (name-of file names i) t) refl
 
+  -- the line is one record
   root-one : One-record file names refs rows k line (root query (name-of file names i) t)
   unfolding nodes spelled trimmed summarize-decl root-of
   root-one = record { no-term = refl; one = refl; few-names = named-within st known }
 
   -- as many records as may be
   pub root-crowded : {names′ rows′ recs′ out′ : List ℕ} → most-records ≤ k .records
-      → Adds file names refs rows recs out names′ rows′ recs′ out′ k line (root query (name-of file names i) t) (step.Refused refusal.FullRecords)
+      → Adds file names refs rows recs out names′ rows′ recs′ out′ k line (root query (name-of file names i) t)
+      (step.Refused refusal.FullRecords)
   root-crowded = record-crowded st line (root query (name-of file names i) t) root-new root-one
 
   -- more uses than may be
   pub root-over : {names′ rows′ recs′ out′ : List ℕ} → k .records < most-records → most-uses < k .uses
       + length (free-top-level-names excluded (terms-in file names refs rows (k .used) (k .many)) t)
-      → Adds file names refs rows recs out names′ rows′ recs′ out′ k line (root query (name-of file names i) t) (step.Refused refusal.FullTriggers)
+      → Adds file names refs rows recs out names′ rows′ recs′ out′ k line (root query (name-of file names i) t)
+      (step.Refused refusal.FullTriggers)
   unfolding add-line state-of summarize-decl root-of uses-of sum
   root-over few h = record-over st line (root query (name-of file names i) t) root-new root-one few (inr (omega arith))
 

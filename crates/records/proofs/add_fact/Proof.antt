@@ -72,8 +72,9 @@ returns-3 c =
     let entry = at-if1 .before .before .before .before .before .before .before .before in
     let (st, known) = entry .pre .0 (at-if1 .if1 .left) in
     let promises = at-summarize-assumption .summarize-assumption .ensures in
-    let done = sym (at-s .s .given .1) ∙ promises .0 excluded (excludes-here st) in (
-      fact-crowded st (entry .args .line) known (at-at .at .ensures) (entry .args .flag) (entry .args .t) (at-if2 .if2 .left) done (c .if3 .taken),
+    let done = sym (at-s .s .given .1) ∙ promises .0 excluded (excludes-here st) in
+    let free = at-if2 .if2 .left in (
+      fact-crowded st (entry .args .line) known (at-at .at .ensures) (entry .args .flag) (entry .args .t) free done (c .if3 .taken),
       over-past (promises .1 .1 .0),
     )
 
@@ -150,8 +151,9 @@ returns-5 c =
     let (st, known) = entry .pre .0 (at-if1 .if1 .left) in
     let promises = at-summarize-assumption .summarize-assumption .ensures in
     let over = sym (at-limit .limit .given .1) ∙ promises .0 excluded (excludes-here st) in
-    let free = at-if2 .if2 .left in (
-      fact-over st (entry .args .line) known (at-at .at .ensures) (entry .args .flag) (entry .args .t) free (c .over .ensures) over,
+    let free = at-if2 .if2 .left in
+    let told = c .over .ensures in (
+      fact-over st (entry .args .line) known (at-at .at .ensures) (entry .args .flag) (entry .args .t) free told over,
       over-past (promises .1 .1 .0),
     )
 

@@ -61,7 +61,8 @@ returns-3 c =
     let entry = at-if1 .before .before .before .before .before .before .before .before in
     let (st, known) = entry .pre .0 (at-if1 .if1 .left) in
     let slices = at-gather-term .gather-term .ensures .1 .0 in (
-      root-over st _ _ known _ (at-if2 .if2 .left) (gathered-over st _ (at-gather-term .gather-term .ensures .0) slices (c .enum-told .given .1)),
+      root-over st _ _ known _ (at-if2 .if2 .left)
+          (gathered-over st _ (at-gather-term .gather-term .ensures .0) slices (c .enum-told .given .1)),
       gathered-past st _ (at-gather-term .gather-term .ensures .0) slices (same-self 0 working-words _),
     )
 
