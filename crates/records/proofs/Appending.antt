@@ -245,7 +245,7 @@ module _ {file names refs rows recs out : List ℕ} {k : Counts} (st : Standing 
     references = rw (one .no-term) (omega (arith, st .tables .term-table .few-references));
   }
 
-  -- the records with the line
+  -- with the line there is one record more
   records-more : length (add-line excluded line (state-of file names refs rows recs out k) c .decls)
       + length (add-line excluded line (state-of file names refs rows recs out k) c .roots) ≡ k .records + 1
   unfolding add-line state-of

@@ -90,7 +90,7 @@ module _ (s : State) where
       ∷ (s .uses, most-uses, refusal.FullTriggers)
       ∷ []
 
-  -- decide where these are kept
+  -- these decide where names and terms are within theirs
   behind-tables : Tables-within s → under-limits (limits s) s ≡ under-limits record-limits s
   unfolding limits record-limits
   behind-tables w = behind _ _ _ _ _ (w .names) ∙ behind _ _ _ _ _ (w .terms) ∙ behind _ _ _ _ _ (w .references)
