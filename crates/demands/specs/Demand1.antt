@@ -1,5 +1,5 @@
 -- Demand 1, of the answer of a call: "with a list or with one of the nine refusals of document 01 and its place, each under
--- its condition there and never otherwise".
+-- its condition there and never otherwise"; and document 02, Change 1: "Demand 1 counts these .. with its nine".
 use Prim.Native.Nat.{ℕ, _+_, _≤_, _<_}
 use mathlib.Core.Path.{_≡_}
 use mathlib.Core.Logic.{_↔_, _⊎_}
@@ -69,14 +69,17 @@ List-given =
     (file works : List ℕ) (room : ℕ) (given : List ℕ) (seen turns : ℕ)
     → (outcome file works room ≡ list given seen turns) ↔ When-listed file works room given seen turns
 
--- the refusals of "The exporter of the file" that name a line: 1 to 6
+-- the refusals of "The exporter of the file" that name a line: 1 to 6, and 10 to 12 of document 02
 pub data Of-line : Refusal → Type 0 where
   form : Of-line refusal.Form
   name : Of-line refusal.Name
   number : Of-line refusal.Number
   term : Of-line refusal.Term
   repeated : Of-line refusal.Repeated
-  limit : Of-line refusal.Limit
+  full-names : Of-line refusal.FullNames
+  full-terms : Of-line refusal.FullTerms
+  full-records : Of-line refusal.FullRecords
+  full-triggers : Of-line refusal.FullTriggers
 
 -- "lines from the first", "place: the line, from 1": the n-th of these lines, those before it being read
 pub record Reached-line (ls : List Line) (n : ℕ) : Type 0 where
@@ -155,23 +158,57 @@ abbrev pub Refusal-5 : Type 0
 Refusal-5 =
     (file works : List ℕ) (room n : ℕ) → (outcome file works room ≡ refusal-at refusal.Repeated n) ↔ When-5 file works n
 
--- "Limits: .. names .. 2,048 distinct; term lines 4,096; term references in term lines 16,384; record lines 1,024; trigger
--- entries .. 2,048 ..; name uses .. 6,144": the counts of the file up to a line
-pub data Past-limit (s : State) : Type 0 where
-  names : 2048 < length (s .names) → Past-limit s
-  term-lines : 4096 < length (s .terms) → Past-limit s
-  term-references : 16384 < s .references → Past-limit s
-  record-lines : 1024 < length (s .decls) + length (s .roots) → Past-limit s
-  trigger-entries : 2048 < s .entries → Past-limit s
-  name-uses : 6144 < s .uses → Past-limit s
+-- "Limits: .. names .. 2,048 distinct": the counts of the file up to a line
+abbrev pub Past-names : State → Type 0
+Past-names s = 2048 < length (s .names)
 
--- "6: the line passes a limit other than the file's bytes", after 5
-abbrev pub When-6 : List ℕ → List ℕ → ℕ → Type 0
-When-6 file works n =
+-- "term lines 4,096; term references in term lines 16,384"
+abbrev pub Past-terms : State → Type 0
+Past-terms s = (4096 < length (s .terms)) ⊎ (16384 < s .references)
+
+-- "record lines 1,024"
+abbrev pub Past-records : State → Type 0
+Past-records s = 1024 < length (s .decls) + length (s .roots)
+
+-- "trigger entries .. 2,048 ..; name uses .. 6,144"
+abbrev pub Past-triggers : State → Type 0
+Past-triggers s = (2048 < s .entries) ⊎ (6144 < s .uses)
+
+-- "6: the line passes a limit other than the file's bytes", after 5: the counts up to this line are so
+abbrev pub When-past : (State → Type 0) → List ℕ → List ℕ → ℕ → Type 0
+When-past past file works n =
     Lines-judged file works
     × ((l : Reached-line (lines file) n) × (c : Content) × Says l c × (Repeats l c → ⊥)
-    × Past-limit (add-line exclude-names n (l .state) c))
+    × past (add-line exclude-names n (l .state) c))
+
+-- Change 1 of document 02: "6 speaks of names only"
+abbrev pub When-6 : List ℕ → List ℕ → ℕ → Type 0
+When-6 = When-past Past-names
 
 abbrev pub Refusal-6 : Type 0
 Refusal-6 =
-    (file works : List ℕ) (room n : ℕ) → (outcome file works room ≡ refusal-at refusal.Limit n) ↔ When-6 file works n
+    (file works : List ℕ) (room n : ℕ) → (outcome file works room ≡ refusal-at refusal.FullNames n) ↔ When-6 file works n
+
+-- "10 when term lines or term references pass their limit"; "If one line passes several limits, the lowest number is given"
+abbrev pub When-10 : List ℕ → List ℕ → ℕ → Type 0
+When-10 = When-past (λ s. (Past-names s → ⊥) × Past-terms s)
+
+abbrev pub Refusal-10 : Type 0
+Refusal-10 =
+    (file works : List ℕ) (room n : ℕ) → (outcome file works room ≡ refusal-at refusal.FullTerms n) ↔ When-10 file works n
+
+-- "11 when record lines do"
+abbrev pub When-11 : List ℕ → List ℕ → ℕ → Type 0
+When-11 = When-past (λ s. (Past-names s → ⊥) × (Past-terms s → ⊥) × Past-records s)
+
+abbrev pub Refusal-11 : Type 0
+Refusal-11 =
+    (file works : List ℕ) (room n : ℕ) → (outcome file works room ≡ refusal-at refusal.FullRecords n) ↔ When-11 file works n
+
+-- "12 when trigger entries or name uses do"
+abbrev pub When-12 : List ℕ → List ℕ → ℕ → Type 0
+When-12 = When-past (λ s. (Past-names s → ⊥) × (Past-terms s → ⊥) × (Past-records s → ⊥) × Past-triggers s)
+
+abbrev pub Refusal-12 : Type 0
+Refusal-12 =
+    (file works : List ℕ) (room n : ℕ) → (outcome file works room ≡ refusal-at refusal.FullTriggers n) ↔ When-12 file works n

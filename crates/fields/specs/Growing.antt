@@ -95,7 +95,7 @@ with-term k named used =
 -- what adding a row comes to
 unfoldable pub grown-to : Added → Counts → ℕ → ℕ → Step
 grown-to adds.Done k named used = step.On (with-term k named used)
-grown-to adds.Full k named used = step.Refused refusal.Limit
+grown-to adds.Full k named used = step.Refused refusal.FullTerms
 
 -- the two tables of the counts
 abbrev pub Stands : List ℕ → List ℕ → List ℕ → List ℕ → Counts → Type 0
@@ -120,17 +120,22 @@ module _ (file names refs rows names′ refs′ rows′ : List ℕ) (k : Counts)
     pub used : used′ ≡ k .used + length (references node)
     pub longer : Longer file names names′ (k .named) named′
 
-  -- a limit that the node passes
-  pub data Passes (node : Node) : Type 0 where
-    names-passed : most-names < length (fold-left spell (names-of file names (k .named)) (spelled-by node)) → Passes node
-    terms-passed : most-terms ≤ k .many → Passes node
-    references-passed : most-references < k .used + length (references node) → Passes node
+  -- how many names there are with those of the node
+  abbrev pub names-with : Node → ℕ
+  names-with node = length (fold-left spell (names-of file names (k .named)) (spelled-by node))
+
+  -- the lowest refusal of the limits that the node passes
+  pub data Passes (node : Node) : Refusal → Type 0 where
+    names-passed : most-names < names-with node → Passes node refusal.FullNames
+    terms-passed : names-with node ≤ most-names → most-terms ≤ k .many → Passes node refusal.FullTerms
+    references-passed : names-with node ≤ most-names → most-references < k .used + length (references node)
+        → Passes node refusal.FullTerms
 
   -- what a term line comes to, by what its fields say
   pub data Grows (said : Result Content) : Step → Type 0 where
     grown : {node : Node} {named′ used′ : ℕ}
         → said ≡ ok (term node) → Grown node named′ used′ → Grows said (step.On (with-term k named′ used′))
-    over : {node : Node} → said ≡ ok (term node) → Passes node → Grows said (step.Refused refusal.Limit)
+    over : {node : Node} {x : Refusal} → said ≡ ok (term node) → Passes node x → Grows said (step.Refused x)
     not-read : {x : Refusal} → said ≡ refused x → Grows said (step.Refused x)
 
   -- what reading a term line of a kind comes to, from the first field after its kind on

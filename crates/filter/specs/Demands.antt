@@ -17,7 +17,7 @@ use Rattle.model.specs.declared.Answer.{Answer}
 use Rattle.model.specs.declared.Refusal.{Refusal}
 use Rattle.model.specs.declared.Verdict.the-variants as verdict
 use Rattle.demands.specs.Accepted.{Accepted, Distinct}
-use Rattle.demands.specs.Demand1.{Lines-judged, Of-fields, When-1-to-4, When-5, When-6, When-7, When-8, When-9}
+use Rattle.demands.specs.Demand1.{Lines-judged, Of-fields, When-1-to-4, When-5, When-6, When-7, When-8, When-9, When-10, When-11, When-12}
 use Rattle.demands.specs.Slices.{Cleared}
 use Rattle.demands.specs.FileOrder.{In-order}
 use Rattle.demands.specs.Demand2.{kept-list, pruned}
@@ -71,9 +71,9 @@ pub record Comes-back (c : Call) (w v : List ℕ) : Type 0 where
 
 -- "If a file is empty, cut off, oversized or nonsense, the call still returns, with a list or with one of the nine refusals of
 -- document 01 and its place, each under its condition there and never otherwise. A refusal writes nothing to the result slice,
--- and the working slices come back as document 01 fixes."
+-- and the working slices come back as document 01 fixes." Document 02, Change 1, adds 10 to 12.
 pub record Demand-1 (c : Call) : Type 0 where
-  pub nine-refusals : Accepts c ⊎ ((number : ℕ) × (1 ≤ number) × (number ≤ 9) × Refuses c number (c .answer .place))
+  pub refusals : Accepts c ⊎ ((number : ℕ) × (1 ≤ number) × (number ≤ 12) × Refuses c number (c .answer .place))
   pub listed : Accepts c ↔ (Lines-judged (c .file) (works c) × ((s : State) × Accepted (c .file) s × (length (kept-list s) ≤ length (c .out))))
   pub refused-1-to-4 : (r : Refusal) (n : ℕ) → Of-fields r → Refuses c (refusal-number r) n ↔ When-1-to-4 (c .file) (works c) r n
   pub refused-5 : (n : ℕ) → Refuses c 5 n ↔ When-5 (c .file) (works c) n
@@ -81,6 +81,9 @@ pub record Demand-1 (c : Call) : Type 0 where
   pub refused-7 : (place : ℕ) → Refuses c 7 place ↔ When-7 (works c) place
   pub refused-8 : (place : ℕ) → Refuses c 8 place ↔ When-8 (c .file) (works c) (length (c .out)) place
   pub refused-9 : (place : ℕ) → Refuses c 9 place ↔ When-9 (c .file) (works c) place
+  pub refused-10 : (n : ℕ) → Refuses c 10 n ↔ When-10 (c .file) (works c) n
+  pub refused-11 : (n : ℕ) → Refuses c 11 n ↔ When-11 (c .file) (works c) n
+  pub refused-12 : (n : ℕ) → Refuses c 12 n ↔ When-12 (c .file) (works c) n
   pub no-counts : (Accepts c → ⊥) → (c .answer .kept ≡ 0) × (c .answer .visits ≡ 0) × (c .answer .rounds ≡ 0)
   pub nothing-written : (Accepts c → ⊥) → c .out′ ≡ c .out
   pub back-0 : Comes-back c (c .w0) (c .v0)

@@ -7,6 +7,7 @@ use lib.ListN.{replicate}
 use Prim.Native.String.{String}
 use Rattle.model.specs.Lists.{collect}
 use Rattle.model.specs.Names.{bytes, same}
+use Rattle.model.specs.Terms.{FreeV, Term}
 use Rattle.model.specs.Summaries.{exclude-names}
 use Rattle.model.specs.Reading.{Result, ok, refused, Sum-retain, State, read-line}
 use Rattle.model.specs.Outcome.{refusal-number, outcome, result-after, work-after}
@@ -239,27 +240,35 @@ empty-disjuncts before groups =
 groups-of-none : List ℕ → ℕ → List ℕ
 groups-of-none written n = written ++ collect (λ group. group) (replicate n (bytes ",0"))
 
--- 6: 2,048 trigger entries pass, the next does not, empty disjuncts counted; 5 before 6
+-- 12: 2,048 trigger entries pass, the next does not, empty disjuncts counted; 5 before 12
 entries :
     (answered (empty-disjuncts [] (groups-of-none (bytes "2048") 2048)) six 1024 (bytes "sum,0,0,1") ≡ true)
-    × (answered (empty-disjuncts [] (groups-of-none (bytes "2049") 2049)) six 1024 (bytes "refused,6,4") ≡ true)
+    × (answered (empty-disjuncts [] (groups-of-none (bytes "2049") 2049)) six 1024 (bytes "refused,12,4") ≡ true)
     × (answered (empty-disjuncts ("fun,a" ∷ []) (groups-of-none (bytes "2049") 2049)) six 1024 (bytes "refused,5,5") ≡ true)
 unfolding passes answered six empty-disjuncts groups-of-none
 entries = (refl, refl, refl)
 
--- the state after so many `retain` lines that spell so many names
-retained : ℕ → ℕ → State
-retained lines names =
+-- the term of the line `free,x`
+x-term : Term
+x-term = record { node = FreeV (bytes "x"); bare = FreeV (bytes "x"); names = bytes "x" ∷ [] }
+
+-- a state with so many names, terms that are the name x, references, `retain` lines, entries and uses
+filled : ℕ → ℕ → ℕ → ℕ → ℕ → ℕ → State
+filled names terms references lines entries uses =
     record {
       goal = record { query = 0; options = 0 };
-      terms = [];
-      names = replicate names (bytes "n");
+      terms = replicate terms x-term;
+      names = replicate names (bytes "x");
       decls = replicate lines Sum-retain;
       roots = [];
-      references = 0;
-      entries = 0;
-      uses = 0;
+      references = references;
+      entries = entries;
+      uses = uses;
     }
+
+-- the state after so many `retain` lines that spell so many names
+retained : ℕ → ℕ → State
+retained lines names = filled names 0 0 lines 0 0
 
 -- the number of the refusal, 0 where there is none
 refusal-of : Result State → ℕ
@@ -270,15 +279,34 @@ refusal-of (refused r) = refusal-number r
 next-line : State → String → ℕ
 next-line s text = refusal-of (read-line exclude-names 2000 s (record { bytes = bytes text; ended = true }))
 
--- 6: 1,024 record lines pass, the next does not, where all are `retain` lines
-retain-lines : (next-line (retained 1023 0) "retain" ≡ 0) × (next-line (retained 1024 0) "retain" ≡ 6)
-unfolding passes retained refusal-of next-line
+-- 11: 1,024 record lines pass, the next does not, where all are `retain` lines
+retain-lines : (next-line (retained 1023 0) "retain" ≡ 0) × (next-line (retained 1024 0) "retain" ≡ 11)
+unfolding passes retained filled x-term refusal-of next-line
 retain-lines = (refl, refl)
 
 -- 6: 2,048 names pass, the next does not, where a `retain` line spells the last
 retain-names : (next-line (retained 1 2046) "retain,a,b" ≡ 0) × (next-line (retained 1 2046) "retain,a,b,c" ≡ 6)
-unfolding passes retained refusal-of next-line
+unfolding passes retained filled x-term refusal-of next-line
 retain-names = (refl, refl)
+
+-- a line that passes two limits is refused with the lower number: names, 6, before all others
+names-and-another :
+    (next-line (filled 2048 4096 0 0 0 0) "free,a" ≡ 6)
+    × (next-line (filled 2048 1 16384 0 0 0) "call,a,0" ≡ 6)
+    × (next-line (filled 2048 1 0 1024 0 0) "fun,a" ≡ 6)
+    × (next-line (filled 2048 1 0 0 2048 0) "assume,assumption_a,0,0" ≡ 6)
+    × (next-line (filled 2048 1 0 0 0 6144) "def,a,0" ≡ 6)
+unfolding passes filled x-term refusal-of next-line
+names-and-another = (refl, refl, refl, refl, refl)
+
+-- term lines and references, 10; record lines, 11, before trigger entries and name uses, 12
+two-others :
+    (next-line (filled 1 4096 16384 0 0 0) "label,0" ≡ 10)
+    × (next-line (filled 1 1 0 1024 2048 0) "assume,assumption_a,0,0" ≡ 11)
+    × (next-line (filled 1 1 0 1024 0 6144) "root,0,a,0" ≡ 11)
+    × (next-line (filled 1 1 0 0 2048 6144) "assume,assumption_a,0,0" ≡ 12)
+unfolding passes filled x-term refusal-of next-line
+two-others = (refl, refl, refl, refl)
 
 -- refusals 7, 9, 1, 8 and their order, and what the slices hold at exit
 slices :

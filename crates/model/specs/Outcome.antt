@@ -14,17 +14,20 @@ use Rattle.model.specs.declared.Refusal.{Refusal}
 use Rattle.model.specs.declared.Refusal.the-variants as refusal
 use Rattle.model.specs.declared.Verdict.the-variants.{Accepted, Refused}
 
--- document 01's number of a refusal
+-- the number of a refusal in document 01; from 10 on in document 02, Change 1
 unfoldable pub refusal-number : Refusal → ℕ
 refusal-number refusal.Form = 1
 refusal-number refusal.Name = 2
 refusal-number refusal.Number = 3
 refusal-number refusal.Term = 4
 refusal-number refusal.Repeated = 5
-refusal-number refusal.Limit = 6
+refusal-number refusal.FullNames = 6
 refusal-number refusal.Working = 7
 refusal-number refusal.Room = 8
 refusal-number refusal.Size = 9
+refusal-number refusal.FullTerms = 10
+refusal-number refusal.FullRecords = 11
+refusal-number refusal.FullTriggers = 12
 
 -- what a call comes to: a refusal and its place; or the kept lines, the visits and the rounds, in this order
 pub data Outcome : Type 0 where

@@ -1,4 +1,5 @@
--- Reading a file, line after line: document 01, "The file" and "Who can cause a refusal", the refusals 1 to 6.
+-- Reading a file, line after line: document 01, "The file" and "Who can cause a refusal", the refusals 1 to 6;
+-- document 02, Change 1: 10 to 12.
 use Prim.Native.Nat.{ℕ, zero, suc, _+_, _/_, _%_}
 use Prim.Native.String.{String}
 use mathlib.Core.Bool.{Bool, cond, not, Bool·beq}
@@ -353,15 +354,15 @@ most-entries = 2048
 abbrev pub most-uses : ℕ
 most-uses = 6144
 
--- each limit but the file's bytes: what is counted, how much of it may be, and the refusal
+-- each limit but the file's bytes, lowest refusal first: what is counted, how much of it may be, and the refusal
 unfoldable pub limits : State → List (ℕ × ℕ × Refusal)
 limits s =
-    (length (s .names), most-names, refusal.Limit)
-    ∷ (length (s .terms), most-terms, refusal.Limit)
-    ∷ (s .references, most-references, refusal.Limit)
-    ∷ (length (s .decls) + length (s .roots), most-records, refusal.Limit)
-    ∷ (s .entries, most-entries, refusal.Limit)
-    ∷ (s .uses, most-uses, refusal.Limit)
+    (length (s .names), most-names, refusal.FullNames)
+    ∷ (length (s .terms), most-terms, refusal.FullTerms)
+    ∷ (s .references, most-references, refusal.FullTerms)
+    ∷ (length (s .decls) + length (s .roots), most-records, refusal.FullRecords)
+    ∷ (s .entries, most-entries, refusal.FullTriggers)
+    ∷ (s .uses, most-uses, refusal.FullTriggers)
     ∷ []
 
 -- the value where no limit is passed, else the refusal of the first that is

@@ -1,14 +1,17 @@
-// Why a file or a call is refused. Document 01's number of each is `refusal-number` of specs/Outcome.antt.
+// Why a file or a call is refused. The number of each in documents 01 and 02 is `refusal-number` of specs/Outcome.antt.
 pub enum Refusal {
     Form,
     Name,
     Number,
     Term,
     Repeated,
-    Limit,
+    FullNames,
     Working,
     Room,
     Size,
+    FullTerms,
+    FullRecords,
+    FullTriggers,
 }
 
 // What a call comes to: a list, or a refusal.
