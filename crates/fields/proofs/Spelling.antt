@@ -80,7 +80,8 @@ naming-past (in-table t d) h = absurd (omega (arith, t .few))
 naming-past (past d l) h = l
 
 -- up to it there are not
-pub naming-few : {file names : List ℕ} {named : ℕ} {ns : List Name} → Naming file names named ns → named ≤ most-names → length ns ≤ most-names
+pub naming-few : {file names : List ℕ} {named : ℕ} {ns : List Name} → Naming file names named ns → named ≤ most-names
+    → length ns ≤ most-names
 naming-few {file} {names} {named} g h = omega (arith, names-length file names named, ap length (naming-table g h .1))
 
 -- past the limit nothing is spelled

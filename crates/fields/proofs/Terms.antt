@@ -128,16 +128,22 @@ module _ {file names refs rows names′ refs′ : List ℕ} {k : Counts} {kind :
   line-not {x} e a b = record { grows = not-read {x = x} e; kept = record { names-kept = a; refs-kept = b; rows-kept = same-self 0 row-columns rows } }
 
   module _ {named′ end : ℕ} {node : Node} {words : List ℕ} (t : Stands file names refs rows k)
-      (b : Line-read file names refs names′ refs′ k kind c named′ end node words) {r : Passed} (d : First-passed named′ end r) where
+      (b : Line-read file names refs names′ refs′ k kind c named′ end node words)
+      {r : Passed} (d : First-passed named′ end r) where
     -- the slices but the rows
     line-kept : {rows′ : List ℕ} → Same-but 0 row-columns rows rows′ → Kept names refs rows names′ refs′ rows′
     line-kept r = record { names-kept = b .longer .kept; refs-kept = ran-kept (b .ran); rows-kept = r }
 
     -- names or references past their limit
-    pub line-over : {x : Refusal} → r ≡ passed.Full x → Reads-term file names refs rows names′ refs′ rows k kind c (step.Refused x)
-    line-over {x} e = record { grows = over {x = x} (b .says) (go (rw e at d)); kept = line-kept (same-self 0 row-columns rows) }
+    pub line-over : {x : Refusal} → r ≡ passed.Full x
+        → Reads-term file names refs rows names′ refs′ rows k kind c (step.Refused x)
+    line-over {x} e = record {
+      grows = over {x = x} (b .says) (go (rw e at d));
+      kept = line-kept (same-self 0 row-columns rows);
+    }
       where
-        go : {x : Refusal} → First-passed named′ end (passed.Full x) → Passes file names refs rows names′ refs′ rows k node x
+        go : {x : Refusal} → First-passed named′ end (passed.Full x)
+            → Passes file names refs rows names′ refs′ rows k node x
         go (by-names h) = names-passed (naming-past (b .naming) h)
         go (by-references h l) = references-passed (naming-few (b .naming) h) (omega (arith, b .ran .ends, b .count))
 

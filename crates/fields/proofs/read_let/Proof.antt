@@ -39,7 +39,8 @@ same-length : tie.Need-same-length
 same-length c =
     let limiting = c .before .before .before in
     let pushing = limiting .before .before .before .before .before .before in
-    limiting .before .before .before .before .before .refs2 .given ∙ pushing .before .before .before .before .before .before .refs .given
+    limiting .before .before .before .before .before .refs2 .given
+    ∙ pushing .before .before .before .before .before .before .refs .given
 
 returns : tie.Need-returns
 returns c =

@@ -63,7 +63,8 @@ add-op-requires c κs =
     let read = reads-op (wording .read-op-word .ensures) (pushing .before .before .before .op .given .1) in
     let run = rest-ran _ (t .term-table .few-rows) _ _ _ (run-at (pushing .push-rest .ensures) (limiting .before .before .used .given .1)) in
     let line = op-line (entry .args .k) t _ (read .said) run in
-    (line-pushed t line (limiting .first-passed .ensures) (c .before .before .before .enum-told .given .1), op-code _ (c .before .before .op-number .ensures) .0)
+    let pushed = line-pushed t line (limiting .first-passed .ensures) (c .before .before .before .enum-told .given .1) in
+    (pushed, op-code _ (c .before .before .op-number .ensures) .0)
 
 grown-requires : tie.Need-grown-requires
 grown-requires c κs =

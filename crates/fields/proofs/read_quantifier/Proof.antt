@@ -76,7 +76,8 @@ returns-2 c =
     let line = quantifier-line (entry .args .k) (entry .args .c) t read (entry .args .all) in
     let d = limiting .first-passed .ensures in
     let e = c .before .before .before .before .before .before .before .enum-told .given .1 in
-    let row = quantifier-row (entry .args .k) (entry .args .c) t read (entry .args .all) d e (c .before .before .before .before .before .before .if1 .taken) in
+    let which = c .before .before .before .before .before .before .if1 .taken in
+    let row = quantifier-row (entry .args .k) (entry .args .c) t read (entry .args .all) d e which in
     line-added t line d e (c .grown .ensures) (c .before .before .before .add-all .ensures) row
 
 add-some-requires : tie.Need-add-some-requires
@@ -121,7 +122,8 @@ returns-3 c =
     let line = quantifier-line (entry .args .k) (entry .args .c) t read (entry .args .all) in
     let d = limiting .first-passed .ensures in
     let e = c .before .before .before .before .before .before .before .enum-told .given .1 in
-    let row = quantifier-row (entry .args .k) (entry .args .c) t read (entry .args .all) d e (c .before .before .before .before .before .before .if1 .left) in
+    let which = c .before .before .before .before .before .before .if1 .left in
+    let row = quantifier-row (entry .args .k) (entry .args .c) t read (entry .args .all) d e which in
     line-added t line d e (c .grown2 .ensures) (c .before .before .before .add-some .ensures) row
 
 same-length-6 : tie.Need-same-length-6
