@@ -11,8 +11,9 @@ use Rattle.model.specs.Lists.{sum, collect, fold-left, part}
 use Rattle.model.specs.Names.{Name}
 use Rattle.model.specs.Summaries.{entries}
 use Rattle.model.specs.Terms.{Node, Term, add-term, unlabeled, free-top-level-names}
-use Rattle.model.specs.Reading.{Content, asked, nodes, spelled, trimmed, spell, summarize-decl, root-of, entries-of, uses-of, add-line, repeats, most-records, most-entries, most-uses}
+use Rattle.model.specs.Reading.{Content, asked, nodes, spelled, trimmed, spell, summarize-decl, root-of, entries-of, uses-of, add-line, repeats, most-names, most-records, most-entries, most-uses}
 use Rattle.model.specs.declared.Counts.{Counts}
+use Rattle.model.specs.declared.Refusal.{Refusal}
 use Rattle.model.specs.declared.Refusal.the-variants as refusal
 use Rattle.names.specs.Table.{Table, name-of, names-of}
 use Rattle.names.proofs.Laws.{names-length}
@@ -33,7 +34,7 @@ use Rattle.records.specs.Writing.{with-record, Rowed}
 use Rattle.records.specs.Adding.{excluded, Standing, Adds, stops, added}
 use Rattle.records.proofs.Recording.{Agree, decls-stay, roots-stay, records-length}
 use Rattle.records.proofs.Keeping.{filing-more}
-use Rattle.records.proofs.Judging.{Within, Beyond, many-records, judged-repeated, judged-beyond, judged-within}
+use Rattle.records.proofs.Judging.{Within, Tables-within, Beyond, many-records, many-entries, many-uses, judged-repeated, judged-beyond, judged-within}
 
 -- ---- how many terms there are
 
@@ -224,6 +225,40 @@ module _ {file names refs rows recs out names′ rows′ recs′ out′ : List �
 
 -- ---- a record refused
 
+-- a line is one record, and the names that it spells have room
+pub record One-record (file names refs rows : List ℕ) (k : Counts) (line : ℕ) (c : Content) : Type 0 where
+  pub no-term : nodes c ≡ []
+  pub one : length (summarize-decl excluded (terms-in file names refs rows (k .used) (k .many)) line c)
+      + length (root-of excluded (terms-in file names refs rows (k .used) (k .many)) line c) ≡ 1
+  pub few-names : length (fold-left spell (names-of file names (k .named))
+      (spelled c ++ trimmed excluded (terms-in file names refs rows (k .used) (k .many)) c)) ≤ most-names
+
+module _ {file names refs rows recs out : List ℕ} {k : Counts} (st : Standing file names refs rows recs out k) {line : ℕ}
+    {c : Content} (one : One-record file names refs rows k line c) where
+  -- the names and terms with the line are within their limits
+  tables-within : Tables-within (add-line excluded line (state-of file names refs rows recs out k) c)
+  unfolding add-line state-of fold-left collect
+  tables-within = record {
+    names = one .few-names;
+    terms = rw (one .no-term)
+        (omega (arith, terms-length file names refs rows (k .used) (k .many), st .tables .term-table .few-rows));
+    references = rw (one .no-term) (omega (arith, st .tables .term-table .few-references));
+  }
+
+  -- the records with the line
+  records-more : length (add-line excluded line (state-of file names refs rows recs out k) c .decls)
+      + length (add-line excluded line (state-of file names refs rows recs out k) c .roots) ≡ k .records + 1
+  unfolding add-line state-of
+  records-more =
+      let terms = terms-in file names refs rows (k .used) (k .many) in
+      omega (
+        arith,
+        one .one,
+        records-length (name-of file names) recs out (k .records),
+        length-append (decls-of (name-of file names) recs out (k .records)) (summarize-decl excluded terms line c),
+        length-append (roots-of (name-of file names) recs out (k .records)) (root-of excluded terms line c),
+      )
+
 module _ {file names refs rows recs out names′ rows′ recs′ out′ : List ℕ} {k : Counts} (st : Standing file names refs rows recs out k) (line : ℕ)
     (c : Content) where
   -- its name is taken
@@ -233,23 +268,21 @@ module _ {file names refs rows recs out names′ rows′ recs′ out′ : List �
 
   module _ (new : repeats excluded line (state-of file names refs rows recs out k) c ≡ false) where
     -- a limit is passed
-    pub record-beyond : Beyond (add-line excluded line (state-of file names refs rows recs out k) c)
-        → Adds file names refs rows recs out names′ rows′ recs′ out′ k line c (step.Refused refusal.Limit)
-    record-beyond b = stops {x = refusal.Limit} (st .tables .name-table .few) (judged-beyond line (state-of file names refs rows recs out k) c new b)
+    pub record-beyond : {x : Refusal} → Beyond (add-line excluded line (state-of file names refs rows recs out k) c) x
+        → Adds file names refs rows recs out names′ rows′ recs′ out′ k line c (step.Refused x)
+    record-beyond {x} b =
+        stops {x = x} (st .tables .name-table .few) (judged-beyond line (state-of file names refs rows recs out k) c new b)
 
-    -- there are as many records as may be
-    pub record-crowded : most-records ≤ k .records
-        → length (summarize-decl excluded (terms-in file names refs rows (k .used) (k .many)) line c)
-        + length (root-of excluded (terms-in file names refs rows (k .used) (k .many)) line c) ≡ 1
-        → Adds file names refs rows recs out names′ rows′ recs′ out′ k line c (step.Refused refusal.Limit)
-    unfolding add-line state-of
-    record-crowded h one =
-        let terms = terms-in file names refs rows (k .used) (k .many) in
-        let decls = decls-of (name-of file names) recs out (k .records) in
-        let roots = roots-of (name-of file names) recs out (k .records) in
-        record-beyond (many-records (omega (
-          arith,
-          records-length (name-of file names) recs out (k .records),
-          length-append decls (summarize-decl excluded terms line c),
-          length-append roots (root-of excluded terms line c),
-        )))
+    module _ (one : One-record file names refs rows k line c) where
+      -- there are as many records as may be
+      pub record-crowded : most-records ≤ k .records
+          → Adds file names refs rows recs out names′ rows′ recs′ out′ k line c (step.Refused refusal.FullRecords)
+      record-crowded h = record-beyond (many-records (tables-within st one) (omega (arith, records-more st one)))
+
+      -- more entries or uses than may be, and room for a record
+      pub record-over : k .records < most-records
+          → (most-entries < add-line excluded line (state-of file names refs rows recs out k) c .entries)
+          ⊎ (most-uses < add-line excluded line (state-of file names refs rows recs out k) c .uses)
+          → Adds file names refs rows recs out names′ rows′ recs′ out′ k line c (step.Refused refusal.FullTriggers)
+      record-over few (inl h) = record-beyond (many-entries (tables-within st one) (omega (arith, records-more st one)) h)
+      record-over few (inr h) = record-beyond (many-uses (tables-within st one) (omega (arith, records-more st one)) h)

@@ -4,21 +4,23 @@ use native.Mathlib.Omega.{arith}
 use mathlib.Core.Path.{_≡_, refl, sym, ap, _∙_}
 use mathlib.Core.Bool.{Bool, true, false, cond}
 use mathlib.Core.Logic.{_⊎_, inl, inr, ⊎-elim}
-use mathlib.Core.List.{List, List·Memᴰ}
+use mathlib.Core.List.{List, _++_, List·Memᴰ}
 use lib.ListN.{length, getD, length-set}
 use lib.Seq.{getD-set-same, getD-set-other}
 use lib.Dec.{eqb, ltb}
-use borrow.Author.Tests.{ltb-true}
+use borrow.Author.Tests.{le-leb, lt-leb, ltb-true, ltb-false}
 use Rattle.model.specs.Lists.{sum, collect, fold-left, part}
 use Rattle.model.specs.Names.{from-list}
-use Rattle.model.specs.Reading.{assume, asked, nodes, spelled, trimmed, summarize-decl, root-of, taken-by, entries-of, uses-of, add-line, repeats, most-names, most-records, most-entries, most-uses}
+use Rattle.model.specs.Reading.{Content, assume, asked, nodes, spelled, trimmed, spell, summarize-decl, root-of, taken-by, entries-of, uses-of, add-line, repeats, most-names, most-records, most-entries, most-uses}
 use Rattle.model.specs.Summaries.{entries, summarize-assumption}
 use Rattle.model.specs.declared.Counts.{Counts}
+use Rattle.model.specs.declared.Refusal.{Refusal}
 use Rattle.model.specs.declared.Refusal.the-variants as refusal
 use Rattle.model.proofs.PartLaws.{part-agree, part-elim, part-intro, part-length, part-at}
-use Rattle.names.specs.Table.{Excludes, name-of}
+use Rattle.names.specs.Table.{Excludes, name-of, names-of}
 use Rattle.names.proofs.Excluded.{excluded-exact}
 use Rattle.names.proofs.Coded.{Kept, table-kept}
+use Rattle.terms.proofs.Laws.{below}
 use Rattle.words.proofs.Slices.{same-wider}
 use Rattle.rules.specs.Views.{terms-in}
 use Rattle.triggers.specs.Entries.{disjuncts-of, Entries, entries-base, last-flag, no-name}
@@ -33,11 +35,11 @@ use Rattle.model.specs.Outcome.{working-words}
 use Rattle.records.specs.Columns.{assume-kind, code-of, fact-column, next-column, first-column, taken-column, entry-word, taken-at}
 use Rattle.records.specs.States.{free-at, fact-at, summary-at, root-at, state-of}
 use Rattle.records.specs.Writing.{with-record, Rowed, Puttable, Puts}
-use Rattle.records.specs.Adding.{excluded, Standing, Adds, Untouched}
+use Rattle.records.specs.Adding.{excluded, behind-records, over-refusal, Standing, Adds, Untouched}
 use Rattle.records.proofs.Chaining.{chained-kept}
 use Rattle.records.proofs.Recording.{names-stay, disjuncts-stay}
-use Rattle.records.proofs.Judging.{many-names, many-entries, many-uses, repeats-taken, repeats-free}
-use Rattle.records.proofs.Appending.{Appends, record-added, record-repeated, record-crowded, record-beyond}
+use Rattle.records.proofs.Judging.{many-names, repeats-taken, repeats-free}
+use Rattle.records.proofs.Appending.{Appends, One-record, record-added, record-repeated, record-crowded, record-over, record-beyond}
 use Rattle.records.proofs.Plain.{spelled-before, is-taken}
 use Rattle.records.proofs.Funs.{row-past, taken-put, small-row}
 use Rattle.records.proofs.Coding.{code-kind, code-low}
@@ -60,68 +62,127 @@ module _ {named : ℕ} (out : List ℕ) (a e : ℕ) (room : entries-base + e ≤
 
 -- ---- the summary's limits
 
--- a summary that is none passes one of three limits
-limited-over : (x : Summary) {l : Limit} → summarized.Over l ≡ limited x → (most-names < x .named) ⊎ ((most-entries < x .entries) ⊎ (most-uses < x .uses))
+-- the summary of a fact by its name and its term, were there no limits
+abbrev summed : List ℕ → List ℕ → List ℕ → List ℕ → Counts → ℕ → ℕ → Summary
+summed file names refs rows k i t =
+    fact-summary excluded file names refs rows (k .named) (k .used) (k .many) i t (k .mark) (k .entries) (k .uses)
+
+-- what its line says
+abbrev said : List ℕ → List ℕ → ℕ → ℕ → ℕ → Content
+said file names i flag t = assume (name-of file names i) (eqb flag 1) t
+
+-- a limit that a summary passes, the names being within theirs where it is another
+data Passes (x : Summary) : Limit → Type 0 where
+  names-passed : most-names < x .named → Passes x limit.Names
+  entries-passed : x .named ≤ most-names → most-entries < x .entries → Passes x limit.Entries
+  uses-passed : x .named ≤ most-names → most-uses < x .uses → Passes x limit.Uses
+
+-- a summary that is none passes its limit
+limited-over : (x : Summary) {l : Limit} → summarized.Over l ≡ limited x → Passes x l
 unfolding limited
 limited-over x {l} e = go (ltb most-names (x .named)) refl (ltb most-entries (x .entries)) refl (ltb most-uses (x .uses)) refl e
   where
+    is : {m : Limit} → summarized.Over l ≡ summarized.Over m → l ≡ m
+    is p = cc
+
     go : (a : Bool) → ltb most-names (x .named) ≡ a → (b : Bool) → ltb most-entries (x .entries) ≡ b → (c : Bool) → ltb most-uses (x .uses) ≡ c
         → summarized.Over l ≡ cond a (summarized.Over limit.Names)
         (cond b (summarized.Over limit.Entries) (cond c (summarized.Over limit.Uses) (summarized.Done x)))
-        → (most-names < x .named) ⊎ ((most-entries < x .entries) ⊎ (most-uses < x .uses))
-    go true p b q c s e = inl (ltb-true most-names (x .named) p)
-    go false p true q c s e = inr (inl (ltb-true most-entries (x .entries) q))
-    go false p false q true s e = inr (inr (ltb-true most-uses (x .uses) s))
+        → Passes x l
+    go true p b q c s e = rw (is e) (names-passed (ltb-true most-names (x .named) p))
+    go false p true q c s e =
+        rw (is e) (entries-passed (ltb-false most-names (x .named) p) (ltb-true most-entries (x .entries) q))
+    go false p false q true s e =
+        rw (is e) (uses-passed (ltb-false most-names (x .named) p) (ltb-true most-uses (x .uses) s))
     go false p false q false s e = absurd (over-none e)
 
 -- ---- the fact refused
 
 module _ {file names refs rows recs out : List ℕ} {k : Counts} (st : Standing file names refs rows recs out k) (line : ℕ) {i : ℕ}
     (known : i < k .named) {w : ℕ} (is : w ≡ taken-at names i) (flag t : ℕ) where
-  fact-new : w ≤ 0 → repeats excluded line (state-of file names refs rows recs out k) (assume (name-of file names i) (eqb flag 1) t) ≡ false
+  fact-new : w ≤ 0 → repeats excluded line (state-of file names refs rows recs out k) (said file names i flag t) ≡ false
   unfolding summarize-decl summarize-assumption collect taken-by
-  fact-new h = repeats-free st line (assume (name-of file names i) (eqb flag 1) t) known refl (omega arith)
+  fact-new h = repeats-free st line (said file names i flag t) known refl (omega arith)
 
   -- the name is taken
   pub fact-repeated : {names′ rows′ recs′ out′ : List ℕ} → 0 < w
-      → Adds file names refs rows recs out names′ rows′ recs′ out′ k line (assume (name-of file names i) (eqb flag 1) t) (step.Refused refusal.Repeated)
+      → Adds file names refs rows recs out names′ rows′ recs′ out′ k line (said file names i flag t) (step.Refused refusal.Repeated)
   unfolding summarize-decl summarize-assumption collect taken-by
   fact-repeated h =
-      record-repeated st line (assume (name-of file names i) (eqb flag 1) t)
-      (repeats-taken st line (assume (name-of file names i) (eqb flag 1) t) known refl (omega arith))
+      record-repeated st line (said file names i flag t) (repeats-taken st line (said file names i flag t) known refl (omega arith))
+
+  -- the names with the line are those of the summary
+  fact-named : length (fold-left spell (names-of file names (k .named)) (spelled (said file names i flag t)
+      ++ trimmed excluded (terms-in file names refs rows (k .used) (k .many)) (said file names i flag t)))
+      ≡ summed file names refs rows k i t .named
+  unfolding spelled trimmed fact-summary names-then fact-kind
+  fact-named =
+      let ns = fact-kind excluded file names refs rows (k .named) (k .used) (k .many) i t .trimmed in
+      ap length (spelled-before file names (k .named) i ns known)
+
+  -- the line is one record
+  fact-one : summed file names refs rows k i t .named ≤ most-names → One-record file names refs rows k line (said file names i flag t)
+  unfolding nodes summarize-decl root-of
+  fact-one h = record { no-term = refl; one = refl; few-names = omega (arith, fact-named) }
 
   module _ {names′ rows′ recs′ out′ : List ℕ} (free : w ≤ 0) where
     -- as many records as may be
-    pub fact-crowded : most-records ≤ k .records
-        → Adds file names refs rows recs out names′ rows′ recs′ out′ k line (assume (name-of file names i) (eqb flag 1) t) (step.Refused refusal.Limit)
-    unfolding summarize-decl root-of
-    fact-crowded h = record-crowded st line (assume (name-of file names i) (eqb flag 1) t) (fact-new free) h refl
+    pub fact-crowded : {x : Summary} → summarized.Done x ≡ limited (summed file names refs rows k i t) → most-records ≤ k .records
+        → Adds file names refs rows recs out names′ rows′ recs′ out′ k line (said file names i flag t) (step.Refused refusal.FullRecords)
+    fact-crowded done =
+        let within = limited-done _ done in
+        record-crowded st line (said file names i flag t) (fact-new free)
+        (fact-one (omega (arith, within .1, ap (λ y. y .named) (within .0))))
 
-    -- more names, entries or uses than may be
-    pub fact-over : {l : Limit} → summarized.Over l ≡ limited
-        (fact-summary excluded file names refs rows (k .named) (k .used) (k .many) i t (k .mark) (k .entries) (k .uses))
-        → Adds file names refs rows recs out names′ rows′ recs′ out′ k line (assume (name-of file names i) (eqb flag 1) t) (step.Refused refusal.Limit)
-    unfolding add-line state-of spelled trimmed summarize-decl summarize-assumption root-of entries-of uses-of sum fold-left fact-summary names-then fact-kind fact-names entries
-    fact-over o =
-        let x = fact-summary excluded file names refs rows (k .named) (k .used) (k .many) i t (k .mark) (k .entries) (k .uses) in
-        let again = spelled-before file names (k .named) i (fact-kind excluded file names refs rows (k .named) (k .used) (k .many) i t .trimmed) known in
-        record-beyond st line (assume (name-of file names i) (eqb flag 1) t) (fact-new free)
-        (⊎-elim (λ (q : most-names < x .named). many-names (omega (arith, ap length again)))
-        (λ q. ⊎-elim (λ (z : most-entries < x .entries). many-entries (omega arith)) (λ (z : most-uses < x .uses). many-uses (omega arith)) q)
-        (limited-over x o))
+    -- more names than may be
+    fact-unnamed : most-names < summed file names refs rows k i t .named
+        → Adds file names refs rows recs out names′ rows′ recs′ out′ k line (said file names i flag t) (step.Refused refusal.FullNames)
+    unfolding add-line state-of
+    fact-unnamed h = record-beyond st line (said file names i flag t) (fact-new free) (many-names (omega (arith, fact-named)))
+
+    -- more entries or uses than may be, and the names within their limit
+    fact-full : summed file names refs rows k i t .named ≤ most-names
+        → (most-entries < summed file names refs rows k i t .entries) ⊎ (most-uses < summed file names refs rows k i t .uses)
+        → Adds file names refs rows recs out names′ rows′ recs′ out′ k line (said file names i flag t)
+        (step.Refused (behind-records (k .records)))
+    unfolding behind-records add-line state-of summarize-decl summarize-assumption root-of entries-of uses-of sum fact-summary fact-kind fact-names entries
+    fact-full n h =
+        let fact = said file names i flag t in
+        let more : (most-entries < add-line excluded line (state-of file names refs rows recs out k) fact .entries)
+        ⊎ (most-uses < add-line excluded line (state-of file names refs rows recs out k) fact .uses) =
+        ⊎-elim (λ e. inl (omega arith)) (λ u. inr (omega arith)) h in
+        ⊎-elim
+        (λ (few : k .records < most-records). rw (lt-leb most-records (k .records) few)
+        (record-over st line fact (fact-new free) (fact-one n) few more))
+        (λ (room : most-records ≤ k .records). rw (le-leb most-records (k .records) room)
+        (record-crowded st line fact (fact-new free) (fact-one n) room))
+        (below (k .records) most-records)
+
+    -- the summary passes a limit
+    pub fact-over : {l : Limit} {r : Refusal} → r ≡ over-refusal l (k .records)
+        → summarized.Over l ≡ limited (summed file names refs rows k i t)
+        → Adds file names refs rows recs out names′ rows′ recs′ out′ k line (said file names i flag t) (step.Refused r)
+    unfolding over-refusal
+    fact-over e o = rw e (go (limited-over _ o))
+      where
+        go : {l : Limit} → Passes (summed file names refs rows k i t) l
+            → Adds file names refs rows recs out names′ rows′ recs′ out′ k line (said file names i flag t)
+            (step.Refused (over-refusal l (k .records)))
+        go (names-passed h) = fact-unnamed h
+        go (entries-passed n h) = fact-full n (inl h)
+        go (uses-passed n h) = fact-full n (inr h)
 
 -- ---- the fact there
 
 module _ {file names refs rows recs out names₁ rows′ out₁ names′ recs′ out′ : List ℕ} {k : Counts} (st : Standing file names refs rows recs out k)
     (line : ℕ) {i : ℕ} (known : i < k .named) (flag t : ℕ) {x : Summary} {next : Counts}
     (few : k .records < most-records) (free : taken-at names i ≡ 0)
-    (done : summarized.Done x ≡ limited (fact-summary excluded file names refs rows (k .named) (k .used) (k .many) i t (k .mark) (k .entries) (k .uses)))
+    (done : summarized.Done x ≡ limited (summed file names refs rows k i t))
     (lists : Lists excluded file names refs rows (k .named) (k .used) (k .many) i t names₁ rows′ out₁ (k .entries) (k .uses) x)
     (slices : Slices names rows out names₁ rows′ out₁ (k .entries) (k .uses))
     (puts : Puts names₁ recs out₁ names′ recs′ out′ k line i flag t x next) where
   -- the summary is the definition's, within the limits
-  within : (x ≡ fact-summary excluded file names refs rows (k .named) (k .used) (k .many) i t (k .mark) (k .entries) (k .uses)) × (x .named ≤ most-names)
-      × (x .entries ≤ most-entries) × (x .uses ≤ most-uses)
+  within : (x ≡ summed file names refs rows k i t) × (x .named ≤ most-names) × (x .entries ≤ most-entries) × (x .uses ≤ most-uses)
   within = limited-done _ done
 
   low : i < most-names
@@ -271,7 +332,7 @@ module _ {file names refs rows recs out names₁ rows′ out₁ names′ recs′
   )
 
   -- the record is there
-  fact-there : Adds file names refs rows recs out names′ rows′ recs′ out′ k line (assume (name-of file names i) (eqb flag 1) t) (step.On next)
+  fact-there : Adds file names refs rows recs out names′ rows′ recs′ out′ k line (said file names i flag t) (step.On next)
   unfolding asked nodes spelled trimmed summarize-decl root-of entries-of uses-of sum fold-left summary-at root-at names-then fact-kind fact-names entries summarize-assumption
   fact-there =
       rw (puts .counts) (record-added st few appends (fact-new st line known {w = 0} (sym free) flag t (omega arith)) (record {
@@ -308,7 +369,7 @@ module _ {file names refs rows recs out : List ℕ} {k : Counts} (st : Standing 
 
   -- putting its summary into the tables
   pub fact-puttable : {names₁ rows₁ out₁ : List ℕ} {line flag : ℕ} {x : Summary}
-      → summarized.Done x ≡ limited (fact-summary excluded file names refs rows (k .named) (k .used) (k .many) i t (k .mark) (k .entries) (k .uses))
+      → summarized.Done x ≡ limited (summed file names refs rows k i t)
       → Lists excluded file names refs rows (k .named) (k .used) (k .many) i t names₁ rows₁ out₁ (k .entries) (k .uses) x
       → Slices names rows out names₁ rows₁ out₁ (k .entries) (k .uses) → k .records < most-records → line < 4294967296 → flag < 2
       → Puttable names₁ recs out₁ k line i flag t x
@@ -373,8 +434,8 @@ fact-past {names₁ = names₁} {i = i} {k = k} s few low p =
 pub fact-added : {file names refs rows recs out names₁ rows′ out₁ names′ recs′ out′ : List ℕ} {k : Counts} → Standing file names refs rows recs out k
     → (line : ℕ) → {i : ℕ} → i < k .named
     → {w : ℕ} → w ≡ taken-at names i → (flag t : ℕ) → {x : Summary} {next : Counts} → w ≤ 0 → k .records < most-records
-    → summarized.Done x ≡ limited (fact-summary excluded file names refs rows (k .named) (k .used) (k .many) i t (k .mark) (k .entries) (k .uses))
+    → summarized.Done x ≡ limited (summed file names refs rows k i t)
     → Lists excluded file names refs rows (k .named) (k .used) (k .many) i t names₁ rows′ out₁ (k .entries) (k .uses) x
     → Slices names rows out names₁ rows′ out₁ (k .entries) (k .uses) → Puts names₁ recs out₁ names′ recs′ out′ k line i flag t x next
-    → Adds file names refs rows recs out names′ rows′ recs′ out′ k line (assume (name-of file names i) (eqb flag 1) t) (step.On next)
+    → Adds file names refs rows recs out names′ rows′ recs′ out′ k line (said file names i flag t) (step.On next)
 fact-added st line known is flag t h few done lists slices puts = fact-there st line known flag t few (omega arith) done lists slices puts

@@ -21,8 +21,8 @@ use Rattle.records.specs.States.{summary-at, root-at, decl-at, state-of}
 use Rattle.records.specs.Writing.{with-record, Small, Rowed}
 use Rattle.records.specs.Adding.{excluded, Standing, Adds, Untouched}
 use Rattle.records.proofs.Judging.{repeats-none, repeats-taken, repeats-free}
-use Rattle.records.proofs.Appending.{record-added, record-repeated, record-crowded}
-use Rattle.records.proofs.Plain.{spelled-again, kept, not-taken, is-taken, plain}
+use Rattle.records.proofs.Appending.{standing-within, record-added, record-repeated, record-crowded}
+use Rattle.records.proofs.Plain.{spelled-again, named-within, kept, not-taken, is-taken, plain}
 
 -- ---- what stays
 
@@ -81,9 +81,10 @@ module _ {file names refs rows recs out : List ℕ} {k : Counts} (st : Standing 
 
   -- as many records as may be
   pub retain-crowded : {recs′ : List ℕ} → most-records ≤ k .records
-      → Adds file names refs rows recs out names rows recs′ out k line (retain []) (step.Refused refusal.Limit)
-  unfolding summarize-decl root-of
-  retain-crowded h = record-crowded st line (retain []) retain-new h refl
+      → Adds file names refs rows recs out names rows recs′ out k line (retain []) (step.Refused refusal.FullRecords)
+  unfolding state-of nodes spelled trimmed summarize-decl root-of fold-left
+  retain-crowded h = record-crowded st line (retain []) retain-new
+      (record { no-term = refl; one = refl; few-names = standing-within st .names }) h
 
   -- the record is there
   pub retain-added : {recs′ : List ℕ} {next : Counts} → k .records < most-records → next ≡ with-record k (k .named) (k .entries) (k .uses) (k .mark)
@@ -121,9 +122,11 @@ module _ {file names refs rows recs out : List ℕ} {k : Counts} (st : Standing 
 
   -- as many records as may be
   pub fun-crowded : {names′ recs′ : List ℕ} → w ≤ 0 → most-records ≤ k .records
-      → Adds file names refs rows recs out names′ rows recs′ out k line (fun (name-of file names i)) (step.Refused refusal.Limit)
-  unfolding summarize-decl root-of
-  fun-crowded z h = record-crowded st line (fun (name-of file names i)) (fun-new z) h refl
+      → Adds file names refs rows recs out names′ rows recs′ out k line (fun (name-of file names i))
+      (step.Refused refusal.FullRecords)
+  unfolding nodes spelled trimmed summarize-decl root-of
+  fun-crowded z h = record-crowded st line (fun (name-of file names i)) (fun-new z)
+      (record { no-term = refl; one = refl; few-names = named-within st known }) h
 
   -- the record is there
   pub fun-added : {recs′ : List ℕ} {next : Counts} → w ≤ 0 → k .records < most-records → next ≡ with-record k (k .named) (k .entries) (k .uses) (k .mark)

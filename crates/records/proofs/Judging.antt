@@ -38,14 +38,22 @@ pub record Within (s : State) : Type 0 where
   pub entries : s .entries ≤ most-entries
   pub uses : s .uses ≤ most-uses
 
--- one is passed
-pub data Beyond (s : State) : Type 0 where
-  many-names : most-names < length (s .names) → Beyond s
-  many-terms : most-terms < length (s .terms) → Beyond s
-  many-references : most-references < s .references → Beyond s
-  many-records : most-records < length (s .decls) + length (s .roots) → Beyond s
-  many-entries : most-entries < s .entries → Beyond s
-  many-uses : most-uses < s .uses → Beyond s
+-- the limits of names and terms are kept
+pub record Tables-within (s : State) : Type 0 where
+  pub names : length (s .names) ≤ most-names
+  pub terms : length (s .terms) ≤ most-terms
+  pub references : s .references ≤ most-references
+
+-- one is passed, and those of a lower refusal are kept
+pub data Beyond (s : State) : Refusal → Type 0 where
+  many-names : most-names < length (s .names) → Beyond s refusal.FullNames
+  many-terms : length (s .names) ≤ most-names → most-terms < length (s .terms) → Beyond s refusal.FullTerms
+  many-references : length (s .names) ≤ most-names → most-references < s .references → Beyond s refusal.FullTerms
+  many-records : Tables-within s → most-records < length (s .decls) + length (s .roots) → Beyond s refusal.FullRecords
+  many-entries : Tables-within s → length (s .decls) + length (s .roots) ≤ most-records → most-entries < s .entries
+      → Beyond s refusal.FullTriggers
+  many-uses : Tables-within s → length (s .decls) + length (s .roots) ≤ most-records → most-uses < s .uses
+      → Beyond s refusal.FullTriggers
 
 -- the state is the value then
 pub within-limits : (s : State) → Within s → under-limits (limits s) s ≡ ok s
@@ -53,30 +61,49 @@ unfolding limits under-limits
 within-limits s w =
     rw (le-leb _ _ (w .names), le-leb _ _ (w .terms), le-leb _ _ (w .references), le-leb _ _ (w .records), le-leb _ _ (w .entries), le-leb _ _ (w .uses))
 
-module _ {A : Type 0} (counted limit : ℕ) (more : List (ℕ × ℕ × Refusal)) (a : A) where
+module _ {A : Type 0} (counted limit : ℕ) (x : Refusal) (more : List (ℕ × ℕ × Refusal)) (a : A) where
   -- a limit that is passed refuses
-  here : limit < counted → under-limits ((counted, limit, refusal.Limit) ∷ more) a ≡ refused refusal.Limit
+  here : limit < counted → under-limits ((counted, limit, x) ∷ more) a ≡ refused x
   unfolding under-limits
   here h = rw (lt-leb counted limit h)
 
-  -- and so does a later one
-  later : under-limits more a ≡ refused refusal.Limit → under-limits ((counted, limit, refusal.Limit) ∷ more) a ≡ refused refusal.Limit
+  -- and so does a later one with its refusal
+  later : under-limits more a ≡ refused x → under-limits ((counted, limit, x) ∷ more) a ≡ refused x
   unfolding under-limits
   later e = rw e (go (leb counted limit))
     where
-      go : (b : Bool) → _≡_ {A = Result A} (cond b (refused refusal.Limit) (refused refusal.Limit)) (refused refusal.Limit)
+      go : (b : Bool) → _≡_ {A = Result A} (cond b (refused x) (refused x)) (refused x)
       go true = refl
       go false = refl
 
--- a refusal by limit
-pub beyond-limits : (s : State) → Beyond s → under-limits (limits s) s ≡ refused refusal.Limit
-unfolding limits
-beyond-limits s (many-names h) = here _ _ _ _ h
-beyond-limits s (many-terms h) = later _ _ _ _ (here _ _ _ _ h)
-beyond-limits s (many-references h) = later _ _ _ _ (later _ _ _ _ (here _ _ _ _ h))
-beyond-limits s (many-records h) = later _ _ _ _ (later _ _ _ _ (later _ _ _ _ (here _ _ _ _ h)))
-beyond-limits s (many-entries h) = later _ _ _ _ (later _ _ _ _ (later _ _ _ _ (later _ _ _ _ (here _ _ _ _ h))))
-beyond-limits s (many-uses h) = later _ _ _ _ (later _ _ _ _ (later _ _ _ _ (later _ _ _ _ (later _ _ _ _ (here _ _ _ _ h)))))
+  -- behind a limit that is kept the others decide
+  behind : counted ≤ limit → under-limits ((counted, limit, x) ∷ more) a ≡ under-limits more a
+  unfolding under-limits
+  behind h = rw (le-leb counted limit h)
+
+module _ (s : State) where
+  -- the limits after those of names and terms
+  record-limits : List (ℕ × ℕ × Refusal)
+  record-limits =
+      (length (s .decls) + length (s .roots), most-records, refusal.FullRecords)
+      ∷ (s .entries, most-entries, refusal.FullTriggers)
+      ∷ (s .uses, most-uses, refusal.FullTriggers)
+      ∷ []
+
+  -- decide where these are kept
+  behind-tables : Tables-within s → under-limits (limits s) s ≡ under-limits record-limits s
+  unfolding limits record-limits
+  behind-tables w = behind _ _ _ _ _ (w .names) ∙ behind _ _ _ _ _ (w .terms) ∙ behind _ _ _ _ _ (w .references)
+
+  -- a refusal by limit
+  pub beyond-limits : {x : Refusal} → Beyond s x → under-limits (limits s) s ≡ refused x
+  unfolding limits record-limits
+  beyond-limits (many-names h) = here _ _ _ _ _ h
+  beyond-limits (many-terms n h) = behind _ _ _ _ _ n ∙ here _ _ _ _ _ h
+  beyond-limits (many-references n h) = behind _ _ _ _ _ n ∙ later _ _ _ _ _ (here _ _ _ _ _ h)
+  beyond-limits (many-records w h) = behind-tables w ∙ here _ _ _ _ _ h
+  beyond-limits (many-entries w r h) = behind-tables w ∙ behind _ _ _ _ _ r ∙ here _ _ _ _ _ h
+  beyond-limits (many-uses w r h) = behind-tables w ∙ behind _ _ _ _ _ r ∙ later _ _ _ _ _ (here _ _ _ _ _ h)
 
 -- ---- a line judged
 
@@ -105,7 +132,8 @@ module _ (n : ℕ) (s : State) (c : Content) where
   judged-repeated e = rw e
 
   -- a limit
-  pub judged-beyond : repeats excluded n s c ≡ false → Beyond (add-line excluded n s c) → judge n s c ≡ refused refusal.Limit
+  pub judged-beyond : repeats excluded n s c ≡ false → {x : Refusal} → Beyond (add-line excluded n s c) x
+      → judge n s c ≡ refused x
   unfolding judge
   judged-beyond e b = rw e (beyond-limits (add-line excluded n s c) b)
 

@@ -3,7 +3,7 @@ use Prim.Native.Nat.{ℕ, _+_, _-_, _*_, _≤_, _<_}
 use native.Mathlib.Omega.{arith}
 use mathlib.Core.Path.{_≡_, refl, ap}
 use mathlib.Core.List.{List, [], _∷_, _++_}
-use lib.ListN.{getD}
+use lib.ListN.{length, getD}
 use Rattle.model.specs.Lists.{sum, fold-left, part}
 use Rattle.model.specs.Names.{Name, mem}
 use Rattle.model.specs.Summaries.{entries}
@@ -12,7 +12,7 @@ use Rattle.model.specs.declared.Counts.{Counts}
 use Rattle.model.proofs.ListLaws.{cond-true}
 use Rattle.model.proofs.PartLaws.{part-nil}
 use Rattle.names.specs.Table.{name-of, names-of}
-use Rattle.names.proofs.Laws.{names-intro}
+use Rattle.names.proofs.Laws.{names-intro, names-length}
 use Rattle.names.proofs.Coded.{Kept, table-kept}
 use Rattle.words.specs.Slices.{Same-but}
 use Rattle.gather.specs.Sets.{Fresh}
@@ -37,6 +37,14 @@ pub spelled-before : (file names : List ℕ) (named i : ℕ) (ns : List Name) �
     → fold-left spell (names-of file names named) ((name-of file names i ∷ []) ++ ns) ≡ fold-left spell (names-of file names named) ns
 unfolding fold-left
 spelled-before file names named i ns h = ap (λ l. fold-left spell l ns) (spelled-again file names named i h)
+
+-- spelling it leaves the names within their limit
+pub named-within : {file names refs rows recs out : List ℕ} {k : Counts} → Standing file names refs rows recs out k → {i : ℕ}
+    → i < k .named → length (fold-left spell (names-of file names (k .named)) (name-of file names i ∷ [])) ≤ most-names
+unfolding fold-left
+named-within {file} {names} {k = k} st {i} known =
+    rw (spelled-again file names (k .named) i known)
+    (omega (arith, names-length file names (k .named), st .tables .name-table .few))
 
 -- no entries take none
 no-entries : (name : ℕ → Name) (out : List ℕ) (a : ℕ) → entries (disjuncts-of name (part out a a)) ≡ 0

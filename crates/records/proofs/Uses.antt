@@ -3,6 +3,7 @@ use Prim.Native.Nat.{ℕ, _+_, _-_, _≤_, _<_}
 use native.Mathlib.Omega.{arith}
 use mathlib.Core.Path.{_≡_, refl, sym, ap, _∙_}
 use mathlib.Core.Bool.{false}
+use mathlib.Core.Logic.{inr}
 use mathlib.Core.List.{List, map, List·Memᴰ}
 use lib.ListN.{length, getD, set}
 use lib.Seq.{getD-set-same, getD-set-other}
@@ -31,9 +32,9 @@ use Rattle.records.specs.States.{free-at, summary-at, root-at, decl-at, 
 use Rattle.records.specs.Writing.{with-record, Rowed}
 use Rattle.records.specs.Adding.{excluded, Standing, Adds, Untouched}
 use Rattle.records.proofs.Recording.{names-stay}
-use Rattle.records.proofs.Judging.{many-uses, repeats-none, repeats-taken, repeats-free}
-use Rattle.records.proofs.Appending.{record-added, record-repeated, record-crowded, record-beyond}
-use Rattle.records.proofs.Plain.{spelled-again, kept, not-taken, is-taken, plain}
+use Rattle.records.proofs.Judging.{repeats-none, repeats-taken, repeats-free}
+use Rattle.records.proofs.Appending.{One-record, record-added, record-repeated, record-crowded, record-over}
+use Rattle.records.proofs.Plain.{spelled-again, named-within, kept, not-taken, is-taken, plain}
 use Rattle.records.proofs.Funs.{taken-put, fresh-taken}
 
 -- the numbers of a set of names among the uses from those counted on up to n, and the slices then
@@ -130,6 +131,11 @@ module _ {file names refs rows recs out : List ℕ} {k : Counts} (st : Standing 
   unfolding summarize-decl collect taken-by
   def-new h = repeats-free st line (def (name-of file names i) t) known refl (omega arith)
 
+  -- the line is one record
+  def-one : One-record file names refs rows k line (def (name-of file names i) t)
+  unfolding nodes spelled trimmed summarize-decl root-of
+  def-one = record { no-term = refl; one = refl; few-names = named-within st known }
+
   -- the name is taken
   pub def-repeated : {names′ rows′ recs′ out′ : List ℕ} → 0 < w
       → Adds file names refs rows recs out names′ rows′ recs′ out′ k line (def (name-of file names i) t) (step.Refused refusal.Repeated)
@@ -139,15 +145,16 @@ module _ {file names refs rows recs out : List ℕ} {k : Counts} (st : Standing 
   module _ {names′ rows′ recs′ out′ : List ℕ} (free : w ≤ 0) where
     -- as many records as may be
     pub def-crowded : most-records ≤ k .records → Adds file names refs rows recs out names′ rows′ recs′ out′ k line (def (name-of file names i) t)
-        (step.Refused refusal.Limit)
-    unfolding summarize-decl root-of
-    def-crowded h = record-crowded st line (def (name-of file names i) t) (def-new free) h refl
+        (step.Refused refusal.FullRecords)
+    def-crowded = record-crowded st line (def (name-of file names i) t) (def-new free) def-one
 
     -- more uses than may be
-    pub def-over : most-uses < k .uses + length (free-top-level-names excluded (terms-in file names refs rows (k .used) (k .many)) t)
-        → Adds file names refs rows recs out names′ rows′ recs′ out′ k line (def (name-of file names i) t) (step.Refused refusal.Limit)
+    pub def-over : k .records < most-records
+        → most-uses < k .uses + length (free-top-level-names excluded (terms-in file names refs rows (k .used) (k .many)) t)
+        → Adds file names refs rows recs out names′ rows′ recs′ out′ k line (def (name-of file names i) t)
+        (step.Refused refusal.FullTriggers)
     unfolding add-line state-of summarize-decl root-of uses-of sum
-    def-over h = record-beyond st line (def (name-of file names i) t) (def-new free) (many-uses (omega arith))
+    def-over few h = record-over st line (def (name-of file names i) t) (def-new free) def-one few (inr (omega arith))
 
     -- the record is there
     pub def-added : {next : Counts} {n : ℕ} → k .records < most-records → next ≡ with-record k (k .named) (k .entries) n (k .mark + 1)
@@ -190,18 +197,24 @@ module _ {file names refs rows recs out : List ℕ} {k : Counts} (st : Standing 
   unfolding state-of summarize-decl collect taken-by
   root-new = repeats-none line (state-of file names refs rows recs out k) (root query (name-of file names i) t) refl
 
+  -- the line is one record
+  root-one : One-record file names refs rows k line (root query (name-of file names i) t)
+  unfolding nodes spelled trimmed summarize-decl root-of
+  root-one = record { no-term = refl; one = refl; few-names = named-within st known }
+
   -- as many records as may be
   pub root-crowded : {names′ rows′ recs′ out′ : List ℕ} → most-records ≤ k .records
-      → Adds file names refs rows recs out names′ rows′ recs′ out′ k line (root query (name-of file names i) t) (step.Refused refusal.Limit)
-  unfolding summarize-decl root-of
-  root-crowded h = record-crowded st line (root query (name-of file names i) t) root-new h refl
+      → Adds file names refs rows recs out names′ rows′ recs′ out′ k line (root query (name-of file names i) t)
+      (step.Refused refusal.FullRecords)
+  root-crowded = record-crowded st line (root query (name-of file names i) t) root-new root-one
 
   -- more uses than may be
-  pub root-over : {names′ rows′ recs′ out′ : List ℕ} → most-uses < k .uses
+  pub root-over : {names′ rows′ recs′ out′ : List ℕ} → k .records < most-records → most-uses < k .uses
       + length (free-top-level-names excluded (terms-in file names refs rows (k .used) (k .many)) t)
-      → Adds file names refs rows recs out names′ rows′ recs′ out′ k line (root query (name-of file names i) t) (step.Refused refusal.Limit)
+      → Adds file names refs rows recs out names′ rows′ recs′ out′ k line (root query (name-of file names i) t)
+      (step.Refused refusal.FullTriggers)
   unfolding add-line state-of summarize-decl root-of uses-of sum
-  root-over h = record-beyond st line (root query (name-of file names i) t) root-new (many-uses (omega arith))
+  root-over few h = record-over st line (root query (name-of file names i) t) root-new root-one few (inr (omega arith))
 
   -- the record is there
   pub root-added : {names′ rows′ recs′ out′ : List ℕ} {next : Counts} {n : ℕ} → k .records < most-records

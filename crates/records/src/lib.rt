@@ -3,6 +3,7 @@ use model::AsumKind;
 use model::Counts;
 use model::Refusal;
 use model::Step;
+use summary::Limit;
 use summary::Summarized;
 use summary::Summary;
 ghost use Prim.Native.Nat.{ℕ, _+_, _≤_, _<_};
@@ -19,7 +20,7 @@ ghost use Rattle.records.specs.OptionsOf.{most-options, options-value, O
 ghost use Rattle.records.specs.Filing.{Chained};
 ghost use Rattle.records.specs.Macros.{macro-count, is-def, found-word, word-from, Found, Opens};
 ghost use Rattle.records.specs.Writing.{put-row, with-record, Small, Rowed, Chains, Puttable, Puts};
-ghost use Rattle.records.specs.Adding.{Standing, Adds, Untouched};
+ghost use Rattle.records.specs.Adding.{behind-records, over-refusal, Standing, Adds, Untouched};
 
 // The columns of the records slice, by the record's number.
 pub const KIND: usize = 0;
@@ -201,10 +202,10 @@ pub fn add_retain(
     ensures past { λ r. ⌜ Untouched (now (names .entry)) (now (rows .entry)) (now (recs .entry)) (now (out .entry)) (now (names .entry)) (now (rows .entry)) (now (recs .exit)) (now (out .entry)) ⌝ }
 {
     if model::MOST_NAMES < k.named {
-        return Step::Refused(Refusal::Limit);
+        return Step::Refused(Refusal::FullNames);
     }
     if model::MOST_RECORDS <= k.records {
-        return Step::Refused(Refusal::Limit);
+        return Step::Refused(Refusal::FullRecords);
     }
     let next = with_record(k, k.named, k.entries, k.uses, k.mark);
     put_record(recs, k, next, RETAIN, line, 0, 0, 0, 0);
@@ -228,13 +229,13 @@ pub fn add_fun(
     ensures past { λ r. ⌜ Untouched (now (names .entry)) (now (rows .entry)) (now (recs .entry)) (now (out .entry)) (now (names .exit)) (now (rows .entry)) (now (recs .exit)) (now (out .entry)) ⌝ }
 {
     if model::MOST_NAMES < k.named {
-        return Step::Refused(Refusal::Limit);
+        return Step::Refused(Refusal::FullNames);
     }
     if 0 < words::at(names, TAKEN + i) {
         return Step::Refused(Refusal::Repeated);
     }
     if model::MOST_RECORDS <= k.records {
-        return Step::Refused(Refusal::Limit);
+        return Step::Refused(Refusal::FullRecords);
     }
     names[TAKEN + i] = (k.records + 1) as u32;
     let next = with_record(k, k.named, k.entries, k.uses, k.mark);
@@ -260,13 +261,13 @@ pub fn add_def(
     ensures past { λ r. ⌜ Untouched (now (names .entry)) (now (rows .entry)) (now (recs .entry)) (now (out .entry)) (now (names .exit)) (now (rows .exit)) (now (recs .exit)) (now (out .exit)) ⌝ }
 {
     if model::MOST_NAMES < k.named {
-        return Step::Refused(Refusal::Limit);
+        return Step::Refused(Refusal::FullNames);
     }
     if 0 < words::at(names, TAKEN + i) {
         return Step::Refused(Refusal::Repeated);
     }
     if model::MOST_RECORDS <= k.records {
-        return Step::Refused(Refusal::Limit);
+        return Step::Refused(Refusal::FullRecords);
     }
     let mark = k.mark as u32;
     let Walked::Names(uses) = gather::gather_term(
@@ -282,7 +283,7 @@ pub fn add_def(
         k.uses,
         model::MOST_USES,
     ) else {
-        return Step::Refused(Refusal::Limit);
+        return Step::Refused(Refusal::FullTriggers);
     };
     names[TAKEN + i] = (k.records + 1) as u32;
     let next = with_record(k, k.named, k.entries, uses, k.mark + 1);
@@ -309,10 +310,10 @@ pub fn add_root(
     ensures past { λ r. ⌜ Untouched (now (names .entry)) (now (rows .entry)) (now (recs .entry)) (now (out .entry)) (now (names .exit)) (now (rows .exit)) (now (recs .exit)) (now (out .exit)) ⌝ }
 {
     if model::MOST_NAMES < k.named {
-        return Step::Refused(Refusal::Limit);
+        return Step::Refused(Refusal::FullNames);
     }
     if model::MOST_RECORDS <= k.records {
-        return Step::Refused(Refusal::Limit);
+        return Step::Refused(Refusal::FullRecords);
     }
     let mark = k.mark as u32;
     let Walked::Names(uses) = gather::gather_term(
@@ -328,7 +329,7 @@ pub fn add_root(
         k.uses,
         model::MOST_USES,
     ) else {
-        return Step::Refused(Refusal::Limit);
+        return Step::Refused(Refusal::FullTriggers);
     };
     let next = with_record(k, k.named, k.entries, uses, k.mark + 1);
     put_record(recs, k, next, ROOT, line, i, t, query, 0);
@@ -376,6 +377,27 @@ fn put_fact(
     next
 }
 
+// The refusal where a line passes the limit of entries or of uses: the record lines come before them.
+fn behind_records(records: usize) -> Refusal
+    ensures { λ r. ⌜ r ≡ behind-records records ⌝ }
+{
+    if model::MOST_RECORDS <= records {
+        return Refusal::FullRecords;
+    }
+    Refusal::FullTriggers
+}
+
+// The refusal where a fact passes a limit of its summary: names come before all others.
+fn over(limit: Limit, records: usize) -> Refusal
+    ensures { λ r. ⌜ r ≡ over-refusal limit records ⌝ }
+{
+    match limit {
+        Limit::Names => Refusal::FullNames,
+        Limit::Entries => behind_records(records),
+        Limit::Uses => behind_records(records),
+    }
+}
+
 // Adds the fact of an `assume` record, its name and its term by number: it is filed whether it is retainable or not.
 pub fn add_fact(
     file: &[u8],
@@ -396,13 +418,10 @@ pub fn add_fact(
 {
     let count = k.records;
     if model::MOST_NAMES < k.named {
-        return Step::Refused(Refusal::Limit);
+        return Step::Refused(Refusal::FullNames);
     }
     if 0 < words::at(names, TAKEN + name) {
         return Step::Refused(Refusal::Repeated);
-    }
-    if model::MOST_RECORDS <= count {
-        return Step::Refused(Refusal::Limit);
     }
     match summary::summarize_assumption(
         file,
@@ -419,8 +438,13 @@ pub fn add_fact(
         k.entries,
         k.uses,
     ) {
-        Summarized::Done(s) => Step::On(put_fact(names, recs, out, k, line, name, flag, t, s)),
-        Summarized::Over(_) => Step::Refused(Refusal::Limit),
+        Summarized::Done(s) => {
+            if model::MOST_RECORDS <= count {
+                return Step::Refused(Refusal::FullRecords);
+            }
+            Step::On(put_fact(names, recs, out, k, line, name, flag, t, s))
+        }
+        Summarized::Over(limit) => Step::Refused(over(limit, count)),
     }
 }
 

@@ -87,13 +87,14 @@ same-length-5 c = search needs
 returns-4 : tie.Need-returns-4
 returns-4 c =
     let at-gather-term = c .before .before .before .before .before .before .before .before in
-    let at-if2 = at-gather-term .before .before .before .before .before .before .before in
+    let at-if3 = at-gather-term .before .before .before .before .before in
+    let at-if2 = at-if3 .before .before in
     let at-at = at-if2 .before in
     let at-if1 = at-at .before .before in
     let entry = at-if1 .before .before .before .before .before .before .before .before in
     let (st, known) = entry .pre .0 (at-if1 .if1 .left) in
     let slices = at-gather-term .gather-term .ensures .1 .0 in (
-      def-over st _ known (at-at .at .ensures) _ (at-if2 .if2 .left)
+      def-over st _ known (at-at .at .ensures) _ (at-if2 .if2 .left) (at-if3 .if3 .left)
           (gathered-over st _ (at-gather-term .gather-term .ensures .0) slices (c .enum-told .given .1)),
       gathered-past st _ (at-gather-term .gather-term .ensures .0) slices (same-self 0 working-words _),
     )

@@ -56,11 +56,13 @@ same-length-3 c = search needs
 returns-3 : tie.Need-returns-3
 returns-3 c =
     let at-gather-term = c .before .before .before .before .before .before .before .before in
-    let at-if1 = at-gather-term .before .before .before .before .before .before .before in
+    let at-if2 = at-gather-term .before .before .before .before .before in
+    let at-if1 = at-if2 .before .before in
     let entry = at-if1 .before .before .before .before .before .before .before .before in
     let (st, known) = entry .pre .0 (at-if1 .if1 .left) in
     let slices = at-gather-term .gather-term .ensures .1 .0 in (
-      root-over st _ _ known _ (gathered-over st _ (at-gather-term .gather-term .ensures .0) slices (c .enum-told .given .1)),
+      root-over st _ _ known _ (at-if2 .if2 .left)
+          (gathered-over st _ (at-gather-term .gather-term .ensures .0) slices (c .enum-told .given .1)),
       gathered-past st _ (at-gather-term .gather-term .ensures .0) slices (same-self 0 working-words _),
     )
 
