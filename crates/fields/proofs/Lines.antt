@@ -2,7 +2,6 @@
 use Prim.Native.Nat.{ℕ, suc, _+_, _*_, _%_, _≤_, _<_}
 use native.Mathlib.Omega.{arith}
 use mathlib.Core.Path.{_≡_, refl, sym, ap, ap₂, _∙_}
-use mathlib.Core.Bool.{Bool, false}
 use mathlib.Core.Option.{Option, none, some}
 use mathlib.Core.List.{List, [], _∷_, List·Memᴰ, List·Memᴰ·head, List·Memᴰ·tail}
 use lib.ListN.{length, drop, getD, length-map}
@@ -31,10 +30,12 @@ use Rattle.fields.specs.declared.OpStep.{OpStep}
 use Rattle.fields.specs.declared.OpStep.the-variants as worded
 use Rattle.fields.specs.declared.OpWord.{OpWord}
 use Rattle.fields.specs.declared.OpWord.the-variants as is-op
+use Rattle.fields.specs.declared.Passed.{Passed}
+use Rattle.fields.specs.declared.Passed.the-variants as passed
 use Rattle.fields.specs.Wording.{as-op}
 use Rattle.fields.specs.Pushing.{reference}
 use Rattle.fields.specs.Spelling.{in-table, Spelled-as}
-use Rattle.fields.specs.Growing.{op-field, Reads-op, op-read, op-not, is-over, Stands}
+use Rattle.fields.specs.Growing.{op-field, Reads-op, op-read, op-not, First-passed, Stands}
 use Rattle.fields.proofs.Words.{op-back, op-small}
 use Rattle.fields.proofs.Pushing.{left-cons}
 use Rattle.fields.proofs.Spelling.{Name-read, longer-to}
@@ -257,7 +258,7 @@ module _ {file names refs rows : List ℕ} (k : Counts) (t : Stands file names r
 -- ---- its words behind the table
 
 module _ {file names refs rows names′ refs′ : List ℕ} {k : Counts} {kind : LineKind} {c : Cursor} {named′ end : ℕ} {node : Node}
-    (t : Stands file names refs rows k) {r : Bool} (d : r ≡ is-over named′ end) (e : r ≡ false) where
+    (t : Stands file names refs rows k) {r : Passed} (d : First-passed named′ end r) (e : r ≡ passed.Nothing) where
   -- the terms of a line whose words are those of terms
   pub line-terms : {ts : List ℕ} → Line-read file names refs names′ refs′ k kind c named′ end node (in-group 0 ts)
       → ((u : ℕ) → List·Memᴰ u ts → u < k .many)

@@ -19,10 +19,12 @@ use Rattle.terms.specs.Rows.{groups-of-words}
 use Rattle.terms.proofs.Groups.{group-words, groups-law, group-words-rise}
 use Rattle.lines.specs.Additions.{Patterns}
 use Rattle.words.specs.Slices.{Same-but}
+use Rattle.fields.specs.declared.Passed.{Passed}
+use Rattle.fields.specs.declared.Passed.the-variants as passed
 use Rattle.fields.specs.declared.Quantifier.{Quantifier}
 use Rattle.fields.specs.declared.Quantifier.the-variants as quantified
 use Rattle.fields.specs.Pushing.{reference, most-number, Run, push-one, push-groups}
-use Rattle.fields.specs.Growing.{quantifier-kind, push-quantifier, quantifier-result, Quantifies, is-over, Stands}
+use Rattle.fields.specs.Growing.{quantifier-kind, push-quantifier, quantifier-result, Quantifies, First-passed, Stands}
 use Rattle.fields.proofs.Runs.{Ran, ran-then, word-small, term-ran, groups-ran, term-refused, groups-refused}
 use Rattle.fields.proofs.Terms.{Line-read, line-long}
 use Rattle.fields.proofs.Lines.{plain-line, line-bodied, line-body, line-after}
@@ -239,7 +241,7 @@ module _ {file names refs rows refs′ : List ℕ} (k : Counts) {stop g : ℕ} (
       plain-line t (quantifier-content all (k .many) (fields-left file c) ∙ b .said (quantifier-node all)) (b .ran)
       (rw refers (ap suc (group-length 0 (b .gs)))) plain
 
-  module _ {r : Bool} (d : r ≡ is-over (k .named) stop) (e : r ≡ false) where
+  module _ {r : Passed} (d : First-passed (k .named) stop r) (e : r ≡ passed.Nothing) where
     -- the words after the body
     after-body : part refs′ (k .used + 1) stop ≡ group-words 0 (b .gs)
     after-body = line-after t d e (b .body) quantifier-line

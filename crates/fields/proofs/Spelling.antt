@@ -79,6 +79,11 @@ pub naming-past : {file names : List ℕ} {named : ℕ} {ns : List Name} → Nam
 naming-past (in-table t d) h = absurd (omega (arith, t .few))
 naming-past (past d l) h = l
 
+-- up to it there are not
+pub naming-few : {file names : List ℕ} {named : ℕ} {ns : List Name} → Naming file names named ns → named ≤ most-names
+    → length ns ≤ most-names
+naming-few {file} {names} {named} g h = omega (arith, names-length file names named, ap length (naming-table g h .1))
+
 -- past the limit nothing is spelled
 pub spelled-past : {file names : List ℕ} {named : ℕ} (m : Name) → Begun file names named → most-names < named
     → Spelled-as file names names named named 0 m

@@ -1,13 +1,10 @@
 -- Laws of term lines: from the fields that were read to the tables with the line's term, for every kind of line.
 use Prim.Native.Nat.{ℕ, zero, suc, _+_, _-_, _*_, _/_, _%_, _≤_, _<_}
 use native.Mathlib.Omega.{arith}
-use mathlib.Core.Path.{_≡_, refl, sym, ap, ap₂, _∙_}
-use mathlib.Core.Logic.{_⊎_, inl, inr, ⊎-elim}
-use mathlib.Core.Bool.{Bool, true, false, _||_}
+use mathlib.Core.Path.{_≡_, refl, ap, ap₂, _∙_}
+use mathlib.Core.Logic.{⊎-elim}
 use mathlib.Core.List.{List, [], _∷_, _++_, List·Memᴰ, List·Memᴰ·head, List·Memᴰ·tail}
 use lib.ListN.{length, getD}
-use lib.Dec.{ltb, ltb→lt}
-use borrow.Author.Tests.{le-ltb, ltb-false}
 use Rattle.model.specs.Lists.{fold-left, part}
 use Rattle.model.specs.Names.{Name}
 use Rattle.model.specs.Terms.{Node, add-term, references}
@@ -15,8 +12,6 @@ use Rattle.model.specs.Reading.{ok, refused, term, content, spell, spelled-by, 
 use Rattle.model.specs.declared.Counts.{Counts}
 use Rattle.model.specs.declared.LineKind.{LineKind}
 use Rattle.model.specs.declared.Refusal.{Refusal}
-use Rattle.model.specs.declared.Refusal.the-variants as refusal
-use Rattle.model.proofs.ListLaws.{T-or, true-T}
 use Rattle.model.proofs.PartLaws.{part-same}
 use Rattle.text.specs.declared.Cursor.{Cursor}
 use Rattle.text.specs.Parts.{Placed, fields-left}
@@ -31,14 +26,16 @@ use Rattle.lines.proofs.Lines.{pushed-none, pushed-one}
 use Rattle.words.specs.Slices.{Same-but}
 use Rattle.words.proofs.Slices.{same-self, same-then, same-set, same-wider}
 use Rattle.rules.specs.Views.{Tables, terms-in}
+use Rattle.fields.specs.declared.Passed.{Passed}
+use Rattle.fields.specs.declared.Passed.the-variants as passed
 use Rattle.fields.specs.declared.TermKind.{TermKind}
 use Rattle.model.specs.declared.Step.{Step}
 use Rattle.model.specs.declared.Step.the-variants as step
 use Rattle.fields.specs.Wording.{term-kind}
 use Rattle.fields.specs.Pushing.{push-all, Pushable}
 use Rattle.fields.specs.Spelling.{name-columns, Naming, Longer}
-use Rattle.fields.specs.Growing.{is-over, grown-to, Stands, row-columns, Kept, names-passed, terms-passed, references-passed, grown, over, not-read, Reads-term}
-use Rattle.fields.proofs.Spelling.{naming-table, naming-past}
+use Rattle.fields.specs.Growing.{First-passed, by-names, by-references, by-none, grown-to, Stands, row-columns, Kept, Passes, names-passed, terms-passed, references-passed, grown, over, not-read, Reads-term}
+use Rattle.fields.proofs.Spelling.{naming-table, naming-past, naming-few}
 use Rattle.fields.proofs.Runs.{Ran, ran-kept, ran-agrees, ran-words}
 
 -- ---- tables
@@ -89,29 +86,18 @@ row-kept rows many word start extra = ⊎-elim
 
 -- ---- limits
 
--- neither of two tests
-neither : (a b : Bool) → (a || b) ≡ false → (a ≡ false) × (b ≡ false)
-neither true b e = let z : _≡_ {A = ℕ} 0 1 = cc in absurd (omega arith)
-neither false b e = (refl, e)
+-- none is passed
+under-both : {named used : ℕ} {r : Passed} → First-passed named used r → r ≡ passed.Nothing
+    → (named ≤ most-names) × (used ≤ most-references)
+under-both {named} {used} d e = go (rw e at d)
+  where
+    go : First-passed named used passed.Nothing → (named ≤ most-names) × (used ≤ most-references)
+    go (by-none a b) = (a, b)
 
-module _ (named used : ℕ) {r : Bool} (d : r ≡ is-over named used) where
-  -- a limit that is passed
-  over-cases : r ≡ true → (most-names < named) ⊎ (most-references < used)
-  unfolding is-over
-  over-cases e = ⊎-elim (λ h. inl (ltb→lt most-names named h)) (λ h. inr (ltb→lt most-references used h))
-      (T-or (ltb most-names named) (ltb most-references used) .0 (true-T (sym d ∙ e)))
-
-  -- none is passed
-  under-both : r ≡ false → (named ≤ most-names) × (used ≤ most-references)
-  unfolding is-over
-  under-both e =
-      let (a, b) = neither (ltb most-names named) (ltb most-references used) (sym d ∙ e) in
-      (ltb-false most-names named a, ltb-false most-references used b)
-
--- neither is, where the tables are right
-pub under-start : {file names refs rows : List ℕ} {named used many : ℕ} → Tables file names refs rows named used many → false ≡ is-over named used
-unfolding is-over
-under-start {named = named} {used} t = rw (le-ltb most-names named (t .name-table .few), le-ltb most-references used (t .term-table .few-references))
+-- nor is where the tables are right
+pub under-start : {file names refs rows : List ℕ} {named used many : ℕ} → Tables file names refs rows named used many
+    → First-passed named used passed.Nothing
+under-start t = by-none (t .name-table .few) (t .term-table .few-references)
 
 -- ---- a line that was read
 
@@ -142,25 +128,29 @@ module _ {file names refs rows names′ refs′ : List ℕ} {k : Counts} {kind :
   line-not {x} e a b = record { grows = not-read {x = x} e; kept = record { names-kept = a; refs-kept = b; rows-kept = same-self 0 row-columns rows } }
 
   module _ {named′ end : ℕ} {node : Node} {words : List ℕ} (t : Stands file names refs rows k)
-      (b : Line-read file names refs names′ refs′ k kind c named′ end node words) {r : Bool} (d : r ≡ is-over named′ end) where
+      (b : Line-read file names refs names′ refs′ k kind c named′ end node words)
+      {r : Passed} (d : First-passed named′ end r) where
     -- the slices but the rows
     line-kept : {rows′ : List ℕ} → Same-but 0 row-columns rows rows′ → Kept names refs rows names′ refs′ rows′
     line-kept r = record { names-kept = b .longer .kept; refs-kept = ran-kept (b .ran); rows-kept = r }
 
     -- names or references past their limit
-    pub line-over : r ≡ true → Reads-term file names refs rows names′ refs′ rows k kind c (step.Refused refusal.Limit)
-    line-over e = record {
-      grows = over (b .says) (⊎-elim
-          (λ l. names-passed (naming-past (b .naming) l))
-          (λ (l : most-references < end). references-passed (omega (arith, b .ran .ends, b .count)))
-          (over-cases named′ end d e));
+    pub line-over : {x : Refusal} → r ≡ passed.Full x
+        → Reads-term file names refs rows names′ refs′ rows k kind c (step.Refused x)
+    line-over {x} e = record {
+      grows = over {x = x} (b .says) (go (rw e at d));
       kept = line-kept (same-self 0 row-columns rows);
     }
+      where
+        go : {x : Refusal} → First-passed named′ end (passed.Full x)
+            → Passes file names refs rows names′ refs′ rows k node x
+        go (by-names h) = names-passed (naming-past (b .naming) h)
+        go (by-references h l) = references-passed (naming-few (b .naming) h) (omega (arith, b .ran .ends, b .count))
 
-    module _ (e : r ≡ false) where
+    module _ (e : r ≡ passed.Nothing) where
       -- no limit is passed
       pub line-few : (named′ ≤ most-names) × (end ≤ most-references)
-      line-few = under-both named′ end d e
+      line-few = under-both d e
 
       -- the references are in the slice
       pub line-long : end ≤ length refs′
@@ -196,7 +186,8 @@ module _ {file names refs rows names′ refs′ : List ℕ} {k : Counts} {kind :
               used = omega (arith, b .ran .ends, b .count);
               longer = b .longer;
             })))
-            (λ (q : most-terms ≤ k .many). rw (g, w .answer, added-full rows (k .many) word (k .used) extra q .0) (over (b .says) (terms-passed q)))
+            (λ (q : most-terms ≤ k .many). rw (g, w .answer, added-full rows (k .many) word (k .used) extra q .0)
+            (over (b .says) (terms-passed (naming-few (b .naming) (line-few .0)) q)))
             (below (k .many) most-terms);
         kept = line-kept (rw (w .row-words) (row-kept rows (k .many) word (k .used) extra));
       }

@@ -1,10 +1,9 @@
 -- A term line read into the tables: what its fields say, and the tables with its term, or the limit that it passes.
 use Prim.Native.Nat.{ℕ, _+_, _≤_, _<_}
 use mathlib.Core.Path.{_≡_}
-use mathlib.Core.Bool.{Bool, true, false, _||_}
+use mathlib.Core.Bool.{Bool, true, false}
 use mathlib.Core.List.{List}
 use lib.ListN.{length}
-use lib.Dec.{ltb}
 use Rattle.model.specs.Lists.{fold-left}
 use Rattle.model.specs.Terms.{Node, add-term, references}
 use Rattle.model.specs.Lines.{Field}
@@ -25,6 +24,8 @@ use Rattle.words.specs.Slices.{Same-but}
 use Rattle.rules.specs.Views.{Tables, terms-in}
 use Rattle.fields.specs.declared.OpStep.{OpStep}
 use Rattle.fields.specs.declared.OpStep.the-variants as worded
+use Rattle.fields.specs.declared.Passed.{Passed}
+use Rattle.fields.specs.declared.Passed.the-variants as passed
 use Rattle.fields.specs.declared.Quantifier.{Quantifier}
 use Rattle.fields.specs.declared.Quantifier.the-variants as quantified
 use Rattle.model.specs.declared.Step.{Step}
@@ -73,9 +74,11 @@ pub record Quantifies (file refs refs′ : List ℕ) (from many : ℕ) (c : Curs
 
 -- ---- term lines
 
--- whether so many names or references pass their limit
-unfoldable pub is-over : ℕ → ℕ → Bool
-is-over named used = ltb most-names named || ltb most-references used
+-- the first limit that so many names and references pass, the names asked first
+pub data First-passed (named used : ℕ) : Passed → Type 0 where
+  by-names : most-names < named → First-passed named used (passed.Full refusal.FullNames)
+  by-references : named ≤ most-names → most-references < used → First-passed named used (passed.Full refusal.FullTerms)
+  by-none : named ≤ most-names → used ≤ most-references → First-passed named used passed.Nothing
 
 -- the counts with one term more
 unfoldable pub with-term : Counts → ℕ → ℕ → Counts

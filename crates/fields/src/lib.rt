@@ -21,7 +21,7 @@ ghost use Rattle.names.specs.Table.{Table};
 ghost use Rattle.fields.specs.Wording.{Keyed, look, term-kind, kind-result, count-of, fixed-of, well-counted, as-op};
 ghost use Rattle.fields.specs.Pushing.{most-number, push-one, push-many, push-rest, push-groups, Pushable, Pushes};
 ghost use Rattle.fields.specs.Spelling.{Begun, Spells, Reads-name, Spells-rest};
-ghost use Rattle.fields.specs.Growing.{Reads-op, Quantifies, quantifier-kind, is-over, grown-to, Stands, Reads-term};
+ghost use Rattle.fields.specs.Growing.{Reads-op, Quantifies, quantifier-kind, First-passed, grown-to, Stands, Reads-term};
 
 // The kinds of term lines.
 pub enum TermKind {
@@ -479,14 +479,23 @@ fn push_quantifier(file: &[u8], refs: &mut [u32], from: usize, many: usize, c: C
     }
 }
 
-// Whether so many names or references pass their limit.
-fn is_over(named: usize, used: usize) -> bool
-    ensures { λ r. ⌜ r ≡ is-over named used ⌝ }
+// The refusal of the first limit that is passed; or none is.
+enum Passed {
+    Full(Refusal),
+    Nothing,
+}
+
+// Which limit so many names and references pass, the names asked first.
+fn first_passed(named: usize, used: usize) -> Passed
+    ensures { λ r. ⌜ First-passed named used r ⌝ }
 {
     if model::MOST_NAMES < named {
-        return true;
+        return Passed::Full(Refusal::FullNames);
     }
-    model::MOST_REFERENCES < used
+    if model::MOST_REFERENCES < used {
+        return Passed::Full(Refusal::FullTerms);
+    }
+    Passed::Nothing
 }
 
 // The counts with one term more, where its row was added.
@@ -506,7 +515,7 @@ fn grown(added: Added, k: Counts, named: usize, used: usize) -> Step
             query: k.query,
             options: k.options,
         }),
-        Added::Full => Step::Refused(Refusal::Limit),
+        Added::Full => Step::Refused(Refusal::FullTerms),
     }
 }
 
@@ -528,8 +537,8 @@ pub fn read_free(
             if next.at <= next.end {
                 return Step::Refused(Refusal::Form);
             }
-            if is_over(named, used) {
-                return Step::Refused(Refusal::Limit);
+            if let Passed::Full(r) = first_passed(named, used) {
+                return Step::Refused(r);
             }
             grown(
                 lines::add_free(refs, rows, used, k.many, named, n),
@@ -584,8 +593,8 @@ pub fn read_call(
     match read_name(file, names, k.named, c) {
         Word::Name(n, named, next) => match push_rest(file, refs, start, many, next) {
             Upto::At(used, _) => {
-                if is_over(named, used) {
-                    return Step::Refused(Refusal::Limit);
+                if let Passed::Full(r) = first_passed(named, used) {
+                    return Step::Refused(r);
                 }
                 grown(
                     lines::add_call(refs, rows, start, used, many, named, n),
@@ -618,8 +627,8 @@ pub fn read_op(
     match read_op_word(file, c) {
         OpStep::Is(op, next) => match push_rest(file, refs, start, many, next) {
             Upto::At(used, _) => {
-                if is_over(named, used) {
-                    return Step::Refused(Refusal::Limit);
+                if let Passed::Full(r) = first_passed(named, used) {
+                    return Step::Refused(r);
                 }
                 let word = op_number(op);
                 grown(
@@ -653,8 +662,8 @@ pub fn read_quantifier(
     let named = k.named;
     match push_quantifier(file, refs, start, many, c) {
         Quantifier::Read(used, groups) => {
-            if is_over(named, used) {
-                return Step::Refused(Refusal::Limit);
+            if let Passed::Full(r) = first_passed(named, used) {
+                return Step::Refused(r);
             }
             if all {
                 return grown(
@@ -693,8 +702,8 @@ pub fn read_let(
     match push_term(file, refs, start, many, 0, c) {
         Upto::At(one, next) => match push_rest(file, refs, one, many, next) {
             Upto::At(used, _) => {
-                if is_over(named, used) {
-                    return Step::Refused(Refusal::Limit);
+                if let Passed::Full(r) = first_passed(named, used) {
+                    return Step::Refused(r);
                 }
                 grown(
                     lines::add_let(refs, rows, start, used, many, named),
@@ -730,8 +739,8 @@ pub fn read_label(
                 return Step::Refused(Refusal::Form);
             }
             let used = start + 1;
-            if is_over(named, used) {
-                return Step::Refused(Refusal::Limit);
+            if let Passed::Full(r) = first_passed(named, used) {
+                return Step::Refused(r);
             }
             grown(
                 lines::add_label(refs, rows, start, many, named),

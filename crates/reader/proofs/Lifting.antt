@@ -82,17 +82,18 @@ module _ {file names refs rows recs out names′ refs′ rows′ : List ℕ} {k 
         roots-stay (same-records st (g .longer)) (st .recorded) (k .records) (omega arith),
       )
 
-  line-beyond : {node : Node} → Passes file names refs rows names′ refs′ rows′ k node
-      → Beyond (add-line excluded n (state-of file names refs rows recs out k) (term node))
+  -- the lowest limit that is passed
+  line-beyond : {node : Node} {x : Refusal} → Passes file names refs rows names′ refs′ rows′ k node x
+      → Beyond (add-line excluded n (state-of file names refs rows recs out k) (term node)) x
   unfolding state-of
   line-beyond {node} (names-passed h) = rw (term-line n (state-of file names refs rows recs out k) node) (many-names h)
-  line-beyond {node} (terms-passed h) = rw (term-line n (state-of file names refs rows recs out k) node)
-      (many-terms (omega (arith, one-more (terms-in file names refs rows (k .used) (k .many)) node, terms-length file names refs rows (k .used) (k .many))))
-  line-beyond {node} (references-passed h) = rw (term-line n (state-of file names refs rows recs out k) node) (many-references h)
+  line-beyond {node} (terms-passed l h) = rw (term-line n (state-of file names refs rows recs out k) node)
+      (many-terms l (omega (arith, one-more (terms-in file names refs rows (k .used) (k .many)) node, terms-length file names refs rows (k .used) (k .many))))
+  line-beyond {node} (references-passed l h) = rw (term-line n (state-of file names refs rows recs out k) node) (many-references l h)
 
-  -- a limit that is passed
-  grown-beyond : {node : Node} → Passes file names refs rows names′ refs′ rows′ k node
-      → judge n (state-of file names refs rows recs out k) (term node) ≡ refused refusal.Limit
+  -- the line is refused with it
+  grown-beyond : {node : Node} {x : Refusal} → Passes file names refs rows names′ refs′ rows′ k node x
+      → judge n (state-of file names refs rows recs out k) (term node) ≡ refused x
   grown-beyond {node} p = judged-beyond n (state-of file names refs rows recs out k) (term node)
       (repeats-none n (state-of file names refs rows recs out k) (term node) (term-takes _ n node))
       (line-beyond p)
@@ -124,7 +125,7 @@ module _ {file names refs rows recs out names′ refs′ rows′ : List ℕ} {k 
       (repeats-none n (state-of file names refs rows recs out k) (term node) (term-takes _ n node))
       (grown-state g) (standing-within (grown-standing g kept))))
       (grown-standing g kept)
-  term-reads kept (over {node} e p) = stops {x = refusal.Limit} (rw e (grown-beyond p))
+  term-reads kept (over {node} {x} e p) = stops {x = x} (rw e (grown-beyond p))
   term-reads kept (not-read {x} e) = reads-refused x e
 
   pub term-read : {said : LineKind} {c : Cursor} {f : Step} → Reads-term file names refs rows names′ refs′ rows′ k said c f
@@ -233,7 +234,7 @@ module _ {file names refs rows recs out names′ : List ℕ} {k : Counts} (n : �
 
   -- more names than may be
   retain-crowded : {named′ : ℕ} {ns : List Name} (ms : List Name) → Naming file names′ named′ ns → fold-left spell (names-of file names (k .named)) ms ≡ ns
-      → most-names < named′ → judge n (state-of file names refs rows recs out k) (retain ms) ≡ refused refusal.Limit
+      → most-names < named′ → judge n (state-of file names refs rows recs out k) (retain ms) ≡ refused refusal.FullNames
   unfolding state-of add-line spelled trimmed
   retain-crowded ms naming e h =
       judged-beyond n (state-of file names refs rows recs out k) (retain ms)
@@ -262,7 +263,7 @@ module _ {file names refs rows recs out names′ : List ℕ} {k : Counts} (n : �
           → content kind.Retain (k .many) fs ≡ ok (retain ms) → fold-left spell (names-of file names (k .named)) ms ≡ ns
           → Adds file names′ refs rows recs out names′ rows recs″ out (with-names k named′) n (retain []) f
           → Reads file names′ refs rows recs″ out n (state-of file names refs rows recs out k) (content kind.Retain (k .many) fs) f
-      reads ms naming longer d z (adds.full h) = stops {x = refusal.Limit} (rw d (retain-crowded n st ms naming z h))
+      reads ms naming longer d z (adds.full h) = stops {x = refusal.FullNames} (rw d (retain-crowded n st ms naming z h))
       reads ms naming longer d z (adds.stops {x} h j) = stops {x = x} (rw d (retain-there n st ms naming longer z h ∙ j))
       reads ms naming longer d z (adds.added {k′} j y) = goes-on {k′ = k′}
           (rw d (retain-there n st ms naming longer z (few-names file names′ refs rows recs out k named′ n (retain []) j y) ∙ j)) y

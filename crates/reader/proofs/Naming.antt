@@ -217,7 +217,7 @@ module _ {file names refs rows recs out names′ : List ℕ} {k : Counts} {named
   no-room h = naming-past (sp .naming (names-of file names (k .named)) before) h
 
   crowded : most-names < named′ → repeats excluded n (state-of file names refs rows recs out k) c ≡ false
-      → judge n (state-of file names refs rows recs out k) c ≡ refused refusal.Limit
+      → judge n (state-of file names refs rows recs out k) c ≡ refused refusal.FullNames
   unfolding state-of
   crowded h r =
       let s = state-of file names refs rows recs out k in
@@ -287,7 +287,7 @@ module _ {file names refs rows recs out names′ : List ℕ} {k : Counts} {named
       where
         go : {r : Step} → Adds file names′ refs rows recs out names″ rows″ recs″ out″ (with-names k named′) n (make (name-of file names′ i)) r
             → Reads file names″ refs rows″ recs″ out″ n s said r
-        go (adds.full h) = reads.stops {x = refusal.Limit} (rw e (crowded n st sp (make m) (one m) h (free h)))
+        go (adds.full h) = reads.stops {x = refusal.FullNames} (rw e (crowded n st sp (make m) (one m) h (free h)))
         go (adds.stops {x} h j) = reads.stops {x = x} (rw e (named-there h ∙ j))
         go (adds.added {k′} j x) = reads.goes-on {k′ = k′} (rw e
             (named-there (few-names file names′ refs rows recs out k named′ n (make (name-of file names′ i)) j x) ∙ j)) x

@@ -29,27 +29,21 @@ push-rest-requires c κs =
 enum-known-used : tie.Need-enum-known-used
 enum-known-used c = c .match2 .keys1
 
-is-over-requires : tie.Need-is-over-requires
-is-over-requires c κs = search needs
+first-passed-requires : tie.Need-first-passed-requires
+first-passed-requires c κs = search needs
+
+enum-known-r : tie.Need-enum-known-r
+enum-known-r c = c .match3 .keys1
 
 same-length : tie.Need-same-length
 same-length c =
-    let pushing = c .before .before .before .before .before .before .before in
-    c .before .before .before .before .before .before .refs2 .given ∙ pushing .before .before .before .before .before .before .refs .given
+    let limiting = c .before .before .before in
+    let pushing = limiting .before .before .before .before .before .before in
+    limiting .before .before .before .before .before .refs2 .given
+    ∙ pushing .before .before .before .before .before .before .refs .given
 
 returns : tie.Need-returns
 returns c =
-    let pushing = c .before .before .before .before .before .before .before in
-    let first = pushing .before .before .before .before .before .before .before in
-    let entry = first .before .before .before .before .before .before in
-    let t = entry .pre .0 in
-    let body = term-ran _ (t .term-table .few-rows) _ _ _ (run-at (first .push-term .ensures) (pushing .before .before .before .one .given .1)) in
-    let run = rest-ran _ (t .term-table .few-rows) _ _ _ (run-at (pushing .push-rest .ensures) (c .before .before .before .used .given .1)) in
-    let line = let-read (entry .args .k) t _ body run in
-    line-over t line (c .before .is-over .ensures) (c .if1 .taken)
-
-add-let-requires : tie.Need-add-let-requires
-add-let-requires c κs =
     let limiting = c .before .before .before in
     let pushing = limiting .before .before .before .before .before .before in
     let first = pushing .before .before .before .before .before .before .before in
@@ -58,27 +52,42 @@ add-let-requires c κs =
     let body = term-ran _ (t .term-table .few-rows) _ _ _ (run-at (first .push-term .ensures) (pushing .before .before .before .one .given .1)) in
     let run = rest-ran _ (t .term-table .few-rows) _ _ _ (run-at (pushing .push-rest .ensures) (limiting .before .before .used .given .1)) in
     let line = let-read (entry .args .k) t _ body run in
-    let d = limiting .is-over .ensures in
-    let e = c .before .before .if1 .left in
+    line-over t line (limiting .first-passed .ensures) (c .before .r .given .1)
+
+enum-told : tie.Need-enum-told
+enum-told c = c .match3 .keys2
+
+add-let-requires : tie.Need-add-let-requires
+add-let-requires c κs =
+    let limiting = c .before .before .before .before in
+    let pushing = limiting .before .before .before .before .before .before in
+    let first = pushing .before .before .before .before .before .before .before in
+    let entry = first .before .before .before .before .before .before in
+    let t = entry .pre .0 in
+    let body = term-ran _ (t .term-table .few-rows) _ _ _ (run-at (first .push-term .ensures) (pushing .before .before .before .one .given .1)) in
+    let run = rest-ran _ (t .term-table .few-rows) _ _ _ (run-at (pushing .push-rest .ensures) (limiting .before .before .used .given .1)) in
+    let line = let-read (entry .args .k) t _ body run in
+    let d = limiting .first-passed .ensures in
+    let e = c .before .before .enum-told .given .1 in
     (line-pushed t line d e, line-bodied t d e _ line)
 
 grown-requires : tie.Need-grown-requires
 grown-requires c κs =
-    let limiting = c .before .before .before .before .before .before in
+    let limiting = c .before .before .before .before .before .before .before in
     let pushing = limiting .before .before .before .before .before .before in
     let first = pushing .before .before .before .before .before .before .before in
     let entry = first .before .before .before .before .before .before in
     entry .pre .0 .term-table .few-rows
 
-enum-known-r : tie.Need-enum-known-r
-enum-known-r c = c .match2 .keys2
-
 enum-known-r-2 : tie.Need-enum-known-r-2
-enum-known-r-2 c = c .match .keys2
+enum-known-r-2 c = c .match2 .keys2
+
+enum-known-r-3 : tie.Need-enum-known-r-3
+enum-known-r-3 c = c .match .keys2
 
 same-length-2 : tie.Need-same-length-2
 same-length-2 c =
-    let limiting = c .before .before .before .before .before .before .before in
+    let limiting = c .before .before .before .before .before .before .before .before in
     let pushing = limiting .before .before .before .before .before .before in
     limiting .before .before .before .before .before .refs2 .given ∙ pushing .before .before .before .before .before .before .refs .given
 
@@ -87,7 +96,7 @@ same-length-3 c = c .before .before .rows .given
 
 returns-2 : tie.Need-returns-2
 returns-2 c =
-    let limiting = c .before .before .before .before .before .before .before in
+    let limiting = c .before .before .before .before .before .before .before .before in
     let pushing = limiting .before .before .before .before .before .before in
     let first = pushing .before .before .before .before .before .before .before in
     let entry = first .before .before .before .before .before .before in
@@ -95,8 +104,8 @@ returns-2 c =
     let body = term-ran _ (t .term-table .few-rows) _ _ _ (run-at (first .push-term .ensures) (pushing .before .before .before .one .given .1)) in
     let run = rest-ran _ (t .term-table .few-rows) _ _ _ (run-at (pushing .push-rest .ensures) (limiting .before .before .used .given .1)) in
     let line = let-read (entry .args .k) t _ body run in
-    let d = limiting .is-over .ensures in
-    let e = c .before .before .before .before .before .before .if1 .left in
+    let d = limiting .first-passed .ensures in
+    let e = c .before .before .before .before .before .before .enum-told .given .1 in
     line-added t line d e (c .grown .ensures) (c .before .before .before .add-let .ensures)
     (ap₂ Let (line-body t d e _ line (body .small)) (line-rest t d e _ line refl (run .small)))
 
@@ -112,7 +121,7 @@ returns-3 c =
     let entry = first .before .before .before .before .before .before in
     let t = entry .pre .0 in
     let body = term-ran _ (t .term-table .few-rows) _ _ _ (run-at (first .push-term .ensures) (pushing .before .before .before .one .given .1)) in
-    let refused = rest-refused _ _ _ _ (run-not (pushing .push-rest .ensures) (c .before .r .given .1)) in
+    let refused = rest-refused _ _ _ _ (run-not (pushing .push-rest .ensures) (c .before .r2 .given .1)) in
     line-not (let-said _ _ (body .said) ∙ rw refused) (same-self _ _ _) (same-then (first .push-term .ensures .kept) (pushing .push-rest .ensures .kept))
 
 same-length-5 : tie.Need-same-length-5
@@ -121,7 +130,7 @@ same-length-5 c = c .before .before .before .before .refs .given
 returns-4 : tie.Need-returns-4
 returns-4 c =
     let step = c .before .before .before .before .before .push-term .ensures in
-    line-not (body-refused _ _ (term-refused _ _ _ _ (run-not step (c .before .r2 .given .1))) .0) (same-self _ _ _) (step .kept)
+    line-not (body-refused _ _ (term-refused _ _ _ _ (run-not step (c .before .r3 .given .1))) .0) (same-self _ _ _) (step .kept)
 
 pub read-let-spec : {M : Type 1} → statement M
 read-let-spec =
@@ -131,13 +140,15 @@ read-let-spec =
     enum-known-one
     push-rest-requires
     enum-known-used
-    is-over-requires
+    first-passed-requires
+    enum-known-r
     same-length
     returns
+    enum-told
     add-let-requires
     grown-requires
-    enum-known-r
     enum-known-r-2
+    enum-known-r-3
     same-length-2
     same-length-3
     returns-2

@@ -26,29 +26,18 @@ push-rest-requires c κs =
 enum-known-used : tie.Need-enum-known-used
 enum-known-used c = c .match2 .keys1
 
-is-over-requires : tie.Need-is-over-requires
-is-over-requires c κs = search needs
+first-passed-requires : tie.Need-first-passed-requires
+first-passed-requires c κs = search needs
+
+enum-known-r : tie.Need-enum-known-r
+enum-known-r c = c .match3 .keys1
 
 same-length : tie.Need-same-length
-same-length c = c .before .before .before .before .before .before .refs .given
+same-length c = c .before .before .before .before .before .before .before .before .refs .given
 
 returns : tie.Need-returns
 returns c =
-    let pushing = c .before .before .before .before .before .before .before in
-    let wording = pushing .before .before .before .before .before in
-    let entry = wording .before .before .before .before .before in
-    let t = entry .pre .0 in
-    let read = reads-op (wording .read-op-word .ensures) (pushing .before .before .before .op .given .1) in
-    let run = rest-ran _ (t .term-table .few-rows) _ _ _ (run-at (pushing .push-rest .ensures) (c .before .before .before .used .given .1)) in
-    let line = op-line (entry .args .k) t _ (read .said) run in
-    line-over t line (c .before .is-over .ensures) (c .if1 .taken)
-
-op-number-requires : tie.Need-op-number-requires
-op-number-requires c κs = search needs
-
-add-op-requires : tie.Need-add-op-requires
-add-op-requires c κs =
-    let limiting = c .before .before .before .before in
+    let limiting = c .before .before .before in
     let pushing = limiting .before .before .before .before .before .before in
     let wording = pushing .before .before .before .before .before in
     let entry = wording .before .before .before .before .before in
@@ -56,25 +45,44 @@ add-op-requires c κs =
     let read = reads-op (wording .read-op-word .ensures) (pushing .before .before .before .op .given .1) in
     let run = rest-ran _ (t .term-table .few-rows) _ _ _ (run-at (pushing .push-rest .ensures) (limiting .before .before .used .given .1)) in
     let line = op-line (entry .args .k) t _ (read .said) run in
-    (line-pushed t line (limiting .is-over .ensures) (c .before .before .before .if1 .left), op-code _ (c .before .before .op-number .ensures) .0)
+    line-over t line (limiting .first-passed .ensures) (c .before .r .given .1)
+
+enum-told : tie.Need-enum-told
+enum-told c = c .match3 .keys2
+
+op-number-requires : tie.Need-op-number-requires
+op-number-requires c κs = search needs
+
+add-op-requires : tie.Need-add-op-requires
+add-op-requires c κs =
+    let limiting = c .before .before .before .before .before in
+    let pushing = limiting .before .before .before .before .before .before in
+    let wording = pushing .before .before .before .before .before in
+    let entry = wording .before .before .before .before .before in
+    let t = entry .pre .0 in
+    let read = reads-op (wording .read-op-word .ensures) (pushing .before .before .before .op .given .1) in
+    let run = rest-ran _ (t .term-table .few-rows) _ _ _ (run-at (pushing .push-rest .ensures) (limiting .before .before .used .given .1)) in
+    let line = op-line (entry .args .k) t _ (read .said) run in
+    let pushed = line-pushed t line (limiting .first-passed .ensures) (c .before .before .before .enum-told .given .1) in
+    (pushed, op-code _ (c .before .before .op-number .ensures) .0)
 
 grown-requires : tie.Need-grown-requires
 grown-requires c κs =
-    let limiting = c .before .before .before .before .before .before .before in
+    let limiting = c .before .before .before .before .before .before .before .before in
     let pushing = limiting .before .before .before .before .before .before in
     let wording = pushing .before .before .before .before .before in
     let entry = wording .before .before .before .before .before in
     entry .pre .0 .term-table .few-rows
 
-enum-known-r : tie.Need-enum-known-r
-enum-known-r c = c .match2 .keys2
-
 enum-known-r-2 : tie.Need-enum-known-r-2
-enum-known-r-2 c = c .match .keys2
+enum-known-r-2 c = c .match2 .keys2
+
+enum-known-r-3 : tie.Need-enum-known-r-3
+enum-known-r-3 c = c .match .keys2
 
 same-length-2 : tie.Need-same-length-2
 same-length-2 c =
-    let limiting = c .before .before .before .before .before .before .before .before in
+    let limiting = c .before .before .before .before .before .before .before .before .before in
     limiting .before .before .before .before .before .refs .given
 
 same-length-3 : tie.Need-same-length-3
@@ -82,7 +90,7 @@ same-length-3 c = c .before .before .rows .given
 
 returns-2 : tie.Need-returns-2
 returns-2 c =
-    let limiting = c .before .before .before .before .before .before .before .before in
+    let limiting = c .before .before .before .before .before .before .before .before .before in
     let pushing = limiting .before .before .before .before .before .before in
     let wording = pushing .before .before .before .before .before in
     let entry = wording .before .before .before .before .before in
@@ -90,8 +98,8 @@ returns-2 c =
     let read = reads-op (wording .read-op-word .ensures) (pushing .before .before .before .op .given .1) in
     let run = rest-ran _ (t .term-table .few-rows) _ _ _ (run-at (pushing .push-rest .ensures) (limiting .before .before .used .given .1)) in
     let line = op-line (entry .args .k) t _ (read .said) run in
-    let d = limiting .is-over .ensures in
-    let e = c .before .before .before .before .before .before .before .if1 .left in
+    let d = limiting .first-passed .ensures in
+    let e = c .before .before .before .before .before .before .before .enum-told .given .1 in
     let word = op-code _ (c .before .before .before .before .before .before .op-number .ensures) .1 in
     line-added t line d e (c .grown .ensures) (c .before .before .before .add-op .ensures) (ap₂ App word (line-terms t d e line (run .small)))
 
@@ -102,14 +110,14 @@ returns-3 : tie.Need-returns-3
 returns-3 c =
     let pushing = c .before .before .before .before .before in
     let read = reads-op (pushing .before .before .before .before .before .read-op-word .ensures) (pushing .before .before .before .op .given .1) in
-    let refused = rest-refused _ _ _ _ (run-not (pushing .push-rest .ensures) (c .before .r .given .1)) in
+    let refused = rest-refused _ _ _ _ (run-not (pushing .push-rest .ensures) (c .before .r2 .given .1)) in
     line-not (op-said _ _ (read .said) ∙ rw refused) (same-self _ _ _) (pushing .push-rest .ensures .kept)
 
 returns-4 : tie.Need-returns-4
 returns-4 c =
-    let at-r2 = c .before in
-    let at-read-op-word = at-r2 .before .before in
-    line-not (word-refused _ _ (reads-op-not (at-read-op-word .read-op-word .ensures) (at-r2 .r2 .given .1))) (same-self _ _ _) (same-self _ _ _)
+    let at-r3 = c .before in
+    let at-read-op-word = at-r3 .before .before in
+    line-not (word-refused _ _ (reads-op-not (at-read-op-word .read-op-word .ensures) (at-r3 .r3 .given .1))) (same-self _ _ _) (same-self _ _ _)
 
 pub read-op-spec : {M : Type 1} → statement M
 read-op-spec =
@@ -119,14 +127,16 @@ read-op-spec =
     enum-known-op
     push-rest-requires
     enum-known-used
-    is-over-requires
+    first-passed-requires
+    enum-known-r
     same-length
     returns
+    enum-told
     op-number-requires
     add-op-requires
     grown-requires
-    enum-known-r
     enum-known-r-2
+    enum-known-r-3
     same-length-2
     same-length-3
     returns-2
