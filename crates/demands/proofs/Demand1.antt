@@ -1,32 +1,32 @@
--- Demand 1: each of the nine refusals, and the list, exactly under its condition.
-use Prim.Native.Nat.{ℕ, _+_, _≤_, _<_}
+-- Demand 1: each refusal, and the list, exactly under its condition.
+use Prim.Native.Nat.{ℕ, _≤_, _<_}
 use native.Mathlib.Omega.{arith}
 use mathlib.Core.Path.{_≡_, refl, _∙_}
 use mathlib.Core.Logic.{_↔_, _⊎_, inl, inr, ⊎-elim}
 use mathlib.Core.Bool.{Bool, true, false, cond, not}
-use mathlib.Core.List.{List, [], _∷_, List·Memᴰ, List·Memᴰ·head, List·Memᴰ·tail, List·Memᴰ·not-nil, List·Memᴰ·append-cases, List·Memᴰ·eq-of-singleton, Memᴰ·append-left, Memᴰ·append-right}
+use mathlib.Core.List.{List, [], _∷_, List·Memᴰ, List·Memᴰ·head, List·Memᴰ·not-nil, List·Memᴰ·append-cases, List·Memᴰ·eq-of-singleton, Memᴰ·append-left, Memᴰ·append-right}
 use lib.Dec.{T, T-not, not-T, eqb, leb, ltb, ltb→lt, lt→ltb, nltb→le, leb→le, le→leb, nleb→lt}
 use lib.ListN.{length}
-use Rattle.model.specs.Lists.{any, all, collect}
+use Rattle.model.specs.Lists.{any, collect}
 use Rattle.model.specs.Names.{Name, mem}
 use Rattle.model.specs.Lines.{Line, lines, Field, field-cons, fields}
 use Rattle.model.specs.Terms.{Term}
 use Rattle.model.specs.Summaries.{exclude-names, summarize-assumption}
-use Rattle.model.specs.Reading.{Content, ask, term, assume, fun, def, retain, root, Result, refused, State, start, Reading, read, refused-at, taken-by, summarize-decl, parse, limits, add-line, repeats, read-line, read-file}
+use Rattle.model.specs.Reading.{Content, ask, term, assume, fun, def, retain, root, Result, refused, State, start, Reading, read, refused-at, taken-by, summarize-decl, parse, add-line, repeats, read-line, read-file}
 use Rattle.model.specs.Rounds.{facts, visits}
 use Rattle.model.specs.Outcome.{Outcome, refusal-at, list, filtered, of-reading, fitting, working-words, judged, outcome}
 use Rattle.model.specs.declared.Refusal.{Refusal}
 use Rattle.model.specs.declared.Refusal.the-variants as refusal
-use Rattle.model.proofs.ListLaws.{not-and, T-dec, T-true, T-false, any-intro, any-elim, all-elim, collect-append}
+use Rattle.model.proofs.ListLaws.{T-dec, T-true, T-false, any-intro, any-elim, collect-append}
 use Rattle.model.proofs.SetLaws.{mem-intro, mem-elim}
 use Rattle.demands.specs.Accepted.{Accepted}
 use Rattle.demands.specs.Demand2.{kept-list}
 use Rattle.demands.specs.Demand3.{run-of}
 use Rattle.demands.specs.LineForm.{Faulty-line}
-use Rattle.demands.specs.Demand1.{Short-slice, Lines-judged, Of-line, Of-fields, repeated as line-repeated, limit as line-limit, Reached-line, Fields-refused, no-final-0a, faulty, Says, Takes, by-assume, by-fun, by-def, Repeats, Past-limit, names, term-lines, term-references, record-lines, trigger-entries, name-uses, Refusal-5, Refusal-6, Refusal-7, Refusal-8, Refusal-9, List-given, Line-refused, Refusals-1-to-4}
-use Rattle.demands.proofs.ReadingLaws.{Line-view, unended, unparsed, repeated, past-limit, accepted, line-view, unended-line, unparsed-line, repeated-line, past-line, within}
+use Rattle.demands.specs.Demand1.{Short-slice, Lines-judged, Of-line, Of-fields, form as of-form, repeated as line-repeated, full-names, full-terms, full-records, full-triggers, Reached-line, Fields-refused, no-final-0a, faulty, Says, Takes, by-assume, by-fun, by-def, Repeats, When-past, Past-names, Past-terms, Past-records, Past-triggers, Refusal-5, Refusal-6, Refusal-7, Refusal-8, Refusal-9, Refusal-10, Refusal-11, Refusal-12, List-given, Line-refused, Refusals-1-to-4}
+use Rattle.demands.proofs.ReadingLaws.{Lowest, past-names, past-terms, past-records, past-triggers, Line-view, unended, unparsed, repeated, past-limit, accepted, line-view, unended-line, unparsed-line, repeated-line, past-line}
 use Rattle.demands.proofs.LineForm.{refused-line}
-use Rattle.demands.proofs.Refusals.{parse-refusal, fields-line, Reaches, file-refused, refused-file, refused-empty, file-refusal}
+use Rattle.demands.proofs.Refusals.{parse-refusal, fields-line, limit-not-fields, Reaches, file-refused, refused-file, refused-empty, file-refusal}
 use Rattle.demands.proofs.SaidLines.{reached, Said-in, Said-by, said-lines, said-reached}
 
 -- the test of the working slices holds exactly where one is too short
@@ -212,7 +212,7 @@ module _ {ls : List Line} {n : ℕ} (l : Reached-line ls n) where
       go (unended t) e = let is : r ≡ refusal.Form = cc in rw is (no-final-0a t)
       go (unparsed {r = q} t p) e = let is : r ≡ q = cc in rw is (faulty t (refused-bytes n _ (l .line .bytes) q .0 p))
       go (repeated c t p u) e = absurd (other-than Of-fields refusal.Repeated o (cc) (λ o. elim o [ ]))
-      go (past-limit c t p u v) e = absurd (other-than Of-fields refusal.Limit o (cc) (λ o. elim o [ ]))
+      go (past-limit {r = q} c t p u v) e = let is : q ≡ r = cc in absurd (limit-not-fields v (rw is o))
       go (accepted c t p u v) e = absurd (clash (cc))
 
   -- a line that lacks its final 0A or has a fault of its fields is refused so
@@ -292,37 +292,6 @@ module _ {ls : List Line} {n : ℕ} (l : Reached-line ls n) where
           any-intro (λ k. mem k (collect taken-by (l .state .decls))) (takes-taken exclude-names (l .state .terms) n (q .takes))
           (mem-intro (said-reached (line-taken (q .taken)) (l .reading) (q .earlier) (q .earlier-says) (q .earlier-takes)))
 
--- the test of 6 holds exactly where a limit is passed
-past-test : (s : State) → T (not (all within (limits s))) ↔ Past-limit s
-unfolding limits all
-past-test s = (to, λ p. not-T (all within (limits s)) (from p))
-  where
-    to : T (not (all within (limits s))) → Past-limit s
-    to t =
-        ⊎-elim (λ u. names (nleb→lt _ 2048 u)) (λ t.
-        ⊎-elim (λ u. term-lines (nleb→lt _ 4096 u)) (λ t.
-        ⊎-elim (λ u. term-references (nleb→lt _ 16384 u)) (λ t.
-        ⊎-elim (λ u. record-lines (nleb→lt _ 1024 u)) (λ t.
-        ⊎-elim (λ u. trigger-entries (nleb→lt _ 2048 u)) (λ t.
-        ⊎-elim (λ u. name-uses (nleb→lt _ 6144 u)) (λ t. absurd t)
-        (not-and (leb (s .uses) 6144) true t))
-        (not-and (leb (s .entries) 2048) _ t))
-        (not-and (leb (length (s .decls) + length (s .roots)) 1024) _ t))
-        (not-and (leb (s .references) 16384) _ t))
-        (not-and (leb (length (s .terms)) 4096) _ t))
-        (not-and (leb (length (s .names)) 2048) _ t)
-
-    at-most : (counted limit : ℕ) → limit < counted → List·Memᴰ (counted, limit, refusal.Limit) (limits s) → T (all within (limits s)) → ⊥
-    at-most counted limit h i t = let k = leb→le counted limit (all-elim within t i) in omega arith
-
-    from : Past-limit s → T (all within (limits s)) → ⊥
-    from (names h) = at-most _ 2048 h (List·Memᴰ·head refl)
-    from (term-lines h) = at-most _ 4096 h (List·Memᴰ·tail (List·Memᴰ·head refl))
-    from (term-references h) = at-most _ 16384 h (List·Memᴰ·tail (List·Memᴰ·tail (List·Memᴰ·head refl)))
-    from (record-lines h) = at-most _ 1024 h (List·Memᴰ·tail (List·Memᴰ·tail (List·Memᴰ·tail (List·Memᴰ·head refl))))
-    from (trigger-entries h) = at-most _ 2048 h (List·Memᴰ·tail (List·Memᴰ·tail (List·Memᴰ·tail (List·Memᴰ·tail (List·Memᴰ·head refl)))))
-    from (name-uses h) = at-most _ 6144 h (List·Memᴰ·tail (List·Memᴰ·tail (List·Memᴰ·tail (List·Memᴰ·tail (List·Memᴰ·tail (List·Memᴰ·head refl))))))
-
 -- the answer is 5 exactly under its condition
 pub refusal-5 : Refusal-5
 refusal-5 file works room n = (to, from)
@@ -332,7 +301,7 @@ refusal-5 file works room n = (to, from)
     at-line l (unended t) e = absurd (clash (cc))
     at-line l (unparsed t p) e = absurd (other-than Of-fields refusal.Repeated (parse-refusal n _ _ p) (cc) (λ o. elim o [ ]))
     at-line l (repeated c t p u) e = (l, c, record { ended = t; parsed = p }, repeats-test l c .0 u)
-    at-line l (past-limit c t p u v) e = absurd (clash (cc))
+    at-line l (past-limit c t p u v) e = absurd (other-than (Lowest _) refusal.Repeated v (cc) (λ o. elim o [ ]))
     at-line l (accepted c t p u v) e = absurd (clash (cc))
 
     to : outcome file works room ≡ refusal-at refusal.Repeated n
@@ -347,34 +316,75 @@ refusal-5 file works room n = (to, from)
         line-refused file works room refusal.Repeated n line-repeated .1
         (j, inr (l, repeated-line exclude-names n (l .state) (l .line) (says .ended) c (says .parsed) (repeats-test l c .1 q)))
 
+module _ {r : Refusal} (of-line : Of-line r) (not-fields : Of-fields r → ⊥) (not-5 : r ≡ refusal.Repeated → ⊥)
+    {Past : State → Type 0} (exact : (s : State) → Lowest s r ↔ Past s) where
+  -- the answer is the refusal of a limit exactly where a line passes it, and no limit of a lower refusal
+  refusal-past : (file works : List ℕ) (room n : ℕ) → (outcome file works room ≡ refusal-at r n) ↔ When-past Past file works n
+  refusal-past file works room n = (to, from)
+    where
+      at-line : (l : Reached-line (lines file) n) {x : Result State} → Line-view exclude-names n (l .state) (l .line) x
+          → x ≡ refused r
+          → (m : Reached-line (lines file) n) × (c : Content) × Says m c × (Repeats m c → ⊥)
+          × Past (add-line exclude-names n (m .state) c)
+      at-line l (unended t) e = let is : r ≡ refusal.Form = cc in absurd (not-fields (rw is of-form))
+      at-line l (unparsed {r = q} t p) e = let is : r ≡ q = cc in absurd (not-fields (rw is (parse-refusal n _ _ p)))
+      at-line l (repeated c t p u) e = absurd (not-5 (cc))
+      at-line l (past-limit {r = q} c t p u v) e =
+          let is : q ≡ r = cc in (
+            l,
+            c,
+            record { ended = t; parsed = p },
+            λ m. T-not (repeats exclude-names n (l .state) c) u (repeats-test l c .1 m),
+            exact (add-line exclude-names n (l .state) c) .0 (rw is at v),
+          )
+      at-line l (accepted c t p u v) e = absurd (clash (cc))
+
+      to : outcome file works room ≡ refusal-at r n → When-past Past file works n
+      to e =
+          let (j, p) = line-refused file works room r n of-line .0 e in
+          (j, ⊎-elim (λ q. absurd (not-fields (rw (q .1) of-form))) (λ (l, x). at-line l (line-view _ n (l .state) (l .line)) x) p)
+
+      from : When-past Past file works n → outcome file works room ≡ refusal-at r n
+      from (j, (l, c, says, fresh, past)) =
+          line-refused file works room r n of-line .1 (
+            j,
+            inr (
+              l,
+              past-line exclude-names n (l .state) (l .line) (says .ended) c (says .parsed)
+                  (not-T (repeats exclude-names n (l .state) c) (λ t. fresh (repeats-test l c .0 t)))
+                  (exact (add-line exclude-names n (l .state) c) .1 past),
+            ),
+          )
+
+module _ {s : State} where
+  -- where 6 is the lowest, names pass their limit
+  lowest-6 : Lowest s refusal.FullNames → Past-names s
+  lowest-6 (past-names h) = h
+
+  -- where 10 is the lowest, term lines or references do, and names do not
+  lowest-10 : Lowest s refusal.FullTerms → (Past-names s → ⊥) × Past-terms s
+  lowest-10 (past-terms n h) = (n, h)
+
+  -- where 11 is the lowest, record lines do, and none of 6 and 10
+  lowest-11 : Lowest s refusal.FullRecords → (Past-names s → ⊥) × (Past-terms s → ⊥) × Past-records s
+  lowest-11 (past-records n t h) = (n, t, h)
+
+  -- where 12 is the lowest, trigger entries or name uses do, and none of 6, 10 and 11
+  lowest-12 : Lowest s refusal.FullTriggers → (Past-names s → ⊥) × (Past-terms s → ⊥) × (Past-records s → ⊥) × Past-triggers s
+  lowest-12 (past-triggers n t r h) = (n, t, r, h)
+
 -- the answer is 6 exactly under its condition
 pub refusal-6 : Refusal-6
-refusal-6 file works room n = (to, from)
-  where
-    at-line : (l : Reached-line (lines file) n) {x : Result State} → Line-view exclude-names n (l .state) (l .line) x → x ≡ refused refusal.Limit
-        → (m : Reached-line (lines file) n) × (c : Content) × Says m c × (Repeats m c → ⊥) × Past-limit (add-line exclude-names n (m .state) c)
-    at-line l (unended t) e = absurd (clash (cc))
-    at-line l (unparsed t p) e = absurd (other-than Of-fields refusal.Limit (parse-refusal n _ _ p) (cc) (λ o. elim o [ ]))
-    at-line l (repeated c t p u) e = absurd (clash (cc))
-    at-line l (past-limit c t p u v) e =
-        (l, c, record { ended = t; parsed = p }, λ q. T-not (repeats exclude-names n (l .state) c) u (repeats-test l c .1 q), past-test (add-line exclude-names n (l .state) c) .0 v)
-    at-line l (accepted c t p u v) e = absurd (clash (cc))
+refusal-6 = refusal-past full-names (λ o. elim o [ ]) (λ e. clash (cc)) (λ s. (lowest-6, past-names))
 
-    to : outcome file works room ≡ refusal-at refusal.Limit n
-        → Lines-judged file works × ((l : Reached-line (lines file) n) × (c : Content) × Says l c × (Repeats l c → ⊥) × Past-limit (add-line exclude-names n (l .state) c))
-    to e =
-        let (j, p) = line-refused file works room refusal.Limit n line-limit .0 e in
-        (j, ⊎-elim (λ q. absurd (clash (let is = q .1 in cc))) (λ (l, r). at-line l (line-view exclude-names n (l .state) (l .line)) r) p)
+-- the answer is 10 exactly under its condition
+pub refusal-10 : Refusal-10
+refusal-10 = refusal-past full-terms (λ o. elim o [ ]) (λ e. clash (cc)) (λ s. (lowest-10, λ (n, h). past-terms n h))
 
-    from : Lines-judged file works × ((l : Reached-line (lines file) n) × (c : Content) × Says l c × (Repeats l c → ⊥) × Past-limit (add-line exclude-names n (l .state) c))
-        → outcome file works room ≡ refusal-at refusal.Limit n
-    from (j, (l, c, says, fresh, past)) =
-        line-refused file works room refusal.Limit n line-limit .1 (
-          j,
-          inr (
-            l,
-            past-line exclude-names n (l .state) (l .line) (says .ended) c (says .parsed)
-                (not-T (repeats exclude-names n (l .state) c) (λ t. fresh (repeats-test l c .0 t)))
-                (past-test (add-line exclude-names n (l .state) c) .1 past),
-          ),
-        )
+-- the answer is 11 exactly under its condition
+pub refusal-11 : Refusal-11
+refusal-11 = refusal-past full-records (λ o. elim o [ ]) (λ e. clash (cc)) (λ s. (lowest-11, λ (n, t, h). past-records n t h))
+
+-- the answer is 12 exactly under its condition
+pub refusal-12 : Refusal-12
+refusal-12 = refusal-past full-triggers (λ o. elim o [ ]) (λ e. clash (cc)) (λ s. (lowest-12, λ (n, t, r, h). past-triggers n t r h))

@@ -1,23 +1,26 @@
 -- Laws of reading: what a line comes to, and what every accepted line keeps, every accepted file has.
-use Prim.Native.Nat.{ℕ, _+_}
+use Prim.Native.Nat.{ℕ, _+_, _<_}
 use native.Mathlib.Nat.{add-zero}
 use native.Mathlib.Omega.{arith}
 use mathlib.Core.Path.{_≡_, refl, _∙_, ap, subst}
-use mathlib.Core.Logic.{⊎-elim}
+use mathlib.Core.Logic.{inl, inr, ⊎-elim}
 use mathlib.Core.Bool.{Bool, true, false, cond, not, _&&_, Bool·beq}
 use mathlib.Core.Option.{some}
 use mathlib.Core.List.{List, [], _∷_}
-use lib.Dec.{T, leb, eqb}
+use lib.Dec.{T, not-T, leb, leb→le, nleb→lt, ltb, ltb→lt, eqb}
 use lib.ListN.{length}
+use borrow.Author.Tests.{leb-true, leb-false}
 use Rattle.model.specs.Lists.{all, holds}
 use Rattle.model.specs.Names.{Name, bytes, same}
 use Rattle.model.specs.Lines.{Line, lines, Field, fields, number}
 use Rattle.model.specs.Reading.{Result, ok, refused, _>>=_, need, next, end, number-field, kinds, word, fixed-count, kind-field, content, Content, State, start, read, refused-at, go-on, limits, under-limits, parse, add-line, repeats, read-line, read-lines, read-file}
+use Rattle.model.specs.Outcome.{refusal-number}
 use Rattle.model.specs.declared.LineKind.{LineKind}
 use Rattle.model.specs.declared.Refusal.{Refusal}
 use Rattle.model.specs.declared.Refusal.the-variants as refusal
-use Rattle.model.proofs.ListLaws.{T-and, T-dec, T-true, T-false, cond-true}
+use Rattle.model.proofs.ListLaws.{T-and, T-dec, T-true, T-false, cond-true, cond-false}
 use Rattle.model.proofs.ResultLaws.{result-cases, not-ok, ok-eq, need-ok, cond-ok, cond-not-ok, bind-ok}
+use Rattle.demands.specs.Demand1.{Past-names, Past-terms, Past-records, Past-triggers}
 
 module _ {A : Type 0} where
   -- a field taken: it was the next, and its judge gave the value
@@ -82,6 +85,21 @@ not-read e = let z : _≡_ {A = ℕ} 0 1 = cc in omega arith
 abbrev pub within : ℕ × ℕ × Refusal → Bool
 within (counted, limit, r) = leb counted limit
 
+-- the refusal of the first limit of a list that is passed: one with it is passed, and any that is passed before has it too
+data First-past : List (ℕ × ℕ × Refusal) → Refusal → Type 0 where
+  at-once : {counted limit : ℕ} {r : Refusal} {more : List (ℕ × ℕ × Refusal)} → limit < counted
+      → First-past ((counted, limit, r) ∷ more) r
+  later : {counted limit : ℕ} {r x : Refusal} {more : List (ℕ × ℕ × Refusal)} → (limit < counted → r ≡ x)
+      → First-past more x → First-past ((counted, limit, r) ∷ more) x
+
+-- the lowest refusal of the limits that the counts of a state pass
+pub data Lowest (s : State) : Refusal → Type 0 where
+  past-names : Past-names s → Lowest s refusal.FullNames
+  past-terms : (Past-names s → ⊥) → Past-terms s → Lowest s refusal.FullTerms
+  past-records : (Past-names s → ⊥) → (Past-terms s → ⊥) → Past-records s → Lowest s refusal.FullRecords
+  past-triggers : (Past-names s → ⊥) → (Past-terms s → ⊥) → (Past-records s → ⊥) → Past-triggers s
+      → Lowest s refusal.FullTriggers
+
 -- what a line comes to, with the reason: the only ways to each result
 pub data Line-view (exclude : List Name) (n : ℕ) (s : State) (line : Line) : Result State → Type 0 where
   unended : T (not (line .ended)) → Line-view exclude n s line (refused refusal.Form)
@@ -92,26 +110,43 @@ pub data Line-view (exclude : List Name) (n : ℕ) (s : State) (line : Line) : R
       → parse n (length (s .terms)) (fields (line .bytes)) ≡ ok c
       → T (repeats exclude n s c)
       → Line-view exclude n s line (refused refusal.Repeated)
-  past-limit : (c : Content) → T (line .ended)
+  past-limit : {r : Refusal} (c : Content) → T (line .ended)
       → parse n (length (s .terms)) (fields (line .bytes)) ≡ ok c
       → T (not (repeats exclude n s c))
-      → T (not (all within (limits (add-line exclude n s c))))
-      → Line-view exclude n s line (refused refusal.Limit)
+      → Lowest (add-line exclude n s c) r
+      → Line-view exclude n s line (refused r)
   accepted : (c : Content) → T (line .ended)
       → parse n (length (s .terms)) (fields (line .bytes)) ≡ ok c
       → T (not (repeats exclude n s c))
       → T (all within (limits (add-line exclude n s c)))
       → Line-view exclude n s line (ok (add-line exclude n s c))
 
--- every refusal of a list of limits is 6
-abbrev Limits-only : List (ℕ × ℕ × Refusal) → Type 0
-Limits-only [] = Unit {0}
-Limits-only ((counted, limit, r) ∷ more) = (r ≡ refusal.Limit) × Limits-only more
+-- general law: what would make a refusal one of a higher number does not hold
+apart : {P : Type 0} {r x : Refusal} → (P → r ≡ x) → T (ltb (refusal-number r) (refusal-number x)) → P → ⊥
+apart {r} {x} f t p = omega (arith, ap refusal-number (f p), ltb→lt (refusal-number r) (refusal-number x) t)
 
--- every refusal of the limits of a state is 6
-limits-only : (s : State) → Limits-only (limits s)
+-- the first limit of a state that is passed has the lowest refusal
+first-lowest : (s : State) {x : Refusal} → First-past (limits s) x → Lowest s x
+unfolding limits refusal-number
+first-lowest s (at-once h) = past-names h
+first-lowest s (later n (at-once h)) = past-terms (apart n tt) (inl h)
+first-lowest s (later n (later t (at-once h))) = past-terms (apart n tt) (inr h)
+first-lowest s (later n (later t (later u (at-once h)))) = past-records (apart n tt) (⊎-elim (apart t tt) (apart u tt)) h
+first-lowest s (later n (later t (later u (later r (at-once h))))) =
+    past-triggers (apart n tt) (⊎-elim (apart t tt) (apart u tt)) (apart r tt) (inl h)
+first-lowest s (later n (later t (later u (later r (later e (at-once h)))))) =
+    past-triggers (apart n tt) (⊎-elim (apart t tt) (apart u tt)) (apart r tt) (inr h)
+
+-- the lowest refusal is that of the first limit passed
+lowest-first : {s : State} {x : Refusal} → Lowest s x → First-past (limits s) x
 unfolding limits
-limits-only s = (refl, (refl, (refl, (refl, (refl, (refl, tt))))))
+lowest-first (past-names h) = at-once h
+lowest-first (past-terms n h) = later (λ p. absurd (n p)) (⊎-elim at-once (λ k. later (λ p. refl) (at-once k)) h)
+lowest-first (past-records n t h) =
+    later (λ p. absurd (n p)) (later (λ p. absurd (t (inl p))) (later (λ p. absurd (t (inr p))) (at-once h)))
+lowest-first (past-triggers n t r h) =
+    later (λ p. absurd (n p)) (later (λ p. absurd (t (inl p))) (later (λ p. absurd (t (inr p))) (later (λ p. absurd (r p))
+    (⊎-elim at-once (λ k. later (λ p. refl) (at-once k)) h))))
 
 module _ {A : Type 0} where
   -- where every count is within its limit the value is given
@@ -122,15 +157,30 @@ module _ {A : Type 0} where
       let (here, others) = T-and (leb counted limit) (all within more) .0 t in
       cond-true (leb counted limit) (under-limits more a) (refused r) here ∙ under-all more a others
 
-  -- where some count is past its limit the refusal is 6
-  past-some : (l : List (ℕ × ℕ × Refusal)) (a : A) → Limits-only l → T (not (all within l)) → under-limits l a ≡ refused refusal.Limit
-  unfolding all under-limits
-  past-some [] a o t = absurd t
-  past-some ((counted, limit, r) ∷ more) a o t = go (leb counted limit) t (past-some more a (o .1))
-    where
-      go : (b : Bool) → T (not (b && all within more)) → (T (not (all within more)) → under-limits more a ≡ refused refusal.Limit) → cond b (under-limits more a) (refused r) ≡ refused refusal.Limit
-      go true u below = below u
-      go false u below = ap refused (o .0)
+  -- the refusal is that of the first limit passed
+  under-first : (l : List (ℕ × ℕ × Refusal)) {x : Refusal} (a : A) → First-past l x → under-limits l a ≡ refused x
+  unfolding under-limits
+  under-first ((counted, limit, r) ∷ more) a (at-once h) =
+      cond-false (leb counted limit) (under-limits more a) (refused r)
+      (not-T (leb counted limit) (λ t. let k = leb→le counted limit t in omega arith))
+  under-first ((counted, limit, r) ∷ more) a (later same f) =
+      ⊎-elim (λ t. cond-true (leb counted limit) (under-limits more a) (refused r) t ∙ under-first more a f)
+      (λ t. cond-false (leb counted limit) (under-limits more a) (refused r) t ∙ ap refused (same (nleb→lt counted limit t)))
+      (T-dec (leb counted limit))
+
+-- where some count is past its limit there is a first
+some-first : (l : List (ℕ × ℕ × Refusal)) → T (not (all within l)) → (x : Refusal) × First-past l x
+unfolding all
+some-first [] t = absurd t
+some-first ((counted, limit, r) ∷ more) t = go (leb counted limit) refl t (some-first more)
+  where
+    go : (b : Bool) → leb counted limit ≡ b → T (not (b && all within more))
+        → (T (not (all within more)) → (x : Refusal) × First-past more x)
+        → (x : Refusal) × First-past ((counted, limit, r) ∷ more) x
+    go true e u below =
+        let (x, f) = below u in
+        (x, later (λ (h : limit < counted). absurd (omega (arith, leb-true counted limit e))) f)
+    go false e u below = (r, at-once (leb-false counted limit e))
 
 module _ (exclude : List Name) (n : ℕ) (s : State) (line : Line) where
   -- a line without its final 0A is refused by 1
@@ -155,9 +205,10 @@ module _ (exclude : List Name) (n : ℕ) (s : State) (line : Line) where
       unfolding read-line
       fresh-line t = rw (T-true (line .ended) ended, parsed, T-false (repeats exclude n s c) t)
 
-      -- a line past a limit is refused by 6
-      pub past-line : T (not (repeats exclude n s c)) → T (not (all within (limits (add-line exclude n s c)))) → read-line exclude n s line ≡ refused refusal.Limit
-      past-line t u = fresh-line t ∙ past-some (limits (add-line exclude n s c)) (add-line exclude n s c) (limits-only (add-line exclude n s c)) u
+      -- a line past a limit is refused by the lowest
+      pub past-line : {r : Refusal} → T (not (repeats exclude n s c)) → Lowest (add-line exclude n s c) r
+          → read-line exclude n s line ≡ refused r
+      past-line t u = fresh-line t ∙ under-first (limits (add-line exclude n s c)) (add-line exclude n s c) (lowest-first u)
 
       -- any other line is added
       pub added-line : T (not (repeats exclude n s c)) → T (all within (limits (add-line exclude n s c))) → read-line exclude n s line ≡ ok (add-line exclude n s c)
@@ -170,7 +221,10 @@ module _ (exclude : List Name) (n : ℕ) (s : State) (line : Line) where
       by-repeat : T (line .ended) → (c : Content) → parse n (length (s .terms)) (fields (line .bytes)) ≡ ok c → Line-view exclude n s line (read-line exclude n s line)
       by-repeat t c e =
           ⊎-elim (λ u. rw (repeated-line t c e u) (repeated c t e u))
-          (λ u. ⊎-elim (λ v. rw (added-line t c e u v) (accepted c t e u v)) (λ v. rw (past-line t c e u v) (past-limit c t e u v))
+          (λ u.
+          ⊎-elim (λ v. rw (added-line t c e u v) (accepted c t e u v))
+          (λ v. let (r, w) = some-first (limits (add-line exclude n s c)) v in
+          rw (past-line t c e u (first-lowest _ w)) (past-limit c t e u (first-lowest _ w)))
           (T-dec (all within (limits (add-line exclude n s c)))))
           (T-dec (repeats exclude n s c))
 

@@ -1,4 +1,5 @@
--- Which refusals reading gives, and where: the fields of a line give 1 to 4, a line 1 to 6, a file the first line's that is refused.
+-- Which refusals reading gives, and where: the fields of a line give 1 to 4, a line these, 5, 6 and 10 to 12, a file those of the
+-- first line that is refused.
 use Prim.Native.Nat.{ℕ, _+_}
 use native.Mathlib.Nat.{add-zero}
 use native.Mathlib.Omega.{arith}
@@ -18,8 +19,8 @@ use Rattle.model.specs.declared.Refusal.the-variants as refusal
 use Rattle.model.proofs.ListLaws.{cond-case}
 use Rattle.model.proofs.ResultLaws.{not-ok}
 use Rattle.demands.specs.LineForm.{Sort, a-name, a-number, a-term, an-op-word, number-fault, term-fault, fault, Faulty, lacking, left-over, not-so, later, Faulty-line, unknown, late-ask, no-ask, miscounted, field}
-use Rattle.demands.specs.Demand1.{Of-line, Of-fields, form as of-form, name as of-name, number as of-number, term as of-term, repeated as of-repeated, limit as of-limit}
-use Rattle.demands.proofs.ReadingLaws.{Line-view, unended, unparsed, repeated, past-limit, accepted, line-view, lines-read, none-read, not-read}
+use Rattle.demands.specs.Demand1.{Of-line, Of-fields, form as of-form, name as of-name, number as of-number, term as of-term, repeated as of-repeated, full-names, full-terms, full-records, full-triggers}
+use Rattle.demands.proofs.ReadingLaws.{Lowest, past-names, past-terms, past-records, past-triggers, Line-view, unended, unparsed, repeated, past-limit, accepted, line-view, lines-read, none-read, not-read}
 use Rattle.demands.proofs.LineForm.{refused-line}
 
 -- no refusal, or one of 1 to 4
@@ -75,7 +76,21 @@ fields-line of-name = of-name
 fields-line of-number = of-number
 fields-line of-term = of-term
 
--- a line is refused by 1 to 6 alone
+-- the refusals of the limits are refusals of a line
+limit-line : {s : State} {r : Refusal} → Lowest s r → Of-line r
+limit-line (past-names h) = full-names
+limit-line (past-terms n h) = full-terms
+limit-line (past-records n t h) = full-records
+limit-line (past-triggers n t k h) = full-triggers
+
+-- the refusals of the limits are none of the fields
+pub limit-not-fields : {s : State} {r : Refusal} → Lowest s r → Of-fields r → ⊥
+limit-not-fields (past-names h) o = elim o [ ]
+limit-not-fields (past-terms n h) o = elim o [ ]
+limit-not-fields (past-records n t h) o = elim o [ ]
+limit-not-fields (past-triggers n t k h) o = elim o [ ]
+
+-- a line is refused by 1 to 6 or 10 to 12 alone
 pub line-refusal : (exclude : List Name) (n : ℕ) (s : State) (line : Line) {r : Refusal} → read-line exclude n s line ≡ refused r → Of-line r
 line-refusal exclude n s line {r} e = go (line-view exclude n s line) e
   where
@@ -83,7 +98,7 @@ line-refusal exclude n s line {r} e = go (line-view exclude n s line) e
     go (unended t) e = let is : r ≡ refusal.Form = cc in rw is of-form
     go (unparsed {r = q} t p) e = let is : q ≡ r = cc in rw is at (fields-line (parse-refusal n (length (s .terms)) (fields (line .bytes)) p))
     go (repeated c t p u) e = let is : r ≡ refusal.Repeated = cc in rw is of-repeated
-    go (past-limit c t p u v) e = let is : r ≡ refusal.Limit = cc in rw is of-limit
+    go (past-limit {r = q} c t p u v) e = let is : q ≡ r = cc in rw is at (limit-line v)
     go (accepted c t p u v) e = absurd (not-ok (sym e))
 
 -- the m-th line of those from the n-th on, read from the state s: those before it are read
@@ -179,7 +194,7 @@ module _ (exclude : List Name) where
   unfolding read-file
   refused-empty = refl
 
-  -- a file is refused by 1 to 6 alone
+  -- a file is refused by 1 to 6 or 10 to 12 alone
   pub file-refusal : (file : List ℕ) {r : Refusal} {n : ℕ} → read-file exclude file ≡ refused-at r n → Of-line r
   file-refusal file {r} {n} e =
       ⊎-elim (λ p. rw (p .1) of-form) (λ (l, refusing). line-refusal exclude n (l .state) (l .line) refusing) (file-refused file e)

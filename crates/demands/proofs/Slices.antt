@@ -41,10 +41,13 @@ other-working refusal.Name h = refl
 other-working refusal.Number h = refl
 other-working refusal.Term h = refl
 other-working refusal.Repeated h = refl
-other-working refusal.Limit h = refl
+other-working refusal.FullNames h = refl
 other-working refusal.Working h = absurd (h refl)
 other-working refusal.Room h = refl
 other-working refusal.Size h = refl
+other-working refusal.FullTerms h = refl
+other-working refusal.FullRecords h = refl
+other-working refusal.FullTriggers h = refl
 
 -- any other call sets the first words of a working slice to zero
 work-cleared : (o : Outcome) (work : List ℕ) → 16384 ≤ length work → ((place : ℕ) → o ≡ refusal-at refusal.Working place → ⊥) → Cleared work (work-after o work)

@@ -237,13 +237,15 @@ module _ {file names refs rows recs lists : List ℕ} {r : Reading′} (g : Read
   refused-replied {x} {n} {a} {run} q e =
       same-outcome (sym (ap of-reading (line-refused q) ∙ refused-outcome x n)) (refused-reply x n a run e)
 
--- ---- document 01's numbers
+-- ---- the numbers of the refusals
 
 pub numbers : (1 ≡ refusal-number refusal.Form) × (2 ≡ refusal-number refusal.Name) × (3 ≡ refusal-number refusal.Number)
-    × (4 ≡ refusal-number refusal.Term) × (5 ≡ refusal-number refusal.Repeated) × (6 ≡ refusal-number refusal.Limit)
+    × (4 ≡ refusal-number refusal.Term) × (5 ≡ refusal-number refusal.Repeated) × (6 ≡ refusal-number refusal.FullNames)
     × (7 ≡ refusal-number refusal.Working) × (8 ≡ refusal-number refusal.Room) × (9 ≡ refusal-number refusal.Size)
+    × (10 ≡ refusal-number refusal.FullTerms) × (11 ≡ refusal-number refusal.FullRecords)
+    × (12 ≡ refusal-number refusal.FullTriggers)
 unfolding refusal-number
-numbers = (refl, refl, refl, refl, refl, refl, refl, refl, refl)
+numbers = (refl, refl, refl, refl, refl, refl, refl, refl, refl, refl, refl, refl)
 
 -- the number of a refusal that is known
 pub number-is : {r x : Refusal} {n : ℕ} → r ≡ x → n ≡ refusal-number x → n ≡ refusal-number r

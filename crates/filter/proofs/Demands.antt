@@ -1,12 +1,12 @@
 -- The demands hold of every call: from the contract of `filter` and the theorems over the definitions.
-use Prim.Native.Nat.{ℕ, zero, suc, _≤_, _<_}
+use Prim.Native.Nat.{ℕ, _≤_, _<_}
 use native.Mathlib.Omega.{arith}
 use mathlib.Core.Path.{_≡_, refl, sym, _∙_, ap}
 use mathlib.Core.Bool.{Bool, true, false}
 use mathlib.Core.Logic.{_↔_, _⊎_, inl, inr, ⊎-elim}
-use mathlib.Core.List.{List, [], _∷_, _++_, List·Memᴰ, List·Memᴰ·head, List·Memᴰ·tail}
+use mathlib.Core.List.{List, [], _∷_, _++_, map, List·Memᴰ, List·Memᴰ·head, List·Memᴰ·tail}
 use lib.Dec.{ltb}
-use lib.ListN.{length, take, drop}
+use lib.ListN.{length, take, drop, getD}
 use lib.Seq.{take-at}
 use borrow.Author.Tests.{ltb-true, ltb-false}
 use Rattle.model.specs.Reading.{State, Reading, read, refused-at}
@@ -22,7 +22,7 @@ use Rattle.demands.specs.Demand1.{Lines-judged, When-listed}
 use Rattle.demands.specs.Demand2.{kept-list, pruned}
 use Rattle.demands.specs.Demand3.{run-of}
 use Rattle.demands.specs.Slices.{Cleared}
-use Rattle.demands.proofs.Demand1.{refusals-1-to-4, refusal-5, refusal-6, refusal-7, refusal-8, refusal-9, list-given}
+use Rattle.demands.proofs.Demand1.{refusals-1-to-4, refusal-5, refusal-6, refusal-7, refusal-8, refusal-9, refusal-10, refusal-11, refusal-12, list-given}
 use Rattle.demands.proofs.Demand2.{kept-is-pruned, kept-once}
 use Rattle.demands.proofs.Order.{decls-in-order}
 use Rattle.demands.proofs.Demand3.{reached-closed, reached-least, reached-listed, visits-exact, rounds-exact, rounds-bound}
@@ -94,51 +94,55 @@ module _ (l : List ℕ) (seen turns : ℕ) where
   unfolding result-after
   list-result out = refl
 
--- ---- document 01's numbers tell the verdicts apart
+-- ---- the numbers tell the verdicts apart
+
+-- the refusals by their numbers from 1
+refusals : List Refusal
+refusals =
+    refusal.Form ∷ refusal.Name ∷ refusal.Number ∷ refusal.Term ∷ refusal.Repeated ∷ refusal.FullNames ∷ refusal.Working ∷ refusal.Room
+    ∷ refusal.Size ∷ refusal.FullTerms ∷ refusal.FullRecords ∷ refusal.FullTriggers ∷ []
 
 -- the verdict of a number
 of-number : ℕ → Verdict
-of-number zero = verdict.Accepted
-of-number (suc zero) = verdict.Refused refusal.Form
-of-number (suc (suc zero)) = verdict.Refused refusal.Name
-of-number (suc (suc (suc zero))) = verdict.Refused refusal.Number
-of-number (suc (suc (suc (suc zero)))) = verdict.Refused refusal.Term
-of-number (suc (suc (suc (suc (suc zero))))) = verdict.Refused refusal.Repeated
-of-number (suc (suc (suc (suc (suc (suc zero)))))) = verdict.Refused refusal.Limit
-of-number (suc (suc (suc (suc (suc (suc (suc zero))))))) = verdict.Refused refusal.Working
-of-number (suc (suc (suc (suc (suc (suc (suc (suc zero)))))))) = verdict.Refused refusal.Room
-of-number (suc (suc (suc (suc (suc (suc (suc (suc (suc n))))))))) = verdict.Refused refusal.Size
+of-number n = getD (verdict.Accepted ∷ map verdict.Refused refusals) n verdict.Accepted
 
+-- a verdict is that of its number
 back : (v : Verdict) → of-number (verdict-number v) ≡ v
-unfolding of-number verdict-number refusal-number
+unfolding of-number refusals verdict-number refusal-number
 back verdict.Accepted = refl
 back (verdict.Refused refusal.Form) = refl
 back (verdict.Refused refusal.Name) = refl
 back (verdict.Refused refusal.Number) = refl
 back (verdict.Refused refusal.Term) = refl
 back (verdict.Refused refusal.Repeated) = refl
-back (verdict.Refused refusal.Limit) = refl
+back (verdict.Refused refusal.FullNames) = refl
 back (verdict.Refused refusal.Working) = refl
 back (verdict.Refused refusal.Room) = refl
 back (verdict.Refused refusal.Size) = refl
+back (verdict.Refused refusal.FullTerms) = refl
+back (verdict.Refused refusal.FullRecords) = refl
+back (verdict.Refused refusal.FullTriggers) = refl
 
 -- a verdict with the number of a refusal is that refusal
 by-number : (v : Verdict) (r : Refusal) → verdict-number v ≡ refusal-number r → v ≡ verdict.Refused r
 unfolding verdict-number
 by-number v r e = sym (back v) ∙ ap of-number e ∙ back (verdict.Refused r)
 
--- a refusal has a number from 1 to 9
-numbered : (r : Refusal) → (1 ≤ refusal-number r) × (refusal-number r ≤ 9)
+-- a refusal has a number from 1 to 12
+numbered : (r : Refusal) → (1 ≤ refusal-number r) × (refusal-number r ≤ 12)
 unfolding refusal-number
 numbered refusal.Form = (omega arith, omega arith)
 numbered refusal.Name = (omega arith, omega arith)
 numbered refusal.Number = (omega arith, omega arith)
 numbered refusal.Term = (omega arith, omega arith)
 numbered refusal.Repeated = (omega arith, omega arith)
-numbered refusal.Limit = (omega arith, omega arith)
+numbered refusal.FullNames = (omega arith, omega arith)
 numbered refusal.Working = (omega arith, omega arith)
 numbered refusal.Room = (omega arith, omega arith)
 numbered refusal.Size = (omega arith, omega arith)
+numbered refusal.FullTerms = (omega arith, omega arith)
+numbered refusal.FullRecords = (omega arith, omega arith)
+numbered refusal.FullTriggers = (omega arith, omega arith)
 
 number-of : (r : Refusal) → verdict-number (verdict.Refused r) ≡ refusal-number r
 unfolding verdict-number
@@ -209,7 +213,7 @@ module _ (c : Call) (left : Left c) where
 
   demand-1 : Demand-1 c
   demand-1 = record {
-    nine-refusals = ⊎-elim
+    refusals = ⊎-elim
         (λ p. inl (ap (λ (a : Answer). a .verdict) answer-is ∙ p))
         (λ (r, place, e). let (low, high) = numbered r in inr (refusal-number r, low, high, (refuses r place .1 e .0, refl)))
         (either comes-to);
@@ -223,10 +227,13 @@ module _ (c : Call) (left : Left c) where
     );
     refused-1-to-4 = λ r n o. refuses-when r (refusal-number r) n refl (refusals-1-to-4 (c .file) (works c) (length (c .out)) r n o);
     refused-5 = λ n. refuses-when refusal.Repeated 5 n (numbers .4) (refusal-5 (c .file) (works c) (length (c .out)) n);
-    refused-6 = λ n. refuses-when refusal.Limit 6 n (numbers .5) (refusal-6 (c .file) (works c) (length (c .out)) n);
+    refused-6 = λ n. refuses-when refusal.FullNames 6 n (numbers .5) (refusal-6 (c .file) (works c) (length (c .out)) n);
     refused-7 = λ place. refuses-when refusal.Working 7 place (numbers .6) (refusal-7 (c .file) (works c) (length (c .out)) place);
     refused-8 = λ place. refuses-when refusal.Room 8 place (numbers .7) (refusal-8 (c .file) (works c) (length (c .out)) place);
     refused-9 = λ place. refuses-when refusal.Size 9 place (numbers .8) (refusal-9 (c .file) (works c) (length (c .out)) place);
+    refused-10 = λ n. refuses-when refusal.FullTerms 10 n (numbers .9) (refusal-10 (c .file) (works c) (length (c .out)) n);
+    refused-11 = λ n. refuses-when refusal.FullRecords 11 n (numbers .10) (refusal-11 (c .file) (works c) (length (c .out)) n);
+    refused-12 = λ n. refuses-when refusal.FullTriggers 12 n (numbers .11) (refusal-12 (c .file) (works c) (length (c .out)) n);
     no-counts = λ other.
         let (r, place, e) = refusing other in
         let told = answer-is ∙ ap answer e in

@@ -253,10 +253,13 @@ work-cleared (refusal-at refusal.Name place) n w = refl
 work-cleared (refusal-at refusal.Number place) n w = refl
 work-cleared (refusal-at refusal.Term place) n w = refl
 work-cleared (refusal-at refusal.Repeated place) n w = refl
-work-cleared (refusal-at refusal.Limit place) n w = refl
+work-cleared (refusal-at refusal.FullNames place) n w = refl
 work-cleared (refusal-at refusal.Working place) n w = absurd (n place refl)
 work-cleared (refusal-at refusal.Room place) n w = refl
 work-cleared (refusal-at refusal.Size place) n w = refl
+work-cleared (refusal-at refusal.FullTerms place) n w = refl
+work-cleared (refusal-at refusal.FullRecords place) n w = refl
+work-cleared (refusal-at refusal.FullTriggers place) n w = refl
 work-cleared (list lines seen turns) n w = refl
 
 -- where the file is not too large

@@ -23,7 +23,7 @@ use Rattle.prune.specs.Loops.{kept-column}
 abbrev pub lengths : List ℕ → List ℕ → List ℕ → List ℕ → List ℕ → List ℕ → List ℕ
 lengths w0 w1 w2 w3 w4 w5 = length w0 ∷ length w1 ∷ length w2 ∷ length w3 ∷ length w4 ∷ length w5 ∷ []
 
--- document 01's number of a verdict: 0 for a list
+-- the number of a verdict: 0 for a list, else that of the refusal
 unfoldable pub verdict-number : Verdict → ℕ
 verdict-number verdict.Accepted = 0
 verdict-number (verdict.Refused r) = refusal-number r

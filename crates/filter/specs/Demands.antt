@@ -60,7 +60,7 @@ Left c =
 abbrev pub Accepts : Call → Type 0
 Accepts c = c .answer .verdict ≡ verdict.Accepted
 
--- it refuses, with document 01's number and a place
+-- it refuses, with this number and place
 abbrev pub Refuses : Call → ℕ → ℕ → Type 0
 Refuses c number place = (verdict-number (c .answer .verdict) ≡ number) × (c .answer .place ≡ place)
 

@@ -17,7 +17,7 @@ ghost use Rattle.prune.specs.Loops.{kept-column};
 ghost use Rattle.filter.specs.Call.{lengths, Leaves, Long, Rest, Cleared-all, Replied, Settles, outcome-of, Lent, Runs};
 ghost use Rattle.filter.specs.Demands.{Demands};
 
-// Document 01's number of a refusal.
+// The number of a refusal in documents 01 and 02.
 pub fn refusal_number(r: Refusal) -> u32
     ensures { λ n. ⌜ n ≡ refusal-number r ⌝ }
 {
@@ -27,10 +27,13 @@ pub fn refusal_number(r: Refusal) -> u32
         Refusal::Number => 3,
         Refusal::Term => 4,
         Refusal::Repeated => 5,
-        Refusal::Limit => 6,
+        Refusal::FullNames => 6,
         Refusal::Working => 7,
         Refusal::Room => 8,
         Refusal::Size => 9,
+        Refusal::FullTerms => 10,
+        Refusal::FullRecords => 11,
+        Refusal::FullTriggers => 12,
     }
 }
 

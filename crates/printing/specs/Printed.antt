@@ -1,7 +1,7 @@
 -- The printed form of an answer, and a refusal in words.
 use Prim.Native.Nat.{ℕ, zero, suc, _+_, _/_, _%_, _≤_, _<_}
 use mathlib.Core.Path.{_≡_}
-use mathlib.Core.Bool.{cond}
+use mathlib.Core.Bool.{Bool, cond, _&&_}
 use mathlib.Core.List.{List, [], _∷_, _++_}
 use lib.Dec.{leb, ltb}
 use lib.ListN.{length, take, drop, getD}
@@ -95,15 +95,22 @@ reason refusal.Name = bytes "a field is no name"
 reason refusal.Number = bytes "a field is no number, or one out of its range"
 reason refusal.Term = bytes "no term line before has this number"
 reason refusal.Repeated = bytes "the name is taken by an earlier assume, fun or def"
-reason refusal.Limit = bytes "the line passes a limit"
+reason refusal.FullNames = bytes "the file has more than 2,048 names"
 reason refusal.Working = bytes "a working slice is too short"
 reason refusal.Room = bytes "the result slice is too short"
 reason refusal.Size = bytes "the file has more than 65,535 bytes"
+reason refusal.FullTerms = bytes "the file has more than 4,096 term lines or 16,384 references"
+reason refusal.FullRecords = bytes "the file has more than 1,024 record lines"
+reason refusal.FullTriggers = bytes "the file has more than 2,048 trigger entries or 6,144 name uses"
+
+-- whether the refusal of this number is of the call and not of a line of the file: 7 to 9
+unfoldable pub of-call : ℕ → Bool
+of-call number = leb 7 number && leb number 9
 
 -- a refusal in words, with its line where the exporter of the file can cause it in a line
 unfoldable pub reason-line : Refusal → ℕ → List ℕ
 reason-line r place =
-    cond (ltb 6 (refusal-number r)) (reason r) (bytes "line " ++ show place ++ bytes ": " ++ reason r) ++ (0x0a ∷ [])
+    cond (of-call (refusal-number r)) (reason r) (bytes "line " ++ show place ++ bytes ": " ++ reason r) ++ (0x0a ∷ [])
 
 -- a text begins with a line of the printed form, for whatever the answer and its result slice are of
 pub record Answered (file : List ℕ) (a : Answer) (out : List ℕ) (i : ℕ) (text : List ℕ) (n : ℕ) : Type 0 where

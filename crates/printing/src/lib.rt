@@ -7,7 +7,7 @@ ghost use mathlib.Core.Path.{_≡_};
 ghost use lib.ListN.{length, getD};
 ghost use Rattle.model.specs.Lists.{part};
 ghost use Rattle.model.specs.Lines.{fields};
-ghost use Rattle.printing.specs.Printed.{show, Puts, Holds, Starts, second, name-on, kept-line, sum-line, refused-line, reason, reason-line, Answered, outcome-line};
+ghost use Rattle.printing.specs.Printed.{show, Puts, Holds, Starts, second, name-on, kept-line, sum-line, refused-line, reason, of-call, reason-line, Answered, outcome-line};
 
 // Writes bytes from a place on; where they end.
 fn put(text: &mut [u8], at: usize, bytes: &[u8]) -> usize
@@ -158,10 +158,31 @@ fn put_reason(text: &mut [u8], at: usize, r: Refusal) -> usize
             at,
             b"the name is taken by an earlier assume, fun or def",
         ),
-        Refusal::Limit => put(text, at, b"the line passes a limit"),
+        Refusal::FullNames => put(text, at, b"the file has more than 2,048 names"),
         Refusal::Working => put(text, at, b"a working slice is too short"),
         Refusal::Room => put(text, at, b"the result slice is too short"),
         Refusal::Size => put(text, at, b"the file has more than 65,535 bytes"),
+        Refusal::FullTerms => put(
+            text,
+            at,
+            b"the file has more than 4,096 term lines or 16,384 references",
+        ),
+        Refusal::FullRecords => put(text, at, b"the file has more than 1,024 record lines"),
+        Refusal::FullTriggers => put(
+            text,
+            at,
+            b"the file has more than 2,048 trigger entries or 6,144 name uses",
+        ),
+    }
+}
+
+// Whether the refusal of this number is of the call and not of a line of the file: 7 to 9.
+fn of_call(number: u32) -> bool
+    ensures { λ r. ⌜ r ≡ of-call number ⌝ }
+{
+    match number {
+        7..=9 => true,
+        _ => false,
     }
 }
 
@@ -170,7 +191,7 @@ pub fn reason_line(r: Refusal, place: u32, text: &mut [u8]) -> usize
     requires { ⌜ 128 ≤ length (now text) ⌝ }
     ensures { λ n. ⌜ Holds (reason-line r place) (now (text .exit)) n ⌝ }
 {
-    if 6 < filter::refusal_number(r) {
+    if of_call(filter::refusal_number(r)) {
         let at = put_reason(text, 0, r);
         return put(text, at, b"\n");
     }

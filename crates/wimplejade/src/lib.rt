@@ -7,7 +7,7 @@ ghost use Rattle.model.specs.Outcome.{outcome};
 ghost use Rattle.filter.specs.Call.{lengths, verdict-number};
 ghost use Rattle.wimplejade.specs.Reply.{in-numbers, Replies};
 
-// The answer of a call: document 01's number of the refusal, 0 for a list; its place; the counts.
+// The answer of a call: the number of the refusal, 0 for a list; its place; the counts.
 #[repr(C)]
 pub struct Reply {
     pub refusal: u32,

@@ -30,6 +30,15 @@ enum-told-8 c = c .match .keys8
 enum-told-9 : tie.Need-enum-told-9
 enum-told-9 c = c .match .keys9
 
+enum-told-10 : tie.Need-enum-told-10
+enum-told-10 c = c .match .keys10
+
+enum-told-11 : tie.Need-enum-told-11
+enum-told-11 c = c .match .keys11
+
+enum-told-12 : tie.Need-enum-told-12
+enum-told-12 c = c .match .keys12
+
 returns : tie.Need-returns
 returns c = number-is (c .enum-told .given .1) (numbers .0)
 
@@ -57,6 +66,15 @@ returns-8 c = number-is (c .enum-told8 .given .1) (numbers .7)
 returns-9 : tie.Need-returns-9
 returns-9 c = number-is (c .enum-told9 .given .1) (numbers .8)
 
+returns-10 : tie.Need-returns-10
+returns-10 c = number-is (c .enum-told10 .given .1) (numbers .9)
+
+returns-11 : tie.Need-returns-11
+returns-11 c = number-is (c .enum-told11 .given .1) (numbers .10)
+
+returns-12 : tie.Need-returns-12
+returns-12 c = number-is (c .enum-told12 .given .1) (numbers .11)
+
 pub refusal-number-spec : {M : Type 1} → statement M
 refusal-number-spec =
     tie.close
@@ -70,6 +88,9 @@ refusal-number-spec =
     enum-told-7
     enum-told-8
     enum-told-9
+    enum-told-10
+    enum-told-11
+    enum-told-12
     returns
     returns-2
     returns-3
@@ -78,4 +99,7 @@ refusal-number-spec =
     returns-6
     returns-7
     returns-8
-    returns-9)
+    returns-9
+    returns-10
+    returns-11
+    returns-12)

@@ -87,6 +87,33 @@ slice-aggregate-put-9 c = search needs
 put-requires-9 : tie.Need-put-requires-9
 put-requires-9 c κs = search needs
 
+enum-told-10 : tie.Need-enum-told-10
+enum-told-10 c = c .match .keys10
+
+slice-aggregate-put-10 : tie.Need-slice-aggregate-put-10
+slice-aggregate-put-10 c = search needs
+
+put-requires-10 : tie.Need-put-requires-10
+put-requires-10 c κs = search needs
+
+enum-told-11 : tie.Need-enum-told-11
+enum-told-11 c = c .match .keys11
+
+slice-aggregate-put-11 : tie.Need-slice-aggregate-put-11
+slice-aggregate-put-11 c = search needs
+
+put-requires-11 : tie.Need-put-requires-11
+put-requires-11 c κs = search needs
+
+enum-told-12 : tie.Need-enum-told-12
+enum-told-12 c = c .match .keys12
+
+slice-aggregate-put-12 : tie.Need-slice-aggregate-put-12
+slice-aggregate-put-12 c = search needs
+
+put-requires-12 : tie.Need-put-requires-12
+put-requires-12 c κs = search needs
+
 same-length : tie.Need-same-length
 same-length c = search needs
 
@@ -177,6 +204,36 @@ returns-9 c =
     let at-enum-told9 = at-put9 .before .before .before in
     (rw (at-enum-told9 .enum-told9 .given .1) (at-put9 .put9 .ensures), omega (arith, at-put9 .put9 .ensures .ends))
 
+same-length-10 : tie.Need-same-length-10
+same-length-10 c = search needs
+
+returns-10 : tie.Need-returns-10
+unfolding reason bytes
+returns-10 c =
+    let at-put10 = c .before .before in
+    let at-enum-told10 = at-put10 .before .before .before in
+    (rw (at-enum-told10 .enum-told10 .given .1) (at-put10 .put10 .ensures), omega (arith, at-put10 .put10 .ensures .ends))
+
+same-length-11 : tie.Need-same-length-11
+same-length-11 c = search needs
+
+returns-11 : tie.Need-returns-11
+unfolding reason bytes
+returns-11 c =
+    let at-put11 = c .before .before in
+    let at-enum-told11 = at-put11 .before .before .before in
+    (rw (at-enum-told11 .enum-told11 .given .1) (at-put11 .put11 .ensures), omega (arith, at-put11 .put11 .ensures .ends))
+
+same-length-12 : tie.Need-same-length-12
+same-length-12 c = search needs
+
+returns-12 : tie.Need-returns-12
+unfolding reason bytes
+returns-12 c =
+    let at-put12 = c .before .before in
+    let at-enum-told12 = at-put12 .before .before .before in
+    (rw (at-enum-told12 .enum-told12 .given .1) (at-put12 .put12 .ensures), omega (arith, at-put12 .put12 .ensures .ends))
+
 pub put-reason-spec : {M : Type 1} → statement M
 put-reason-spec =
     tie.close
@@ -208,6 +265,15 @@ put-reason-spec =
     enum-told-9
     slice-aggregate-put-9
     put-requires-9
+    enum-told-10
+    slice-aggregate-put-10
+    put-requires-10
+    enum-told-11
+    slice-aggregate-put-11
+    put-requires-11
+    enum-told-12
+    slice-aggregate-put-12
+    put-requires-12
     same-length
     returns
     same-length-2
@@ -225,4 +291,10 @@ put-reason-spec =
     same-length-8
     returns-8
     same-length-9
-    returns-9)
+    returns-9
+    same-length-10
+    returns-10
+    same-length-11
+    returns-11
+    same-length-12
+    returns-12)

@@ -9,6 +9,9 @@ use Rattle.printing.proofs.reason_line.Tie as tie
 refusal-number-requires : tie.Need-refusal-number-requires
 refusal-number-requires c κs = search needs
 
+of-call-requires : tie.Need-of-call-requires
+of-call-requires c κs = tt
+
 put-reason-requires : tie.Need-put-reason-requires
 put-reason-requires c κs = search needs
 
@@ -27,9 +30,10 @@ returns c =
     let at-put = c .before .before in
     let at-put-reason = at-put .before .before .before .before .before in
     let at-if1 = at-put-reason .before .before in
-    let at-refusal-number = at-if1 .before in
+    let at-of-call = at-if1 .before in
+    let at-refusal-number = at-of-call .before in
     let text = puts-then (at-put-reason .put-reason .ensures .0) (at-put .put .ensures) in
-    held text (reason-alone _ _ _ (at-refusal-number .refusal-number .ensures) (at-if1 .if1 .taken))
+    held text (reason-alone _ _ _ (at-refusal-number .refusal-number .ensures) (at-of-call .of-call .ensures) (at-if1 .if1 .taken))
 
 slice-aggregate-put-2 : tie.Need-slice-aggregate-put-2
 slice-aggregate-put-2 c = search needs
@@ -67,15 +71,18 @@ returns-2 c =
     let at-put-number = at-put3 .before .before .before .before .before in
     let at-put2 = at-put-number .before .before .before .before in
     let at-if1 = at-put2 .before .before .before in
-    let at-refusal-number = at-if1 .before in
-    let text = puts-then (puts-then (puts-then (puts-then (at-put2 .put2 .ensures) (at-put-number .put-number .ensures .0)) (at-put3 .put3 .ensures)) (at-put-reason2 .put-reason2 .ensures .0)) (at-put4 .put4 .ensures) in
-    held text (reason-parts _ _ _ (at-refusal-number .refusal-number .ensures) (at-if1 .if1 .left))
+    let at-of-call = at-if1 .before in
+    let at-refusal-number = at-of-call .before in
+    let line = puts-then (puts-then (at-put2 .put2 .ensures) (at-put-number .put-number .ensures .0)) (at-put3 .put3 .ensures) in
+    let text = puts-then (puts-then line (at-put-reason2 .put-reason2 .ensures .0)) (at-put4 .put4 .ensures) in
+    held text (reason-parts _ _ _ (at-refusal-number .refusal-number .ensures) (at-of-call .of-call .ensures) (at-if1 .if1 .left))
 
 pub reason-line-spec : {M : Type 1} → statement M
 reason-line-spec =
     tie.close
     (tie.spec
     refusal-number-requires
+    of-call-requires
     put-reason-requires
     slice-aggregate-put
     put-requires
