@@ -26,12 +26,21 @@ static const char *words(uint32_t refusal)
     case WIMPLEJADE_NUMBER: return "a field is no number, or one out of its range";
     case WIMPLEJADE_TERM: return "no term line before has this number";
     case WIMPLEJADE_REPEATED: return "the name is taken by an earlier assume, fun or def";
-    case WIMPLEJADE_LIMIT: return "the line passes a limit";
+    case WIMPLEJADE_FULL_NAMES: return "the file has more than 2,048 names";
     case WIMPLEJADE_WORKING: return "a working slice is too short";
     case WIMPLEJADE_ROOM: return "the result slice is too short";
     case WIMPLEJADE_SIZE: return "the file has more than 65,535 bytes";
+    case WIMPLEJADE_FULL_TERMS: return "the file has more than 4,096 term lines or 16,384 references";
+    case WIMPLEJADE_FULL_RECORDS: return "the file has more than 1,024 record lines";
+    case WIMPLEJADE_FULL_TRIGGERS: return "the file has more than 2,048 trigger entries or 6,144 name uses";
     default: return "no refusal";
     }
+}
+
+/* Whether the place of a refusal is a line. */
+static int has_line(uint32_t refusal)
+{
+    return refusal != WIMPLEJADE_WORKING && refusal != WIMPLEJADE_ROOM && refusal != WIMPLEJADE_SIZE;
 }
 
 /* Prints a kept record: its line and its name, the second field of that line. */
@@ -78,7 +87,7 @@ int main(int count, char **arguments)
 
     if (answer.refusal != WIMPLEJADE_ACCEPTED) {
         printf("refused,%u,%u\n", (unsigned)answer.refusal, (unsigned)answer.place);
-        if (answer.refusal <= WIMPLEJADE_LIMIT) {
+        if (has_line(answer.refusal)) {
             fprintf(stderr, "line %u: ", (unsigned)answer.place);
         }
         fprintf(stderr, "%s\n", words(answer.refusal));

@@ -25,18 +25,22 @@ extern "C" {
 /* The stack, in bytes, that is enough for every call. What a call really takes is measured by `make stack`. */
 #define WIMPLEJADE_STACK_BYTES (2u << 20)
 
-/* Why a call is refused; the comment says what `place` is then. A line is counted from 1. */
+/* Why a call is refused; the comment says what `place` is then. A line is counted from 1. A line that passes several
+ * limits is refused with the lowest of 6, 10, 11 and 12. */
 enum wimplejade_refusal {
-    WIMPLEJADE_ACCEPTED = 0, /* not refused; 0 */
-    WIMPLEJADE_FORM = 1,     /* not a line of the file's form; the line */
-    WIMPLEJADE_NAME = 2,     /* a field is no name; the line */
-    WIMPLEJADE_NUMBER = 3,   /* a field is no number, or outside its range; the line */
-    WIMPLEJADE_TERM = 4,     /* a term number that is not there yet; the line */
-    WIMPLEJADE_REPEATED = 5, /* the name of an earlier assume, fun or def; the line */
-    WIMPLEJADE_LIMIT = 6,    /* the line passes a limit; the line */
-    WIMPLEJADE_WORKING = 7,  /* a working slice is too short; 0 */
-    WIMPLEJADE_ROOM = 8,     /* the result slice is shorter than the kept lines; how many they are */
-    WIMPLEJADE_SIZE = 9      /* the file has more than WIMPLEJADE_MOST_BYTES; 0 */
+    WIMPLEJADE_ACCEPTED = 0,      /* not refused; 0 */
+    WIMPLEJADE_FORM = 1,          /* not a line of the file's form; the line */
+    WIMPLEJADE_NAME = 2,          /* a field is no name; the line */
+    WIMPLEJADE_NUMBER = 3,        /* a field is no number, or outside its range; the line */
+    WIMPLEJADE_TERM = 4,          /* a term number that is not there yet; the line */
+    WIMPLEJADE_REPEATED = 5,      /* the name of an earlier assume, fun or def; the line */
+    WIMPLEJADE_FULL_NAMES = 6,    /* more than 2,048 names; the line that has the first too many */
+    WIMPLEJADE_WORKING = 7,       /* a working slice is too short; 0 */
+    WIMPLEJADE_ROOM = 8,          /* the result slice is shorter than the kept lines; how many they are */
+    WIMPLEJADE_SIZE = 9,          /* the file has more than WIMPLEJADE_MOST_BYTES; 0 */
+    WIMPLEJADE_FULL_TERMS = 10,   /* more than 4,096 term lines or 16,384 references in them; the line */
+    WIMPLEJADE_FULL_RECORDS = 11, /* more than 1,024 record lines; the line */
+    WIMPLEJADE_FULL_TRIGGERS = 12 /* more than 2,048 trigger entries or 6,144 name uses; the line */
 };
 
 /* The answer of a call. After a refusal kept, visits and rounds are 0. */

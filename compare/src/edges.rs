@@ -1,10 +1,11 @@
-//! Files at the edges of document 01: at each limit and one past it, refusals in the order fixed, ugly shapes, and
-//! slices that are too short. Each is a named case with the number of the refusal it must give.
+//! Files at the edges of documents 01 and 02: at each limit and one past it, past several at once, refusals in the order
+//! fixed, ugly shapes, and slices that are too short. Each is a named case with the number of the refusal it must give.
 //!
-//! Whatever is refused by 1 to 6 is refused at the last line of its file.
+//! Whatever is refused for a line is refused at the last line of its file.
 
 use crate::case::Case;
 use crate::limits;
+use crate::several;
 use crate::terms::TermId;
 use crate::text::Text;
 use crate::LONG_ENOUGH;
@@ -14,6 +15,12 @@ pub struct Edge {
     pub case: Case,
     pub number: u32,
 }
+
+/// The refusals that say what was full: names; term lines or references; record lines; trigger entries or name uses.
+pub const FULL_NAMES: u32 = 6;
+pub const FULL_TERMS: u32 = 10;
+pub const FULL_RECORDS: u32 = 11;
+pub const FULL_TRIGGERS: u32 = 12;
 
 /// Every edge, each under its own name.
 pub fn edges() -> Vec<Edge> {
@@ -26,6 +33,10 @@ pub fn edges() -> Vec<Edge> {
     records(&mut edges);
     entries(&mut edges);
     uses(&mut edges);
+    several::one(&mut edges);
+    several::of_a_term_line(&mut edges);
+    several::names_and_another(&mut edges);
+    several::records_and_triggers(&mut edges);
     bytes(&mut edges);
     ugly(&mut edges);
     costly(&mut edges);
@@ -203,7 +214,7 @@ fn names(edges: &mut Vec<Edge>) {
         text.leaf();
         spell_names(&mut text, total - 1);
         for (kind, line) in lines {
-            let number = if total > limits::NAMES { 6 } else { 0 };
+            let number = if total > limits::NAMES { FULL_NAMES } else { 0 };
             if total != 2_047 || kind == "free" {
                 add_line(edges, format!("names-{total}-{kind}"), number, &text, line);
             }
@@ -228,7 +239,7 @@ fn names(edges: &mut Vec<Edge>) {
     ] {
         add_line(edges, format!("names-full-{name}"), number, &full, line);
     }
-    for (name, number, last) in [("6", 6, "z"), ("2", 2, "z z")] {
+    for (name, number, last) in [("6", FULL_NAMES, "z"), ("2", 2, "z z")] {
         let mut text = Text::ask(0, 0);
         text.retain(plain_names(9_000).chain([last.to_owned()]));
         add(edges, format!("names-one-line-{name}"), number, text);
@@ -267,14 +278,14 @@ fn tokens(edges: &mut Vec<Edge>) {
     let known = before("n7@tok", limits::NAMES - 1);
     for (name, number, text, line) in [
         ("both", 0, &room_for_both, "assume,a,0,3"),
-        ("one", 6, &room_for_one, "assume,a,0,3"),
+        ("one", FULL_NAMES, &room_for_one, "assume,a,0,3"),
         ("own-name", 0, &room_for_one, "assume,f,0,3"),
         ("known", 0, &known, "assume,a,0,3"),
         ("rule-2", 0, &room_for_one, "assume,assumption_a,0,3"),
         ("def", 0, &room_for_one, "def,a,3"),
         ("root", 0, &room_for_one, "root,0,a,3"),
         ("known-name", 0, &room_for_one, "assume,n0,0,3"),
-        ("alone", 6, &alone, "assume,a,0,3"),
+        ("alone", FULL_NAMES, &alone, "assume,a,0,3"),
         ("alone-known-name", 0, &alone, "assume,n0,0,3"),
         ("3-before-6", 3, &room_for_one, "assume,a,2,3"),
         ("4-before-6", 4, &room_for_one, "assume,a,0,4"),
@@ -283,9 +294,12 @@ fn tokens(edges: &mut Vec<Edge>) {
     }
     let mut filled = room_for_both;
     filled.assume("a", 0, 3);
-    for (name, number, line) in
-        [("again", 0, "assume,n0,0,3"), ("spelled", 0, "fun,f"), ("next", 6, "fun,g"), ("next-2", 2, "retain,g,")]
-    {
+    for (name, number, line) in [
+        ("again", 0, "assume,n0,0,3"),
+        ("spelled", 0, "fun,f"),
+        ("next", FULL_NAMES, "fun,g"),
+        ("next-2", 2, "retain,g,"),
+    ] {
         add_line(edges, format!("token-then-{name}"), number, &filled, line);
     }
     let mut repeated = before("f@tok", limits::NAMES);
@@ -298,7 +312,7 @@ fn tokens(edges: &mut Vec<Edge>) {
     twice.assume("n0", 1, 3);
     twice.fun("n1");
     add_line(edges, "token-alone-twice", 0, &twice, "free,last");
-    add_line(edges, "token-alone-twice-next", 6, &twice, "retain,last,next");
+    add_line(edges, "token-alone-twice-next", FULL_NAMES, &twice, "retain,last,next");
 }
 
 /// 4,096 term lines and the next.
@@ -309,8 +323,10 @@ fn terms(edges: &mut Vec<Edge>) {
     text.leaf();
     for (name, number, line) in [
         ("record", 0, "assume,a,0,4095"),
-        ("leaf", 6, "leaf"),
-        ("label", 6, "label,4095"),
+        ("leaf", FULL_TERMS, "leaf"),
+        ("label", FULL_TERMS, "label,4095"),
+        ("free", FULL_TERMS, "free,z"),
+        ("call", FULL_TERMS, "call,z,0"),
         ("own", 4, "label,4096"),
         ("leaf-1", 1, "leaf,"),
         ("word-1", 1, "op,xor"),
@@ -329,7 +345,7 @@ fn references(edges: &mut Vec<Edge>) {
     text.leaf();
     let zeros = |count: usize| ",0".repeat(count);
     for total in [16_383, 16_384, 16_385] {
-        let number = if total > limits::REFERENCES { 6 } else { 0 };
+        let number = if total > limits::REFERENCES { FULL_TERMS } else { 0 };
         add_line(edges, format!("references-{total}-call"), number, &text, format!("call,f{}", zeros(total)));
         if total > 16_383 {
             let half = total - 8_192;
@@ -343,15 +359,15 @@ fn references(edges: &mut Vec<Edge>) {
             }
         }
     }
-    add_line(edges, "references-4-before-6", 4, &text, format!("op,and{},1", zeros(16_385)));
-    add_line(edges, "references-3-before-6", 3, &text, format!("op,and{},", zeros(16_385)));
-    add_line(edges, "references-1-before-6", 1, &text, format!("all,0,1,16385{},0", zeros(16_385)));
+    add_line(edges, "references-4-before-10", 4, &text, format!("op,and{},1", zeros(16_385)));
+    add_line(edges, "references-3-before-10", 3, &text, format!("op,and{},", zeros(16_385)));
+    add_line(edges, "references-1-before-10", 1, &text, format!("all,0,1,16385{},0", zeros(16_385)));
     add_references(&mut text, 16_000);
     add_references(&mut text, 384);
     for (name, number, line) in [
         ("leaf", 0, "leaf"),
-        ("groups", 6, "all,0,3,0,0,0"),
-        ("label", 6, "label,0"),
+        ("groups", FULL_TERMS, "all,0,3,0,0,0"),
+        ("label", FULL_TERMS, "label,0"),
         ("assume", 0, "assume,a,0,2"),
         ("def", 0, "def,a,2"),
         ("root", 0, "root,0,a,2"),
@@ -371,12 +387,12 @@ fn records(edges: &mut Vec<Edge>) {
     text.line("retain");
     for (name, number, line) in [
         ("term", 0, "leaf"),
-        ("retain", 6, "retain"),
-        ("root", 6, "root,0,r,0"),
-        ("root-other", 6, "root,1,r,0"),
-        ("fun", 6, "fun,f"),
-        ("def", 6, "def,f,0"),
-        ("assume", 6, "assume,a,0,0"),
+        ("retain", FULL_RECORDS, "retain"),
+        ("root", FULL_RECORDS, "root,0,r,0"),
+        ("root-other", FULL_RECORDS, "root,1,r,0"),
+        ("fun", FULL_RECORDS, "fun,f"),
+        ("def", FULL_RECORDS, "def,f,0"),
+        ("assume", FULL_RECORDS, "assume,a,0,0"),
         ("assume-5", 5, "assume,p,0,0"),
         ("fun-5", 5, "fun,p"),
         ("def-5", 5, "def,p,0"),
@@ -440,7 +456,7 @@ fn costly(edges: &mut Vec<Edge>) {
 fn entries(edges: &mut Vec<Edge>) {
     let mut text = Text::ask(0, 0);
     text.free("p");
-    for (total, number) in [(2_047, 0), (2_048, 0), (2_049, 6), (30_000, 6)] {
+    for (total, number) in [(2_047, 0), (2_048, 0), (2_049, FULL_TRIGGERS), (30_000, FULL_TRIGGERS)] {
         let mut empty = text.clone();
         add_empty_groups(&mut empty, total);
         add_line(edges, format!("entries-{total}-empty"), number, &empty, "assume,a,0,1");
@@ -457,8 +473,8 @@ fn entries(edges: &mut Vec<Edge>) {
     for (name, number, line) in [
         ("drop", 0, "assume,b,0,1025"),
         ("ambient", 0, "assume,b,0,1026"),
-        ("empty", 6, "assume,assumption_b,0,1025"),
-        ("one", 6, "assume,assumption_b,0,0"),
+        ("empty", FULL_TRIGGERS, "assume,assumption_b,0,1025"),
+        ("one", FULL_TRIGGERS, "assume,assumption_b,0,0"),
         ("5", 5, "assume,a,0,1024"),
         ("4", 4, "assume,a,0,1027"),
     ] {
@@ -470,9 +486,9 @@ fn entries(edges: &mut Vec<Edge>) {
     two.assume("a", 1, half);
     two.assume("b", 0, half);
     add_line(edges, "entries-two-facts-empty-drop", 0, &two, "assume,c,0,2");
-    add_line(edges, "entries-two-facts-empty-next", 6, &two, "assume,assumption_c,0,2");
+    add_line(edges, "entries-two-facts-empty-next", FULL_TRIGGERS, &two, "assume,assumption_c,0,2");
 
-    for (parts, number) in [(32, 0), (33, 6)] {
+    for (parts, number) in [(32, 0), (33, FULL_TRIGGERS)] {
         let mut text = text.clone();
         let all = add_empty_groups(&mut text, 32);
         let named = text.all(0, &vec![vec![0]; 32]);
@@ -487,7 +503,7 @@ fn entries(edges: &mut Vec<Edge>) {
     none.root(0, "r", 0);
     add_line(edges, "entries-full-no-disjunct", 0, &none, "assume,b,0,3");
 
-    for (groups, number) in [(0, 0), (1, 0), (2, 0), (2_048, 0), (2_049, 6)] {
+    for (groups, number) in [(0, 0), (1, 0), (2, 0), (2_048, 0), (2_049, FULL_TRIGGERS)] {
         let mut text = text.clone();
         let payload = add_empty_groups(&mut text, groups);
         let squash = text.call("Prims.squash", &[0, payload]);
@@ -523,12 +539,13 @@ fn uses(edges: &mut Vec<Edge>) {
     }
     for (name, number, line) in [
         ("6144-root", 0, format!("root,0,r,{labelled}")),
-        ("6145-root", 6, format!("root,3,r,{pair}")),
+        ("6145-root", FULL_TRIGGERS, format!("root,3,r,{pair}")),
         ("6144-def", 0, format!("def,z,{labelled}")),
-        ("6145-def", 6, format!("def,z,{pair}")),
+        ("6145-def", FULL_TRIGGERS, format!("def,z,{pair}")),
         ("6144-assume", 0, format!("assume,z,0,{labelled}")),
-        ("6145-assume", 6, format!("assume,z,0,{pair}")),
+        ("6145-assume", FULL_TRIGGERS, format!("assume,z,0,{pair}")),
         ("6145-assume-5", 5, format!("assume,t0,0,{pair}")),
+        ("6145-def-5", 5, format!("def,t0,{pair}")),
         ("6145-def-3", 3, "def,z,x".to_owned()),
     ] {
         add_line(edges, format!("uses-{name}"), number, &text, line);
@@ -536,7 +553,7 @@ fn uses(edges: &mut Vec<Edge>) {
     text.root(0, "r", labelled);
     for (name, number, line) in [
         ("excluded", 0, format!("root,0,r,{excluded}")),
-        ("drop", 6, format!("assume,z,0,{truth}")),
+        ("drop", FULL_TRIGGERS, format!("assume,z,0,{truth}")),
         ("leaf", 0, format!("assume,z,0,{leaf}")),
         ("term", 0, format!("label,{wide}")),
     ] {
@@ -583,14 +600,14 @@ fn ugly(edges: &mut Vec<Edge>) {
     text.free("p");
     let all = add_empty_groups(&mut text, 16_000);
     text.op("and", &vec![all; 16_000]);
-    add_line(edges, "ugly-and-of-alls", 6, &text, "assume,a,0,2");
+    add_line(edges, "ugly-and-of-alls", FULL_TRIGGERS, &text, "assume,a,0,2");
     add_line(edges, "ugly-and-of-alls-root", 0, &text, "root,0,a,2");
 
     for kind in ["all", "some"] {
         let mut text = Text::ask(0, 4);
         text.free("p");
         text.line(format!("{kind},0,30000{}", ",0".repeat(30_000)));
-        for (record, number) in [("assume", if kind == "all" { 6 } else { 0 }), ("root", 0), ("def", 0)] {
+        for (record, number) in [("assume", if kind == "all" { FULL_TRIGGERS } else { 0 }), ("root", 0), ("def", 0)] {
             let line = match record {
                 "assume" => "assume,a,0,1",
                 "root" => "root,0,r,1",
@@ -743,14 +760,14 @@ mod tests {
                 Outcome::Refused { number: actual, place } => {
                     assert_eq!(actual, *number, "{}", case.name);
                     match actual {
-                        1..=6 => assert_eq!(place, last_line, "{}", case.name),
+                        1..=6 | 10..=12 => assert_eq!(place, last_line, "{}", case.name),
                         8 => assert!(place as usize > case.room, "{}", case.name),
                         _ => assert_eq!(place, 0, "{}", case.name),
                     }
                 }
             }
         }
-        for number in 0..=9 {
+        for number in 0..=12 {
             assert!(edges.iter().any(|edge| edge.number == number), "no edge for {number}");
         }
     }

@@ -15,8 +15,14 @@ pub enum Fault {
     Term = 4,
     /// A record repeats a name.
     Repeat = 5,
-    /// The line passes a limit.
-    Limit = 6,
+    /// The names pass their limit.
+    FullNames = 6,
+    /// The term lines or the term references pass theirs.
+    FullTerms = 10,
+    /// The record lines pass theirs.
+    FullRecords = 11,
+    /// The trigger entries or the name uses pass theirs.
+    FullTriggers = 12,
 }
 
 /// The fields of a line that are still to be read.

@@ -1,4 +1,4 @@
-//! Random files from a seed: well-formed ones, damaged ones, raw bytes, and files near a limit.
+//! Random files from a seed: well-formed ones, damaged ones, raw bytes, and files near a limit or near several.
 
 use std::collections::HashSet;
 
@@ -6,6 +6,7 @@ use crate::case::Case;
 use crate::edges;
 use crate::limits;
 use crate::random::Random;
+use crate::several;
 use crate::terms::TermId;
 use crate::text::Text;
 use crate::{filter, Outcome, LONG_ENOUGH};
@@ -67,6 +68,7 @@ fn any(random: &mut Random) -> Case {
         50..=77 => Case::new("damaged", damaged(random)),
         78..=85 => Case::new("raw", raw(random)),
         86..=88 => Case::new("near", near_a_limit(random)),
+        89 => Case::new("full", several::nearly_full(random)),
         _ => lent(random),
     }
 }
@@ -672,7 +674,7 @@ mod tests {
                 Outcome::Kept { .. } => numbers.insert(0),
             };
         }
-        assert_eq!(numbers, (0..=9).collect());
+        assert_eq!(numbers, (0..=12).collect());
     }
 
     #[test]
@@ -683,7 +685,7 @@ mod tests {
             let file = formed(&mut random);
             let answer = filter(&file, LONG_ENOUGH, limits::RECORDS);
             if let Outcome::Refused { number, .. } = answer {
-                assert_eq!(number, 6);
+                assert!([6, 10, 11, 12].contains(&number), "{number}");
             } else if answer != filter_in(Order::Line, &file, LONG_ENOUGH, limits::RECORDS) {
                 kept_in_other_order += 1;
             }

@@ -1,8 +1,9 @@
-//! The fact filter of document 01, written independently in plain Rust with the standard collections.
+//! The fact filter of document 01 with Change 1 of document 02, written independently in plain Rust with the standard
+//! collections.
 //!
 //! It reads a file of terms, facts and roots, and keeps the facts that the roots of one query can touch, with the
 //! definitions and declarations that come with them. [`filter`] is the whole call; [`summaries`] says how each fact is
-//! triggered. Both answer with the refusals of document 01.
+//! triggered. Both answer with the refusals of these documents.
 
 pub mod case;
 pub mod edges;
@@ -15,6 +16,7 @@ mod prune;
 pub mod random;
 mod reader;
 mod rules;
+mod several;
 #[cfg(test)]
 mod source;
 mod terms;

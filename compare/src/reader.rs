@@ -164,7 +164,7 @@ impl<'a> Reader<'a> {
         if terms.len() < limits::TERMS && terms.add(term, names, limits::REFERENCES) {
             Ok(())
         } else {
-            Err(Fault::Limit)
+            Err(Fault::FullTerms)
         }
     }
 
@@ -174,13 +174,14 @@ impl<'a> Reader<'a> {
         let pretyping = fields.number(1)? == 1;
         let term = fields.term(self.background.terms.len())?;
         self.take(name)?;
-        self.add_record()?;
 
+        // A trimmed token is a name of this line, so the fact is summarised before the limits are judged.
         let Background { names, terms, .. } = &mut self.background;
         let room = limits::ENTRIES - self.entries;
-        let kind = rules::summarize(names.bytes(name), term, terms, names, room).ok_or(Fault::Limit)?;
+        let kind = rules::summarize(names.bytes(name), term, terms, names, room);
+        self.add_record()?;
+        let kind = kind.ok_or(Fault::FullTriggers)?;
         self.entries += kind.entries();
-        self.check_names()?;
         let free = self.add_uses(term)?;
         self.background.facts.push(Fact { line, name, pretyping, free, kind });
         Ok(())
@@ -234,31 +235,32 @@ impl<'a> Reader<'a> {
         }
     }
 
-    /// Counts a record line whose fields have been read.
+    /// Counts a record line all of whose names have been counted. Names have the lower number.
     fn add_record(&mut self) -> Result<(), Fault> {
         self.records += 1;
-        within(self.records, limits::RECORDS)?;
-        self.check_names()
+        self.check_names()?;
+        within(self.records, limits::RECORDS, Fault::FullRecords)
     }
 
     /// The free names of a record's term, each counted as a use.
     fn add_uses(&mut self, term: usize) -> Result<NameSet, Fault> {
         let free = self.background.terms.free_names(term);
         self.uses += free.len();
-        within(self.uses, limits::USES)?;
+        within(self.uses, limits::USES, Fault::FullTriggers)?;
         Ok(free.clone())
     }
 
     fn check_names(&self) -> Result<(), Fault> {
-        within(self.background.names.len(), limits::NAMES)
+        within(self.background.names.len(), limits::NAMES, Fault::FullNames)
     }
 }
 
-fn within(count: usize, limit: usize) -> Result<(), Fault> {
+/// Checks a count against its limit.
+fn within(count: usize, limit: usize, full: Fault) -> Result<(), Fault> {
     if count <= limit {
         Ok(())
     } else {
-        Err(Fault::Limit)
+        Err(full)
     }
 }
 

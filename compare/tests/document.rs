@@ -1,4 +1,4 @@
-//! The examples and edges of document 01.
+//! The examples and edges of document 01, and of Change 1 of document 02.
 
 use compare::{filter, filter_file, filter_in, summaries, Order, Outcome, Refusal, Trigger, LONG_ENOUGH};
 
@@ -72,6 +72,30 @@ fn faults_are_found_in_order() {
     assert_eq!(answer("leaf\nall,0,1,1,0,x\n"), "refused,1,3\n");
     // Lines from the first; a later line without 0A does not matter.
     assert_eq!(answer("label,0\nleaf"), "refused,4,2\n");
+}
+
+#[test]
+fn a_refusal_says_what_was_full() {
+    let names = |count: usize| -> String { (0..count).map(|index| format!(",n{index}")).collect() };
+    let zeros = |count: usize| ",0".repeat(count);
+    let lines = |line: &str, count: usize| format!("{line}\n").repeat(count);
+    // Three roots with 2,047 free names each: 6,141 uses.
+    let frees: String = (0..2_046).map(|index| format!("free,n{index}\n")).collect();
+    let parts: String = (0..2_046).map(|term| format!(",{term}")).collect();
+    let uses = format!("{frees}call,f{parts}\n{}", lines("root,0,f,2046", 3));
+    for (rest, number, place) in [
+        (format!("retain{}\n", names(2_049)), 6, 2),
+        (lines("leaf", 4_097), 10, 4_098),
+        (format!("leaf\nop,and{}\n", zeros(16_385)), 10, 3),
+        (lines("retain", 1_025), 11, 1_026),
+        (format!("leaf\nall,0,2049{}\nassume,a,0,1\n", zeros(2_049)), 12, 4),
+        (format!("{uses}{}", lines("root,0,f,0", 4)), 12, 2_055),
+        // The lowest number of a line that passes several.
+        (format!("{}retain{}\n", lines("retain", 1_024), names(2_049)), 6, 1_026),
+        (format!("leaf\n{}all,0,2049{}\nassume,a,0,1\n", lines("retain", 1_024), zeros(2_049)), 11, 1_028),
+    ] {
+        assert_eq!(answer(&rest), format!("refused,{number},{place}\n"));
+    }
 }
 
 #[test]

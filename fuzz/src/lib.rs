@@ -123,7 +123,7 @@ mod tests {
 
     #[test]
     fn wrong_calls_differ() {
-        let wrong: [(&str, Call); 8] = [
+        let wrong: [(&str, Call); 10] = [
             ("a visit more", |file, working, result| {
                 let answer = right(file, working, result);
                 Answer { visits: answer.visits + u32::from(answer.visits > 2), ..answer }
@@ -134,7 +134,16 @@ mod tests {
             }),
             ("a refusal with a count", |file, working, result| {
                 let answer = right(file, working, result);
-                Answer { visits: answer.visits.max(u32::from(answer.refusal == 6)), ..answer }
+                let full = [6, 10, 11, 12].contains(&answer.refusal);
+                Answer { visits: answer.visits.max(u32::from(full)), ..answer }
+            }),
+            ("any limit is 6", |file, working, result| {
+                let answer = right(file, working, result);
+                Answer { refusal: if answer.refusal > 9 { 6 } else { answer.refusal }, ..answer }
+            }),
+            ("the next line for what was full", |file, working, result| {
+                let answer = right(file, working, result);
+                Answer { place: answer.place + u32::from(answer.refusal == 12), ..answer }
             }),
             ("a list in another order", |file, working, result| {
                 let answer = right(file, working, result);
@@ -157,7 +166,7 @@ mod tests {
             }),
             ("a working word past the end cleared", |file, mut working, result| {
                 let answer = right(file, working.each_mut().map(|words| &mut **words), result);
-                if let (1..=6, Some(word)) = (answer.refusal, working[5].get_mut(16_384)) {
+                if let (1..=6 | 10..=12, Some(word)) = (answer.refusal, working[5].get_mut(16_384)) {
                     *word = 0;
                 }
                 answer

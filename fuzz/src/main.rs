@@ -236,8 +236,8 @@ struct Progress {
     /// How many files there are, the edges among them.
     files: u64,
     started: Instant,
-    /// How often each answer was given: 0 is a list, 1 to 9 the refusals.
-    answers: [AtomicU64; 10],
+    /// How often each answer was given: 0 is a list, 1 to 12 the refusals.
+    answers: [AtomicU64; 13],
     most_rounds: AtomicU64,
     most_kept: AtomicU64,
     /// The file that each job is at.
@@ -306,7 +306,8 @@ impl Progress {
         }
         println!("{}", self.line());
         let count = |number: usize| self.answers[number].load(Ordering::Relaxed);
-        let refused: Vec<String> = (1..=9).map(|number| format!("{number}: {}", count(number))).collect();
+        let refused: Vec<String> =
+            (1..self.answers.len()).map(|number| format!("{number}: {}", count(number))).collect();
         println!("accepted: {}; refused: {}", count(0), refused.join(", "));
         println!(
             "most rounds {}, most kept {}",

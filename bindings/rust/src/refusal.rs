@@ -3,7 +3,7 @@
 use std::error::Error;
 use std::fmt;
 
-/// Why a call is refused. Lines are counted from 1.
+/// Why a call is refused. Lines are counted from 1. A line that passes several limits is refused with the lowest number.
 ///
 /// A refused call has written nothing to the result slice.
 #[derive(Clone, Copy, Debug, PartialEq, Eq, Hash)]
@@ -19,18 +19,24 @@ pub enum Refusal {
     Term { line: u32 },
     /// 5: an assume, fun or def has the name of an earlier one of the three.
     Repeated { line: u32 },
-    /// 6: the line passes a limit other than the file's bytes.
-    Limit { line: u32 },
+    /// 6: with this line the file has more than 2,048 distinct names, trimmed tokens included.
+    FullNames { line: u32 },
     /// 7: a working slice has fewer than [`WORKING_WORDS`](crate::WORKING_WORDS) words.
     Working,
     /// 8: the result slice has fewer words than lines are kept.
     Room { kept: u32 },
     /// 9: the file has more than [`MOST_BYTES`](crate::MOST_BYTES) bytes.
     Size,
+    /// 10: with this line the file has more than 4,096 term lines, or more than 16,384 term references in them.
+    FullTerms { line: u32 },
+    /// 11: with this line the file has more than 1,024 record lines.
+    FullRecords { line: u32 },
+    /// 12: with this line the file has more than 2,048 trigger entries, or more than 6,144 name uses.
+    FullTriggers { line: u32 },
 }
 
 impl Refusal {
-    /// The refusal of a number from 1 to 9 at a place.
+    /// The refusal of a number from 1 to 12 at a place.
     pub(crate) fn of(number: u32, place: u32) -> Option<Self> {
         Some(match number {
             1 => Refusal::Form { line: place },
@@ -38,15 +44,18 @@ impl Refusal {
             3 => Refusal::Number { line: place },
             4 => Refusal::Term { line: place },
             5 => Refusal::Repeated { line: place },
-            6 => Refusal::Limit { line: place },
+            6 => Refusal::FullNames { line: place },
             7 => Refusal::Working,
             8 => Refusal::Room { kept: place },
             9 => Refusal::Size,
+            10 => Refusal::FullTerms { line: place },
+            11 => Refusal::FullRecords { line: place },
+            12 => Refusal::FullTriggers { line: place },
             _ => return None,
         })
     }
 
-    /// The number of the refusal, from 1 to 9.
+    /// The number of the refusal, from 1 to 12.
     pub fn number(&self) -> u32 {
         match self {
             Refusal::Form { .. } => 1,
@@ -54,10 +63,13 @@ impl Refusal {
             Refusal::Number { .. } => 3,
             Refusal::Term { .. } => 4,
             Refusal::Repeated { .. } => 5,
-            Refusal::Limit { .. } => 6,
+            Refusal::FullNames { .. } => 6,
             Refusal::Working => 7,
             Refusal::Room { .. } => 8,
             Refusal::Size => 9,
+            Refusal::FullTerms { .. } => 10,
+            Refusal::FullRecords { .. } => 11,
+            Refusal::FullTriggers { .. } => 12,
         }
     }
 
@@ -77,7 +89,10 @@ impl Refusal {
             | Refusal::Number { line }
             | Refusal::Term { line }
             | Refusal::Repeated { line }
-            | Refusal::Limit { line } => Some(*line),
+            | Refusal::FullNames { line }
+            | Refusal::FullTerms { line }
+            | Refusal::FullRecords { line }
+            | Refusal::FullTriggers { line } => Some(*line),
             Refusal::Working | Refusal::Room { .. } | Refusal::Size => None,
         }
     }
@@ -95,10 +110,15 @@ impl fmt::Display for Refusal {
             Refusal::Number { .. } => write!(out, "a field is no number, or one out of its range"),
             Refusal::Term { .. } => write!(out, "no term line before has this number"),
             Refusal::Repeated { .. } => write!(out, "the name is taken by an earlier assume, fun or def"),
-            Refusal::Limit { .. } => write!(out, "the line passes a limit"),
+            Refusal::FullNames { .. } => write!(out, "the file has more than 2,048 names"),
             Refusal::Working => write!(out, "a working slice is too short"),
             Refusal::Room { kept } => write!(out, "the result slice is too short for {kept} kept lines"),
             Refusal::Size => write!(out, "the file has more than 65,535 bytes"),
+            Refusal::FullTerms { .. } => write!(out, "the file has more than 4,096 term lines or 16,384 references"),
+            Refusal::FullRecords { .. } => write!(out, "the file has more than 1,024 record lines"),
+            Refusal::FullTriggers { .. } => {
+                write!(out, "the file has more than 2,048 trigger entries or 6,144 name uses")
+            }
         }
     }
 }
@@ -111,14 +131,14 @@ mod tests {
 
     #[test]
     fn each_number_is_one_refusal() {
-        for number in 1..=9 {
+        for number in 1..=12 {
             let refusal = Refusal::of(number, 12).unwrap();
             assert_eq!(refusal.number(), number);
             assert_eq!(refusal.place(), if [7, 9].contains(&number) { 0 } else { 12 });
-            assert_eq!(refusal.line(), (number <= 6).then_some(12));
+            assert_eq!(refusal.line(), (![7, 8, 9].contains(&number)).then_some(12));
         }
         assert_eq!(Refusal::of(0, 0), None);
-        assert_eq!(Refusal::of(10, 0), None);
+        assert_eq!(Refusal::of(13, 0), None);
     }
 
     #[test]
@@ -126,5 +146,14 @@ mod tests {
         assert_eq!(Refusal::Name { line: 7 }.to_string(), "line 7: a field is no name");
         assert_eq!(Refusal::Room { kept: 3 }.to_string(), "the result slice is too short for 3 kept lines");
         assert_eq!(Refusal::Size.to_string(), "the file has more than 65,535 bytes");
+        for (number, full) in [
+            (6, "2,048 names"),
+            (10, "4,096 term lines or 16,384 references"),
+            (11, "1,024 record lines"),
+            (12, "2,048 trigger entries or 6,144 name uses"),
+        ] {
+            let words = Refusal::of(number, 7).unwrap().to_string();
+            assert_eq!(words, format!("line 7: the file has more than {full}"));
+        }
     }
 }

@@ -49,15 +49,22 @@ fn a_filter_runs_many_files() {
 fn every_refusal_of_the_exporter() {
     let long = vec![b'\n'; MOST_BYTES + 1];
     let many = format!("ask,0,0\n{}", "fun,f\n".repeat(2));
+    let names: String = (0..2_049).map(|index| format!(",n{index}")).collect();
+    let names = format!("ask,0,0\nretain{names}\n");
+    let terms = format!("ask,0,0\n{}", "leaf\n".repeat(4_097));
     let records = format!("ask,0,0\n{}", "retain\n".repeat(1_025));
-    let refused: [(&[u8], Refusal); 8] = [
+    let entries = format!("ask,0,0\nleaf\nall,0,2049{}\nassume,a,0,1\n", ",0".repeat(2_049));
+    let refused: [(&[u8], Refusal); 11] = [
         (b"", Refusal::Form { line: 1 }),
         (b"ask,0,0", Refusal::Form { line: 1 }),
         (b"ask,0,0\nfree,p q\n", Refusal::Name { line: 2 }),
         (b"ask,256,0\n", Refusal::Number { line: 1 }),
         (b"ask,0,0\nlabel,0\n", Refusal::Term { line: 2 }),
         (many.as_bytes(), Refusal::Repeated { line: 3 }),
-        (records.as_bytes(), Refusal::Limit { line: 1_026 }),
+        (names.as_bytes(), Refusal::FullNames { line: 2 }),
+        (terms.as_bytes(), Refusal::FullTerms { line: 4_098 }),
+        (records.as_bytes(), Refusal::FullRecords { line: 1_026 }),
+        (entries.as_bytes(), Refusal::FullTriggers { line: 4 }),
         (&long, Refusal::Size),
     ];
     let mut filter = Filter::new();
