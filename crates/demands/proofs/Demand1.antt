@@ -341,8 +341,11 @@ module _ {r : Refusal} (of-line : Of-line r) (not-fields : Of-fields r → ⊥) 
 
       to : outcome file works room ≡ refusal-at r n → When-past Past file works n
       to e =
-          let (j, p) = line-refused file works room r n of-line .0 e in
-          (j, ⊎-elim (λ q. absurd (not-fields (rw (q .1) of-form))) (λ (l, x). at-line l (line-view _ n (l .state) (l .line)) x) p)
+          let (j, p) = line-refused file works room r n of-line .0 e in (
+            j,
+            ⊎-elim (λ q. absurd (not-fields (rw (q .1) of-form)))
+                (λ (l, x). at-line l (line-view exclude-names n (l .state) (l .line)) x) p,
+          )
 
       from : When-past Past file works n → outcome file works room ≡ refusal-at r n
       from (j, (l, c, says, fresh, past)) =
@@ -387,4 +390,5 @@ refusal-11 = refusal-past full-records (λ o. elim o [ ]) (λ e. clash (cc)) (λ
 
 -- the answer is 12 exactly under its condition
 pub refusal-12 : Refusal-12
-refusal-12 = refusal-past full-triggers (λ o. elim o [ ]) (λ e. clash (cc)) (λ s. (lowest-12, λ (n, t, r, h). past-triggers n t r h))
+refusal-12 =
+    refusal-past full-triggers (λ o. elim o [ ]) (λ e. clash (cc)) (λ s. (lowest-12, λ (n, t, r, h). past-triggers n t r h))

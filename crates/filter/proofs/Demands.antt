@@ -99,8 +99,8 @@ module _ (l : List ℕ) (seen turns : ℕ) where
 -- the refusals by their numbers from 1
 refusals : List Refusal
 refusals =
-    refusal.Form ∷ refusal.Name ∷ refusal.Number ∷ refusal.Term ∷ refusal.Repeated ∷ refusal.FullNames ∷ refusal.Working ∷ refusal.Room
-    ∷ refusal.Size ∷ refusal.FullTerms ∷ refusal.FullRecords ∷ refusal.FullTriggers ∷ []
+    refusal.Form ∷ refusal.Name ∷ refusal.Number ∷ refusal.Term ∷ refusal.Repeated ∷ refusal.FullNames
+    ∷ refusal.Working ∷ refusal.Room ∷ refusal.Size ∷ refusal.FullTerms ∷ refusal.FullRecords ∷ refusal.FullTriggers ∷ []
 
 -- the verdict of a number
 of-number : ℕ → Verdict

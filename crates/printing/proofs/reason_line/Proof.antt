@@ -33,7 +33,8 @@ returns c =
     let at-of-call = at-if1 .before in
     let at-refusal-number = at-of-call .before in
     let text = puts-then (at-put-reason .put-reason .ensures .0) (at-put .put .ensures) in
-    held text (reason-alone _ _ _ (at-refusal-number .refusal-number .ensures) (at-of-call .of-call .ensures) (at-if1 .if1 .taken))
+    let number = at-refusal-number .refusal-number .ensures in
+    held text (reason-alone _ _ _ number (at-of-call .of-call .ensures) (at-if1 .if1 .taken))
 
 slice-aggregate-put-2 : tie.Need-slice-aggregate-put-2
 slice-aggregate-put-2 c = search needs
@@ -75,7 +76,8 @@ returns-2 c =
     let at-refusal-number = at-of-call .before in
     let line = puts-then (puts-then (at-put2 .put2 .ensures) (at-put-number .put-number .ensures .0)) (at-put3 .put3 .ensures) in
     let text = puts-then (puts-then line (at-put-reason2 .put-reason2 .ensures .0)) (at-put4 .put4 .ensures) in
-    held text (reason-parts _ _ _ (at-refusal-number .refusal-number .ensures) (at-of-call .of-call .ensures) (at-if1 .if1 .left))
+    let number = at-refusal-number .refusal-number .ensures in
+    held text (reason-parts _ _ _ number (at-of-call .of-call .ensures) (at-if1 .if1 .left))
 
 pub reason-line-spec : {M : Type 1} → statement M
 reason-line-spec =
