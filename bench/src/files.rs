@@ -51,7 +51,8 @@ pub fn real(folder: &Path) -> io::Result<Vec<Sample>> {
 
 /// Files that ask for much work.
 pub fn ugly() -> Vec<Sample> {
-    let files: [(&str, Vec<u8>); 9] = [
+    let files: [(&str, Vec<u8>); 10] = [
+        ("1,024 facts that walk 4,096 terms three times each", three_walks()),
         ("a deep chain named by a thousand records", deep_chain()),
         ("a wide term named by a thousand records", wide_term()),
         ("an `and` of references to a run of labels", labels()),
@@ -63,6 +64,23 @@ pub fn ugly() -> Vec<Sample> {
         ("no file at all", Vec::new()),
     ];
     files.map(|(name, file)| Sample { name: name.to_owned(), sort: Sort::Ugly, file }).into()
+}
+
+/// The most work that was found: as many terms and facts as there may be, each term naming the one before, each fact an
+/// equation of the last with itself, so that both sides and the whole are walked.
+fn three_walks() -> Vec<u8> {
+    let mut text = Text::ask(0, 4);
+    let bottom = text.free("p");
+    let mut last = bottom;
+    for _ in 0..4_093 {
+        last = text.bind(last, &[bottom]);
+    }
+    let wide = text.bind(last, &vec![bottom; 1_400]);
+    let equation = text.op("eq", &[wide, wide]);
+    for index in 0..1_024 {
+        text.assume(format!("{index:x}"), 0, equation);
+    }
+    text.finish()
 }
 
 /// Each term names the one before twice, and each record the last.
