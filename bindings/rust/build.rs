@@ -1,7 +1,7 @@
 //! Links the archive of the proved library.
 //!
 //! `WIMPLEJADE_LIB` names an archive to take, by its whole path. Without it the script runs `rt staticlib wimplejade` in
-//! the repository, which proves the library first: some ten minutes from nothing, seconds once it is proved.
+//! the repository, which proves the library first: some minutes from nothing, seconds once it is proved.
 
 use std::env;
 use std::fs;
