@@ -5,6 +5,7 @@ use std::io;
 use std::path::Path;
 
 use compare::export::export;
+use compare::limits;
 use compare::text::Text;
 
 /// Where a file comes from.
@@ -52,7 +53,7 @@ pub fn real(folder: &Path) -> io::Result<Vec<Sample>> {
 /// Files that ask for much work.
 pub fn ugly() -> Vec<Sample> {
     let files: [(&str, Vec<u8>); 10] = [
-        ("1,024 facts that walk 4,096 terms three times each", three_walks()),
+        ("a chain of 4,096 terms walked 4,095 times", most_walks()),
         ("a deep chain named by a thousand records", deep_chain()),
         ("a wide term named by a thousand records", wide_term()),
         ("an `and` of references to a run of labels", labels()),
@@ -66,20 +67,26 @@ pub fn ugly() -> Vec<Sample> {
     files.map(|(name, file)| Sample { name: name.to_owned(), sort: Sort::Ugly, file }).into()
 }
 
-/// The most work that was found: as many terms and facts as there may be, each term naming the one before, each fact an
-/// equation of the last with itself, so that both sides and the whole are walked.
-fn three_walks() -> Vec<u8> {
+/// The most work that was found: a chain of nearly as many terms as there may be, walked three times for each fact but the
+/// last, which the third rule asks whether its one set is empty, and a thousand times for the last, of as many groups as
+/// there are trigger entries left.
+fn most_walks() -> Vec<u8> {
     let mut text = Text::ask(0, 4);
     let bottom = text.free("p");
     let mut last = bottom;
-    for _ in 0..4_093 {
-        last = text.bind(last, &[bottom]);
+    while text.terms() < limits::TERMS - 5 {
+        last = text.bind(last, &[]);
     }
-    let wide = text.bind(last, &vec![bottom; 1_400]);
-    let equation = text.op("eq", &[wide, wide]);
-    for index in 0..1_024 {
-        text.assume(format!("{index:x}"), 0, equation);
+    let wide = text.bind(last, &vec![bottom; 2_000]);
+    let payload = text.all(wide, &[vec![wide]]);
+    let squash = text.call("Prims.squash", &[bottom, payload]);
+    let typed = text.call("HasType", &[bottom, squash]);
+    let facts = limits::RECORDS - 1;
+    let grouped = text.all(wide, &vec![vec![wide]; limits::ENTRIES - facts]);
+    for index in 0..facts {
+        text.assume(format!("{index:x}"), 0, typed);
     }
+    text.assume("last", 0, grouped);
     text.finish()
 }
 

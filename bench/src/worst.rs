@@ -13,7 +13,10 @@ use crate::sides::Library;
 
 /// What a file is made from, each a number below its bound in [`BOUNDS`].
 #[derive(Clone, Copy, Debug, PartialEq, Eq)]
-pub struct Shape([usize; 11]);
+pub struct Shape([usize; NUMBERS]);
+
+/// How many numbers make a shape.
+const NUMBERS: usize = 11;
 
 /// The name at the bottom: one that counts, one that does not, one that is no name.
 const BOTTOM: usize = 0;
@@ -33,7 +36,7 @@ const FACT: usize = 8;
 const GROUPS: usize = 9;
 const FACTS: usize = 10;
 
-const BOUNDS: [usize; 11] = [3, limits::TERMS, 5, 6, 2, limits::REFERENCES, 4, 2, 7, 2_049, 101];
+const BOUNDS: [usize; NUMBERS] = [3, limits::TERMS, 5, 6, 2, limits::REFERENCES, 4, 2, 7, 2_049, 101];
 
 impl Shape {
     fn random(random: &mut Random) -> Self {
@@ -78,11 +81,11 @@ impl Shape {
         };
         let fact = fact(&mut text, number[FACT], number[GROUPS], end, wide);
         for index in 0..limits::RECORDS {
-            match index % 100 < number[FACTS] {
-                true => {
-                    text.assume(format!("{}{index:x}", if number[FACT] == 1 { "assumption_" } else { "" }), 0, fact)
-                }
-                false => text.root(0, "r", wide),
+            if index % 100 < number[FACTS] {
+                let start = if number[FACT] == 1 { "assumption_" } else { "" };
+                text.assume(format!("{start}{index:x}"), 0, fact);
+            } else {
+                text.root(0, "r", wide);
             }
         }
         let mut file = text.finish();
@@ -132,9 +135,9 @@ const PATIENCE: usize = 300;
 /// The worst shape that is found from a seed within some time, and its file.
 pub fn search(seed: u64, within: Duration) -> (Shape, Vec<u8>) {
     let (mut random, mut library, start) = (Random::new(seed), Library::new(), Instant::now());
-    let mut worst = (Duration::ZERO, Shape([0; 11]));
+    let mut worst = (Duration::ZERO, Shape([0; NUMBERS]));
     while start.elapsed() < within {
-        let mut here = (Duration::ZERO, Shape([0; 11]));
+        let mut here = (Duration::ZERO, Shape([0; NUMBERS]));
         for _ in 0..STARTS {
             let shape = Shape::random(&mut random);
             here = larger(here, (time(&mut library, &shape.file()), shape));

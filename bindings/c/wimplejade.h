@@ -34,7 +34,7 @@ enum wimplejade_refusal {
     WIMPLEJADE_NUMBER = 3,        /* a field is no number, or outside its range; the line */
     WIMPLEJADE_TERM = 4,          /* a term number that is not there yet; the line */
     WIMPLEJADE_REPEATED = 5,      /* the name of an earlier assume, fun or def; the line */
-    WIMPLEJADE_FULL_NAMES = 6,    /* more than 2,048 names; the line that has the first too many */
+    WIMPLEJADE_FULL_NAMES = 6,    /* more than 2,048 names; the line */
     WIMPLEJADE_WORKING = 7,       /* a working slice is too short; 0 */
     WIMPLEJADE_ROOM = 8,          /* the result slice is shorter than the kept lines; how many they are */
     WIMPLEJADE_SIZE = 9,          /* the file has more than WIMPLEJADE_MOST_BYTES; 0 */

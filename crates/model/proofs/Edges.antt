@@ -289,6 +289,17 @@ retain-names : (next-line (retained 1 2046) "retain,a,b" ≡ 0) × (next-line (r
 unfolding passes retained filled x-term refusal-of next-line
 retain-names = (refl, refl)
 
+-- 10: 4,096 term lines and 16,384 references pass, the next does not; 12: 6,144 name uses pass, the next does not
+one-limit :
+    (next-line (filled 1 4095 0 0 0 0) "leaf" ≡ 0)
+    × (next-line (filled 1 4096 0 0 0 0) "leaf" ≡ 10)
+    × (next-line (filled 1 1 16383 0 0 0) "label,0" ≡ 0)
+    × (next-line (filled 1 1 16384 0 0 0) "label,0" ≡ 10)
+    × (next-line (filled 1 1 0 0 0 6143) "root,0,a,0" ≡ 0)
+    × (next-line (filled 1 1 0 0 0 6144) "root,0,a,0" ≡ 12)
+unfolding passes filled x-term refusal-of next-line
+one-limit = (refl, refl, refl, refl, refl, refl)
+
 -- a line that passes two limits is refused with the lower number: names, 6, before all others
 names-and-another :
     (next-line (filled 2048 4096 0 0 0 0) "free,a" ≡ 6)

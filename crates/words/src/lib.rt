@@ -11,7 +11,7 @@ pub fn at(w: &[u32], i: usize) -> usize
     w[i] as usize
 }
 
-// The words that are set to zero in one go: the C library fills so short a block with vector stores.
+// The words that are cleared in one block; why so few: docs/PERFORMANCE.md.
 const BLOCK: usize = 256;
 
 // How much of what is left to clear goes into the next block.
