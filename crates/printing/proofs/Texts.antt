@@ -9,12 +9,12 @@ use mathlib.Core.List.{List, [], _∷_, _++_, append-assoc, append-nil}
 use lib.Dec.{leb}
 use lib.ListN.{length, take, drop, getD, set, length-append, length-set, length-take}
 use lib.Seq.{take-suc, take-suc-set, take-all}
-use borrow.Author.Tests.{lt-ltb, le-ltb, lt-leb, le-leb, leb-true, leb-false}
+use borrow.Author.Tests.{lt-ltb, le-ltb, leb-true, leb-false}
 use Rattle.io.specs.Digits as io
 use Rattle.model.specs.Names.{bytes}
 use Rattle.model.specs.Outcome.{refusal-number}
 use Rattle.model.specs.declared.Refusal.{Refusal}
-use Rattle.printing.specs.Printed.{digits, show, comma, Puts, Holds, name-on, line, kept-line, sum-line, refused-line, reason, of-call, reason-line}
+use Rattle.printing.specs.Printed.{digits, show, comma, Puts, Holds, name-on, line, kept-line, sum-line, refused-line, reason, has-line, reason-line}
 
 -- ---- bytes
 
@@ -134,31 +134,18 @@ unfolding refused-line line comma bytes
 refused-parts r place number q =
     ap (λ n. (((bytes "refused," ++ show n) ++ bytes ",") ++ show place) ++ bytes "\n") q ∙ simp append-assoc
 
--- a number from 7 to 9 is of the call
-pub of-call-from : (number : ℕ) → 7 ≤ number → number ≤ 9 → true ≡ of-call number
-unfolding of-call
-of-call-from number h k = rw (le-leb 7 number h, le-leb number 9 k)
-
--- one below is not
-pub of-call-below : (number : ℕ) → number < 7 → false ≡ of-call number
-unfolding of-call
-of-call-below number h = rw (lt-leb 7 number h)
-
--- one above is not
-pub of-call-above : (number : ℕ) → 7 ≤ number → 9 < number → false ≡ of-call number
-unfolding of-call
-of-call-above number h k = rw (le-leb 7 number h, lt-leb number 9 k)
+-- whether a refusal that is known has a line
+pub line-is : {r x : Refusal} {b : Bool} → r ≡ x → b ≡ has-line x → b ≡ has-line r
+line-is e p = p ∙ ap has-line (sym e)
 
 -- the parts of a refusal in words that has a line
-pub reason-parts : (r : Refusal) (place number : ℕ) {alone : Bool} → number ≡ refusal-number r
-    → alone ≡ of-call number → alone ≡ false
+pub reason-parts : (r : Refusal) (place : ℕ) {lined : Bool} → lined ≡ has-line r → lined ≡ true
     → (((bytes "line " ++ show place) ++ bytes ": ") ++ reason r) ++ bytes "\n" ≡ reason-line r place
 unfolding reason-line bytes
-reason-parts r place number q h k = rw (← q, ← h, k) (simp append-assoc)
+reason-parts r place h k = rw (← h, k) (simp append-assoc)
 
 -- the parts of one that has none
-pub reason-alone : (r : Refusal) (place number : ℕ) {alone : Bool} → number ≡ refusal-number r
-    → alone ≡ of-call number → alone ≡ true
+pub reason-alone : (r : Refusal) (place : ℕ) {lined : Bool} → lined ≡ has-line r → lined ≡ false
     → reason r ++ bytes "\n" ≡ reason-line r place
 unfolding reason-line bytes
-reason-alone r place number q h k = rw (← q, ← h, k)
+reason-alone r place h k = rw (← h, k)

@@ -1,9 +1,9 @@
 -- The printed form of an answer, and a refusal in words.
 use Prim.Native.Nat.{ℕ, zero, suc, _+_, _/_, _%_, _≤_, _<_}
 use mathlib.Core.Path.{_≡_}
-use mathlib.Core.Bool.{Bool, cond, _&&_}
+use mathlib.Core.Bool.{Bool, true, false, cond}
 use mathlib.Core.List.{List, [], _∷_, _++_}
-use lib.Dec.{leb, ltb}
+use lib.Dec.{ltb}
 use lib.ListN.{length, take, drop, getD}
 use Rattle.model.specs.Names.{Name, bytes}
 use Rattle.model.specs.Lines.{Line, lines, Field, fields}
@@ -103,14 +103,25 @@ reason refusal.FullTerms = bytes "the file has more than 4,096 term lines or 16,
 reason refusal.FullRecords = bytes "the file has more than 1,024 record lines"
 reason refusal.FullTriggers = bytes "the file has more than 2,048 trigger entries or 6,144 name uses"
 
--- whether the refusal of this number is of the call and not of a line of the file: 7 to 9
-unfoldable pub of-call : ℕ → Bool
-of-call number = leb 7 number && leb number 9
+-- whether the place of a refusal is a line
+unfoldable pub has-line : Refusal → Bool
+has-line refusal.Form = true
+has-line refusal.Name = true
+has-line refusal.Number = true
+has-line refusal.Term = true
+has-line refusal.Repeated = true
+has-line refusal.FullNames = true
+has-line refusal.Working = false
+has-line refusal.Room = false
+has-line refusal.Size = false
+has-line refusal.FullTerms = true
+has-line refusal.FullRecords = true
+has-line refusal.FullTriggers = true
 
--- a refusal in words, with its line where the exporter of the file can cause it in a line
+-- a refusal in words, after its line where it has one
 unfoldable pub reason-line : Refusal → ℕ → List ℕ
 reason-line r place =
-    cond (of-call (refusal-number r)) (reason r) (bytes "line " ++ show place ++ bytes ": " ++ reason r) ++ (0x0a ∷ [])
+    cond (has-line r) (bytes "line " ++ show place ++ bytes ": " ++ reason r) (reason r) ++ (0x0a ∷ [])
 
 -- a text begins with a line of the printed form, for whatever the answer and its result slice are of
 pub record Answered (file : List ℕ) (a : Answer) (out : List ℕ) (i : ℕ) (text : List ℕ) (n : ℕ) : Type 0 where

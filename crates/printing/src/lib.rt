@@ -7,7 +7,7 @@ ghost use mathlib.Core.Path.{_≡_};
 ghost use lib.ListN.{length, getD};
 ghost use Rattle.model.specs.Lists.{part};
 ghost use Rattle.model.specs.Lines.{fields};
-ghost use Rattle.printing.specs.Printed.{show, Puts, Holds, Starts, second, name-on, kept-line, sum-line, refused-line, reason, of-call, reason-line, Answered, outcome-line};
+ghost use Rattle.printing.specs.Printed.{show, Puts, Holds, Starts, second, name-on, kept-line, sum-line, refused-line, reason, has-line, reason-line, Answered, outcome-line};
 
 // Writes bytes from a place on; where they end.
 fn put(text: &mut [u8], at: usize, bytes: &[u8]) -> usize
@@ -176,28 +176,38 @@ fn put_reason(text: &mut [u8], at: usize, r: Refusal) -> usize
     }
 }
 
-// Whether the refusal of this number is of the call and not of a line of the file: 7 to 9.
-fn of_call(number: u32) -> bool
-    ensures { λ r. ⌜ r ≡ of-call number ⌝ }
+// Whether the place of a refusal is a line.
+fn has_line(r: Refusal) -> bool
+    ensures { λ b. ⌜ b ≡ has-line r ⌝ }
 {
-    match number {
-        7..=9 => true,
-        _ => false,
+    match r {
+        Refusal::Form => true,
+        Refusal::Name => true,
+        Refusal::Number => true,
+        Refusal::Term => true,
+        Refusal::Repeated => true,
+        Refusal::FullNames => true,
+        Refusal::Working => false,
+        Refusal::Room => false,
+        Refusal::Size => false,
+        Refusal::FullTerms => true,
+        Refusal::FullRecords => true,
+        Refusal::FullTriggers => true,
     }
 }
 
-// Writes a refusal in words, with its line where it has one; the length.
+// Writes a refusal in words, after its line where it has one; the length.
 pub fn reason_line(r: Refusal, place: u32, text: &mut [u8]) -> usize
     requires { ⌜ 128 ≤ length (now text) ⌝ }
     ensures { λ n. ⌜ Holds (reason-line r place) (now (text .exit)) n ⌝ }
 {
-    if of_call(filter::refusal_number(r)) {
-        let at = put_reason(text, 0, r);
+    if has_line(r) {
+        let mut at = put(text, 0, b"line ");
+        at = put_number(text, at, place);
+        at = put(text, at, b": ");
+        at = put_reason(text, at, r);
         return put(text, at, b"\n");
     }
-    let mut at = put(text, 0, b"line ");
-    at = put_number(text, at, place);
-    at = put(text, at, b": ");
-    at = put_reason(text, at, r);
+    let at = put_reason(text, 0, r);
     put(text, at, b"\n")
 }

@@ -2,18 +2,11 @@
 use Rattle.model.specs.Names.{bytes}
 use Rattle.printing.proofs.Texts.{puts-then, held, reason-parts, reason-alone}
 use borrow.Author.Needs.{needs}
-use native.Mathlib.Omega.{arith}
 use Rattle.printing.proofs.reason_line.Statement.{statement}
 use Rattle.printing.proofs.reason_line.Tie as tie
 
-refusal-number-requires : tie.Need-refusal-number-requires
-refusal-number-requires c κs = search needs
-
-of-call-requires : tie.Need-of-call-requires
-of-call-requires c κs = tt
-
-put-reason-requires : tie.Need-put-reason-requires
-put-reason-requires c κs = search needs
+has-line-requires : tie.Need-has-line-requires
+has-line-requires c κs = tt
 
 slice-aggregate-put : tie.Need-slice-aggregate-put
 slice-aggregate-put c = search needs
@@ -21,20 +14,8 @@ slice-aggregate-put c = search needs
 put-requires : tie.Need-put-requires
 put-requires c κs = search needs
 
-same-length : tie.Need-same-length
-same-length c = search needs
-
-returns : tie.Need-returns
-unfolding bytes
-returns c =
-    let at-put = c .before .before in
-    let at-put-reason = at-put .before .before .before .before .before in
-    let at-if1 = at-put-reason .before .before in
-    let at-of-call = at-if1 .before in
-    let at-refusal-number = at-of-call .before in
-    let text = puts-then (at-put-reason .put-reason .ensures .0) (at-put .put .ensures) in
-    let number = at-refusal-number .refusal-number .ensures in
-    held text (reason-alone _ _ _ number (at-of-call .of-call .ensures) (at-if1 .if1 .taken))
+put-number-requires : tie.Need-put-number-requires
+put-number-requires c κs = search needs
 
 slice-aggregate-put-2 : tie.Need-slice-aggregate-put-2
 slice-aggregate-put-2 c = search needs
@@ -42,14 +23,30 @@ slice-aggregate-put-2 c = search needs
 put-requires-2 : tie.Need-put-requires-2
 put-requires-2 c κs = search needs
 
-put-number-requires : tie.Need-put-number-requires
-put-number-requires c κs = search needs
+put-reason-requires : tie.Need-put-reason-requires
+put-reason-requires c κs = search needs
 
 slice-aggregate-put-3 : tie.Need-slice-aggregate-put-3
 slice-aggregate-put-3 c = search needs
 
 put-requires-3 : tie.Need-put-requires-3
 put-requires-3 c κs = search needs
+
+same-length : tie.Need-same-length
+same-length c = search needs
+
+returns : tie.Need-returns
+unfolding bytes
+returns c =
+    let at-put3 = c .before .before in
+    let at-put-reason = at-put3 .before .before .before .before .before in
+    let at-put2 = at-put-reason .before .before .before .before in
+    let at-put-number = at-put2 .before .before .before .before .before in
+    let at-put = at-put-number .before .before .before .before in
+    let at-if1 = at-put .before .before .before in
+    let line = puts-then (puts-then (at-put .put .ensures) (at-put-number .put-number .ensures .0)) (at-put2 .put2 .ensures) in
+    let text = puts-then (puts-then line (at-put-reason .put-reason .ensures .0)) (at-put3 .put3 .ensures) in
+    held text (reason-parts _ _ (at-if1 .before .has-line .ensures) (at-if1 .if1 .taken))
 
 put-reason-requires-2 : tie.Need-put-reason-requires-2
 put-reason-requires-2 c κs = search needs
@@ -68,33 +65,25 @@ unfolding bytes
 returns-2 c =
     let at-put4 = c .before .before in
     let at-put-reason2 = at-put4 .before .before .before .before .before in
-    let at-put3 = at-put-reason2 .before .before .before .before in
-    let at-put-number = at-put3 .before .before .before .before .before in
-    let at-put2 = at-put-number .before .before .before .before in
-    let at-if1 = at-put2 .before .before .before in
-    let at-of-call = at-if1 .before in
-    let at-refusal-number = at-of-call .before in
-    let line = puts-then (puts-then (at-put2 .put2 .ensures) (at-put-number .put-number .ensures .0)) (at-put3 .put3 .ensures) in
-    let text = puts-then (puts-then line (at-put-reason2 .put-reason2 .ensures .0)) (at-put4 .put4 .ensures) in
-    let number = at-refusal-number .refusal-number .ensures in
-    held text (reason-parts _ _ _ number (at-of-call .of-call .ensures) (at-if1 .if1 .left))
+    let at-if1 = at-put-reason2 .before .before in
+    let text = puts-then (at-put-reason2 .put-reason2 .ensures .0) (at-put4 .put4 .ensures) in
+    held text (reason-alone _ _ (at-if1 .before .has-line .ensures) (at-if1 .if1 .left))
 
 pub reason-line-spec : {M : Type 1} → statement M
 reason-line-spec =
     tie.close
     (tie.spec
-    refusal-number-requires
-    of-call-requires
-    put-reason-requires
+    has-line-requires
     slice-aggregate-put
     put-requires
-    same-length
-    returns
+    put-number-requires
     slice-aggregate-put-2
     put-requires-2
-    put-number-requires
+    put-reason-requires
     slice-aggregate-put-3
     put-requires-3
+    same-length
+    returns
     put-reason-requires-2
     slice-aggregate-put-4
     put-requires-4
