@@ -23,7 +23,13 @@ use Rattle.demands.specs.Accepted.{Accepted}
 use Rattle.demands.specs.Demand2.{kept-list}
 use Rattle.demands.specs.Demand3.{run-of}
 use Rattle.demands.specs.LineForm.{Faulty-line}
-use Rattle.demands.specs.Demand1.{Short-slice, Lines-judged, Of-line, Of-fields, form as of-form, repeated as line-repeated, full-names, full-terms, full-records, full-triggers, Reached-line, Fields-refused, no-final-0a, faulty, Says, Takes, by-assume, by-fun, by-def, Repeats, When-past, Past-names, Past-terms, Past-records, Past-triggers, Refusal-5, Refusal-6, Refusal-7, Refusal-8, Refusal-9, Refusal-10, Refusal-11, Refusal-12, List-given, Line-refused, Refusals-1-to-4}
+use Rattle.demands.specs.Demand1.{Short-slice, Lines-judged, Reached-line, Fields-refused, no-final-0a, faulty, Says}
+use Rattle.demands.specs.Demand1.{Of-fields, Of-line, form as of-form, repeated as line-repeated}
+use Rattle.demands.specs.Demand1.{full-names, full-terms, full-records, full-triggers}
+use Rattle.demands.specs.Demand1.{Takes, by-assume, by-fun, by-def, Repeats}
+use Rattle.demands.specs.Demand1.{When-past, Past-names, Past-terms, Past-records, Past-triggers}
+use Rattle.demands.specs.Demand1.{Line-refused, Refusals-1-to-4, Refusal-5, Refusal-6, Refusal-7, Refusal-8, Refusal-9}
+use Rattle.demands.specs.Demand1.{Refusal-10, Refusal-11, Refusal-12, List-given}
 use Rattle.demands.proofs.ReadingLaws.{Lowest, past-names, past-terms, past-records, past-triggers, Line-view, unended, unparsed, repeated, past-limit, accepted, line-view, unended-line, unparsed-line, repeated-line, past-line}
 use Rattle.demands.proofs.LineForm.{refused-line}
 use Rattle.demands.proofs.Refusals.{parse-refusal, fields-line, limit-not-fields, Reaches, file-refused, refused-file, refused-empty, file-refusal}

@@ -4,7 +4,7 @@ use native.Mathlib.Nat.{add-zero}
 use native.Mathlib.Omega.{arith}
 use mathlib.Core.Path.{_≡_, refl, _∙_, ap, subst}
 use mathlib.Core.Logic.{inl, inr, ⊎-elim}
-use mathlib.Core.Bool.{Bool, true, false, cond, not, _&&_, Bool·beq}
+use mathlib.Core.Bool.{Bool, true, false, not, _&&_, Bool·beq}
 use mathlib.Core.Option.{some}
 use mathlib.Core.List.{List, [], _∷_}
 use lib.Dec.{T, not-T, leb, leb→le, nleb→lt, ltb, ltb→lt, eqb}
@@ -168,6 +168,10 @@ module _ {A : Type 0} where
       (λ t. cond-false (leb counted limit) (under-limits more a) (refused r) t ∙ ap refused (same (nleb→lt counted limit t)))
       (T-dec (leb counted limit))
 
+  -- past the limits of a state, it is the lowest
+  pub under-lowest : {s : State} {x : Refusal} (a : A) → Lowest s x → under-limits (limits s) a ≡ refused x
+  under-lowest a l = under-first _ a (lowest-first l)
+
 -- where some count is past its limit there is a first
 some-first : (l : List (ℕ × ℕ × Refusal)) → T (not (all within l)) → (x : Refusal) × First-past l x
 unfolding all
@@ -208,7 +212,7 @@ module _ (exclude : List Name) (n : ℕ) (s : State) (line : Line) where
       -- a line past a limit is refused by the lowest
       pub past-line : {r : Refusal} → T (not (repeats exclude n s c)) → Lowest (add-line exclude n s c) r
           → read-line exclude n s line ≡ refused r
-      past-line t u = fresh-line t ∙ under-first (limits (add-line exclude n s c)) (add-line exclude n s c) (lowest-first u)
+      past-line t u = fresh-line t ∙ under-lowest (add-line exclude n s c) u
 
       -- any other line is added
       pub added-line : T (not (repeats exclude n s c)) → T (all within (limits (add-line exclude n s c))) → read-line exclude n s line ≡ ok (add-line exclude n s c)

@@ -158,7 +158,7 @@ abbrev pub Refusal-5 : Type 0
 Refusal-5 =
     (file works : List ℕ) (room n : ℕ) → (outcome file works room ≡ refusal-at refusal.Repeated n) ↔ When-5 file works n
 
--- "Limits: .. names .. 2,048 distinct": the counts of the file up to a line
+-- which counts of the file up to a line pass their limits: "names .. 2,048 distinct"
 abbrev pub Past-names : State → Type 0
 Past-names s = 2048 < length (s .names)
 
@@ -174,7 +174,7 @@ Past-records s = 1024 < length (s .decls) + length (s .roots)
 abbrev pub Past-triggers : State → Type 0
 Past-triggers s = (2048 < s .entries) ⊎ (6144 < s .uses)
 
--- "6: the line passes a limit other than the file's bytes", after 5: the counts up to this line are so
+-- after 5, "all at the place where 6 stood": the line with which the counts pass a limit
 abbrev pub When-past : (State → Type 0) → List ℕ → List ℕ → ℕ → Type 0
 When-past past file works n =
     Lines-judged file works

@@ -17,11 +17,6 @@ pub T-and : (a b : Bool) → T (a && b) ↔ (T a × T b)
 T-and true b = (λ t. (tt, t), λ p. p .1)
 T-and false b = (λ t. absurd t, λ p. absurd (p .0))
 
--- where a conjunction fails one of its parts does
-pub not-and : (a b : Bool) → T (not (a && b)) → T (not a) ⊎ T (not b)
-not-and true b t = inr t
-not-and false b t = inl tt
-
 -- one holds where the disjunction does, and back
 pub T-or : (a b : Bool) → T (a || b) ↔ (T a ⊎ T b)
 T-or true b = (λ t. inl tt, λ s. tt)

@@ -2,6 +2,7 @@
 use Prim.Native.Nat.{ℕ, _+_, _≤_, _<_}
 use native.Mathlib.Omega.{arith}
 use mathlib.Core.Path.{_≡_, refl, sym, ap, _∙_}
+use mathlib.Core.Logic.{inl, inr}
 use mathlib.Core.List.{List, [], append-nil}
 use lib.ListN.{length, length-append}
 use Rattle.model.specs.Lists.{collect, fold-left, sum}
@@ -18,6 +19,7 @@ use Rattle.model.specs.declared.Refusal.the-variants as refusal
 use Rattle.model.specs.declared.Step.{Step}
 use Rattle.model.specs.declared.Step.the-variants as step
 use Rattle.model.proofs.ResultLaws.{ok-eq, not-ok}
+use Rattle.demands.proofs.ReadingLaws.{Lowest, past-names as many-names, past-terms}
 use Rattle.text.specs.declared.Cursor.{Cursor}
 use Rattle.text.specs.Parts.{fields-left}
 use Rattle.names.specs.Table.{names-of}
@@ -32,7 +34,7 @@ use Rattle.records.specs.States.{state-of}
 use Rattle.records.specs.Adding.{excluded, Standing, judge, Adds, Untouched}
 use Rattle.records.specs.Adding as adds
 use Rattle.records.proofs.Recording.{decls-stay, roots-stay}
-use Rattle.records.proofs.Judging.{Beyond, many-names, many-terms, many-references, judged-beyond, judged-within, repeats-none}
+use Rattle.records.proofs.Judging.{judged-beyond, judged-within, repeats-none}
 use Rattle.records.proofs.Appending.{terms-length, standing-within}
 use Rattle.records.specs.Writing.{with-ask}
 use Rattle.reader.specs.Lines.{with-names, judged, Asks, asks, not-asked, Reads, goes-on, stops, Line-read}
@@ -84,12 +86,15 @@ module _ {file names refs rows recs out names′ refs′ rows′ : List ℕ} {k 
 
   -- the lowest limit that is passed
   line-beyond : {node : Node} {x : Refusal} → Passes file names refs rows names′ refs′ rows′ k node x
-      → Beyond (add-line excluded n (state-of file names refs rows recs out k) (term node)) x
+      → Lowest (add-line excluded n (state-of file names refs rows recs out k) (term node)) x
   unfolding state-of
   line-beyond {node} (names-passed h) = rw (term-line n (state-of file names refs rows recs out k) node) (many-names h)
-  line-beyond {node} (terms-passed l h) = rw (term-line n (state-of file names refs rows recs out k) node)
-      (many-terms l (omega (arith, one-more (terms-in file names refs rows (k .used) (k .many)) node, terms-length file names refs rows (k .used) (k .many))))
-  line-beyond {node} (references-passed l h) = rw (term-line n (state-of file names refs rows recs out k) node) (many-references l h)
+  line-beyond {node} (terms-passed l h) =
+      let terms = terms-in file names refs rows (k .used) (k .many) in
+      rw (term-line n (state-of file names refs rows recs out k) node) (past-terms (λ p. omega arith)
+      (inl (omega (arith, one-more terms node, terms-length file names refs rows (k .used) (k .many)))))
+  line-beyond {node} (references-passed l h) =
+      rw (term-line n (state-of file names refs rows recs out k) node) (past-terms (λ p. omega arith) (inr h))
 
   -- the line is refused with it
   grown-beyond : {node : Node} {x : Refusal} → Passes file names refs rows names′ refs′ rows′ k node x

@@ -15,6 +15,7 @@ use Rattle.model.specs.declared.Refusal.the-variants as refusal
 use Rattle.model.proofs.ResultLaws.{ok-eq, not-ok}
 use Rattle.model.proofs.ListLaws.{T-false, cond-true}
 use Rattle.model.proofs.SetLaws.{mem-intro, mem-elim}
+use Rattle.demands.proofs.ReadingLaws.{past-names as many-names}
 use Rattle.names.specs.Table.{Table, name-of, names-of}
 use Rattle.names.proofs.Laws.{names-length, names-intro}
 use Rattle.terms.proofs.Table.{rows-named, terms-named}
@@ -25,7 +26,7 @@ use Rattle.records.specs.Columns.{record-name, taken-column, first-column}
 use Rattle.records.specs.States.{state-of, decls-of}
 use Rattle.records.specs.Adding.{excluded, Standing, judge, Adds, Untouched}
 use Rattle.records.specs.Adding as adds
-use Rattle.records.proofs.Judging.{many-names, judged-beyond, repeats-one, taken-elim}
+use Rattle.records.proofs.Judging.{judged-beyond, repeats-one, taken-elim}
 use Rattle.records.proofs.Recording.{Agree, decls-stay, roots-stay}
 use Rattle.records.proofs.Keeping.{records-named, filing-kept, taken-kept}
 use Rattle.records.proofs.Chaining.{chained-kept}

@@ -15,6 +15,8 @@ use Rattle.model.specs.Reading.{Content, asked, nodes, spelled, trimmed, spell,
 use Rattle.model.specs.declared.Counts.{Counts}
 use Rattle.model.specs.declared.Refusal.{Refusal}
 use Rattle.model.specs.declared.Refusal.the-variants as refusal
+use Rattle.demands.specs.Demand1.{Past-names, Past-terms, Past-triggers}
+use Rattle.demands.proofs.ReadingLaws.{Lowest, past-records, past-triggers}
 use Rattle.names.specs.Table.{Table, name-of, names-of}
 use Rattle.names.proofs.Laws.{names-length}
 use Rattle.terms.specs.Rows.{terms-of, nodes-below, node-of}
@@ -34,7 +36,7 @@ use Rattle.records.specs.Writing.{with-record, Rowed}
 use Rattle.records.specs.Adding.{excluded, Standing, Adds, stops, added}
 use Rattle.records.proofs.Recording.{Agree, decls-stay, roots-stay, records-length}
 use Rattle.records.proofs.Keeping.{filing-more}
-use Rattle.records.proofs.Judging.{Within, Tables-within, Beyond, many-records, many-entries, many-uses, judged-repeated, judged-beyond, judged-within}
+use Rattle.records.proofs.Judging.{Within, judged-repeated, judged-beyond, judged-within}
 
 -- ---- how many terms there are
 
@@ -235,15 +237,17 @@ pub record One-record (file names refs rows : List ℕ) (k : Counts) (line : ℕ
 
 module _ {file names refs rows recs out : List ℕ} {k : Counts} (st : Standing file names refs rows recs out k) {line : ℕ}
     {c : Content} (one : One-record file names refs rows k line c) where
-  -- the names and terms with the line are within their limits
-  tables-within : Tables-within (add-line excluded line (state-of file names refs rows recs out k) c)
+  -- the names with the line are within their limit
+  names-fit : Past-names (add-line excluded line (state-of file names refs rows recs out k) c) → ⊥
+  unfolding add-line state-of
+  names-fit h = omega (arith, one .few-names)
+
+  -- the terms and their references are within theirs
+  terms-fit : Past-terms (add-line excluded line (state-of file names refs rows recs out k) c) → ⊥
   unfolding add-line state-of fold-left collect
-  tables-within = record {
-    names = one .few-names;
-    terms = rw (one .no-term)
-        (omega (arith, terms-length file names refs rows (k .used) (k .many), st .tables .term-table .few-rows));
-    references = rw (one .no-term) (omega (arith, st .tables .term-table .few-references));
-  }
+  terms-fit = rw (one .no-term) (⊎-elim
+      (λ h. omega (arith, terms-length file names refs rows (k .used) (k .many), st .tables .term-table .few-rows))
+      (λ h. omega (arith, st .tables .term-table .few-references)))
 
   -- with the line there is one record more
   records-more : length (add-line excluded line (state-of file names refs rows recs out k) c .decls)
@@ -268,21 +272,20 @@ module _ {file names refs rows recs out names′ rows′ recs′ out′ : List �
 
   module _ (new : repeats excluded line (state-of file names refs rows recs out k) c ≡ false) where
     -- a limit is passed
-    pub record-beyond : {x : Refusal} → Beyond (add-line excluded line (state-of file names refs rows recs out k) c) x
+    pub record-beyond : {x : Refusal} → Lowest (add-line excluded line (state-of file names refs rows recs out k) c) x
         → Adds file names refs rows recs out names′ rows′ recs′ out′ k line c (step.Refused x)
-    record-beyond {x} b =
-        stops {x = x} (st .tables .name-table .few) (judged-beyond line (state-of file names refs rows recs out k) c new b)
+    record-beyond {x} l =
+        stops {x = x} (st .tables .name-table .few) (judged-beyond line (state-of file names refs rows recs out k) c new l)
 
     module _ (one : One-record file names refs rows k line c) where
       -- there are as many records as may be
       pub record-crowded : most-records ≤ k .records
           → Adds file names refs rows recs out names′ rows′ recs′ out′ k line c (step.Refused refusal.FullRecords)
-      record-crowded h = record-beyond (many-records (tables-within st one) (omega (arith, records-more st one)))
+      record-crowded h = record-beyond (past-records (names-fit st one) (terms-fit st one) (omega (arith, records-more st one)))
 
       -- more entries or uses than may be, and room for a record
       pub record-over : k .records < most-records
-          → (most-entries < add-line excluded line (state-of file names refs rows recs out k) c .entries)
-          ⊎ (most-uses < add-line excluded line (state-of file names refs rows recs out k) c .uses)
+          → Past-triggers (add-line excluded line (state-of file names refs rows recs out k) c)
           → Adds file names refs rows recs out names′ rows′ recs′ out′ k line c (step.Refused refusal.FullTriggers)
-      record-over few (inl h) = record-beyond (many-entries (tables-within st one) (omega (arith, records-more st one)) h)
-      record-over few (inr h) = record-beyond (many-uses (tables-within st one) (omega (arith, records-more st one)) h)
+      record-over few h =
+          record-beyond (past-triggers (names-fit st one) (terms-fit st one) (λ p. omega (arith, records-more st one)) h)

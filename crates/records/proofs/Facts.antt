@@ -17,6 +17,7 @@ use Rattle.model.specs.declared.Counts.{Counts}
 use Rattle.model.specs.declared.Refusal.{Refusal}
 use Rattle.model.specs.declared.Refusal.the-variants as refusal
 use Rattle.model.proofs.PartLaws.{part-agree, part-elim, part-intro, part-length, part-at}
+use Rattle.demands.proofs.ReadingLaws.{past-names}
 use Rattle.names.specs.Table.{Excludes, name-of, names-of}
 use Rattle.names.proofs.Excluded.{excluded-exact}
 use Rattle.names.proofs.Coded.{Kept, table-kept}
@@ -38,7 +39,7 @@ use Rattle.records.specs.Writing.{with-record, Rowed, Puttable, Puts}
 use Rattle.records.specs.Adding.{excluded, behind-records, over-refusal, Standing, Adds, Untouched}
 use Rattle.records.proofs.Chaining.{chained-kept}
 use Rattle.records.proofs.Recording.{names-stay, disjuncts-stay}
-use Rattle.records.proofs.Judging.{many-names, repeats-taken, repeats-free}
+use Rattle.records.proofs.Judging.{repeats-taken, repeats-free}
 use Rattle.records.proofs.Appending.{Appends, One-record, record-added, record-repeated, record-crowded, record-over, record-beyond}
 use Rattle.records.proofs.Plain.{spelled-before, is-taken}
 use Rattle.records.proofs.Funs.{row-past, taken-put, small-row}
@@ -138,7 +139,7 @@ module _ {file names refs rows recs out : List ℕ} {k : Counts} (st : Standing 
     fact-unnamed : most-names < summed file names refs rows k i t .named
         → Adds file names refs rows recs out names′ rows′ recs′ out′ k line (said file names i flag t) (step.Refused refusal.FullNames)
     unfolding add-line state-of
-    fact-unnamed h = record-beyond st line (said file names i flag t) (fact-new free) (many-names (omega (arith, fact-named)))
+    fact-unnamed h = record-beyond st line (said file names i flag t) (fact-new free) (past-names (omega (arith, fact-named)))
 
     -- more entries or uses than may be, and the names within their limit
     fact-full : summed file names refs rows k i t .named ≤ most-names

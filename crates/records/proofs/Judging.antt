@@ -4,11 +4,11 @@ use native.Mathlib.Nat.{not-suc-le-zero}
 use native.Mathlib.Omega.{arith}
 use mathlib.Core.Path.{_≡_, refl, ap, _∙_}
 use mathlib.Core.Bool.{Bool, true, false, cond, _||_}
-use mathlib.Core.Logic.{_⊎_, ⊎-elim}
+use mathlib.Core.Logic.{⊎-elim}
 use mathlib.Core.List.{List, [], _∷_, List·Memᴰ, List·Memᴰ·head, List·Memᴰ·not-nil, List·Memᴰ·eq-of-singleton, List·Memᴰ·append-cases, Memᴰ·append-left, Memᴰ·append-right}
 use lib.ListN.{length}
-use lib.Dec.{T, leb, not-T}
-use borrow.Author.Tests.{le-leb, lt-leb}
+use lib.Dec.{T, not-T}
+use borrow.Author.Tests.{le-leb}
 use Rattle.model.specs.Lists.{collect, any}
 use Rattle.model.specs.Names.{Name, mem}
 use Rattle.model.specs.Reading.{Result, ok, refused, _>>=_, Content, State, taken-by, summarize-decl, limits, under-limits, add-line, repeats, read-line, parse, most-names, most-terms, most-references, most-records, most-entries, most-uses}
@@ -18,11 +18,11 @@ use Rattle.model.specs.declared.Refusal.{Refusal}
 use Rattle.model.specs.declared.Refusal.the-variants as refusal
 use Rattle.model.proofs.ListLaws.{T-true, T-false, collect-append}
 use Rattle.model.proofs.SetLaws.{mem-intro, mem-elim}
+use Rattle.demands.proofs.ReadingLaws.{Lowest, under-lowest}
 use Rattle.names.specs.Table.{name-of, names-of}
 use Rattle.names.proofs.Laws.{names-intro, distinct}
 use Rattle.terms.proofs.Laws.{equal}
 use Rattle.rules.specs.Views.{terms-in}
-use Rattle.model.specs.declared.Step.the-variants as step
 use Rattle.records.specs.Columns.{record-kind, record-name, retain-kind, taken-at}
 use Rattle.records.specs.States.{decl-at, fact-at, summary-at, decls-of, state-of}
 use Rattle.records.specs.Adding.{excluded, Standing, judge}
@@ -38,72 +38,11 @@ pub record Within (s : State) : Type 0 where
   pub entries : s .entries ≤ most-entries
   pub uses : s .uses ≤ most-uses
 
--- the limits of names and terms are kept
-pub record Tables-within (s : State) : Type 0 where
-  pub names : length (s .names) ≤ most-names
-  pub terms : length (s .terms) ≤ most-terms
-  pub references : s .references ≤ most-references
-
--- one is passed, and those of a lower refusal are kept
-pub data Beyond (s : State) : Refusal → Type 0 where
-  many-names : most-names < length (s .names) → Beyond s refusal.FullNames
-  many-terms : length (s .names) ≤ most-names → most-terms < length (s .terms) → Beyond s refusal.FullTerms
-  many-references : length (s .names) ≤ most-names → most-references < s .references → Beyond s refusal.FullTerms
-  many-records : Tables-within s → most-records < length (s .decls) + length (s .roots) → Beyond s refusal.FullRecords
-  many-entries : Tables-within s → length (s .decls) + length (s .roots) ≤ most-records → most-entries < s .entries
-      → Beyond s refusal.FullTriggers
-  many-uses : Tables-within s → length (s .decls) + length (s .roots) ≤ most-records → most-uses < s .uses
-      → Beyond s refusal.FullTriggers
-
--- the state is the value then
+-- where every limit is kept the state is the value
 pub within-limits : (s : State) → Within s → under-limits (limits s) s ≡ ok s
 unfolding limits under-limits
 within-limits s w =
     rw (le-leb _ _ (w .names), le-leb _ _ (w .terms), le-leb _ _ (w .references), le-leb _ _ (w .records), le-leb _ _ (w .entries), le-leb _ _ (w .uses))
-
-module _ {A : Type 0} (counted limit : ℕ) (x : Refusal) (more : List (ℕ × ℕ × Refusal)) (a : A) where
-  -- a limit that is passed refuses
-  here : limit < counted → under-limits ((counted, limit, x) ∷ more) a ≡ refused x
-  unfolding under-limits
-  here h = rw (lt-leb counted limit h)
-
-  -- and so does a later one with its refusal
-  later : under-limits more a ≡ refused x → under-limits ((counted, limit, x) ∷ more) a ≡ refused x
-  unfolding under-limits
-  later e = rw e (go (leb counted limit))
-    where
-      go : (b : Bool) → _≡_ {A = Result A} (cond b (refused x) (refused x)) (refused x)
-      go true = refl
-      go false = refl
-
-  -- behind a limit that is kept the others decide
-  behind : counted ≤ limit → under-limits ((counted, limit, x) ∷ more) a ≡ under-limits more a
-  unfolding under-limits
-  behind h = rw (le-leb counted limit h)
-
-module _ (s : State) where
-  -- the limits after those of names and terms
-  record-limits : List (ℕ × ℕ × Refusal)
-  record-limits =
-      (length (s .decls) + length (s .roots), most-records, refusal.FullRecords)
-      ∷ (s .entries, most-entries, refusal.FullTriggers)
-      ∷ (s .uses, most-uses, refusal.FullTriggers)
-      ∷ []
-
-  -- these decide where names and terms are within theirs
-  behind-tables : Tables-within s → under-limits (limits s) s ≡ under-limits record-limits s
-  unfolding limits record-limits
-  behind-tables w = behind _ _ _ _ _ (w .names) ∙ behind _ _ _ _ _ (w .terms) ∙ behind _ _ _ _ _ (w .references)
-
-  -- a refusal by limit
-  pub beyond-limits : {x : Refusal} → Beyond s x → under-limits (limits s) s ≡ refused x
-  unfolding limits record-limits
-  beyond-limits (many-names h) = here _ _ _ _ _ h
-  beyond-limits (many-terms n h) = behind _ _ _ _ _ n ∙ here _ _ _ _ _ h
-  beyond-limits (many-references n h) = behind _ _ _ _ _ n ∙ later _ _ _ _ _ (here _ _ _ _ _ h)
-  beyond-limits (many-records w h) = behind-tables w ∙ here _ _ _ _ _ h
-  beyond-limits (many-entries w r h) = behind-tables w ∙ behind _ _ _ _ _ r ∙ here _ _ _ _ _ h
-  beyond-limits (many-uses w r h) = behind-tables w ∙ behind _ _ _ _ _ r ∙ later _ _ _ _ _ (here _ _ _ _ _ h)
 
 -- ---- a line judged
 
@@ -131,11 +70,11 @@ module _ (n : ℕ) (s : State) (c : Content) where
   unfolding judge
   judged-repeated e = rw e
 
-  -- a limit
-  pub judged-beyond : repeats excluded n s c ≡ false → {x : Refusal} → Beyond (add-line excluded n s c) x
+  -- the lowest refusal of the limits that it passes
+  pub judged-beyond : repeats excluded n s c ≡ false → {x : Refusal} → Lowest (add-line excluded n s c) x
       → judge n s c ≡ refused x
   unfolding judge
-  judged-beyond e b = rw e (beyond-limits (add-line excluded n s c) b)
+  judged-beyond e l = rw e (under-lowest (add-line excluded n s c) l)
 
   -- the state with the line
   pub judged-within : repeats excluded n s c ≡ false → {t : State} → add-line excluded n s c ≡ t → Within t → judge n s c ≡ ok t

@@ -388,7 +388,7 @@ fn behind_records(records: usize) -> Refusal
 }
 
 // The refusal where a fact passes a limit of its summary: names come before all others.
-fn over(limit: Limit, records: usize) -> Refusal
+fn over_refusal(limit: Limit, records: usize) -> Refusal
     ensures { λ r. ⌜ r ≡ over-refusal limit records ⌝ }
 {
     match limit {
@@ -444,7 +444,7 @@ pub fn add_fact(
             }
             Step::On(put_fact(names, recs, out, k, line, name, flag, t, s))
         }
-        Summarized::Over(limit) => Step::Refused(over(limit, count)),
+        Summarized::Over(limit) => Step::Refused(over_refusal(limit, count)),
     }
 }
 

@@ -10,7 +10,7 @@ use Rattle.records.proofs.add_fact.Statement.{statement}
 use Rattle.records.proofs.add_fact.Tie as tie
 use Rattle.records.proofs.add_fact.Reads as reads
 use Rattle.records.proofs.add_fact.Lts as lts
-use Rattle.records.proofs.over.Reads as over-reads
+use Rattle.records.proofs.over_refusal.Reads as over-refusal-reads
 use Rattle.records.proofs.put_fact.Reads as put-fact-reads
 use Rattle.summary.proofs.summarize_assumption.Reads as summarize-assumption-reads
 use Rattle.words.proofs.at.Reads as at-reads
@@ -94,8 +94,8 @@ put-fact-requires c κs =
 enum-known-limit : tie.Need-enum-known-limit
 enum-known-limit c = c .match .keys2
 
-over-requires : tie.Need-over-requires
-over-requires c κs = search needs
+over-refusal-requires : tie.Need-over-refusal-requires
+over-refusal-requires c κs = search needs
 
 same-length-5 : tie.Need-same-length-5
 same-length-5 c = search needs
@@ -152,7 +152,7 @@ returns-5 c =
     let promises = at-summarize-assumption .summarize-assumption .ensures in
     let over = sym (at-limit .limit .given .1) ∙ promises .0 excluded (excludes-here st) in
     let free = at-if2 .if2 .left in
-    let told = c .over .ensures in (
+    let told = c .over-refusal .ensures in (
       fact-over st (entry .args .line) known (at-at .at .ensures) (entry .args .flag) (entry .args .t) free told over,
       over-past (promises .1 .1 .0),
     )
@@ -174,7 +174,7 @@ add-fact-spec =
     returns-3
     put-fact-requires
     enum-known-limit
-    over-requires
+    over-refusal-requires
     same-length-5
     same-length-6
     same-length-7

@@ -1,10 +1,10 @@
--- `records::over` meets its contract.
+-- `records::over_refusal` meets its contract.
 use borrow.Author.Needs.{needs}
 use Rattle.records.specs.Adding.{over-refusal}
-use Rattle.records.proofs.over.Statement.{statement}
-use Rattle.records.proofs.over.Tie as tie
-use Rattle.records.proofs.over.Reads as reads
-use Rattle.records.proofs.over.Lts as lts
+use Rattle.records.proofs.over_refusal.Statement.{statement}
+use Rattle.records.proofs.over_refusal.Tie as tie
+use Rattle.records.proofs.over_refusal.Reads as reads
+use Rattle.records.proofs.over_refusal.Lts as lts
 use Rattle.records.proofs.behind_records.Reads as behind-records-reads
 
 enum-told : tie.Need-enum-told
@@ -34,7 +34,7 @@ returns-3 : tie.Need-returns-3
 unfolding over-refusal
 returns-3 c = rw (c .before .enum-told3 .given .1) (c .behind-records2 .ensures)
 
-pub over-spec : {M : Type 1} → statement M
-over-spec =
+pub over-refusal-spec : {M : Type 1} → statement M
+over-refusal-spec =
     tie.close
     (tie.spec enum-told enum-told-2 behind-records-requires enum-told-3 behind-records-requires-2 returns returns-2 returns-3)
