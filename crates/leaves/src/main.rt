@@ -43,7 +43,11 @@ fn one_field(file: &[u8], table: &mut [u32], named: usize, start: usize, end: us
 {
     let c = Cursor { at: start, end };
     match c.name(file) {
-        FieldStep::Part { start, end, next: _ } => {
+        FieldStep::Part {
+            start,
+            end,
+            next: _,
+        } => {
             let s = names::spell(file, table, named, start, end);
             grown(s, named)
         }

@@ -32,7 +32,9 @@ pub const CODE: usize = 6144;
 
 // The known names in the order of their codes, each behind its length.
 const KNOWN: [u8; 250] =
-    *b"\x05SFuel\x05ZFuel\x07HasType\x08HasTypeZ\x0bHasTypeFuel\x05Valid\x07ApplyTT\x07ApplyTF\x0bPrims.lex_t\x0ais-BoxBool\x09is-BoxInt\x0cis-BoxString\x0ais-BoxReal\x0ais-BoxProp\x07BoxBool\x06BoxInt\x09BoxString\x07BoxReal\x07BoxProp\x0cPrims.squash\x0bPrims.hasEq\x08IsTotFun\x0bis-Tm_arrow\x0eTerm_constr_id\x10__uu__PartialApp";
+    *b"\x05SFuel\x05ZFuel\x07HasType\x08HasTypeZ\x0bHasTypeFuel\x05Valid\x07ApplyTT\x07ApplyTF\x0bPrims.lex_t\x0ais-BoxBool\
+      \x09is-BoxInt\x0cis-BoxString\x0ais-BoxReal\x0ais-BoxProp\x07BoxBool\x06BoxInt\x09BoxString\x07BoxReal\x07BoxProp\
+      \x0cPrims.squash\x0bPrims.hasEq\x08IsTotFun\x0bis-Tm_arrow\x0eTerm_constr_id\x10__uu__PartialApp";
 
 // The lengths of the shortest known name and of the longest.
 const SHORTEST: usize = 5;
