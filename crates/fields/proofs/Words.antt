@@ -1,4 +1,4 @@
--- Laws of words: the place of a field among words and what stands there, the kind of a line, the number of its fields.
+-- Laws of words: the key of a field and what it stands for, the kind of a line, the number of its fields.
 use Prim.Native.Nat.{ℕ, zero, suc, _+_, _-_, _*_, _≤_, _<_}
 use Prim.Native.String.{String}
 use native.Mathlib.Omega.{arith}
@@ -27,15 +27,15 @@ use Rattle.terms.specs.Rows.{op-of-code}
 use Rattle.fields.specs.declared.Kind.{Kind}
 use Rattle.fields.specs.declared.Kind.the-variants as kinded
 use Rattle.fields.specs.declared.OpWord.the-variants as worded
-use Rattle.fields.specs.Wording.{packed, key-of, is-byte, is-short, Keyed, look, term-kind, record-kind, kind-result, fixed-of, count-of, well-counted, as-op}
+use Rattle.fields.specs.Wording.{key-from, key-of, is-byte, longest-word, is-short, Keyed, look, term-kind, record-kind, kind-result, fixed-of, count-of, well-counted, as-op}
 
 -- ---- keys
 
--- bytes packed after a number make no smaller one
-packed-from : (n : ℕ) (l : List ℕ) → n ≤ packed n l
-unfolding packed
-packed-from n [] = omega arith
-packed-from n (b ∷ bs) = omega (arith, packed-from (n * 256 + b) bs)
+-- bytes put after a number make no smaller one
+key-grows : (n : ℕ) (l : List ℕ) → n ≤ key-from n l
+unfolding key-from
+key-grows n [] = omega arith
+key-grows n (b ∷ bs) = omega (arith, key-grows (n * 256 + b) bs)
 
 -- bytes of which all are bytes: the first is, and the others are
 byte-first : (b : ℕ) (bs : List ℕ) → all is-byte (b ∷ bs) ≡ true → (b < 256) × (all is-byte bs ≡ true)
@@ -43,37 +43,37 @@ unfolding all is-byte
 byte-first b bs h = let (x, y) = and-eq-true-iff (ltb b 256) (all is-byte bs) .0 h in (ltb-true b 256 x, y)
 
 -- bytes that make one number after numbers of the same size are the same
-packed-same : (m n : ℕ) (f g : List ℕ) → all is-byte f ≡ true → all is-byte g ≡ true → m < n * 256 → n < m * 256
-    → packed m f ≡ packed n g → (m ≡ n) × (f ≡ g)
-unfolding packed
-packed-same m n [] [] p q h k e = (e, refl)
-packed-same m n [] (b ∷ bs) p q h k e = absurd (omega (arith, packed-from (n * 256 + b) bs))
-packed-same m n (a ∷ l) [] p q h k e = absurd (omega (arith, packed-from (m * 256 + a) l))
-packed-same m n (a ∷ l) (b ∷ bs) p q h k e =
+key-same : (m n : ℕ) (f g : List ℕ) → all is-byte f ≡ true → all is-byte g ≡ true → m < n * 256 → n < m * 256
+    → key-from m f ≡ key-from n g → (m ≡ n) × (f ≡ g)
+unfolding key-from
+key-same m n [] [] p q h k e = (e, refl)
+key-same m n [] (b ∷ bs) p q h k e = absurd (omega (arith, key-grows (n * 256 + b) bs))
+key-same m n (a ∷ l) [] p q h k e = absurd (omega (arith, key-grows (m * 256 + a) l))
+key-same m n (a ∷ l) (b ∷ bs) p q h k e =
     let (x, xs) = byte-first a l p in
     let (y, ys) = byte-first b bs q in
-    let (d, rest) = packed-same (m * 256 + a) (n * 256 + b) l bs xs ys (omega arith) (omega arith) e in
+    let (d, rest) = key-same (m * 256 + a) (n * 256 + b) l bs xs ys (omega arith) (omega arith) e in
     (omega arith, ap₂ _∷_ (omega arith) rest)
 
 -- a field's own key tells it from every word
 pub key-short : (f : Field) {key : ℕ} → all is-byte f ≡ true → key ≡ key-of f → Keyed f key
 unfolding key-of is-short
-key-short f {key} p e = record { tells = λ w h. tell w (and-eq-true-iff (leb (length w) 6) (all is-byte w) .0 h .1) }
+key-short f {key} p e = record { tells = λ w h. tell w (and-eq-true-iff (leb (length w) longest-word) (all is-byte w) .0 h .1) }
   where
     tell : (w : Field) → all is-byte w ≡ true → same f w ≡ eqb key (key-of w)
     tell w q = rw e
-        (T-ext (λ t. rw (same-eq t) (eqb-refl (packed 1 w)))
-        (λ t. eq-same (packed-same 1 1 f w p q (omega arith) (omega arith) (eqb→eq (packed 1 f) (packed 1 w) t) .1)))
+        (T-ext (λ t. rw (same-eq t) (eqb-refl (key-from 1 w)))
+        (λ t. eq-same (key-same 1 1 f w p q (omega arith) (omega arith) (eqb→eq (key-from 1 f) (key-from 1 w) t) .1)))
 
 -- a part that is longer than any word is none
-pub key-long : (s : List ℕ) (a e : ℕ) → e ≤ length s → 6 < e - a → Keyed (part s a e) 0
+pub key-long : (s : List ℕ) (a e : ℕ) → e ≤ length s → longest-word < e - a → Keyed (part s a e) 0
 unfolding key-of is-short
 key-long s a e k h = record { tells = tell }
   where
     tell : (w : Field) → is-short w ≡ true → same (part s a e) w ≡ eqb 0 (key-of w)
     tell w t =
-        let l = leb-true (length w) 6 (and-eq-true-iff (leb (length w) 6) (all is-byte w) .0 t .0) in
-        same-sized s a e w k (λ d. omega arith) ∙ sym (ne-eqb 0 (packed 1 w) (λ d. omega (arith, packed-from 1 w)))
+        let l = leb-true (length w) longest-word (and-eq-true-iff (leb (length w) longest-word) (all is-byte w) .0 t .0) in
+        same-sized s a e w k (λ d. omega arith) ∙ sym (ne-eqb 0 (key-from 1 w) (λ d. omega (arith, key-grows 1 w)))
 
 -- how large the key of n bytes is at most
 unfoldable pub weight : ℕ → ℕ
@@ -96,27 +96,27 @@ weight-le (suc m) zero h = absurd (omega arith)
 weight-le (suc m) (suc n) h = omega (arith, weight-le m n (omega arith))
 
 -- another byte finds room
-pub weight-room : (a i e : ℕ) → i < e → e - a ≤ 6 → weight (i - a) ≤ 2199023255552
+pub weight-room : (a i e : ℕ) → i < e → e - a ≤ longest-word → weight (i - a) ≤ 2199023255552
 unfolding weight
 weight-room a i e h k = weight-le (i - a) 5 (omega arith)
 
--- and is packed
+-- and goes into the key
 pub weight-on : (key b a i : ℕ) → a ≤ i → key < weight (i - a) → b < 256 → key * 256 + b < weight (i + 1 - a)
 unfolding weight
 weight-on key b a i h k l =
     let n : i + 1 - a ≡ suc (i - a) = omega arith in
     rw n (omega arith)
 
--- a part from i up to e with bytes left: the byte at i is packed
-pub packed-on : (s : List ℕ) (i e key : ℕ) → i < e → e ≤ length s
-    → packed key (part s i e) ≡ packed (key * 256 + getD s i 0) (part s (i + 1) e)
-unfolding packed
-packed-on s i e key h k = rw (part-cons s i e h k)
+-- a part from i up to e with bytes left: the byte at i goes into the key
+pub key-on : (s : List ℕ) (i e key : ℕ) → i < e → e ≤ length s
+    → key-from key (part s i e) ≡ key-from (key * 256 + getD s i 0) (part s (i + 1) e)
+unfolding key-from
+key-on s i e key h k = rw (part-cons s i e h k)
 
 -- one with no byte left: the key is made
-pub packed-end : (s : List ℕ) (i e key : ℕ) → e ≤ i → packed key (part s i e) ≡ key
-unfolding packed
-packed-end s i e key h = rw (part-nil s i e h)
+pub key-end : (s : List ℕ) (i e key : ℕ) → e ≤ i → key-from key (part s i e) ≡ key
+unfolding key-from
+key-end s i e key h = rw (part-nil s i e h)
 
 module _ {A : Type 0} where
   -- whether every word of a list is short
@@ -177,7 +177,7 @@ module _ (n key : ℕ) (f : Field) (k : Keyed f key) where
 
   -- `ask` on line 1
   pub kind-ask : n ≡ 1 → key ≡ ask → kind-result kinded.Ask ≡ kind-field n f
-  unfolding kind-result need look kinds key-of packed bytes
+  unfolding kind-result need look kinds key-of key-from bytes
   kind-ask a b = rw (eq-eqb n 1 a, b) at kind-key
 
   -- another kind on line 1

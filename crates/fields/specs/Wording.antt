@@ -25,21 +25,25 @@ use Rattle.fields.specs.declared.OpWord.{OpWord}
 use Rattle.fields.specs.declared.OpWord.the-variants as worded
 
 -- bytes as one number, to the base 256, after the number n
-unfoldable pub packed : ℕ → List ℕ → ℕ
-packed n [] = n
-packed n (b ∷ bs) = packed (n * 256 + b) bs
+unfoldable pub key-from : ℕ → List ℕ → ℕ
+key-from n [] = n
+key-from n (b ∷ bs) = key-from (n * 256 + b) bs
 
 -- the key of a word: a 1, then its bytes
 unfoldable pub key-of : Field → ℕ
-key-of w = packed 1 w
+key-of w = key-from 1 w
 
 -- whether a number is a byte
 unfoldable pub is-byte : ℕ → Bool
 is-byte b = ltb b 256
 
--- whether a field has at most 6 bytes
+-- the most bytes that a word has
+abbrev pub longest-word : ℕ
+longest-word = 6
+
+-- whether a field has at most 6 bytes, each below 256
 unfoldable pub is-short : Field → Bool
-is-short w = leb (length w) 6 && all is-byte w
+is-short w = leb (length w) longest-word && all is-byte w
 
 -- a number that tells a field from every word: it is the key of the word that the field is, and of no other
 pub record Keyed (f : Field) (key : ℕ) : Type 0 where

@@ -100,7 +100,7 @@ const OTHER: u64 = 0x1_6f_74_68_65_72;
 // The most bytes that a word has.
 const LONGEST_WORD: usize = 6;
 
-// The key of the part from `a` up to `e`, which no other field has; 0 where it is longer than any word.
+// The key of the part from `a` up to `e`: a 1, then its bytes; 0, which is the key of no word, where it is longer than any.
 fn word_key(file: &[u8], a: usize, e: usize) -> u64
     requires { ⌜ (a ≤ e) × (e ≤ length (now file)) ⌝ }
     ensures { λ r. ⌜ Keyed (part (now (file .entry)) a e) r ⌝ }
@@ -239,9 +239,6 @@ pub fn counted(file: &[u8], kind: Kind, a: usize, e: usize) -> bool
     text::count_fields(file, a, e) == fixed
 }
 
-// The largest number that a field may be.
-pub const MOST_NUMBER: u32 = 65535;
-
 // The count of names once a name has no room.
 pub const PAST_NAMES: usize = 2049;
 
@@ -340,7 +337,7 @@ pub fn push_groups(
     let mut c = at;
     let mut g = 0;
     while g < groups {
-        match c.number(file, MOST_NUMBER) {
+        match c.number(file, text::MOST_NUMBER) {
             NumberStep::Number(n, next) => {
                 match push_many(file, refs, used, many, g, n as usize, next) {
                     Upto::At(more, after) => {
@@ -461,7 +458,7 @@ fn push_quantifier(file: &[u8], refs: &mut [u32], from: usize, many: usize, c: C
     ensures { λ r. ⌜ Quantifies (now (file .entry)) (now (refs .entry)) (now (refs .exit)) from many c r ⌝ }
 {
     match push_term(file, refs, from, many, 0, c) {
-        Upto::At(one, next) => match next.number(file, MOST_NUMBER) {
+        Upto::At(one, next) => match next.number(file, text::MOST_NUMBER) {
             NumberStep::Number(g, after) => {
                 match push_groups(file, refs, one, many, g as usize, after) {
                     Upto::At(used, last) => {

@@ -41,11 +41,18 @@ fn one_field(file: &[u8], table: &mut [u32], named: usize, start: usize, end: us
     requires { ⌜ Table (now file) (now table) named × (start ≤ end) × (end ≤ length (now file)) ⌝ }
     ensures { λ r. ⌜ Table (now (file .entry)) (now (table .exit)) r ⌝ }
 {
-    if !text::is_name(file, start, end) {
-        return named;
+    let c = Cursor { at: start, end };
+    match c.name(file) {
+        FieldStep::Part {
+            start,
+            end,
+            next: _,
+        } => {
+            let s = names::spell(file, table, named, start, end);
+            grown(s, named)
+        }
+        FieldStep::Refused(_) => named,
     }
-    let s = names::spell(file, table, named, start, end);
-    grown(s, named)
 }
 
 // Spells one field and, where it ends in @tok, the part before that; answers how many names the table then has.

@@ -30,13 +30,13 @@ known-names =
     ∷ [])
 
 -- names in one text, each behind its length
-unfoldable pub packed : List Name → List ℕ
-packed [] = []
-packed (n ∷ ns) = length n ∷ n ++ packed ns
+unfoldable pub behind-lengths : List Name → List ℕ
+behind-lengths [] = []
+behind-lengths (n ∷ ns) = length n ∷ n ++ behind-lengths ns
 
 -- the text of the known names
 unfoldable pub known-text : List ℕ
-known-text = packed (map bytes known-names)
+known-text = behind-lengths (map bytes known-names)
 
 -- the code of a name among names whose first has the code n: 0 where it is none of them
 unfoldable pub code-from : ℕ → List Name → Name → ℕ

@@ -32,7 +32,9 @@ pub const CODE: usize = 6144;
 
 // The known names in the order of their codes, each behind its length.
 const KNOWN: [u8; 250] =
-    *b"\x05SFuel\x05ZFuel\x07HasType\x08HasTypeZ\x0bHasTypeFuel\x05Valid\x07ApplyTT\x07ApplyTF\x0bPrims.lex_t\x0ais-BoxBool\x09is-BoxInt\x0cis-BoxString\x0ais-BoxReal\x0ais-BoxProp\x07BoxBool\x06BoxInt\x09BoxString\x07BoxReal\x07BoxProp\x0cPrims.squash\x0bPrims.hasEq\x08IsTotFun\x0bis-Tm_arrow\x0eTerm_constr_id\x10__uu__PartialApp";
+    *b"\x05SFuel\x05ZFuel\x07HasType\x08HasTypeZ\x0bHasTypeFuel\x05Valid\x07ApplyTT\x07ApplyTF\x0bPrims.lex_t\x0ais-BoxBool\
+      \x09is-BoxInt\x0cis-BoxString\x0ais-BoxReal\x0ais-BoxProp\x07BoxBool\x06BoxInt\x09BoxString\x07BoxReal\x07BoxProp\
+      \x0cPrims.squash\x0bPrims.hasEq\x08IsTotFun\x0bis-Tm_arrow\x0eTerm_constr_id\x10__uu__PartialApp";
 
 // The lengths of the shortest known name and of the longest.
 const SHORTEST: usize = 5;
@@ -91,7 +93,7 @@ fn compare(file: &[u8], w: &[u32], n: usize, a: usize, e: usize, from: usize) ->
 
 // The number of the name from `a` up to `e`, or the rank where it belongs: a binary search in the byte-order index. The name
 // shares `below` bytes with the name before the rank `low` and `above` bytes with the one at `high`, or none where there is no
-// such name; what stands between the two shares the lesser number of bytes with it.
+// such name; what stands between the two shares at least the lesser number of bytes with it.
 pub fn look_up(file: &[u8], w: &[u32], named: usize, a: usize, e: usize) -> Found
     requires { ⌜ Table (now file) (now w) named × (a ≤ e) × (e ≤ length (now file)) ⌝ }
     ensures { λ r. ⌜ r ≡ look-up (names-of (now (file .entry)) (now (w .entry)) named) (part (now (file .entry)) a e) ⌝ }

@@ -1,7 +1,7 @@
 -- What the functions of this crate rest on, said of plain lists: parts of a file, the first mark in one, fields, names, numbers, byte order, lines.
 use Prim.Native.Nat.{ℕ, zero, suc, _+_, _-_, _*_, _≤_, _<_, zero-le, suc-le-suc, compare, Ordering, Ordering·lt, Ordering·eq, Ordering·gt}
-use native.Mathlib.Numerals.{add-one, one-add}
-use native.Mathlib.Nat.{zero-add, add-zero, sub-zero, not-suc-le-zero, zero-sub, suc-sub-suc}
+use native.Mathlib.Numerals.{one-add}
+use native.Mathlib.Nat.{zero-add, add-zero, not-suc-le-zero}
 use native.Mathlib.Omega.{arith}
 use mathlib.Core.Path.{_≡_, refl, sym, ap, ap₂, _∙_}
 use mathlib.Core.Logic.{_↔_}
@@ -9,7 +9,7 @@ use mathlib.Core.Bool.{Bool, true, false, cond, and-true, and-false, true≢fals
 use mathlib.Core.List.{List, [], _∷_}
 use mathlib.Core.Option.{Option, none, some}
 use lib.ListN.{length, take, drop, getD, length-take, length-drop, drop-of-length-le}
-use lib.Seq.{drop-cons, take-nil, take-all, take-length, take-take, drop-drop}
+use lib.Seq.{drop-drop}
 use lib.Dec.{leb, ltb, eqb, isLe, isEq}
 use borrow.Author.Tests.{eq-eqb, ne-eqb, eqb-true, le-leb, lt-leb, lt-ltb, le-ltb, ltb-true, leb-true, leb-false}
 use Rattle.model.specs.Lists.{all, when, _>>=_, part}
@@ -176,11 +176,6 @@ module _ (s : List ℕ) (i e : ℕ) (h : i < e) (k : e ≤ length s) where
   pub count-on : (getD s i 0 ≡ 0x2c → ⊥) → length (fields (part s i e)) ≡ length (fields (part s (i + 1) e))
   count-on b = rw (part-cons s i e h k, fields-cons (getD s i 0) (part s (i + 1) e), ne-eqb (getD s i 0) 0x2c b) (omega arith)
 
-  -- the byte fails the test: the part does
-  pub all-bad : (test : ℕ → Bool) → test (getD s i 0) ≡ false → all test (part s i e) ≡ false
-  unfolding all
-  all-bad test b = rw (part-cons s i e h k, b)
-
   -- the byte passes the test: the others decide
   pub all-on : (test : ℕ → Bool) → test (getD s i 0) ≡ true → all test (part s i e) ≡ all test (part s (i + 1) e)
   unfolding all
@@ -216,11 +211,6 @@ module _ (s : List ℕ) (i e : ℕ) (h : e ≤ i) where
   unfolding fields
   count-end = rw (part-nil s i e h)
 
-  -- the part is no name
-  pub name-empty : is-name (part s i e) ≡ false
-  unfolding is-name
-  name-empty = rw (part-nil s i e h)
-
   -- every byte passes a test
   pub all-end : (test : ℕ → Bool) → all test (part s i e) ≡ true
   unfolding all
@@ -239,18 +229,7 @@ number-part s a e n h k z v =
     let first : getD (part s a e) 0 0 ≡ getD s a 0 = rw (part-cons s a e h k) in
     number-value (part s a e) n (omega arith) (λ d. omega (arith, z (sym first ∙ d))) v
 
--- ---- a name's length
-
--- a part of more than 255 bytes is no name
-pub name-long : (s : List ℕ) (a e : ℕ) → e ≤ length s → 255 < e - a → is-name (part s a e) ≡ false
-unfolding is-name
-name-long s a e k h = rw (part-length s a e k, lt-leb (e - a) 255 h, and-false)
-
--- a part of 1 to 255 bytes is a name if each byte may stand in one
-pub name-bytes : (s : List ℕ) (a e : ℕ) → e ≤ length s → a < e → e - a ≤ 255
-    → is-name (part s a e) ≡ all is-name-byte (part s a e)
-unfolding is-name
-name-bytes s a e k h m = rw (part-length s a e k, le-leb 1 (e - a) (omega arith), le-leb (e - a) 255 m)
+-- ---- names
 
 -- a field with a byte that may not stand in a name is none
 name-byte : (f : Field) → all is-name-byte f ≡ false → is-name f ≡ false

@@ -6,14 +6,14 @@ ghost use mathlib.Core.Option.{some};
 ghost use lib.ListN.{length};
 ghost use Rattle.model.specs.Lists.{part};
 ghost use Rattle.model.specs.Names.{same, starts-with, ends-with};
-ghost use Rattle.model.specs.Lines.{fields, is-name-byte, is-name, number};
+ghost use Rattle.model.specs.Lines.{fields, is-name-byte, number};
 ghost use Rattle.text.specs.Parts.{mark-at, shared, comparison, Placed, field-at, sized-name, name-at, valued, at-most, number-at, term-at};
 
 // The longest name.
 const MOST_LENGTH: usize = 255;
 
-// The largest number.
-const MOST_NUMBER: u32 = 65535;
+// The largest number that a field may be.
+pub const MOST_NUMBER: u32 = 65535;
 
 // A place in a line: the next field starts at `at`, and the line's bytes end before `end`. Past `end` no field is left.
 pub struct Cursor {
@@ -53,7 +53,7 @@ pub fn lesser(a: usize, b: usize) -> usize
     b
 }
 
-// The first position from `at` up to `end` where `mark` stands, or `end`, where few bytes are left.
+// The first position from `at` up to `end` where `mark` stands, or `end`, byte by byte.
 fn find_near(s: &[u8], mark: u8, at: usize, end: usize) -> usize
     requires { ⌜ (at ≤ end) × (end ≤ length (now s)) ⌝ }
     ensures { λ r. ⌜ r ≡ mark-at mark (now (s .entry)) at end ⌝ }
@@ -121,27 +121,6 @@ fn is_name_byte(b: u8) -> bool
     b <= 0x7e
 }
 
-// Whether the part from `a` up to `e` is a name.
-pub fn is_name(s: &[u8], a: usize, e: usize) -> bool
-    requires { ⌜ (a ≤ e) × (e ≤ length (now s)) ⌝ }
-    ensures { λ r. ⌜ r ≡ is-name (part (now (s .entry)) a e) ⌝ }
-{
-    if a == e {
-        return false;
-    }
-    if MOST_LENGTH < e - a {
-        return false;
-    }
-    let mut i = a;
-    while i < e {
-        if !is_name_byte(s[i]) {
-            return false;
-        }
-        i += 1;
-    }
-    true
-}
-
 // Whether the part from `a` up to `e` is the word.
 pub fn same_text(s: &[u8], a: usize, e: usize, word: &[u8]) -> bool
     requires { ⌜ (a ≤ e) × (e ≤ length (now s)) ⌝ }
@@ -188,11 +167,11 @@ pub fn compare_from(s: &[u8], a: usize, e: usize, b: usize, f: usize, from: usiz
     requires { ⌜ (a ≤ e) × (e ≤ length (now s)) × (b ≤ f) × (f ≤ length (now s)) × (from ≤ shared (part (now s) a e) (part (now s) b f)) ⌝ }
     ensures { λ r. ⌜ r ≡ comparison (part (now (s .entry)) a e) (part (now (s .entry)) b f) ⌝ }
 {
-    let one = e - a;
-    let other = f - b;
-    let both = lesser(one, other);
+    let first_size = e - a;
+    let second_size = f - b;
+    let shorter = lesser(first_size, second_size);
     let mut i = from;
-    while i < both {
+    while i < shorter {
         let x = s[a + i];
         let y = s[b + i];
         if x != y {
@@ -209,13 +188,13 @@ pub fn compare_from(s: &[u8], a: usize, e: usize, b: usize, f: usize, from: usiz
         }
         i += 1;
     }
-    if one < other {
+    if first_size < second_size {
         return Comparison {
             order: Order::Before,
             shared: i,
         };
     }
-    if other < one {
+    if second_size < first_size {
         return Comparison {
             order: Order::After,
             shared: i,
@@ -304,7 +283,8 @@ impl Cursor {
         sized_name(at, end, end)
     }
 
-    // The next field, a number of at most `limit`. Its digits are added up on the way to its end, to the sixth at most.
+    // The next field, a number of at most `limit`. Its digits are added up on the way to its end, until the
+    // value is too large.
     pub fn number(self, s: &[u8], limit: u32) -> NumberStep
         requires { ⌜ Placed (now s) self ⌝ }
         ensures { λ r. ⌜ r ≡ number-at limit (now (s .entry)) self ⌝ }
@@ -341,7 +321,7 @@ impl Cursor {
         requires { ⌜ Placed (now s) self ⌝ }
         ensures { λ r. ⌜ r ≡ term-at count (now (s .entry)) self ⌝ }
     {
-        match self.number(s, 65535) {
+        match self.number(s, MOST_NUMBER) {
             NumberStep::Number(n, next) => {
                 if n < count {
                     NumberStep::Number(n, next)

@@ -1,6 +1,6 @@
 -- `fields::line_kind` meets its contract.
 use Rattle.model.specs.Names.{bytes}
-use Rattle.fields.specs.Wording.{packed, key-of}
+use Rattle.fields.specs.Wording.{key-from, key-of}
 use Rattle.fields.proofs.Words.{kind-ask, kind-first, kind-later, kind-other}
 use borrow.Author.Needs.{needs}
 use Rattle.fields.proofs.line_kind.Statement.{statement}
@@ -10,22 +10,22 @@ word-key-requires : tie.Need-word-key-requires
 word-key-requires c κs = c .before .pre
 
 returns : tie.Need-returns
-unfolding key-of packed bytes
+unfolding key-of key-from bytes
 returns c = kind-ask _ _ _ (c .before .before .word-key .ensures) (c .before .if1 .taken) (c .if2 .taken)
 
 returns-2 : tie.Need-returns-2
-unfolding key-of packed bytes
+unfolding key-of key-from bytes
 returns-2 c = kind-first _ _ _ (c .before .before .word-key .ensures) (c .before .if1 .taken) (c .if2 .left)
 
 returns-3 : tie.Need-returns-3
-unfolding key-of packed bytes
+unfolding key-of key-from bytes
 returns-3 c = kind-later _ _ _ (c .before .before .word-key .ensures) (c .before .if1 .left) (c .if3 .taken)
 
 kind-of-requires : tie.Need-kind-of-requires
 kind-of-requires c κs = search needs
 
 returns-4 : tie.Need-returns-4
-unfolding key-of packed bytes
+unfolding key-of key-from bytes
 returns-4 c =
     let key = c .before .before .before in
     kind-other _ _ _ (key .word-key .ensures) (c .before .before .if1 .left) (c .before .if3 .left) (c .kind-of .ensures)

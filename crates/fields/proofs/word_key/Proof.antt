@@ -6,8 +6,8 @@ use lib.ListN.{getD}
 use borrow.Author.Tests.{lt-ltb}
 use Rattle.model.specs.Lists.{all, part}
 use Rattle.text.proofs.Laws.{all-on, all-end}
-use Rattle.fields.specs.Wording.{packed, is-byte, key-of}
-use Rattle.fields.proofs.Words.{weight, weight-start, weight-room, weight-on, packed-on, packed-end, key-short, key-long}
+use Rattle.fields.specs.Wording.{key-from, is-byte, key-of}
+use Rattle.fields.proofs.Words.{weight, weight-start, weight-room, weight-on, key-on, key-end, key-short, key-long}
 use Rattle.fields.proofs.word_key.Statement.{statement}
 use Rattle.fields.proofs.word_key.Tie as tie
 
@@ -16,7 +16,7 @@ Inv-loop file a e key₀ i₀ key i =
     (a ≤ i)
     × (i ≤ e)
     × (key < weight (i - a))
-    × (key-of (part file a e) ≡ packed key (part file i e))
+    × (key-of (part file a e) ≡ key-from key (part file i e))
     × (all is-byte (part file a e) ≡ all is-byte (part file i e))
 
 abbrev μ-loop : tie.MeasureT-loop
@@ -68,7 +68,7 @@ loop-again c =
       omega arith,
       omega arith,
       weight-on _ _ _ _ (inv .0) (inv .2) byte,
-      inv .3 ∙ packed-on _ _ _ _ (test .loop-test .taken) (pre .1),
+      inv .3 ∙ key-on _ _ _ _ (test .loop-test .taken) (pre .1),
       inv .4 ∙ all-on _ _ _ (test .loop-test .taken) (pre .1) is-byte (lt-ltb _ 256 byte),
     )
 
@@ -76,7 +76,7 @@ returns-2 : tie.Need-returns-2 Inv-loop μ-loop
 returns-2 c =
     let inv = c .before .loop .inv in
     let done = c .loop-test .left in
-    key-short _ (inv .4 ∙ all-end _ _ _ done is-byte) (sym (inv .3 ∙ packed-end _ _ _ _ done))
+    key-short _ (inv .4 ∙ all-end _ _ _ done is-byte) (sym (inv .3 ∙ key-end _ _ _ _ done))
 
 pub word-key-spec : {M : Type 1} → statement M
 word-key-spec =

@@ -1,4 +1,4 @@
--- `leaves::put_index` is safe and ends. The loop's invariant: `r` is at most how named names there are.
+-- `leaves::put_index` is safe and ends. The loop's invariant: `r` is at most how many names there are.
 use Prim.Native.Nat.{_≤_, _-_}
 use borrow.Author.Needs.{needs}
 use Rattle.leaves.proofs.put_index.Statement.{statement}

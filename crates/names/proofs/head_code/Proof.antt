@@ -3,7 +3,7 @@ use mathlib.Core.Path.{refl, sym}
 use native.Mathlib.Omega.{arith}
 use Rattle.model.specs.Names.{bytes}
 use Rattle.model.specs.Summaries.{common-names}
-use Rattle.names.specs.Known.{known-names, packed, known-text}
+use Rattle.names.specs.Known.{known-names, behind-lengths, known-text}
 use Rattle.names.proofs.Codes.{head-short, head-long}
 use Rattle.names.proofs.head_code.Statement.{statement}
 use Rattle.names.proofs.head_code.Tie as tie
@@ -24,7 +24,7 @@ slice-aggregate-code-in : tie.Need-slice-aggregate-code-in
 slice-aggregate-code-in c = refl
 
 code-in-requires : tie.Need-code-in-requires
-unfolding known-text packed known-names common-names bytes
+unfolding known-text behind-lengths known-names common-names bytes
 code-in-requires c κs =
     let pre = c .before .before .before .before .pre in
     (pre .0, pre .1, refl)

@@ -1,6 +1,6 @@
 -- `text::compare_from` meets its contract. The loop's invariant: the parts share at least `i` bytes.
-use Prim.Native.Nat.{_≤_, _+_, _-_}
-use mathlib.Core.Path.{_≡_, sym}
+use Prim.Native.Nat.{_≤_, _-_}
+use mathlib.Core.Path.{sym}
 use native.Mathlib.Omega.{arith}
 use Rattle.model.specs.Lists.{part}
 use Rattle.text.specs.Parts.{shared}
@@ -9,16 +9,16 @@ use Rattle.text.proofs.compare_from.Statement.{statement}
 use Rattle.text.proofs.compare_from.Tie as tie
 
 abbrev Inv-loop : tie.InvT-loop
-Inv-loop s a e b f from one other both i₀ i = i ≤ shared (part s a e) (part s b f)
+Inv-loop s a e b f from first-size second-size shorter i₀ i = i ≤ shared (part s a e) (part s b f)
 
 abbrev μ-loop : tie.MeasureT-loop
-μ-loop s a e b f from one other both i₀ i = both - i
+μ-loop s a e b f from first-size second-size shorter i₀ i = shorter - i
 
-sub-one : tie.Need-sub-one Inv-loop μ-loop
-sub-one c = omega arith
+sub-first-size : tie.Need-sub-first-size Inv-loop μ-loop
+sub-first-size c = omega arith
 
-sub-other : tie.Need-sub-other Inv-loop μ-loop
-sub-other c = omega arith
+sub-second-size : tie.Need-sub-second-size Inv-loop μ-loop
+sub-second-size c = omega arith
 
 lesser-requires : tie.Need-lesser-requires Inv-loop μ-loop
 lesser-requires c κs = tt
@@ -89,8 +89,8 @@ compare-from-spec =
     (tie.spec
     Inv-loop
     μ-loop
-    sub-one
-    sub-other
+    sub-first-size
+    sub-second-size
     lesser-requires
     loop-holds
     add-x
