@@ -1,11 +1,11 @@
 -- The options that are on sum to the options number.
-use Prim.Native.Nat.{ℕ, zero, suc, _+_, _*_, _/_, _%_, _^_, _≤_, _<_}
+use Prim.Native.Nat.{ℕ, zero, suc, _+_, _*_, _/_, _%_}
 use native.Mathlib.Omega.{arith}
-use mathlib.Core.Path.{_≡_, refl, sym, _∙_, ap}
+use mathlib.Core.Path.{_≡_, refl, sym, ap}
 use mathlib.Core.Bool.{Bool, true, false, cond}
 use lib.Dec.{eqb}
 use borrow.Author.Tests.{eqb-true, eqb-false}
-use Rattle.model.specs.Reading.{Ask, no-ambients, pretyping-axioms, prune-decls}
+use Rattle.model.specs.Reading.{no-ambients, pretyping-axioms, prune-decls}
 use Rattle.demands.specs.Options.{option-at, values-on, Places-sum, Options-at-places, Options-sum}
 
 -- the option at place 0 counts what remains by 2

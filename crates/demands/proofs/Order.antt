@@ -16,7 +16,6 @@ use Rattle.model.specs.Kept.{kept-names, first-met, kept-decls, kept}
 use Rattle.model.proofs.ListLaws.{T-dec, cond-case, cond-true, cond-false, keep-intro, keep-elim, reverse-intro, reverse-elim, collect-intro, collect-elim, map-intro}
 use Rattle.model.proofs.SetLaws.{same-eq, same-refl}
 use Rattle.demands.specs.Accepted.{Distinct, none as no-more, one-more}
-use Rattle.demands.specs.Demand2.{kept-list}
 use Rattle.demands.specs.Demand3.{run-of}
 use Rattle.demands.specs.FileOrder.{Rising, none as none-rise, one as one-rises, more as more-rise}
 use Rattle.demands.specs.Order.{first-place, Falling, none, one, more, Last-met-first, listed-facts, Decls-in-order, Order-fixed}

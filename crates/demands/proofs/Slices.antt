@@ -6,7 +6,7 @@ use mathlib.Core.Bool.{false}
 use mathlib.Core.List.{List, _++_}
 use lib.ListN.{length, drop, replicate, length-append, length-drop, length-replicate}
 use lib.Seq.{take-at, drop-at}
-use Rattle.model.specs.Outcome.{Outcome, refusal-at, list, refusal-number, working-words, result-after, is-working, work-after}
+use Rattle.model.specs.Outcome.{Outcome, refusal-at, list, refusal-number, result-after, is-working, work-after}
 use Rattle.model.specs.declared.Refusal.{Refusal}
 use Rattle.model.specs.declared.Refusal.the-variants as refusal
 use Rattle.demands.specs.Slices.{Result-slice, Cleared, Slices-exact}

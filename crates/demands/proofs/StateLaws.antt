@@ -4,23 +4,21 @@ use native.Mathlib.Omega.{arith}
 use mathlib.Core.Path.{_≡_, refl, sym, _∙_, ap, subst}
 use mathlib.Core.Logic.{_⊎_, inl, inr, ⊎-elim}
 use mathlib.Core.Bool.{not, _||_}
-use mathlib.Core.List.{List, [], _∷_, _++_, map, append-nil, append-assoc, List·Memᴰ, List·Memᴰ·head, List·Memᴰ·not-nil, List·Memᴰ·append-cases, List·Memᴰ·eq-of-singleton}
+use mathlib.Core.List.{List, [], _∷_, _++_, map, append-nil, List·Memᴰ, List·Memᴰ·head, List·Memᴰ·not-nil, List·Memᴰ·append-cases, List·Memᴰ·eq-of-singleton}
 use mathlib.Core.Option.{some, Option·none-ne-some, Option·some-injective}
 use lib.Dec.{T, T-not}
 use lib.ListN.{length}
-use Rattle.model.specs.Lists.{collect, fold-left, sum, when, or-else, is-nil, _>>=_}
+use Rattle.model.specs.Lists.{fold-left, sum, when, or-else, is-nil, _>>=_}
 use Rattle.model.specs.Names.{Name, same, mem}
 use Rattle.model.specs.Lines.{Line}
 use Rattle.model.specs.Terms.{Node, FreeV, Leaf, Call, App, Forall, Exists, Let, Labeled, Term, add-term, references, unlabeled, free-top-level-names as node-names, term as term-of}
-use Rattle.model.specs.Summaries.{Fact, exclude-names, free-of, call-of, free-top-level-names, group-names, at, token, summarize-kind, summarize-assumption}
-use Rattle.model.specs.Reading.{ok, Content, ask, term, assume, fun, def, retain, root, Summary, Sum-assume, Sum-definefun, Sum-declfun, Sum-retain, Decl, Root, State, start, nodes, spelled-by, spelled, spell, entries-of, uses-of, taken-by, summarize-decl, trimmed, root-of, add-line, read-line}
-use Rattle.model.specs.Rounds.{facts, definitions, declarations}
-use Rattle.model.proofs.ListLaws.{T-dec, T-ext, any-append, cond-true, cond-false, getD-case, getD-one-more, fold-left-case, collect-elim, sum-map-append}
-use Rattle.model.proofs.SetLaws.{Within, within-nil, within-left, within-right, within-add, within-union, mem-intro, mem-elim, mem-cons, mem-first, mem-append, mem-diff}
-use Rattle.demands.specs.Accepted.{Accepted, Distinct, none, one-more}
+use Rattle.model.specs.Summaries.{Fact, free-of, call-of, free-top-level-names, group-names, at, token, summarize-kind, summarize-assumption}
+use Rattle.model.specs.Reading.{ok, Content, ask, term, assume, fun, def, retain, root, Summary, Sum-assume, Sum-definefun, Sum-declfun, Sum-retain, Decl, Root, State, start, nodes, spelled-by, spelled, spell, entries-of, uses-of, summarize-decl, trimmed, root-of, add-line, read-line}
+use Rattle.model.proofs.ListLaws.{T-dec, T-ext, any-append, cond-true, cond-false, getD-case, getD-one-more, fold-left-case, sum-map-append}
+use Rattle.model.proofs.SetLaws.{Within, within-nil, within-left, within-right, within-add, within-union, mem-intro, mem-cons, mem-first, mem-append, mem-diff}
+use Rattle.demands.specs.Accepted.{Distinct, none, one-more}
 use Rattle.demands.proofs.Distinct.{distinct-append}
-use Rattle.demands.proofs.Records.{fact-summary, definition-summary, declaration-summary}
-use Rattle.demands.proofs.ReadingLaws.{line-read, kept-by-file}
+use Rattle.demands.proofs.ReadingLaws.{line-read}
 use Rattle.demands.proofs.TermNames.{Name-law, node-law, free-law, group-law}
 use Rattle.demands.proofs.Disjuncts.{Parts, lawful-kind}
 use Rattle.demands.proofs.TermNumbers.{Below, terms-named, named-below}
@@ -35,14 +33,6 @@ spell-distinct : (names : List Name) (n : Name) → Distinct names → Distinct 
 spell-distinct names n d = ⊎-elim (λ p. rw (p .1) d)
     (λ p. rw (p .1) (distinct-append d (one-more List·Memᴰ·not-nil none) (λ m i j. T-not (mem n names) (p .0) (subst (λ k. T (mem k names)) (List·Memᴰ·eq-of-singleton j) (mem-intro i)))))
     (spell-cases names n)
-
--- the names before stand in front of the names after
-abbrev Prefix : List Name → List Name → Type 0
-Prefix names after = (new : List Name) × (after ≡ names ++ new)
-
--- they do with one name more
-spell-prefix : (names after : List Name) (n : Name) → Prefix names after → Prefix names (spell after n)
-spell-prefix names after n (new, e) = ⊎-elim (λ p. (new, p .1 ∙ e)) (λ p. (new ++ (n ∷ []), rw (p .1, e, append-assoc))) (spell-cases after n)
 
 -- the names that were there are there with one more
 spell-keeps : (names : List Name) (n : Name) → Within names (spell names n)
@@ -303,12 +293,6 @@ counts-line exclude n s c h =
       uses = omega (arith, h .uses, sum-map-append uses-of (s .decls) decls, sum-map-append (λ (r : Root). length (r .free-names)) (s .roots) roots);
     }
 
--- the names before a line stand in front of the names after it, so that a name's number never changes
-pub numbers-kept : (exclude : List Name) (n : ℕ) (s : State) (c : Content) → (new : List Name) × (add-line exclude n s c .names ≡ s .names ++ new)
-unfolding add-line
-numbers-kept exclude n s c =
-    fold-left-case (Prefix (s .names)) spell (spelled c ++ trimmed exclude (s .terms) c) (λ after name i p. spell-prefix (s .names) after name p) ([], sym (append-nil (s .names)))
-
 -- the laws of a state that reading comes to
 pub record State-laws (s : State) : Type 0 where
   -- names are numbered without repeats
@@ -344,31 +328,3 @@ pub laws-line : (exclude : List Name) (n : ℕ) (s s′ : State) (line : Line) �
 laws-line exclude n s s′ line e h =
     let l = line-read exclude n s line s′ e in
     rw (l .after) (laws-added exclude n s (l .content) (named-below n (length (s .terms)) _ (l .parsed)) h)
-
--- the laws hold of the state of every accepted file
-pub laws-file : (file : List ℕ) (s : State) → Accepted file s → State-laws s
-laws-file file s e = kept-by-file exclude-names (λ n s. State-laws s) (laws-line exclude-names) file s e laws-start
-
-module _ {s : State} (h : Numbered s) where
-  -- every name of a fact is numbered
-  pub fact-numbered : (f : Fact) → List·Memᴰ f (facts (s .decls)) → Fact-numbered (s .names) f
-  fact-numbered f i = h .records (Sum-assume f) (fact-summary (s .decls) i)
-
-  -- every name of a definition is numbered
-  pub definition-numbered : (d : Decl) → List·Memᴰ d (definitions (s .decls)) → Decl-numbered (s .names) d
-  definition-numbered d i = h .records (Sum-definefun d) (definition-summary (s .decls) i)
-
-  -- every name of a declaration is numbered
-  pub declaration-numbered : (d : Decl) → List·Memᴰ d (declarations (s .decls)) → Decl-numbered (s .names) d
-  declaration-numbered d i = h .records (Sum-declfun d) (declaration-summary (s .decls) i)
-
-  -- every name that a record takes is numbered
-  pub taken-numbered : Within (collect taken-by (s .decls)) (s .names)
-  unfolding taken-by
-  taken-numbered k t = let (x, i, j) = collect-elim taken-by (s .decls) (mem-elim t) in go x (h .records x i) j
-    where
-      go : (x : Summary) → Summary-numbered (s .names) x → List·Memᴰ k (taken-by x) → T (mem k (s .names))
-      go (Sum-assume f) g j = rw (List·Memᴰ·eq-of-singleton j) (g .name)
-      go (Sum-definefun d) g j = rw (List·Memᴰ·eq-of-singleton j) (g .name)
-      go (Sum-declfun d) g j = rw (List·Memᴰ·eq-of-singleton j) (g .name)
-      go Sum-retain g j = absurd (List·Memᴰ·not-nil j)

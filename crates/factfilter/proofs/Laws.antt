@@ -1,6 +1,6 @@
 -- Laws of the program.
 use Prim.Native.Nat.{ℕ, _≤_}
-use mathlib.Core.Path.{_≡_, ap}
+use mathlib.Core.Path.{_≡_}
 use Rattle.factfilter.specs.Input.{bytes-read}
 use Rattle.factfilter.specs.declared.Input.{Input}
 use Rattle.factfilter.specs.declared.Input.the-variants.{Bytes}

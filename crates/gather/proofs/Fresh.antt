@@ -1,21 +1,10 @@
 -- Marks below the next one.
-use Prim.Native.Nat.{ℕ, _+_, _≤_, _<_}
+use Prim.Native.Nat.{ℕ, _+_, _≤_}
 use native.Mathlib.Omega.{arith}
-use mathlib.Core.Path.{_≡_}
 use mathlib.Core.Logic.{⊎-elim}
 use mathlib.Core.List.{List}
 use Rattle.gather.specs.declared.Walked.{Walked}
-use Rattle.gather.specs.Sets.{row-mark, name-mark, Fresh, Gathered}
-
--- where no mark is there the first is 1
-pub fresh-zero : {names rows : List ℕ} → ((t : ℕ) → t < 4096 → row-mark rows t ≡ 0) → ((k : ℕ) → k < 2048 → name-mark names k ≡ 0) → Fresh names rows 1
-fresh-zero r n = record { row-marks = λ t l. omega (arith, r t l); name-marks = λ k l. omega (arith, n k l) }
-
--- marks that stay are below the next one
-pub fresh-kept : {names names′ rows rows′ : List ℕ} {mark : ℕ} → ((k : ℕ) → k < 2048 → name-mark names′ k ≡ name-mark names k)
-    → ((t : ℕ) → t < 4096 → row-mark rows′ t ≡ row-mark rows t)
-    → Fresh names rows mark → Fresh names′ rows′ mark
-fresh-kept n r f = record { row-marks = λ t l. rw (r t l) (f .row-marks t l); name-marks = λ k l. rw (n k l) (f .name-marks k l) }
+use Rattle.gather.specs.Sets.{Fresh, Gathered}
 
 -- marks below one mark are below a later one
 pub fresh-later : {names rows : List ℕ} (m n : ℕ) → m ≤ n → Fresh names rows m → Fresh names rows n

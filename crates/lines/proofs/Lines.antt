@@ -1,5 +1,5 @@
 -- A term line's references and its row: what each kind asks, and what it adds.
-use Prim.Native.Nat.{ℕ, _+_, _*_, _/_, _%_, _≤_, _<_}
+use Prim.Native.Nat.{ℕ, _+_, _*_, _%_, _≤_, _<_}
 use native.Mathlib.Omega.{arith}
 use mathlib.Core.Path.{_≡_, refl, ap, _∙_}
 use mathlib.Core.Logic.{⊎-elim}
@@ -65,31 +65,6 @@ pushed-one {refs} {rows} {start} {used} {many} t g p h l = record {
       (λ (e : i ≡ used → ⊥). rw (push-agrees refs used (t + 4096 * g) i (omega arith)) (p .in-table i a (omega arith)))
       (equal i used);
 }
-
--- a quantifier's body alone is right for any number of groups
-pub patterns-body : (refs : List ℕ) (start groups : ℕ) → Patterns refs start (start + 1) groups
-patterns-body refs start groups = record { bodied = omega arith; grouped = λ i a b. absurd (omega arith); rising = λ i a b. absurd (omega arith) }
-
--- one pattern more, in the last pattern's group or a later one
-pub patterns-one : {refs : List ℕ} {start used groups : ℕ} (t g : ℕ) → 16384 ≤ length refs → used < 16384 → t < 4096 → g < groups → ((i : ℕ) → start < i → i + 1 ≡ used → getD refs i 0 / 4096 ≤ g)
-    → Patterns refs start used groups → Patterns (pushed refs used (t + 4096 * g)) start (used + 1) groups
-patterns-one {refs} {start} {used} {groups} t g r l s k last p = record {
-  bodied = omega (arith, p .bodied);
-  grouped = λ i a b. ⊎-elim
-      (λ (e : i ≡ used). rw (e, new) (omega arith))
-      (λ (e : i ≡ used → ⊥). rw (old i (omega arith)) (p .grouped i a (omega arith)))
-      (equal i used);
-  rising = λ i a b. ⊎-elim
-      (λ (e : i + 1 ≡ used). rw (old i (omega arith), e, new) (omega (arith, last i a e)))
-      (λ (e : i + 1 ≡ used → ⊥). rw (old i (omega arith), old (i + 1) (omega arith)) (p .rising i a (omega arith)))
-      (equal (i + 1) used);
-}
-  where
-    new : getD (pushed refs used (t + 4096 * g)) used 0 ≡ t + 4096 * g
-    new = push-last refs used (t + 4096 * g) r l
-
-    old : (i : ℕ) → i < used → getD (pushed refs used (t + 4096 * g)) i 0 ≡ getD refs i 0
-    old i h = push-agrees refs used (t + 4096 * g) i h
 
 -- ---- the row of each kind
 

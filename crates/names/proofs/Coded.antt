@@ -116,11 +116,6 @@ code-excluded n =
     let names = map bytes known-names in
     from-list-mem n (take 9 names) ∙ code-first 1 (take 9 names) (drop 9 names) n (omega arith)
 
--- no head code is above 25
-pub code-bound : (n : Name) → head-code n ≤ 25
-unfolding head-code known
-code-bound n = ⊎-elim (λ z. omega arith) (λ (l, r). omega (arith, known-length)) (code-ranged 1 known n)
-
 -- ---- a table whose first four columns stay
 
 -- a slice with the same words below 8192: its table, its names, and the name of each number are those of the first

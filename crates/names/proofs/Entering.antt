@@ -234,16 +234,6 @@ module _ (file w : List ℕ) (named a e rank : ℕ) (h : rank ≤ named) (few : 
       entered-index i x y z
       ∙ ⊎-elim (λ l. index-low w named rank h within i (omega arith)) (λ l. index-high w named rank h within i l) side
 
-  -- the words past the table are kept
-  pub entered-rest : drop 16384 (entered file w named a e rank) ≡ drop 16384 w
-  entered-rest =
-      ext-getD 0 (drop 16384 (entered file w named a e rank)) (drop 16384 w)
-      (length-drop 16384 (entered file w named a e rank) ∙ ap (_- 16384) entered-length ∙ sym (length-drop 16384 w))
-      (λ i l.
-      getD-drop 16384 (entered file w named a e rank) i 0
-      ∙ entered-keeps (16384 + i) (λ x. omega arith) (λ x. omega arith) (λ x. omega arith) (inr (omega arith))
-      ∙ sym (getD-drop 16384 w i 0))
-
   -- the names that were there keep their numbers
   pub entered-old : (n : ℕ) → n < named → name-of file (entered file w named a e rank) n ≡ name-of file w n
   unfolding name-of

@@ -42,7 +42,7 @@ const SHORTEST: usize = 5;
 const LONGEST: usize = 16;
 
 // The head code of the part from `a` up to `e`: its place among the known names from 1, or 0.
-pub fn head_code(file: &[u8], a: usize, e: usize) -> u32
+fn head_code(file: &[u8], a: usize, e: usize) -> u32
     requires { ⌜ (a ≤ e) × (e ≤ length (now file)) ⌝ }
     ensures { λ r. ⌜ r ≡ head-code (part (now (file .entry)) a e) ⌝ }
 {
@@ -94,7 +94,7 @@ fn compare(file: &[u8], w: &[u32], n: usize, a: usize, e: usize, from: usize) ->
 // The number of the name from `a` up to `e`, or the rank where it belongs: a binary search in the byte-order index. The name
 // shares `below` bytes with the name before the rank `low` and `above` bytes with the one at `high`, or none where there is no
 // such name; what stands between the two shares at least the lesser number of bytes with it.
-pub fn look_up(file: &[u8], w: &[u32], named: usize, a: usize, e: usize) -> Found
+fn look_up(file: &[u8], w: &[u32], named: usize, a: usize, e: usize) -> Found
     requires { ⌜ Table (now file) (now w) named × (a ≤ e) × (e ≤ length (now file)) ⌝ }
     ensures { λ r. ⌜ r ≡ look-up (names-of (now (file .entry)) (now (w .entry)) named) (part (now (file .entry)) a e) ⌝ }
 {

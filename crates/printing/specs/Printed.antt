@@ -11,8 +11,6 @@ use Rattle.model.specs.Outcome.{Outcome, refusal-at, list, refusal-number, answ
 use Rattle.model.specs.declared.Answer.{Answer}
 use Rattle.model.specs.declared.Refusal.{Refusal}
 use Rattle.model.specs.declared.Refusal.the-variants as refusal
-use Rattle.model.specs.declared.Verdict.{Verdict}
-use Rattle.model.specs.declared.Verdict.the-variants.{Accepted, Refused}
 
 -- the decimal digits of a number below ten to the fuel
 unfoldable pub digits : ℕ → ℕ → List ℕ

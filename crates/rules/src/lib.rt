@@ -604,7 +604,7 @@ fn rule_11(
 }
 
 // `maybe_add_ambient`: the first of the twelve rules that holds. The term has no triggers.
-pub fn maybe_add_ambient(
+fn maybe_add_ambient(
     file: &[u8],
     names: &[u32],
     refs: &[u32],

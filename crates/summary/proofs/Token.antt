@@ -16,7 +16,7 @@ use Rattle.names.specs.declared.Spelled.the-variants as spelled
 use Rattle.names.proofs.Laws.{found-missing, names-length}
 use Rattle.names.proofs.Entering.{entered-length, entered-keeps, entered-old, entered-new}
 use Rattle.model.specs.Names.{Name, bytes, ends-with, from-list, add, mem}
-use mathlib.Core.Logic.{inl, inr, _⊎_, ⊎-elim}
+use mathlib.Core.Logic.{inl, inr, ⊎-elim}
 use lib.Seq.{take-take}
 use Rattle.model.specs.Lists.{fold-left, sum, _>>=_, part}
 use Rattle.model.proofs.ListLaws.{cond-false}

@@ -2,12 +2,11 @@
 use Prim.Native.Nat.{ℕ, zero, suc, _+_, _-_, _/_, _%_, _≤_, _<_}
 use native.Mathlib.Nat.{not-suc-le-zero}
 use native.Mathlib.Omega.{arith}
-use native.Mathlib.Numerals.{add-one}
 use mathlib.Core.Path.{_≡_, refl, sym, ap, ap₂, _∙_}
 use mathlib.Core.Logic.{_⊎_, inl, inr, ⊎-elim}
 use mathlib.Core.List.{List, [], _∷_, _++_, List·Memᴰ, List·Memᴰ·head, List·Memᴰ·tail, List·Memᴰ·cases-cons, List·Memᴰ·not-nil, List·Memᴰ·append-cases, List·Memᴰ·eq-of-singleton, Memᴰ·append-left, Memᴰ·append-right, append-nil}
-use lib.ListN.{length, drop, getD, length-append, length-take, length-drop, drop-of-length-le, List·getD-append, List·getD-eq-default}
-use lib.Seq.{drop-cons, take-nil, take-suc, getD-at, getD-drop, getD-take}
+use lib.ListN.{length, drop, getD, length-append, List·getD-append, List·getD-eq-default}
+use lib.Seq.{getD-at}
 use lib.Dec.{T, eqb, eqb→eq, eqb-refl, lt→ltb}
 use Rattle.model.specs.Lists.{any, keep, concat, fold-left, part}
 use Rattle.model.specs.Names.{Name, mem, union}
@@ -272,10 +271,6 @@ kind-small rows t = omega arith
 -- one place is between a start and the next
 single-length : (a e : ℕ) → e ≡ a + 1 → e - a ≡ 1
 single-length a e h = omega arith
-
--- a number below another is below the next
-le-add-one : {m n : ℕ} → m ≤ n → m ≤ n + 1
-le-add-one h = omega arith
 
 -- the node under a label
 unlabeled-label : (terms : List Term) (kind : ℕ) (op : Op) (name : Name) (ws : List ℕ) (g : ℕ) → kind ≡ 7 → unlabeled terms (make-node kind op name ws g) ≡ term terms (getD ws 0 0 % 4096) .bare

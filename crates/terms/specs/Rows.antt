@@ -1,11 +1,11 @@
 -- The term table in two lent slices. References, slice 0: `term + 4096 * group`, the group counted from 0 within its `all`
 -- or `some`, 0 elsewhere; a quantifier's body is its first reference. Rows, slice 1, 4 columns of 4,096: kind with op word
 -- and head name, where the references start, groups or the term under a run of labels; the last is others' concern.
-use Prim.Native.Nat.{ℕ, zero, suc, _+_, _-_, _/_, _%_, _≤_, _<_}
+use Prim.Native.Nat.{ℕ, zero, suc, _+_, _/_, _%_, _≤_, _<_}
 use mathlib.Core.Path.{_≡_}
 use mathlib.Core.Bool.{Bool, cond, _||_}
 use mathlib.Core.List.{List, [], _∷_, _++_, map}
-use lib.ListN.{length, take, drop, getD}
+use lib.ListN.{length, drop, getD}
 use lib.Dec.{T, eqb, ltb}
 use Rattle.model.specs.Lists.{keep, fold-left, part}
 use Rattle.model.specs.Names.{Name}

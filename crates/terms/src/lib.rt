@@ -88,7 +88,7 @@ pub fn end(rows: &[u32], used: usize, many: usize, t: usize) -> usize
 }
 
 // The groups of a quantifier, or the term under a run of labels.
-pub fn extra(rows: &[u32], t: usize) -> usize
+fn extra(rows: &[u32], t: usize) -> usize
     requires { ⌜ (working-words ≤ length (now rows)) × (t < most-terms) ⌝ }
     ensures { λ r. ⌜ r ≡ row-extra (now (rows .entry)) t ⌝ }
 {
@@ -127,7 +127,7 @@ pub fn reference(refs: &[u32], i: usize) -> usize
 }
 
 // The group of a reference.
-pub fn group(refs: &[u32], i: usize) -> usize
+fn group(refs: &[u32], i: usize) -> usize
     requires { ⌜ i < length (now refs) ⌝ }
     ensures { λ r. ⌜ r ≡ group-of (getD (now (refs .entry)) i 0) ⌝ }
 {

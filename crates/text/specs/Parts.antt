@@ -3,13 +3,12 @@ use Prim.Native.Nat.{ℕ, _+_, _-_, _≤_}
 use mathlib.Core.Bool.{cond, _&&_}
 use mathlib.Core.List.{List, [], _∷_}
 use mathlib.Core.Option.{Option, none, some}
-use lib.ListN.{length, take, drop}
+use lib.ListN.{length}
 use lib.Dec.{leb, ltb, eqb}
 use Rattle.model.specs.Lists.{when, _>>=_, part}
 use Rattle.model.specs.Names.{order}
 use Rattle.model.specs.Lines.{Field, fields, is-name, decimal, number}
 use Rattle.model.specs.Reading.{Result, ok, refused}
-use Rattle.model.specs.declared.Refusal.{Refusal}
 use Rattle.model.specs.declared.Refusal.the-variants as refusal
 use Rattle.text.specs.declared.Comparison.{Comparison}
 use Rattle.text.specs.declared.Cursor.{Cursor}

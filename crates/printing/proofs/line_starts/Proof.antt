@@ -1,5 +1,5 @@
 -- `printing::line_starts` meets its contract. The loop's invariant: the starts of the lines up to `from` are found.
-use Prim.Native.Nat.{_-_, _≤_}
+use Prim.Native.Nat.{_-_}
 use mathlib.Core.Path.{_≡_, refl, _∙_}
 use lib.ListN.{length, length-set}
 use Rattle.text.proofs.Laws.{mark-from, mark-to}

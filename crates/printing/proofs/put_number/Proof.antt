@@ -1,5 +1,5 @@
 -- `printing::put_number` meets its contract.
-use mathlib.Core.Path.{_≡_, sym, _∙_}
+use mathlib.Core.Path.{_∙_}
 use Rattle.printing.proofs.Texts.{shown, few-digits, puts-same}
 use borrow.Author.Needs.{needs}
 use native.Mathlib.Omega.{arith}

@@ -2,7 +2,6 @@
 use Rattle.model.specs.Names.{bytes}
 use Rattle.printing.proofs.Texts.{puts-then, held, sum-parts}
 use borrow.Author.Needs.{needs}
-use native.Mathlib.Omega.{arith}
 use Rattle.printing.proofs.sum_line.Statement.{statement}
 use Rattle.printing.proofs.sum_line.Tie as tie
 
