@@ -27,7 +27,7 @@ use Rattle.words.specs.Slices.{Same-but}
 use Rattle.words.proofs.Slices.{same-then, same-wider}
 use Rattle.records.specs.Columns.{record-kind, entry-name}
 use Rattle.records.specs.States.{summary-at, decls-of, roots-of, ask-of, state-of}
-use Rattle.records.specs.Macros.{Filled}
+use Rattle.macros.specs.Macros.{Filled}
 use Rattle.reader.specs.Lines.{Reads-file, all-read, read-stops}
 use Rattle.reader.specs.declared.Reading.{Reading as Reading′}
 use Rattle.reader.specs.declared.Reading.the-variants as reading

@@ -14,7 +14,7 @@ use Rattle.model.specs.declared.Verdict.the-variants as verdict
 use Rattle.names.specs.Table.{name-of}
 use Rattle.words.specs.Slices.{Same-but, Zeroed}
 use Rattle.records.specs.States.{decls-of, roots-of, ask-of}
-use Rattle.records.specs.Macros.{Filled}
+use Rattle.macros.specs.Macros.{Filled}
 use Rattle.reader.specs.Lines.{Cleared}
 use Rattle.scan.specs.Runs.{run-of}
 use Rattle.prune.specs.Loops.{kept-column}

@@ -22,7 +22,7 @@ use Rattle.names.proofs.Laws.{listed, listed-intro, listed-ascending, distinct}
 use Rattle.terms.proofs.Laws.{equal}
 use Rattle.records.specs.Columns.{record-kind, record-line, record-name, record-flag, summary-code, kind-of-code, assume-kind, fun-kind, def-kind, retain-kind, root-kind}
 use Rattle.records.specs.States.{uses-at, free-at, fact-at, decl-at, decls-of, roots-of, ask-of}
-use Rattle.records.specs.Macros.{Filled}
+use Rattle.macros.specs.Macros.{Filled}
 use Rattle.scan.specs.Held.{upto}
 use Rattle.scan.specs.Steps.{is-reached}
 use Rattle.scan.specs.Tables.{held-of}

@@ -21,7 +21,7 @@ use Rattle.names.proofs.Laws.{distinct}
 use Rattle.terms.proofs.Laws.{equal}
 use Rattle.records.specs.Columns.{record-kind, record-name, summary-code, kind-of-code, assume-kind, fun-kind, def-kind, retain-kind, taken-at}
 use Rattle.records.specs.States.{ask-of}
-use Rattle.records.specs.Macros.{Filled}
+use Rattle.macros.specs.Macros.{Filled}
 use Rattle.scan.specs.Held.{upto}
 use Rattle.scan.specs.Steps.{is-reached}
 use Rattle.scan.proofs.Numbers.{set-intro, set-elim, upto-elim}

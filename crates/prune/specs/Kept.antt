@@ -14,7 +14,7 @@ use Rattle.names.specs.Table.{name-of}
 use Rattle.words.specs.Slices.{Same-but}
 use Rattle.records.specs.Columns.{record-kind, record-name, assume-kind}
 use Rattle.records.specs.States.{decls-of, roots-of, ask-of}
-use Rattle.records.specs.Macros.{Filled}
+use Rattle.macros.specs.Macros.{Filled}
 use Rattle.scan.specs.Held.{set-of}
 use Rattle.scan.specs.Steps.{is-reached}
 use Rattle.prune.specs.Loops.{kept-column, prune-end}

@@ -92,7 +92,7 @@ fn list_ambients(recs: &[u32], run: &mut [u32], k: Counts, m: usize) -> usize
     ensures { λ to. ⌜ Lists (now (run .entry)) m (ambient-records (now (recs .entry)) k) (now (run .exit)) to ⌝ }
 {
     let mut to = m;
-    let options = records::options_of(k.options);
+    let options = options::options_of(k.options);
     if options.no_ambients {
         return to;
     }
@@ -291,7 +291,7 @@ fn list_records(names: &[u32], recs: &[u32], out: &[u32], run: &mut [u32], k: Co
     ensures { λ to. ⌜ Listed (now (names .entry)) (now (recs .entry)) (now (out .entry)) (now (run .entry)) (now (run .exit)) k to ⌝ }
 {
     let facts = list_facts(names, recs, run, k);
-    let options = records::options_of(k.options);
+    let options = options::options_of(k.options);
     if !options.prune_decls {
         return facts;
     }

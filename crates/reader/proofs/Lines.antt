@@ -30,8 +30,9 @@ use Rattle.fields.proofs.Words.{parse-law}
 use Rattle.words.proofs.Slices.{same-then, same-wider}
 use Rattle.records.specs.States.{decls-of, roots-of, state-of}
 use Rattle.records.specs.Columns.{taken-column, first-column}
-use Rattle.records.specs.Macros.{Opens}
-use Rattle.records.proofs.Standing.{Beside, standing-start, decls-longer, roots-longer, standing-filled}
+use Rattle.macros.specs.Macros.{Opens}
+use Rattle.records.proofs.Standing.{Beside, standing-start, decls-longer, roots-longer}
+use Rattle.macros.proofs.Filling.{standing-filled}
 use Rattle.names.proofs.Coded.{table-kept}
 use Rattle.terms.proofs.Table.{terms-named}
 use Rattle.records.specs.Adding.{excluded, Standing, judge}

@@ -17,7 +17,7 @@ use Rattle.fields.specs.declared.Kind.{Kind}
 use Rattle.fields.specs.Wording.{kind-result}
 use Rattle.names.specs.Table.{name-of}
 use Rattle.records.specs.States.{state-of}
-use Rattle.records.specs.Macros.{Filled}
+use Rattle.macros.specs.Macros.{Filled}
 use Rattle.records.specs.Adding.{excluded, Standing, judge, Adds}
 use Rattle.records.specs.Writing.{with-ask}
 use Rattle.reader.specs.declared.Last.{Last}

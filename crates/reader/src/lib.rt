@@ -185,7 +185,7 @@ fn read_fact(
     match c.number(file, MOST_FLAG) {
         NumberStep::Number(flag, next) => match last_term(file, k.many, next) {
             Last::Term(t) => {
-                records::add_fact(
+                facts::add_fact(
                     file,
                     names,
                     refs,
@@ -436,6 +436,6 @@ pub fn read_file(
         n += 1;
         from = end + 1;
     }
-    records::open_macros(names, recs, k.named);
+    macros::open_macros(names, recs, k.named);
     Reading::Read(k)
 }

@@ -1,4 +1,3 @@
-pub mod OptionsOf
 pub mod Rows
 pub mod Chaining
 pub mod Recording
@@ -8,7 +7,4 @@ pub mod Appending
 pub mod Plain
 pub mod Funs
 pub mod Uses
-pub mod Coding
-pub mod Facts
-pub mod Opening
 pub mod Standing

@@ -1,7 +1,7 @@
 -- A record without entries: fun, def, retain and root.
 use Prim.Native.Nat.{ℕ, _+_, _-_, _*_, _≤_, _<_}
 use native.Mathlib.Omega.{arith}
-use mathlib.Core.Path.{_≡_, refl, ap}
+use mathlib.Core.Path.{_≡_, refl}
 use mathlib.Core.List.{List, [], _∷_, _++_}
 use lib.ListN.{length, getD}
 use Rattle.model.specs.Lists.{sum, fold-left, part}
@@ -31,12 +31,6 @@ unfolding spell
 spelled-again file names named i h =
     cond-true (mem (name-of file names i) (names-of file names named)) (names-of file names named) (names-of file names named ++ (name-of file names i ∷ []))
     (names-intro file names named i h)
-
--- and others behind it
-pub spelled-before : (file names : List ℕ) (named i : ℕ) (ns : List Name) → i < named
-    → fold-left spell (names-of file names named) ((name-of file names i ∷ []) ++ ns) ≡ fold-left spell (names-of file names named) ns
-unfolding fold-left
-spelled-before file names named i ns h = ap (λ l. fold-left spell l ns) (spelled-again file names named i h)
 
 -- spelling it leaves the names within their limit
 pub named-within : {file names refs rows recs out : List ℕ} {k : Counts} → Standing file names refs rows recs out k → {i : ℕ}

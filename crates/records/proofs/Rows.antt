@@ -11,7 +11,7 @@ use Rattle.model.specs.Reading.{most-records}
 use Rattle.model.specs.declared.Counts.{Counts}
 use Rattle.model.specs.Outcome.{working-words}
 use Rattle.records.specs.Columns.{record-word}
-use Rattle.records.specs.Writing.{put-row, row-columns, Small, Rowed}
+use Rattle.records.specs.Writing.{put-row, row-columns, Rowed}
 
 -- one word more
 pub put-on : (recs : List ℕ) (i c : ℕ) (row : List ℕ) → c < length row
@@ -99,13 +99,3 @@ rowed {recs} {recs′} k k′ kind line name term flag code few room is =
       entries-to = here 8 (omega arith);
       code-is = here 9 (omega arith);
     }
-
--- a row for the same counts and code
-pub small-as : {k k′ next : Counts} {kind line name term flag code word : ℕ} → next ≡ k′ → word ≡ code → Small k k′ kind line name term flag code
-    → Small k next kind line name term flag word
-small-as e f s = rw (e, f) s
-
-pub rowed-as : {recs recs′ : List ℕ} {k k′ : Counts} {kind line name term flag code word : ℕ} → word ≡ code
-    → Rowed recs recs′ k k′ kind line name term flag word
-    → Rowed recs recs′ k k′ kind line name term flag code
-rowed-as f s = rw f at s

@@ -1,28 +1,25 @@
--- Tables that stand: before the first line, with the ask, with more names and terms, and with the macro column filled.
+-- Tables that stand: before the first line, with the ask, and with more names and terms.
 use Prim.Native.Nat.{ℕ, _+_, _≤_, _<_}
 use native.Mathlib.Omega.{arith}
-use mathlib.Core.Path.{_≡_, refl, sym, _∙_}
+use mathlib.Core.Path.{_≡_, refl}
 use mathlib.Core.List.{List}
 use lib.ListN.{length, getD}
 use Rattle.model.specs.Lists.{fold-left}
-use Rattle.model.specs.Reading.{start, most-names, most-terms, most-records}
+use Rattle.model.specs.Reading.{start, most-names, most-terms}
 use Rattle.model.specs.declared.Counts.{Counts}
 use Rattle.model.specs.Outcome.{working-words}
-use Rattle.names.specs.Table.{name-of, names-of, name-code}
+use Rattle.names.specs.Table.{name-of, names-of}
 use Rattle.names.proofs.Laws.{empty-table}
-use Rattle.names.proofs.Coded.{table-kept}
 use Rattle.terms.specs.Rows.{terms-of, nodes-below}
 use Rattle.terms.proofs.Table.{empty-rows}
-use Rattle.words.specs.Slices.{Same-but}
 use Rattle.gather.specs.Sets.{name-mark, row-mark}
 use Rattle.rules.specs.Views.{Tables, terms-in}
-use Rattle.records.specs.Columns.{record-kind, record-name, retain-kind, taken-column, macro-column, first-column, taken-at, first-entry}
+use Rattle.records.specs.Columns.{record-kind, record-name, retain-kind, taken-column, first-column, taken-at, first-entry}
 use Rattle.records.specs.States.{decls-of, roots-of, state-of}
 use Rattle.records.specs.Filing.{newest, entries-before, Stocked}
-use Rattle.records.specs.Macros.{macro-count, start-word, macro-word, Opens, Filled}
 use Rattle.records.specs.Writing.{no-counts, with-ask, with-terms}
 use Rattle.records.specs.Adding.{Standing}
-use Rattle.records.proofs.Chaining.{newest-cong, chained-kept}
+use Rattle.records.proofs.Chaining.{chained-kept}
 use Rattle.records.proofs.Recording.{Agree, decls-stay, roots-stay}
 use Rattle.records.proofs.Keeping.{records-named, filing-kept, taken-kept}
 
@@ -135,42 +132,3 @@ module _ {file names refs rows recs out names′ : List ℕ} {k : Counts} (st : 
     few-marks = st .few-marks;
     stocked = stocked-longer;
   }
-
--- ---- with the macro column
-
--- the words of macros do not depend on the column
-macro-same : {names names′ : List ℕ} (recs : List ℕ) (named n : ℕ) → named ≤ most-names → n < most-names → Same-but macro-column most-names names names′
-    → macro-word names′ recs named n ≡ macro-word names recs named n
-unfolding macro-word start-word
-macro-same {names} {names′} recs named n few low s =
-    let code : (m : ℕ) → m < most-names → name-code names′ m ≡ name-code names m = λ m l. s .same-words (6144 + m) (λ a b. omega arith) in
-    rw (
-      s .same-words (taken-column + n) (λ a b. omega arith),
-      code n low,
-      newest-cong (name-code names′) (name-code names) (name-code names n + macro-count) named (λ m l. code m (omega arith)),
-    )
-
-module _ {file names refs rows recs out : List ℕ} {k : Counts} (st : Standing file names refs rows recs out k) where
-  -- what filling it asks
-  pub standing-opens : (k .named ≤ most-names) × (working-words ≤ length names) × (working-words ≤ length recs)
-      × ((n : ℕ) → n < k .named → taken-at names n ≤ most-records)
-  standing-opens =
-      let few = st .tables .name-table .few in
-      (few, st .tables .name-table .room, st .recorded .room, λ n l. omega (arith, st .stocked .taken .low n (omega arith), st .recorded .few))
-
-  -- the tables are then as a run asks
-  pub standing-filled : {names′ : List ℕ} → Opens names recs names′ (k .named) (k .named) → Filled file names′ recs out k
-  standing-filled {names′} o =
-      let few = st .tables .name-table .few in
-      let kept = table-kept (st .tables .name-table) (o .same .same-length) (λ i l. o .same .same-words i (λ a b. omega arith)) in
-      let beside : Beside file names names′ (k .named) = record {
-        same = kept .name;
-        taken = λ n l. o .same .same-words (taken-column + n) (λ a b. omega arith);
-        first = λ n l. o .same .same-words (first-column + n) (λ a b. omega arith);
-      } in
-      record {
-        table = kept .table;
-        recorded = st .recorded;
-        stocked = stocked-longer st beside;
-        macros = λ n l. o .macros n l ∙ sym (macro-same recs (k .named) n few (omega arith) (o .same));
-      }

@@ -3,9 +3,8 @@ use Prim.Native.Nat.{ℕ, _+_, _*_, _≤_, _<_}
 use mathlib.Core.Path.{_≡_}
 use mathlib.Core.Bool.{cond}
 use mathlib.Core.List.{List}
-use lib.Dec.{leb}
 use Rattle.model.specs.Names.{Name}
-use Rattle.model.specs.Reading.{Result, ok, refused, Content, State, add-line, repeats, limits, under-limits, most-names, most-records}
+use Rattle.model.specs.Reading.{Result, ok, refused, Content, State, add-line, repeats, limits, under-limits, most-names}
 use Rattle.model.specs.Summaries.{exclude-names}
 use Rattle.model.specs.Outcome.{working-words}
 use Rattle.model.specs.declared.Counts.{Counts}
@@ -14,8 +13,6 @@ use Rattle.model.specs.declared.Refusal.the-variants as refusal
 use Rattle.words.specs.Slices.{Same-but}
 use Rattle.gather.specs.Sets.{Fresh}
 use Rattle.rules.specs.Views.{Tables}
-use Rattle.summary.specs.declared.Limit.{Limit}
-use Rattle.summary.specs.declared.Limit.the-variants as limit
 use Rattle.model.specs.declared.Step.{Step}
 use Rattle.model.specs.declared.Step.the-variants as step
 use Rattle.records.specs.States.{state-of}
@@ -39,16 +36,6 @@ judge n s c =
     let after = add-line excluded n s c in
     let limited = under-limits (limits after) after in
     cond (repeats excluded n s c) (refused refusal.Repeated) limited
-
--- the refusal where a line passes the limit of entries or of uses, so many records being there before it
-unfoldable pub behind-records : ℕ → Refusal
-behind-records records = cond (leb most-records records) refusal.FullRecords refusal.FullTriggers
-
--- the refusal where a fact passes a limit of its summary
-unfoldable pub over-refusal : Limit → ℕ → Refusal
-over-refusal limit.Names records = refusal.FullNames
-over-refusal limit.Entries records = behind-records records
-over-refusal limit.Uses records = behind-records records
 
 -- what adding a record comes to: a name of its line had no room; or the line is refused; or the tables have the record
 pub data Adds (file names refs rows recs out names′ rows′ recs′ out′ : List ℕ) (k : Counts) (line : ℕ) (c : Content) : Step → Type 0 where

@@ -1,7 +1,5 @@
 pub mod Columns
 pub mod States
 pub mod Filing
-pub mod Macros
 pub mod Writing
 pub mod Adding
-pub mod OptionsOf

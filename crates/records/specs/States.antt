@@ -10,6 +10,7 @@ use Rattle.model.specs.declared.Counts.{Counts}
 use Rattle.names.specs.Table.{name-of, names-of}
 use Rattle.rules.specs.Views.{terms-in}
 use Rattle.triggers.specs.Entries.{disjuncts-of, entries-base}
+use Rattle.options.specs.OptionsOf.{asks}
 use Rattle.records.specs.Columns.{record-kind, record-line, record-name, record-flag, uses-start, uses-end, entries-start, entries-end, summary-code, kind-of-code}
 
 -- the numbers of the free names of a record
@@ -67,10 +68,6 @@ module _ (name : ℕ → Name) (recs out : List ℕ) where
   unfoldable pub roots-of : ℕ → List Root
   roots-of zero = []
   roots-of (suc n) = roots-of n ++ root-at name recs out n (record-kind recs n)
-
--- the ask of a query and an options number
-abbrev pub asks : ℕ → ℕ → Ask
-asks query options = record { query = query; options = options }
 
 -- the ask that was read
 abbrev pub ask-of : Counts → Ask

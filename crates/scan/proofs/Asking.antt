@@ -23,7 +23,7 @@ use Rattle.terms.proofs.Laws.{equal, below}
 use Rattle.words.specs.Slices.{Same-but}
 use Rattle.records.specs.Columns.{record-kind, record-flag, summary-code, assume-kind, retain-kind, root-kind, kind-of-code, code-of}
 use Rattle.records.specs.States.{uses-at, free-at, fact-at, decls-of, roots-of, ask-of}
-use Rattle.records.specs.Macros.{Filled}
+use Rattle.macros.specs.Macros.{Filled}
 use Rattle.scan.specs.Tables.{held-of}
 use Rattle.scan.specs.Steps.{Going, going, work-column, run-end, is-met, items, Ready, Rounds}
 use Rattle.scan.specs.Starts.{cleared, first-scan, starts-at, pushed}

@@ -21,7 +21,7 @@ use Rattle.triggers.specs.Entries.{Entries, disjuncts-of, last-flag, no-name, e
 use Rattle.records.specs.Columns.{record-kind, uses-end, entries-start, entries-end, assume-kind, entry-word, entry-name, entry-fact, taken-at, macro-at}
 use Rattle.records.specs.States.{uses-at, entries-at, free-at, fact-at, decls-of, ask-of}
 use Rattle.records.specs.Filing.{Records, Filing}
-use Rattle.records.specs.Macros.{opened-word, Filled}
+use Rattle.macros.specs.Macros.{opened-word, Filled}
 use Rattle.scan.specs.Held.{Fits, Holds, upto}
 use Rattle.scan.specs.Tables.{retained, held-of, Laid}
 use Rattle.scan.proofs.Numbers.{upto-elim}

@@ -11,7 +11,7 @@ use Rattle.model.specs.declared.Counts.{Counts}
 use Rattle.model.proofs.PartLaws.{part-cons, part-nil}
 use Rattle.records.specs.Columns.{uses-start, uses-end, macro-at}
 use Rattle.records.specs.States.{uses-at}
-use Rattle.records.specs.Macros.{opened-word, opens-at}
+use Rattle.macros.specs.Macros.{opened-word, opens-at}
 use Rattle.scan.specs.Held.{Held}
 use Rattle.scan.specs.Tables.{Laid}
 use Rattle.scan.specs.Steps.{mark, marks, opened-all}

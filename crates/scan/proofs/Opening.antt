@@ -27,7 +27,7 @@ use Rattle.terms.proofs.Laws.{equal, below}
 use Rattle.records.specs.Columns.{record-kind, record-name, uses-end, def-kind, taken-at}
 use Rattle.records.specs.States.{uses-at, free-at, decl-at, decls-of}
 use Rattle.records.specs.Filing.{Records, newest, Taken}
-use Rattle.records.specs.Macros.{opened-word, first-macro, macro-count, opened, start-word, is-def, macro-word, opens-at}
+use Rattle.macros.specs.Macros.{opened-word, first-macro, macro-count, opened, start-word, is-def, macro-word, opens-at}
 use Rattle.scan.proofs.Visited.{newest-at, newest-none}
 use Rattle.scan.proofs.Background.{only, defs-elim, defs-intro}
 

@@ -12,7 +12,7 @@ use Rattle.triggers.specs.Entries.{Entries, disjuncts-of-words, no-name}
 use Rattle.records.specs.Columns.{record-kind, record-name, record-flag, uses-start, uses-end, entries-start, entries-end, assume-kind, entry-name, entry-fact, next-entry, macro-at, first-entry}
 use Rattle.records.specs.States.{uses-at, entries-at, ask-of}
 use Rattle.records.specs.Filing.{newest}
-use Rattle.records.specs.Macros.{opened-word, opens-at}
+use Rattle.macros.specs.Macros.{opened-word, opens-at}
 use Rattle.scan.specs.Held.{Held, Fits}
 use Rattle.scan.specs.Steps.{Going, going, opened-all}
 use Rattle.scan.specs.declared.Scan.{Scan}

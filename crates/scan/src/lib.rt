@@ -8,7 +8,7 @@ ghost use Rattle.model.specs.Lists.{part};
 ghost use Rattle.model.specs.Reading.{most-names, most-records, most-entries};
 ghost use Rattle.model.specs.Outcome.{working-words};
 ghost use Rattle.records.specs.Columns.{macro-at};
-ghost use Rattle.records.specs.Macros.{opens-at, Filled};
+ghost use Rattle.macros.specs.Macros.{opens-at, Filled};
 ghost use Rattle.scan.specs.Held.{waiting};
 ghost use Rattle.scan.specs.Tables.{retained, held-of, met-by, Goes, Laid};
 ghost use Rattle.scan.specs.Steps.{mark, marks, entry-met, fires-in, going, visit, visits-of, visit-phase, met-phase, round, Rounds, Steady, Ready, work-column, run-end, work-room};
@@ -69,13 +69,13 @@ fn open_macro(
     if word == 0 {
         return;
     }
-    if word < records::OPENED {
+    if word < macros::OPENED {
         let a = words::at(recs, records::USES_START + (word - 1));
         let e = words::at(recs, records::USES_END + (word - 1));
         meet_part(out, run, a, e, round);
         return;
     }
-    meet(run, word - records::OPENED, round);
+    meet(run, word - macros::OPENED, round);
 }
 
 // Meets the free names of a record, and what they open to.
@@ -162,7 +162,7 @@ fn retained(recs: &[u32], k: Counts, i: usize) -> bool
     if words::at(recs, records::FLAG + i) != 1 {
         return true;
     }
-    let options = records::options_of(k.options);
+    let options = options::options_of(k.options);
     options.pretyping_axioms
 }
 
@@ -181,7 +181,7 @@ fn starts(recs: &[u32], k: Counts, i: usize) -> bool
     if words::at(recs, records::SUMMARY + i) != records::AMBIENT_ROOT {
         return false;
     }
-    let options = records::options_of(k.options);
+    let options = options::options_of(k.options);
     !options.no_ambients
 }
 

@@ -9,7 +9,7 @@ ghost use Prim.Native.Nat.{_≤_};
 ghost use lib.ListN.{length};
 ghost use Rattle.model.specs.Outcome.{most-bytes};
 ghost use Rattle.names.specs.Table.{Table};
-ghost use Rattle.records.specs.Macros.{Filled};
+ghost use Rattle.macros.specs.Macros.{Filled};
 ghost use Rattle.summaries.specs.Facts.{Printable};
 
 // Writes bytes.

@@ -3,7 +3,7 @@ use Prim.Native.Nat.{_-_}
 use native.Mathlib.Omega.{arith}
 use lib.ListN.{length}
 use Rattle.text.proofs.Laws.{mark-from, mark-to}
-use Rattle.records.proofs.Standing.{standing-opens}
+use Rattle.macros.proofs.Filling.{standing-opens}
 use Rattle.reader.specs.Lines.{Past, read-stops}
 use Rattle.reader.proofs.Naming.{past-none, past-more}
 use Rattle.reader.proofs.Lines.{Reading-on, no-lines, on-first, cleared-standing, on-open, on-next, on-refused, opened-read, lower}

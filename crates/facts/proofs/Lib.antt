@@ -1,0 +1,3 @@
+pub mod Chaining
+pub mod Coding
+pub mod Facts

@@ -1,0 +1,20 @@
+-- The options by division and remainder.
+use Prim.Native.Nat.{ℕ, _/_, _%_, _≤_}
+use mathlib.Core.Path.{_≡_, refl}
+use lib.Dec.{eqb}
+use Rattle.model.specs.Reading.{no-ambients, pretyping-axioms, prune-decls}
+use Rattle.demands.proofs.Options.{options-sum}
+use Rattle.options.specs.OptionsOf.{asks, most-options, options-value, Options-of}
+use Rattle.options.specs.declared.Options.{Options}
+
+-- the struct of a number
+abbrev taken-apart : ℕ → Options
+taken-apart n = record { «no_ambients» = eqb (n % 2) 1; «pretyping_axioms» = eqb (n / 2 % 2) 1; «prune_decls» = eqb (n / 4 % 2) 1 }
+
+pub options-are : (q n : ℕ) → Options-of (asks q n) (taken-apart n)
+unfolding no-ambients pretyping-axioms prune-decls
+options-are q n = record { no-ambients-is = refl; pretyping-axioms-is = refl; prune-decls-is = refl }
+
+pub options-add : (n : ℕ) → n ≤ most-options → options-value (taken-apart n) ≡ n
+unfolding options-value no-ambients pretyping-axioms prune-decls
+options-add n h = options-sum (asks 0 n) h

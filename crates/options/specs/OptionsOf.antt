@@ -1,0 +1,24 @@
+-- The options of an ask as a struct of bools.
+use Prim.Native.Nat.{ℕ, _+_}
+use mathlib.Core.Path.{_≡_}
+use mathlib.Core.Bool.{cond}
+use Rattle.model.specs.Reading.{Ask, no-ambients, pretyping-axioms, prune-decls}
+use Rattle.options.specs.declared.Options.{Options}
+
+-- the ask of a query and an options number
+abbrev pub asks : ℕ → ℕ → Ask
+asks query options = record { query = query; options = options }
+
+-- the largest options number
+abbrev pub most-options : ℕ
+most-options = 7
+
+-- the options that are on, each at its value
+unfoldable pub options-value : Options → ℕ
+options-value r = cond (r .«no_ambients») 1 0 + cond (r .«pretyping_axioms») 2 0 + cond (r .«prune_decls») 4 0
+
+-- the options of an ask
+pub record Options-of (a : Ask) (r : Options) : Type 0 where
+  pub no-ambients-is : r .«no_ambients» ≡ no-ambients a
+  pub pretyping-axioms-is : r .«pretyping_axioms» ≡ pretyping-axioms a
+  pub prune-decls-is : r .«prune_decls» ≡ prune-decls a

@@ -1,0 +1,22 @@
+ghost use Prim.Native.Nat.{ℕ, _≤_};
+ghost use mathlib.Core.Path.{_≡_};
+ghost use Rattle.options.specs.OptionsOf.{asks, most-options, options-value, Options-of};
+
+// The options of an ask: 1, `no_ambients`; 2, `pretyping_axioms`; 4, `prune_decls`.
+pub struct Options {
+    pub no_ambients: bool,
+    pub pretyping_axioms: bool,
+    pub prune_decls: bool,
+}
+
+// The options of an options number: what remains by 2 after the halvings of each one's place.
+pub fn options_of(number: usize) -> Options
+    ensures on { λ r. ⌜ ((q : ℕ) → Options-of (asks q number) r) ⌝ }
+    ensures sum { λ r. ⌜ (number ≤ most-options → options-value r ≡ number) ⌝ }
+{
+    Options {
+        no_ambients: number % 2 == 1,
+        pretyping_axioms: number / 2 % 2 == 1,
+        prune_decls: number / 4 % 2 == 1,
+    }
+}
