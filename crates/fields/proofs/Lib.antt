@@ -1,7 +1,5 @@
 pub mod Words
+pub mod Ops
 pub mod Pushing
 pub mod Spelling
 pub mod Runs
-pub mod Terms
-pub mod Lines
-pub mod Quantifiers

@@ -12,21 +12,17 @@ use borrow.Author.Tests.{eq-eqb, ne-eqb, ltb-true, leb-true}
 use Rattle.model.specs.Lists.{all, holds, part}
 use Rattle.model.specs.Names.{bytes, same}
 use Rattle.model.specs.Lines.{Field}
-use Rattle.model.specs.Summaries.{op-number}
 use Rattle.model.specs.Reading.{Result, ok, refused, _>>=_, need, next, word, op-words, kinds, kind-field, fixed-count, content, parse}
 use Rattle.model.specs.declared.LineKind.{LineKind}
 use Rattle.model.specs.declared.LineKind.the-variants as kind
-use Rattle.model.specs.declared.Op.{Op}
-use Rattle.model.specs.declared.Op.the-variants as op
 use Rattle.model.specs.declared.Refusal.the-variants as refusal
 use Rattle.model.proofs.PartLaws.{part-cons, part-nil}
 use Rattle.model.proofs.ListLaws.{T-ext}
 use Rattle.model.proofs.SetLaws.{same-eq, eq-same}
 use Rattle.text.proofs.Laws.{same-sized}
-use Rattle.terms.specs.Rows.{op-of-code}
 use Rattle.fields.specs.declared.Kind.{Kind}
 use Rattle.fields.specs.declared.Kind.the-variants as kinded
-use Rattle.fields.specs.declared.OpWord.the-variants as worded
+use Rattle.fields.specs.declared.OpWord.the-variants as is-op
 use Rattle.fields.specs.Wording.{key-from, key-of, is-byte, longest-word, is-short, Keyed, look, term-kind, record-kind, kind-result, fixed-of, count-of, well-counted, as-op}
 
 -- ---- keys
@@ -203,27 +199,9 @@ unfolding op-words are-short is-short is-byte all bytes
 op-key {key} {n} f k h = ap as-op (ap (look op-words) (sym h) ∙ sym (word-look op-words f refl k))
 
 -- no op word
-pub op-none : {key : ℕ} (f : Field) → Keyed f key → Apart (Unit {0}) key op-words → worded.No ≡ as-op (word op-words f)
+pub op-none : {key : ℕ} (f : Field) → Keyed f key → Apart (Unit {0}) key op-words → is-op.No ≡ as-op (word op-words f)
 unfolding as-op
 op-none {key} f k h = ap as-op (look-none (Unit {0}) key op-words h) ∙ op-key f k refl
-
--- an op word from its number
-pub op-back : (w : Op) → op-of-code (op-number w) ≡ w
-unfolding op-of-code op-number
-op-back op.TrueOp = refl
-op-back op.Iff = refl
-op-back op.Eq = refl
-op-back op.And = refl
-op-back op.Other = refl
-
--- its number is a code
-pub op-small : (w : Op) → op-number w < 5
-unfolding op-number
-op-small op.TrueOp = omega arith
-op-small op.Iff = omega arith
-op-small op.Eq = omega arith
-op-small op.And = omega arith
-op-small op.Other = omega arith
 
 -- ---- the number of fields
 

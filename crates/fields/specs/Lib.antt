@@ -1,4 +1,3 @@
 pub mod Wording
 pub mod Pushing
 pub mod Spelling
-pub mod Growing

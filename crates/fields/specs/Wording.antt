@@ -10,11 +10,15 @@ use lib.Dec.{leb, ltb, eqb}
 use Rattle.model.specs.Lists.{all, holds}
 use Rattle.model.specs.Names.{bytes, same}
 use Rattle.model.specs.Lines.{Field}
-use Rattle.model.specs.Reading.{Result, ok, refused, fixed-count}
+use Rattle.model.specs.Reading.{Result, ok, refused, need, word, op-words, next, fixed-count}
 use Rattle.model.specs.declared.LineKind.{LineKind}
 use Rattle.model.specs.declared.LineKind.the-variants as kind
 use Rattle.model.specs.declared.Op.{Op}
+use Rattle.model.specs.declared.Refusal.{Refusal}
 use Rattle.model.specs.declared.Refusal.the-variants as refusal
+use Rattle.text.specs.declared.Cursor.{Cursor}
+use Rattle.text.specs.Parts.{fields-left}
+use Rattle.text.proofs.Laws.{Onward}
 use Rattle.fields.specs.declared.TermKind.{TermKind}
 use Rattle.fields.specs.declared.TermKind.the-variants as termed
 use Rattle.fields.specs.declared.RecordKind.{RecordKind}
@@ -22,7 +26,9 @@ use Rattle.fields.specs.declared.RecordKind.the-variants as recorded
 use Rattle.fields.specs.declared.Kind.{Kind}
 use Rattle.fields.specs.declared.Kind.the-variants as kinded
 use Rattle.fields.specs.declared.OpWord.{OpWord}
-use Rattle.fields.specs.declared.OpWord.the-variants as worded
+use Rattle.fields.specs.declared.OpWord.the-variants as is-op
+use Rattle.fields.specs.declared.OpStep.{OpStep}
+use Rattle.fields.specs.declared.OpStep.the-variants as worded
 
 -- bytes as one number, to the base 256, after the number n
 unfoldable pub key-from : ℕ → List ℕ → ℕ
@@ -98,5 +104,16 @@ well-counted k fs = not (holds (λ n. not (eqb (length fs) n)) (fixed-of k))
 
 -- an op word as an answer
 unfoldable pub as-op : Option Op → OpWord
-as-op none = worded.No
-as-op (some op) = worded.Is op
+as-op none = is-op.No
+as-op (some op) = is-op.Is op
+
+-- a field that is an op word: 1
+unfoldable pub op-field : Field → Result Op
+op-field f = need refusal.Form (word op-words f)
+
+-- what reading an op word comes to
+pub data Reads-op (file : List ℕ) (c : Cursor) : OpStep → Type 0 where
+  op-read : {w : Op} {after : Cursor}
+      → next op-field (fields-left file c) ≡ ok (w, fields-left file after) → Onward file c after
+      → Reads-op file c (worded.Is w after)
+  op-not : {x : Refusal} → next op-field (fields-left file c) ≡ refused x → Reads-op file c (worded.Refused x)

@@ -27,7 +27,7 @@ use Rattle.rules.specs.Views.{terms-in}
 use Rattle.fields.specs.declared.Upto.{Upto}
 use Rattle.fields.specs.declared.Upto.the-variants as upto
 use Rattle.fields.specs.Spelling.{Naming, Longer, spell-fields, Spells-rest, all-spelt, rest-not}
-use Rattle.fields.specs.Growing.{with-term, Grown, Passes, names-passed, terms-passed, references-passed, Kept, Grows, grown, over, not-read, Reads-term}
+use Rattle.nodes.specs.Growing.{with-term, Grown, Passes, names-passed, terms-passed, references-passed, Kept, Grows, grown, over, not-read, Reads-term}
 use Rattle.fields.proofs.Spelling.{naming-table, naming-past, spell-law}
 use Rattle.words.proofs.Slices.{same-self, same-wider}
 use Rattle.records.specs.States.{state-of}

@@ -357,7 +357,7 @@ fn read_kind(
 {
     match kind {
         Kind::Ask => read_ask(file, k, c),
-        Kind::Term(t) => fields::read_term(file, names, refs, rows, k, t, c),
+        Kind::Term(t) => nodes::read_term(file, names, refs, rows, k, t, c),
         Kind::Record(r) => read_record(file, names, refs, rows, recs, out, k, n, r, c),
         Kind::No => Step::Refused(Refusal::Form),
     }

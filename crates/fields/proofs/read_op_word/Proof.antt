@@ -1,7 +1,7 @@
 -- `fields::read_op_word` meets its contract.
 use mathlib.Core.Path.{sym, _∙_}
 use Rattle.text.proofs.Laws.{field-next}
-use Rattle.fields.proofs.Lines.{op-there, op-lacks, field-lacks}
+use Rattle.fields.proofs.Ops.{op-there, op-lacks, field-lacks}
 use Rattle.fields.proofs.read_op_word.Statement.{statement}
 use Rattle.fields.proofs.read_op_word.Tie as tie
 
