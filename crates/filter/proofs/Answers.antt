@@ -1,19 +1,19 @@
 -- The answer of reading, running and listing.
-use Prim.Native.Nat.{ℕ, zero, suc, _+_, _-_, _≤_, _<_}
+use Prim.Native.Nat.{ℕ, zero, suc, _+_, _-_, _≤_}
 use native.Mathlib.Omega.{arith}
 use mathlib.Core.Path.{_≡_, refl, sym, _∙_, ap}
 use mathlib.Core.Bool.{Bool, true, false, cond, _&&_}
-use mathlib.Core.List.{List, [], _∷_, _++_}
+use mathlib.Core.List.{List, [], _∷_}
 use lib.Dec.{eqb, ltb}
 use lib.ListN.{length, take, drop, length-append}
 use Rattle.model.specs.Lists.{count, part}
-use Rattle.model.specs.Names.{Name, mem, from-list}
+use Rattle.model.specs.Names.{Name, mem}
 use Rattle.model.specs.Lines.{Line, lines, line-cons}
 use Rattle.model.specs.Summaries.{exclude-names}
-use Rattle.model.specs.Reading.{most-records, most-entries, Summary, State, Reading, Result, ok, refused, read, refused-at, go-on, start, read-line, read-lines, read-file}
+use Rattle.model.specs.Reading.{most-entries, Summary, State, Reading, Result, ok, refused, read, refused-at, go-on, start, read-line, read-lines, read-file}
 use Rattle.model.specs.Rounds.{facts, filed, run, visits}
 use Rattle.model.specs.Kept.{kept}
-use Rattle.model.specs.Outcome.{Outcome, refusal-number, refusal-at, list, filtered, of-reading, working-words, most-bytes, answer}
+use Rattle.model.specs.Outcome.{Outcome, refusal-number, refusal-at, filtered, of-reading, working-words, most-bytes, answer}
 use Rattle.model.specs.declared.Answer.{Answer}
 use Rattle.model.specs.declared.Counts.{Counts}
 use Rattle.model.specs.declared.Refusal.{Refusal}
@@ -31,7 +31,6 @@ use Rattle.macros.specs.Macros.{Filled}
 use Rattle.reader.specs.Lines.{Reads-file, all-read, read-stops}
 use Rattle.reader.specs.declared.Reading.{Reading as Reading′}
 use Rattle.reader.specs.declared.Reading.the-variants as reading
-use Rattle.scan.specs.Held.{upto}
 use Rattle.scan.specs.Steps.{run-end}
 use Rattle.scan.specs.Tables.{held-of}
 use Rattle.scan.specs.Runs.{run-of, Ran}

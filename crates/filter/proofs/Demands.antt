@@ -1,5 +1,5 @@
 -- The demands hold of every call: from the contract of `filter` and the theorems over the definitions.
-use Prim.Native.Nat.{ℕ, _≤_, _<_}
+use Prim.Native.Nat.{ℕ, _≤_}
 use native.Mathlib.Omega.{arith}
 use mathlib.Core.Path.{_≡_, refl, sym, _∙_, ap}
 use mathlib.Core.Bool.{Bool, true, false}
@@ -18,10 +18,8 @@ use Rattle.model.specs.declared.Refusal.the-variants as refusal
 use Rattle.model.specs.declared.Verdict.{Verdict}
 use Rattle.model.specs.declared.Verdict.the-variants as verdict
 use Rattle.demands.specs.Accepted.{Accepted}
-use Rattle.demands.specs.Demand1.{Lines-judged, When-listed}
-use Rattle.demands.specs.Demand2.{kept-list, pruned}
+use Rattle.demands.specs.Demand2.{kept-list}
 use Rattle.demands.specs.Demand3.{run-of}
-use Rattle.demands.specs.Slices.{Cleared}
 use Rattle.demands.proofs.Demand1.{refusals-1-to-4, refusal-5, refusal-6, refusal-7, refusal-8, refusal-9, refusal-10, refusal-11, refusal-12, list-given}
 use Rattle.demands.proofs.Demand2.{kept-is-pruned, kept-once}
 use Rattle.demands.proofs.Order.{decls-in-order}

@@ -24,7 +24,7 @@ use Rattle.lines.specs.declared.Added.{Added}
 use Rattle.lines.proofs.Laws.{added-in, added-full}
 use Rattle.lines.proofs.Lines.{pushed-none, pushed-one}
 use Rattle.words.specs.Slices.{Same-but}
-use Rattle.words.proofs.Slices.{same-self, same-then, same-set, same-wider}
+use Rattle.words.proofs.Slices.{same-self, same-then, same-set}
 use Rattle.rules.specs.Views.{Tables, terms-in}
 use Rattle.nodes.specs.declared.Passed.{Passed}
 use Rattle.nodes.specs.declared.Passed.the-variants as passed
@@ -196,12 +196,3 @@ module _ {file names refs rows names′ refs′ : List ℕ} {k : Counts} {kind :
 pub reads-kind : {file names refs rows names′ refs′ rows′ : List ℕ} {k : Counts} {c : Cursor} {f : Step} (kind kind′ : TermKind) → kind ≡ kind′
     → Reads-term file names refs rows names′ refs′ rows′ k (term-kind kind′) c f → Reads-term file names refs rows names′ refs′ rows′ k (term-kind kind) c f
 reads-kind kind kind′ e r = rw e r
-
--- every line leaves the words past the first 16,384 of each slice
-pub kept-past : {names refs rows names′ refs′ rows′ : List ℕ} → Kept names refs rows names′ refs′ rows′
-    → Same-but 0 16384 names names′ × Same-but 0 16384 refs refs′ × Same-but 0 16384 rows rows′
-kept-past s = (
-  same-wider 0 16384 (omega arith) (omega arith) (s .names-kept),
-  same-wider 0 16384 (omega arith) (omega arith) (s .refs-kept),
-  same-wider 0 16384 (omega arith) (omega arith) (s .rows-kept),
-)

@@ -5,28 +5,26 @@ use native.Mathlib.Omega.{arith}
 use mathlib.Core.Path.{_≡_, refl, sym, ap, _∙_, subst}
 use mathlib.Core.Logic.{⊎-elim}
 use mathlib.Core.Bool.{Bool, true, false, cond, not, _&&_}
-use mathlib.Core.List.{List, [], _∷_, List·Memᴰ, List·Memᴰ·not-nil, List·Memᴰ·append-cases}
+use mathlib.Core.List.{List, [], _∷_, List·Memᴰ, List·Memᴰ·append-cases}
 use lib.ListN.{length}
 use lib.Dec.{T, eqb, eqb→eq, not-T, T-not}
 use borrow.Author.Tests.{eq-eqb, ne-eqb}
 use Rattle.model.specs.Lists.{keep}
 use Rattle.model.specs.Names.{Name, same, mem}
-use Rattle.model.specs.Reading.{no-ambients, prune-decls}
-use Rattle.model.specs.Rounds.{is-ambient}
+use Rattle.model.specs.Reading.{prune-decls}
 use Rattle.model.specs.declared.Counts.{Counts}
 use Rattle.model.proofs.ListLaws.{T-and, T-true, T-false, true-T, T-dec, cond-true, cond-false, cond-case, option-elim, keep-elim, keep-none, collect-elim}
 use Rattle.model.proofs.SetLaws.{same-eq, eq-same}
 use Rattle.names.specs.Table.{name-of, ranked}
 use Rattle.names.proofs.Laws.{distinct}
 use Rattle.terms.proofs.Laws.{equal}
-use Rattle.records.specs.Columns.{record-kind, record-name, summary-code, kind-of-code, assume-kind, fun-kind, def-kind, retain-kind, taken-at}
+use Rattle.records.specs.Columns.{record-kind, record-name, assume-kind, fun-kind, def-kind, retain-kind, taken-at}
 use Rattle.records.specs.States.{ask-of}
 use Rattle.macros.specs.Macros.{Filled}
 use Rattle.scan.specs.Held.{upto}
 use Rattle.scan.specs.Steps.{is-reached}
 use Rattle.scan.proofs.Numbers.{set-intro, set-elim, upto-elim}
-use Rattle.scan.proofs.Background.{only}
-use Rattle.prune.specs.Listing.{from, one, picked, taker, reached-at, kind-at, ambient-at, is-goal, reached-records, ambient-records, fact-records, items, stamp-records, kind-records, decl-records, item-stamp, kept-records}
+use Rattle.prune.specs.Listing.{from, one, taker, reached-at, kind-at, reached-records, fact-records, items, stamp-records, kind-records, decl-records, item-stamp, kept-records}
 use Rattle.prune.specs.Kept.{reached-of}
 use Rattle.prune.proofs.Members.{picked-elim, reached-small, ambients-small, goals-small}
 use Rattle.prune.proofs.Ranges.{keep-keep, keep-only, from-below}

@@ -1,7 +1,7 @@
 -- What the loops of `prune` leave in the run's slice. The met column, cleared, takes the stamps of the names.
 use Prim.Native.Nat.{ℕ, _+_, _≤_, _<_}
 use mathlib.Core.Path.{_≡_}
-use mathlib.Core.List.{List, [], _∷_, map}
+use mathlib.Core.List.{List, [], _∷_}
 use lib.ListN.{length, getD}
 use lib.Seq.{sets}
 use Rattle.model.specs.Lists.{part}

@@ -7,7 +7,7 @@ use mathlib.Core.Bool.{Bool, true, false, cond, _||_}
 use mathlib.Core.Logic.{⊎-elim}
 use mathlib.Core.List.{List, [], _∷_, List·Memᴰ, List·Memᴰ·head, List·Memᴰ·not-nil, List·Memᴰ·eq-of-singleton, List·Memᴰ·append-cases, Memᴰ·append-left, Memᴰ·append-right}
 use lib.ListN.{length}
-use lib.Dec.{T, not-T}
+use lib.Dec.{not-T}
 use borrow.Author.Tests.{le-leb}
 use Rattle.model.specs.Lists.{collect, any}
 use Rattle.model.specs.Names.{Name, mem}
@@ -19,8 +19,8 @@ use Rattle.model.specs.declared.Refusal.the-variants as refusal
 use Rattle.model.proofs.ListLaws.{T-true, T-false, collect-append}
 use Rattle.model.proofs.SetLaws.{mem-intro, mem-elim}
 use Rattle.demands.proofs.ReadingLaws.{Lowest, under-lowest}
-use Rattle.names.specs.Table.{name-of, names-of}
-use Rattle.names.proofs.Laws.{names-intro, distinct}
+use Rattle.names.specs.Table.{name-of}
+use Rattle.names.proofs.Laws.{distinct}
 use Rattle.terms.proofs.Laws.{equal}
 use Rattle.rules.specs.Views.{terms-in}
 use Rattle.records.specs.Columns.{record-kind, record-name, retain-kind, taken-at}
@@ -164,16 +164,3 @@ module _ {file names refs rows recs out : List ℕ} {k : Counts} (st : Standing 
           let low = st .recorded .named-in j l (λ z. omega arith) in
           let same = distinct (st .tables .name-table) i (record-name recs j) known low e in
           omega (arith, st .stocked .taken .took j l kind, ap (taken-at names) same)
-
--- a name that the table does not have is not repeated
-pub repeats-new : {file names refs rows recs out : List ℕ} {k : Counts} → Standing file names refs rows recs out k → (line : ℕ) (c : Content) {m : Name}
-    → collect taken-by (summarize-decl excluded (terms-in file names refs rows (k .used) (k .many)) line c) ≡ m ∷ []
-    → (T (mem m (names-of file names (k .named))) → ⊥) → repeats excluded line (state-of file names refs rows recs out k) c ≡ false
-unfolding state-of
-repeats-new {file} {names} {refs} {rows} {recs} {out} {k} st line c {m} takes absent =
-    let taken = collect taken-by (decls-of (name-of file names) recs out (k .records)) in
-    let new : List·Memᴰ m taken → ⊥ = λ h.
-    let (j, l, kind, e) = taken-elim (name-of file names) recs out (k .records) h in
-    absent (rw e (names-intro file names (k .named) (record-name recs j) (st .recorded .named-in j l (λ z. omega arith)))) in
-    repeats-one line (state-of file names refs rows recs out k) c takes
-    ∙ rw (T-false (mem m taken) (not-T (mem m taken) (λ t. new (mem-elim t))))

@@ -4,24 +4,20 @@ use native.Mathlib.Omega.{arith}
 use mathlib.Core.Path.{_≡_, refl}
 use mathlib.Core.List.{List}
 use lib.ListN.{length, getD}
-use Rattle.model.specs.Lists.{fold-left}
-use Rattle.model.specs.Reading.{start, most-names, most-terms}
+use Rattle.model.specs.Reading.{most-names}
 use Rattle.model.specs.declared.Counts.{Counts}
 use Rattle.model.specs.Outcome.{working-words}
-use Rattle.names.specs.Table.{name-of, names-of}
+use Rattle.names.specs.Table.{name-of}
 use Rattle.names.proofs.Laws.{empty-table}
-use Rattle.terms.specs.Rows.{terms-of, nodes-below}
 use Rattle.terms.proofs.Table.{empty-rows}
-use Rattle.gather.specs.Sets.{name-mark, row-mark}
-use Rattle.rules.specs.Views.{Tables, terms-in}
 use Rattle.records.specs.Columns.{record-kind, record-name, retain-kind, taken-column, first-column, taken-at, first-entry}
-use Rattle.records.specs.States.{decls-of, roots-of, state-of}
+use Rattle.records.specs.States.{decls-of, roots-of}
 use Rattle.records.specs.Filing.{newest, entries-before, Stocked}
-use Rattle.records.specs.Writing.{no-counts, with-ask, with-terms}
+use Rattle.records.specs.Writing.{no-counts}
 use Rattle.records.specs.Adding.{Standing}
 use Rattle.records.proofs.Chaining.{chained-kept}
 use Rattle.records.proofs.Recording.{Agree, decls-stay, roots-stay}
-use Rattle.records.proofs.Keeping.{records-named, filing-kept, taken-kept}
+use Rattle.records.proofs.Keeping.{filing-kept, taken-kept}
 
 -- ---- before the first line
 
@@ -75,17 +71,6 @@ module _ (file names refs rows recs out : List ℕ) (short : length file ≤ 655
     stocked = stocked-start;
   }
 
--- they are the state before line 1
-pub state-start : (file names refs rows recs out : List ℕ) → state-of file names refs rows recs out no-counts ≡ start
-unfolding state-of start terms-in terms-of nodes-below names-of decls-of roots-of fold-left
-state-start file names refs rows recs out = refl
-
--- ---- with the ask
-
-pub standing-asked : {file names refs rows recs out : List ℕ} {k : Counts} (query options : ℕ) → Standing file names refs rows recs out k
-    → Standing file names refs rows recs out (with-ask k query options)
-standing-asked query options st = record { tables = st .tables; recorded = st .recorded; fresh = st .fresh; few-marks = st .few-marks; stocked = st .stocked }
-
 -- ---- with more names and terms
 
 -- a slice with the same names, taken and first words
@@ -117,18 +102,3 @@ module _ {file names refs rows recs out names′ : List ℕ} {k : Counts} (st : 
 
   pub roots-longer : roots-of (name-of file names′) recs out (k .records) ≡ roots-of (name-of file names) recs out (k .records)
   roots-longer = roots-stay agree (st .recorded) (k .records) (omega arith)
-
-  -- the tables stand with more names and terms
-  pub standing-longer : {refs′ rows′ : List ℕ} {named′ used′ many′ : ℕ} → k .named ≤ named′ → Tables file names′ refs′ rows′ named′ used′ many′
-      → ((n : ℕ) → n < most-names → name-mark names′ n ≡ name-mark names n) → ((t : ℕ) → t < most-terms → row-mark rows′ t ≡ row-mark rows t)
-      → Standing file names′ refs′ rows′ recs out (with-terms k named′ used′ many′)
-  standing-longer more tables names-marked rows-marked = record {
-    tables = tables;
-    recorded = records-named more (st .recorded);
-    fresh = record {
-      row-marks = λ t l. rw (rows-marked t l) (st .fresh .row-marks t l);
-      name-marks = λ n l. rw (names-marked n l) (st .fresh .name-marks n l);
-    };
-    few-marks = st .few-marks;
-    stocked = stocked-longer;
-  }

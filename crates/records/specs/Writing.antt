@@ -44,20 +44,6 @@ with-ask k query options = record {
   options = options;
 }
 
--- the counts with more names, references and terms
-abbrev pub with-terms : Counts → ℕ → ℕ → ℕ → Counts
-with-terms k named used many = record {
-  named = named;
-  used = used;
-  many = many;
-  records = k .records;
-  entries = k .entries;
-  uses = k .uses;
-  mark = k .mark;
-  query = k .query;
-  options = k .options;
-}
-
 -- numbers that fit a word
 pub record Small (k k′ : Counts) (kind line name term flag code : ℕ) : Type 0 where
   pub small-kind : kind < 4294967296

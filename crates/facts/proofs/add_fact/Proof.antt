@@ -8,12 +8,6 @@ use Rattle.facts.proofs.Facts.{excludes-here, fact-asked, fact-puttable
 use borrow.Author.Needs.{needs}
 use Rattle.facts.proofs.add_fact.Statement.{statement}
 use Rattle.facts.proofs.add_fact.Tie as tie
-use Rattle.facts.proofs.add_fact.Reads as reads
-use Rattle.facts.proofs.add_fact.Lts as lts
-use Rattle.facts.proofs.over_refusal.Reads as over-refusal-reads
-use Rattle.facts.proofs.put_fact.Reads as put-fact-reads
-use Rattle.summary.proofs.summarize_assumption.Reads as summarize-assumption-reads
-use Rattle.words.proofs.at.Reads as at-reads
 
 returns : tie.Need-returns
 returns c = (full (c .if1 .taken), untouched)

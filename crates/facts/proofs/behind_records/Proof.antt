@@ -4,8 +4,6 @@ use Rattle.model.specs.Reading.{most-records}
 use Rattle.facts.specs.Refusing.{behind-records}
 use Rattle.facts.proofs.behind_records.Statement.{statement}
 use Rattle.facts.proofs.behind_records.Tie as tie
-use Rattle.facts.proofs.behind_records.Reads as reads
-use Rattle.facts.proofs.behind_records.Lts as lts
 
 returns : tie.Need-returns
 unfolding behind-records

@@ -8,9 +8,6 @@ use Rattle.facts.proofs.Chaining.{chain-start, chain-none, chain-one, c
 use native.Mathlib.Omega.{arith}
 use Rattle.facts.proofs.chain_entries.Statement.{statement}
 use Rattle.facts.proofs.chain_entries.Tie as tie
-use Rattle.facts.proofs.chain_entries.Reads as reads
-use Rattle.facts.proofs.chain_entries.Lts as lts
-use Rattle.words.proofs.at.Reads as at-reads
 
 abbrev Inv-loop : tie.InvT-loop
 Inv-loop names₀ out₀ from to fact e₀ names out e = (from ≤ e) × (e ≤ to) × Chains names₀ out₀ names out from e fact

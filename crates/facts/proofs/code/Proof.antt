@@ -3,8 +3,6 @@ use native.Mathlib.Omega.{arith}
 use Rattle.facts.proofs.Coding.{code-drop, code-ambient, code-root, code-triggers}
 use Rattle.facts.proofs.code.Statement.{statement}
 use Rattle.facts.proofs.code.Tie as tie
-use Rattle.facts.proofs.code.Reads as reads
-use Rattle.facts.proofs.code.Lts as lts
 
 enum-told : tie.Need-enum-told
 enum-told c = c .match .keys1

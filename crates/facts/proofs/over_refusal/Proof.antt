@@ -3,9 +3,6 @@ use borrow.Author.Needs.{needs}
 use Rattle.facts.specs.Refusing.{over-refusal}
 use Rattle.facts.proofs.over_refusal.Statement.{statement}
 use Rattle.facts.proofs.over_refusal.Tie as tie
-use Rattle.facts.proofs.over_refusal.Reads as reads
-use Rattle.facts.proofs.over_refusal.Lts as lts
-use Rattle.facts.proofs.behind_records.Reads as behind-records-reads
 
 enum-told : tie.Need-enum-told
 enum-told c = c .match .keys1

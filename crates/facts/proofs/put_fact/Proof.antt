@@ -6,12 +6,6 @@ use Rattle.facts.proofs.Chaining.{chained-taken}
 use Rattle.facts.proofs.Coding.{small-as, rowed-as}
 use Rattle.facts.proofs.put_fact.Statement.{statement}
 use Rattle.facts.proofs.put_fact.Tie as tie
-use Rattle.facts.proofs.put_fact.Reads as reads
-use Rattle.facts.proofs.put_fact.Lts as lts
-use Rattle.facts.proofs.chain_entries.Reads as chain-entries-reads
-use Rattle.facts.proofs.code.Reads as code-reads
-use Rattle.records.proofs.put_record.Reads as put-record-reads
-use Rattle.records.proofs.with_record.Reads as with-record-reads
 
 code-requires : tie.Need-code-requires
 code-requires c κs = c .before .before .before .pre .small .small-code

@@ -1,5 +1,4 @@
 -- `fields::push_many` meets its contract. The loop's invariant: what is left of the run is the run from the cursor on.
-use Prim.Native.Nat.{_-_}
 use mathlib.Core.Path.{_≡_, refl, _∙_}
 use Rattle.text.specs.Parts.{fields-left}
 use Rattle.model.specs.Reading.{most-references}

@@ -8,9 +8,6 @@ use Rattle.macros.proofs.Opening.{Finding, finding-none, finding-other,
 use native.Mathlib.Omega.{arith}
 use Rattle.macros.proofs.find_opened.Statement.{statement}
 use Rattle.macros.proofs.find_opened.Tie as tie
-use Rattle.macros.proofs.find_opened.Reads as reads
-use Rattle.macros.proofs.find_opened.Lts as lts
-use Rattle.words.proofs.at.Reads as at-reads
 
 abbrev Inv-loop : tie.InvT-loop
 Inv-loop names named found₀ n₀ found n = Finding names found n × (n ≤ named) × (length found ≡ length found₀)

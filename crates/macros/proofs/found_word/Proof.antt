@@ -3,9 +3,6 @@ use native.Mathlib.Omega.{arith}
 use Rattle.macros.proofs.Opening.{number-low, word-below, word-above, word-missing, word-there}
 use Rattle.macros.proofs.found_word.Statement.{statement}
 use Rattle.macros.proofs.found_word.Tie as tie
-use Rattle.macros.proofs.found_word.Reads as reads
-use Rattle.macros.proofs.found_word.Lts as lts
-use Rattle.words.proofs.at.Reads as at-reads
 
 returns : tie.Need-returns
 returns c = word-below _ _ (c .if1 .taken)

@@ -3,9 +3,6 @@ use native.Mathlib.Omega.{arith}
 use Rattle.macros.proofs.Opening.{not-def, def-by}
 use Rattle.macros.proofs.is_def.Statement.{statement}
 use Rattle.macros.proofs.is_def.Tie as tie
-use Rattle.macros.proofs.is_def.Reads as reads
-use Rattle.macros.proofs.is_def.Lts as lts
-use Rattle.words.proofs.at.Reads as at-reads
 
 returns : tie.Need-returns
 returns c = not-def _ (c .if1 .taken)

@@ -3,11 +3,6 @@ use native.Mathlib.Omega.{arith}
 use Rattle.macros.proofs.Opening.{word-def, word-other}
 use Rattle.macros.proofs.macro_word.Statement.{statement}
 use Rattle.macros.proofs.macro_word.Tie as tie
-use Rattle.macros.proofs.macro_word.Reads as reads
-use Rattle.macros.proofs.macro_word.Lts as lts
-use Rattle.macros.proofs.found_word.Reads as found-word-reads
-use Rattle.macros.proofs.is_def.Reads as is-def-reads
-use Rattle.words.proofs.at.Reads as at-reads
 
 add-at : tie.Need-add-at
 add-at c = omega arith

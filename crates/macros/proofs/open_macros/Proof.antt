@@ -8,10 +8,6 @@ use Rattle.macros.proofs.Opening.{found-low, opens-none, opens-more, ta
 use native.Mathlib.Omega.{arith}
 use Rattle.macros.proofs.open_macros.Statement.{statement}
 use Rattle.macros.proofs.open_macros.Tie as tie
-use Rattle.macros.proofs.open_macros.Reads as reads
-use Rattle.macros.proofs.open_macros.Lts as lts
-use Rattle.macros.proofs.find_opened.Reads as find-opened-reads
-use Rattle.macros.proofs.macro_word.Reads as macro-word-reads
 
 abbrev Inv-loop : tie.InvT-loop
 Inv-loop names₀ recs named found n₀ names n = Opens names₀ recs names named n × Found names₀ named found × (n ≤ named)

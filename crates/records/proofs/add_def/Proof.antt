@@ -7,12 +7,6 @@ use Rattle.records.proofs.Uses.{gathered-uses, gathered-over, gathered-
 use borrow.Author.Needs.{needs}
 use Rattle.records.proofs.add_def.Statement.{statement}
 use Rattle.records.proofs.add_def.Tie as tie
-use Rattle.records.proofs.add_def.Reads as reads
-use Rattle.records.proofs.add_def.Lts as lts
-use Rattle.gather.proofs.gather_term.Reads as gather-term-reads
-use Rattle.records.proofs.put_record.Reads as put-record-reads
-use Rattle.records.proofs.with_record.Reads as with-record-reads
-use Rattle.words.proofs.at.Reads as at-reads
 use Rattle.words.proofs.Slices.{same-self}
 
 returns : tie.Need-returns

@@ -5,11 +5,6 @@ use Rattle.records.proofs.Funs.{small-row, untouched, fun-repeated, fun
 use borrow.Author.Needs.{needs}
 use Rattle.records.proofs.add_fun.Statement.{statement}
 use Rattle.records.proofs.add_fun.Tie as tie
-use Rattle.records.proofs.add_fun.Reads as reads
-use Rattle.records.proofs.add_fun.Lts as lts
-use Rattle.records.proofs.put_record.Reads as put-record-reads
-use Rattle.records.proofs.with_record.Reads as with-record-reads
-use Rattle.words.proofs.at.Reads as at-reads
 
 returns : tie.Need-returns
 returns c = (full (c .if1 .taken), untouched)

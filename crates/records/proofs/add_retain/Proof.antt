@@ -7,10 +7,6 @@ use Rattle.records.proofs.Funs.{untouched, row-past, small-row, retain-
 use borrow.Author.Needs.{needs}
 use Rattle.records.proofs.add_retain.Statement.{statement}
 use Rattle.records.proofs.add_retain.Tie as tie
-use Rattle.records.proofs.add_retain.Reads as reads
-use Rattle.records.proofs.add_retain.Lts as lts
-use Rattle.records.proofs.put_record.Reads as put-record-reads
-use Rattle.records.proofs.with_record.Reads as with-record-reads
 
 returns : tie.Need-returns
 returns c = (full (c .if1 .taken), untouched)

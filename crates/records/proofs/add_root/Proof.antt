@@ -8,11 +8,6 @@ use Rattle.records.proofs.Uses.{gathered-uses, gathered-over, gathered-
 use borrow.Author.Needs.{needs}
 use Rattle.records.proofs.add_root.Statement.{statement}
 use Rattle.records.proofs.add_root.Tie as tie
-use Rattle.records.proofs.add_root.Reads as reads
-use Rattle.records.proofs.add_root.Lts as lts
-use Rattle.gather.proofs.gather_term.Reads as gather-term-reads
-use Rattle.records.proofs.put_record.Reads as put-record-reads
-use Rattle.records.proofs.with_record.Reads as with-record-reads
 
 returns : tie.Need-returns
 returns c = (full (c .if1 .taken), untouched)

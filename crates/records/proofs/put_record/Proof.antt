@@ -3,9 +3,6 @@ use Rattle.records.proofs.Rows.{rowed}
 use borrow.Author.Needs.{needs}
 use Rattle.records.proofs.put_record.Statement.{statement}
 use Rattle.records.proofs.put_record.Tie as tie
-use Rattle.records.proofs.put_record.Reads as reads
-use Rattle.records.proofs.put_record.Lts as lts
-use Rattle.records.proofs.put_row.Reads as put-row-reads
 
 cast-t11 : tie.Need-cast-t11
 cast-t11 c = search needs

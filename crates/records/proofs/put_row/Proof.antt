@@ -8,8 +8,6 @@ use borrow.Author.Needs.{needs}
 use native.Mathlib.Omega.{arith}
 use Rattle.records.proofs.put_row.Statement.{statement}
 use Rattle.records.proofs.put_row.Tie as tie
-use Rattle.records.proofs.put_row.Reads as reads
-use Rattle.records.proofs.put_row.Lts as lts
 
 abbrev Inv-loop : tie.InvT-loop
 Inv-loop recs₀ i row c₀ recs c = (put-row recs₀ i 0 row ≡ put-row recs i c (drop c row)) × (length recs ≡ length recs₀) × (c ≤ length row)
