@@ -13,11 +13,10 @@ use Rattle.model.specs.Summaries.{exclude-names}
 use Rattle.model.specs.Reading.{most-entries, Summary, State, Reading, Result, ok, refused, read, refused-at, go-on, start, read-line, read-lines, read-file}
 use Rattle.model.specs.Rounds.{facts, filed, run, visits}
 use Rattle.model.specs.Kept.{kept}
-use Rattle.model.specs.Outcome.{Outcome, refusal-number, refusal-at, filtered, of-reading, working-words, most-bytes, answer}
+use Rattle.model.specs.Outcome.{Outcome, refusal-at, filtered, of-reading, working-words, most-bytes, answer}
 use Rattle.model.specs.declared.Answer.{Answer}
 use Rattle.model.specs.declared.Counts.{Counts}
 use Rattle.model.specs.declared.Refusal.{Refusal}
-use Rattle.model.specs.declared.Refusal.the-variants as refusal
 use Rattle.model.specs.declared.Verdict.the-variants.{Accepted}
 use Rattle.model.proofs.SetLaws.{from-list-length}
 use Rattle.demands.proofs.FuelLaws.{run-bound}
@@ -235,17 +234,3 @@ module _ {file names refs rows recs lists : List ℕ} {r : Reading′} (g : Read
       → a ≡ answer (refusal-at x n) → Replied (of-reading (read-file exclude-names file)) a run
   refused-replied {x} {n} {a} {run} q e =
       same-outcome (sym (ap of-reading (line-refused q) ∙ refused-outcome x n)) (refused-reply x n a run e)
-
--- ---- the numbers of the refusals
-
-pub numbers : (1 ≡ refusal-number refusal.Form) × (2 ≡ refusal-number refusal.Name) × (3 ≡ refusal-number refusal.Number)
-    × (4 ≡ refusal-number refusal.Term) × (5 ≡ refusal-number refusal.Repeated) × (6 ≡ refusal-number refusal.FullNames)
-    × (7 ≡ refusal-number refusal.Working) × (8 ≡ refusal-number refusal.Room) × (9 ≡ refusal-number refusal.Size)
-    × (10 ≡ refusal-number refusal.FullTerms) × (11 ≡ refusal-number refusal.FullRecords)
-    × (12 ≡ refusal-number refusal.FullTriggers)
-unfolding refusal-number
-numbers = (refl, refl, refl, refl, refl, refl, refl, refl, refl, refl, refl, refl)
-
--- the number of a refusal that is known
-pub number-is : {r x : Refusal} {n : ℕ} → r ≡ x → n ≡ refusal-number x → n ≡ refusal-number r
-number-is e p = p ∙ ap refusal-number (sym e)

@@ -11,31 +11,11 @@ ghost use lib.ListN.{length, take, drop};
 ghost use Rattle.model.specs.Lists.{any};
 ghost use Rattle.model.specs.Summaries.{exclude-names};
 ghost use Rattle.model.specs.Reading.{most-records, read-file};
-ghost use Rattle.model.specs.Outcome.{refusal-number, answer, refusal-at, of-reading, judged, outcome, working-words};
+ghost use Rattle.model.specs.Outcome.{answer, refusal-at, of-reading, judged, outcome, working-words};
 ghost use Rattle.words.specs.Slices.{Same-but};
 ghost use Rattle.prune.specs.Loops.{kept-column};
 ghost use Rattle.filter.specs.Call.{lengths, Leaves, Long, Rest, Cleared-all, Replied, Settles, outcome-of, Lent, Runs};
 ghost use Rattle.filter.specs.Demands.{Demands};
-
-// The number of a refusal in documents 01 and 02.
-pub fn refusal_number(r: Refusal) -> u32
-    ensures { λ n. ⌜ n ≡ refusal-number r ⌝ }
-{
-    match r {
-        Refusal::Form => 1,
-        Refusal::Name => 2,
-        Refusal::Number => 3,
-        Refusal::Term => 4,
-        Refusal::Repeated => 5,
-        Refusal::FullNames => 6,
-        Refusal::Working => 7,
-        Refusal::Room => 8,
-        Refusal::Size => 9,
-        Refusal::FullTerms => 10,
-        Refusal::FullRecords => 11,
-        Refusal::FullTriggers => 12,
-    }
-}
 
 // A refused answer: its place, and every count 0.
 fn refused(r: Refusal, place: u32) -> Answer

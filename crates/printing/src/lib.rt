@@ -62,7 +62,7 @@ fn second_field(file: &[u8], start: usize, end: usize) -> &[u8]
 }
 
 // The name on a line, its second field.
-pub fn name_on<'a>(file: &'a [u8], starts: &[u32], many: usize, line: u32) -> &'a [u8]
+fn name_on<'a>(file: &'a [u8], starts: &[u32], many: usize, line: u32) -> &'a [u8]
     requires { ⌜ Starts (now file) (now starts) many ⌝ }
     ensures { λ r. ⌜ (now r ≡ name-on (now (file .entry)) line) × (length (now r) ≤ length (now (file .entry))) ⌝ }
 {
@@ -79,7 +79,7 @@ pub fn name_on<'a>(file: &'a [u8], starts: &[u32], many: usize, line: u32) -> &'
 }
 
 // Writes the line of a kept record; its length.
-pub fn kept_line(file: &[u8], starts: &[u32], many: usize, line: u32, text: &mut [u8]) -> usize
+fn kept_line(file: &[u8], starts: &[u32], many: usize, line: u32, text: &mut [u8]) -> usize
     requires { ⌜ Starts (now file) (now starts) many × (length (now file) + 64 ≤ length (now text)) ⌝ }
     ensures { λ r. ⌜ Holds (kept-line (now (file .entry)) line) (now (text .exit)) r ⌝ }
 {
@@ -92,7 +92,7 @@ pub fn kept_line(file: &[u8], starts: &[u32], many: usize, line: u32, text: &mut
 }
 
 // Writes the last line of a list; its length.
-pub fn sum_line(kept: u32, visits: u32, rounds: u32, text: &mut [u8]) -> usize
+fn sum_line(kept: u32, visits: u32, rounds: u32, text: &mut [u8]) -> usize
     requires { ⌜ 128 ≤ length (now text) ⌝ }
     ensures { λ r. ⌜ Holds (sum-line kept visits rounds) (now (text .exit)) r ⌝ }
 {
@@ -106,12 +106,12 @@ pub fn sum_line(kept: u32, visits: u32, rounds: u32, text: &mut [u8]) -> usize
 }
 
 // Writes the line of a refusal; its length.
-pub fn refused_line(r: Refusal, place: u32, text: &mut [u8]) -> usize
+fn refused_line(r: Refusal, place: u32, text: &mut [u8]) -> usize
     requires { ⌜ 128 ≤ length (now text) ⌝ }
     ensures { λ n. ⌜ Holds (refused-line r place) (now (text .exit)) n ⌝ }
 {
     let mut at = put(text, 0, b"refused,");
-    at = put_number(text, at, filter::refusal_number(r));
+    at = put_number(text, at, refusals::refusal_number(r));
     at = put(text, at, b",");
     at = put_number(text, at, place);
     put(text, at, b"\n")

@@ -23,7 +23,7 @@ fn verdict_number(v: Verdict) -> u32
 {
     match v {
         Verdict::Accepted => 0,
-        Verdict::Refused(r) => filter::refusal_number(r),
+        Verdict::Refused(r) => refusals::refusal_number(r),
     }
 }
 

@@ -1,7 +1,7 @@
--- `filter::refusal_number` meets its contract.
-use Rattle.filter.proofs.Answers.{numbers, number-is}
-use Rattle.filter.proofs.refusal_number.Statement.{statement}
-use Rattle.filter.proofs.refusal_number.Tie as tie
+-- `refusals::refusal_number` meets its contract.
+use Rattle.refusals.proofs.Numbers.{numbers, number-is}
+use Rattle.refusals.proofs.refusal_number.Statement.{statement}
+use Rattle.refusals.proofs.refusal_number.Tie as tie
 
 enum-told : tie.Need-enum-told
 enum-told c = c .match .keys1
