@@ -27,9 +27,9 @@ use Rattle.demands.proofs.Demand3.{reached-closed, reached-least, reached-liste
 use Rattle.demands.proofs.FileOrder.{file-order}
 use Rattle.demands.proofs.Slices.{slices-exact}
 use Rattle.demands.proofs.Queries.{other-queries-do-not-matter}
+use Rattle.refusals.proofs.Numbers.{numbers}
 use Rattle.filter.specs.Call.{verdict-number, lines-of}
 use Rattle.filter.specs.Demands.{Call, works, Left, Accepts, Refuses, Comes-back, Demand-1, Demand-2, Demand-3, Demands-met, Other-queries-of-calls}
-use Rattle.filter.proofs.Answers.{numbers}
 
 -- ---- an answer says its outcome
 
