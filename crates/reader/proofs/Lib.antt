@@ -1,5 +1,3 @@
-pub mod Naming
 pub mod Saying
-pub mod Recording
 pub mod Lifting
 pub mod Lines

@@ -10,6 +10,7 @@ use Rattle.model.specs.Lines.{lines, Field, fields}
 use Rattle.model.specs.Reading.{Result, ok, refused, _>>=_, next, kind-field, content, parse, State, start, read, refused-at, go-on, read-line, read-lines, read-file, Content}
 use Rattle.model.specs.Outcome.{most-bytes, working-words}
 use Rattle.model.specs.declared.Counts.{Counts}
+use Rattle.model.specs.declared.LineKind.the-variants as kind
 use Rattle.model.specs.declared.Refusal.{Refusal}
 use Rattle.model.specs.declared.Refusal.the-variants as refusal
 use Rattle.model.specs.declared.Step.{Step}
@@ -25,7 +26,9 @@ use Rattle.terms.specs.Rows.{terms-of, nodes-below}
 use Rattle.rules.specs.Views.{terms-in}
 use Rattle.fields.specs.declared.Kind.{Kind}
 use Rattle.fields.specs.declared.Kind.the-variants as kinded
-use Rattle.fields.specs.Wording.{kind-result, well-counted}
+use Rattle.fields.specs.declared.TermKind.{TermKind}
+use Rattle.fields.specs.declared.RecordKind.{RecordKind}
+use Rattle.fields.specs.Wording.{kind-result, term-kind, record-kind, well-counted}
 use Rattle.fields.proofs.Words.{parse-law}
 use Rattle.words.proofs.Slices.{same-then, same-wider}
 use Rattle.records.specs.States.{decls-of, roots-of, state-of}
@@ -39,8 +42,9 @@ use Rattle.records.specs.Adding.{excluded, Standing, judge}
 use Rattle.records.proofs.Judging.{line-judged}
 use Rattle.records.proofs.Appending.{terms-length}
 use Rattle.records.specs.Writing.{no-counts}
+use Rattle.filing.specs.Lines.{judged, Reads, goes-on, stops, Past}
 use Rattle.reader.specs.declared.Reading.the-variants as answer
-use Rattle.reader.specs.Lines.{judged, kind-content, Reads, goes-on, stops, Past, Cleared, Reads-file, all-read, read-stops, File-read}
+use Rattle.reader.specs.Lines.{kind-content, Cleared, Reads-file, all-read, read-stops, File-read}
 
 -- ---- the form of a line
 
@@ -91,6 +95,24 @@ not-false {x} {b} e h = go x e h
     go : (x : Bool) → x ≡ b → not x ≡ false → true ≡ b
     go true q z = q
     go false q z = let w : _≡_ {A = ℕ} 0 1 = cc in absurd (omega arith)
+
+-- what a line of a kind says
+module _ (count : ℕ) (fs : List Field) {k : Kind} where
+  pub kind-ask : k ≡ kinded.Ask → kind-content k count fs ≡ content kind.Ask count fs
+  unfolding kind-content kind-result
+  kind-ask e = rw e
+
+  pub kind-term : {t : TermKind} → k ≡ kinded.Term t → kind-content k count fs ≡ content (term-kind t) count fs
+  unfolding kind-content kind-result
+  kind-term e = rw e
+
+  pub kind-record : {r : RecordKind} → k ≡ kinded.Record r → kind-content k count fs ≡ content (record-kind r) count fs
+  unfolding kind-content kind-result
+  kind-record e = rw e
+
+  pub kind-none : k ≡ kinded.No → kind-content k count fs ≡ refused refusal.Form
+  unfolding kind-content kind-result
+  kind-none e = rw e
 
 module _ (n count : ℕ) {all : List Field} {f : Field} {fs : List Field} (d : all ≡ f ∷ fs) (k : Kind) (q : kind-result k ≡ kind-field n f) where
   -- the number of fields is right
@@ -214,6 +236,17 @@ module _ {file names refs rows recs out : List ℕ} {k : Counts} {n from : ℕ} 
             → Reads-file file names′ refs′ rows′ recs′ out′ (answer.Refused x n)
         go (stops d) = read-stops {x = x} {n = n}
             (o .run ∙ one-refused file from end n (state-of file names refs rows recs out k) (line-ended file from end h e l) (line-is ∙ d))
+
+-- one line after the others
+pub past-more : {a b c d e a′ b′ c′ d′ e′ a″ b″ c″ d″ e″ : List ℕ} → Past a b c d e a′ b′ c′ d′ e′ → Past a′ b′ c′ d′ e′ a″ b″ c″ d″ e″
+    → Past a b c d e a″ b″ c″ d″ e″
+past-more p q = record {
+  name-words = same-then (p .name-words) (q .name-words);
+  reference-words = same-then (p .reference-words) (q .reference-words);
+  row-words = same-then (p .row-words) (q .row-words);
+  record-words = same-then (p .record-words) (q .record-words);
+  list-words = same-then (p .list-words) (q .list-words);
+}
 
 -- at most, and not the same
 pub lower : (m n : ℕ) → m ≤ n → (m ≡ n → ⊥) → m < n

@@ -1,7 +1,4 @@
 use fields::Kind;
-use fields::RecordKind;
-use fields::Upto;
-use fields::Word;
 use model::Counts;
 use model::Refusal;
 use model::Step;
@@ -9,17 +6,15 @@ use text::Cursor;
 use text::FieldStep;
 use text::NumberStep;
 ghost use Prim.Native.Nat.{_≤_, _<_};
-ghost use mathlib.Core.Path.{_≡_};
 ghost use lib.ListN.{length};
 ghost use Rattle.model.specs.Lists.{part};
 ghost use Rattle.model.specs.Lines.{fields};
 ghost use Rattle.model.specs.Reading.{content, parse};
 ghost use Rattle.model.specs.declared.LineKind.the-variants as kind;
 ghost use Rattle.text.specs.Parts.{Placed, fields-left};
-ghost use Rattle.fields.specs.Wording.{record-kind};
-ghost use Rattle.records.specs.Adding.{Standing, Untouched};
-ghost use Rattle.model.specs.Reading.{most-names, most-terms};
-ghost use Rattle.reader.specs.Lines.{with-names, last-field, last-result, root-said, kind-content, Asks, Adds-fact, Line-read, Cleared, File-read};
+ghost use Rattle.records.specs.Adding.{Standing};
+ghost use Rattle.filing.specs.Lines.{Line-read};
+ghost use Rattle.reader.specs.Lines.{kind-content, Asks, Cleared, File-read};
 
 // What reading a file comes to: the counts after the last line, or a refusal and its line.
 pub enum Reading {
@@ -27,58 +22,15 @@ pub enum Reading {
     Refused(Refusal, usize),
 }
 
-// The largest query, options number and flag.
-const MOST_QUERY: u32 = 255;
-
+// The largest options number.
 const MOST_OPTIONS: u32 = 7;
-
-const MOST_FLAG: u32 = 1;
-
-// The term that the last field of a line is; or the refusal.
-enum Last {
-    Term(usize),
-    Refused(Refusal),
-}
-
-// The counts with so many names.
-fn spelled(k: Counts, named: usize) -> Counts
-    ensures { λ r. ⌜ r ≡ with-names k named ⌝ }
-{
-    Counts {
-        named,
-        used: k.used,
-        many: k.many,
-        records: k.records,
-        entries: k.entries,
-        uses: k.uses,
-        mark: k.mark,
-        query: k.query,
-        options: k.options,
-    }
-}
-
-// Reads the last field of a line, one of `many` terms.
-fn last_term(file: &[u8], many: usize, c: Cursor) -> Last
-    requires { ⌜ Placed (now file) c × (many ≤ most-terms) ⌝ }
-    ensures { λ r. ⌜ last-result r ≡ last-field many (fields-left (now (file .entry)) c) ⌝ }
-{
-    match c.term(file, many as u32) {
-        NumberStep::Number(t, next) => {
-            if next.at <= next.end {
-                return Last::Refused(Refusal::Form);
-            }
-            Last::Term(t as usize)
-        }
-        NumberStep::Refused(r) => Last::Refused(r),
-    }
-}
 
 // Reads an `ask`, from its query on.
 fn read_ask(file: &[u8], k: Counts, c: Cursor) -> Step
     requires { ⌜ Placed (now file) c ⌝ }
     ensures { λ r. ⌜ Asks k (content kind.Ask (k .many) (fields-left (now (file .entry)) c)) r ⌝ }
 {
-    match c.number(file, MOST_QUERY) {
+    match c.number(file, filing::MOST_QUERY) {
         NumberStep::Number(q, next) => match next.number(file, MOST_OPTIONS) {
             NumberStep::Number(options, last) => {
                 if last.at <= last.end {
@@ -102,243 +54,6 @@ fn read_ask(file: &[u8], k: Counts, c: Cursor) -> Step
     }
 }
 
-// Reads a `fun`, from its name on.
-fn read_fun(
-    file: &[u8],
-    names: &mut [u32],
-    refs: &[u32],
-    rows: &[u32],
-    recs: &mut [u32],
-    out: &[u32],
-    k: Counts,
-    n: usize,
-    c: Cursor,
-) -> Step
-    requires { ⌜ Standing (now file) (now names) (now refs) (now rows) (now recs) (now out) k × Placed (now file) c × (n < 4294967296) ⌝ }
-    ensures { λ r. ⌜ Line-read (now (file .entry)) (now (names .entry)) (now (refs .entry)) (now (rows .entry)) (now (recs .entry)) (now (out .entry)) (now (names .exit)) (now (refs .entry)) (now (rows .entry)) (now (recs .exit)) (now (out .entry)) k n (content kind.Fun (k .many) (fields-left (now (file .entry)) c)) r ⌝ }
-{
-    match fields::read_name(file, names, k.named, c) {
-        Word::Name(i, named, last) => {
-            if last.at <= last.end {
-                return Step::Refused(Refusal::Form);
-            }
-            records::add_fun(file, names, refs, rows, recs, out, spelled(k, named), n, i)
-        }
-        Word::Refused(r) => Step::Refused(r),
-    }
-}
-
-// Reads a `def`, from its name on.
-fn read_def(
-    file: &[u8],
-    names: &mut [u32],
-    refs: &[u32],
-    rows: &mut [u32],
-    recs: &mut [u32],
-    out: &mut [u32],
-    k: Counts,
-    n: usize,
-    c: Cursor,
-) -> Step
-    requires { ⌜ Standing (now file) (now names) (now refs) (now rows) (now recs) (now out) k × Placed (now file) c × (n < 4294967296) ⌝ }
-    ensures { λ r. ⌜ Line-read (now (file .entry)) (now (names .entry)) (now (refs .entry)) (now (rows .entry)) (now (recs .entry)) (now (out .entry)) (now (names .exit)) (now (refs .entry)) (now (rows .exit)) (now (recs .exit)) (now (out .exit)) k n (content kind.Def (k .many) (fields-left (now (file .entry)) c)) r ⌝ }
-{
-    match fields::read_name(file, names, k.named, c) {
-        Word::Name(i, named, next) => match last_term(file, k.many, next) {
-            Last::Term(t) => {
-                records::add_def(
-                    file,
-                    names,
-                    refs,
-                    rows,
-                    recs,
-                    out,
-                    spelled(k, named),
-                    n,
-                    i,
-                    t,
-                )
-            }
-            Last::Refused(r) => Step::Refused(r),
-        },
-        Word::Refused(r) => Step::Refused(r),
-    }
-}
-
-// Reads the flag and the term of an `assume` whose name is spelled, and adds the fact.
-fn read_fact(
-    file: &[u8],
-    names: &mut [u32],
-    refs: &[u32],
-    rows: &mut [u32],
-    recs: &mut [u32],
-    out: &mut [u32],
-    k: Counts,
-    n: usize,
-    i: usize,
-    c: Cursor,
-) -> Step
-    requires { ⌜ (k .named ≤ most-names → Standing (now file) (now names) (now refs) (now rows) (now recs) (now out) k × (i < k .named)) × (k .many ≤ most-terms) × Placed (now file) c × (n < 4294967296) ⌝ }
-    ensures record { λ r. ⌜ Adds-fact (now (file .entry)) (now (names .entry)) (now (refs .entry)) (now (rows .entry)) (now (recs .entry)) (now (out .entry)) (now (names .exit)) (now (rows .exit)) (now (recs .exit)) (now (out .exit)) k n i (fields-left (now (file .entry)) c) r ⌝ }
-    ensures past { λ r. ⌜ Untouched (now (names .entry)) (now (rows .entry)) (now (recs .entry)) (now (out .entry)) (now (names .exit)) (now (rows .exit)) (now (recs .exit)) (now (out .exit)) ⌝ }
-{
-    match c.number(file, MOST_FLAG) {
-        NumberStep::Number(flag, next) => match last_term(file, k.many, next) {
-            Last::Term(t) => {
-                facts::add_fact(
-                    file,
-                    names,
-                    refs,
-                    rows,
-                    recs,
-                    out,
-                    k,
-                    n,
-                    i,
-                    flag as usize,
-                    t,
-                )
-            }
-            Last::Refused(r) => Step::Refused(r),
-        },
-        NumberStep::Refused(r) => Step::Refused(r),
-    }
-}
-
-// Reads an `assume`, from its name on.
-fn read_assume(
-    file: &[u8],
-    names: &mut [u32],
-    refs: &[u32],
-    rows: &mut [u32],
-    recs: &mut [u32],
-    out: &mut [u32],
-    k: Counts,
-    n: usize,
-    c: Cursor,
-) -> Step
-    requires { ⌜ Standing (now file) (now names) (now refs) (now rows) (now recs) (now out) k × Placed (now file) c × (n < 4294967296) ⌝ }
-    ensures { λ r. ⌜ Line-read (now (file .entry)) (now (names .entry)) (now (refs .entry)) (now (rows .entry)) (now (recs .entry)) (now (out .entry)) (now (names .exit)) (now (refs .entry)) (now (rows .exit)) (now (recs .exit)) (now (out .exit)) k n (content kind.Assume (k .many) (fields-left (now (file .entry)) c)) r ⌝ }
-{
-    match fields::read_name(file, names, k.named, c) {
-        Word::Name(i, named, next) => {
-            let known = spelled(k, named);
-            read_fact(file, names, refs, rows, recs, out, known, n, i, next)
-        }
-        Word::Refused(r) => Step::Refused(r),
-    }
-}
-
-// Reads a `retain`, from its first name on.
-fn read_retain(
-    file: &[u8],
-    names: &mut [u32],
-    refs: &[u32],
-    rows: &[u32],
-    recs: &mut [u32],
-    out: &[u32],
-    k: Counts,
-    n: usize,
-    c: Cursor,
-) -> Step
-    requires { ⌜ Standing (now file) (now names) (now refs) (now rows) (now recs) (now out) k × Placed (now file) c × (n < 4294967296) ⌝ }
-    ensures { λ r. ⌜ Line-read (now (file .entry)) (now (names .entry)) (now (refs .entry)) (now (rows .entry)) (now (recs .entry)) (now (out .entry)) (now (names .exit)) (now (refs .entry)) (now (rows .entry)) (now (recs .exit)) (now (out .entry)) k n (content kind.Retain (k .many) (fields-left (now (file .entry)) c)) r ⌝ }
-{
-    match fields::spell_rest(file, names, k.named, c) {
-        Upto::At(named, _) => {
-            records::add_retain(file, names, refs, rows, recs, out, spelled(k, named), n)
-        }
-        Upto::Refused(r) => Step::Refused(r),
-    }
-}
-
-// Reads the name and the term of a `root` of a query, and adds the root.
-fn read_goal(
-    file: &[u8],
-    names: &mut [u32],
-    refs: &[u32],
-    rows: &mut [u32],
-    recs: &mut [u32],
-    out: &mut [u32],
-    k: Counts,
-    n: usize,
-    q: usize,
-    c: Cursor,
-) -> Step
-    requires { ⌜ Standing (now file) (now names) (now refs) (now rows) (now recs) (now out) k × Placed (now file) c × (n < 4294967296) × (q < 256) ⌝ }
-    ensures { λ r. ⌜ Line-read (now (file .entry)) (now (names .entry)) (now (refs .entry)) (now (rows .entry)) (now (recs .entry)) (now (out .entry)) (now (names .exit)) (now (refs .entry)) (now (rows .exit)) (now (recs .exit)) (now (out .exit)) k n (root-said (k .many) q (fields-left (now (file .entry)) c)) r ⌝ }
-{
-    match fields::read_name(file, names, k.named, c) {
-        Word::Name(i, named, next) => match last_term(file, k.many, next) {
-            Last::Term(t) => {
-                records::add_root(
-                    file,
-                    names,
-                    refs,
-                    rows,
-                    recs,
-                    out,
-                    spelled(k, named),
-                    n,
-                    q,
-                    i,
-                    t,
-                )
-            }
-            Last::Refused(r) => Step::Refused(r),
-        },
-        Word::Refused(r) => Step::Refused(r),
-    }
-}
-
-// Reads a `root`, from its query on.
-fn read_root(
-    file: &[u8],
-    names: &mut [u32],
-    refs: &[u32],
-    rows: &mut [u32],
-    recs: &mut [u32],
-    out: &mut [u32],
-    k: Counts,
-    n: usize,
-    c: Cursor,
-) -> Step
-    requires { ⌜ Standing (now file) (now names) (now refs) (now rows) (now recs) (now out) k × Placed (now file) c × (n < 4294967296) ⌝ }
-    ensures { λ r. ⌜ Line-read (now (file .entry)) (now (names .entry)) (now (refs .entry)) (now (rows .entry)) (now (recs .entry)) (now (out .entry)) (now (names .exit)) (now (refs .entry)) (now (rows .exit)) (now (recs .exit)) (now (out .exit)) k n (content kind.Root (k .many) (fields-left (now (file .entry)) c)) r ⌝ }
-{
-    match c.number(file, MOST_QUERY) {
-        NumberStep::Number(q, next) => {
-            read_goal(file, names, refs, rows, recs, out, k, n, q as usize, next)
-        }
-        NumberStep::Refused(r) => Step::Refused(r),
-    }
-}
-
-// Reads a record line of a kind, from the field after the kind on.
-fn read_record(
-    file: &[u8],
-    names: &mut [u32],
-    refs: &[u32],
-    rows: &mut [u32],
-    recs: &mut [u32],
-    out: &mut [u32],
-    k: Counts,
-    n: usize,
-    kind: RecordKind,
-    c: Cursor,
-) -> Step
-    requires { ⌜ Standing (now file) (now names) (now refs) (now rows) (now recs) (now out) k × Placed (now file) c × (n < 4294967296) ⌝ }
-    ensures { λ r. ⌜ Line-read (now (file .entry)) (now (names .entry)) (now (refs .entry)) (now (rows .entry)) (now (recs .entry)) (now (out .entry)) (now (names .exit)) (now (refs .entry)) (now (rows .exit)) (now (recs .exit)) (now (out .exit)) k n (content (record-kind kind) (k .many) (fields-left (now (file .entry)) c)) r ⌝ }
-{
-    match kind {
-        RecordKind::Assume => read_assume(file, names, refs, rows, recs, out, k, n, c),
-        RecordKind::Fun => read_fun(file, names, refs, rows, recs, out, k, n, c),
-        RecordKind::Def => read_def(file, names, refs, rows, recs, out, k, n, c),
-        RecordKind::Retain => read_retain(file, names, refs, rows, recs, out, k, n, c),
-        RecordKind::Root => read_root(file, names, refs, rows, recs, out, k, n, c),
-    }
-}
-
 // Reads a line of a kind, from the field after the kind on.
 fn read_kind(
     file: &[u8],
@@ -358,7 +73,7 @@ fn read_kind(
     match kind {
         Kind::Ask => read_ask(file, k, c),
         Kind::Term(t) => nodes::read_term(file, names, refs, rows, k, t, c),
-        Kind::Record(r) => read_record(file, names, refs, rows, recs, out, k, n, r, c),
+        Kind::Record(r) => filing::read_record(file, names, refs, rows, recs, out, k, n, r, c),
         Kind::No => Step::Refused(Refusal::Form),
     }
 }

@@ -1,6 +1,7 @@
 -- `reader::read_ask` meets its contract: by the two numbers, and whether a field is left.
 use borrow.Author.Needs.{needs}
-use Rattle.reader.proofs.Saying.{number-placed, asks-not, asks-options-not, asks-more, asks-is}
+use Rattle.filing.proofs.Saying.{number-placed}
+use Rattle.reader.proofs.Saying.{asks-not, asks-options-not, asks-more, asks-is}
 use Rattle.reader.proofs.read_ask.Statement.{statement}
 use Rattle.reader.proofs.read_ask.Tie as tie
 

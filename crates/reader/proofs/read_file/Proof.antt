@@ -4,9 +4,10 @@ use native.Mathlib.Omega.{arith}
 use lib.ListN.{length}
 use Rattle.text.proofs.Laws.{mark-from, mark-to}
 use Rattle.macros.proofs.Filling.{standing-opens}
-use Rattle.reader.specs.Lines.{Past, read-stops}
-use Rattle.reader.proofs.Naming.{past-none, past-more}
-use Rattle.reader.proofs.Lines.{Reading-on, no-lines, on-first, cleared-standing, on-open, on-next, on-refused, opened-read, lower}
+use Rattle.filing.specs.Lines.{Past}
+use Rattle.filing.proofs.Naming.{past-none}
+use Rattle.reader.specs.Lines.{read-stops}
+use Rattle.reader.proofs.Lines.{past-more, Reading-on, no-lines, on-first, cleared-standing, on-open, on-next, on-refused, opened-read, lower}
 use Rattle.reader.proofs.read_file.Statement.{statement}
 use Rattle.reader.proofs.read_file.Tie as tie
 

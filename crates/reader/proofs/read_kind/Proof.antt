@@ -1,7 +1,8 @@
 -- `reader::read_kind` meets its contract: each sort of line by its own.
 use Rattle.model.specs.declared.Refusal.the-variants as refusal
+use Rattle.filing.proofs.Recording.{line-not, line-said}
 use Rattle.reader.proofs.Lifting.{ask-read, term-read}
-use Rattle.reader.proofs.Recording.{line-not, kind-ask, kind-term, kind-record, kind-none, line-said}
+use Rattle.reader.proofs.Lines.{kind-ask, kind-term, kind-record, kind-none}
 use borrow.Author.Needs.{needs}
 use Rattle.reader.proofs.read_kind.Statement.{statement}
 use Rattle.reader.proofs.read_kind.Tie as tie

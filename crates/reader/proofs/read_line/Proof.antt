@@ -1,7 +1,7 @@
 -- `reader::read_line` meets its contract: by its first field, its kind, the number of its fields, and the fields after.
 use Rattle.model.specs.declared.Refusal.the-variants as refusal
+use Rattle.filing.proofs.Recording.{line-not, line-said}
 use Rattle.reader.proofs.Lines.{fields-first, field-there, field-placed, not-true, not-false, parse-on, parse-count}
-use Rattle.reader.proofs.Recording.{line-not, line-said}
 use borrow.Author.Needs.{needs}
 use Rattle.reader.proofs.read_line.Statement.{statement}
 use Rattle.reader.proofs.read_line.Tie as tie

@@ -1,12 +1,12 @@
--- `reader::read_fact` meets its contract: by the flag, the term, and the record added.
+-- `filing::read_fact` meets its contract: by the flag, the term, and the record added.
 use mathlib.Core.Path.{refl}
 use Rattle.fields.proofs.Pushing.{number-read, number-not}
-use Rattle.reader.proofs.Saying.{number-placed, number-below, last-term, last-refusal, last-below, fact-is, fact-term-not, fact-not}
-use Rattle.reader.specs.Lines.{fact-adds, fact-stops}
-use Rattle.reader.proofs.Naming.{untouched}
+use Rattle.filing.proofs.Saying.{number-placed, number-below, last-term, last-refusal, last-below, fact-is, fact-term-not, fact-not}
+use Rattle.filing.specs.Lines.{fact-adds, fact-stops}
+use Rattle.filing.proofs.Naming.{untouched}
 use borrow.Author.Needs.{needs}
-use Rattle.reader.proofs.read_fact.Statement.{statement}
-use Rattle.reader.proofs.read_fact.Tie as tie
+use Rattle.filing.proofs.read_fact.Statement.{statement}
+use Rattle.filing.proofs.read_fact.Tie as tie
 
 number-requires : tie.Need-number-requires
 number-requires c κs =

@@ -12,17 +12,13 @@ use Rattle.model.specs.Reading.{Result, ok, refused, next, name-field, Content,
 use Rattle.model.specs.declared.Counts.{Counts}
 use Rattle.model.specs.declared.LineKind.the-variants as kind
 use Rattle.model.specs.declared.Refusal.{Refusal}
-use Rattle.model.specs.declared.Refusal.the-variants as refusal
 use Rattle.model.specs.declared.Step.{Step}
 use Rattle.model.specs.declared.Step.the-variants as step
 use Rattle.text.specs.declared.Cursor.{Cursor}
 use Rattle.text.specs.Parts.{fields-left}
 use Rattle.names.specs.Table.{name-of}
-use Rattle.fields.specs.declared.Kind.{Kind}
-use Rattle.fields.specs.declared.Kind.the-variants as kinded
-use Rattle.fields.specs.declared.TermKind.{TermKind}
 use Rattle.fields.specs.declared.RecordKind.{RecordKind}
-use Rattle.fields.specs.Wording.{kind-result, term-kind, record-kind}
+use Rattle.fields.specs.Wording.{record-kind}
 use Rattle.fields.specs.declared.Word.{Word}
 use Rattle.fields.specs.declared.Word.the-variants as word
 use Rattle.fields.specs.Spelling.{Begun, table-there, Reads-name}
@@ -30,9 +26,9 @@ use Rattle.fields.proofs.Spelling.{Name-read, reads-not}
 use Rattle.records.specs.States.{state-of}
 use Rattle.records.specs.Adding.{excluded, Standing, Adds, Untouched}
 use Rattle.records.proofs.Judging.{repeats-none}
-use Rattle.reader.specs.Lines.{with-names, kind-content, last-field, root-said, Adds-fact, fact-adds, fact-stops, Reads, Line-read}
-use Rattle.reader.proofs.Naming.{not-taken, record-reads, reads-refused, table-past, spelled-past, past-none, past-names, past-then}
-use Rattle.reader.proofs.Saying.{end-none, fun-said, def-said, assume-said, root-is}
+use Rattle.filing.specs.Lines.{with-names, last-field, root-said, Adds-fact, fact-adds, fact-stops, Reads, Line-read}
+use Rattle.filing.proofs.Naming.{not-taken, record-reads, reads-refused, table-past, spelled-past, past-none, past-names, past-then}
+use Rattle.filing.proofs.Saying.{end-none, fun-said, def-said, assume-said, root-is}
 
 -- ---- the name that a record spells and takes
 
@@ -85,24 +81,6 @@ pub line-said : {file names refs rows recs out names′ refs′ rows′ recs′ 
     → Line-read file names refs rows recs out names′ refs′ rows′ recs′ out′ k n other r
     → Line-read file names refs rows recs out names′ refs′ rows′ recs′ out′ k n said r
 line-said e l = rw e l
-
--- what a line of a kind says
-module _ (count : ℕ) (fs : List Field) {k : Kind} where
-  pub kind-ask : k ≡ kinded.Ask → kind-content k count fs ≡ content kind.Ask count fs
-  unfolding kind-content kind-result
-  kind-ask e = rw e
-
-  pub kind-term : {t : TermKind} → k ≡ kinded.Term t → kind-content k count fs ≡ content (term-kind t) count fs
-  unfolding kind-content kind-result
-  kind-term e = rw e
-
-  pub kind-record : {r : RecordKind} → k ≡ kinded.Record r → kind-content k count fs ≡ content (record-kind r) count fs
-  unfolding kind-content kind-result
-  kind-record e = rw e
-
-  pub kind-none : k ≡ kinded.No → kind-content k count fs ≡ refused refusal.Form
-  unfolding kind-content kind-result
-  kind-none e = rw e
 
 -- a record line by its kind
 pub record-line : {file names refs rows recs out names′ refs′ rows′ recs′ out′ : List ℕ} {k : Counts} {n : ℕ} (count : ℕ)

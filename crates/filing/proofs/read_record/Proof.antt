@@ -1,9 +1,9 @@
--- `reader::read_record` meets its contract: each kind by its own.
+-- `filing::read_record` meets its contract: each kind by its own.
 use Rattle.fields.specs.Wording.{record-kind}
-use Rattle.reader.proofs.Recording.{record-line}
+use Rattle.filing.proofs.Recording.{record-line}
 use borrow.Author.Needs.{needs}
-use Rattle.reader.proofs.read_record.Statement.{statement}
-use Rattle.reader.proofs.read_record.Tie as tie
+use Rattle.filing.proofs.read_record.Statement.{statement}
+use Rattle.filing.proofs.read_record.Tie as tie
 
 enum-told : tie.Need-enum-told
 enum-told c = c .match .keys1

@@ -35,8 +35,8 @@ use Rattle.model.specs.declared.Step.the-variants as step
 use Rattle.model.specs.Outcome.{working-words}
 use Rattle.words.specs.Slices.{Same-but}
 use Rattle.words.proofs.Slices.{same-self, same-then}
-use Rattle.reader.specs.Lines.{with-names, judged, Reads, Past}
-use Rattle.reader.specs.Lines as reads
+use Rattle.filing.specs.Lines.{with-names, judged, Reads, Past}
+use Rattle.filing.specs.Lines as reads
 
 -- ---- spelling a name
 
@@ -356,15 +356,4 @@ past-then refs p u = record {
   row-words = u .row-words;
   record-words = u .record-words;
   list-words = u .list-words;
-}
-
--- one line after the others
-pub past-more : {a b c d e a′ b′ c′ d′ e′ a″ b″ c″ d″ e″ : List ℕ} → Past a b c d e a′ b′ c′ d′ e′ → Past a′ b′ c′ d′ e′ a″ b″ c″ d″ e″
-    → Past a b c d e a″ b″ c″ d″ e″
-past-more p q = record {
-  name-words = same-then (p .name-words) (q .name-words);
-  reference-words = same-then (p .reference-words) (q .reference-words);
-  row-words = same-then (p .row-words) (q .row-words);
-  record-words = same-then (p .record-words) (q .record-words);
-  list-words = same-then (p .list-words) (q .list-words);
 }

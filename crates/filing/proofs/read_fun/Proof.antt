@@ -1,12 +1,12 @@
--- `reader::read_fun` meets its contract: by the name that is read, whether a field is left, and the record added.
+-- `filing::read_fun` meets its contract: by the name that is read, whether a field is left, and the record added.
 use borrow.Author.Needs.{needs}
 use Rattle.model.specs.declared.Refusal.the-variants as refusal
 use Rattle.fields.proofs.Spelling.{reads-name}
-use Rattle.reader.proofs.Naming.{spelled-standing}
-use Rattle.reader.proofs.Saying.{end-more, fun-more, fun-not}
-use Rattle.reader.proofs.Recording.{begins, name-not, rest-not, fun-line}
-use Rattle.reader.proofs.read_fun.Statement.{statement}
-use Rattle.reader.proofs.read_fun.Tie as tie
+use Rattle.filing.proofs.Naming.{spelled-standing}
+use Rattle.filing.proofs.Saying.{end-more, fun-more, fun-not}
+use Rattle.filing.proofs.Recording.{begins, name-not, rest-not, fun-line}
+use Rattle.filing.proofs.read_fun.Statement.{statement}
+use Rattle.filing.proofs.read_fun.Tie as tie
 
 read-name-requires : tie.Need-read-name-requires
 read-name-requires c κs = let entry = c .before .before .before .before .before .before .before in (begins (entry .pre .0), entry .pre .1)

@@ -1,12 +1,12 @@
--- `reader::read_assume` meets its contract: by the name, and the fact added.
+-- `filing::read_assume` meets its contract: by the name, and the fact added.
 use Rattle.fields.proofs.Spelling.{reads-name}
-use Rattle.reader.proofs.Naming.{spelled-standing}
-use Rattle.reader.proofs.Naming.{many-few}
-use Rattle.reader.proofs.Saying.{assume-not}
-use Rattle.reader.proofs.Recording.{begins, name-not, assume-line}
+use Rattle.filing.proofs.Naming.{spelled-standing}
+use Rattle.filing.proofs.Naming.{many-few}
+use Rattle.filing.proofs.Saying.{assume-not}
+use Rattle.filing.proofs.Recording.{begins, name-not, assume-line}
 use borrow.Author.Needs.{needs}
-use Rattle.reader.proofs.read_assume.Statement.{statement}
-use Rattle.reader.proofs.read_assume.Tie as tie
+use Rattle.filing.proofs.read_assume.Statement.{statement}
+use Rattle.filing.proofs.read_assume.Tie as tie
 
 read-name-requires : tie.Need-read-name-requires
 read-name-requires c κs =

@@ -1,10 +1,10 @@
--- `reader::read_root` meets its contract: by the query, and the rest of the line.
+-- `filing::read_root` meets its contract: by the query, and the rest of the line.
 use Rattle.fields.proofs.Pushing.{number-read, number-not}
-use Rattle.reader.proofs.Saying.{number-placed, number-below, root-then, root-not}
-use Rattle.reader.proofs.Recording.{line-not, line-said}
+use Rattle.filing.proofs.Saying.{number-placed, number-below, root-then, root-not}
+use Rattle.filing.proofs.Recording.{line-not, line-said}
 use borrow.Author.Needs.{needs}
-use Rattle.reader.proofs.read_root.Statement.{statement}
-use Rattle.reader.proofs.read_root.Tie as tie
+use Rattle.filing.proofs.read_root.Statement.{statement}
+use Rattle.filing.proofs.read_root.Tie as tie
 
 number-requires : tie.Need-number-requires
 number-requires c κs =

@@ -1,8 +1,8 @@
--- `reader::read_retain` meets its contract: by the names, and the record added.
-use Rattle.reader.proofs.Lifting.{rest-standing, retain-line, retain-not}
+-- `filing::read_retain` meets its contract: by the names, and the record added.
+use Rattle.filing.proofs.Retaining.{rest-standing, retain-line, retain-not}
 use borrow.Author.Needs.{needs}
-use Rattle.reader.proofs.read_retain.Statement.{statement}
-use Rattle.reader.proofs.read_retain.Tie as tie
+use Rattle.filing.proofs.read_retain.Statement.{statement}
+use Rattle.filing.proofs.read_retain.Tie as tie
 
 spell-rest-requires : tie.Need-spell-rest-requires
 spell-rest-requires c κs =

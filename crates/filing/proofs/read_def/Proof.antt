@@ -1,12 +1,12 @@
--- `reader::read_def` meets its contract: by the name, the term, and the record added.
+-- `filing::read_def` meets its contract: by the name, the term, and the record added.
 use Rattle.fields.proofs.Spelling.{reads-name}
-use Rattle.reader.proofs.Naming.{spelled-standing}
-use Rattle.reader.proofs.Naming.{many-below}
-use Rattle.reader.proofs.Saying.{last-term, last-refusal, last-below, def-term-not, def-not}
-use Rattle.reader.proofs.Recording.{begins, name-not, rest-not, def-line}
+use Rattle.filing.proofs.Naming.{spelled-standing}
+use Rattle.filing.proofs.Naming.{many-below}
+use Rattle.filing.proofs.Saying.{last-term, last-refusal, last-below, def-term-not, def-not}
+use Rattle.filing.proofs.Recording.{begins, name-not, rest-not, def-line}
 use borrow.Author.Needs.{needs}
-use Rattle.reader.proofs.read_def.Statement.{statement}
-use Rattle.reader.proofs.read_def.Tie as tie
+use Rattle.filing.proofs.read_def.Statement.{statement}
+use Rattle.filing.proofs.read_def.Tie as tie
 
 read-name-requires : tie.Need-read-name-requires
 read-name-requires c κs =

@@ -1,8 +1,8 @@
--- `reader::last_term` meets its contract: by the step of the cursor, and whether a field is left.
+-- `filing::last_term` meets its contract: by the step of the cursor, and whether a field is left.
 use borrow.Author.Needs.{needs}
-use Rattle.reader.proofs.Saying.{last-is, last-more, last-refused}
-use Rattle.reader.proofs.last_term.Statement.{statement}
-use Rattle.reader.proofs.last_term.Tie as tie
+use Rattle.filing.proofs.Saying.{last-is, last-more, last-refused}
+use Rattle.filing.proofs.last_term.Statement.{statement}
+use Rattle.filing.proofs.last_term.Tie as tie
 
 cast-term : tie.Need-cast-term
 cast-term c = search needs

@@ -1,0 +1,4 @@
+pub mod Naming
+pub mod Saying
+pub mod Recording
+pub mod Retaining
