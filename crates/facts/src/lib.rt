@@ -20,7 +20,8 @@ ghost use Rattle.facts.specs.Refusing.{behind-records, over-refusal};
 
 // Puts the entries from `from` on up to `to`, which are those of the record `fact`, on the chains of their names.
 fn chain_entries(names: &mut [u32], out: &mut [u32], from: usize, to: usize, fact: usize)
-    requires { ⌜ Chained (now names) (now out) from × (from ≤ to) × (to ≤ most-entries) × (fact < most-records) × (working-words ≤ length (now names)) × (working-words ≤ length (now out)) ⌝ }
+    requires { ⌜ Chained (now names) (now out) from × (from ≤ to) × (to ≤ most-entries) × (fact < most-records)
+        × (working-words ≤ length (now names)) × (working-words ≤ length (now out)) ⌝ }
     ensures { λ x. ⌜ Chains (now (names .entry)) (now (out .entry)) (now (names .exit)) (now (out .exit)) from to fact ⌝ }
 {
     let mut e = from;
@@ -67,7 +68,8 @@ fn put_fact(
     s: Summary,
 ) -> Counts
     requires { ⌜ Puttable (now names) (now recs) (now out) k line name flag t s ⌝ }
-    ensures { λ r. ⌜ Puts (now (names .entry)) (now (recs .entry)) (now (out .entry)) (now (names .exit)) (now (recs .exit)) (now (out .exit)) k line name flag t s r ⌝ }
+    ensures { λ r. ⌜ Puts (now (names .entry)) (now (recs .entry)) (now (out .entry)) (now (names .exit)) (now (recs .exit))
+        (now (out .exit)) k line name flag t s r ⌝ }
 {
     let kind = s.kind;
     let word = code(kind);
@@ -113,9 +115,13 @@ pub fn add_fact(
     flag: usize,
     t: usize,
 ) -> Step
-    requires { ⌜ (k .named ≤ most-names → Standing (now file) (now names) (now refs) (now rows) (now recs) (now out) k × (name < k .named)) × (t < k .many) × (line < 4294967296) × (flag < 2) ⌝ }
-    ensures record { λ r. ⌜ Adds (now (file .entry)) (now (names .entry)) (now (refs .entry)) (now (rows .entry)) (now (recs .entry)) (now (out .entry)) (now (names .exit)) (now (rows .exit)) (now (recs .exit)) (now (out .exit)) k line (assume (name-of (now (file .entry)) (now (names .entry)) name) (eqb flag 1) t) r ⌝ }
-    ensures past { λ r. ⌜ Untouched (now (names .entry)) (now (rows .entry)) (now (recs .entry)) (now (out .entry)) (now (names .exit)) (now (rows .exit)) (now (recs .exit)) (now (out .exit)) ⌝ }
+    requires { ⌜ (k .named ≤ most-names → Standing (now file) (now names) (now refs) (now rows) (now recs) (now out) k
+        × (name < k .named)) × (t < k .many) × (line < 4294967296) × (flag < 2) ⌝ }
+    ensures record { λ r. ⌜ Adds (now (file .entry)) (now (names .entry)) (now (refs .entry)) (now (rows .entry))
+        (now (recs .entry)) (now (out .entry)) (now (names .exit)) (now (rows .exit)) (now (recs .exit)) (now (out .exit)) k
+        line (assume (name-of (now (file .entry)) (now (names .entry)) name) (eqb flag 1) t) r ⌝ }
+    ensures past { λ r. ⌜ Untouched (now (names .entry)) (now (rows .entry)) (now (recs .entry)) (now (out .entry))
+        (now (names .exit)) (now (rows .exit)) (now (recs .exit)) (now (out .exit)) ⌝ }
 {
     let count = k.records;
     if model::MOST_NAMES < k.named {

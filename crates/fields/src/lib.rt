@@ -239,7 +239,8 @@ pub fn push_term(
     c: Cursor,
 ) -> Upto
     requires { ⌜ Pushable (now file) (now refs) used many c × (group ≤ most-number) ⌝ }
-    ensures { λ r. ⌜ Pushes (now (file .entry)) (now (refs .entry)) (now (refs .exit)) (push-one many group (now (refs .entry)) used (fields-left (now (file .entry)) c)) used c r ⌝ }
+    ensures { λ r. ⌜ Pushes (now (file .entry)) (now (refs .entry)) (now (refs .exit))
+        (push-one many group (now (refs .entry)) used (fields-left (now (file .entry)) c)) used c r ⌝ }
 {
     match c.term(file, many as u32) {
         NumberStep::Number(t, next) => {
@@ -253,7 +254,8 @@ pub fn push_term(
 // Pushes the terms that the fields left are.
 pub fn push_rest(file: &[u8], refs: &mut [u32], from: usize, many: usize, at: Cursor) -> Upto
     requires { ⌜ Pushable (now file) (now refs) from many at ⌝ }
-    ensures { λ r. ⌜ Pushes (now (file .entry)) (now (refs .entry)) (now (refs .exit)) (push-rest many (now (refs .entry)) from (fields-left (now (file .entry)) at)) from at r ⌝ }
+    ensures { λ r. ⌜ Pushes (now (file .entry)) (now (refs .entry)) (now (refs .exit))
+        (push-rest many (now (refs .entry)) from (fields-left (now (file .entry)) at)) from at r ⌝ }
 {
     let mut used = from;
     let mut c = at;
@@ -282,7 +284,8 @@ fn push_many(
     at: Cursor,
 ) -> Upto
     requires { ⌜ Pushable (now file) (now refs) from many at × (group ≤ most-number) ⌝ }
-    ensures { λ r. ⌜ Pushes (now (file .entry)) (now (refs .entry)) (now (refs .exit)) (push-many many group n (now (refs .entry)) from (fields-left (now (file .entry)) at)) from at r ⌝ }
+    ensures { λ r. ⌜ Pushes (now (file .entry)) (now (refs .entry)) (now (refs .exit))
+        (push-many many group n (now (refs .entry)) from (fields-left (now (file .entry)) at)) from at r ⌝ }
 {
     let mut used = from;
     let mut c = at;
@@ -312,7 +315,8 @@ pub fn push_groups(
     at: Cursor,
 ) -> Upto
     requires { ⌜ Pushable (now file) (now refs) from many at × (groups ≤ most-number) ⌝ }
-    ensures { λ r. ⌜ Pushes (now (file .entry)) (now (refs .entry)) (now (refs .exit)) (push-groups many 0 groups (now (refs .entry)) from (fields-left (now (file .entry)) at)) from at r ⌝ }
+    ensures { λ r. ⌜ Pushes (now (file .entry)) (now (refs .entry)) (now (refs .exit))
+        (push-groups many 0 groups (now (refs .entry)) from (fields-left (now (file .entry)) at)) from at r ⌝ }
 {
     let mut used = from;
     let mut c = at;
@@ -389,7 +393,8 @@ pub fn read_name(file: &[u8], names: &mut [u32], named: usize, c: Cursor) -> Wor
 // Spells the names that the fields left are.
 pub fn spell_rest(file: &[u8], names: &mut [u32], from: usize, at: Cursor) -> Upto
     requires { ⌜ Table (now file) (now names) from × Placed (now file) at ⌝ }
-    ensures { λ r. ⌜ Spells-rest (now (file .entry)) (now (names .entry)) (now (names .exit)) from (fields-left (now (file .entry)) at) r ⌝ }
+    ensures { λ r. ⌜ Spells-rest (now (file .entry)) (now (names .entry)) (now (names .exit)) from
+        (fields-left (now (file .entry)) at) r ⌝ }
 {
     let mut named = from;
     let mut c = at;

@@ -71,8 +71,11 @@ fn read_fun(
     n: usize,
     c: Cursor,
 ) -> Step
-    requires { ⌜ Standing (now file) (now names) (now refs) (now rows) (now recs) (now out) k × Placed (now file) c × (n < 4294967296) ⌝ }
-    ensures { λ r. ⌜ Line-read (now (file .entry)) (now (names .entry)) (now (refs .entry)) (now (rows .entry)) (now (recs .entry)) (now (out .entry)) (now (names .exit)) (now (refs .entry)) (now (rows .entry)) (now (recs .exit)) (now (out .entry)) k n (content kind.Fun (k .many) (fields-left (now (file .entry)) c)) r ⌝ }
+    requires { ⌜ Standing (now file) (now names) (now refs) (now rows) (now recs) (now out) k × Placed (now file) c
+        × (n < 4294967296) ⌝ }
+    ensures { λ r. ⌜ Line-read (now (file .entry)) (now (names .entry)) (now (refs .entry)) (now (rows .entry))
+        (now (recs .entry)) (now (out .entry)) (now (names .exit)) (now (refs .entry)) (now (rows .entry)) (now (recs .exit))
+        (now (out .entry)) k n (content kind.Fun (k .many) (fields-left (now (file .entry)) c)) r ⌝ }
 {
     match fields::read_name(file, names, k.named, c) {
         Word::Name(i, named, last) => {
@@ -97,8 +100,11 @@ fn read_def(
     n: usize,
     c: Cursor,
 ) -> Step
-    requires { ⌜ Standing (now file) (now names) (now refs) (now rows) (now recs) (now out) k × Placed (now file) c × (n < 4294967296) ⌝ }
-    ensures { λ r. ⌜ Line-read (now (file .entry)) (now (names .entry)) (now (refs .entry)) (now (rows .entry)) (now (recs .entry)) (now (out .entry)) (now (names .exit)) (now (refs .entry)) (now (rows .exit)) (now (recs .exit)) (now (out .exit)) k n (content kind.Def (k .many) (fields-left (now (file .entry)) c)) r ⌝ }
+    requires { ⌜ Standing (now file) (now names) (now refs) (now rows) (now recs) (now out) k × Placed (now file) c
+        × (n < 4294967296) ⌝ }
+    ensures { λ r. ⌜ Line-read (now (file .entry)) (now (names .entry)) (now (refs .entry)) (now (rows .entry))
+        (now (recs .entry)) (now (out .entry)) (now (names .exit)) (now (refs .entry)) (now (rows .exit)) (now (recs .exit))
+        (now (out .exit)) k n (content kind.Def (k .many) (fields-left (now (file .entry)) c)) r ⌝ }
 {
     match fields::read_name(file, names, k.named, c) {
         Word::Name(i, named, next) => match last_term(file, k.many, next) {
@@ -135,9 +141,13 @@ fn read_fact(
     i: usize,
     c: Cursor,
 ) -> Step
-    requires { ⌜ (k .named ≤ most-names → Standing (now file) (now names) (now refs) (now rows) (now recs) (now out) k × (i < k .named)) × (k .many ≤ most-terms) × Placed (now file) c × (n < 4294967296) ⌝ }
-    ensures record { λ r. ⌜ Adds-fact (now (file .entry)) (now (names .entry)) (now (refs .entry)) (now (rows .entry)) (now (recs .entry)) (now (out .entry)) (now (names .exit)) (now (rows .exit)) (now (recs .exit)) (now (out .exit)) k n i (fields-left (now (file .entry)) c) r ⌝ }
-    ensures past { λ r. ⌜ Untouched (now (names .entry)) (now (rows .entry)) (now (recs .entry)) (now (out .entry)) (now (names .exit)) (now (rows .exit)) (now (recs .exit)) (now (out .exit)) ⌝ }
+    requires { ⌜ (k .named ≤ most-names → Standing (now file) (now names) (now refs) (now rows) (now recs) (now out) k
+        × (i < k .named)) × (k .many ≤ most-terms) × Placed (now file) c × (n < 4294967296) ⌝ }
+    ensures record { λ r. ⌜ Adds-fact (now (file .entry)) (now (names .entry)) (now (refs .entry)) (now (rows .entry))
+        (now (recs .entry)) (now (out .entry)) (now (names .exit)) (now (rows .exit)) (now (recs .exit)) (now (out .exit)) k n i
+        (fields-left (now (file .entry)) c) r ⌝ }
+    ensures past { λ r. ⌜ Untouched (now (names .entry)) (now (rows .entry)) (now (recs .entry)) (now (out .entry))
+        (now (names .exit)) (now (rows .exit)) (now (recs .exit)) (now (out .exit)) ⌝ }
 {
     match c.number(file, MOST_FLAG) {
         NumberStep::Number(flag, next) => match last_term(file, k.many, next) {
@@ -174,8 +184,11 @@ fn read_assume(
     n: usize,
     c: Cursor,
 ) -> Step
-    requires { ⌜ Standing (now file) (now names) (now refs) (now rows) (now recs) (now out) k × Placed (now file) c × (n < 4294967296) ⌝ }
-    ensures { λ r. ⌜ Line-read (now (file .entry)) (now (names .entry)) (now (refs .entry)) (now (rows .entry)) (now (recs .entry)) (now (out .entry)) (now (names .exit)) (now (refs .entry)) (now (rows .exit)) (now (recs .exit)) (now (out .exit)) k n (content kind.Assume (k .many) (fields-left (now (file .entry)) c)) r ⌝ }
+    requires { ⌜ Standing (now file) (now names) (now refs) (now rows) (now recs) (now out) k × Placed (now file) c
+        × (n < 4294967296) ⌝ }
+    ensures { λ r. ⌜ Line-read (now (file .entry)) (now (names .entry)) (now (refs .entry)) (now (rows .entry))
+        (now (recs .entry)) (now (out .entry)) (now (names .exit)) (now (refs .entry)) (now (rows .exit)) (now (recs .exit))
+        (now (out .exit)) k n (content kind.Assume (k .many) (fields-left (now (file .entry)) c)) r ⌝ }
 {
     match fields::read_name(file, names, k.named, c) {
         Word::Name(i, named, next) => {
@@ -198,8 +211,11 @@ fn read_retain(
     n: usize,
     c: Cursor,
 ) -> Step
-    requires { ⌜ Standing (now file) (now names) (now refs) (now rows) (now recs) (now out) k × Placed (now file) c × (n < 4294967296) ⌝ }
-    ensures { λ r. ⌜ Line-read (now (file .entry)) (now (names .entry)) (now (refs .entry)) (now (rows .entry)) (now (recs .entry)) (now (out .entry)) (now (names .exit)) (now (refs .entry)) (now (rows .entry)) (now (recs .exit)) (now (out .entry)) k n (content kind.Retain (k .many) (fields-left (now (file .entry)) c)) r ⌝ }
+    requires { ⌜ Standing (now file) (now names) (now refs) (now rows) (now recs) (now out) k × Placed (now file) c
+        × (n < 4294967296) ⌝ }
+    ensures { λ r. ⌜ Line-read (now (file .entry)) (now (names .entry)) (now (refs .entry)) (now (rows .entry))
+        (now (recs .entry)) (now (out .entry)) (now (names .exit)) (now (refs .entry)) (now (rows .entry)) (now (recs .exit))
+        (now (out .entry)) k n (content kind.Retain (k .many) (fields-left (now (file .entry)) c)) r ⌝ }
 {
     match fields::spell_rest(file, names, k.named, c) {
         Upto::At(named, _) => {
@@ -222,8 +238,11 @@ fn read_goal(
     q: usize,
     c: Cursor,
 ) -> Step
-    requires { ⌜ Standing (now file) (now names) (now refs) (now rows) (now recs) (now out) k × Placed (now file) c × (n < 4294967296) × (q < 256) ⌝ }
-    ensures { λ r. ⌜ Line-read (now (file .entry)) (now (names .entry)) (now (refs .entry)) (now (rows .entry)) (now (recs .entry)) (now (out .entry)) (now (names .exit)) (now (refs .entry)) (now (rows .exit)) (now (recs .exit)) (now (out .exit)) k n (root-said (k .many) q (fields-left (now (file .entry)) c)) r ⌝ }
+    requires { ⌜ Standing (now file) (now names) (now refs) (now rows) (now recs) (now out) k × Placed (now file) c
+        × (n < 4294967296) × (q < 256) ⌝ }
+    ensures { λ r. ⌜ Line-read (now (file .entry)) (now (names .entry)) (now (refs .entry)) (now (rows .entry))
+        (now (recs .entry)) (now (out .entry)) (now (names .exit)) (now (refs .entry)) (now (rows .exit)) (now (recs .exit))
+        (now (out .exit)) k n (root-said (k .many) q (fields-left (now (file .entry)) c)) r ⌝ }
 {
     match fields::read_name(file, names, k.named, c) {
         Word::Name(i, named, next) => match last_term(file, k.many, next) {
@@ -260,8 +279,11 @@ fn read_root(
     n: usize,
     c: Cursor,
 ) -> Step
-    requires { ⌜ Standing (now file) (now names) (now refs) (now rows) (now recs) (now out) k × Placed (now file) c × (n < 4294967296) ⌝ }
-    ensures { λ r. ⌜ Line-read (now (file .entry)) (now (names .entry)) (now (refs .entry)) (now (rows .entry)) (now (recs .entry)) (now (out .entry)) (now (names .exit)) (now (refs .entry)) (now (rows .exit)) (now (recs .exit)) (now (out .exit)) k n (content kind.Root (k .many) (fields-left (now (file .entry)) c)) r ⌝ }
+    requires { ⌜ Standing (now file) (now names) (now refs) (now rows) (now recs) (now out) k × Placed (now file) c
+        × (n < 4294967296) ⌝ }
+    ensures { λ r. ⌜ Line-read (now (file .entry)) (now (names .entry)) (now (refs .entry)) (now (rows .entry))
+        (now (recs .entry)) (now (out .entry)) (now (names .exit)) (now (refs .entry)) (now (rows .exit)) (now (recs .exit))
+        (now (out .exit)) k n (content kind.Root (k .many) (fields-left (now (file .entry)) c)) r ⌝ }
 {
     match c.number(file, MOST_QUERY) {
         NumberStep::Number(q, next) => {
@@ -284,8 +306,11 @@ pub fn read_record(
     kind: RecordKind,
     c: Cursor,
 ) -> Step
-    requires { ⌜ Standing (now file) (now names) (now refs) (now rows) (now recs) (now out) k × Placed (now file) c × (n < 4294967296) ⌝ }
-    ensures { λ r. ⌜ Line-read (now (file .entry)) (now (names .entry)) (now (refs .entry)) (now (rows .entry)) (now (recs .entry)) (now (out .entry)) (now (names .exit)) (now (refs .entry)) (now (rows .exit)) (now (recs .exit)) (now (out .exit)) k n (content (record-kind kind) (k .many) (fields-left (now (file .entry)) c)) r ⌝ }
+    requires { ⌜ Standing (now file) (now names) (now refs) (now rows) (now recs) (now out) k × Placed (now file) c
+        × (n < 4294967296) ⌝ }
+    ensures { λ r. ⌜ Line-read (now (file .entry)) (now (names .entry)) (now (refs .entry)) (now (rows .entry))
+        (now (recs .entry)) (now (out .entry)) (now (names .exit)) (now (refs .entry)) (now (rows .exit)) (now (recs .exit))
+        (now (out .exit)) k n (content (record-kind kind) (k .many) (fields-left (now (file .entry)) c)) r ⌝ }
 {
     match kind {
         RecordKind::Assume => read_assume(file, names, refs, rows, recs, out, k, n, c),

@@ -62,7 +62,9 @@ fn clear_all(
     w5: &mut [u32],
 )
     requires { ⌜ Long (now w0) (now w1) (now w2) (now w3) (now w4) (now w5) ⌝ }
-    ensures { λ r. ⌜ Cleared-all (now (w0 .entry)) (now (w1 .entry)) (now (w2 .entry)) (now (w3 .entry)) (now (w4 .entry)) (now (w5 .entry)) (now (w0 .exit)) (now (w1 .exit)) (now (w2 .exit)) (now (w3 .exit)) (now (w4 .exit)) (now (w5 .exit)) ⌝ }
+    ensures { λ r. ⌜ Cleared-all (now (w0 .entry)) (now (w1 .entry)) (now (w2 .entry)) (now (w3 .entry)) (now (w4 .entry))
+        (now (w5 .entry)) (now (w0 .exit)) (now (w1 .exit)) (now (w2 .exit)) (now (w3 .exit)) (now (w4 .exit))
+        (now (w5 .exit)) ⌝ }
 {
     words::clear(w0, 0, model::WORKING_WORDS);
     words::clear(w1, 0, model::WORKING_WORDS);
@@ -82,7 +84,8 @@ fn list_kept(
     k: Counts,
 ) -> Answer
     requires { ⌜ Runs (now file) (now names) (now recs) (now lists) (now run) k ⌝ }
-    ensures replied { λ a. ⌜ Replied (outcome-of (now (file .entry)) (now (names .entry)) (now (recs .entry)) (now (lists .entry)) k) a (now (run .exit)) ⌝ }
+    ensures replied { λ a. ⌜ Replied (outcome-of (now (file .entry)) (now (names .entry)) (now (recs .entry))
+        (now (lists .entry)) k) a (now (run .exit)) ⌝ }
     ensures rest { λ a. ⌜ Same-but 0 working-words (now (run .entry)) (now (run .exit)) ⌝ }
 {
     let s = scan::run_ask(file, names, recs, lists, run, k);
@@ -108,7 +111,9 @@ fn answer_file(
 ) -> Answer
     requires { ⌜ Lent (now file) (now refs) (now rows) (now names) (now recs) (now lists) (now run) ⌝ }
     ensures replied { λ a. ⌜ Replied (of-reading (read-file exclude-names (now (file .entry)))) a (now (run .exit)) ⌝ }
-    ensures rest { λ a. ⌜ Rest (now (refs .entry)) (now (rows .entry)) (now (names .entry)) (now (recs .entry)) (now (lists .entry)) (now (run .entry)) (now (refs .exit)) (now (rows .exit)) (now (names .exit)) (now (recs .exit)) (now (lists .exit)) (now (run .exit)) ⌝ }
+    ensures rest { λ a. ⌜ Rest (now (refs .entry)) (now (rows .entry)) (now (names .entry)) (now (recs .entry))
+        (now (lists .entry)) (now (run .entry)) (now (refs .exit)) (now (rows .exit)) (now (names .exit)) (now (recs .exit))
+        (now (lists .exit)) (now (run .exit)) ⌝ }
 {
     match reader::read_file(file, names, refs, rows, recs, lists) {
         Reading::Read(k) => list_kept(file, names, recs, lists, run, k),
@@ -154,7 +159,9 @@ fn judge(
     out: &mut [u32],
 ) -> Answer
     requires { ⌜ Long (now w0) (now w1) (now w2) (now w3) (now w4) (now w5) ⌝ }
-    ensures { λ a. ⌜ Leaves (judged (now (file .entry)) (length (now (out .entry)))) (now (w0 .entry)) (now (w1 .entry)) (now (w2 .entry)) (now (w3 .entry)) (now (w4 .entry)) (now (w5 .entry)) (now (out .entry)) a (now (w0 .exit)) (now (w1 .exit)) (now (w2 .exit)) (now (w3 .exit)) (now (w4 .exit)) (now (w5 .exit)) (now (out .exit)) ⌝ }
+    ensures { λ a. ⌜ Leaves (judged (now (file .entry)) (length (now (out .entry)))) (now (w0 .entry)) (now (w1 .entry))
+        (now (w2 .entry)) (now (w3 .entry)) (now (w4 .entry)) (now (w5 .entry)) (now (out .entry)) a (now (w0 .exit))
+        (now (w1 .exit)) (now (w2 .exit)) (now (w3 .exit)) (now (w4 .exit)) (now (w5 .exit)) (now (out .exit)) ⌝ }
 {
     if model::MOST_BYTES < file.len() {
         clear_all(w0, w1, w2, w3, w4, w5);
@@ -180,8 +187,29 @@ pub fn filter(
     w5: &mut [u32],
     out: &mut [u32],
 ) -> Answer
-    ensures leaves { λ a. ⌜ Leaves (outcome (now (file .entry)) (lengths (now (w0 .entry)) (now (w1 .entry)) (now (w2 .entry)) (now (w3 .entry)) (now (w4 .entry)) (now (w5 .entry))) (length (now (out .entry)))) (now (w0 .entry)) (now (w1 .entry)) (now (w2 .entry)) (now (w3 .entry)) (now (w4 .entry)) (now (w5 .entry)) (now (out .entry)) a (now (w0 .exit)) (now (w1 .exit)) (now (w2 .exit)) (now (w3 .exit)) (now (w4 .exit)) (now (w5 .exit)) (now (out .exit)) ⌝ }
-    ensures demands { λ a. ⌜ Demands (record { file = now (file .entry); w0 = now (w0 .entry); w1 = now (w1 .entry); w2 = now (w2 .entry); w3 = now (w3 .entry); w4 = now (w4 .entry); w5 = now (w5 .entry); out = now (out .entry); answer = a; v0 = now (w0 .exit); v1 = now (w1 .exit); v2 = now (w2 .exit); v3 = now (w3 .exit); v4 = now (w4 .exit); v5 = now (w5 .exit); out′ = now (out .exit) }) ⌝ }
+    ensures leaves { λ a. ⌜ Leaves (outcome (now (file .entry))
+        (lengths (now (w0 .entry)) (now (w1 .entry)) (now (w2 .entry)) (now (w3 .entry)) (now (w4 .entry)) (now (w5 .entry)))
+        (length (now (out .entry)))) (now (w0 .entry)) (now (w1 .entry)) (now (w2 .entry)) (now (w3 .entry)) (now (w4 .entry))
+        (now (w5 .entry)) (now (out .entry)) a (now (w0 .exit)) (now (w1 .exit)) (now (w2 .exit)) (now (w3 .exit))
+        (now (w4 .exit)) (now (w5 .exit)) (now (out .exit)) ⌝ }
+    ensures demands { λ a. ⌜ Demands (record {
+      file = now (file .entry);
+      w0 = now (w0 .entry);
+      w1 = now (w1 .entry);
+      w2 = now (w2 .entry);
+      w3 = now (w3 .entry);
+      w4 = now (w4 .entry);
+      w5 = now (w5 .entry);
+      out = now (out .entry);
+      answer = a;
+      v0 = now (w0 .exit);
+      v1 = now (w1 .exit);
+      v2 = now (w2 .exit);
+      v3 = now (w3 .exit);
+      v4 = now (w4 .exit);
+      v5 = now (w5 .exit);
+      out′ = now (out .exit);
+    }) ⌝ }
 {
     if too_short(w0.len(), w1.len(), w2.len(), w3.len(), w4.len(), w5.len()) {
         return refused(Refusal::Working, 0);

@@ -33,8 +33,10 @@ fn gather_head(
     room: usize,
 ) -> Walked
     requires { ⌜ Heads (now names) (now rows) (now out) t count room ⌝ }
-    ensures set { λ r. ⌜ Steps (Own (now (names .entry)) (now (rows .entry)) t) (now (names .entry)) (now (out .entry)) (now (names .exit)) (now (out .exit)) mark count room r ⌝ }
-    ensures walk { λ r. ⌜ Follows (head-part t) (now (names .entry)) (now (rows .entry)) (now (out .entry)) (now (names .exit)) (now (rows .entry)) (now (out .exit)) mark count room r ⌝ }
+    ensures set { λ r. ⌜ Steps (Own (now (names .entry)) (now (rows .entry)) t) (now (names .entry)) (now (out .entry))
+        (now (names .exit)) (now (out .exit)) mark count room r ⌝ }
+    ensures walk { λ r. ⌜ Follows (head-part t) (now (names .entry)) (now (rows .entry)) (now (out .entry)) (now (names .exit))
+        (now (rows .entry)) (now (out .exit)) mark count room r ⌝ }
 {
     if !terms::has_head(rows, t) {
         return Walked::Names(count);
@@ -68,9 +70,13 @@ fn walk_term(
     count: usize,
     room: usize,
 ) -> Walked
-    requires { ⌜ Ready (now names) (now refs) (now rows) (now out) used many mark count room × (t < many) × (row-mark (now rows) t ≡ mark → ⊥) ⌝ }
-    ensures set { λ r. ⌜ Walks (Free (now (names .entry)) (now (refs .entry)) (now (rows .entry)) used many t) (now (names .entry)) (now (refs .entry)) (now (rows .entry)) (now (out .entry)) (now (names .exit)) (now (rows .exit)) (now (out .exit)) used many mark count room r ⌝ }
-    ensures walk { λ r. ⌜ Follows (term-part (now (refs .entry)) used many t) (now (names .entry)) (now (rows .entry)) (now (out .entry)) (now (names .exit)) (now (rows .exit)) (now (out .exit)) mark count room r ⌝ }
+    requires { ⌜ Ready (now names) (now refs) (now rows) (now out) used many mark count room × (t < many)
+        × (row-mark (now rows) t ≡ mark → ⊥) ⌝ }
+    ensures set { λ r. ⌜ Walks (Free (now (names .entry)) (now (refs .entry)) (now (rows .entry)) used many t)
+        (now (names .entry)) (now (refs .entry)) (now (rows .entry)) (now (out .entry)) (now (names .exit)) (now (rows .exit))
+        (now (out .exit)) used many mark count room r ⌝ }
+    ensures walk { λ r. ⌜ Follows (term-part (now (refs .entry)) used many t) (now (names .entry)) (now (rows .entry))
+        (now (out .entry)) (now (names .exit)) (now (rows .exit)) (now (out .exit)) mark count room r ⌝ }
 {
     let Walked::Names(own) = gather_head(names, rows, out, t, mark, count, room) else {
         return Walked::Full;
@@ -99,9 +105,13 @@ fn walk_list(
     count: usize,
     room: usize,
 ) -> Walked
-    requires { ⌜ Ready (now names) (now refs) (now rows) (now out) used many mark count room × References (now refs) used many a e ⌝ }
-    ensures set { λ r. ⌜ Walks (Among (now (names .entry)) (now (refs .entry)) (now (rows .entry)) used many a e) (now (names .entry)) (now (refs .entry)) (now (rows .entry)) (now (out .entry)) (now (names .exit)) (now (rows .exit)) (now (out .exit)) used many mark count room r ⌝ }
-    ensures walk { λ r. ⌜ Follows (list-part (now (refs .entry)) used many a e) (now (names .entry)) (now (rows .entry)) (now (out .entry)) (now (names .exit)) (now (rows .exit)) (now (out .exit)) mark count room r ⌝ }
+    requires { ⌜ Ready (now names) (now refs) (now rows) (now out) used many mark count room
+        × References (now refs) used many a e ⌝ }
+    ensures set { λ r. ⌜ Walks (Among (now (names .entry)) (now (refs .entry)) (now (rows .entry)) used many a e)
+        (now (names .entry)) (now (refs .entry)) (now (rows .entry)) (now (out .entry)) (now (names .exit)) (now (rows .exit))
+        (now (out .exit)) used many mark count room r ⌝ }
+    ensures walk { λ r. ⌜ Follows (list-part (now (refs .entry)) used many a e) (now (names .entry)) (now (rows .entry))
+        (now (out .entry)) (now (names .exit)) (now (rows .exit)) (now (out .exit)) mark count room r ⌝ }
 {
     let mut i = a;
     let mut n = count;
@@ -134,10 +144,16 @@ pub fn gather_term(
     from: usize,
     room: usize,
 ) -> Walked
-    requires { ⌜ Rows (now refs) (now rows) used many named × (working-words ≤ length (now names)) × (t < many) × Fresh (now names) (now rows) mark × (from ≤ room) × (room ≤ length (now out)) ⌝ }
-    ensures set { λ r. ⌜ ((exclude : List Name) (name : ℕ → Name) → Named exclude name (now (names .entry)) named → Gathers name named (free-top-level-names exclude (terms-of name (now (refs .entry)) (now (rows .entry)) used many) t) from room (now (out .exit)) r) ⌝ }
-    ensures slices { λ r. ⌜ Gathered (now (names .entry)) (now (rows .entry)) (now (out .entry)) (now (names .exit)) (now (rows .exit)) (now (out .exit)) mark from room r ⌝ }
-    ensures walk { λ r. ⌜ Walks-as (visit-term (now (names .entry)) (now (refs .entry)) (now (rows .entry)) used many (room - from) t) (now (names .entry)) (now (rows .entry)) (now (out .entry)) (now (names .exit)) (now (rows .exit)) (now (out .exit)) mark from r ⌝ }
+    requires { ⌜ Rows (now refs) (now rows) used many named × (working-words ≤ length (now names)) × (t < many)
+        × Fresh (now names) (now rows) mark × (from ≤ room) × (room ≤ length (now out)) ⌝ }
+    ensures set { λ r. ⌜ ((exclude : List Name) (name : ℕ → Name) → Named exclude name (now (names .entry)) named
+        → Gathers name named (free-top-level-names exclude (terms-of name (now (refs .entry)) (now (rows .entry)) used many) t)
+        from room (now (out .exit)) r) ⌝ }
+    ensures slices { λ r. ⌜ Gathered (now (names .entry)) (now (rows .entry)) (now (out .entry)) (now (names .exit))
+        (now (rows .exit)) (now (out .exit)) mark from room r ⌝ }
+    ensures walk { λ r. ⌜ Walks-as (visit-term (now (names .entry)) (now (refs .entry)) (now (rows .entry)) used many
+        (room - from) t) (now (names .entry)) (now (rows .entry)) (now (out .entry)) (now (names .exit)) (now (rows .exit))
+        (now (out .exit)) mark from r ⌝ }
 {
     walk_term(names, refs, rows, out, used, many, t, mark, from, room)
 }
@@ -157,10 +173,17 @@ pub fn gather_list(
     from: usize,
     room: usize,
 ) -> Walked
-    requires { ⌜ Rows (now refs) (now rows) used many named × (working-words ≤ length (now names)) × (a ≤ e) × (e ≤ used) × ((i : ℕ) → a ≤ i → i < e → term-of (getD (now refs) i 0) < many) × Fresh (now names) (now rows) mark × (from ≤ room) × (room ≤ length (now out)) ⌝ }
-    ensures set { λ r. ⌜ ((exclude : List Name) (name : ℕ → Name) → Named exclude name (now (names .entry)) named → Gathers name named (group-names exclude (terms-of name (now (refs .entry)) (now (rows .entry)) used many) (terms-of-words (part (now (refs .entry)) a e))) from room (now (out .exit)) r) ⌝ }
-    ensures slices { λ r. ⌜ Gathered (now (names .entry)) (now (rows .entry)) (now (out .entry)) (now (names .exit)) (now (rows .exit)) (now (out .exit)) mark from room r ⌝ }
-    ensures walk { λ r. ⌜ Walks-as (visit-list (now (names .entry)) (now (refs .entry)) (now (rows .entry)) used many (room - from) (terms-of-words (part (now (refs .entry)) a e))) (now (names .entry)) (now (rows .entry)) (now (out .entry)) (now (names .exit)) (now (rows .exit)) (now (out .exit)) mark from r ⌝ }
+    requires { ⌜ Rows (now refs) (now rows) used many named × (working-words ≤ length (now names)) × (a ≤ e) × (e ≤ used)
+        × ((i : ℕ) → a ≤ i → i < e → term-of (getD (now refs) i 0) < many) × Fresh (now names) (now rows) mark × (from ≤ room)
+        × (room ≤ length (now out)) ⌝ }
+    ensures set { λ r. ⌜ ((exclude : List Name) (name : ℕ → Name) → Named exclude name (now (names .entry)) named
+        → Gathers name named (group-names exclude (terms-of name (now (refs .entry)) (now (rows .entry)) used many)
+        (terms-of-words (part (now (refs .entry)) a e))) from room (now (out .exit)) r) ⌝ }
+    ensures slices { λ r. ⌜ Gathered (now (names .entry)) (now (rows .entry)) (now (out .entry)) (now (names .exit))
+        (now (rows .exit)) (now (out .exit)) mark from room r ⌝ }
+    ensures walk { λ r. ⌜ Walks-as (visit-list (now (names .entry)) (now (refs .entry)) (now (rows .entry)) used many
+        (room - from) (terms-of-words (part (now (refs .entry)) a e))) (now (names .entry)) (now (rows .entry))
+        (now (out .entry)) (now (names .exit)) (now (rows .exit)) (now (out .exit)) mark from r ⌝ }
 {
     walk_list(names, refs, rows, out, used, many, a, e, mark, from, room)
 }

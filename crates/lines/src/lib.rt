@@ -40,7 +40,8 @@ fn add_row(
     start: usize,
     extra: usize,
 ) -> Added
-    requires { ⌜ (working-words ≤ length (now rows)) × (kind < 8) × (op < 8) × (head < most-names) × (start ≤ most-references) × (extra < 65536) ⌝ }
+    requires { ⌜ (working-words ≤ length (now rows)) × (kind < 8) × (op < 8) × (head < most-names) × (start ≤ most-references)
+        × (extra < 65536) ⌝ }
     ensures answer { λ r. ⌜ r ≡ added many ⌝ }
     ensures rows { λ r. ⌜ now (rows .exit) ≡ rows-after (now (rows .entry)) many (row-word kind op head) start extra ⌝ }
 {
@@ -63,7 +64,8 @@ pub fn add_free(
     head: usize,
 ) -> Added
     requires { ⌜ Rows (now refs) (now rows) used many named × (head < named) ⌝ }
-    ensures { λ r. ⌜ Adds (now (refs .entry)) (now (rows .entry)) (now (rows .exit)) used used many named (row-word free-kind no-word head) 0 (λ name. FreeV (name head)) r ⌝ }
+    ensures { λ r. ⌜ Adds (now (refs .entry)) (now (rows .entry)) (now (rows .exit)) used used many named
+        (row-word free-kind no-word head) 0 (λ name. FreeV (name head)) r ⌝ }
 {
     add_row(rows, many, terms::FREE, NO_WORD, head, used, 0)
 }
@@ -71,7 +73,8 @@ pub fn add_free(
 // Adds a `leaf`.
 pub fn add_leaf(refs: &[u32], rows: &mut [u32], used: usize, many: usize, named: usize) -> Added
     requires { ⌜ Rows (now refs) (now rows) used many named ⌝ }
-    ensures { λ r. ⌜ Adds (now (refs .entry)) (now (rows .entry)) (now (rows .exit)) used used many named (row-word leaf-kind no-word 0) 0 (λ name. Leaf) r ⌝ }
+    ensures { λ r. ⌜ Adds (now (refs .entry)) (now (rows .entry)) (now (rows .exit)) used used many named
+        (row-word leaf-kind no-word 0) 0 (λ name. Leaf) r ⌝ }
 {
     add_row(rows, many, terms::LEAF, NO_WORD, 0, used, 0)
 }
@@ -87,7 +90,9 @@ pub fn add_call(
     head: usize,
 ) -> Added
     requires { ⌜ Pushed (now refs) (now rows) start used many named × (head < named) ⌝ }
-    ensures { λ r. ⌜ Adds (now (refs .entry)) (now (rows .entry)) (now (rows .exit)) start used many named (row-word call-kind no-word head) 0 (λ name. Call (name head) (terms-of-words (part (now (refs .entry)) start used))) r ⌝ }
+    ensures { λ r. ⌜ Adds (now (refs .entry)) (now (rows .entry)) (now (rows .exit)) start used many named
+        (row-word call-kind no-word head) 0 (λ name. Call (name head) (terms-of-words (part (now (refs .entry)) start used)))
+        r ⌝ }
 {
     add_row(rows, many, terms::CALL, NO_WORD, head, start, 0)
 }
@@ -103,7 +108,8 @@ pub fn add_op(
     op: usize,
 ) -> Added
     requires { ⌜ Pushed (now refs) (now rows) start used many named × (op < 5) ⌝ }
-    ensures { λ r. ⌜ Adds (now (refs .entry)) (now (rows .entry)) (now (rows .exit)) start used many named (row-word op-kind op 0) 0 (λ name. App (op-of-code op) (terms-of-words (part (now (refs .entry)) start used))) r ⌝ }
+    ensures { λ r. ⌜ Adds (now (refs .entry)) (now (rows .entry)) (now (rows .exit)) start used many named
+        (row-word op-kind op 0) 0 (λ name. App (op-of-code op) (terms-of-words (part (now (refs .entry)) start used))) r ⌝ }
 {
     add_row(rows, many, terms::OP, op, 0, start, 0)
 }
@@ -118,8 +124,11 @@ pub fn add_all(
     named: usize,
     groups: usize,
 ) -> Added
-    requires { ⌜ Pushed (now refs) (now rows) start used many named × Patterns (now refs) start used groups × (groups < 65536) ⌝ }
-    ensures { λ r. ⌜ Adds (now (refs .entry)) (now (rows .entry)) (now (rows .exit)) start used many named (row-word all-kind no-word 0) groups (λ name. Forall (term-of (getD (now (refs .entry)) start 0)) (groups-of-words (part (now (refs .entry)) (start + 1) used) groups)) r ⌝ }
+    requires { ⌜ Pushed (now refs) (now rows) start used many named × Patterns (now refs) start used groups
+        × (groups < 65536) ⌝ }
+    ensures { λ r. ⌜ Adds (now (refs .entry)) (now (rows .entry)) (now (rows .exit)) start used many named
+        (row-word all-kind no-word 0) groups (λ name. Forall (term-of (getD (now (refs .entry)) start 0))
+        (groups-of-words (part (now (refs .entry)) (start + 1) used) groups)) r ⌝ }
 {
     add_row(rows, many, terms::ALL, NO_WORD, 0, start, groups)
 }
@@ -134,8 +143,11 @@ pub fn add_some(
     named: usize,
     groups: usize,
 ) -> Added
-    requires { ⌜ Pushed (now refs) (now rows) start used many named × Patterns (now refs) start used groups × (groups < 65536) ⌝ }
-    ensures { λ r. ⌜ Adds (now (refs .entry)) (now (rows .entry)) (now (rows .exit)) start used many named (row-word some-kind no-word 0) groups (λ name. Exists (term-of (getD (now (refs .entry)) start 0)) (groups-of-words (part (now (refs .entry)) (start + 1) used) groups)) r ⌝ }
+    requires { ⌜ Pushed (now refs) (now rows) start used many named × Patterns (now refs) start used groups
+        × (groups < 65536) ⌝ }
+    ensures { λ r. ⌜ Adds (now (refs .entry)) (now (rows .entry)) (now (rows .exit)) start used many named
+        (row-word some-kind no-word 0) groups (λ name. Exists (term-of (getD (now (refs .entry)) start 0))
+        (groups-of-words (part (now (refs .entry)) (start + 1) used) groups)) r ⌝ }
 {
     add_row(rows, many, terms::SOME, NO_WORD, 0, start, groups)
 }
@@ -150,7 +162,9 @@ pub fn add_let(
     named: usize,
 ) -> Added
     requires { ⌜ Pushed (now refs) (now rows) start used many named × (start < used) ⌝ }
-    ensures { λ r. ⌜ Adds (now (refs .entry)) (now (rows .entry)) (now (rows .exit)) start used many named (row-word let-kind no-word 0) 0 (λ name. Let (term-of (getD (now (refs .entry)) start 0)) (terms-of-words (part (now (refs .entry)) (start + 1) used))) r ⌝ }
+    ensures { λ r. ⌜ Adds (now (refs .entry)) (now (rows .entry)) (now (rows .exit)) start used many named
+        (row-word let-kind no-word 0) 0 (λ name. Let (term-of (getD (now (refs .entry)) start 0))
+        (terms-of-words (part (now (refs .entry)) (start + 1) used))) r ⌝ }
 {
     add_row(rows, many, terms::LET, NO_WORD, 0, start, 0)
 }
@@ -158,7 +172,9 @@ pub fn add_let(
 // Adds a `label` of a term; the row has the term under the run of labels.
 pub fn add_label(refs: &[u32], rows: &mut [u32], start: usize, many: usize, named: usize) -> Added
     requires { ⌜ Pushed (now refs) (now rows) start (start + 1) many named ⌝ }
-    ensures { λ r. ⌜ Adds (now (refs .entry)) (now (rows .entry)) (now (rows .exit)) start (start + 1) many named (row-word label-kind no-word 0) (bare-of (now (rows .entry)) (term-of (getD (now (refs .entry)) start 0))) (λ name. Labeled (term-of (getD (now (refs .entry)) start 0))) r ⌝ }
+    ensures { λ r. ⌜ Adds (now (refs .entry)) (now (rows .entry)) (now (rows .exit)) start (start + 1) many named
+        (row-word label-kind no-word 0) (bare-of (now (rows .entry)) (term-of (getD (now (refs .entry)) start 0)))
+        (λ name. Labeled (term-of (getD (now (refs .entry)) start 0))) r ⌝ }
 {
     let under = terms::bare(rows, terms::reference(refs, start));
     add_row(rows, many, terms::LABEL, NO_WORD, 0, start, under)

@@ -21,7 +21,8 @@ const PAST_OPENED: usize = 20;
 
 // Finds the numbers of the names that the macros of the start open to, in one pass over the head codes.
 fn find_opened(names: &[u32], named: usize, found: &mut [u32])
-    requires { ⌜ (named ≤ most-names) × (working-words ≤ length (now names)) × (length (now found) ≡ macro-count) × ((j : ℕ) → getD (now found) j 0 ≡ 0) ⌝ }
+    requires { ⌜ (named ≤ most-names) × (working-words ≤ length (now names)) × (length (now found) ≡ macro-count)
+        × ((j : ℕ) → getD (now found) j 0 ≡ 0) ⌝ }
     ensures { λ x. ⌜ Found (now (names .entry)) named (now (found .exit)) ⌝ }
 {
     let mut n = 0;
@@ -70,7 +71,9 @@ fn is_def(recs: &[u32], taken: usize) -> bool
 
 // The macro word of a name.
 fn macro_word(names: &[u32], recs: &[u32], found: &[u32], n: usize) -> usize
-    requires { ⌜ (n < most-names) × (working-words ≤ length (now names)) × (working-words ≤ length (now recs)) × (taken-at (now names) n ≤ most-records) × (length (now found) ≡ macro-count) × ((j : ℕ) → j < macro-count → getD (now found) j 0 ≤ most-names) ⌝ }
+    requires { ⌜ (n < most-names) × (working-words ≤ length (now names)) × (working-words ≤ length (now recs))
+        × (taken-at (now names) n ≤ most-records) × (length (now found) ≡ macro-count)
+        × ((j : ℕ) → j < macro-count → getD (now found) j 0 ≤ most-names) ⌝ }
     ensures { λ r. ⌜ (r ≡ word-from (now (names .entry)) (now (recs .entry)) (now (found .entry)) n) × (r < 4294967296) ⌝ }
 {
     let taken = words::at(names, records::TAKEN + n);
@@ -83,7 +86,8 @@ fn macro_word(names: &[u32], recs: &[u32], found: &[u32], n: usize) -> usize
 
 // Fills the macro column after the last line: one pass finds what the macros of the start open to, one writes the words.
 pub fn open_macros(names: &mut [u32], recs: &[u32], named: usize)
-    requires { ⌜ (named ≤ most-names) × (working-words ≤ length (now names)) × (working-words ≤ length (now recs)) × ((n : ℕ) → n < named → taken-at (now names) n ≤ most-records) ⌝ }
+    requires { ⌜ (named ≤ most-names) × (working-words ≤ length (now names)) × (working-words ≤ length (now recs))
+        × ((n : ℕ) → n < named → taken-at (now names) n ≤ most-records) ⌝ }
     ensures { λ x. ⌜ Opens (now (names .entry)) (now (recs .entry)) (now (names .exit)) named named ⌝ }
 {
     let mut found: [u32; 5] = [0; 5];

@@ -83,7 +83,8 @@ fn wide(b: u8) -> usize
 
 // How the name of a number stands to the part from `a` up to `e`, whose first `from` bytes it is known to share.
 fn compare(file: &[u8], w: &[u32], n: usize, a: usize, e: usize, from: usize) -> text::Comparison
-    requires { ⌜ (length-column + n < length (now w)) × (name-start (now w) n + name-length (now w) n ≤ length (now file)) × (a ≤ e) × (e ≤ length (now file)) × (from ≤ shared (name-of (now file) (now w) n) (part (now file) a e)) ⌝ }
+    requires { ⌜ (length-column + n < length (now w)) × (name-start (now w) n + name-length (now w) n ≤ length (now file))
+        × (a ≤ e) × (e ≤ length (now file)) × (from ≤ shared (name-of (now file) (now w) n) (part (now file) a e)) ⌝ }
     ensures { λ r. ⌜ r ≡ comparison (name-of (now (file .entry)) (now (w .entry)) n) (part (now (file .entry)) a e) ⌝ }
 {
     let start = words::at(w, n);
@@ -127,8 +128,10 @@ fn look_up(file: &[u8], w: &[u32], named: usize, a: usize, e: usize) -> Found
 // Spells the name from `a` up to `e`: a new one takes the number `named`, unless the table is full.
 pub fn spell(file: &[u8], w: &mut [u32], named: usize, a: usize, e: usize) -> Spelled
     requires { ⌜ Table (now file) (now w) named × (a ≤ e) × (e ≤ length (now file)) ⌝ }
-    ensures answer { λ r. ⌜ r ≡ spell-answer named (look-up (names-of (now (file .entry)) (now (w .entry)) named) (part (now (file .entry)) a e)) ⌝ }
-    ensures table { λ r. ⌜ now (w .exit) ≡ spell-table (now (file .entry)) (now (w .entry)) named a e (look-up (names-of (now (file .entry)) (now (w .entry)) named) (part (now (file .entry)) a e)) ⌝ }
+    ensures answer { λ r. ⌜ r ≡ spell-answer named (look-up (names-of (now (file .entry)) (now (w .entry)) named)
+        (part (now (file .entry)) a e)) ⌝ }
+    ensures table { λ r. ⌜ now (w .exit) ≡ spell-table (now (file .entry)) (now (w .entry)) named a e
+        (look-up (names-of (now (file .entry)) (now (w .entry)) named) (part (now (file .entry)) a e)) ⌝ }
 {
     match look_up(file, w, named, a, e) {
         Found::At(n) => Spelled::Known(n),

@@ -112,7 +112,8 @@ fn read_free(
     c: Cursor,
 ) -> Step
     requires { ⌜ Stands (now file) (now names) (now refs) (now rows) k × Placed (now file) c ⌝ }
-    ensures { λ r. ⌜ Reads-term (now (file .entry)) (now (names .entry)) (now (refs .entry)) (now (rows .entry)) (now (names .exit)) (now (refs .entry)) (now (rows .exit)) k kind.Free c r ⌝ }
+    ensures { λ r. ⌜ Reads-term (now (file .entry)) (now (names .entry)) (now (refs .entry)) (now (rows .entry))
+        (now (names .exit)) (now (refs .entry)) (now (rows .exit)) k kind.Free c r ⌝ }
 {
     let used = k.used;
     match fields::read_name(file, names, k.named, c) {
@@ -144,7 +145,8 @@ fn read_leaf(
     c: Cursor,
 ) -> Step
     requires { ⌜ Stands (now file) (now names) (now refs) (now rows) k × Placed (now file) c ⌝ }
-    ensures { λ r. ⌜ Reads-term (now (file .entry)) (now (names .entry)) (now (refs .entry)) (now (rows .entry)) (now (names .entry)) (now (refs .entry)) (now (rows .exit)) k kind.Leaf c r ⌝ }
+    ensures { λ r. ⌜ Reads-term (now (file .entry)) (now (names .entry)) (now (refs .entry)) (now (rows .entry))
+        (now (names .entry)) (now (refs .entry)) (now (rows .exit)) k kind.Leaf c r ⌝ }
 {
     let used = k.used;
     let named = k.named;
@@ -169,7 +171,8 @@ fn read_call(
     c: Cursor,
 ) -> Step
     requires { ⌜ Stands (now file) (now names) (now refs) (now rows) k × Placed (now file) c ⌝ }
-    ensures { λ r. ⌜ Reads-term (now (file .entry)) (now (names .entry)) (now (refs .entry)) (now (rows .entry)) (now (names .exit)) (now (refs .exit)) (now (rows .exit)) k kind.Call c r ⌝ }
+    ensures { λ r. ⌜ Reads-term (now (file .entry)) (now (names .entry)) (now (refs .entry)) (now (rows .entry))
+        (now (names .exit)) (now (refs .exit)) (now (rows .exit)) k kind.Call c r ⌝ }
 {
     let start = k.used;
     let many = k.many;
@@ -202,7 +205,8 @@ fn read_op(
     c: Cursor,
 ) -> Step
     requires { ⌜ Stands (now file) (now names) (now refs) (now rows) k × Placed (now file) c ⌝ }
-    ensures { λ r. ⌜ Reads-term (now (file .entry)) (now (names .entry)) (now (refs .entry)) (now (rows .entry)) (now (names .entry)) (now (refs .exit)) (now (rows .exit)) k kind.Op c r ⌝ }
+    ensures { λ r. ⌜ Reads-term (now (file .entry)) (now (names .entry)) (now (refs .entry)) (now (rows .entry))
+        (now (names .entry)) (now (refs .exit)) (now (rows .exit)) k kind.Op c r ⌝ }
 {
     let start = k.used;
     let many = k.many;
@@ -238,7 +242,8 @@ fn read_quantifier(
     c: Cursor,
 ) -> Step
     requires { ⌜ Stands (now file) (now names) (now refs) (now rows) k × Placed (now file) c ⌝ }
-    ensures { λ r. ⌜ Reads-term (now (file .entry)) (now (names .entry)) (now (refs .entry)) (now (rows .entry)) (now (names .entry)) (now (refs .exit)) (now (rows .exit)) k (quantifier-kind all) c r ⌝ }
+    ensures { λ r. ⌜ Reads-term (now (file .entry)) (now (names .entry)) (now (refs .entry)) (now (rows .entry))
+        (now (names .entry)) (now (refs .exit)) (now (rows .exit)) k (quantifier-kind all) c r ⌝ }
 {
     let start = k.used;
     let many = k.many;
@@ -277,7 +282,8 @@ fn read_let(
     c: Cursor,
 ) -> Step
     requires { ⌜ Stands (now file) (now names) (now refs) (now rows) k × Placed (now file) c ⌝ }
-    ensures { λ r. ⌜ Reads-term (now (file .entry)) (now (names .entry)) (now (refs .entry)) (now (rows .entry)) (now (names .entry)) (now (refs .exit)) (now (rows .exit)) k kind.Let c r ⌝ }
+    ensures { λ r. ⌜ Reads-term (now (file .entry)) (now (names .entry)) (now (refs .entry)) (now (rows .entry))
+        (now (names .entry)) (now (refs .exit)) (now (rows .exit)) k kind.Let c r ⌝ }
 {
     let start = k.used;
     let many = k.many;
@@ -311,7 +317,8 @@ fn read_label(
     c: Cursor,
 ) -> Step
     requires { ⌜ Stands (now file) (now names) (now refs) (now rows) k × Placed (now file) c ⌝ }
-    ensures { λ r. ⌜ Reads-term (now (file .entry)) (now (names .entry)) (now (refs .entry)) (now (rows .entry)) (now (names .entry)) (now (refs .exit)) (now (rows .exit)) k kind.Label c r ⌝ }
+    ensures { λ r. ⌜ Reads-term (now (file .entry)) (now (names .entry)) (now (refs .entry)) (now (rows .entry))
+        (now (names .entry)) (now (refs .exit)) (now (rows .exit)) k kind.Label c r ⌝ }
 {
     let start = k.used;
     let many = k.many;
@@ -347,7 +354,8 @@ pub fn read_term(
     c: Cursor,
 ) -> Step
     requires { ⌜ Stands (now file) (now names) (now refs) (now rows) k × Placed (now file) c ⌝ }
-    ensures { λ r. ⌜ Reads-term (now (file .entry)) (now (names .entry)) (now (refs .entry)) (now (rows .entry)) (now (names .exit)) (now (refs .exit)) (now (rows .exit)) k (term-kind kind) c r ⌝ }
+    ensures { λ r. ⌜ Reads-term (now (file .entry)) (now (names .entry)) (now (refs .entry)) (now (rows .entry))
+        (now (names .exit)) (now (refs .exit)) (now (rows .exit)) k (term-kind kind) c r ⌝ }
 {
     match kind {
         TermKind::Free => read_free(file, names, refs, rows, k, c),

@@ -50,7 +50,8 @@ pub fn line_starts(file: &[u8], starts: &mut [u32]) -> usize
 // The second field of a part of the file.
 fn second_field(file: &[u8], start: usize, end: usize) -> &[u8]
     requires { ⌜ (start ≤ end) × (end ≤ length (now file)) ⌝ }
-    ensures { λ r. ⌜ (now r ≡ second (fields (part (now (file .entry)) start end))) × (length (now r) ≤ length (now (file .entry))) ⌝ }
+    ensures { λ r. ⌜ (now r ≡ second (fields (part (now (file .entry)) start end)))
+        × (length (now r) ≤ length (now (file .entry))) ⌝ }
 {
     let comma = text::find(file, b',', start, end);
     if comma == end {
@@ -127,7 +128,8 @@ pub fn answer_line(
     i: usize,
     text: &mut [u8],
 ) -> usize
-    requires { ⌜ Starts (now file) (now starts) many × (length (now file) + 128 ≤ length (now text)) × (a .kept ≤ length (now out)) ⌝ }
+    requires { ⌜ Starts (now file) (now starts) many × (length (now file) + 128 ≤ length (now text))
+        × (a .kept ≤ length (now out)) ⌝ }
     ensures { λ n. ⌜ Answered (now (file .entry)) a (now (out .entry)) i (now (text .exit)) n ⌝ }
 {
     let v = a.verdict;

@@ -51,8 +51,10 @@ fn reached_at(names: &[u32], run: &[u32], named: usize, r: usize) -> usize
 
 // Lists the reached facts by name in byte order.
 fn list_reached(names: &[u32], run: &mut [u32], named: usize) -> usize
-    requires { ⌜ Index (now names) named × (working-words ≤ length (now run)) × (length (reached-records (now names) (now run) named) ≤ most-records) ⌝ }
-    ensures { λ to. ⌜ Lists (now (run .entry)) 0 (reached-records (now (names .entry)) (now (run .entry)) named) (now (run .exit)) to ⌝ }
+    requires { ⌜ Index (now names) named × (working-words ≤ length (now run))
+        × (length (reached-records (now names) (now run) named) ≤ most-records) ⌝ }
+    ensures { λ to. ⌜ Lists (now (run .entry)) 0 (reached-records (now (names .entry)) (now (run .entry)) named)
+        (now (run .exit)) to ⌝ }
 {
     let mut to = 0;
     let mut r = 0;
@@ -88,7 +90,8 @@ fn ambient_at(recs: &[u32], i: usize) -> usize
 
 // Lists the ambients, last filed first; none with option 1.
 fn list_ambients(recs: &[u32], run: &mut [u32], k: Counts, m: usize) -> usize
-    requires { ⌜ (working-words ≤ length (now recs)) × (working-words ≤ length (now run)) × (k .records ≤ most-records) × (m + length (ambient-records (now recs) k) ≤ most-records) ⌝ }
+    requires { ⌜ (working-words ≤ length (now recs)) × (working-words ≤ length (now run)) × (k .records ≤ most-records)
+        × (m + length (ambient-records (now recs) k) ≤ most-records) ⌝ }
     ensures { λ to. ⌜ Lists (now (run .entry)) m (ambient-records (now (recs .entry)) k) (now (run .exit)) to ⌝ }
 {
     let mut to = m;
@@ -111,8 +114,10 @@ fn list_ambients(recs: &[u32], run: &mut [u32], k: Counts, m: usize) -> usize
 
 // Lists the kept facts.
 fn list_facts(names: &[u32], recs: &[u32], run: &mut [u32], k: Counts) -> usize
-    requires { ⌜ Index (now names) (k .named) × (working-words ≤ length (now recs)) × (working-words ≤ length (now run)) × (k .records ≤ most-records) × (length (fact-records (now names) (now recs) (now run) k) ≤ most-records) ⌝ }
-    ensures { λ to. ⌜ Lists (now (run .entry)) 0 (fact-records (now (names .entry)) (now (recs .entry)) (now (run .entry)) k) (now (run .exit)) to ⌝ }
+    requires { ⌜ Index (now names) (k .named) × (working-words ≤ length (now recs)) × (working-words ≤ length (now run))
+        × (k .records ≤ most-records) × (length (fact-records (now names) (now recs) (now run) k) ≤ most-records) ⌝ }
+    ensures { λ to. ⌜ Lists (now (run .entry)) 0 (fact-records (now (names .entry)) (now (recs .entry)) (now (run .entry)) k)
+        (now (run .exit)) to ⌝ }
 {
     let reached = list_reached(names, run, k.named);
     list_ambients(recs, run, k, reached)
@@ -130,8 +135,10 @@ fn note_record(recs: &[u32], out: &[u32], run: &mut [u32], k: Counts, i: usize, 
 
 // Notes the names of the kept facts, as listed.
 fn note_facts(recs: &[u32], out: &[u32], run: &mut [u32], k: Counts, count: usize)
-    requires { ⌜ Notes (now recs) (now out) (now run) k × (count ≤ most-records) × ((j : ℕ) → j < count → getD (now run) (kept-column + j) 0 < k .records) ⌝ }
-    ensures { λ r. ⌜ now (run .exit) ≡ noted 1 (now (run .entry)) (map (uses-at (now (recs .entry)) (now (out .entry))) (part (now (run .entry)) kept-column (kept-column + count))) ⌝ }
+    requires { ⌜ Notes (now recs) (now out) (now run) k × (count ≤ most-records)
+        × ((j : ℕ) → j < count → getD (now run) (kept-column + j) 0 < k .records) ⌝ }
+    ensures { λ r. ⌜ now (run .exit) ≡ noted 1 (now (run .entry))
+        (map (uses-at (now (recs .entry)) (now (out .entry))) (part (now (run .entry)) kept-column (kept-column + count))) ⌝ }
 {
     let mut j = 0;
     while j < count {
@@ -155,7 +162,8 @@ fn is_goal(recs: &[u32], k: Counts, i: usize) -> bool
 // Notes the names of the roots of the query, by line, and gives the last stamp.
 fn note_roots(recs: &[u32], out: &[u32], run: &mut [u32], k: Counts, m: usize) -> usize
     requires { ⌜ Notes (now recs) (now out) (now run) k × (m ≤ most-records) ⌝ }
-    ensures noted { λ s. ⌜ now (run .exit) ≡ noted (m + 1) (now (run .entry)) (map (uses-at (now (recs .entry)) (now (out .entry))) (goal-records (now (recs .entry)) k)) ⌝ }
+    ensures noted { λ s. ⌜ now (run .exit) ≡ noted (m + 1) (now (run .entry))
+        (map (uses-at (now (recs .entry)) (now (out .entry))) (goal-records (now (recs .entry)) k)) ⌝ }
     ensures stamps { λ s. ⌜ s ≡ m + length (goal-records (now (recs .entry)) k) ⌝ }
 {
     let count = k.records;
@@ -175,7 +183,8 @@ fn note_roots(recs: &[u32], out: &[u32], run: &mut [u32], k: Counts, m: usize) -
 
 // Puts the ranks on the chains of their stamps.
 fn link_names(names: &[u32], run: &mut [u32], named: usize)
-    requires { ⌜ Index (now names) named × (working-words ≤ length (now run)) × ((r : ℕ) → r < named → stamp-in (now names) (now run) r ≤ most-stamps) ⌝ }
+    requires { ⌜ Index (now names) named × (working-words ≤ length (now run))
+        × ((r : ℕ) → r < named → stamp-in (now names) (now run) r ≤ most-stamps) ⌝ }
     ensures { λ r. ⌜ Links (now (names .entry)) (now (run .entry)) (now (run .exit)) named ⌝ }
 {
     words::clear(run, HIGHEST, MOST_STAMPS);
@@ -217,8 +226,12 @@ fn list_stamp(
     stamp: usize,
     m: usize,
 ) -> usize
-    requires { ⌜ Index (now names) named × (working-words ≤ length (now recs)) × (working-words ≤ length (now run)) × Linked (stamp-in (now names) (now run)) named (now run) × (0 < stamp) × (stamp ≤ most-stamps) × (m + length (stamp-records (now names) (now recs) named (stamp-in (now names) (now run)) kind stamp) ≤ most-records) ⌝ }
-    ensures { λ to. ⌜ Lists (now (run .entry)) m (stamp-records (now (names .entry)) (now (recs .entry)) named (stamp-in (now (names .entry)) (now (run .entry))) kind stamp) (now (run .exit)) to ⌝ }
+    requires { ⌜ Index (now names) named × (working-words ≤ length (now recs)) × (working-words ≤ length (now run))
+        × Linked (stamp-in (now names) (now run)) named (now run) × (0 < stamp) × (stamp ≤ most-stamps)
+        × (m + length (stamp-records (now names) (now recs) named (stamp-in (now names) (now run)) kind
+        stamp) ≤ most-records) ⌝ }
+    ensures { λ to. ⌜ Lists (now (run .entry)) m (stamp-records (now (names .entry)) (now (recs .entry)) named
+        (stamp-in (now (names .entry)) (now (run .entry))) kind stamp) (now (run .exit)) to ⌝ }
 {
     let mut to = m;
     let mut next = words::at(run, HIGHEST + (stamp - 1));
@@ -244,8 +257,12 @@ fn list_kind(
     stamps: usize,
     m: usize,
 ) -> usize
-    requires { ⌜ Index (now names) named × (working-words ≤ length (now recs)) × (working-words ≤ length (now run)) × Linked (stamp-in (now names) (now run)) named (now run) × (stamps ≤ most-stamps) × (m + length (kind-records (now names) (now recs) named (stamp-in (now names) (now run)) kind stamps) ≤ most-records) ⌝ }
-    ensures { λ to. ⌜ Lists (now (run .entry)) m (kind-records (now (names .entry)) (now (recs .entry)) named (stamp-in (now (names .entry)) (now (run .entry))) kind stamps) (now (run .exit)) to ⌝ }
+    requires { ⌜ Index (now names) named × (working-words ≤ length (now recs)) × (working-words ≤ length (now run))
+        × Linked (stamp-in (now names) (now run)) named (now run) × (stamps ≤ most-stamps)
+        × (m + length (kind-records (now names) (now recs) named (stamp-in (now names) (now run)) kind
+        stamps) ≤ most-records) ⌝ }
+    ensures { λ to. ⌜ Lists (now (run .entry)) m (kind-records (now (names .entry)) (now (recs .entry)) named
+        (stamp-in (now (names .entry)) (now (run .entry))) kind stamps) (now (run .exit)) to ⌝ }
 {
     let mut to = m;
     let mut s = stamps;
@@ -265,8 +282,11 @@ fn list_decls(
     stamps: usize,
     m: usize,
 ) -> usize
-    requires { ⌜ Index (now names) named × (working-words ≤ length (now recs)) × (working-words ≤ length (now run)) × Linked (stamp-in (now names) (now run)) named (now run) × (stamps ≤ most-stamps) × (m + length (decl-records (now names) (now recs) named (stamp-in (now names) (now run)) stamps) ≤ most-records) ⌝ }
-    ensures { λ to. ⌜ Lists (now (run .entry)) m (decl-records (now (names .entry)) (now (recs .entry)) named (stamp-in (now (names .entry)) (now (run .entry))) stamps) (now (run .exit)) to ⌝ }
+    requires { ⌜ Index (now names) named × (working-words ≤ length (now recs)) × (working-words ≤ length (now run))
+        × Linked (stamp-in (now names) (now run)) named (now run) × (stamps ≤ most-stamps)
+        × (m + length (decl-records (now names) (now recs) named (stamp-in (now names) (now run)) stamps) ≤ most-records) ⌝ }
+    ensures { λ to. ⌜ Lists (now (run .entry)) m (decl-records (now (names .entry)) (now (recs .entry)) named
+        (stamp-in (now (names .entry)) (now (run .entry))) stamps) (now (run .exit)) to ⌝ }
 {
     let defs = list_kind(names, recs, run, named, records::DEF, stamps, m);
     list_kind(names, recs, run, named, records::FUN, stamps, defs)
@@ -274,8 +294,10 @@ fn list_decls(
 
 // Puts the line of each kept record in its place.
 fn put_lines(recs: &[u32], run: &mut [u32], count: usize)
-    requires { ⌜ (working-words ≤ length (now recs)) × (working-words ≤ length (now run)) × (count ≤ most-records) × ((j : ℕ) → j < count → getD (now run) (kept-column + j) 0 < most-records) ⌝ }
-    ensures { λ r. ⌜ Lists (now (run .entry)) 0 (map (record-line (now (recs .entry))) (part (now (run .entry)) kept-column (kept-column + count))) (now (run .exit)) count ⌝ }
+    requires { ⌜ (working-words ≤ length (now recs)) × (working-words ≤ length (now run)) × (count ≤ most-records)
+        × ((j : ℕ) → j < count → getD (now run) (kept-column + j) 0 < most-records) ⌝ }
+    ensures { λ r. ⌜ Lists (now (run .entry)) 0 (map (record-line (now (recs .entry)))
+        (part (now (run .entry)) kept-column (kept-column + count))) (now (run .exit)) count ⌝ }
 {
     let mut j = 0;
     while j < count {
@@ -288,7 +310,8 @@ fn put_lines(recs: &[u32], run: &mut [u32], count: usize)
 // Lists the kept records: the facts, and with option 4 definitions and then declarations.
 fn list_records(names: &[u32], recs: &[u32], out: &[u32], run: &mut [u32], k: Counts) -> usize
     requires { ⌜ Listable (now names) (now recs) (now out) (now run) k ⌝ }
-    ensures { λ to. ⌜ Listed (now (names .entry)) (now (recs .entry)) (now (out .entry)) (now (run .entry)) (now (run .exit)) k to ⌝ }
+    ensures { λ to. ⌜ Listed (now (names .entry)) (now (recs .entry)) (now (out .entry)) (now (run .entry)) (now (run .exit)) k
+        to ⌝ }
 {
     let facts = list_facts(names, recs, run, k);
     let options = options::options_of(k.options);
@@ -312,7 +335,8 @@ pub fn prune(
     k: Counts,
 ) -> usize
     requires { ⌜ Run-over (now file) (now names) (now recs) (now out) (now run) k ⌝ }
-    ensures { λ r. ⌜ Pruned (now (file .entry)) (now (names .entry)) (now (recs .entry)) (now (out .entry)) (now (run .entry)) (now (run .exit)) k r ⌝ }
+    ensures { λ r. ⌜ Pruned (now (file .entry)) (now (names .entry)) (now (recs .entry)) (now (out .entry)) (now (run .entry))
+        (now (run .exit)) k r ⌝ }
 {
     let count = list_records(names, recs, out, run, k);
     put_lines(recs, run, count);

@@ -67,8 +67,11 @@ fn read_kind(
     kind: Kind,
     c: Cursor,
 ) -> Step
-    requires { ⌜ Standing (now file) (now names) (now refs) (now rows) (now recs) (now out) k × Placed (now file) c × (n < 4294967296) ⌝ }
-    ensures { λ r. ⌜ Line-read (now (file .entry)) (now (names .entry)) (now (refs .entry)) (now (rows .entry)) (now (recs .entry)) (now (out .entry)) (now (names .exit)) (now (refs .exit)) (now (rows .exit)) (now (recs .exit)) (now (out .exit)) k n (kind-content kind (k .many) (fields-left (now (file .entry)) c)) r ⌝ }
+    requires { ⌜ Standing (now file) (now names) (now refs) (now rows) (now recs) (now out) k × Placed (now file) c
+        × (n < 4294967296) ⌝ }
+    ensures { λ r. ⌜ Line-read (now (file .entry)) (now (names .entry)) (now (refs .entry)) (now (rows .entry))
+        (now (recs .entry)) (now (out .entry)) (now (names .exit)) (now (refs .exit)) (now (rows .exit)) (now (recs .exit))
+        (now (out .exit)) k n (kind-content kind (k .many) (fields-left (now (file .entry)) c)) r ⌝ }
 {
     match kind {
         Kind::Ask => read_ask(file, k, c),
@@ -91,8 +94,11 @@ fn read_line(
     a: usize,
     e: usize,
 ) -> Step
-    requires { ⌜ Standing (now file) (now names) (now refs) (now rows) (now recs) (now out) k × (a ≤ e) × (e ≤ length (now file)) × (n < 4294967296) ⌝ }
-    ensures { λ r. ⌜ Line-read (now (file .entry)) (now (names .entry)) (now (refs .entry)) (now (rows .entry)) (now (recs .entry)) (now (out .entry)) (now (names .exit)) (now (refs .exit)) (now (rows .exit)) (now (recs .exit)) (now (out .exit)) k n (parse n (k .many) (fields (part (now (file .entry)) a e))) r ⌝ }
+    requires { ⌜ Standing (now file) (now names) (now refs) (now rows) (now recs) (now out) k × (a ≤ e)
+        × (e ≤ length (now file)) × (n < 4294967296) ⌝ }
+    ensures { λ r. ⌜ Line-read (now (file .entry)) (now (names .entry)) (now (refs .entry)) (now (rows .entry))
+        (now (recs .entry)) (now (out .entry)) (now (names .exit)) (now (refs .exit)) (now (rows .exit)) (now (recs .exit))
+        (now (out .exit)) k n (parse n (k .many) (fields (part (now (file .entry)) a e))) r ⌝ }
 {
     let c = Cursor { at: a, end: e };
     match c.field(file) {
@@ -117,7 +123,9 @@ pub fn read_file(
     out: &mut [u32],
 ) -> Reading
     requires { ⌜ Cleared (now file) (now names) (now refs) (now rows) (now recs) (now out) ⌝ }
-    ensures { λ r. ⌜ File-read (now (file .entry)) (now (names .entry)) (now (refs .entry)) (now (rows .entry)) (now (recs .entry)) (now (out .entry)) (now (names .exit)) (now (refs .exit)) (now (rows .exit)) (now (recs .exit)) (now (out .exit)) r ⌝ }
+    ensures { λ r. ⌜ File-read (now (file .entry)) (now (names .entry)) (now (refs .entry)) (now (rows .entry))
+        (now (recs .entry)) (now (out .entry)) (now (names .exit)) (now (refs .exit)) (now (rows .exit)) (now (recs .exit))
+        (now (out .exit)) r ⌝ }
 {
     if file.len() == 0 {
         return Reading::Refused(Refusal::Form, 1);

@@ -107,7 +107,8 @@ pub fn put_record(
     flag: usize,
     code: usize,
 )
-    requires { ⌜ (k .records < most-records) × (working-words ≤ length (now recs)) × Small k next kind line name term flag code ⌝ }
+    requires { ⌜ (k .records < most-records) × (working-words ≤ length (now recs))
+        × Small k next kind line name term flag code ⌝ }
     ensures { λ x. ⌜ Rowed (now (recs .entry)) (now (recs .exit)) k next kind line name term flag code ⌝ }
 {
     let row = [
@@ -136,9 +137,13 @@ pub fn add_retain(
     k: Counts,
     line: usize,
 ) -> Step
-    requires { ⌜ (k .named ≤ most-names → Standing (now file) (now names) (now refs) (now rows) (now recs) (now out) k) × (line < 4294967296) ⌝ }
-    ensures record { λ r. ⌜ Adds (now (file .entry)) (now (names .entry)) (now (refs .entry)) (now (rows .entry)) (now (recs .entry)) (now (out .entry)) (now (names .entry)) (now (rows .entry)) (now (recs .exit)) (now (out .entry)) k line (retain []) r ⌝ }
-    ensures past { λ r. ⌜ Untouched (now (names .entry)) (now (rows .entry)) (now (recs .entry)) (now (out .entry)) (now (names .entry)) (now (rows .entry)) (now (recs .exit)) (now (out .entry)) ⌝ }
+    requires { ⌜ (k .named ≤ most-names → Standing (now file) (now names) (now refs) (now rows) (now recs) (now out) k)
+        × (line < 4294967296) ⌝ }
+    ensures record { λ r. ⌜ Adds (now (file .entry)) (now (names .entry)) (now (refs .entry)) (now (rows .entry))
+        (now (recs .entry)) (now (out .entry)) (now (names .entry)) (now (rows .entry)) (now (recs .exit)) (now (out .entry)) k
+        line (retain []) r ⌝ }
+    ensures past { λ r. ⌜ Untouched (now (names .entry)) (now (rows .entry)) (now (recs .entry)) (now (out .entry))
+        (now (names .entry)) (now (rows .entry)) (now (recs .exit)) (now (out .entry)) ⌝ }
 {
     if model::MOST_NAMES < k.named {
         return Step::Refused(Refusal::FullNames);
@@ -163,9 +168,13 @@ pub fn add_fun(
     line: usize,
     i: usize,
 ) -> Step
-    requires { ⌜ (k .named ≤ most-names → Standing (now file) (now names) (now refs) (now rows) (now recs) (now out) k × (i < k .named)) × (line < 4294967296) ⌝ }
-    ensures record { λ r. ⌜ Adds (now (file .entry)) (now (names .entry)) (now (refs .entry)) (now (rows .entry)) (now (recs .entry)) (now (out .entry)) (now (names .exit)) (now (rows .entry)) (now (recs .exit)) (now (out .entry)) k line (fun (name-of (now (file .entry)) (now (names .entry)) i)) r ⌝ }
-    ensures past { λ r. ⌜ Untouched (now (names .entry)) (now (rows .entry)) (now (recs .entry)) (now (out .entry)) (now (names .exit)) (now (rows .entry)) (now (recs .exit)) (now (out .entry)) ⌝ }
+    requires { ⌜ (k .named ≤ most-names → Standing (now file) (now names) (now refs) (now rows) (now recs) (now out) k
+        × (i < k .named)) × (line < 4294967296) ⌝ }
+    ensures record { λ r. ⌜ Adds (now (file .entry)) (now (names .entry)) (now (refs .entry)) (now (rows .entry))
+        (now (recs .entry)) (now (out .entry)) (now (names .exit)) (now (rows .entry)) (now (recs .exit)) (now (out .entry)) k
+        line (fun (name-of (now (file .entry)) (now (names .entry)) i)) r ⌝ }
+    ensures past { λ r. ⌜ Untouched (now (names .entry)) (now (rows .entry)) (now (recs .entry)) (now (out .entry))
+        (now (names .exit)) (now (rows .entry)) (now (recs .exit)) (now (out .entry)) ⌝ }
 {
     if model::MOST_NAMES < k.named {
         return Step::Refused(Refusal::FullNames);
@@ -195,9 +204,13 @@ pub fn add_def(
     i: usize,
     t: usize,
 ) -> Step
-    requires { ⌜ (k .named ≤ most-names → Standing (now file) (now names) (now refs) (now rows) (now recs) (now out) k × (i < k .named)) × (t < k .many) × (line < 4294967296) ⌝ }
-    ensures record { λ r. ⌜ Adds (now (file .entry)) (now (names .entry)) (now (refs .entry)) (now (rows .entry)) (now (recs .entry)) (now (out .entry)) (now (names .exit)) (now (rows .exit)) (now (recs .exit)) (now (out .exit)) k line (def (name-of (now (file .entry)) (now (names .entry)) i) t) r ⌝ }
-    ensures past { λ r. ⌜ Untouched (now (names .entry)) (now (rows .entry)) (now (recs .entry)) (now (out .entry)) (now (names .exit)) (now (rows .exit)) (now (recs .exit)) (now (out .exit)) ⌝ }
+    requires { ⌜ (k .named ≤ most-names → Standing (now file) (now names) (now refs) (now rows) (now recs) (now out) k
+        × (i < k .named)) × (t < k .many) × (line < 4294967296) ⌝ }
+    ensures record { λ r. ⌜ Adds (now (file .entry)) (now (names .entry)) (now (refs .entry)) (now (rows .entry))
+        (now (recs .entry)) (now (out .entry)) (now (names .exit)) (now (rows .exit)) (now (recs .exit)) (now (out .exit)) k
+        line (def (name-of (now (file .entry)) (now (names .entry)) i) t) r ⌝ }
+    ensures past { λ r. ⌜ Untouched (now (names .entry)) (now (rows .entry)) (now (recs .entry)) (now (out .entry))
+        (now (names .exit)) (now (rows .exit)) (now (recs .exit)) (now (out .exit)) ⌝ }
 {
     if model::MOST_NAMES < k.named {
         return Step::Refused(Refusal::FullNames);
@@ -244,9 +257,13 @@ pub fn add_root(
     i: usize,
     t: usize,
 ) -> Step
-    requires { ⌜ (k .named ≤ most-names → Standing (now file) (now names) (now refs) (now rows) (now recs) (now out) k × (i < k .named)) × (t < k .many) × (line < 4294967296) × (query < 256) ⌝ }
-    ensures record { λ r. ⌜ Adds (now (file .entry)) (now (names .entry)) (now (refs .entry)) (now (rows .entry)) (now (recs .entry)) (now (out .entry)) (now (names .exit)) (now (rows .exit)) (now (recs .exit)) (now (out .exit)) k line (root query (name-of (now (file .entry)) (now (names .entry)) i) t) r ⌝ }
-    ensures past { λ r. ⌜ Untouched (now (names .entry)) (now (rows .entry)) (now (recs .entry)) (now (out .entry)) (now (names .exit)) (now (rows .exit)) (now (recs .exit)) (now (out .exit)) ⌝ }
+    requires { ⌜ (k .named ≤ most-names → Standing (now file) (now names) (now refs) (now rows) (now recs) (now out) k
+        × (i < k .named)) × (t < k .many) × (line < 4294967296) × (query < 256) ⌝ }
+    ensures record { λ r. ⌜ Adds (now (file .entry)) (now (names .entry)) (now (refs .entry)) (now (rows .entry))
+        (now (recs .entry)) (now (out .entry)) (now (names .exit)) (now (rows .exit)) (now (recs .exit)) (now (out .exit)) k
+        line (root query (name-of (now (file .entry)) (now (names .entry)) i) t) r ⌝ }
+    ensures past { λ r. ⌜ Untouched (now (names .entry)) (now (rows .entry)) (now (recs .entry)) (now (out .entry))
+        (now (names .exit)) (now (rows .exit)) (now (recs .exit)) (now (out .exit)) ⌝ }
 {
     if model::MOST_NAMES < k.named {
         return Step::Refused(Refusal::FullNames);

@@ -81,7 +81,8 @@ const AND: usize = 3;
 
 // How many references a row has.
 fn count(rows: &[u32], used: usize, many: usize, t: usize) -> usize
-    requires { ⌜ (working-words ≤ length (now rows)) × (t < many) × (many ≤ most-terms) × (row-start (now rows) t ≤ row-end (now rows) used many t) ⌝ }
+    requires { ⌜ (working-words ≤ length (now rows)) × (t < many) × (many ≤ most-terms)
+        × (row-start (now rows) t ≤ row-end (now rows) used many t) ⌝ }
     ensures { λ r. ⌜ r ≡ row-count (now (rows .entry)) used many t ⌝ }
 {
     terms::end(rows, used, many, t) - terms::start(rows, t)
@@ -89,7 +90,8 @@ fn count(rows: &[u32], used: usize, many: usize, t: usize) -> usize
 
 // The i-th term that a row names.
 fn nth(refs: &[u32], rows: &[u32], t: usize, i: usize) -> usize
-    requires { ⌜ (working-words ≤ length (now rows)) × (t < most-terms) × (row-start (now rows) t + i < length (now refs)) × (i ≤ 1) ⌝ }
+    requires { ⌜ (working-words ≤ length (now rows)) × (t < most-terms) × (row-start (now rows) t + i < length (now refs))
+        × (i ≤ 1) ⌝ }
     ensures { λ r. ⌜ r ≡ row-argument (now (refs .entry)) (now (rows .entry)) t i ⌝ }
 {
     let a = terms::start(rows, t);
@@ -98,7 +100,8 @@ fn nth(refs: &[u32], rows: &[u32], t: usize, i: usize) -> usize
 
 // Whether a row is a call of the name with this head code.
 fn is_call(names: &[u32], rows: &[u32], t: usize, code: usize) -> bool
-    requires { ⌜ (working-words ≤ length (now names)) × (working-words ≤ length (now rows)) × (t < most-terms) × (T (has-head (row-kind (now rows) t)) → row-head (now rows) t < most-names) ⌝ }
+    requires { ⌜ (working-words ≤ length (now names)) × (working-words ≤ length (now rows)) × (t < most-terms)
+        × (T (has-head (row-kind (now rows) t)) → row-head (now rows) t < most-names) ⌝ }
     ensures { λ r. ⌜ r ≡ is-call-at (now (names .entry)) (now (rows .entry)) t code ⌝ }
 {
     if terms::kind(rows, t) != terms::CALL {
@@ -110,7 +113,8 @@ fn is_call(names: &[u32], rows: &[u32], t: usize, code: usize) -> bool
 
 // Whether a row is a `free` or a call of the name with this head code.
 fn is_head(names: &[u32], rows: &[u32], t: usize, code: usize) -> bool
-    requires { ⌜ (working-words ≤ length (now names)) × (working-words ≤ length (now rows)) × (t < most-terms) × (T (has-head (row-kind (now rows) t)) → row-head (now rows) t < most-names) ⌝ }
+    requires { ⌜ (working-words ≤ length (now names)) × (working-words ≤ length (now rows)) × (t < most-terms)
+        × (T (has-head (row-kind (now rows) t)) → row-head (now rows) t < most-names) ⌝ }
     ensures { λ r. ⌜ r ≡ is-head-at (now (names .entry)) (now (rows .entry)) t code ⌝ }
 {
     if !terms::has_head(rows, t) {
@@ -226,7 +230,8 @@ fn is_ambient_refinement(
     ty: usize,
 ) -> bool
     requires { ⌜ Tables (now file) (now names) (now refs) (now rows) named used many × (ty < many) ⌝ }
-    ensures { λ r. ⌜ r ≡ is-ambient-refinement (terms-in (now (file .entry)) (now (names .entry)) (now (refs .entry)) (now (rows .entry)) used many) ty ⌝ }
+    ensures { λ r. ⌜ r ≡ is-ambient-refinement (terms-in (now (file .entry)) (now (names .entry)) (now (refs .entry))
+        (now (rows .entry)) used many) ty ⌝ }
 {
     if is_call(names, rows, ty, SQUASH) {
         return true;
@@ -250,7 +255,8 @@ fn ambient_refinement_payload(
     ty: usize,
 ) -> usize
     requires { ⌜ Tables (now file) (now names) (now refs) (now rows) named used many × (ty < many) ⌝ }
-    ensures payload { λ r. ⌜ r ≡ ambient-refinement-payload (terms-in (now (file .entry)) (now (names .entry)) (now (refs .entry)) (now (rows .entry)) used many) ty ⌝ }
+    ensures payload { λ r. ⌜ r ≡ ambient-refinement-payload
+        (terms-in (now (file .entry)) (now (names .entry)) (now (refs .entry)) (now (rows .entry)) used many) ty ⌝ }
     ensures within { λ r. ⌜ r < many ⌝ }
 {
     let Arguments::Are(_, payload) = call_two(names, refs, rows, named, used, many, ty, SQUASH)
@@ -272,7 +278,8 @@ fn token(
     t: usize,
 ) -> Choice
     requires { ⌜ Tables (now file) (now names) (now refs) (now rows) named used many × (t < many) ⌝ }
-    ensures token { λ r. ⌜ r ≡ token-choice (terms-in (now (file .entry)) (now (names .entry)) (now (refs .entry)) (now (rows .entry)) used many) (now (rows .entry)) t ⌝ }
+    ensures token { λ r. ⌜ r ≡ token-choice (terms-in (now (file .entry)) (now (names .entry)) (now (refs .entry))
+        (now (rows .entry)) used many) (now (rows .entry)) t ⌝ }
     ensures within { λ r. ⌜ Within named many r ⌝ }
 {
     let kind = terms::kind(rows, t);
@@ -300,7 +307,8 @@ fn has_eq(
     t: usize,
 ) -> Argument
     requires { ⌜ Tables (now file) (now names) (now refs) (now rows) named used many × (t < many) ⌝ }
-    ensures argument { λ r. ⌜ as-option r ≡ has-eq (terms-in (now (file .entry)) (now (names .entry)) (now (refs .entry)) (now (rows .entry)) used many) t ⌝ }
+    ensures argument { λ r. ⌜ as-option r ≡ has-eq (terms-in (now (file .entry)) (now (names .entry)) (now (refs .entry))
+        (now (rows .entry)) used many) t ⌝ }
     ensures within { λ r. ⌜ ((u : ℕ) → r ≡ Argument.Is u → u < many) ⌝ }
 {
     let Argument::Is(valid) = call_one(names, refs, rows, named, used, many, t, VALID) else {
@@ -325,7 +333,8 @@ fn rule_1(
     t: usize,
 ) -> Tried
     requires { ⌜ Of-tables (now file) (now names) (now refs) (now rows) named used many name t ⌝ }
-    ensures { λ r. ⌜ Rule choose-1 (now (file .entry)) (now (names .entry)) (now (refs .entry)) (now (rows .entry)) named used many name t r ⌝ }
+    ensures { λ r. ⌜ Rule choose-1 (now (file .entry)) (now (names .entry)) (now (refs .entry)) (now (rows .entry)) named used
+        many name t r ⌝ }
 {
     let Arguments::Are(left, _) = op_two(refs, rows, named, used, many, t, IFF) else {
         return Tried::No;
@@ -349,7 +358,8 @@ fn rule_2(
     t: usize,
 ) -> Tried
     requires { ⌜ Of-tables (now file) (now names) (now refs) (now rows) named used many name t ⌝ }
-    ensures { λ r. ⌜ Rule choose-2 (now (file .entry)) (now (names .entry)) (now (refs .entry)) (now (rows .entry)) named used many name t r ⌝ }
+    ensures { λ r. ⌜ Rule choose-2 (now (file .entry)) (now (names .entry)) (now (refs .entry)) (now (rows .entry)) named used
+        many name t r ⌝ }
 {
     if !name_starts(file, names, named, name, b"assumption_") {
         return Tried::No;
@@ -370,7 +380,8 @@ fn rule_3(
     t: usize,
 ) -> Tried
     requires { ⌜ Of-tables (now file) (now names) (now refs) (now rows) named used many name t ⌝ }
-    ensures { λ r. ⌜ Rule choose-3 (now (file .entry)) (now (names .entry)) (now (refs .entry)) (now (rows .entry)) named used many name t r ⌝ }
+    ensures { λ r. ⌜ Rule choose-3 (now (file .entry)) (now (names .entry)) (now (refs .entry)) (now (rows .entry)) named used
+        many name t r ⌝ }
 {
     let Arguments::Are(_, ty) = call_two(names, refs, rows, named, used, many, t, HAS_TYPE) else {
         return Tried::No;
@@ -403,7 +414,8 @@ fn rule_4(
     t: usize,
 ) -> Tried
     requires { ⌜ Of-tables (now file) (now names) (now refs) (now rows) named used many name t ⌝ }
-    ensures { λ r. ⌜ Rule choose-4 (now (file .entry)) (now (names .entry)) (now (refs .entry)) (now (rows .entry)) named used many name t r ⌝ }
+    ensures { λ r. ⌜ Rule choose-4 (now (file .entry)) (now (names .entry)) (now (refs .entry)) (now (rows .entry)) named used
+        many name t r ⌝ }
 {
     let Argument::Is(applied) = call_one(names, refs, rows, named, used, many, t, VALID) else {
         return Tried::No;
@@ -439,7 +451,8 @@ fn rule_5(
     t: usize,
 ) -> Tried
     requires { ⌜ Of-tables (now file) (now names) (now refs) (now rows) named used many name t ⌝ }
-    ensures { λ r. ⌜ Rule choose-5 (now (file .entry)) (now (names .entry)) (now (refs .entry)) (now (rows .entry)) named used many name t r ⌝ }
+    ensures { λ r. ⌜ Rule choose-5 (now (file .entry)) (now (names .entry)) (now (refs .entry)) (now (rows .entry)) named used
+        many name t r ⌝ }
 {
     if let Argument::Is(first) = call_one(names, refs, rows, named, used, many, t, VALID) {
         return Tried::Yes(Choice::One(first));
@@ -469,7 +482,8 @@ fn rule_6(
     t: usize,
 ) -> Tried
     requires { ⌜ Of-tables (now file) (now names) (now refs) (now rows) named used many name t ⌝ }
-    ensures { λ r. ⌜ Rule choose-6 (now (file .entry)) (now (names .entry)) (now (refs .entry)) (now (rows .entry)) named used many name t r ⌝ }
+    ensures { λ r. ⌜ Rule choose-6 (now (file .entry)) (now (names .entry)) (now (refs .entry)) (now (rows .entry)) named used
+        many name t r ⌝ }
 {
     let Arguments::Are(_, right) = op_two(refs, rows, named, used, many, t, EQ) else {
         return Tried::No;
@@ -502,7 +516,8 @@ fn rule_7(
     t: usize,
 ) -> Tried
     requires { ⌜ Of-tables (now file) (now names) (now refs) (now rows) named used many name t ⌝ }
-    ensures { λ r. ⌜ Rule choose-7 (now (file .entry)) (now (names .entry)) (now (refs .entry)) (now (rows .entry)) named used many name t r ⌝ }
+    ensures { λ r. ⌜ Rule choose-7 (now (file .entry)) (now (names .entry)) (now (refs .entry)) (now (rows .entry)) named used
+        many name t r ⌝ }
 {
     if !is_op(rows, t, AND) {
         return Tried::No;
@@ -523,7 +538,8 @@ fn rule_8(
     t: usize,
 ) -> Tried
     requires { ⌜ Of-tables (now file) (now names) (now refs) (now rows) named used many name t ⌝ }
-    ensures { λ r. ⌜ Rule choose-8 (now (file .entry)) (now (names .entry)) (now (refs .entry)) (now (rows .entry)) named used many name t r ⌝ }
+    ensures { λ r. ⌜ Rule choose-8 (now (file .entry)) (now (names .entry)) (now (refs .entry)) (now (rows .entry)) named used
+        many name t r ⌝ }
 {
     let Arguments::Are(left, _) = op_two(refs, rows, named, used, many, t, EQ) else {
         return Tried::No;
@@ -547,7 +563,8 @@ fn rule_9(
     t: usize,
 ) -> Tried
     requires { ⌜ Of-tables (now file) (now names) (now refs) (now rows) named used many name t ⌝ }
-    ensures { λ r. ⌜ Rule choose-9 (now (file .entry)) (now (names .entry)) (now (refs .entry)) (now (rows .entry)) named used many name t r ⌝ }
+    ensures { λ r. ⌜ Rule choose-9 (now (file .entry)) (now (names .entry)) (now (refs .entry)) (now (rows .entry)) named used
+        many name t r ⌝ }
 {
     let Arguments::Are(left, right) = op_two(refs, rows, named, used, many, t, IFF) else {
         return Tried::No;
@@ -574,7 +591,8 @@ fn rule_10(
     t: usize,
 ) -> Tried
     requires { ⌜ Of-tables (now file) (now names) (now refs) (now rows) named used many name t ⌝ }
-    ensures { λ r. ⌜ Rule choose-10 (now (file .entry)) (now (names .entry)) (now (refs .entry)) (now (rows .entry)) named used many name t r ⌝ }
+    ensures { λ r. ⌜ Rule choose-10 (now (file .entry)) (now (names .entry)) (now (refs .entry)) (now (rows .entry)) named used
+        many name t r ⌝ }
 {
     let Arguments::Are(left, right) = op_two(refs, rows, named, used, many, t, EQ) else {
         return Tried::No;
@@ -595,7 +613,8 @@ fn rule_11(
     t: usize,
 ) -> Tried
     requires { ⌜ Of-tables (now file) (now names) (now refs) (now rows) named used many name t ⌝ }
-    ensures { λ r. ⌜ Rule choose-11 (now (file .entry)) (now (names .entry)) (now (refs .entry)) (now (rows .entry)) named used many name t r ⌝ }
+    ensures { λ r. ⌜ Rule choose-11 (now (file .entry)) (now (names .entry)) (now (refs .entry)) (now (rows .entry)) named used
+        many name t r ⌝ }
 {
     if !is_op(rows, t, TRUE) {
         return Tried::No;
@@ -615,8 +634,10 @@ fn maybe_add_ambient(
     name: usize,
     t: usize,
 ) -> Choice
-    requires { ⌜ Of-tables (now file) (now names) (now refs) (now rows) named used many name t × (groups-at (now rows) t ≡ 0) ⌝ }
-    ensures { λ r. ⌜ Chosen ambient-choice maybe-add-ambient (now (file .entry)) (now (names .entry)) (now (refs .entry)) (now (rows .entry)) named used many name t r ⌝ }
+    requires { ⌜ Of-tables (now file) (now names) (now refs) (now rows) named used many name t
+        × (groups-at (now rows) t ≡ 0) ⌝ }
+    ensures { λ r. ⌜ Chosen ambient-choice maybe-add-ambient (now (file .entry)) (now (names .entry)) (now (refs .entry))
+        (now (rows .entry)) named used many name t r ⌝ }
 {
     if let Tried::Yes(chosen) = rule_1(file, names, refs, rows, named, used, many, name, t) {
         return chosen;
@@ -667,7 +688,8 @@ pub fn summarize_kind(
     t: usize,
 ) -> Choice
     requires { ⌜ Of-tables (now file) (now names) (now refs) (now rows) named used many name t ⌝ }
-    ensures { λ r. ⌜ Chosen kind-choice summarize-kind (now (file .entry)) (now (names .entry)) (now (refs .entry)) (now (rows .entry)) named used many name t r ⌝ }
+    ensures { λ r. ⌜ Chosen kind-choice summarize-kind (now (file .entry)) (now (names .entry)) (now (refs .entry))
+        (now (rows .entry)) named used many name t r ⌝ }
 {
     if terms::group_count(rows, t) == 0 {
         return maybe_add_ambient(file, names, refs, rows, named, used, many, name, t);

@@ -42,7 +42,8 @@ fn meet(run: &mut [u32], n: usize, round: usize)
 
 // Meets the names of a part of the uses.
 pub fn meet_part(out: &[u32], run: &mut [u32], a: usize, e: usize, round: usize)
-    requires { ⌜ (a ≤ e) × (e ≤ length (now out)) × ((i : ℕ) → a ≤ i → i < e → getD (now out) i 0 < length (now run)) × (round < 4294967296) ⌝ }
+    requires { ⌜ (a ≤ e) × (e ≤ length (now out)) × ((i : ℕ) → a ≤ i → i < e → getD (now out) i 0 < length (now run))
+        × (round < 4294967296) ⌝ }
     ensures { λ r. ⌜ now (run .exit) ≡ marks round (now (run .entry)) (part (now (out .entry)) a e) ⌝ }
 {
     let mut i = a;
@@ -62,8 +63,10 @@ fn open_macro(
     n: usize,
     round: usize,
 )
-    requires { ⌜ Laid (now names) (now recs) (now out) k × (n < k .named) × (most-names ≤ length (now run)) × (round < 4294967296) ⌝ }
-    ensures { λ r. ⌜ now (run .exit) ≡ marks round (now (run .entry)) (opens-at (now (recs .entry)) (now (out .entry)) (macro-at (now (names .entry)) n)) ⌝ }
+    requires { ⌜ Laid (now names) (now recs) (now out) k × (n < k .named) × (most-names ≤ length (now run))
+        × (round < 4294967296) ⌝ }
+    ensures { λ r. ⌜ now (run .exit) ≡ marks round (now (run .entry))
+        (opens-at (now (recs .entry)) (now (out .entry)) (macro-at (now (names .entry)) n)) ⌝ }
 {
     let word = words::at(names, records::MACRO + n);
     if word == 0 {
@@ -88,8 +91,10 @@ fn meet_record(
     i: usize,
     round: usize,
 )
-    requires { ⌜ Laid (now names) (now recs) (now out) k × (i < k .records) × (most-names ≤ length (now run)) × (round < 4294967296) ⌝ }
-    ensures { λ r. ⌜ now (run .exit) ≡ marks round (now (run .entry)) (met-by (now (names .entry)) (now (recs .entry)) (now (out .entry)) k i) ⌝ }
+    requires { ⌜ Laid (now names) (now recs) (now out) k × (i < k .records) × (most-names ≤ length (now run))
+        × (round < 4294967296) ⌝ }
+    ensures { λ r. ⌜ now (run .exit) ≡ marks round (now (run .entry))
+        (met-by (now (names .entry)) (now (recs .entry)) (now (out .entry)) k i) ⌝ }
 {
     let a = words::at(recs, records::USES_START + i);
     let e = words::at(recs, records::USES_END + i);
@@ -105,7 +110,8 @@ fn meet_record(
 // The place after the disjunct that the entry at `i` is in.
 fn past(out: &[u32], i: usize, e: usize) -> usize
     requires { ⌜ (i ≤ e) × (e ≤ length (now out)) ⌝ }
-    ensures { λ r. ⌜ (i ≤ r) × (r ≤ e) × ((w : List ℕ) → fires-in w false (part (now (out .entry)) i e) ≡ fires-in w true (part (now (out .entry)) r e)) ⌝ }
+    ensures { λ r. ⌜ (i ≤ r) × (r ≤ e) × ((w : List ℕ) → fires-in w false (part (now (out .entry)) i e)
+        ≡ fires-in w true (part (now (out .entry)) r e)) ⌝ }
 {
     let mut j = i;
     while j < e {
@@ -207,8 +213,10 @@ impl Scan {
 
     // Puts the records that round 1 scans behind the worklist.
     fn add_roots(self, recs: &[u32], run: &mut [u32], k: Counts) -> Scan
-        requires { ⌜ (k .records ≤ most-records) × (working-words ≤ length (now recs)) × (run-end ≤ length (now run)) × (self .to + k .records ≤ work-room) ⌝ }
-        ensures { λ r. ⌜ going r (now (run .exit)) ≡ pushed (starts-at (now (recs .entry)) k) (k .records) (going self (now (run .entry))) ⌝ }
+        requires { ⌜ (k .records ≤ most-records) × (working-words ≤ length (now recs)) × (run-end ≤ length (now run))
+            × (self .to + k .records ≤ work-room) ⌝ }
+        ensures { λ r. ⌜ going r (now (run .exit)) ≡ pushed (starts-at (now (recs .entry)) k) (k .records)
+            (going self (now (run .entry))) ⌝ }
     {
         let count = k.records;
         let mut to = self.to;
@@ -242,7 +250,8 @@ impl Scan {
         e: usize,
     ) -> Scan
         requires { ⌜ Laid (now names) (now recs) (now out) k × Steady (going self (now run)) × (e < k .entries) ⌝ }
-        ensures { λ r. ⌜ Goes (now (names .entry)) (now (recs .entry)) (now (out .entry)) k (λ h g. visit h g e) self (now (run .entry)) r (now (run .exit)) ⌝ }
+        ensures { λ r. ⌜ Goes (now (names .entry)) (now (recs .entry)) (now (out .entry)) k (λ h g. visit h g e) self
+            (now (run .entry)) r (now (run .exit)) ⌝ }
     {
         let i = words::at(out, records::FACT + e);
         let a = triggers::ENTRIES + words::at(recs, records::ENTRIES_START + i);
@@ -287,8 +296,10 @@ impl Scan {
         k: Counts,
         n: usize,
     ) -> Scan
-        requires { ⌜ Laid (now names) (now recs) (now out) k × Steady (going self (now run)) × (self .visits ≤ 2 * most-entries) × (n < k .named) ⌝ }
-        ensures { λ r. ⌜ Goes (now (names .entry)) (now (recs .entry)) (now (out .entry)) k (λ h g. visits-of h g (waiting h n (k .entries))) self (now (run .entry)) r (now (run .exit)) ⌝ }
+        requires { ⌜ Laid (now names) (now recs) (now out) k × Steady (going self (now run)) × (self .visits ≤ 2 * most-entries)
+            × (n < k .named) ⌝ }
+        ensures { λ r. ⌜ Goes (now (names .entry)) (now (recs .entry)) (now (out .entry)) k
+            (λ h g. visits-of h g (waiting h n (k .entries))) self (now (run .entry)) r (now (run .exit)) ⌝ }
     {
         let mut s = self;
         let mut next = words::at(names, records::FIRST + n);
@@ -302,7 +313,8 @@ impl Scan {
     // Visits the entries of the names first met in this round.
     fn visit_new(self, names: &[u32], recs: &[u32], out: &[u32], run: &mut [u32], k: Counts) -> Scan
         requires { ⌜ Laid (now names) (now recs) (now out) k × Steady (going self (now run)) × (self .visits ≤ most-entries) ⌝ }
-        ensures { λ r. ⌜ Goes (now (names .entry)) (now (recs .entry)) (now (out .entry)) k visit-phase self (now (run .entry)) r (now (run .exit)) ⌝ }
+        ensures { λ r. ⌜ Goes (now (names .entry)) (now (recs .entry)) (now (out .entry)) k visit-phase self (now (run .entry))
+            r (now (run .exit)) ⌝ }
     {
         let round = self.rounds;
         let named = k.named;
@@ -328,8 +340,10 @@ impl Scan {
         run: &mut [u32],
         k: Counts,
     ) -> Scan
-        requires { ⌜ Laid (now names) (now recs) (now out) k × Ready (held-of (now names) (now recs) (now out) k) (going self (now run)) ⌝ }
-        ensures { λ r. ⌜ Goes (now (names .entry)) (now (recs .entry)) (now (out .entry)) k met-phase self (now (run .entry)) r (now (run .exit)) ⌝ }
+        requires { ⌜ Laid (now names) (now recs) (now out) k
+            × Ready (held-of (now names) (now recs) (now out) k) (going self (now run)) ⌝ }
+        ensures { λ r. ⌜ Goes (now (names .entry)) (now (recs .entry)) (now (out .entry)) k met-phase self (now (run .entry)) r
+            (now (run .exit)) ⌝ }
     {
         let from = self.from;
         let to = self.to;
@@ -351,8 +365,10 @@ impl Scan {
 
     // A round: all that it scans is met, then the entries of the names first met in it are visited.
     fn round(self, names: &[u32], recs: &[u32], out: &[u32], run: &mut [u32], k: Counts) -> Scan
-        requires { ⌜ Laid (now names) (now recs) (now out) k × Ready (held-of (now names) (now recs) (now out) k) (going self (now run)) ⌝ }
-        ensures { λ r. ⌜ Goes (now (names .entry)) (now (recs .entry)) (now (out .entry)) k round self (now (run .entry)) r (now (run .exit)) ⌝ }
+        requires { ⌜ Laid (now names) (now recs) (now out) k
+            × Ready (held-of (now names) (now recs) (now out) k) (going self (now run)) ⌝ }
+        ensures { λ r. ⌜ Goes (now (names .entry)) (now (recs .entry)) (now (out .entry)) k round self (now (run .entry)) r
+            (now (run .exit)) ⌝ }
     {
         let met = self.meet_items(names, recs, out, run, k);
         met.visit_new(names, recs, out, run, k)
@@ -360,8 +376,10 @@ impl Scan {
 
     // Round after round, to the one that triggers no fact.
     fn go_on(self, names: &[u32], recs: &[u32], out: &[u32], run: &mut [u32], k: Counts) -> Scan
-        requires { ⌜ Laid (now names) (now recs) (now out) k × Ready (held-of (now names) (now recs) (now out) k) (going self (now run)) ⌝ }
-        ensures { λ r. ⌜ Rounds (held-of (now (names .entry)) (now (recs .entry)) (now (out .entry)) k) (going self (now (run .entry))) (going r (now (run .exit))) ⌝ }
+        requires { ⌜ Laid (now names) (now recs) (now out) k
+            × Ready (held-of (now names) (now recs) (now out) k) (going self (now run)) ⌝ }
+        ensures { λ r. ⌜ Rounds (held-of (now (names .entry)) (now (recs .entry)) (now (out .entry)) k)
+            (going self (now (run .entry))) (going r (now (run .exit))) ⌝ }
     {
         let mut s = self;
         loop {
@@ -383,7 +401,8 @@ pub fn run_ask(
     k: Counts,
 ) -> Scan
     requires { ⌜ Filled (now file) (now names) (now recs) (now out) k × (run-end ≤ length (now run)) ⌝ }
-    ensures { λ r. ⌜ Ran (now (file .entry)) (now (names .entry)) (now (recs .entry)) (now (out .entry)) k (now (run .entry)) (now (run .exit)) r ⌝ }
+    ensures { λ r. ⌜ Ran (now (file .entry)) (now (names .entry)) (now (recs .entry)) (now (out .entry)) k (now (run .entry))
+        (now (run .exit)) r ⌝ }
 {
     let begun = Scan::start(run);
     let rooted = begun.add_roots(recs, run, k);

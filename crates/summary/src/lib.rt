@@ -75,7 +75,8 @@ fn file_token(
     at: usize,
 ) -> Sorted
     requires { ⌜ Table (now file) (now names) named × (n < named) × (at ≤ entries-end) × (working-words ≤ length (now out)) ⌝ }
-    ensures { λ r. ⌜ Tokens (now (file .entry)) (now (names .entry)) (now (out .entry)) (now (names .exit)) (now (out .exit)) named n at r ⌝ }
+    ensures { λ r. ⌜ Tokens (now (file .entry)) (now (names .entry)) (now (out .entry)) (now (names .exit)) (now (out .exit))
+        named n at r ⌝ }
 {
     let a = words::at(names, n);
     let e = a + words::at(names, names::LENGTH + n);
@@ -117,8 +118,12 @@ fn file_refinement(
     at: usize,
 ) -> Sorted
     requires { ⌜ Rows (now refs) (now rows) used many named × Begun (now names) (now rows) (now out) mark at × (t < many) ⌝ }
-    ensures kinds { λ r. ⌜ Sorts (now (names .entry)) (now (rows .entry)) (now (out .entry)) (now (names .exit)) (now (rows .exit)) (now (out .exit)) named mark at (λ exclude name. refinement-kind exclude (terms-of name (now (refs .entry)) (now (rows .entry)) used many) t) r ⌝ }
-    ensures words { λ r. ⌜ Sorts-as (file-refinement (now (refs .entry)) used many mark (filing (now (names .entry)) (now (rows .entry)) (now (out .entry)) (mark + 1) at) t) (now (names .exit)) (now (rows .exit)) (now (out .exit)) mark at r ⌝ }
+    ensures kinds { λ r. ⌜ Sorts (now (names .entry)) (now (rows .entry)) (now (out .entry)) (now (names .exit))
+        (now (rows .exit)) (now (out .exit)) named mark at
+        (λ exclude name. refinement-kind exclude (terms-of name (now (refs .entry)) (now (rows .entry)) used many) t) r ⌝ }
+    ensures words { λ r. ⌜ Sorts-as (file-refinement (now (refs .entry)) used many mark
+        (filing (now (names .entry)) (now (rows .entry)) (now (out .entry)) (mark + 1) at) t) (now (names .exit))
+        (now (rows .exit)) (now (out .exit)) mark at r ⌝ }
 {
     if triggers::is_empty(names, refs, rows, out, named, used, many, t, mark, at) {
         return Sorted::Kind(AsumKind::Ambient(true), at, named);
@@ -143,8 +148,13 @@ fn file_parts(
     at: usize,
 ) -> Sorted
     requires { ⌜ Rows (now refs) (now rows) used many named × Begun (now names) (now rows) (now out) mark at × (t < many) ⌝ }
-    ensures kinds { λ r. ⌜ Sorts (now (names .entry)) (now (rows .entry)) (now (out .entry)) (now (names .exit)) (now (rows .exit)) (now (out .exit)) named mark at (λ exclude name. parts-kind exclude (terms-of name (now (refs .entry)) (now (rows .entry)) used many) t) r ⌝ }
-    ensures words { λ r. ⌜ Sorts-as (file-parts (now (refs .entry)) used many (filing (now (names .entry)) (now (rows .entry)) (now (out .entry)) (mark + 1) at) (terms-of-words (part (now (refs .entry)) (row-start (now (rows .entry)) t) (row-end (now (rows .entry)) used many t)))) (now (names .exit)) (now (rows .exit)) (now (out .exit)) mark at r ⌝ }
+    ensures kinds { λ r. ⌜ Sorts (now (names .entry)) (now (rows .entry)) (now (out .entry)) (now (names .exit))
+        (now (rows .exit)) (now (out .exit)) named mark at
+        (λ exclude name. parts-kind exclude (terms-of name (now (refs .entry)) (now (rows .entry)) used many) t) r ⌝ }
+    ensures words { λ r. ⌜ Sorts-as (file-parts (now (refs .entry)) used many
+        (filing (now (names .entry)) (now (rows .entry)) (now (out .entry)) (mark + 1) at)
+        (terms-of-words (part (now (refs .entry)) (row-start (now (rows .entry)) t) (row-end (now (rows .entry)) used many t))))
+        (now (names .exit)) (now (rows .exit)) (now (out .exit)) mark at r ⌝ }
 {
     let a = terms::start(rows, t);
     let e = terms::end(rows, used, many, t);
@@ -180,9 +190,13 @@ fn file_choice(
     mark: usize,
     at: usize,
 ) -> Sorted
-    requires { ⌜ Tables (now file) (now names) (now refs) (now rows) named used many × Within named many choice × Begun (now names) (now rows) (now out) mark at ⌝ }
-    ensures kinds { λ r. ⌜ Chooses (now (file .entry)) (now (names .entry)) (now (refs .entry)) (now (rows .entry)) (now (out .entry)) (now (names .exit)) (now (rows .exit)) (now (out .exit)) named used many mark at choice r ⌝ }
-    ensures words { λ r. ⌜ Sorts-as (file-choice (now (refs .entry)) used many (now (file .entry)) named mark (filing (now (names .entry)) (now (rows .entry)) (now (out .entry)) (mark + 1) at) choice) (now (names .exit)) (now (rows .exit)) (now (out .exit)) mark at r ⌝ }
+    requires { ⌜ Tables (now file) (now names) (now refs) (now rows) named used many × Within named many choice
+        × Begun (now names) (now rows) (now out) mark at ⌝ }
+    ensures kinds { λ r. ⌜ Chooses (now (file .entry)) (now (names .entry)) (now (refs .entry)) (now (rows .entry))
+        (now (out .entry)) (now (names .exit)) (now (rows .exit)) (now (out .exit)) named used many mark at choice r ⌝ }
+    ensures words { λ r. ⌜ Sorts-as (file-choice (now (refs .entry)) used many (now (file .entry)) named mark
+        (filing (now (names .entry)) (now (rows .entry)) (now (out .entry)) (mark + 1) at) choice) (now (names .exit))
+        (now (rows .exit)) (now (out .exit)) mark at r ⌝ }
 {
     match choice {
         Choice::One(t) => filed(
@@ -236,8 +250,11 @@ fn finish(
     mark: usize,
     uses: usize,
 ) -> Summarized
-    requires { ⌜ Rows (now refs) (now rows) used many named × (working-words ≤ length (now names)) × (t < many) × Fresh (now names) (now rows) mark × (mark + 1 < word-limit) × (entries-base ≤ end) × (uses ≤ most-uses) × (working-words ≤ length (now out)) ⌝ }
-    ensures { λ r. ⌜ Finishes (now (names .entry)) (now (refs .entry)) (now (rows .entry)) (now (out .entry)) (now (names .exit)) (now (rows .exit)) (now (out .exit)) named total used many t kind end mark uses r ⌝ }
+    requires { ⌜ Rows (now refs) (now rows) used many named × (working-words ≤ length (now names)) × (t < many)
+        × Fresh (now names) (now rows) mark × (mark + 1 < word-limit) × (entries-base ≤ end) × (uses ≤ most-uses)
+        × (working-words ≤ length (now out)) ⌝ }
+    ensures { λ r. ⌜ Finishes (now (names .entry)) (now (refs .entry)) (now (rows .entry)) (now (out .entry))
+        (now (names .exit)) (now (rows .exit)) (now (out .exit)) named total used many t kind end mark uses r ⌝ }
 {
     match gather::gather_term(
         names,
@@ -280,10 +297,17 @@ pub fn summarize_assumption(
     uses: usize,
 ) -> Summarized
     requires { ⌜ Asked (now file) (now names) (now refs) (now rows) (now out) named used many name t mark entries uses ⌝ }
-    ensures answer { λ r. ⌜ ((exclude : List Name) → Excludes exclude (now (file .entry)) (now (names .entry)) named → r ≡ limited (fact-summary exclude (now (file .entry)) (now (names .entry)) (now (refs .entry)) (now (rows .entry)) named used many name t mark entries uses)) ⌝ }
-    ensures lists { λ r. ⌜ ((exclude : List Name) → Excludes exclude (now (file .entry)) (now (names .entry)) named → (s : Summary) → r ≡ Summarized.Done s → Lists exclude (now (file .entry)) (now (names .entry)) (now (refs .entry)) (now (rows .entry)) named used many name t (now (names .exit)) (now (rows .exit)) (now (out .exit)) entries uses s) ⌝ }
-    ensures slices { λ r. ⌜ Slices (now (names .entry)) (now (rows .entry)) (now (out .entry)) (now (names .exit)) (now (rows .exit)) (now (out .exit)) entries uses ⌝ }
-    ensures words { λ r. ⌜ Written (file-fact (now (refs .entry)) used many (now (file .entry)) (now (names .entry)) (now (rows .entry)) (now (out .entry)) named name t mark entries uses) (now (names .exit)) (now (rows .exit)) (now (out .exit)) ⌝ }
+    ensures answer { λ r. ⌜ ((exclude : List Name) → Excludes exclude (now (file .entry)) (now (names .entry)) named → r
+        ≡ limited (fact-summary exclude (now (file .entry)) (now (names .entry)) (now (refs .entry)) (now (rows .entry)) named
+        used many name t mark entries uses)) ⌝ }
+    ensures lists { λ r. ⌜ ((exclude : List Name) → Excludes exclude (now (file .entry)) (now (names .entry)) named
+        → (s : Summary) → r ≡ Summarized.Done s → Lists exclude (now (file .entry)) (now (names .entry)) (now (refs .entry))
+        (now (rows .entry)) named used many name t (now (names .exit)) (now (rows .exit)) (now (out .exit)) entries uses s) ⌝ }
+    ensures slices { λ r. ⌜ Slices (now (names .entry)) (now (rows .entry)) (now (out .entry)) (now (names .exit))
+        (now (rows .exit)) (now (out .exit)) entries uses ⌝ }
+    ensures words { λ r. ⌜ Written (file-fact (now (refs .entry)) used many (now (file .entry)) (now (names .entry))
+        (now (rows .entry)) (now (out .entry)) named name t mark entries uses) (now (names .exit)) (now (rows .exit))
+        (now (out .exit)) ⌝ }
 {
     let choice = rules::summarize_kind(file, names, refs, rows, named, used, many, name, t);
     let at = triggers::ENTRIES + entries;

@@ -29,7 +29,10 @@ module _ {refs rows : List ℕ} {used many named t : ℕ} (r : Rows refs rows us
     groups-before (suc g) = group-after g (groups-before g)
       where
         group-after : (g : ℕ) → (p : ℕ) × Before refs (row-start rows t + 1) (row-end rows used many t) g p × (concat (groups-of-words (drop 1 (part refs (row-start rows t) (row-end rows used many t))) g) ≡ terms-of-words (part refs (row-start rows t + 1) p))
-            → (p : ℕ) × Before refs (row-start rows t + 1) (row-end rows used many t) (suc g) p × (concat (groups-of-words (drop 1 (part refs (row-start rows t) (row-end rows used many t))) g ++ (group-of-words (drop 1 (part refs (row-start rows t) (row-end rows used many t))) g ∷ [])) ≡ terms-of-words (part refs (row-start rows t + 1) p))
+            → (p : ℕ) × Before refs (row-start rows t + 1) (row-end rows used many t) (suc g) p
+            × (concat (groups-of-words (drop 1 (part refs (row-start rows t) (row-end rows used many t))) g
+            ++ (group-of-words (drop 1 (part refs (row-start rows t) (row-end rows used many t))) g ∷ []))
+            ≡ terms-of-words (part refs (row-start rows t + 1) p))
         group-after g (p, b, e) =
             let n : ℕ = p + group-run g (part refs p (row-end rows used many t)) in
             let m = group-next r l q b in

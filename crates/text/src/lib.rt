@@ -164,7 +164,8 @@ pub fn ends_with(s: &[u8], a: usize, e: usize, suffix: &[u8]) -> bool
 // The byte order of the parts from `a` up to `e` and from `b` up to `f`, a prefix first, and how many bytes they share at their
 // starts. The first `from` bytes are known to be shared, and are not looked at.
 pub fn compare_from(s: &[u8], a: usize, e: usize, b: usize, f: usize, from: usize) -> Comparison
-    requires { ⌜ (a ≤ e) × (e ≤ length (now s)) × (b ≤ f) × (f ≤ length (now s)) × (from ≤ shared (part (now s) a e) (part (now s) b f)) ⌝ }
+    requires { ⌜ (a ≤ e) × (e ≤ length (now s)) × (b ≤ f) × (f ≤ length (now s))
+        × (from ≤ shared (part (now s) a e) (part (now s) b f)) ⌝ }
     ensures { λ r. ⌜ r ≡ comparison (part (now (s .entry)) a e) (part (now (s .entry)) b f) ⌝ }
 {
     let first_size = e - a;
@@ -223,7 +224,8 @@ fn sized_name(at: usize, stop: usize, end: usize) -> FieldStep
 
 // The number from `at` up to `stop` in a line that ends at `end`, digits of the value `n`: one digit at least, no zero in front.
 fn valued_number(s: &[u8], at: usize, stop: usize, end: usize, n: u32, limit: u32) -> NumberStep
-    requires { ⌜ (at ≤ stop) × (stop ≤ length (now s)) × (length (now s) ≤ 65535) × (valued 0 (part (now s) at stop) ≡ some n) ⌝ }
+    requires { ⌜ (at ≤ stop) × (stop ≤ length (now s)) × (length (now s) ≤ 65535)
+        × (valued 0 (part (now s) at stop) ≡ some n) ⌝ }
     ensures { λ r. ⌜ r ≡ at-most limit (record { at = stop + 1; end = end }) (number (part (now (s .entry)) at stop)) ⌝ }
 {
     if stop == at {

@@ -33,7 +33,8 @@ pub enum Filed {
 
 // Ends the disjunct whose names stand from `at` up to `end`: its last entry is marked, an empty disjunct takes one.
 fn close(out: &mut [u32], at: usize, end: usize) -> Filed
-    requires { ⌜ (at ≤ end) × (end ≤ entries-end) × (entries-end ≤ length (now out)) × (at < end → getD (now out) (end - 1) 0 < most-names) ⌝ }
+    requires { ⌜ (at ≤ end) × (end ≤ entries-end) × (entries-end ≤ length (now out))
+        × (at < end → getD (now out) (end - 1) 0 < most-names) ⌝ }
     ensures { λ r. ⌜ Closes (now (out .entry)) (now (out .exit)) at end r ⌝ }
 {
     if at < end {
@@ -62,10 +63,17 @@ fn file_list(
     mark: usize,
     at: usize,
 ) -> Filed
-    requires { ⌜ Rows (now refs) (now rows) used many named × Opened (now names) (now rows) (now out) mark at × (a ≤ e) × (e ≤ used) × ((i : ℕ) → a ≤ i → i < e → term-of (getD (now refs) i 0) < many) ⌝ }
-    ensures sets { λ r. ⌜ ((exclude : List Name) (name : ℕ → Name) → Named exclude name (now (names .entry)) named → Files name named (group-names exclude (terms-of name (now (refs .entry)) (now (rows .entry)) used many) (terms-of-words (part (now (refs .entry)) a e)) ∷ []) at (now (out .exit)) r) ⌝ }
-    ensures slices { λ r. ⌜ Filled (now (names .entry)) (now (rows .entry)) (now (out .entry)) (now (names .exit)) (now (rows .exit)) (now (out .exit)) mark at r ⌝ }
-    ensures words { λ r. ⌜ Files-as (file-list (now (refs .entry)) used many (filing (now (names .entry)) (now (rows .entry)) (now (out .entry)) mark at) (terms-of-words (part (now (refs .entry)) a e))) 1 (now (names .exit)) (now (rows .exit)) (now (out .exit)) mark at r ⌝ }
+    requires { ⌜ Rows (now refs) (now rows) used many named × Opened (now names) (now rows) (now out) mark at × (a ≤ e)
+        × (e ≤ used) × ((i : ℕ) → a ≤ i → i < e → term-of (getD (now refs) i 0) < many) ⌝ }
+    ensures sets { λ r. ⌜ ((exclude : List Name) (name : ℕ → Name) → Named exclude name (now (names .entry)) named
+        → Files name named (group-names exclude (terms-of name (now (refs .entry)) (now (rows .entry)) used many)
+        (terms-of-words (part (now (refs .entry)) a e)) ∷ []) at (now (out .exit)) r) ⌝ }
+    ensures slices { λ r. ⌜ Filled (now (names .entry)) (now (rows .entry)) (now (out .entry)) (now (names .exit))
+        (now (rows .exit)) (now (out .exit)) mark at r ⌝ }
+    ensures words { λ r. ⌜ Files-as (file-list (now (refs .entry)) used many
+        (filing (now (names .entry)) (now (rows .entry)) (now (out .entry)) mark at)
+        (terms-of-words (part (now (refs .entry)) a e))) 1 (now (names .exit)) (now (rows .exit)) (now (out .exit)) mark at
+        r ⌝ }
 {
     let Walked::Names(end) = gather::gather_list(
         names,
@@ -100,9 +108,14 @@ pub fn file_term(
     at: usize,
 ) -> Filed
     requires { ⌜ Rows (now refs) (now rows) used many named × Opened (now names) (now rows) (now out) mark at × (t < many) ⌝ }
-    ensures sets { λ r. ⌜ ((exclude : List Name) (name : ℕ → Name) → Named exclude name (now (names .entry)) named → Files name named (free-top-level-names exclude (terms-of name (now (refs .entry)) (now (rows .entry)) used many) t ∷ []) at (now (out .exit)) r) ⌝ }
-    ensures slices { λ r. ⌜ Filled (now (names .entry)) (now (rows .entry)) (now (out .entry)) (now (names .exit)) (now (rows .exit)) (now (out .exit)) mark at r ⌝ }
-    ensures words { λ r. ⌜ Files-as (file-list (now (refs .entry)) used many (filing (now (names .entry)) (now (rows .entry)) (now (out .entry)) mark at) (t ∷ [])) 1 (now (names .exit)) (now (rows .exit)) (now (out .exit)) mark at r ⌝ }
+    ensures sets { λ r. ⌜ ((exclude : List Name) (name : ℕ → Name) → Named exclude name (now (names .entry)) named
+        → Files name named (free-top-level-names exclude (terms-of name (now (refs .entry)) (now (rows .entry)) used many) t
+        ∷ []) at (now (out .exit)) r) ⌝ }
+    ensures slices { λ r. ⌜ Filled (now (names .entry)) (now (rows .entry)) (now (out .entry)) (now (names .exit))
+        (now (rows .exit)) (now (out .exit)) mark at r ⌝ }
+    ensures words { λ r. ⌜ Files-as (file-list (now (refs .entry)) used many
+        (filing (now (names .entry)) (now (rows .entry)) (now (out .entry)) mark at) (t ∷ [])) 1 (now (names .exit))
+        (now (rows .exit)) (now (out .exit)) mark at r ⌝ }
 {
     let Walked::Names(end) = gather::gather_term(
         names,
@@ -136,10 +149,17 @@ pub fn file_terms(
     mark: usize,
     at: usize,
 ) -> Filed
-    requires { ⌜ Rows (now refs) (now rows) used many named × Opened (now names) (now rows) (now out) mark at × (t < many) × (u < many) ⌝ }
-    ensures sets { λ r. ⌜ ((exclude : List Name) (name : ℕ → Name) → Named exclude name (now (names .entry)) named → Files name named (free-top-level-names exclude (terms-of name (now (refs .entry)) (now (rows .entry)) used many) t ∷ free-top-level-names exclude (terms-of name (now (refs .entry)) (now (rows .entry)) used many) u ∷ []) at (now (out .exit)) r) ⌝ }
-    ensures slices { λ r. ⌜ Filled (now (names .entry)) (now (rows .entry)) (now (out .entry)) (now (names .exit)) (now (rows .exit)) (now (out .exit)) mark at r ⌝ }
-    ensures words { λ r. ⌜ Files-as (file-list (now (refs .entry)) used many (file-list (now (refs .entry)) used many (filing (now (names .entry)) (now (rows .entry)) (now (out .entry)) mark at) (t ∷ [])) (u ∷ [])) 2 (now (names .exit)) (now (rows .exit)) (now (out .exit)) mark at r ⌝ }
+    requires { ⌜ Rows (now refs) (now rows) used many named × Opened (now names) (now rows) (now out) mark at × (t < many)
+        × (u < many) ⌝ }
+    ensures sets { λ r. ⌜ ((exclude : List Name) (name : ℕ → Name) → Named exclude name (now (names .entry)) named
+        → Files name named (free-top-level-names exclude (terms-of name (now (refs .entry)) (now (rows .entry)) used many) t
+        ∷ free-top-level-names exclude (terms-of name (now (refs .entry)) (now (rows .entry)) used many) u ∷ []) at
+        (now (out .exit)) r) ⌝ }
+    ensures slices { λ r. ⌜ Filled (now (names .entry)) (now (rows .entry)) (now (out .entry)) (now (names .exit))
+        (now (rows .exit)) (now (out .exit)) mark at r ⌝ }
+    ensures words { λ r. ⌜ Files-as (file-list (now (refs .entry)) used many
+        (file-list (now (refs .entry)) used many (filing (now (names .entry)) (now (rows .entry)) (now (out .entry)) mark at)
+        (t ∷ [])) (u ∷ [])) 2 (now (names .exit)) (now (rows .exit)) (now (out .exit)) mark at r ⌝ }
 {
     let Filed::Sets(_, middle) = file_term(names, refs, rows, out, named, used, many, t, mark, at)
     else {
@@ -171,8 +191,11 @@ struct Patterns {
 
 // Reads them from the rows; a term that is no `all` has none.
 fn pattern_groups(rows: &[u32], used: usize, many: usize, t: usize) -> Patterns
-    requires { ⌜ (working-words ≤ length (now rows)) × (many ≤ most-terms) × (t < many) × (bare-of (now rows) t < many) × (row-start (now rows) (bare-of (now rows) t) ≤ most-references) ⌝ }
-    ensures { λ r. ⌜ (r .count ≡ groups-at (now (rows .entry)) t) × (r .start ≡ row-start (now (rows .entry)) (bare-of (now (rows .entry)) t) + 1) × (r .end ≡ row-end (now (rows .entry)) used many (bare-of (now (rows .entry)) t)) ⌝ }
+    requires { ⌜ (working-words ≤ length (now rows)) × (many ≤ most-terms) × (t < many) × (bare-of (now rows) t < many)
+        × (row-start (now rows) (bare-of (now rows) t) ≤ most-references) ⌝ }
+    ensures { λ r. ⌜ (r .count ≡ groups-at (now (rows .entry)) t)
+        × (r .start ≡ row-start (now (rows .entry)) (bare-of (now (rows .entry)) t) + 1)
+        × (r .end ≡ row-end (now (rows .entry)) used many (bare-of (now (rows .entry)) t)) ⌝ }
 {
     let count = terms::group_count(rows, t);
     let u = terms::bare(rows, t);
@@ -195,9 +218,14 @@ pub fn triggers_of_term(
     at: usize,
 ) -> Filed
     requires { ⌜ Rows (now refs) (now rows) used many named × Opened (now names) (now rows) (now out) mark at × (t < many) ⌝ }
-    ensures sets { λ r. ⌜ ((exclude : List Name) (name : ℕ → Name) → Named exclude name (now (names .entry)) named → Files name named (triggers-of-term exclude (terms-of name (now (refs .entry)) (now (rows .entry)) used many) t) at (now (out .exit)) r) ⌝ }
-    ensures slices { λ r. ⌜ Filled (now (names .entry)) (now (rows .entry)) (now (out .entry)) (now (names .exit)) (now (rows .exit)) (now (out .exit)) mark at r ⌝ }
-    ensures words { λ r. ⌜ Files-as (file-groups (now (refs .entry)) used many (filing (now (names .entry)) (now (rows .entry)) (now (out .entry)) mark at) t) (groups-at (now (rows .entry)) t) (now (names .exit)) (now (rows .exit)) (now (out .exit)) mark at r ⌝ }
+    ensures sets { λ r. ⌜ ((exclude : List Name) (name : ℕ → Name) → Named exclude name (now (names .entry)) named
+        → Files name named (triggers-of-term exclude (terms-of name (now (refs .entry)) (now (rows .entry)) used many) t) at
+        (now (out .exit)) r) ⌝ }
+    ensures slices { λ r. ⌜ Filled (now (names .entry)) (now (rows .entry)) (now (out .entry)) (now (names .exit))
+        (now (rows .exit)) (now (out .exit)) mark at r ⌝ }
+    ensures words { λ r. ⌜ Files-as (file-groups (now (refs .entry)) used many
+        (filing (now (names .entry)) (now (rows .entry)) (now (out .entry)) mark at) t) (groups-at (now (rows .entry)) t)
+        (now (names .exit)) (now (rows .exit)) (now (out .exit)) mark at r ⌝ }
 {
     let p = pattern_groups(rows, used, many, t);
     let groups = p.count;
@@ -246,10 +274,18 @@ pub fn triggers_of_list(
     mark: usize,
     at: usize,
 ) -> Filed
-    requires { ⌜ Rows (now refs) (now rows) used many named × Opened (now names) (now rows) (now out) mark at × (a ≤ e) × (e ≤ used) × ((i : ℕ) → a ≤ i → i < e → term-of (getD (now refs) i 0) < many) ⌝ }
-    ensures sets { λ r. ⌜ ((exclude : List Name) (name : ℕ → Name) → Named exclude name (now (names .entry)) named → Files name named (collect (triggers-of-term exclude (terms-of name (now (refs .entry)) (now (rows .entry)) used many)) (terms-of-words (part (now (refs .entry)) a e))) at (now (out .exit)) r) ⌝ }
-    ensures slices { λ r. ⌜ Filled (now (names .entry)) (now (rows .entry)) (now (out .entry)) (now (names .exit)) (now (rows .exit)) (now (out .exit)) mark at r ⌝ }
-    ensures words { λ r. ⌜ Files-as (file-parts (now (refs .entry)) used many (filing (now (names .entry)) (now (rows .entry)) (now (out .entry)) mark at) (terms-of-words (part (now (refs .entry)) a e))) (sum (map (groups-at (now (rows .entry))) (terms-of-words (part (now (refs .entry)) a e)))) (now (names .exit)) (now (rows .exit)) (now (out .exit)) mark at r ⌝ }
+    requires { ⌜ Rows (now refs) (now rows) used many named × Opened (now names) (now rows) (now out) mark at × (a ≤ e)
+        × (e ≤ used) × ((i : ℕ) → a ≤ i → i < e → term-of (getD (now refs) i 0) < many) ⌝ }
+    ensures sets { λ r. ⌜ ((exclude : List Name) (name : ℕ → Name) → Named exclude name (now (names .entry)) named
+        → Files name named (collect (triggers-of-term exclude (terms-of name (now (refs .entry)) (now (rows .entry)) used many))
+        (terms-of-words (part (now (refs .entry)) a e))) at (now (out .exit)) r) ⌝ }
+    ensures slices { λ r. ⌜ Filled (now (names .entry)) (now (rows .entry)) (now (out .entry)) (now (names .exit))
+        (now (rows .exit)) (now (out .exit)) mark at r ⌝ }
+    ensures words { λ r. ⌜ Files-as (file-parts (now (refs .entry)) used many
+        (filing (now (names .entry)) (now (rows .entry)) (now (out .entry)) mark at)
+        (terms-of-words (part (now (refs .entry)) a e))) (sum
+        (map (groups-at (now (rows .entry))) (terms-of-words (part (now (refs .entry)) a e)))) (now (names .exit))
+        (now (rows .exit)) (now (out .exit)) mark at r ⌝ }
 {
     let mut end = at;
     let mut count = 0;
@@ -294,9 +330,14 @@ pub fn is_empty(
     at: usize,
 ) -> bool
     requires { ⌜ Rows (now refs) (now rows) used many named × Opened (now names) (now rows) (now out) mark at × (t < many) ⌝ }
-    ensures answer { λ r. ⌜ ((exclude : List Name) (name : ℕ → Name) → Named exclude name (now (names .entry)) named → r ≡ is-empty (triggers-of-term exclude (terms-of name (now (refs .entry)) (now (rows .entry)) used many) t)) ⌝ }
-    ensures tables { λ r. ⌜ Same-but name-mark-column most-names (now (names .entry)) (now (names .exit)) × Same-but row-mark-column most-terms (now (rows .entry)) (now (rows .exit)) × Fresh (now (names .exit)) (now (rows .exit)) (mark + 1) ⌝ }
-    ensures words { λ r. ⌜ Asks-as (ask-empty (now (refs .entry)) used many (now (names .entry)) (now (rows .entry)) t) (now (names .entry)) (now (rows .entry)) (now (out .entry)) (now (names .exit)) (now (rows .exit)) (now (out .exit)) mark r ⌝ }
+    ensures answer { λ r. ⌜ ((exclude : List Name) (name : ℕ → Name) → Named exclude name (now (names .entry)) named → r
+        ≡ is-empty (triggers-of-term exclude (terms-of name (now (refs .entry)) (now (rows .entry)) used many) t)) ⌝ }
+    ensures tables { λ r. ⌜ Same-but name-mark-column most-names (now (names .entry)) (now (names .exit))
+        × Same-but row-mark-column most-terms (now (rows .entry)) (now (rows .exit))
+        × Fresh (now (names .exit)) (now (rows .exit)) (mark + 1) ⌝ }
+    ensures words { λ r. ⌜ Asks-as (ask-empty (now (refs .entry)) used many (now (names .entry)) (now (rows .entry)) t)
+        (now (names .entry)) (now (rows .entry)) (now (out .entry)) (now (names .exit)) (now (rows .exit)) (now (out .exit))
+        mark r ⌝ }
 {
     let p = pattern_groups(rows, used, many, t);
     if p.count == 0 {

@@ -53,7 +53,12 @@ pub extern "C" fn wimplejade_filter(
     working5: &mut [u32],
     result: &mut [u32],
 ) -> Reply
-    ensures { λ r. ⌜ Replies (outcome (now (file .entry)) (lengths (now (working0 .entry)) (now (working1 .entry)) (now (working2 .entry)) (now (working3 .entry)) (now (working4 .entry)) (now (working5 .entry))) (length (now (result .entry)))) (now (working0 .entry)) (now (working1 .entry)) (now (working2 .entry)) (now (working3 .entry)) (now (working4 .entry)) (now (working5 .entry)) (now (result .entry)) r (now (working0 .exit)) (now (working1 .exit)) (now (working2 .exit)) (now (working3 .exit)) (now (working4 .exit)) (now (working5 .exit)) (now (result .exit)) ⌝ }
+    ensures { λ r. ⌜ Replies (outcome (now (file .entry)) (lengths (now (working0 .entry)) (now (working1 .entry))
+        (now (working2 .entry)) (now (working3 .entry)) (now (working4 .entry)) (now (working5 .entry)))
+        (length (now (result .entry)))) (now (working0 .entry)) (now (working1 .entry)) (now (working2 .entry))
+        (now (working3 .entry)) (now (working4 .entry)) (now (working5 .entry)) (now (result .entry)) r (now (working0 .exit))
+        (now (working1 .exit)) (now (working2 .exit)) (now (working3 .exit)) (now (working4 .exit)) (now (working5 .exit))
+        (now (result .exit)) ⌝ }
 {
     in_numbers(filter::filter(
         file,

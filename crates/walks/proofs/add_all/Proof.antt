@@ -20,7 +20,11 @@ add-add-all : tie.Need-add-add-all
 add-add-all c = search needs
 
 add-all-requires : tie.Need-add-all-requires
-add-all-requires c κs = let t = table-to {used′ = c .before .before .before .before .before .before .before .before .before .before .before .before .before .before .args .used + 2} (omega arith) refl (c .before .before .before .before .push-times2 .ensures) in (t .behind, table-patterns (omega arith) t, omega arith)
+add-all-requires c κs =
+    let at-push-times2 = c .before .before .before .before in
+    let start = at-push-times2 .before .before .before .before .before .before .before .before .before .before in
+    let t = table-to {used′ = start .args .used + 2} (omega arith) refl (at-push-times2 .push-times2 .ensures) in
+    (t .behind, table-patterns (omega arith) t, omega arith)
 
 same-length : tie.Need-same-length
 same-length c = search needs
@@ -29,7 +33,11 @@ same-length-2 : tie.Need-same-length-2
 same-length-2 c = search needs
 
 returns : tie.Need-returns
-returns c = table-added (c .before .before .before .before .before .before .before .before .before .before .before .before .before .before .before .before .before .pre .1) (table-to (omega arith) refl (c .before .before .before .before .before .before .before .push-times2 .ensures)) (c .before .before .add-all .ensures)
+returns c =
+    let at-add-all = c .before .before in
+    let at-push-times2 = at-add-all .before .before .before .before .before in
+    let start = at-push-times2 .before .before .before .before .before .before .before .before .before .before in
+    table-added (start .pre .1) (table-to (omega arith) refl (at-push-times2 .push-times2 .ensures)) (at-add-all .add-all .ensures)
 
 pub add-all-spec : {M : Type 1} → statement M
 add-all-spec =

@@ -48,7 +48,10 @@ slice-aggregate-show-term-3 : tie.Need-slice-aggregate-show-term-3
 slice-aggregate-show-term-3 c = search needs
 
 show-term-requires : tie.Need-show-term-requires
-show-term-requires c κs = (set-blank 6149 (c .before .before .before .before .before .before .before .before .before .before .args .code) (omega arith) (zeros-blank 8192 16384 (omega arith)), c .before .before .before .before .before .before .build .ensures .0, c .before .before .before .before .before .before .build .ensures .1, c .before .before .before .before .before .before .before .before .before .before .pre)
+show-term-requires c κs =
+    let at-build = c .before .before .before .before .before .before in
+    let start = at-build .before .before .before .before in
+    (set-blank 6149 (start .args .code) (omega arith) (zeros-blank 8192 16384 (omega arith)), at-build .build .ensures .0, at-build .build .ensures .1, start .pre)
 
 returns-2 : tie.Need-returns-2
 returns-2 c = search needs
