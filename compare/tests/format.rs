@@ -22,7 +22,7 @@ struct Example {
 }
 
 /// The files of the page: blocks marked `file`, each with blocks marked `answer`, `answer FIRST-LINE` or `summaries` after it, and
-/// tables headed `file` and `answer`, in which each piece of code is a line.
+/// tables headed `file`, `answer` and `why`, in which each piece of code is a line.
 fn examples(page: &str) -> Vec<Example> {
     let mut examples = Vec::new();
     let mut file = None::<String>;
@@ -51,7 +51,7 @@ fn examples(page: &str) -> Vec<Example> {
                 file.replace_range(..file.find('\n').unwrap(), first);
             }
             examples.push(Example { at, file, shown, text });
-        } else if line.starts_with("| file | answer |") {
+        } else if line.starts_with("| file | answer | why |") {
             in_table = true;
         } else if in_table && line.starts_with("| ") {
             let cells: Vec<&str> = line.split(" | ").collect();
