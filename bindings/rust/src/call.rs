@@ -5,6 +5,7 @@ use crate::Refusal;
 /// The answer as the library gives it. After a refusal `kept`, `visits` and `rounds` are 0.
 #[repr(C)]
 #[derive(Clone, Copy, Debug, PartialEq, Eq)]
+#[must_use]
 pub struct Answer {
     /// The number of the refusal, 0 if the call is accepted.
     pub refusal: u32,
@@ -41,6 +42,8 @@ extern "C" {
 
 /// The counts of an accepted call.
 #[derive(Clone, Copy, Debug, PartialEq, Eq)]
+#[must_use]
+#[non_exhaustive]
 pub struct Counts {
     /// How many lines are kept: so many words of the result slice are line numbers.
     pub kept: u32,

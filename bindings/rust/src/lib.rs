@@ -2,17 +2,18 @@
 //!
 //! A file holds terms, facts over them, definitions, declarations, and the roots of a query. The filter keeps the facts
 //! that the roots can touch, as F*'s context pruning does, and with option 4 the definitions and declarations that come
-//! with them. The repository's README describes the file; the filter itself is proved in Rattle and linked here as an
-//! archive.
+//! with them. `docs/FORMAT.md` of the repository describes the file; the filter itself is proved in Rattle and linked here
+//! as an archive, for x86-64 Linux.
 //!
 //! ```
 //! let file = b"ask,0,0\nfree,p\nleaf\nall,1,1,1,0\nassume,fact,0,2\nroot,0,goal,0\n";
 //!
 //! let mut filter = wimplejade::Filter::new();
 //! let kept = filter.run(file)?;
-//! assert_eq!(kept.records[0].line, 5);
-//! assert_eq!(kept.records[0].name, b"fact");
 //! assert_eq!((kept.visits, kept.rounds), (1, 2));
+//! for record in &kept {
+//!     assert_eq!((record.line, record.name, record.name_str()), (5, &b"fact"[..], "fact"));
+//! }
 //!
 //! let refusal = filter.run(b"ask,0,8\n").unwrap_err();
 //! assert_eq!(refusal.to_string(), "line 1: a field is no number, or one out of its range");
@@ -23,11 +24,15 @@
 //! [`Filter`] lends it slices of its own and finds the names of the kept lines; these and the declaration of the C function
 //! are plain Rust.
 //!
-//! # Stack
+//! # Stack and time
 //!
-//! A call takes stack for each level of the deepest term, of which there can be 4,096. [`STACK_BYTES`] is enough for every
-//! file; a thread that Rust starts has as much unless it is told otherwise. A thread with less may end the process, as
-//! every overflow of the stack does.
+//! A call takes 256 bytes of stack for each level of the deepest term, of which there can be 4,096: 1,049,152 bytes were
+//! measured. [`STACK_BYTES`], 2 MB, is enough for every file; a thread that Rust starts has as much unless it is told
+//! otherwise. A thread with less may end the process, as every overflow of the stack does.
+//!
+//! A file that looks like an export takes 10 to 300 microseconds, the worst file known 0.22 seconds.
+
+#![deny(missing_docs)]
 
 mod call;
 mod refusal;
@@ -46,7 +51,7 @@ pub const MOST_KEPT: usize = 1_024;
 /// The bytes that a file may have.
 pub const MOST_BYTES: usize = 65_535;
 
-/// Stack that is enough for every call.
+/// Stack, in bytes, that is enough for every call.
 pub const STACK_BYTES: usize = 2 << 20;
 
 /// A filter with the slices that a call needs, some 400 KB. It can run any number of files, one after the other.
@@ -58,6 +63,7 @@ pub struct Filter {
 
 impl Filter {
     /// A filter whose slices are long enough for every file.
+    #[must_use]
     pub fn new() -> Self {
         Filter { working: std::array::from_fn(|_| vec![0; WORKING_WORDS]), result: vec![0; MOST_KEPT] }
     }
@@ -88,8 +94,10 @@ fn name(line: &[u8]) -> &[u8] {
     line.split(|&byte| byte == b',').nth(1).expect("a kept line is an assume, def or fun line")
 }
 
-/// What a file keeps.
+/// What a file keeps. It can be iterated over, which gives its records in their order.
 #[derive(Clone, Debug, PartialEq, Eq)]
+#[must_use]
+#[non_exhaustive]
 pub struct Kept<'f> {
     /// The kept records in their order: the reached facts by name in byte order, then the ambient facts, last filed first;
     /// with option 4 the definitions and then the declarations, each group in the order of F*'s pruning.
@@ -115,18 +123,45 @@ impl<'f> Kept<'f> {
 /// As the program `factfilter` prints it.
 impl fmt::Display for Kept<'_> {
     fn fmt(&self, out: &mut fmt::Formatter) -> fmt::Result {
-        for Record { line, name } in &self.records {
-            writeln!(out, "kept,{line},{}", String::from_utf8_lossy(name))?;
+        for record in self {
+            writeln!(out, "kept,{},{}", record.line, record.name_str())?;
         }
         writeln!(out, "sum,{},{},{}", self.records.len(), self.visits, self.rounds)
     }
 }
 
+impl<'f> IntoIterator for Kept<'f> {
+    type Item = Record<'f>;
+    type IntoIter = std::vec::IntoIter<Record<'f>>;
+
+    fn into_iter(self) -> Self::IntoIter {
+        self.records.into_iter()
+    }
+}
+
+impl<'k, 'f> IntoIterator for &'k Kept<'f> {
+    type Item = &'k Record<'f>;
+    type IntoIter = std::slice::Iter<'k, Record<'f>>;
+
+    fn into_iter(self) -> Self::IntoIter {
+        self.records.iter()
+    }
+}
+
 /// A kept record.
 #[derive(Clone, Copy, Debug, PartialEq, Eq)]
+#[non_exhaustive]
 pub struct Record<'f> {
     /// Its line in the file, from 1.
     pub line: u32,
     /// Its name, a part of the file. Names are ASCII.
     pub name: &'f [u8],
+}
+
+impl<'f> Record<'f> {
+    /// Its name as text, a part of the file.
+    #[must_use]
+    pub fn name_str(&self) -> &'f str {
+        std::str::from_utf8(self.name).expect("the names of an accepted file are ASCII")
+    }
 }

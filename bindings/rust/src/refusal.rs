@@ -7,32 +7,63 @@ use std::fmt;
 ///
 /// A refused call has written nothing to the result slice.
 #[derive(Clone, Copy, Debug, PartialEq, Eq, Hash)]
+#[non_exhaustive]
 pub enum Refusal {
     /// 1: not a line of the file's form: an unknown kind or op word, fields lacking or left over, `ask` not exactly on
     /// line 1, no final newline, an empty file.
-    Form { line: u32 },
+    Form {
+        /// The line, from 1.
+        line: u32,
+    },
     /// 2: a field is no name: 1 to 255 bytes from `!` to `~`, no comma.
-    Name { line: u32 },
+    Name {
+        /// The line, from 1.
+        line: u32,
+    },
     /// 3: a field is no number, or a query, an options number or a flag is outside its range.
-    Number { line: u32 },
+    Number {
+        /// The line, from 1.
+        line: u32,
+    },
     /// 4: a term number that is not below the line's own, or that no term line before a record has.
-    Term { line: u32 },
+    Term {
+        /// The line, from 1.
+        line: u32,
+    },
     /// 5: an assume, fun or def has the name of an earlier one of the three.
-    Repeated { line: u32 },
+    Repeated {
+        /// The line, from 1.
+        line: u32,
+    },
     /// 6: with this line the file has more than 2,048 distinct names, trimmed tokens included.
-    FullNames { line: u32 },
+    FullNames {
+        /// The line, from 1.
+        line: u32,
+    },
     /// 7: a working slice has fewer than [`WORKING_WORDS`](crate::WORKING_WORDS) words.
     Working,
     /// 8: the result slice has fewer words than lines are kept.
-    Room { kept: u32 },
+    Room {
+        /// How many lines are kept.
+        kept: u32,
+    },
     /// 9: the file has more than [`MOST_BYTES`](crate::MOST_BYTES) bytes.
     Size,
     /// 10: with this line the file has more than 4,096 term lines, or more than 16,384 term references in them.
-    FullTerms { line: u32 },
+    FullTerms {
+        /// The line, from 1.
+        line: u32,
+    },
     /// 11: with this line the file has more than 1,024 record lines.
-    FullRecords { line: u32 },
+    FullRecords {
+        /// The line, from 1.
+        line: u32,
+    },
     /// 12: with this line the file has more than 2,048 trigger entries, or more than 6,144 name uses.
-    FullTriggers { line: u32 },
+    FullTriggers {
+        /// The line, from 1.
+        line: u32,
+    },
 }
 
 impl Refusal {
@@ -56,6 +87,7 @@ impl Refusal {
     }
 
     /// The number of the refusal, from 1 to 12.
+    #[must_use]
     pub fn number(&self) -> u32 {
         match self {
             Refusal::Form { .. } => 1,
@@ -74,6 +106,7 @@ impl Refusal {
     }
 
     /// The place of the refusal: the line, for 8 the number of kept lines, for 7 and 9 it is 0.
+    #[must_use]
     pub fn place(&self) -> u32 {
         self.line().unwrap_or(match self {
             Refusal::Room { kept } => *kept,
@@ -82,6 +115,7 @@ impl Refusal {
     }
 
     /// The line that is refused, where one is.
+    #[must_use]
     pub fn line(&self) -> Option<u32> {
         match self {
             Refusal::Form { line }

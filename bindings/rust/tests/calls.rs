@@ -2,9 +2,9 @@
 
 use std::error::Error;
 use std::fs;
-use std::path::Path;
+use std::path::{Path, PathBuf};
 
-use wimplejade::{filter, Counts, Filter, Refusal, MOST_BYTES, WORKING_WORDS};
+use wimplejade::{Filter, Refusal, MOST_BYTES, WORKING_WORDS};
 
 const WORKED: &[u8] = b"ask,0,4\nfree,p\nfree,q\ncall,f,0\nall,2,1,1,2\nassume,a1,0,3\nfun,f\ndef,g,1\ncall,g\n\
     op,eq,4,1\nassume,e1,0,5\nop,and,2,4\nroot,0,r,6\n";
@@ -17,6 +17,22 @@ fn lent(words: [usize; 6], room: usize) -> ([Vec<u32>; 6], Vec<u32>) {
     (words.map(|words| vec![DIRT; words]), vec![DIRT; room])
 }
 
+/// The kept lines, the visits and the rounds of a call with lent slices.
+fn counts(file: &[u8], working: &mut [Vec<u32>; 6], result: &mut [u32]) -> Result<(u32, u32, u32), Refusal> {
+    let counts = wimplejade::filter(file, working.each_mut().map(Vec::as_mut_slice), result)?;
+    Ok((counts.kept, counts.visits, counts.rounds))
+}
+
+/// A folder or file of the repository; none where the package stands alone.
+fn of_repository(path: &str) -> Option<PathBuf> {
+    let path = Path::new(env!("CARGO_MANIFEST_DIR")).join("../..").join(path);
+    if !path.exists() {
+        println!("skipped: there is no {}", path.display());
+        return None;
+    }
+    Some(path)
+}
+
 #[test]
 fn the_worked_example() {
     let mut filter = Filter::new();
@@ -24,13 +40,15 @@ fn the_worked_example() {
     assert_eq!(kept.to_string(), "kept,6,a1\nkept,11,e1\nkept,8,g\nkept,7,f\nsum,4,4,2\n");
     assert_eq!(kept.lines().collect::<Vec<_>>(), [6, 11, 8, 7]);
     assert_eq!(kept.names().collect::<Vec<_>>(), [&b"a1"[..], b"e1", b"g", b"f"]);
+    assert_eq!((&kept).into_iter().map(|record| record.name_str()).collect::<Vec<_>>(), ["a1", "e1", "g", "f"]);
+    assert_eq!(kept.into_iter().map(|record| record.line).sum::<u32>(), 32);
 }
 
 #[test]
 fn names_are_parts_of_the_file_and_outlive_the_next_run() {
     let mut filter = Filter::new();
     let kept = filter.run(WORKED).unwrap();
-    filter.run(b"ask,0,0\n").unwrap();
+    assert!(filter.run(b"ask,0,0\n").unwrap().records.is_empty());
     let at = WORKED.windows(3).position(|part| part == b"e1,").unwrap();
     assert_eq!(kept.records[1].name.as_ptr(), WORKED[at..].as_ptr());
     assert_eq!(kept.records[1].name, b"e1");
@@ -86,8 +104,7 @@ fn a_refusal_is_an_error() {
 fn lent_slices_come_back_as_said() {
     let lengths = [0, 1, 2, 3, 4, 5].map(|more| WORKING_WORDS + more);
     let (mut working, mut result) = lent(lengths, 6);
-    let counts = filter(WORKED, working.each_mut().map(Vec::as_mut_slice), &mut result);
-    assert_eq!(counts, Ok(Counts { kept: 4, visits: 4, rounds: 2 }));
+    assert_eq!(counts(WORKED, &mut working, &mut result), Ok((4, 4, 2)));
     assert_eq!(result, [6, 11, 8, 7, DIRT, DIRT]);
     for words in &working {
         assert!(words[..WORKING_WORDS].iter().all(|&word| word == 0));
@@ -97,13 +114,10 @@ fn lent_slices_come_back_as_said() {
 
 #[test]
 fn a_result_slice_of_exactly_the_kept_lines() {
-    for (room, answer) in [
-        (4, Ok(Counts { kept: 4, visits: 4, rounds: 2 })),
-        (3, Err(Refusal::Room { kept: 4 })),
-        (0, Err(Refusal::Room { kept: 4 })),
-    ] {
+    for (room, answer) in [(4, Ok((4, 4, 2))), (3, Err(Refusal::Room { kept: 4 })), (0, Err(Refusal::Room { kept: 4 }))]
+    {
         let (mut working, mut result) = lent([WORKING_WORDS; 6], room);
-        assert_eq!(filter(WORKED, working.each_mut().map(Vec::as_mut_slice), &mut result), answer);
+        assert_eq!(counts(WORKED, &mut working, &mut result), answer);
         assert_eq!(result == vec![DIRT; room], answer.is_err());
     }
 }
@@ -114,15 +128,14 @@ fn a_short_working_slice_touches_nothing() {
         let mut lengths = [WORKING_WORDS; 6];
         lengths[short] -= 1;
         let (mut working, mut result) = lent(lengths, 6);
-        let refused = filter(b"", working.each_mut().map(Vec::as_mut_slice), &mut result);
-        assert_eq!(refused, Err(Refusal::Working));
+        assert_eq!(counts(b"", &mut working, &mut result), Err(Refusal::Working));
         assert_eq!((working, result), lent(lengths, 6));
     }
 }
 
 #[test]
 fn the_examples() {
-    let folder = Path::new(env!("CARGO_MANIFEST_DIR")).join("../../examples");
+    let Some(folder) = of_repository("examples") else { return };
     let mut filter = Filter::new();
     let mut count = 0;
     for entry in fs::read_dir(&folder).unwrap() {
@@ -134,6 +147,12 @@ fn the_examples() {
         }
     }
     assert!(count >= 4, "{count} examples");
+}
+
+#[test]
+fn the_version_is_the_repositorys() {
+    let Some(path) = of_repository("VERSION") else { return };
+    assert_eq!(fs::read_to_string(path).unwrap().trim(), env!("CARGO_PKG_VERSION"));
 }
 
 #[test]
