@@ -6,7 +6,7 @@
  * The call runs in a thread whose stack was painted; what is no longer painted was used.
  */
 #define _GNU_SOURCE
-#include "wimplejade.h"
+#include "wimplejade_helper.h"
 
 #include <limits.h>
 #include <pthread.h>
@@ -21,8 +21,7 @@
 
 static char file[WIMPLEJADE_MOST_BYTES + 1];
 static size_t bytes;
-static uint32_t working[6][WIMPLEJADE_WORKING_WORDS];
-static uint32_t result[WIMPLEJADE_MOST_KEPT];
+static struct wimplejade_slices slices;
 static struct wimplejade_answer answer;
 
 /* The ways in which a term names the one before; %d stands for its number. */
@@ -53,11 +52,7 @@ static void make_file(const char *link)
 
 static void *run(void *unused)
 {
-    answer = wimplejade_filter(
-        (const uint8_t *)file, bytes,
-        working[0], WIMPLEJADE_WORKING_WORDS, working[1], WIMPLEJADE_WORKING_WORDS, working[2], WIMPLEJADE_WORKING_WORDS,
-        working[3], WIMPLEJADE_WORKING_WORDS, working[4], WIMPLEJADE_WORKING_WORDS, working[5], WIMPLEJADE_WORKING_WORDS,
-        result, WIMPLEJADE_MOST_KEPT);
+    answer = wimplejade_run((const uint8_t *)file, bytes, &slices);
     return unused;
 }
 

@@ -1,7 +1,8 @@
 /* The fact filter, proved in Rattle, as a C function.
  *
- * The archive is target/staticlib/libwimplejade.a; `rt staticlib wimplejade` proves the crate and writes it. It is for
- * x86-64 Linux and needs no other library.
+ * The archive is libwimplejade.a: `rt staticlib wimplejade` proves the crate and writes it to target/staticlib, `make install`
+ * puts it beside this header. It is for x86-64 Linux and needs no other library. docs/FORMAT.md of the repository describes
+ * the file; wimplejade_helper.h has what most callers need around a call.
  */
 #ifndef WIMPLEJADE_H
 #define WIMPLEJADE_H
@@ -13,6 +14,13 @@
 extern "C" {
 #endif
 
+/* The version; the archive has to be of the same one. While the first number is 0, a change of the second may change the
+ * functions, the answer or the file. */
+#define WIMPLEJADE_VERSION "0.1.0"
+#define WIMPLEJADE_VERSION_MAJOR 0
+#define WIMPLEJADE_VERSION_MINOR 1
+#define WIMPLEJADE_VERSION_PATCH 0
+
 /* The words that each working slice must have at least. */
 #define WIMPLEJADE_WORKING_WORDS 16384
 
@@ -22,7 +30,8 @@ extern "C" {
 /* The bytes that a file may have. */
 #define WIMPLEJADE_MOST_BYTES 65535
 
-/* The stack, in bytes, that is enough for every call. What a call really takes is measured by `make stack`. */
+/* The stack, in bytes, that is enough for every call: 2 MB. A call takes 256 bytes for each level of the deepest term, of which
+ * there can be 4,096: `make stack` measures 1,049,152 bytes. */
 #define WIMPLEJADE_STACK_BYTES (2u << 20)
 
 /* Why a call is refused; the comment says what `place` is then. A line is counted from 1. A line that passes several
@@ -59,6 +68,9 @@ struct wimplejade_answer {
  *
  * The call always returns, whatever the file holds and however short a slice is. It writes nothing but the slices as
  * said here, allocates nothing, keeps nothing between calls, and reads and writes no file.
+ *
+ * A file that looks like an export takes 10 to 300 microseconds, the worst file known 0.22 seconds; no bound is proved
+ * (docs/PERFORMANCE.md).
  *
  *   accepted       result holds `kept` line numbers from its start, and past them what it held before; the first
  *                  WIMPLEJADE_WORKING_WORDS words of each working slice are 0, the rest is as before
