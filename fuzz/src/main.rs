@@ -113,6 +113,9 @@ fn random_files(options: &Options) -> io::Result<bool> {
     progress.finish();
     let failures = failures.into_inner().unwrap();
     let same = failures.is_empty();
+    if same {
+        println!("no difference");
+    }
     for failure in failures {
         save(failure, options)?;
     }
