@@ -2,11 +2,12 @@
 #
 #     od -An -v -tu1 FILE | awk -v number=NUMBER -v place=PLACE -f words.awk
 #
-# The input is the bytes of the file as decimal numbers. The line is judged once more, in the order of docs/FORMAT.md; if that does not
-# come to the same number, nothing is printed. Only words depend on this: number and place are the filter's.
+# The input is the bytes of the file as decimal numbers. The line is judged once more, in the order of docs/FORMAT.md; if that
+# does not come to the same number, nothing is printed. Only words depend on this: number and place are the filter's.
 
 BEGIN {
-    # What stands in the fields after the kind: a query, options, a flag, a name, a word of an op, a term; `*` any count of the last.
+    # What stands in the fields after the kind: a query, options, a flag, a name, a word of an op, a term; `*` any count of the
+    # last.
     form["ask"] = "query options"
     form["free"] = "name"
     form["leaf"] = ""
@@ -167,7 +168,8 @@ function judge_groups(field,   groups, group, count, i) {
         }
     }
     if (field > fields) return 1
-    return fault(1, field, quoted(field) " is left over: the line says " counted(groups, "pattern group") ", and they end before it")
+    return fault(1, field, quoted(field) " is left over: the line says " counted(groups, "pattern group") \
+        ", and they end before it")
 }
 
 # Judges one field, which has to be of a sort; whether it has no fault.
@@ -210,7 +212,8 @@ function judge_record(kind) {
     if (kind in is_taken && text(2) in taken) {
         fault(5, 2, "the name " quoted(2) " is taken by line " taken[text(2)])
     } else if (number == 10) {
-        fault(10, 0, "the file has more than " (term_lines >= 4096 ? "4,096 term lines" : "16,384 terms named in its term lines"))
+        fault(10, 0, "the file has more than " \
+            (term_lines >= 4096 ? "4,096 term lines" : "16,384 terms named in its term lines"))
     }
 }
 
@@ -219,7 +222,8 @@ function counted(count, what) {
     return count " " what (count == 1 ? "" : "s")
 }
 
-# Prints a fault, at a field unless that is 0, if its number is the filter's; 0. Where the field ends with a carriage return, that is why.
+# Prints a fault, at a field unless that is 0, if its number is the filter's; 0. Where the field ends with a carriage return,
+# that is why.
 function fault(found, field, why) {
     if (found != number) return 0
     if (field && field <= fields && last[field] >= first[field] && bytes[last[field]] == RETURN) {

@@ -1,9 +1,23 @@
-//! The files, answers and summaries shown in docs/FORMAT.md.
+//! The files, answers and summaries shown in docs/FORMAT.md, and its tables of names, macros, options and limits.
 
 use std::fs;
 use std::path::Path;
 
-use compare::{filter_file, summaries};
+use compare::{filter_file, limits, summaries};
+
+/// The page.
+fn page() -> String {
+    let path = Path::new(env!("CARGO_MANIFEST_DIR")).join("../docs/FORMAT.md");
+    fs::read_to_string(path).expect("the page can be read")
+}
+
+/// The rows of the table with this head, as their cells.
+fn table<'p>(page: &'p str, head: &str) -> Vec<Vec<&'p str>> {
+    let rows = page.lines().skip_while(|line| *line != head).skip(2).take_while(|line| line.starts_with('|'));
+    let rows: Vec<_> = rows.map(|row| row.trim_matches(['|', ' ']).split(" | ").collect()).collect();
+    assert!(!rows.is_empty(), "there is no table {head}");
+    rows
+}
 
 /// What the page shows beside a file.
 #[derive(Clone, Copy, PartialEq)]
@@ -21,8 +35,8 @@ struct Example {
     text: String,
 }
 
-/// The files of the page: blocks marked `file`, each with blocks marked `answer`, `answer FIRST-LINE` or `summaries` after it, and
-/// tables headed `file`, `answer` and `why`, in which each piece of code is a line.
+/// The files of the page: blocks marked `file`, each with blocks marked `answer`, `answer FIRST-LINE` or `summaries` after
+/// it, and tables headed `file`, `answer` and `why`, in which each piece of code is a line.
 fn examples(page: &str) -> Vec<Example> {
     let mut examples = Vec::new();
     let mut file = None::<String>;
@@ -68,8 +82,7 @@ fn examples(page: &str) -> Vec<Example> {
 
 #[test]
 fn the_page_says_what_is_answered() {
-    let path = Path::new(env!("CARGO_MANIFEST_DIR")).join("../docs/FORMAT.md");
-    let examples = examples(&fs::read_to_string(path).expect("the page can be read"));
+    let examples = examples(&page());
     for shown in [Shown::Answer, Shown::Summaries] {
         assert!(examples.iter().any(|example| example.shown == shown));
     }
@@ -82,4 +95,63 @@ fn the_page_says_what_is_answered() {
         };
         assert_eq!(actual, text, "docs/FORMAT.md, line {at}, of the file\n{file}");
     }
+}
+
+#[test]
+fn the_names_that_never_count() {
+    let page = page();
+    let names: Vec<&str> = page
+        .lines()
+        .find(|line| line.starts_with("    ApplyTF "))
+        .expect("the nine names")
+        .split_whitespace()
+        .collect();
+    assert_eq!(names.len(), 9);
+    for name in names {
+        let file = format!("ask,0,0\nfree,{name}\nassume,a,0,0\n");
+        assert_eq!(summaries(file.as_bytes()).unwrap()[0].free.len(), 0, "{name}");
+        let file = format!("ask,0,0\nfree,{name}.\nassume,a,0,0\n");
+        assert_eq!(summaries(file.as_bytes()).unwrap()[0].free.len(), 1, "{name}.");
+    }
+}
+
+#[test]
+fn the_macros_of_the_start() {
+    let page = page();
+    let rows = table(&page, "| macro | opens to |");
+    assert_eq!(rows.len(), 5);
+    for row in rows {
+        let [name, opened] = [row[0], row[1]].map(|cell| cell.trim_matches('`'));
+        let file = format!("ask,0,0\nfree,{name}\nfree,{opened}\nall,1,1,1,1\nassume,a,0,2\nroot,0,r,0\n");
+        assert_eq!(filter_file(file.as_bytes()).to_string(), "kept,5,a\nsum,1,1,2\n", "{name}");
+    }
+}
+
+#[test]
+fn the_options() {
+    let page = page();
+    let most: u32 = table(&page, "| option | on | off |").iter().map(|row| row[0].parse::<u32>().unwrap()).sum();
+    assert_eq!(most, limits::OPTIONS);
+    let ask = format!("OPTIONS 0 to {most}");
+    assert!(page.contains(&ask), "{ask}");
+}
+
+#[test]
+fn the_limits() {
+    let page = page();
+    let rows = table(&page, "| what | at most | past it |");
+    let shown: Vec<(usize, u32)> =
+        rows.iter().map(|row| (row[1].replace(',', "").parse().unwrap(), row[2].parse().unwrap())).collect();
+    assert_eq!(
+        shown,
+        [
+            (limits::BYTES, 9),
+            (limits::NAMES, 6),
+            (limits::TERMS, 10),
+            (limits::REFERENCES, 10),
+            (limits::RECORDS, 11),
+            (limits::ENTRIES, 12),
+            (limits::USES, 12),
+        ]
+    );
 }
