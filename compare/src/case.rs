@@ -45,7 +45,7 @@ impl Case {
         out.write_all(&self.file)
     }
 
-    /// What the program `cases` prints for the case.
+    /// What the program `test_cases` prints for the case.
     pub fn answer(&self, order: Order) -> String {
         let outcome = filter_in(order, &self.file, self.works, self.room);
         format!("case,{}\n{outcome}slices,ok\n", self.name)

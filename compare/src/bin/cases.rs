@@ -1,4 +1,4 @@
-//! The container of cases for the program `cases`.
+//! The container of cases for the program `test_cases`.
 //!
 //! `cases build DIR OUT_STDIN OUT_STDOUT` builds the container from every `.in` of a folder, from probes of these files
 //! and from the edges of document 01, and beside it what the program prints. `cases answer` reads a container from standard input and prints

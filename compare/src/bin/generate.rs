@@ -2,7 +2,7 @@
 //!
 //! `generate SEED COUNT DIR` writes each file and its answer, with slices that are long enough, as `NAME.in` and
 //! `NAME.out`. `generate SEED COUNT --stream` writes the container of cases to standard output, and
-//! `generate SEED COUNT --answers` what the program `cases` prints for it; with `--by-line` at the end, definitions and
+//! `generate SEED COUNT --answers` what the program `test_cases` prints for it; with `--by-line` at the end, definitions and
 //! declarations come by line.
 
 use std::io::{self, Write};

@@ -10,12 +10,12 @@ use Rattle.model.specs.Names.{Name}
 use Rattle.model.specs.Lines.{Line, fields}
 use Rattle.model.specs.Terms.{Node, Term, add-term, references}
 use Rattle.model.specs.Summaries.{exclude-names, Fact, entries}
-use Rattle.model.specs.Reading.{Content, ask, term, assume, fun, def, retain, root, ok, Decl, Summary, Sum-assume, Sum-definefun, Sum-declfun, Sum-retain, State, start, read, entries-of, uses-of, nodes, spelled, trimmed, summarize-decl, root-of, parse, add-line, read-lines}
+use Rattle.model.specs.Reading.{Content, ask, term, assume, fun, def, retain, root, ok, Decl, Summary, Sum-assume, Sum-definefun, Sum-declfun, Sum-retain, State, start, read, entries-of, uses-of, nodes, spelled, trimmed, summarize-decl, root-of, excluded, parse, add-line, read-lines}
 use Rattle.model.specs.Rounds.{facts, definitions}
 use Rattle.model.proofs.ListLaws.{keep-append, count-append, sum-map-append}
 use Rattle.demands.specs.Demand1.{Reached-line, Says}
 use Rattle.demands.specs.Counts.{state-with, lines-to, term-words, record-words, begins, term-fields, name-fields, Counted, token-trimmed, Names-added, Counts-exact}
-use Rattle.demands.proofs.ReadingLaws.{line-read, lines-read, none-read, kept-by-lines}
+use Rattle.laws.proofs.ReadingLaws.{line-read, lines-read, none-read, kept-by-lines}
 use Rattle.demands.proofs.TermNumbers.{named-below}
 use Rattle.demands.proofs.LineFields.{line-fields}
 use Rattle.demands.proofs.StateLaws.{spelled-exact, State-laws, laws-start, laws-added, laws-line}
@@ -93,19 +93,20 @@ one-referring line = go (begins term-words line)
     go false = refl
 
 -- a line that says something adds what it is counted as
-adds-line : (exclude : List Name) (n : ℕ) (s : State) (line : Line) (c : Content) → parse n (length (s .terms)) (fields (line .bytes)) ≡ ok c
+adds-line : (exclude : List Name) (n : ℕ) (s : State) (line : Line) (c : Content) → parse s (fields (line .bytes)) ≡ ok c
     → Adds (line ∷ []) s (add-line exclude n s c)
 unfolding add-line begins term-fields
 adds-line exclude n s line c e =
-    let l = line-fields n (length (s .terms)) (fields (line .bytes)) e in
+    let l = line-fields s (fields (line .bytes)) e in
+    let out = excluded exclude s in
     record {
       term-lines = rw (one-counted (begins term-words) line) (omega (arith, terms-more (s .terms) (nodes c), l .term-lines));
       term-references = rw (one-referring line) (omega (arith, l .term-references));
       record-lines = rw (one-counted (begins record-words) line) (omega (
         arith,
-        l .record-lines exclude (s .terms) n,
-        length-append (s .decls) (summarize-decl exclude (s .terms) n c),
-        length-append (s .roots) (root-of exclude (s .terms) n c),
+        l .record-lines out (s .terms) n,
+        length-append (s .decls) (summarize-decl out (s .terms) n c),
+        length-append (s .roots) (root-of out (s .terms) n c),
       ));
     }
 
@@ -139,7 +140,7 @@ module _ {ls : List Line} {n : ℕ} (l : Reached-line ls n) where
     -- they hold with the line added
     laws-said : State-laws (state-with l c)
     laws-said =
-        laws-added exclude-names n (l .state) c (named-below n (length (l .state .terms)) (fields (l .line .bytes)) (says .parsed)) laws-reached
+        laws-added exclude-names n (l .state) c (named-below (l .state) (fields (l .line .bytes)) (says .parsed)) laws-reached
 
     -- the lines up to it add up to the state with it
     adds-said : Adds (lines-to l) start (state-with l c)
@@ -149,10 +150,10 @@ module _ {ls : List Line} {n : ℕ} (l : Reached-line ls n) where
     names-added : Names-added l c
     unfolding add-line name-fields trimmed
     names-added k =
-        spelled-exact (l .state .names) (spelled c ++ trimmed exclude-names (l .state .terms) c) k
-        ∙ rw (line-fields n (length (l .state .terms)) (fields (l .line .bytes)) (says .parsed) .names, token c)
+        spelled-exact (l .state .names) (spelled c ++ trimmed (excluded exclude-names (l .state)) (l .state .terms) c) k
+        ∙ rw (line-fields (l .state) (fields (l .line .bytes)) (says .parsed) .names, token c)
       where
-        token : (c : Content) → trimmed exclude-names (l .state .terms) c ≡ token-trimmed l c
+        token : (c : Content) → trimmed (excluded exclude-names (l .state)) (l .state .terms) c ≡ token-trimmed l c
         token (ask q options) = refl
         token (term node) = refl
         token (assume name flag t) = refl

@@ -11,7 +11,7 @@ use Rattle.model.specs.Reading.{prune-decls, Decl}
 use Rattle.model.specs.Rounds.{facts, definitions, declarations, visits}
 use Rattle.model.specs.Kept.{kept-names, kept-decls, kept}
 use Rattle.model.proofs.ListLaws.{cond-case, option-elim}
-use Rattle.demands.specs.Accepted.{Distinct, none}
+use Rattle.demands.specs.LinesRead.{records-for, Distinct, none}
 use Rattle.demands.specs.Demand2.{Scan-ends, Kept-is-pruned, Kept-once}
 use Rattle.demands.specs.Demand3.{run-of}
 use Rattle.demands.specs.FileOrder.{line-of}
@@ -25,46 +25,46 @@ use Rattle.demands.proofs.Pruned.{distinct-definitions, distinct-declar
 
 -- the fuel of `scan` never runs out; it is entered once a round, and calls `remove_trigger_for` once a visit
 pub scan-ends : Scan-ends
-scan-ends file s e =
-    let scanned = scanned-file (s .goal) (s .decls) (accepted-well-formed file s e) (rounds-exact file s e) (rounds-bound file s e) in
-    let rounds : run-of s .rounds ≡ scanned .entered = omega (arith, scanned .enters) in
-    let seen : visits (run-of s .met) (facts (s .decls)) ≡ scanned .called = omega (arith, scanned .visited, none-visited (facts (s .decls))) in
+scan-ends file s e a =
+    let scanned = scanned-file a (records-for a s) (accepted-well-formed file s e) (rounds-exact file s e a) (rounds-bound file s e a) in
+    let rounds : run-of a s .rounds ≡ scanned .entered = omega (arith, scanned .enters) in
+    let seen : visits (run-of a s .met) (facts (records-for a s)) ≡ scanned .called = omega (arith, scanned .visited, none-visited (facts (records-for a s))) in
     rw (rounds, seen) (scanned .ends)
 
 -- the list of Pruning.fst is the kept list
 pub kept-is-pruned : Kept-is-pruned
-kept-is-pruned file s e =
+kept-is-pruned file s e a =
     let wf = accepted-well-formed file s e in
-    sym (pruned-list (s .goal) (s .decls) wf (scanned-file (s .goal) (s .decls) wf (rounds-exact file s e) (rounds-bound file s e)))
+    sym (pruned-list a (records-for a s) wf (scanned-file a (records-for a s) wf (rounds-exact file s e a) (rounds-bound file s e a)))
 
 -- "each kept line stands once"
 pub kept-once : Kept-once
 unfolding kept line-of
-kept-once file s e =
+kept-once file s e a =
     let wf = accepted-well-formed file s e in
-    let fs = facts (s .decls) in
-    let reached = run-of s .reached in
+    let fs = facts (records-for a s) in
+    let reached = run-of a s .reached in
     distinct-append
-    (distinct-to-map (λ (f : Fact). f .line) (kept-facts-once (s .goal) (s .decls) (s .roots) wf)
-    (λ f g i j. fact-by-line (s .decls) once (kept-facts-elim (s .goal) fs reached i) (kept-facts-elim (s .goal) fs reached j)))
-    (cond-case Distinct (prune-decls (s .goal)) (rw map-append (distinct-append
-    (kept-decls-once names (definitions (s .decls)) (distinct-definitions line-of (λ d. d .line) (λ d. List·Memᴰ·head refl) (s .decls) once))
-    (kept-decls-once names (declarations (s .decls)) (distinct-declarations line-of (λ d. d .line) (λ d. List·Memᴰ·head refl) (s .decls) once))
-    (λ n i j. let (c, k, p) = kept-decl-line names (definitions (s .decls)) i in
-    let (d, l, q) = kept-decl-line names (declarations (s .decls)) j in
-    definition-or-declaration (s .decls) once k l (p ∙ sym q)))) none)
-    (λ n i j. let (f, k, p) = kept-fact-line (s .goal) fs reached i in apart k p (rw map-append at (option-elim (prune-decls (s .goal)) j)))
+    (distinct-to-map (λ (f : Fact). f .line) (kept-facts-once a (records-for a s) (s .roots) wf)
+    (λ f g i j. fact-by-line (records-for a s) once (kept-facts-elim a fs reached i) (kept-facts-elim a fs reached j)))
+    (cond-case Distinct (prune-decls a) (rw map-append (distinct-append
+    (kept-decls-once names (definitions (records-for a s)) (distinct-definitions line-of (λ d. d .line) (λ d. List·Memᴰ·head refl) (records-for a s) once))
+    (kept-decls-once names (declarations (records-for a s)) (distinct-declarations line-of (λ d. d .line) (λ d. List·Memᴰ·head refl) (records-for a s) once))
+    (λ n i j. let (c, k, p) = kept-decl-line names (definitions (records-for a s)) i in
+    let (d, l, q) = kept-decl-line names (declarations (records-for a s)) j in
+    definition-or-declaration (records-for a s) once k l (p ∙ sym q)))) none)
+    (λ n i j. let (f, k, p) = kept-fact-line a fs reached i in apart k p (rw map-append at (option-elim (prune-decls a) j)))
   where
-    once : Distinct (collect line-of (s .decls))
+    once : Distinct (collect line-of (records-for a s))
     once = read-file-lines exclude-names file s e
 
     names : List Name
-    names = kept-names (s .goal) (facts (s .decls)) (s .roots) (run-of s .reached)
+    names = kept-names a (facts (records-for a s)) (s .roots) (run-of a s .reached)
 
-    apart : {f : Fact} {n : ℕ} → List·Memᴰ f (facts (s .decls)) → f .line ≡ n
-        → List·Memᴰ n (map (λ d. d .line) (kept-decls names (definitions (s .decls)))
-        ++ map (λ d. d .line) (kept-decls names (declarations (s .decls)))) → ⊥
+    apart : {f : Fact} {n : ℕ} → List·Memᴰ f (facts (records-for a s)) → f .line ≡ n
+        → List·Memᴰ n (map (λ d. d .line) (kept-decls names (definitions (records-for a s)))
+        ++ map (λ d. d .line) (kept-decls names (declarations (records-for a s)))) → ⊥
     apart k p m = ⊎-elim
-        (λ o. let (d, l, q) = kept-decl-line names (definitions (s .decls)) o in fact-or-definition (s .decls) once k l (p ∙ sym q))
-        (λ o. let (d, l, q) = kept-decl-line names (declarations (s .decls)) o in fact-or-declaration (s .decls) once k l (p ∙ sym q))
-        (List·Memᴰ·append-cases (map (λ (d : Decl). d .line) (kept-decls names (definitions (s .decls)))) m)
+        (λ o. let (d, l, q) = kept-decl-line names (definitions (records-for a s)) o in fact-or-definition (records-for a s) once k l (p ∙ sym q))
+        (λ o. let (d, l, q) = kept-decl-line names (declarations (records-for a s)) o in fact-or-declaration (records-for a s) once k l (p ∙ sym q))
+        (List·Memᴰ·append-cases (map (λ (d : Decl). d .line) (kept-decls names (definitions (records-for a s)))) m)

@@ -1,15 +1,11 @@
 pub mod Distinct
-pub mod Records
 pub mod Facts
-pub mod MetLaws
-pub mod FiringLaws
-pub mod FuelLaws
 pub mod RoundsLaws
+pub mod HistoryLaws
 pub mod ListedLaws
 pub mod Demand3
 pub mod LineWalk
 pub mod LineForm
-pub mod ReadingLaws
 pub mod TermNames
 pub mod Disjuncts
 pub mod TermNumbers
@@ -18,13 +14,13 @@ pub mod WellFormed
 pub mod StateLaws
 pub mod Counts
 pub mod Queries
+pub mod Asks
 pub mod Refusals
 pub mod SaidLines
 pub mod Demand1
 pub mod RecordLines
 pub mod FileOrder
 pub mod Slices
-pub mod MapLaws
 pub mod Filing
 pub mod Filed
 pub mod ScanSteps
@@ -36,3 +32,4 @@ pub mod Room
 pub mod Order
 pub mod OrderCases
 pub mod Options
+pub mod History

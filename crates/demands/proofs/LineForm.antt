@@ -2,25 +2,23 @@
 use Prim.Native.Nat.{ℕ, _+_, _≤_}
 use native.Mathlib.Omega.{arith}
 use mathlib.Core.Path.{_≡_, refl, sym, _∙_}
-use mathlib.Core.Bool.{Bool, true, false, cond, not, Bool·beq, Bool·not-not}
+use mathlib.Core.Bool.{Bool, cond, not, Bool·not-not}
 use mathlib.Core.List.{List, [], _∷_}
-use mathlib.Core.Logic.{_↔_, _≢_, _⊎_, inl, inr, ⊎-elim, Iff·trans}
+use mathlib.Core.Logic.{_↔_, _≢_, _⊎_, inl, inr, Iff·trans}
 use mathlib.Core.Option.{Option, none, some, Option·some-injective, Option·none-ne-some}
 use lib.Dec.{T, T-not, not-T, eqb, eqb→eq, eqb-refl}
 use lib.ListN.{length}
 use Rattle.model.specs.Lists.{holds}
-use Rattle.model.specs.Names.{bytes, same}
 use Rattle.model.specs.Lines.{Field}
 use Rattle.model.specs.Terms.{Node}
-use Rattle.model.specs.Reading.{ok, refused, need, next, kinds, word, fixed-count, quantifier, content, kind-field, parse}
+use Rattle.model.specs.Reading.{Result, ok, refused, need, next, kinds, word, quantifier, Content, content, State, place, may-stand, kind-field, fixed-count, parse}
 use Rattle.model.specs.declared.LineKind.{LineKind}
 use Rattle.model.specs.declared.LineKind.the-variants as kind
 use Rattle.model.specs.declared.Refusal.{Refusal}
 use Rattle.model.specs.declared.Refusal.the-variants as refusal
-use Rattle.model.proofs.ListLaws.{T-dec, beq-exact, beq-differ, cond-true, cond-false}
-use Rattle.model.proofs.SetLaws.{same-eq, eq-same}
+use Rattle.model.proofs.ListLaws.{T-dec, cond-true, cond-false}
 use Rattle.model.proofs.ResultLaws.{bind-assoc, cond-bind}
-use Rattle.demands.specs.LineForm.{Sort, nothing, group-due, quantifier-due, in-order, then-terms, due, Refused-fields, Placed-kind, Faulty-line, unknown, late-ask, no-ask, miscounted, field, Refused-line, Fixed-counts}
+use Rattle.demands.specs.LineForm.{Sort, nothing, group-due, quantifier-due, in-order, then-terms, due, Refused-fields, Allowed, Faulty-line, unknown, misplaced, miscounted, field, Refused-line, Fixed-counts}
 use Rattle.demands.proofs.LineWalk.{why, refused-why, walk, walk-exact, walk-next, walk-rest, walk-groups, walk-end, name-judged, number-judged, number-value, term-judged, op-judged}
 
 -- an `all` or a `some` is refused for what the walk meets
@@ -54,26 +52,6 @@ content-walk kind.Root count fs =
 pub refused-fields : Refused-fields
 refused-fields k count fs r = Iff·trans (refused-why (content k count fs)) (rw (content-walk k count fs) (walk-exact k count fs r))
 
--- whether the kind is `ask` on line 1 and another on the other lines
-abbrev placed : ℕ → Field → Bool
-placed n f = Bool·beq (eqb n 1) (same f (bytes "ask"))
-
--- the test holds exactly of a kind that stands where it may
-placed-exact : (n : ℕ) (f : Field) → T (placed n f) ↔ Placed-kind n f
-placed-exact n f = (
-  λ t. let (to, back) = beq-exact (eqb n 1) (same f (bytes "ask")) .0 t in
-      record { ask-first = λ e. eqb→eq n 1 (back (eq-same e)); first-ask = λ e. same-eq (to (rw e tt)) },
-  λ p. beq-exact (eqb n 1) (same f (bytes "ask")) .1 (λ t. eq-same (p .first-ask (eqb→eq n 1 t)), λ t. rw (p .ask-first (same-eq t)) tt),
-)
-
--- a kind that stands where it may not is no `ask` on line 1, or an `ask` on another
-misplaced : (n : ℕ) (f : Field) → T (not (placed n f)) → ((n ≡ 1) × (f ≢ bytes "ask")) ⊎ ((n ≢ 1) × (f ≡ bytes "ask"))
-misplaced n f t =
-    ⊎-elim
-    (λ p. inl (eqb→eq n 1 (p .0), λ e. T-not (same f (bytes "ask")) (p .1) (eq-same e)))
-    (λ p. inr (λ e. T-not (eqb n 1) (p .0) (rw e tt), same-eq (p .1)))
-    (beq-differ (eqb n 1) (same f (bytes "ask")) t)
-
 -- whether the count is other than the fixed one
 abbrev other-count : ℕ → Option ℕ → Bool
 other-count l o = holds (λ c. not (eqb l c)) o
@@ -92,83 +70,76 @@ counted-exact l none = (λ t fixed e. absurd (Option·none-ne-some fixed e), λ 
 counted-exact l (some c) =
     (λ t fixed e. eqb→eq l c (rw Bool·not-not at t) ∙ Option·some-injective c fixed e, λ h. rw (h c refl, Bool·not-not) (eqb-refl c))
 
-module _ (n count : ℕ) (f : Field) (fs : List Field) where
+module _ (s : State) (f : Field) (fs : List Field) where
   -- a line of an unknown kind is refused
-  parse-unknown : word kinds f ≡ none → parse n count (f ∷ fs) ≡ refused refusal.Form
+  parse-unknown : word kinds f ≡ none → parse s (f ∷ fs) ≡ refused refusal.Form
   unfolding parse next kind-field need
   parse-unknown e = rw e
 
-  -- a line of a known kind is tested for the kind's place and the field count before its fields are read
-  parse-known : {k : LineKind} → word kinds f ≡ some k
-      → parse n count (f ∷ fs) ≡ cond (placed n f) (cond (other-count (length (f ∷ fs)) (fixed-count k)) (refused refusal.Form) (content k count fs)) (refused refusal.Form)
-  unfolding parse next kind-field need
-  parse-known {k} e = rw e (bind-assoc (cond (placed n f) (ok k) (refused refusal.Form)) _ _ ∙ cond-bind (placed n f) k refusal.Form _)
+  module _ {k : LineKind} (e : word kinds f ≡ some k) where
+    -- the fields after the kind, judged after the field count
+    abbrev after-kind : Result Content
+    after-kind = cond (other-count (length (f ∷ fs)) (fixed-count s k)) (refused refusal.Form) (content k (length (s .terms)) fs)
 
-  -- a line whose kind stands where it may not is refused
-  parse-misplaced : ¬ Placed-kind n f → parse n count (f ∷ fs) ≡ refused refusal.Form
-  parse-misplaced h = go (word kinds f) refl
-    where
-      go : (o : Option LineKind) → word kinds f ≡ o → parse n count (f ∷ fs) ≡ refused refusal.Form
-      go none e = parse-unknown e
-      go (some k) e = parse-known e ∙ cond-false (placed n f) _ _ (not-T (placed n f) (λ t. h (placed-exact n f .0 t)))
+    -- a line of a known kind is tested for the kind's place and the field count before its fields are read
+    parse-known : parse s (f ∷ fs) ≡ cond (may-stand s (place k)) after-kind (refused refusal.Form)
+    unfolding parse next kind-field need
+    parse-known =
+        rw e (bind-assoc (cond (may-stand s (place k)) (ok k) (refused refusal.Form)) _ _ ∙ cond-bind (may-stand s (place k)) k refusal.Form _)
 
-  -- a line with a field count other than the fixed one is refused
-  parse-miscounted : {k : LineKind} → word kinds f ≡ some k → T (other-count (length (f ∷ fs)) (fixed-count k))
-      → parse n count (f ∷ fs) ≡ refused refusal.Form
-  parse-miscounted {k} e t = parse-known e ∙ go (placed n f)
-    where
-      go : (b : Bool)
-          → cond b (cond (other-count (length (f ∷ fs)) (fixed-count k)) (refused refusal.Form) (content k count fs)) (refused refusal.Form)
-          ≡ refused refusal.Form
-      go true = cond-true (other-count (length (f ∷ fs)) (fixed-count k)) (refused refusal.Form) (content k count fs) t
-      go false = refl
+    -- a line of a kind that may not stand here is refused
+    parse-misplaced : T (not (may-stand s (place k))) → parse s (f ∷ fs) ≡ refused refusal.Form
+    parse-misplaced t = parse-known ∙ cond-false (may-stand s (place k)) _ _ t
 
-  -- a line of a known kind in its place and with its field count is what its fields are read as
-  parse-fields : {k : LineKind} → word kinds f ≡ some k → T (placed n f) → T (not (other-count (length (f ∷ fs)) (fixed-count k)))
-      → parse n count (f ∷ fs) ≡ content k count fs
-  parse-fields {k} e p c =
-      parse-known e ∙ cond-true (placed n f) _ _ p ∙ cond-false (other-count (length (f ∷ fs)) (fixed-count k)) (refused refusal.Form) (content k count fs) c
+    module _ (a : Allowed s k) where
+      -- any other line is judged by its field count, then by its fields
+      parse-allowed : parse s (f ∷ fs) ≡ after-kind
+      parse-allowed = parse-known ∙ cond-true (may-stand s (place k)) _ _ (a .stands)
 
-  module _ {r : Refusal} where
+      -- a line with a field count other than the fixed one is refused
+      parse-miscounted : T (other-count (length (f ∷ fs)) (fixed-count s k)) → parse s (f ∷ fs) ≡ refused refusal.Form
+      parse-miscounted t = parse-allowed ∙ cond-true (other-count (length (f ∷ fs)) (fixed-count s k)) _ _ t
+
+      -- a line with its field count is what its fields are read as
+      parse-fields : T (not (other-count (length (f ∷ fs)) (fixed-count s k))) → parse s (f ∷ fs) ≡ content k (length (s .terms)) fs
+      parse-fields t = parse-allowed ∙ cond-false (other-count (length (f ∷ fs)) (fixed-count s k)) _ _ t
+
+  module _ {r : Refusal} (q : parse s (f ∷ fs) ≡ refused r) where
     -- a line that is refused with 1 has the refusal r only if r is 1
-    formed : parse n count (f ∷ fs) ≡ refused refusal.Form → parse n count (f ∷ fs) ≡ refused r → Faulty-line n count (f ∷ fs) refusal.Form → Faulty-line n count (f ∷ fs) r
-    formed p q x = let e : r ≡ refusal.Form = cc in rw e x
+    formed : parse s (f ∷ fs) ≡ refused refusal.Form → Faulty-line s (f ∷ fs) refusal.Form → Faulty-line s (f ∷ fs) r
+    formed p x = let e : r ≡ refusal.Form = cc in rw e x
 
     -- a line that is refused is faulty
-    line-faulty : parse n count (f ∷ fs) ≡ refused r → Faulty-line n count (f ∷ fs) r
-    line-faulty q = by-kind (word kinds f) refl
+    line-faulty : Faulty-line s (f ∷ fs) r
+    line-faulty = by-kind (word kinds f) refl
       where
-        late : (n ≢ 1) × (f ≡ bytes "ask") → Faulty-line n count (f ∷ fs) refusal.Form
-        late (h, e) = rw e (late-ask h)
+        by-count : {k : LineKind} → word kinds f ≡ some k → Allowed s k
+            → T (other-count (length (f ∷ fs)) (fixed-count s k)) ⊎ T (not (other-count (length (f ∷ fs)) (fixed-count s k))) → Faulty-line s (f ∷ fs) r
+        by-count {k} e a (inl t) =
+            let (fixed, h, d) = other-count-exact (length (f ∷ fs)) (fixed-count s k) .0 t in formed (parse-miscounted e a t) (miscounted e a h d)
+        by-count {k} e a (inr t) =
+            field e a (counted-exact (length (f ∷ fs)) (fixed-count s k) .0 t) (refused-fields k (length (s .terms)) fs r .0 (sym (parse-fields e a t) ∙ q))
 
-        by-count : {k : LineKind} → word kinds f ≡ some k → T (placed n f)
-            → T (other-count (length (f ∷ fs)) (fixed-count k)) ⊎ T (not (other-count (length (f ∷ fs)) (fixed-count k))) → Faulty-line n count (f ∷ fs) r
-        by-count {k} e p (inl t) = let (fixed, h, d) = other-count-exact (length (f ∷ fs)) (fixed-count k) .0 t in formed (parse-miscounted e t) q (miscounted e h d)
-        by-count {k} e p (inr t) =
-            field e (placed-exact n f .0 p) (counted-exact (length (f ∷ fs)) (fixed-count k) .0 t) (refused-fields k count fs r .0 (sym (parse-fields e p t) ∙ q))
+        by-place : {k : LineKind} → word kinds f ≡ some k → T (may-stand s (place k)) ⊎ T (not (may-stand s (place k))) → Faulty-line s (f ∷ fs) r
+        by-place {k} e (inl t) = by-count e (record { stands = t }) (T-dec (other-count (length (f ∷ fs)) (fixed-count s k)))
+        by-place {k} e (inr t) = formed (parse-misplaced e t) (misplaced e t)
 
-        by-place : {k : LineKind} → word kinds f ≡ some k → T (placed n f) ⊎ T (not (placed n f)) → Faulty-line n count (f ∷ fs) r
-        by-place {k} e (inl t) = by-count e t (T-dec (other-count (length (f ∷ fs)) (fixed-count k)))
-        by-place {k} e (inr t) =
-            formed (parse-misplaced (λ p. T-not (placed n f) t (placed-exact n f .1 p))) q (⊎-elim (λ p. no-ask (p .0) (p .1)) late (misplaced n f t))
-
-        by-kind : (o : Option LineKind) → word kinds f ≡ o → Faulty-line n count (f ∷ fs) r
-        by-kind none e = formed (parse-unknown e) q (unknown e)
-        by-kind (some k) e = by-place e (T-dec (placed n f))
+        by-kind : (o : Option LineKind) → word kinds f ≡ o → Faulty-line s (f ∷ fs) r
+        by-kind none e = formed (parse-unknown e) (unknown e)
+        by-kind (some k) e = by-place e (T-dec (may-stand s (place k)))
 
 -- a line that is faulty is refused
-faulty-refused : {n count : ℕ} {f : Field} {fs : List Field} {r : Refusal} → Faulty-line n count (f ∷ fs) r → parse n count (f ∷ fs) ≡ refused r
-faulty-refused {n} {count} {fs} (unknown {f} e) = parse-unknown n count f fs e
-faulty-refused {n} {count} {fs} (late-ask h) = parse-misplaced n count (bytes "ask") fs (λ p. h (p .ask-first refl))
-faulty-refused {n} {count} {fs} (no-ask {f} e h) = parse-misplaced n count f fs (λ p. h (p .first-ask e))
-faulty-refused {n} {count} {fs} (miscounted {f} {k} {fixed} e h d) =
-    parse-miscounted n count f fs e (other-count-exact (length (f ∷ fs)) (fixed-count k) .1 (fixed, h, d))
-faulty-refused {n} {count} {fs} {r} (field {f} {k} e p c x) =
-    parse-fields n count f fs e (placed-exact n f .1 p) (counted-exact (length (f ∷ fs)) (fixed-count k) .1 c) ∙ refused-fields k count fs r .1 x
+faulty-refused : {s : State} {f : Field} {fs : List Field} {r : Refusal} → Faulty-line s (f ∷ fs) r → parse s (f ∷ fs) ≡ refused r
+faulty-refused {s} {fs} (unknown {f} e) = parse-unknown s f fs e
+faulty-refused {s} {fs} (misplaced {f} e t) = parse-misplaced s f fs e t
+faulty-refused {s} {fs} (miscounted {f} {k} {fixed} e a h d) =
+    parse-miscounted s f fs e a (other-count-exact (length (f ∷ fs)) (fixed-count s k) .1 (fixed, h, d))
+faulty-refused {s} {fs} {r} (field {f} {k} e a c x) =
+    parse-fields s f fs e a (counted-exact (length (f ∷ fs)) (fixed-count s k) .1 c) ∙ refused-fields k (length (s .terms)) fs r .1 x
 
 -- a line is refused with 1 to 4 exactly for a fault
 pub refused-line : Refused-line
-refused-line n count f fs r = (line-faulty n count f fs, faulty-refused)
+refused-line s f fs r = (line-faulty s f fs, faulty-refused)
 
 -- nothing more is due exactly after as many fields as there are sorts
 in-order-done : (ss : List Sort) (fs : List Field) → (in-order ss fs ≡ nothing) ↔ (length ss ≤ length fs)
@@ -187,17 +158,17 @@ counted-done ss {n} e fs =
 -- a fixed field count is the number of fields after which nothing more is due
 pub fixed-counts : Fixed-counts
 unfolding fixed-count due
-fixed-counts kind.Ask n e fs = counted-done _ e fs
-fixed-counts kind.Free n e fs = counted-done _ e fs
-fixed-counts kind.Leaf n e fs = counted-done _ e fs
-fixed-counts kind.Call n e fs = absurd (Option·none-ne-some n e)
-fixed-counts kind.Op n e fs = absurd (Option·none-ne-some n e)
-fixed-counts kind.All n e fs = absurd (Option·none-ne-some n e)
-fixed-counts kind.Some n e fs = absurd (Option·none-ne-some n e)
-fixed-counts kind.Let n e fs = absurd (Option·none-ne-some n e)
-fixed-counts kind.Label n e fs = counted-done _ e fs
-fixed-counts kind.Assume n e fs = counted-done _ e fs
-fixed-counts kind.Fun n e fs = counted-done _ e fs
-fixed-counts kind.Def n e fs = counted-done _ e fs
-fixed-counts kind.Retain n e fs = absurd (Option·none-ne-some n e)
-fixed-counts kind.Root n e fs = counted-done _ e fs
+fixed-counts s kind.Ask n e fs = counted-done _ e fs
+fixed-counts s kind.Free n e fs = counted-done _ e fs
+fixed-counts s kind.Leaf n e fs = counted-done _ e fs
+fixed-counts s kind.Call n e fs = absurd (Option·none-ne-some n e)
+fixed-counts s kind.Op n e fs = absurd (Option·none-ne-some n e)
+fixed-counts s kind.All n e fs = absurd (Option·none-ne-some n e)
+fixed-counts s kind.Some n e fs = absurd (Option·none-ne-some n e)
+fixed-counts s kind.Let n e fs = absurd (Option·none-ne-some n e)
+fixed-counts s kind.Label n e fs = counted-done _ e fs
+fixed-counts s kind.Assume n e fs = counted-done _ e fs
+fixed-counts s kind.Fun n e fs = counted-done _ e fs
+fixed-counts s kind.Def n e fs = counted-done _ e fs
+fixed-counts s kind.Retain n e fs = absurd (Option·none-ne-some n e)
+fixed-counts s kind.Root n e fs = counted-done _ e fs

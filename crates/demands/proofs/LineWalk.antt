@@ -17,7 +17,7 @@ use Rattle.model.specs.declared.Refusal.the-variants as refusal
 use Rattle.model.proofs.ListLaws.{true-T, cond-ap, cond-true}
 use Rattle.model.proofs.ResultLaws.{bind-assoc}
 use Rattle.demands.specs.LineForm.{Sort, a-name, a-number, a-term, an-op-word, Due, must, may, nothing, value, group-due, due, number-fault, term-fault, fault, sort-due, Faulty, lacking, left-over, not-so, later}
-use Rattle.demands.proofs.ReadingLaws.{number-ok}
+use Rattle.laws.proofs.ReadingLaws.{number-ok}
 
 module _ {A : Type 0} where
   -- why there is no value, if there is none

@@ -15,12 +15,13 @@ use Rattle.model.specs.declared.AsumKind.{AsumKind}
 use Rattle.model.specs.declared.AsumKind.the-variants.{Drop, Ambient, Triggers}
 use Rattle.model.proofs.ListLaws.{cond-case, keep-intro, keep-elim, keep-all, keep-none, keep-append, reverse-elim, collect-intro, collect-elim, map-intro, map-elim}
 use Rattle.model.proofs.SetLaws.{Ascending, mem-intro, mem-elim, same-eq, same-refl}
-use Rattle.demands.specs.Accepted.{Distinct, none, one-more}
+use Rattle.demands.specs.LinesRead.{Distinct, none, one-more}
 use Rattle.demands.specs.WellFormed.{Counts-disjuncts, Well-formed}
 use Rattle.demands.proofs.Distinct.{distinct-append, distinct-keep, distinct-reverse, distinct-map, distinct-of-map, distinct-to-map, distinct-map-keep, ascending-distinct}
 use Rattle.demands.proofs.Facts.{fact-names, fact-by-name, names-distinct, one-of-name}
-use Rattle.demands.proofs.FiringLaws.{fires-elim}
-use Rattle.demands.proofs.RoundsLaws.{reached-by, run-end}
+use Rattle.laws.proofs.FiringLaws.{fires-elim}
+use Rattle.laws.proofs.ReachedLaws.{reached-by}
+use Rattle.demands.proofs.RoundsLaws.{run-end}
 
 -- a fact with a disjunct is not ambient
 pub with-disjunct : (kind : AsumKind) {ts : List (List Name)} {d : List Name} → Counts-disjuncts kind ts → List·Memᴰ d ts → T (not (is-ambient kind))

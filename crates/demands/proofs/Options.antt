@@ -1,49 +1,12 @@
 -- The options that are on sum to the options number.
-use Prim.Native.Nat.{ℕ, zero, suc, _+_, _*_, _/_, _%_}
-use native.Mathlib.Omega.{arith}
-use mathlib.Core.Path.{_≡_, refl, sym, ap}
-use mathlib.Core.Bool.{Bool, true, false, cond}
-use lib.Dec.{eqb}
-use borrow.Author.Tests.{eqb-true, eqb-false}
-use Rattle.model.specs.Reading.{no-ambients, pretyping-axioms, prune-decls}
-use Rattle.demands.specs.Options.{option-at, values-on, Places-sum, Options-at-places, Options-sum}
-
--- the option at place 0 counts what remains by 2
-last-digit : (n : ℕ) → cond (option-at 0 n) 1 0 ≡ n % 2
-unfolding option-at
-last-digit n = go (eqb (n % 2) 1) refl
-  where
-    go : (b : Bool) → eqb (n % 2) 1 ≡ b → cond b 1 0 ≡ n % 2
-    go true e = sym (eqb-true (n % 2) 1 e)
-    go false e = let other = eqb-false (n % 2) 1 e in omega arith
+use Rattle.laws.proofs.OptionLaws as laws
+use Rattle.demands.specs.Options.{Places-sum, Options-at-places, Options-sum}
 
 pub places-sum : Places-sum
-unfolding values-on
-places-sum zero n h = omega arith
-places-sum (suc k) n h = omega (arith, last-digit n, places-sum k (n / 2) (omega arith))
+places-sum = laws.places-sum
 
 pub options-at-places : Options-at-places
-unfolding no-ambients pretyping-axioms prune-decls option-at
-options-at-places a = (refl, refl, ap (λ (n : ℕ). eqb (n % 2) 1) (let e : a .options / 4 ≡ a .options / 2 / 2 = omega arith in e))
-
--- an option that is on counts its value
-counts : (b : Bool) (v : ℕ) → cond b v 0 ≡ v * cond b 1 0
-counts true v = omega arith
-counts false v = omega arith
-
--- three options, by the places
-three-places : (n : ℕ) → values-on 3 n ≡ cond (option-at 0 n) 1 0 + 2 * (cond (option-at 1 n) 1 0 + 2 * (cond (option-at 2 n) 1 0 + 2 * 0))
-unfolding values-on option-at
-three-places n = refl
+options-at-places = laws.options-at-places
 
 pub options-sum : Options-sum
-options-sum a h =
-    let (first, second, third) = options-at-places a in
-    rw (first, second, third)
-    (omega (
-      arith,
-      counts (option-at 1 (a .options)) 2,
-      counts (option-at 2 (a .options)) 4,
-      three-places (a .options),
-      places-sum 3 (a .options) (omega arith),
-    ))
+options-sum = laws.options-sum

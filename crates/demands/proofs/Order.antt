@@ -6,21 +6,22 @@ use mathlib.Core.Path.{_≡_, refl, sym, _∙_, ap, ap₂}
 use mathlib.Core.Logic.{_↔_, ⊎-elim}
 use mathlib.Core.Bool.{Bool, true, false, cond, not}
 use mathlib.Core.List.{List, [], _∷_, _++_, map, reverse, reverse-cons, List·Memᴰ, List·Memᴰ·head, List·Memᴰ·tail, List·Memᴰ·cases-cons, List·Memᴰ·not-nil, List·Memᴰ·append-cases, List·Memᴰ·eq-of-singleton, Memᴰ·cast}
-use lib.Dec.{T, eqb, eqb→eq, eqb-refl}
+use lib.Dec.{T}
 use Rattle.model.specs.Lists.{keep, collect}
 use Rattle.model.specs.Names.{Name, same, remove}
 use Rattle.model.specs.Summaries.{exclude-names, Fact}
 use Rattle.model.specs.Reading.{Root, Decl, prune-decls, taken-by}
-use Rattle.model.specs.Rounds.{facts, definitions, declarations, goal-roots}
+use Rattle.model.specs.Rounds.{facts, definitions, declarations, asks-for, goal-roots}
 use Rattle.model.specs.Kept.{kept-names, first-met, kept-decls, kept}
 use Rattle.model.proofs.ListLaws.{T-dec, cond-case, cond-true, cond-false, keep-intro, keep-elim, reverse-intro, reverse-elim, collect-intro, collect-elim, map-intro}
 use Rattle.model.proofs.SetLaws.{same-eq, same-refl}
-use Rattle.demands.specs.Accepted.{Distinct, none as no-more, one-more}
+use Rattle.demands.specs.LinesRead.{records-for, Distinct, none as no-more, one-more}
 use Rattle.demands.specs.Demand3.{run-of}
 use Rattle.demands.specs.FileOrder.{Rising, none as none-rise, one as one-rises, more as more-rise}
 use Rattle.demands.specs.Order.{first-place, Falling, none, one, more, Last-met-first, listed-facts, Decls-in-order, Order-fixed}
 use Rattle.demands.proofs.Distinct.{distinct-map-keep}
 use Rattle.demands.proofs.ListedLaws.{kept-facts-elim, kept-decls-elim}
+use Rattle.demands.proofs.Queries.{asked-query}
 use Rattle.demands.proofs.WellFormed.{accepted-well-formed}
 use Rattle.demands.proofs.RecordLines.{rising-head, rising-tail, roots-rise}
 use Rattle.demands.proofs.Pruned.{distinct-definitions, distinct-declarations}
@@ -231,29 +232,28 @@ lines-apart false defs funs = refl
 -- the definitions and the declarations of every accepted file are listed in the one order
 pub decls-in-order : Decls-in-order
 unfolding kept kept-names goal-roots taken-by
-decls-in-order file s e =
+decls-in-order file s e a =
     let wf = accepted-well-formed file s e in
-    let a = s .goal in
-    let names = kept-names a (facts (s .decls)) (s .roots) (run-of s .reached) in
-    let asked : Root → Bool = λ r. eqb (r .query) (a .query) in
+    let names = kept-names a (facts (records-for a s)) (s .roots) (run-of a s .reached) in
+    let asked : Root → Bool = λ r. asks-for a (r .query) in
     let line : Root → ℕ = λ r. r .line in
     record {
       roots = goal-roots a (s .roots);
       of-query = λ r. (
-        λ i. let (j, t) = keep-elim asked (s .roots) i in (j, eqb→eq (r .query) (a .query) t),
-        λ p. keep-intro asked (p .0) (rw (p .1) (eqb-refl (a .query))),
+        λ i. let (j, t) = keep-elim asked (s .roots) i in (j, asked-query a (r .query) .0 t),
+        λ p. keep-intro asked (p .0) (asked-query a (r .query) .1 (p .1)),
       );
       by-line = ordered-rising line (ordered-keep asked (rising-ordered line (s .roots) (roots-rise exclude-names file s e)));
-      fact-names = λ f i. wf .good-facts f (kept-facts-elim a (facts (s .decls)) (run-of s .reached) i) .free-set;
+      fact-names = λ f i. wf .good-facts f (kept-facts-elim a (facts (records-for a s)) (run-of a s .reached) i) .free-set;
       root-names = λ r i. wf .root-sets r (keep-elim asked (s .roots) i .0);
-      defs = cond (prune-decls a) (kept-decls names (definitions (s .decls))) [];
-      funs = cond (prune-decls a) (kept-decls names (declarations (s .decls))) [];
-      defs-listed = listed (definitions (s .decls)) (prune-decls a) names
-          (distinct-definitions taken-by (λ d. d .name) (λ d. List·Memᴰ·head refl) (s .decls) (wf .distinct));
-      funs-listed = listed (declarations (s .decls)) (prune-decls a) names
-          (distinct-declarations taken-by (λ d. d .name) (λ d. List·Memᴰ·head refl) (s .decls) (wf .distinct));
-      list = ap (map (λ (f : Fact). f .line) (listed-facts s) ++_)
-          (lines-apart (prune-decls a) (kept-decls names (definitions (s .decls))) (kept-decls names (declarations (s .decls))));
+      defs = cond (prune-decls a) (kept-decls names (definitions (records-for a s))) [];
+      funs = cond (prune-decls a) (kept-decls names (declarations (records-for a s))) [];
+      defs-listed = listed (definitions (records-for a s)) (prune-decls a) names
+          (distinct-definitions taken-by (λ d. d .name) (λ d. List·Memᴰ·head refl) (records-for a s) (wf .distinct));
+      funs-listed = listed (declarations (records-for a s)) (prune-decls a) names
+          (distinct-declarations taken-by (λ d. d .name) (λ d. List·Memᴰ·head refl) (records-for a s) (wf .distinct));
+      list = ap (map (λ (f : Fact). f .line) (listed-facts a s) ++_)
+          (lines-apart (prune-decls a) (kept-decls names (definitions (records-for a s))) (kept-decls names (declarations (records-for a s))));
     }
 
 -- what is said of the listed definitions, or declarations, leaves one list
@@ -266,8 +266,8 @@ last-met-unique {names} {l} {m} p q =
 
 -- no other list is in the one order
 pub order-fixed : Order-fixed
-order-fixed file s e lines p =
-    let q = decls-in-order file s e in
+order-fixed file s e a lines p =
+    let q = decls-in-order file s e a in
     let line : Root → ℕ = λ r. r .line in
     let roots : p .roots ≡ q .roots =
     ordered-unique (λ x y h k. omega arith) (rising-ordered line (p .roots) (p .by-line)) (rising-ordered line (q .roots) (q .by-line))

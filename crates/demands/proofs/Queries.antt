@@ -1,62 +1,76 @@
 -- Two accepted files that differ, line for line, only in root lines of other queries give the same list.
 use Prim.Native.Nat.{ℕ, _+_}
 use mathlib.Core.Path.{_≡_, refl, sym, _∙_, ap}
-use mathlib.Core.Logic.{_≢_}
-use mathlib.Core.List.{List, [], _∷_, append-nil}
-use mathlib.Core.Option.{some}
-use lib.Dec.{not-T, eqb, eqb→eq}
+use mathlib.Core.Logic.{_↔_}
+use mathlib.Core.List.{List, [], _∷_, _++_, append-nil, List·Memᴰ}
+use mathlib.Core.Option.{some, Option·some-injective}
+use lib.Dec.{T, not-T, eqb, eqb→eq, eqb-refl}
 use lib.ListN.{length}
 use Rattle.model.specs.Lists.{keep, fold-left}
 use Rattle.model.specs.Names.{Name, bytes, by-byte, order, is-same, same}
 use Rattle.model.specs.Lines.{Line, Field, fields, number}
 use Rattle.model.specs.Summaries.{exclude-names, free-top-level-names}
-use Rattle.model.specs.Reading.{ok, next, name-field, number-field, term-field, kinds, word, content, parse, Content, root, Ask, Summary, Root, State, start, asked, nodes, summarize-decl, root-of, add-line, read, read-line, read-lines}
-use Rattle.model.specs.Rounds.{goal-roots, first-scanned, run}
+use Rattle.model.specs.Reading.{ok, next, name-field, number-field, term-field, kinds, word, most-query, content, parse, Content, root, Ask, Summary, Root, State, start, asked, nodes, summarize-decl, root-of, excluded, add-line, read, read-line, read-lines}
+use Rattle.model.specs.Rounds.{asks-for, goal-roots, first-scanned, run}
 use Rattle.model.specs.Kept.{kept, kept-names}
-use Rattle.model.specs.Outcome.{filtered}
+use Rattle.model.specs.Outcome.{first-ask, goal, listing, filtered}
+use Rattle.model.specs.declared.LineKind.{LineKind}
 use Rattle.model.specs.declared.LineKind.the-variants as kind
-use Rattle.model.proofs.ListLaws.{keep-append, cond-false}
+use Rattle.model.proofs.ListLaws.{any-intro, any-elim, keep-append, cond-false}
 use Rattle.model.proofs.ResultLaws.{ok-eq, bind-ok}
-use Rattle.demands.specs.Queries.{Other-root, Alike, end as no-lines, same as same-line, roots as root-lines, Other-queries-do-not-matter}
-use Rattle.demands.proofs.ReadingLaws.{next-ok, end-ok, number-ok, Parsed, parse-ok, line-read, lines-read, none-read, file-read}
+use Rattle.demands.specs.Queries.{Other-root, Alike, end as no-lines, same as same-line, roots as root-lines, Other-queries-do-not-matter, Filtered-alike}
+use Rattle.laws.proofs.ReadingLaws.{next-ok, end-ok, number-ok, Parsed, parse-ok, line-read, lines-read, none-read, file-read}
 
--- the roots of query q
-abbrev of-query : ℕ → List Root → List Root
-of-query q roots = keep (λ r. eqb (r .query) q) roots
+-- a query is asked for exactly where it is one of the ask's
+pub asked-query : (a : Ask) (q : ℕ) → T (asks-for a q) ↔ List·Memᴰ q (a .queries)
+unfolding asks-for
+asked-query a q = (
+  λ t. let (p, i, u) = any-elim (eqb q) (a .queries) t in rw (eqb→eq q p u) i,
+  λ i. any-intro (eqb q) i (eqb-refl q),
+)
 
--- states that differ only in what is not read for query q
-record Agree (q : ℕ) (s s′ : State) : Type 0 where
-  goals : s .goal ≡ s′ .goal
+-- states that differ only in what is not read for an ask
+record Agree (a : Ask) (s s′ : State) : Type 0 where
+  asks : s .asks ≡ s′ .asks
+  hides : s .hidden ≡ s′ .hidden
   tables : s .terms ≡ s′ .terms
   records : s .decls ≡ s′ .decls
-  queried : of-query q (s .roots) ≡ of-query q (s′ .roots)
+  queried : goal-roots a (s .roots) ≡ goal-roots a (s′ .roots)
+
+-- the ask's roots among two lists of roots, one after the other
+goal-append : (a : Ask) (l m : List Root) → goal-roots a (l ++ m) ≡ goal-roots a l ++ goal-roots a m
+unfolding goal-roots
+goal-append a l m = keep-append (λ (r : Root). asks-for a (r .query)) l m
 
 -- states that agree do so after the same line
-agree-line : (exclude : List Name) (q n : ℕ) (s s′ : State) (c : Content) → Agree q s s′ → Agree q (add-line exclude n s c) (add-line exclude n s′ c)
-unfolding add-line
-agree-line exclude q n s s′ c a =
+agree-line : (exclude : List Name) (a : Ask) (n : ℕ) (s s′ : State) (c : Content) → Agree a s s′ → Agree a (add-line exclude n s c) (add-line exclude n s′ c)
+unfolding add-line excluded
+agree-line exclude a n s s′ c h =
     record {
-      goals = rw (a .goals);
-      tables = rw (a .tables);
-      records = rw (a .tables, a .records);
-      queried = simp (keep-append, a .tables, a .queried);
+      asks = rw (h .asks);
+      hides = h .hides;
+      tables = rw (h .tables);
+      records = rw (h .tables, h .hides, h .records);
+      queried = simp (goal-append, h .tables, h .hides, h .queried);
     }
 
--- a root of another query is none of query q
-other-root : (q : ℕ) (r : Root) → r .query ≢ q → of-query q (r ∷ []) ≡ []
-unfolding keep
-other-root q r other = cond-false (eqb (r .query) q) (r ∷ []) [] (not-T (eqb (r .query) q) (λ u. other (eqb→eq (r .query) q u)))
+-- a root of another query is none of the ask's
+other-root : (a : Ask) (r : Root) → (List·Memᴰ (r .query) (a .queries) → ⊥) → goal-roots a (r ∷ []) ≡ []
+unfolding goal-roots keep
+other-root a r other = cond-false (asks-for a (r .query)) (r ∷ []) [] (not-T (asks-for a (r .query)) (λ t. other (asked-query a (r .query) .0 t)))
 
 -- a root line of another query leaves what is read of the state
-agree-root : (exclude : List Name) (q n : ℕ) (s s′ : State) (p : ℕ) (name : Name) (t : ℕ) → p ≢ q → Agree q s s′ → Agree q (add-line exclude n s (root p name t)) s′
-unfolding add-line asked nodes fold-left summarize-decl root-of keep
-agree-root exclude q n s s′ p name t other a =
-    let r : Root = record { line = n; query = p; name = name; free-names = free-top-level-names exclude (s .terms) t } in
+agree-root : (exclude : List Name) (a : Ask) (n : ℕ) (s s′ : State) (p : ℕ) (name : Name) (t : ℕ) → (List·Memᴰ p (a .queries) → ⊥) → Agree a s s′
+    → Agree a (add-line exclude n s (root p name t)) s′
+unfolding add-line asked nodes fold-left summarize-decl root-of
+agree-root exclude a n s s′ p name t other h =
+    let r : Root = record { line = n; query = p; name = name; free-names = free-top-level-names (excluded exclude s) (s .terms) t } in
     record {
-      goals = a .goals;
-      tables = a .tables;
-      records = rw append-nil (a .records);
-      queried = rw (keep-append, other-root q r other, append-nil) (a .queried);
+      asks = rw append-nil (h .asks);
+      hides = h .hides;
+      tables = h .tables;
+      records = rw append-nil (h .records);
+      queried = rw (goal-append, other-root a r other, append-nil) (h .queried);
     }
 
 -- the word of a root line is the kind of a root
@@ -69,20 +83,20 @@ root-fields : (count : ℕ) (f : Field) (rest : List Field) (p : ℕ) (c : Conte
     → content kind.Root count (f ∷ rest) ≡ ok c → (name : Name) × (t : ℕ) × (c ≡ root p name t)
 unfolding content
 root-fields count f rest p c e g =
-    let ((q, fs₁), g₁, h₁) = bind-ok (next (number-field 255) (f ∷ rest)) g in
+    let ((q, fs₁), g₁, h₁) = bind-ok (next (number-field most-query) (f ∷ rest)) g in
     let ((name, fs₂), g₂, h₂) = bind-ok (next name-field fs₁) h₁ in
     let ((t, fs₃), g₃, h₃) = bind-ok (next (term-field count) fs₂) h₂ in
-    let (f′, split, judged) = next-ok (number-field 255) (f ∷ rest) g₁ in
-    let is-q = number-ok 255 f′ judged .0 in
+    let (f′, split, judged) = next-ok (number-field most-query) (f ∷ rest) g₁ in
+    let is-q = number-ok most-query f′ judged .0 in
     let says = end-ok fs₃ h₃ .1 in
     let same-q : p ≡ q = cc in
     (name, t, cc)
 
 -- the line of another query's root says that root
-root-content : (n count : ℕ) (f : Field) (rest : List Field) (p : ℕ) (c : Content) → number f ≡ some p
-    → Parsed n count (bytes "root" ∷ f ∷ rest) c
+root-content : (s : State) (f : Field) (rest : List Field) (p : ℕ) (c : Content) → number f ≡ some p
+    → Parsed s (bytes "root" ∷ f ∷ rest) c
     → (name : Name) × (t : ℕ) × (c ≡ root p name t)
-root-content n count f rest p c e r =
+root-content s f rest p c e r =
     let split = r .split in
     let known = r .known in
     let says = r .says in
@@ -90,41 +104,54 @@ root-content n count f rest p c e r =
     let word-is : r .kind-word ≡ bytes "root" = cc in
     let others-are : r .others ≡ f ∷ rest = cc in
     let is-kind : r .kind ≡ kind.Root = cc in
-    root-fields count f rest p c e (rw (is-kind, others-are) at says)
+    root-fields (length (s .terms)) f rest p c e (rw (is-kind, others-are) at says)
 
 -- an accepted root line of another query leaves what is read of the state
-agree-other : (exclude : List Name) (q n : ℕ) (line : Line) (s t s′ : State) → Other-root q line → read-line exclude n s line ≡ ok t → Agree q s s′ → Agree q t s′
-agree-other exclude q n line s t s′ o e a =
+agree-other : (exclude : List Name) (a : Ask) (n : ℕ) (line : Line) (s t s′ : State) → Other-root a line → read-line exclude n s line ≡ ok t → Agree a s s′ → Agree a t s′
+agree-other exclude a n line s t s′ o e h =
     let l = line-read exclude n s line t e in
-    let (name, number, says) = root-content n (length (s .terms)) (o .query-field) (o .rest) (o .query) (l .content) (o .is-query) (parse-ok n _ _ (rw (o .is-root) at (l .parsed))) in
-    rw (l .after, says) (agree-root exclude q n s s′ (o .query) name number (o .other) a)
+    let (name, number, says) = root-content s (o .query-field) (o .rest) (o .query) (l .content) (o .is-query) (parse-ok s _ (rw (o .is-root) at (l .parsed))) in
+    rw (l .after, says) (agree-root exclude a n s s′ (o .query) name number (o .other) h)
+
+-- a line that two states with as many terms accept says the same after both
+parse-alike : (s s′ : State) (fs : List Field) {c c′ : Content} → length (s .terms) ≡ length (s′ .terms) → parse s fs ≡ ok c → parse s′ fs ≡ ok c′ → c ≡ c′
+parse-alike s s′ fs {c} {c′} count e e′ =
+    let p = parse-ok s fs e in
+    let q = parse-ok s′ fs e′ in
+    let both = sym (p .split) ∙ q .split in
+    let same-word : p .kind-word ≡ q .kind-word = cc in
+    let same-others : p .others ≡ q .others = cc in
+    let same-kind : p .kind ≡ q .kind = Option·some-injective (p .kind) (q .kind) (sym (p .known) ∙ ap (word kinds) same-word ∙ q .known) in
+    content-alike same-kind count same-others (p .says) (q .says)
+  where
+    content-alike : {k k′ : LineKind} {n n′ : ℕ} {gs gs′ : List Field} → k ≡ k′ → n ≡ n′ → gs ≡ gs′ → content k n gs ≡ ok c → content k′ n′ gs′ ≡ ok c′ → c ≡ c′
+    content-alike a b d f f′ = ok-eq (sym f ∙ rw (a, b, d) f′)
 
 -- states that agree do so after a line that both accept
-agree-same : (exclude : List Name) (q n : ℕ) (line : Line) (s t s′ t′ : State) → read-line exclude n s line ≡ ok t → read-line exclude n s′ line ≡ ok t′ → Agree q s s′ → Agree q t t′
-agree-same exclude q n line s t s′ t′ e e′ a =
+agree-same : (exclude : List Name) (a : Ask) (n : ℕ) (line : Line) (s t s′ t′ : State) → read-line exclude n s line ≡ ok t → read-line exclude n s′ line ≡ ok t′ → Agree a s s′ → Agree a t t′
+agree-same exclude a n line s t s′ t′ e e′ h =
     let l = line-read exclude n s line t e in
     let l′ = line-read exclude n s′ line t′ e′ in
-    let tables = a .tables in
-    let same-content : l .content ≡ l′ .content = ok-eq (sym (l .parsed) ∙ ap (λ ts. parse n (length ts) (fields (line .bytes))) tables ∙ l′ .parsed) in
-    rw (l .after, l′ .after, same-content) (agree-line exclude q n s s′ (l′ .content) a)
+    let same-content = parse-alike s s′ (fields (line .bytes)) (ap length (h .tables)) (l .parsed) (l′ .parsed) in
+    rw (l .after, l′ .after, same-content) (agree-line exclude a n s s′ (l′ .content) h)
 
 -- states agree both ways round
-agree-sym : {q : ℕ} {s s′ : State} → Agree q s s′ → Agree q s′ s
-agree-sym a = record { goals = sym (a .goals); tables = sym (a .tables); records = sym (a .records); queried = sym (a .queried) }
+agree-sym : {a : Ask} {s s′ : State} → Agree a s s′ → Agree a s′ s
+agree-sym h = record { asks = sym (h .asks); hides = sym (h .hides); tables = sym (h .tables); records = sym (h .records); queried = sym (h .queried) }
 
 -- lines that differ only in root lines of other queries, accepted from states that agree, end in states that agree
-agree-lines : (exclude : List Name) {q : ℕ} {ls ms : List Line} → Alike q ls ms → (n : ℕ) (s s′ t t′ : State)
-    → read-lines exclude n s ls ≡ read t → read-lines exclude n s′ ms ≡ read t′ → Agree q s s′ → Agree q t t′
-agree-lines exclude no-lines n s s′ t t′ e e′ a = rw (← (none-read exclude n s t e), ← (none-read exclude n s′ t′ e′)) a
-agree-lines exclude {q} (same-line {line} {ls} {ms} alike) n s s′ t t′ e e′ a =
+agree-lines : (exclude : List Name) {a : Ask} {ls ms : List Line} → Alike a ls ms → (n : ℕ) (s s′ t t′ : State)
+    → read-lines exclude n s ls ≡ read t → read-lines exclude n s′ ms ≡ read t′ → Agree a s s′ → Agree a t t′
+agree-lines exclude no-lines n s s′ t t′ e e′ h = rw (← (none-read exclude n s t e), ← (none-read exclude n s′ t′ e′)) h
+agree-lines exclude {a} (same-line {line} {ls} {ms} alike) n s s′ t t′ e e′ h =
     let (u, r, others) = lines-read exclude n s line ls t e in
     let (u′, r′, others′) = lines-read exclude n s′ line ms t′ e′ in
-    agree-lines exclude alike (n + 1) u u′ t t′ others others′ (agree-same exclude q n line s u s′ u′ r r′ a)
-agree-lines exclude {q} (root-lines {l} {m} {ls} {ms} o o′ alike) n s s′ t t′ e e′ a =
+    agree-lines exclude alike (n + 1) u u′ t t′ others others′ (agree-same exclude a n line s u s′ u′ r r′ h)
+agree-lines exclude {a} (root-lines {l} {m} {ls} {ms} o o′ alike) n s s′ t t′ e e′ h =
     let (u, r, others) = lines-read exclude n s l ls t e in
     let (u′, r′, others′) = lines-read exclude n s′ m ms t′ e′ in
     agree-lines exclude alike (n + 1) u u′ t t′ others others′
-    (agree-sym (agree-other exclude q n m s′ u′ u o′ r′ (agree-sym (agree-other exclude q n l s u s′ o r a))))
+    (agree-sym (agree-other exclude a n m s′ u′ u o′ r′ (agree-sym (agree-other exclude a n l s u s′ o r h))))
 
 -- the run depends on the roots of its query only
 run-roots : (a : Ask) (decls : List Summary) (roots roots′ : List Root) → goal-roots a roots ≡ goal-roots a roots′ → run a decls roots ≡ run a decls roots′
@@ -137,19 +164,21 @@ kept-roots : (a : Ask) (decls : List Summary) (roots roots′ : List Root) (reac
 unfolding kept kept-names
 kept-roots a decls roots roots′ reached e = rw e
 
--- states that agree on the query asked give the same list
-agree-filtered : (s s′ : State) → Agree (s .goal .query) s s′ → filtered s ≡ filtered s′
-unfolding filtered goal-roots
-agree-filtered s s′ a =
-    let goals = a .goals in
-    let records = a .records in
-    let queried : goal-roots (s .goal) (s .roots) ≡ goal-roots (s .goal) (s′ .roots) = a .queried in
-    let runs = run-roots (s .goal) (s .decls) (s .roots) (s′ .roots) queried in
-    rw (← goals, ← records, runs, kept-roots (s .goal) (s .decls) (s .roots) (s′ .roots) _ queried)
+-- what an ask comes to depends on the roots of its queries only
+listing-roots : (a : Ask) (decls : List Summary) (roots roots′ : List Root) → goal-roots a roots ≡ goal-roots a roots′ → listing a decls roots ≡ listing a decls roots′
+unfolding listing
+listing-roots a decls roots roots′ e = rw (run-roots a decls roots roots′ e, kept-roots a decls roots roots′ _ e)
 
 -- root lines of other queries do not matter
 pub other-queries-do-not-matter : Other-queries-do-not-matter
-other-queries-do-not-matter file file′ s s′ e e′ alike =
-    agree-filtered s s′ (agree-lines exclude-names alike 1 start start s s′
-    (file-read exclude-names file s e) (file-read exclude-names file′ s′ e′)
-    (record { goals = refl; tables = refl; records = refl; queried = refl }))
+other-queries-do-not-matter file file′ s s′ e e′ a alike =
+    let agree = agree-lines exclude-names alike 1 start start s s′ (file-read exclude-names file s e) (file-read exclude-names file′ s′ e′)
+    (record { asks = refl; hides = refl; tables = refl; records = refl; queried = refl }) in
+    record { asks = agree .asks; listed = rw (agree .records) (listing-roots a (s′ .decls) (s .roots) (s′ .roots) (agree .queried)) }
+
+-- two such files give the same list
+pub filtered-alike : Filtered-alike
+unfolding filtered
+filtered-alike file file′ s s′ e e′ alike =
+    let same = other-queries-do-not-matter file file′ s s′ e e′ (goal s) alike in
+    same .listed ∙ ap (λ asks. listing (first-ask asks) (s′ .decls) (s′ .roots)) (same .asks)

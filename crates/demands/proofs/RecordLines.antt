@@ -10,14 +10,14 @@ use Rattle.model.specs.Names.{Name}
 use Rattle.model.specs.Lines.{lines}
 use Rattle.model.specs.Terms.{Term}
 use Rattle.model.specs.Summaries.{Fact, summarize-assumption}
-use Rattle.model.specs.Reading.{Content, ask, term, assume, fun, def, retain, root, Decl, Summary, Sum-assume, Sum-definefun, Sum-declfun, Root, State, start, read, summarize-decl, root-of, add-line, read-file}
+use Rattle.model.specs.Reading.{Content, ask, term, assume, fun, def, retain, root, Decl, Summary, Sum-assume, Sum-definefun, Sum-declfun, Root, State, start, read, summarize-decl, root-of, excluded, add-line, read-file}
 use Rattle.model.specs.Rounds.{facts, definitions, declarations}
 use Rattle.model.proofs.ListLaws.{collect-append}
-use Rattle.demands.specs.Accepted.{Distinct, none as no-more, one-more}
+use Rattle.demands.specs.LinesRead.{Distinct, none as no-more, one-more}
 use Rattle.demands.specs.FileOrder.{line-of, Rising, none, one, more}
 use Rattle.demands.proofs.Distinct.{distinct-collect}
-use Rattle.demands.proofs.Records.{fact-summary, definition-summary, declaration-summary}
-use Rattle.demands.proofs.ReadingLaws.{line-read, kept-by-file}
+use Rattle.laws.proofs.Records.{fact-summary, definition-summary, declaration-summary}
+use Rattle.laws.proofs.ReadingLaws.{line-read, kept-by-file}
 
 -- the records of the n-th line stand on it
 line-n : (exclude : List Name) (terms : List Term) (n : ℕ) (c : Content) → (collect line-of (summarize-decl exclude terms n c) ≡ []) ⊎ (collect line-of (summarize-decl exclude terms n c) ≡ n ∷ [])
@@ -97,8 +97,8 @@ placed-line : (exclude : List Name) (n : ℕ) (s : State) (c : Content) → Plac
 unfolding add-line
 placed-line exclude n s c i =
     record {
-      decls = rw collect-append (lines-step n (collect line-of (s .decls)) _ (i .decls) (line-n exclude (s .terms) n c));
-      roots = rw map-append (lines-step n (map (λ r. r .line) (s .roots)) _ (i .roots) (root-n exclude (s .terms) n c));
+      decls = rw collect-append (lines-step n (collect line-of (s .decls)) _ (i .decls) (line-n (excluded exclude s) (s .terms) n c));
+      roots = rw map-append (lines-step n (map (λ r. r .line) (s .roots)) _ (i .roots) (root-n (excluded exclude s) (s .terms) n c));
     }
 
 module _ (exclude : List Name) (file : List ℕ) (s : State) (e : read-file exclude file ≡ read s) where

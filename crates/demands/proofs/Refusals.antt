@@ -18,9 +18,9 @@ use Rattle.model.specs.declared.Refusal.{Refusal}
 use Rattle.model.specs.declared.Refusal.the-variants as refusal
 use Rattle.model.proofs.ListLaws.{cond-case}
 use Rattle.model.proofs.ResultLaws.{not-ok}
-use Rattle.demands.specs.LineForm.{Sort, a-name, a-number, a-term, an-op-word, number-fault, term-fault, fault, Faulty, lacking, left-over, not-so, later, Faulty-line, unknown, late-ask, no-ask, miscounted, field}
+use Rattle.demands.specs.LineForm.{Sort, a-name, a-number, a-term, an-op-word, number-fault, term-fault, fault, Faulty, lacking, left-over, not-so, later, Faulty-line, unknown, misplaced, miscounted, field}
 use Rattle.demands.specs.Demand1.{Of-line, Of-fields, form as of-form, name as of-name, number as of-number, term as of-term, repeated as of-repeated, full-names, full-terms, full-records, full-triggers}
-use Rattle.demands.proofs.ReadingLaws.{Lowest, past-names, past-terms, past-records, past-triggers, Line-view, unended, unparsed, repeated, past-limit, accepted, line-view, lines-read, none-read, not-read}
+use Rattle.laws.proofs.ReadingLaws.{Lowest, past-names, past-terms, past-records, past-triggers, Line-view, unended, unparsed, repeated, past-limit, accepted, line-view, lines-read, none-read, not-read}
 use Rattle.demands.proofs.LineForm.{refused-line}
 
 -- no refusal, or one of 1 to 4
@@ -56,18 +56,17 @@ faulty-refusal {count} (not-so {f} {s} p e) = rw e at (fault-only count s f)
 faulty-refusal (later p e x) = faulty-refusal x
 
 -- a faulty line is refused by 1 to 4
-faulty-line-refusal : {n count : ℕ} {all : List Field} {r : Refusal} → Faulty-line n count all r → Of-fields r
+faulty-line-refusal : {s : State} {all : List Field} {r : Refusal} → Faulty-line s all r → Of-fields r
 faulty-line-refusal (unknown e) = of-form
-faulty-line-refusal (late-ask h) = of-form
-faulty-line-refusal (no-ask e h) = of-form
-faulty-line-refusal (miscounted e h d) = of-form
-faulty-line-refusal (field e p c x) = faulty-refusal x
+faulty-line-refusal (misplaced e t) = of-form
+faulty-line-refusal (miscounted e a h d) = of-form
+faulty-line-refusal (field e a c x) = faulty-refusal x
 
 -- the fields of a line are refused by 1 to 4 alone
-pub parse-refusal : (n count : ℕ) (all : List Field) {r : Refusal} → parse n count all ≡ refused r → Of-fields r
+pub parse-refusal : (s : State) (all : List Field) {r : Refusal} → parse s all ≡ refused r → Of-fields r
 unfolding parse next
-parse-refusal n count [] {r} e = let is : r ≡ refusal.Form = cc in rw is of-form
-parse-refusal n count (f ∷ fs) {r} e = faulty-line-refusal (refused-line n count f fs r .0 e)
+parse-refusal s [] {r} e = let is : r ≡ refusal.Form = cc in rw is of-form
+parse-refusal s (f ∷ fs) {r} e = faulty-line-refusal (refused-line s f fs r .0 e)
 
 -- the refusals of the fields are refusals of a line
 pub fields-line : {r : Refusal} → Of-fields r → Of-line r
@@ -96,7 +95,7 @@ line-refusal exclude n s line {r} e = go (line-view exclude n s line) e
   where
     go : {x : Result State} → Line-view exclude n s line x → x ≡ refused r → Of-line r
     go (unended t) e = let is : r ≡ refusal.Form = cc in rw is of-form
-    go (unparsed {r = q} t p) e = let is : q ≡ r = cc in rw is at (fields-line (parse-refusal n (length (s .terms)) (fields (line .bytes)) p))
+    go (unparsed {r = q} t p) e = let is : q ≡ r = cc in rw is at (fields-line (parse-refusal s (fields (line .bytes)) p))
     go (repeated c t p u) e = let is : r ≡ refusal.Repeated = cc in rw is of-repeated
     go (past-limit {r = q} c t p u v) e = let is : q ≡ r = cc in rw is at (limit-line v)
     go (accepted c t p u v) e = absurd (not-ok (sym e))

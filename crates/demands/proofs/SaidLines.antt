@@ -11,7 +11,7 @@ use Rattle.model.specs.Summaries.{exclude-names}
 use Rattle.model.specs.Reading.{Content, ok, State, start, read, parse, add-line, read-line, read-lines}
 use Rattle.model.proofs.ResultLaws.{ok-eq}
 use Rattle.demands.specs.Demand1.{Reached-line, Says}
-use Rattle.demands.proofs.ReadingLaws.{Line-read, line-read, lines-read, none-read}
+use Rattle.laws.proofs.ReadingLaws.{Line-read, line-read, lines-read, none-read}
 use Rattle.demands.proofs.Refusals.{Reaches, reaches-first, reaches-later, lines-append}
 
 -- a line that is reached from the start, in the words of the statement
@@ -24,7 +24,7 @@ pub record Said-from (n : ℕ) (s : State) (ls : List Line) : Type 0 where
   pub at : Reaches exclude-names n s ls place
   pub content : Content
   pub ended : T (at .line .ended)
-  pub parsed : parse place (length (at .state .terms)) (fields (at .line .bytes)) ≡ ok content
+  pub parsed : parse (at .state) (fields (at .line .bytes)) ≡ ok content
 
 -- the first of some lines, if it is read
 unfoldable pub said-first : (n : ℕ) (s u : State) (line : Line) (ls : List Line) → Line-read exclude-names n s line u → Said-from n s (line ∷ ls)

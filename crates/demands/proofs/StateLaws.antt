@@ -13,12 +13,12 @@ use Rattle.model.specs.Names.{Name, same, mem}
 use Rattle.model.specs.Lines.{Line}
 use Rattle.model.specs.Terms.{Node, FreeV, Leaf, Call, App, Forall, Exists, Let, Labeled, Term, add-term, references, unlabeled, free-top-level-names as node-names, term as term-of}
 use Rattle.model.specs.Summaries.{Fact, free-of, call-of, free-top-level-names, group-names, at, token, summarize-kind, summarize-assumption}
-use Rattle.model.specs.Reading.{ok, Content, ask, term, assume, fun, def, retain, root, Summary, Sum-assume, Sum-definefun, Sum-declfun, Sum-retain, Decl, Root, State, start, nodes, spelled-by, spelled, spell, entries-of, uses-of, summarize-decl, trimmed, root-of, add-line, read-line}
+use Rattle.model.specs.Reading.{ok, Content, ask, term, assume, fun, def, retain, root, Summary, Sum-assume, Sum-definefun, Sum-declfun, Sum-retain, Decl, Root, State, start, nodes, spelled-by, spelled, spell, entries-of, uses-of, summarize-decl, trimmed, root-of, excluded, add-line, read-line}
 use Rattle.model.proofs.ListLaws.{T-dec, T-ext, any-append, cond-true, cond-false, getD-case, getD-one-more, fold-left-case, sum-map-append}
 use Rattle.model.proofs.SetLaws.{Within, within-nil, within-left, within-right, within-add, within-union, mem-intro, mem-cons, mem-first, mem-append, mem-diff}
-use Rattle.demands.specs.Accepted.{Distinct, none, one-more}
+use Rattle.demands.specs.LinesRead.{Distinct, none, one-more}
 use Rattle.demands.proofs.Distinct.{distinct-append}
-use Rattle.demands.proofs.ReadingLaws.{line-read}
+use Rattle.laws.proofs.ReadingLaws.{line-read}
 use Rattle.demands.proofs.TermNames.{Name-law, node-law, free-law, group-law}
 use Rattle.demands.proofs.Disjuncts.{Parts, lawful-kind}
 use Rattle.demands.proofs.TermNumbers.{Below, terms-named, named-below}
@@ -221,21 +221,22 @@ terms-more {names} {terms} h node w t i =
 numbered-line : (exclude : List Name) (n : ℕ) (s : State) (c : Content) → Numbered s → Numbered (add-line exclude n s c)
 unfolding add-line
 numbered-line exclude n s c h =
-    let added = spelled c ++ trimmed exclude (s .terms) c in
+    let out = excluded exclude s in
+    let added = spelled c ++ trimmed out (s .terms) c in
     let names′ = fold-left spell (s .names) added in
     let within = spelled-within (s .names) added in
     let old = within-left (s .names) added names′ within in
     let both = within-right (s .names) added names′ within in
-    let new = within-left (spelled c) (trimmed exclude (s .terms) c) names′ both in
-    let short = within-right (spelled c) (trimmed exclude (s .terms) c) names′ both in
+    let new = within-left (spelled c) (trimmed out (s .terms) c) names′ both in
+    let short = within-right (spelled c) (trimmed out (s .terms) c) names′ both in
     record {
       terms =
           fold-left-case (λ terms. (t : Term) → List·Memᴰ t terms → Term-numbered names′ t) add-term (nodes c)
           (λ terms node i below. terms-more below node (rw (node-spelled c node i) new))
           (λ t i. record { spells = λ k u. old k (h .terms t i .spells k u); free = λ k u. old k (h .terms t i .free k u) });
-      records = λ x i. ⊎-elim (λ j. grown (s .names) names′ old x (h .records x j)) (records-line (h .terms) exclude names′ n c old new short x) (List·Memᴰ·append-cases (s .decls) i);
+      records = λ x i. ⊎-elim (λ j. grown (s .names) names′ old x (h .records x j)) (records-line (h .terms) out names′ n c old new short x) (List·Memᴰ·append-cases (s .decls) i);
       roots = λ r i. ⊎-elim (λ j. record { name = old (r .name) (h .roots r j .name); free = λ k u. old k (h .roots r j .free k u) })
-          (roots-line (h .terms) exclude names′ n c old new r) (List·Memᴰ·append-cases (s .roots) i);
+          (roots-line (h .terms) out names′ n c old new r) (List·Memᴰ·append-cases (s .roots) i);
     }
 
 -- the terms that the t-th term names, on its line and under its labels, are below t
@@ -286,8 +287,8 @@ pub record Counts (s : State) : Type 0 where
 counts-line : (exclude : List Name) (n : ℕ) (s : State) (c : Content) → Counts s → Counts (add-line exclude n s c)
 unfolding add-line
 counts-line exclude n s c h =
-    let decls = summarize-decl exclude (s .terms) n c in
-    let roots = root-of exclude (s .terms) n c in
+    let decls = summarize-decl (excluded exclude s) (s .terms) n c in
+    let roots = root-of (excluded exclude s) (s .terms) n c in
     record {
       entries = omega (arith, h .entries, sum-map-append entries-of (s .decls) decls);
       uses = omega (arith, h .uses, sum-map-append uses-of (s .decls) decls, sum-map-append (λ (r : Root). length (r .free-names)) (s .roots) roots);
@@ -317,7 +318,7 @@ pub laws-added : (exclude : List Name) (n : ℕ) (s : State) (c : Content) → B
 unfolding add-line
 laws-added exclude n s c below h =
     record {
-      numbered-once = fold-left-case Distinct spell (spelled c ++ trimmed exclude (s .terms) c) (λ names name i d. spell-distinct names name d) (h .numbered-once);
+      numbered-once = fold-left-case Distinct spell (spelled c ++ trimmed (excluded exclude s) (s .terms) c) (λ names name i d. spell-distinct names name d) (h .numbered-once);
       numbered = numbered-line exclude n s c (h .numbered);
       lower = lower-line (s .terms) c below (h .lower);
       counts = counts-line exclude n s c (h .counts);
@@ -327,4 +328,4 @@ laws-added exclude n s c below h =
 pub laws-line : (exclude : List Name) (n : ℕ) (s s′ : State) (line : Line) → read-line exclude n s line ≡ ok s′ → State-laws s → State-laws s′
 laws-line exclude n s s′ line e h =
     let l = line-read exclude n s line s′ e in
-    rw (l .after) (laws-added exclude n s (l .content) (named-below n (length (s .terms)) _ (l .parsed)) h)
+    rw (l .after) (laws-added exclude n s (l .content) (named-below s _ (l .parsed)) h)

@@ -5,16 +5,17 @@ use mathlib.Core.Logic.{⊎-elim}
 use mathlib.Core.Bool.{Bool, true, false, cond}
 use mathlib.Core.List.{List, [], _∷_, _++_, List·Memᴰ, List·Memᴰ·cases-cons, List·Memᴰ·not-nil, List·Memᴰ·append-cases}
 use lib.Dec.{ltb, ltb→lt}
+use lib.ListN.{length}
 use Rattle.model.specs.Lists.{concat}
 use Rattle.model.specs.Lines.{Field}
 use Rattle.model.specs.Terms.{Node, references}
-use Rattle.model.specs.Reading.{Result, ok, refused, _>>=_, name-field, number-field, term-field, op-words, word, need, next, many, rest, end, groups, Content, ask, term, assume, fun, def, retain, root, quantifier, content, parse}
+use Rattle.model.specs.Reading.{Result, ok, refused, _>>=_, name-field, number-field, term-field, op-words, word, need, next, many, rest, end, groups, Content, ask, term, assume, fun, def, retain, root, quantifier, most-query, most-options, content, State, parse}
 use Rattle.model.specs.declared.LineKind.{LineKind}
 use Rattle.model.specs.declared.LineKind.the-variants as kind
 use Rattle.model.specs.declared.Refusal.{Refusal}
 use Rattle.model.specs.declared.Refusal.the-variants as refusal
 use Rattle.model.proofs.ResultLaws.{not-ok, ok-eq}
-use Rattle.demands.proofs.ReadingLaws.{parse-ok}
+use Rattle.laws.proofs.ReadingLaws.{parse-ok}
 
 -- these numbers are below the count
 abbrev pub Below : ℕ → List ℕ → Type 0
@@ -127,7 +128,7 @@ module _ (count : ℕ) where
   gives-content : (k : LineKind) (fs : List Field) → Gives (λ c. Below count (terms-named c)) (content k count fs)
   unfolding content terms-named references
   gives-content kind.Ask fs =
-      gives-bind (any-value (next (number-field 255) fs)) (λ q u. gives-bind (any-value (next (number-field 7) (q .1))) (λ o v. gives-end _ none-below (o .1)))
+      gives-bind (any-value (next (number-field most-query) fs)) (λ q u. gives-bind (any-value (next (number-field most-options) (q .1))) (λ o v. gives-end _ none-below (o .1)))
   gives-content kind.Free fs = gives-bind (any-value (next name-field fs)) (λ n u. gives-end _ none-below (n .1))
   gives-content kind.Leaf fs = gives-end _ none-below fs
   gives-content kind.Call fs = gives-bind (any-value (next name-field fs)) (λ n u. gives-bind (gives-rest (n .1)) (λ ts h. value h))
@@ -146,10 +147,10 @@ module _ (count : ℕ) where
       gives-bind (any-value (next name-field fs)) (λ n u. gives-bind (gives-next gives-term (n .1)) (λ t h. gives-end _ (more-below h none-below) (t .1)))
   gives-content kind.Retain fs = gives-bind (any-value (rest name-field fs)) (λ ns u. value none-below)
   gives-content kind.Root fs =
-      gives-bind (any-value (next (number-field 255) fs)) (λ q u.
+      gives-bind (any-value (next (number-field most-query) fs)) (λ q u.
       gives-bind (any-value (next name-field (q .1))) (λ n v.
       gives-bind (gives-next gives-term (n .1)) (λ t h. gives-end _ (more-below h none-below) (t .1))))
 
 -- the terms that an accepted line names are below the count of the term lines before it
-pub named-below : (n count : ℕ) (fs : List Field) {c : Content} → parse n count fs ≡ ok c → Below count (terms-named c)
-named-below n count fs e = let p = parse-ok n count fs e in given (gives-content count (p .kind) (p .others)) (p .says)
+pub named-below : (s : State) (fs : List Field) {c : Content} → parse s fs ≡ ok c → Below (length (s .terms)) (terms-named c)
+named-below s fs e = let p = parse-ok s fs e in given (gives-content (length (s .terms)) (p .kind) (p .others)) (p .says)

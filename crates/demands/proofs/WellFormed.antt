@@ -9,17 +9,17 @@ use Rattle.model.specs.Lists.{collect, fold-left}
 use Rattle.model.specs.Names.{Name, mem}
 use Rattle.model.specs.Terms.{Node, Term, add-term}
 use Rattle.model.specs.Summaries.{exclude-names, free-top-level-names, at, summarize-assumption}
-use Rattle.model.specs.Reading.{Content, ask, term, assume, fun, def, retain, root, Summary, Root, State, start, nodes, taken-by, summarize-decl, root-of, add-line, repeats, read, read-file}
+use Rattle.model.specs.Reading.{Content, ask, term, assume, fun, def, retain, root, Summary, Root, State, start, nodes, taken-by, summarize-decl, root-of, excluded, add-line, repeats, read, read-file}
 use Rattle.model.specs.Rounds.{facts, definitions}
 use Rattle.model.proofs.ListLaws.{any-intro, collect-append, fold-left-case}
 use Rattle.model.proofs.SetLaws.{Ascending, empty, one, ascending-add, ascending-union, ascending-diff, mem-intro}
-use Rattle.demands.specs.Accepted.{Distinct, none as distinct-none, one-more}
+use Rattle.demands.specs.LinesRead.{Distinct, none as distinct-none, one-more}
 use Rattle.demands.specs.WellFormed.{Good-fact, Well-formed, Accepted-well-formed}
 use Rattle.demands.proofs.Distinct.{distinct-append}
-use Rattle.demands.proofs.Records.{facts-append, definitions-append}
+use Rattle.laws.proofs.Records.{facts-append, definitions-append}
 use Rattle.demands.proofs.TermNames.{Name-law, node-law, free-law, group-law}
 use Rattle.demands.proofs.Disjuncts.{Parts, lawful-kind}
-use Rattle.demands.proofs.ReadingLaws.{line-read, kept-by-file}
+use Rattle.laws.proofs.ReadingLaws.{line-read, kept-by-file}
 
 -- records without a fact or a definition, and no root, are well formed where no name is taken twice
 no-sets : {l : List Summary} → Distinct (collect taken-by l) → facts l ≡ [] → definitions l ≡ [] → Well-formed l []
@@ -113,7 +113,7 @@ sets-after sets c = fold-left-case Term-sets add-term (nodes c) (λ terms node i
 
 -- a line that does not repeat takes no name that is taken
 apart : (exclude : List Name) (n : ℕ) (s : State) (c : Content) → T (not (repeats exclude n s c))
-    → (name : Name) → List·Memᴰ name (collect taken-by (s .decls)) → List·Memᴰ name (collect taken-by (summarize-decl exclude (s .terms) n c)) → ⊥
+    → (name : Name) → List·Memᴰ name (collect taken-by (s .decls)) → List·Memᴰ name (collect taken-by (summarize-decl (excluded exclude s) (s .terms) n c)) → ⊥
 unfolding repeats
 apart exclude n s c t name i j =
     T-not (repeats exclude n s c) t (any-intro (λ k. mem k (collect taken-by (s .decls))) j (mem-intro i))
@@ -134,7 +134,7 @@ unfolding add-line
 sound-line exclude n s c fresh v =
     record {
       sets = sets-after (v .sets) c;
-      well = well-append (v .well) (well-line (v .sets) exclude n c) (apart exclude n s c fresh);
+      well = well-append (v .well) (well-line (v .sets) (excluded exclude s) n c) (apart exclude n s c fresh);
     }
 
 -- every accepted file leaves a sound state

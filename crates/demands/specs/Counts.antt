@@ -10,9 +10,9 @@ use Rattle.model.specs.Lists.{any, keep, count, sum}
 use Rattle.model.specs.Names.{Name, bytes, same, mem}
 use Rattle.model.specs.Lines.{Line, lines, Field, fields}
 use Rattle.model.specs.Summaries.{exclude-names, Fact, summarize-kind}
-use Rattle.model.specs.Reading.{Content, Decl, Root, State, add-line}
+use Rattle.model.specs.Reading.{Content, Decl, Root, State, excluded, add-line}
 use Rattle.model.specs.Rounds.{facts, definitions}
-use Rattle.demands.specs.Accepted.{Distinct}
+use Rattle.demands.specs.LinesRead.{Distinct}
 use Rattle.demands.specs.LineForm.{is-a-name, is-a-term, fields-of}
 use Rattle.demands.specs.Demand1.{Reached-line, Says}
 use Rattle.demands.specs.FileOrder.{of-record}
@@ -32,6 +32,10 @@ term-words = "free" ∷ "leaf" ∷ "call" ∷ "op" ∷ "all" ∷ "some" ∷ "let
 -- "Record lines"
 unfoldable pub record-words : List String
 record-words = "assume" ∷ "fun" ∷ "def" ∷ "retain" ∷ "root" ∷ []
+
+-- the ask line
+unfoldable pub ask-words : List String
+ask-words = "ask" ∷ []
 
 -- whether a field is one of the words
 unfoldable pub is-word : List String → Field → Bool
@@ -69,7 +73,7 @@ pub record Counted (read-so-far : List Line) (s : State) : Type 0 where
 -- the token that rule 4 trims, of an assume line
 abbrev pub token-trimmed : {ls : List Line} {n : ℕ} → Reached-line ls n → Content → List Name
 token-trimmed l =
-    of-record (λ name flag t. summarize-kind exclude-names (l .state .terms) name t .trimmed) (λ name. []) (λ name t. []) (λ q name t. [])
+    of-record (λ name flag t. summarize-kind (excluded exclude-names (l .state)) (l .state .terms) name t .trimmed) (λ name. []) (λ name t. []) (λ q name t. [])
 
 -- what a line adds to the names: those that it spells, and the token that rule 4 trims
 abbrev pub Names-added : {ls : List Line} {n : ℕ} → Reached-line ls n → Content → Type 0

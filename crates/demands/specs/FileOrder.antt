@@ -7,12 +7,12 @@ use mathlib.Core.List.{List, [], _∷_, map}
 use lib.ListN.{length}
 use Rattle.model.specs.Lists.{collect}
 use Rattle.model.specs.Names.{Name}
-use Rattle.model.specs.Lines.{lines}
+use Rattle.model.specs.Lines.{Line, lines}
 use Rattle.model.specs.Terms.{Term}
 use Rattle.model.specs.Summaries.{exclude-names, Fact, free-top-level-names, summarize-assumption}
-use Rattle.model.specs.Reading.{Content, ask, term, assume, fun, def, retain, root, Decl, Summary, Sum-assume, Sum-definefun, Sum-declfun, Sum-retain, Root, State}
+use Rattle.model.specs.Reading.{Content, ask, term, assume, fun, def, retain, root, Decl, Summary, Sum-assume, Sum-definefun, Sum-declfun, Sum-retain, Root, State, start, read, excluded, read-lines}
 use Rattle.model.specs.Rounds.{facts, definitions, declarations}
-use Rattle.demands.specs.Accepted.{Accepted}
+use Rattle.demands.specs.LinesRead.{Lines-read}
 use Rattle.demands.specs.Demand1.{Reached-line, Says}
 
 -- a line of a file, and what it says
@@ -38,32 +38,32 @@ of-record assumed declared defined rooted (def name t) = defined name t
 of-record assumed declared defined rooted (retain names) = []
 of-record assumed declared defined rooted (root q name t) = rooted q name t
 
--- the summary of the fact that an assume line states, from the terms before the line and its number
-abbrev pub fact-said : List Term → ℕ → Content → List Fact
-fact-said terms n =
-    of-record (λ name flag t. summarize-assumption exclude-names terms n name flag t ∷ [])
+-- the summary of the fact that an assume line states, from the excluded names, the terms before the line and its number
+abbrev pub fact-said : List Name → List Term → ℕ → Content → List Fact
+fact-said exclude terms n =
+    of-record (λ name flag t. summarize-assumption exclude terms n name flag t ∷ [])
     (λ name. []) (λ name t. []) (λ q name t. [])
 
 -- the definition of a def line
-abbrev pub definition-said : List Term → ℕ → Content → List Decl
-definition-said terms n =
+abbrev pub definition-said : List Name → List Term → ℕ → Content → List Decl
+definition-said exclude terms n =
     of-record (λ name flag t. []) (λ name. [])
-    (λ name t. record { line = n; name = name; free-names = free-top-level-names exclude-names terms t } ∷ []) (λ q name t. [])
+    (λ name t. record { line = n; name = name; free-names = free-top-level-names exclude terms t } ∷ []) (λ q name t. [])
 
 -- the declaration of a fun line
-abbrev pub declaration-said : List Term → ℕ → Content → List Decl
-declaration-said terms n =
+abbrev pub declaration-said : List Name → List Term → ℕ → Content → List Decl
+declaration-said exclude terms n =
     of-record (λ name flag t. []) (λ name. record { line = n; name = name; free-names = [] } ∷ []) (λ name t. []) (λ q name t. [])
 
 -- the root of a root line
-abbrev pub root-said : List Term → ℕ → Content → List Root
-root-said terms n =
+abbrev pub root-said : List Name → List Term → ℕ → Content → List Root
+root-said exclude terms n =
     of-record (λ name flag t. []) (λ name. []) (λ name t. [])
-    (λ q name t. record { line = n; query = q; name = name; free-names = free-top-level-names exclude-names terms t } ∷ [])
+    (λ q name t. record { line = n; query = q; name = name; free-names = free-top-level-names exclude terms t } ∷ [])
 
--- what a line of a file gives
-abbrev pub from-line : {X : Type 0} {file : List ℕ} → (List Term → ℕ → Content → List X) → Said file → List X
-from-line said l = said (l .line .state .terms) (l .place) (l .content)
+-- what a line of a file gives, by these excluded names
+abbrev pub from-line : {X : Type 0} {file : List ℕ} → List Name → (List Name → List Term → ℕ → Content → List X) → Said file → List X
+from-line exclude said l = said exclude (l .line .state .terms) (l .place) (l .content)
 
 -- the line of a fact, a definition or a declaration
 unfoldable pub line-of : Summary → List ℕ
@@ -83,14 +83,19 @@ pub record In-order (file : List ℕ) (s : State) : Type 0 where
   -- every line once, from the first to the last
   pub said : List (Said file)
   pub every-line : map (λ (l : Said file). l .place) said ≡ numbers-from 1 (length (lines file))
-  -- what they say is what the state holds
-  pub facts-said : facts (s .decls) ≡ collect (from-line fact-said) said
-  pub definitions-said : definitions (s .decls) ≡ collect (from-line definition-said) said
-  pub declarations-said : declarations (s .decls) ≡ collect (from-line declaration-said) said
-  pub roots-said : s .roots ≡ collect (from-line root-said) said
+  -- what they say is what the state holds, by the names excluded at the end of the file
+  pub facts-said : facts (s .decls) ≡ collect (from-line (excluded exclude-names s) fact-said) said
+  pub definitions-said : definitions (s .decls) ≡ collect (from-line (excluded exclude-names s) definition-said) said
+  pub declarations-said : declarations (s .decls) ≡ collect (from-line (excluded exclude-names s) declaration-said) said
+  pub roots-said : s .roots ≡ collect (from-line (excluded exclude-names s) root-said) said
   -- the records stand in file order
   pub decls-rise : Rising (collect line-of (s .decls))
   pub roots-rise : Rising (map (λ (r : Root). r .line) (s .roots))
 
 abbrev pub File-order : Type 0
-File-order = (file : List ℕ) (s : State) → Accepted file s → In-order file s
+File-order = (file : List ℕ) (s : State) → Lines-read file s → In-order file s
+
+-- no line adds to the excluded names, wherever a file is read up to
+abbrev pub Excluded-exact : Type 0
+Excluded-exact =
+    (ls : List Line) (s : State) → read-lines exclude-names 1 start ls ≡ read s → excluded exclude-names s ≡ exclude-names

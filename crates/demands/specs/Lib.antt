@@ -1,13 +1,15 @@
-pub mod Accepted
+pub mod LinesRead
 pub mod WellFormed
-pub mod Fuel
+pub mod Scans
 pub mod Demand2
 pub mod Demand3
+pub mod History
 pub mod Queries
 pub mod LineForm
 pub mod Demand1
 pub mod Slices
 pub mod FileOrder
 pub mod Counts
+pub mod Asks
 pub mod Order
 pub mod Options

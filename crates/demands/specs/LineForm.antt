@@ -1,16 +1,15 @@
 -- Demand 1, the refusals 1 to 4: what document 01 says that each field of a line must be, and which refusal a line gets.
 use Prim.Native.Nat.{ℕ, zero, suc, _+_, _≤_}
 use mathlib.Core.Path.{_≡_}
-use mathlib.Core.Bool.{Bool, true, false, cond}
+use mathlib.Core.Bool.{Bool, true, false, cond, not}
 use mathlib.Core.List.{List, [], _∷_, _++_}
 use mathlib.Core.Logic.{_↔_, _≢_}
 use mathlib.Core.Option.{Option, none, some, Option·getD}
-use lib.Dec.{leb, ltb}
+use lib.Dec.{T, leb, ltb}
 use lib.ListN.{length}
 use Rattle.model.specs.Lists.{holds}
-use Rattle.model.specs.Names.{bytes}
 use Rattle.model.specs.Lines.{Field, is-name, number}
-use Rattle.model.specs.Reading.{refused, word, op-words, kinds, fixed-count, content, parse}
+use Rattle.model.specs.Reading.{refused, word, op-words, kinds, content, State, place, may-stand, fixed-count, parse}
 use Rattle.model.specs.declared.LineKind.{LineKind}
 use Rattle.model.specs.declared.LineKind.the-variants as kind
 use Rattle.model.specs.declared.Refusal.{Refusal}
@@ -146,39 +145,37 @@ Refused-fields =
     (k : LineKind) (count : ℕ) (fs : List Field) (r : Refusal)
     → (content k count fs ≡ refused r) ↔ Faulty k count [] fs r
 
--- `ask` stands on line 1 and nowhere else
-pub record Placed-kind (n : ℕ) (f : Field) : Type 0 where
-  pub ask-first : f ≡ bytes "ask" → n ≡ 1
-  pub first-ask : n ≡ 1 → f ≡ bytes "ask"
+-- a line of this kind may stand next
+pub record Allowed (s : State) (k : LineKind) : Type 0 where
+  pub stands : T (may-stand s (place k))
 
 -- the field count is the fixed one, where there is one
-abbrev pub Counted : LineKind → List Field → Type 0
-Counted k fs = (fixed : ℕ) → fixed-count k ≡ some fixed → length fs ≡ fixed
+abbrev pub Field-counted : State → LineKind → List Field → Type 0
+Field-counted s k fs = (fixed : ℕ) → fixed-count s k ≡ some fixed → length fs ≡ fixed
 
--- why a line's fields are refused: kind, field count where it is fixed, fields left to right
-pub data Faulty-line (n count : ℕ) : List Field → Refusal → Type 0 where
+-- why a line's fields are refused, after the lines that led to this state: kind, field count where it is fixed, fields left
+-- to right
+pub data Faulty-line (s : State) : List Field → Refusal → Type 0 where
   -- an unknown kind
-  unknown : {f : Field} {fs : List Field} → word kinds f ≡ none → Faulty-line n count (f ∷ fs) refusal.Form
-  -- `ask` not on line 1
-  late-ask : {fs : List Field} → n ≢ 1 → Faulty-line n count (bytes "ask" ∷ fs) refusal.Form
-  -- line 1 that is no `ask`
-  no-ask : {f : Field} {fs : List Field} → n ≡ 1 → f ≢ bytes "ask" → Faulty-line n count (f ∷ fs) refusal.Form
+  unknown : {f : Field} {fs : List Field} → word kinds f ≡ none → Faulty-line s (f ∷ fs) refusal.Form
+  -- one that may not stand here
+  misplaced : {f : Field} {fs : List Field} {k : LineKind} → word kinds f ≡ some k → T (not (may-stand s (place k)))
+      → Faulty-line s (f ∷ fs) refusal.Form
   -- a field count other than the fixed one
-  miscounted : {f : Field} {fs : List Field} {k : LineKind} {fixed : ℕ}
-      → word kinds f ≡ some k → fixed-count k ≡ some fixed → length (f ∷ fs) ≢ fixed
-      → Faulty-line n count (f ∷ fs) refusal.Form
+  miscounted : {f : Field} {fs : List Field} {k : LineKind} {fixed : ℕ} → word kinds f ≡ some k → Allowed s k
+      → fixed-count s k ≡ some fixed → length (f ∷ fs) ≢ fixed → Faulty-line s (f ∷ fs) refusal.Form
   -- a fault of a field after the kind
-  field : {f : Field} {fs : List Field} {k : LineKind} {r : Refusal}
-      → word kinds f ≡ some k → Placed-kind n f → Counted k (f ∷ fs) → Faulty k count [] fs r
-      → Faulty-line n count (f ∷ fs) r
+  field : {f : Field} {fs : List Field} {k : LineKind} {r : Refusal} → word kinds f ≡ some k → Allowed s k
+      → Field-counted s k (f ∷ fs) → Faulty k (length (s .terms)) [] fs r → Faulty-line s (f ∷ fs) r
 
 -- a line is refused with 1 to 4 exactly for such a reason
 abbrev pub Refused-line : Type 0
 Refused-line =
-    (n count : ℕ) (f : Field) (fs : List Field) (r : Refusal)
-    → (parse n count (f ∷ fs) ≡ refused r) ↔ Faulty-line n count (f ∷ fs) r
+    (s : State) (f : Field) (fs : List Field) (r : Refusal)
+    → (parse s (f ∷ fs) ≡ refused r) ↔ Faulty-line s (f ∷ fs) r
 
 -- where the field count is fixed, the kind counted, it is the number of fields after which nothing more is due
 abbrev pub Fixed-counts : Type 0
 Fixed-counts =
-    (k : LineKind) (n : ℕ) → fixed-count k ≡ some n → (fs : List Field) → (due k fs ≡ nothing) ↔ (n ≤ length fs + 1)
+    (s : State) (k : LineKind) (n : ℕ) → fixed-count s k ≡ some n
+    → (fs : List Field) → (due k fs ≡ nothing) ↔ (n ≤ length fs + 1)

@@ -1,5 +1,6 @@
--- Change 3, for every accepted file: "Both inner orders are now fixed as Pruning.fst has them." What the kept list has of
--- definitions and declarations, and in which order, said of the list itself and not by the function that makes it.
+-- Change 3, for every accepted file and every ask over it: "Both inner orders are now fixed as Pruning.fst has them." What the
+-- kept list has of definitions and declarations, and in which order, said of the list itself and not by the function that
+-- makes it.
 use Prim.Native.Nat.{ℕ, suc, _<_}
 use mathlib.Core.Path.{_≡_}
 use mathlib.Core.Logic.{_↔_}
@@ -9,10 +10,10 @@ use lib.Dec.{T}
 use Rattle.model.specs.Lists.{collect}
 use Rattle.model.specs.Names.{Name, same, Ascending}
 use Rattle.model.specs.Summaries.{Fact}
-use Rattle.model.specs.Reading.{prune-decls, Root, Decl, State}
+use Rattle.model.specs.Reading.{Ask, prune-decls, Root, Decl, State}
 use Rattle.model.specs.Rounds.{facts, definitions, declarations}
 use Rattle.model.specs.Kept.{kept-facts}
-use Rattle.demands.specs.Accepted.{Accepted, Distinct}
+use Rattle.demands.specs.LinesRead.{Lines-read, records-for, Distinct}
 use Rattle.demands.specs.Demand2.{kept-list}
 use Rattle.demands.specs.Demand3.{run-of}
 use Rattle.demands.specs.FileOrder.{Rising}
@@ -41,32 +42,32 @@ pub record Last-met-first (option-4 : Bool) (names : List Name) (all listed : Li
   -- "each last met first"
   pub last-first : Falling (map (λ (d : Decl). first-place names (d .name)) listed)
 
--- the kept facts of a file that was read, as listed
-abbrev pub listed-facts : State → List Fact
-listed-facts s = kept-facts (s .goal) (facts (s .decls)) (run-of s .reached)
+-- the kept facts of an ask over a file that was read, as listed
+abbrev pub listed-facts : Ask → State → List Fact
+listed-facts a s = kept-facts a (facts (records-for a s)) (run-of a s .reached)
 
 -- Change 3 of a file that was read, and of a list of lines
-pub record One-order (s : State) (lines : List ℕ) : Type 0 where
-  -- "then the roots of q"
+pub record One-order (a : Ask) (s : State) (lines : List ℕ) : Type 0 where
+  -- "then the roots of q", one of the ask's queries
   pub roots : List Root
-  pub of-query : (r : Root) → List·Memᴰ r roots ↔ (List·Memᴰ r (s .roots) × (r .query ≡ s .goal .query))
+  pub of-query : (r : Root) → List·Memᴰ r roots ↔ (List·Memᴰ r (s .roots) × List·Memᴰ (r .query) (a .queries))
   -- "by line"
   pub by-line : Rising (map (λ (r : Root). r .line) roots)
   -- "Take each one's free names in byte order"
-  pub fact-names : (f : Fact) → List·Memᴰ f (listed-facts s) → Ascending (f .free-names)
+  pub fact-names : (f : Fact) → List·Memᴰ f (listed-facts a s) → Ascending (f .free-names)
   pub root-names : (r : Root) → List·Memᴰ r roots → Ascending (r .free-names)
   -- "and note a def or fun when it is first met", "each last met first"
   pub defs : List Decl
   pub funs : List Decl
-  pub defs-listed : Last-met-first (prune-decls (s .goal)) (walked (listed-facts s) roots) (definitions (s .decls)) defs
-  pub funs-listed : Last-met-first (prune-decls (s .goal)) (walked (listed-facts s) roots) (declarations (s .decls)) funs
+  pub defs-listed : Last-met-first (prune-decls a) (walked (listed-facts a s) roots) (definitions (records-for a s)) defs
+  pub funs-listed : Last-met-first (prune-decls a) (walked (listed-facts a s) roots) (declarations (records-for a s)) funs
   -- "Defs come first, then funs", after the facts
-  pub list : lines ≡ map (λ (f : Fact). f .line) (listed-facts s) ++ map (λ (d : Decl). d .line) (defs ++ funs)
+  pub list : lines ≡ map (λ (f : Fact). f .line) (listed-facts a s) ++ map (λ (d : Decl). d .line) (defs ++ funs)
 
 -- the kept list is so
 abbrev pub Decls-in-order : Type 0
-Decls-in-order = (file : List ℕ) (s : State) → Accepted file s → One-order s (kept-list s)
+Decls-in-order = (file : List ℕ) (s : State) → Lines-read file s → (a : Ask) → One-order a s (kept-list a s)
 
 -- "fixed": no other list is
 abbrev pub Order-fixed : Type 0
-Order-fixed = (file : List ℕ) (s : State) → Accepted file s → (lines : List ℕ) → One-order s lines → lines ≡ kept-list s
+Order-fixed = (file : List ℕ) (s : State) → Lines-read file s → (a : Ask) (lines : List ℕ) → One-order a s lines → lines ≡ kept-list a s

@@ -2,34 +2,42 @@
 -- and rounds."
 use Prim.Native.Nat.{ℕ}
 use mathlib.Core.Path.{_≡_}
-use mathlib.Core.Logic.{_≢_}
-use mathlib.Core.List.{List, [], _∷_}
+use mathlib.Core.List.{List, [], _∷_, List·Memᴰ}
 use mathlib.Core.Option.{some}
 use Rattle.model.specs.Names.{bytes}
 use Rattle.model.specs.Lines.{Line, lines, Field, fields, number}
-use Rattle.model.specs.Reading.{State}
-use Rattle.model.specs.Outcome.{filtered}
-use Rattle.demands.specs.Accepted.{Accepted}
+use Rattle.model.specs.Reading.{Ask, State}
+use Rattle.model.specs.Outcome.{goal, listing, filtered}
+use Rattle.demands.specs.LinesRead.{Lines-read, records-for}
 
--- a root line of a query other than q
-pub record Other-root (q : ℕ) (line : Line) : Type 0 where
+-- a root line of a query that is none of the ask's
+pub record Other-root (a : Ask) (line : Line) : Type 0 where
   pub query-field : Field
   pub rest : List Field
   pub is-root : fields (line .bytes) ≡ bytes "root" ∷ query-field ∷ rest
   pub query : ℕ
   pub is-query : number query-field ≡ some query
-  pub other : query ≢ q
+  pub other : List·Memᴰ query (a .queries) → ⊥
 
--- lines that differ, line for line, only in root lines of queries other than q
-pub data Alike (q : ℕ) : List Line → List Line → Type 0 where
-  end : Alike q [] []
-  same : {line : Line} {ls ms : List Line} → Alike q ls ms → Alike q (line ∷ ls) (line ∷ ms)
+-- lines that differ, line for line, only in root lines of queries other than the ask's
+pub data Alike (a : Ask) : List Line → List Line → Type 0 where
+  end : Alike a [] []
+  same : {line : Line} {ls ms : List Line} → Alike a ls ms → Alike a (line ∷ ls) (line ∷ ms)
   roots : {l m : Line} {ls ms : List Line}
-      → Other-root q l → Other-root q m → Alike q ls ms → Alike q (l ∷ ls) (m ∷ ms)
+      → Other-root a l → Other-root a m → Alike a ls ms → Alike a (l ∷ ls) (m ∷ ms)
 
--- the same list, in order, the same visits and the same rounds
+-- an ask has the same list over both files, in order, the same visits and the same rounds; and they ask the same
+pub record Answered-alike (a : Ask) (s s′ : State) : Type 0 where
+  pub asks : s .asks ≡ s′ .asks
+  pub listed : listing a (records-for a s) (s .roots) ≡ listing a (records-for a s′) (s′ .roots)
+
 abbrev pub Other-queries-do-not-matter : Type 0
 Other-queries-do-not-matter =
-    (file file′ : List ℕ) (s s′ : State) → Accepted file s → Accepted file′ s′
-    → Alike (s .goal .query) (lines file) (lines file′)
-    → filtered s ≡ filtered s′
+    (file file′ : List ℕ) (s s′ : State) → Lines-read file s → Lines-read file′ s′
+    → (a : Ask) → Alike a (lines file) (lines file′) → Answered-alike a s s′
+
+-- so two files that differ in root lines of queries other than their ask's give the same list
+abbrev pub Filtered-alike : Type 0
+Filtered-alike =
+    (file file′ : List ℕ) (s s′ : State) → Lines-read file s → Lines-read file′ s′
+    → Alike (goal s) (lines file) (lines file′) → filtered s ≡ filtered s′

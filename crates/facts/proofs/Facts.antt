@@ -12,13 +12,13 @@ use borrow.Author.Tests.{le-leb, lt-leb, ltb-true, ltb-false}
 use Rattle.model.specs.Lists.{sum, collect, fold-left, part}
 use Rattle.model.specs.Names.{Name, from-list}
 use Rattle.model.specs.Reading.{Content, assume, asked, nodes, spelled, trimmed, spell, summarize-decl, root-of, taken-by, entries-of, uses-of, add-line, repeats, most-names, most-records, most-entries, most-uses}
-use Rattle.model.specs.Summaries.{entries, summarize-assumption}
+use Rattle.model.specs.Summaries.{exclude-names, entries, summarize-assumption}
 use Rattle.model.specs.declared.Counts.{Counts}
 use Rattle.model.specs.declared.Refusal.{Refusal}
 use Rattle.model.specs.declared.Refusal.the-variants as refusal
 use Rattle.model.proofs.PartLaws.{part-agree, part-elim, part-intro, part-length, part-at}
-use Rattle.demands.proofs.ReadingLaws.{past-names}
-use Rattle.names.specs.Table.{Excludes, name-of, names-of}
+use Rattle.laws.proofs.ReadingLaws.{past-names}
+use Rattle.names.specs.Table.{Excludes, name-of, table-names}
 use Rattle.names.proofs.Excluded.{excluded-exact}
 use Rattle.names.proofs.Coded.{Kept, table-kept}
 use Rattle.terms.proofs.Laws.{below}
@@ -36,11 +36,11 @@ use Rattle.model.specs.Outcome.{working-words}
 use Rattle.records.specs.Columns.{assume-kind, code-of, fact-column, next-column, first-column, taken-column, entry-word, taken-at}
 use Rattle.records.specs.States.{free-at, fact-at, summary-at, root-at, state-of}
 use Rattle.records.specs.Writing.{with-record, Rowed}
-use Rattle.records.specs.Adding.{excluded, Standing, Adds, Untouched}
+use Rattle.records.specs.Adding.{Standing, Adds, Untouched}
 use Rattle.records.proofs.Chaining.{chained-kept}
 use Rattle.records.proofs.Recording.{names-stay, disjuncts-stay}
 use Rattle.records.proofs.Judging.{repeats-taken, repeats-free}
-use Rattle.records.proofs.Appending.{Appends, One-record, record-added, record-repeated, record-crowded, record-over, record-beyond}
+use Rattle.records.proofs.Appending.{excluded-here, Appends, One-record, record-added, record-repeated, record-crowded, record-over, record-beyond}
 use Rattle.records.proofs.Plain.{spelled-again, is-taken}
 use Rattle.records.proofs.Funs.{row-past, taken-put, small-row}
 use Rattle.facts.specs.Putting.{Puttable, Puts}
@@ -49,18 +49,18 @@ use Rattle.facts.proofs.Coding.{code-kind, code-low}
 
 -- ---- the words of a fact's entries
 
-module _ {named : ℕ} (out : List ℕ) (a e : ℕ) (room : entries-base + e ≤ length out) (h : Entries named (part out (entries-base + a) (entries-base + e))) where
+module _ {named : ℕ} (lists : List ℕ) (a e : ℕ) (room : entries-base + e ≤ length lists) (h : Entries named (part lists (entries-base + a) (entries-base + e))) where
   -- an entry is among them
-  among : (j : ℕ) → a ≤ j → j < e → List·Memᴰ (entry-word out j) (part out (entries-base + a) (entries-base + e))
-  among j l u = part-intro out (entries-base + a) (entries-base + e) (entries-base + j) room (omega arith) (omega arith)
+  among : (j : ℕ) → a ≤ j → j < e → List·Memᴰ (entry-word lists j) (part lists (entries-base + a) (entries-base + e))
+  among j l u = part-intro lists (entries-base + a) (entries-base + e) (entries-base + j) room (omega arith) (omega arith)
 
   -- the last ends its disjunct
-  last-ends : a < e → last-flag ≤ entry-word out (e - 1)
+  last-ends : a < e → last-flag ≤ entry-word lists (e - 1)
   last-ends l =
-      let size = part-length out (entries-base + a) (entries-base + e) room in
-      let n : e - 1 - a + 1 ≡ length (part out (entries-base + a) (entries-base + e)) = omega arith in
+      let size = part-length lists (entries-base + a) (entries-base + e) room in
+      let n : e - 1 - a + 1 ≡ length (part lists (entries-base + a) (entries-base + e)) = omega arith in
       let p : entries-base + (e - 1) - (entries-base + a) ≡ e - 1 - a = omega arith in
-      let q = part-at out (entries-base + a) (entries-base + e) (entries-base + (e - 1)) (omega arith) (omega arith) in
+      let q = part-at lists (entries-base + a) (entries-base + e) (entries-base + (e - 1)) (omega arith) (omega arith) in
       rw (← q, p) (h .closed (e - 1 - a) n)
 
 -- ---- the summary's limits
@@ -68,7 +68,7 @@ module _ {named : ℕ} (out : List ℕ) (a e : ℕ) (room : entries-base + e ≤
 -- the summary of a fact by its name and its term, were there no limits
 abbrev summed : List ℕ → List ℕ → List ℕ → List ℕ → Counts → ℕ → ℕ → Summary
 summed file names refs rows k i t =
-    fact-summary excluded file names refs rows (k .named) (k .used) (k .many) i t (k .mark) (k .entries) (k .uses)
+    fact-summary exclude-names file names refs rows (k .names) (k .references) (k .terms) i t (k .mark) (k .entries) (k .uses)
 
 -- what its line says
 abbrev said : List ℕ → List ℕ → ℕ → ℕ → ℕ → Content
@@ -103,41 +103,41 @@ limited-over x {l} e = go (ltb most-names (x .named)) refl (ltb most-entries (x 
 
 -- spelling a name of the table again, and others behind it
 spelled-before : (file names : List ℕ) (named i : ℕ) (ns : List Name) → i < named
-    → fold-left spell (names-of file names named) ((name-of file names i ∷ []) ++ ns) ≡ fold-left spell (names-of file names named) ns
+    → fold-left spell (table-names file names named) ((name-of file names i ∷ []) ++ ns) ≡ fold-left spell (table-names file names named) ns
 unfolding fold-left
 spelled-before file names named i ns h = ap (λ l. fold-left spell l ns) (spelled-again file names named i h)
 
-module _ {file names refs rows recs out : List ℕ} {k : Counts} (st : Standing file names refs rows recs out k) (line : ℕ) {i : ℕ}
-    (known : i < k .named) {w : ℕ} (is : w ≡ taken-at names i) (flag t : ℕ) where
-  fact-new : w ≤ 0 → repeats excluded line (state-of file names refs rows recs out k) (said file names i flag t) ≡ false
+module _ {file names refs rows recs lists : List ℕ} {k : Counts} (st : Standing file names refs rows recs lists k) (line : ℕ) {i : ℕ}
+    (known : i < k .names) {w : ℕ} (is : w ≡ taken-at names i) (flag t : ℕ) where
+  fact-new : w ≤ 0 → repeats exclude-names line (state-of file names refs rows recs lists k) (said file names i flag t) ≡ false
   unfolding summarize-decl summarize-assumption collect taken-by
   fact-new h = repeats-free st line (said file names i flag t) known refl (omega arith)
 
   -- the name is taken
-  pub fact-repeated : {names′ rows′ recs′ out′ : List ℕ} → 0 < w
-      → Adds file names refs rows recs out names′ rows′ recs′ out′ k line (said file names i flag t) (step.Refused refusal.Repeated)
+  pub fact-repeated : {names′ rows′ recs′ lists′ : List ℕ} → 0 < w
+      → Adds file names refs rows recs lists names′ rows′ recs′ lists′ k line (said file names i flag t) (step.Refused refusal.Repeated)
   unfolding summarize-decl summarize-assumption collect taken-by
   fact-repeated h =
       record-repeated st line (said file names i flag t) (repeats-taken st line (said file names i flag t) known refl (omega arith))
 
   -- the names with the line are those of the summary
-  fact-named : length (fold-left spell (names-of file names (k .named)) (spelled (said file names i flag t)
-      ++ trimmed excluded (terms-in file names refs rows (k .used) (k .many)) (said file names i flag t)))
+  fact-named : length (fold-left spell (table-names file names (k .names)) (spelled (said file names i flag t)
+      ++ trimmed exclude-names (terms-in file names refs rows (k .references) (k .terms)) (said file names i flag t)))
       ≡ summed file names refs rows k i t .named
   unfolding spelled trimmed fact-summary names-then fact-kind
   fact-named =
-      let ns = fact-kind excluded file names refs rows (k .named) (k .used) (k .many) i t .trimmed in
-      ap length (spelled-before file names (k .named) i ns known)
+      let ns = fact-kind exclude-names file names refs rows (k .names) (k .references) (k .terms) i t .trimmed in
+      ap length (spelled-before file names (k .names) i ns known)
 
   -- the line is one record
   fact-one : summed file names refs rows k i t .named ≤ most-names → One-record file names refs rows k line (said file names i flag t)
   unfolding nodes summarize-decl root-of
   fact-one h = record { no-term = refl; one = refl; few-names = omega (arith, fact-named) }
 
-  module _ {names′ rows′ recs′ out′ : List ℕ} (free : w ≤ 0) where
+  module _ {names′ rows′ recs′ lists′ : List ℕ} (free : w ≤ 0) where
     -- as many records as may be
     pub fact-crowded : {x : Summary} → summarized.Done x ≡ limited (summed file names refs rows k i t) → most-records ≤ k .records
-        → Adds file names refs rows recs out names′ rows′ recs′ out′ k line (said file names i flag t) (step.Refused refusal.FullRecords)
+        → Adds file names refs rows recs lists names′ rows′ recs′ lists′ k line (said file names i flag t) (step.Refused refusal.FullRecords)
     fact-crowded done =
         let within = limited-done _ done in
         record-crowded st line (said file names i flag t) (fact-new free)
@@ -145,21 +145,21 @@ module _ {file names refs rows recs out : List ℕ} {k : Counts} (st : Standing 
 
     -- more names than may be
     fact-unnamed : most-names < summed file names refs rows k i t .named
-        → Adds file names refs rows recs out names′ rows′ recs′ out′ k line (said file names i flag t) (step.Refused refusal.FullNames)
+        → Adds file names refs rows recs lists names′ rows′ recs′ lists′ k line (said file names i flag t) (step.Refused refusal.FullNames)
     unfolding add-line state-of
-    fact-unnamed h = record-beyond st line (said file names i flag t) (fact-new free) (past-names (omega (arith, fact-named)))
+    fact-unnamed h = record-beyond st line (said file names i flag t) (fact-new free) (rw (excluded-here file names refs rows recs lists k) (past-names (omega (arith, fact-named))))
 
     -- more entries or uses than may be, and the names within their limit
     fact-full : summed file names refs rows k i t .named ≤ most-names
         → (most-entries < summed file names refs rows k i t .entries) ⊎ (most-uses < summed file names refs rows k i t .uses)
-        → Adds file names refs rows recs out names′ rows′ recs′ out′ k line (said file names i flag t)
+        → Adds file names refs rows recs lists names′ rows′ recs′ lists′ k line (said file names i flag t)
         (step.Refused (behind-records (k .records)))
     unfolding behind-records add-line state-of summarize-decl summarize-assumption root-of entries-of uses-of sum fact-summary fact-kind fact-names entries
     fact-full n h =
         let fact = said file names i flag t in
-        let more : (most-entries < add-line excluded line (state-of file names refs rows recs out k) fact .entries)
-        ⊎ (most-uses < add-line excluded line (state-of file names refs rows recs out k) fact .uses) =
-        ⊎-elim (λ e. inl (omega arith)) (λ u. inr (omega arith)) h in
+        let more : (most-entries < add-line exclude-names line (state-of file names refs rows recs lists k) fact .entries)
+        ⊎ (most-uses < add-line exclude-names line (state-of file names refs rows recs lists k) fact .uses) =
+        rw (excluded-here file names refs rows recs lists k) (⊎-elim (λ e. inl (omega arith)) (λ u. inr (omega arith)) h) in
         ⊎-elim
         (λ (few : k .records < most-records). rw (lt-leb most-records (k .records) few)
         (record-over st line fact (fact-new free) (fact-one n) few more))
@@ -170,12 +170,12 @@ module _ {file names refs rows recs out : List ℕ} {k : Counts} (st : Standing 
     -- the summary passes a limit
     pub fact-over : {l : Limit} {r : Refusal} → r ≡ over-refusal l (k .records)
         → summarized.Over l ≡ limited (summed file names refs rows k i t)
-        → Adds file names refs rows recs out names′ rows′ recs′ out′ k line (said file names i flag t) (step.Refused r)
+        → Adds file names refs rows recs lists names′ rows′ recs′ lists′ k line (said file names i flag t) (step.Refused r)
     unfolding over-refusal
     fact-over e o = rw e (go (limited-over _ o))
       where
         go : {l : Limit} → Passes (summed file names refs rows k i t) l
-            → Adds file names refs rows recs out names′ rows′ recs′ out′ k line (said file names i flag t)
+            → Adds file names refs rows recs lists names′ rows′ recs′ lists′ k line (said file names i flag t)
             (step.Refused (over-refusal l (k .records)))
         go (names-passed h) = fact-unnamed h
         go (entries-passed n h) = fact-full n (inl h)
@@ -183,13 +183,13 @@ module _ {file names refs rows recs out : List ℕ} {k : Counts} (st : Standing 
 
 -- ---- the fact there
 
-module _ {file names refs rows recs out names₁ rows′ out₁ names′ recs′ out′ : List ℕ} {k : Counts} (st : Standing file names refs rows recs out k)
-    (line : ℕ) {i : ℕ} (known : i < k .named) (flag t : ℕ) {x : Summary} {next : Counts}
+module _ {file names refs rows recs lists names₁ rows′ lists₁ names′ recs′ lists′ : List ℕ} {k : Counts} (st : Standing file names refs rows recs lists k)
+    (line : ℕ) {i : ℕ} (known : i < k .names) (flag t : ℕ) {x : Summary} {next : Counts}
     (few : k .records < most-records) (free : taken-at names i ≡ 0)
     (done : summarized.Done x ≡ limited (summed file names refs rows k i t))
-    (lists : Lists excluded file names refs rows (k .named) (k .used) (k .many) i t names₁ rows′ out₁ (k .entries) (k .uses) x)
-    (slices : Slices names rows out names₁ rows′ out₁ (k .entries) (k .uses))
-    (puts : Puts names₁ recs out₁ names′ recs′ out′ k line i flag t x next) where
+    (filed-lists : Lists exclude-names file names refs rows (k .names) (k .references) (k .terms) i t names₁ rows′ lists₁ (k .entries) (k .uses) x)
+    (slices : Slices names rows lists names₁ rows′ lists₁ (k .entries) (k .uses))
+    (puts : Puts names₁ recs lists₁ names′ recs′ lists′ k line i flag t x next) where
   -- the summary is the definition's, within the limits
   within : (x ≡ summed file names refs rows k i t) × (x .named ≤ most-names) × (x .entries ≤ most-entries) × (x .uses ≤ most-uses)
   within = limited-done _ done
@@ -197,74 +197,74 @@ module _ {file names refs rows recs out names₁ rows′ out₁ names′ recs′
   low : i < most-names
   low = omega (arith, known, st .tables .name-table .few)
 
-  entries-are : x .entries ≡ k .entries + entries (fact-kind excluded file names refs rows (k .named) (k .used) (k .many) i t .triggers)
+  entries-are : x .entries ≡ k .entries + entries (fact-kind exclude-names file names refs rows (k .names) (k .references) (k .terms) i t .triggers)
   unfolding fact-summary
   entries-are = ap (λ y. y .entries) (within .0)
 
-  uses-are : x .uses ≡ k .uses + length (fact-names excluded file names refs rows (k .named) (k .used) (k .many) i t)
+  uses-are : x .uses ≡ k .uses + length (fact-names exclude-names file names refs rows (k .names) (k .references) (k .terms) i t)
   unfolding fact-summary
   uses-are = ap (λ y. y .uses) (within .0)
 
-  mark-is : x .mark ≡ k .mark + 2 + entries (fact-kind excluded file names refs rows (k .named) (k .used) (k .many) i t .triggers)
+  mark-is : x .mark ≡ k .mark + 2 + entries (fact-kind exclude-names file names refs rows (k .names) (k .references) (k .terms) i t .triggers)
   unfolding fact-summary
   mark-is = ap (λ y. y .mark) (within .0)
 
-  kind-is : x .kind ≡ fact-kind excluded file names refs rows (k .named) (k .used) (k .many) i t .kind
+  kind-is : x .kind ≡ fact-kind exclude-names file names refs rows (k .names) (k .references) (k .terms) i t .kind
   unfolding fact-summary
   kind-is = ap (λ y. y .kind) (within .0)
 
   -- names are spelled behind those before
-  more : k .named ≤ x .named
-  more = lists .more
+  more : k .names ≤ x .named
+  more = filed-lists .more
 
-  old : (j : ℕ) → j < k .named → name-of file names₁ j ≡ name-of file names j
-  old = lists .same-names
+  old : (j : ℕ) → j < k .names → name-of file names₁ j ≡ name-of file names j
+  old = filed-lists .same-names
 
   -- of the names the taken word and the first entries change
   name-words : (j : ℕ) → (j ≡ taken-column + i → ⊥) → (first-column ≤ j → j < first-column + most-names → ⊥) → getD names′ j 0 ≡ getD names₁ j 0
   name-words j d e = puts .chains .names-same .same-words j e ∙ getD-set-other names₁ (taken-column + i) j (k .records + 1) 0 d
 
   still : Kept file names₁ names′ (x .named)
-  still = table-kept (lists .tables .name-table) (puts .chains .names-same .same-length ∙ simp length-set)
+  still = table-kept (filed-lists .tables .name-table) (puts .chains .names-same .same-length ∙ simp length-set)
       (λ j l. name-words j (λ e. omega arith) (λ a b. omega arith))
 
-  same : (j : ℕ) → j < k .named → name-of file names′ j ≡ name-of file names j
+  same : (j : ℕ) → j < k .names → name-of file names′ j ≡ name-of file names j
   same j l = still .name j (omega (arith, more)) ∙ old j l
 
   -- the entries and the uses stay when they are chained
-  list-words : (j : ℕ) → j < fact-column → getD out′ j 0 ≡ getD out₁ j 0
-  list-words j l = puts .chains .out-words j (λ a b. omega arith) (λ a b. omega arith)
+  list-words : (j : ℕ) → j < fact-column → getD lists′ j 0 ≡ getD lists₁ j 0
+  list-words j l = puts .chains .lists-words j (λ a b. omega arith) (λ a b. omega arith)
 
-  room : working-words ≤ length out₁
-  room = omega (arith, slices .out-length, st .recorded .out-room)
+  room : working-words ≤ length lists₁
+  room = omega (arith, slices .lists-length, st .recorded .lists-room)
 
-  size : length out′ ≡ length out₁
-  size = puts .chains .out-length
+  size : length lists′ ≡ length lists₁
+  size = puts .chains .lists-length
 
-  sets : disjuncts-of (name-of file names′) (part out′ (entries-base + k .entries) (entries-base + x .entries))
-      ≡ fact-kind excluded file names refs rows (k .named) (k .used) (k .many) i t .triggers
+  sets : disjuncts-of (name-of file names′) (part lists′ (entries-base + k .entries) (entries-base + x .entries))
+      ≡ fact-kind exclude-names file names refs rows (k .names) (k .references) (k .terms) i t .triggers
   sets =
       let a = entries-base + k .entries in
       let e = entries-base + x .entries in
-      let high : e ≤ length out₁ = omega (arith, room, within .2) in
-      let word : (w : ℕ) → List·Memᴰ w (part out₁ a e) → w % last-flag < no-name → name-of file names′ (w % last-flag) ≡ name-of file names₁ (w % last-flag) =
+      let high : e ≤ length lists₁ = omega (arith, room, within .2) in
+      let word : (w : ℕ) → List·Memᴰ w (part lists₁ a e) → w % last-flag < no-name → name-of file names′ (w % last-flag) ≡ name-of file names₁ (w % last-flag) =
       λ w m s. ⊎-elim (λ (q : w % last-flag < x .named). still .name (w % last-flag) q) (λ (q : w % last-flag ≡ no-name). absurd (omega arith))
-      (lists .entry-words .small w m) in
-      rw (part-agree out₁ out′ (e - a) a e refl high (omega (arith, high, size)) (λ j l u. list-words j (omega (arith, within .2))))
-      (disjuncts-stay (name-of file names′) (name-of file names₁) (part out₁ a e) word ∙ lists .disjuncts)
+      (filed-lists .entry-words .small w m) in
+      rw (part-agree lists₁ lists′ (e - a) a e refl high (omega (arith, high, size)) (λ j l u. list-words j (omega (arith, within .2))))
+      (disjuncts-stay (name-of file names′) (name-of file names₁) (part lists₁ a e) word ∙ filed-lists .disjuncts)
 
   row : Rowed recs recs′ k (with-record k (x .named) (x .entries) (x .uses) (x .mark)) assume-kind line i t flag (code-of (x .kind))
   row = rw (puts .counts) at (puts .row)
 
   -- the record is appended
-  appends : Appends file names rows recs out names′ rows′ recs′ out′ k (x .named) (x .entries) (x .uses) (x .mark) assume-kind line i t flag (code-of (x .kind))
+  appends : Appends file names rows recs lists names′ rows′ recs′ lists′ k (x .named) (x .entries) (x .uses) (x .mark) assume-kind line i t flag (code-of (x .kind))
   appends =
-      let high : entries-base + x .entries ≤ length out₁ = omega (arith, room, within .2) in
+      let high : entries-base + x .entries ≤ length lists₁ = omega (arith, room, within .2) in
       let rise = entries-are in
       let grow = uses-are in
       let here : taken-at names′ i ≡ k .records + 1 =
       puts .chains .names-same .same-words (taken-column + i) (λ a b. omega (arith, low))
-      ∙ getD-set-same names₁ (taken-column + i) (k .records + 1) 0 (omega (arith, lists .tables .name-table .room, low)) in
+      ∙ getD-set-same names₁ (taken-column + i) (k .records + 1) 0 (omega (arith, filed-lists .tables .name-table .room, low)) in
       let others : (n : ℕ) → n < most-names → (n ≡ i → ⊥) → taken-at names′ n ≡ taken-at names n =
       λ n l d. name-words (taken-column + n) (λ e. d (omega arith)) (λ a b. omega arith)
       ∙ slices .name-words .same-words (taken-column + n) (λ a b. omega arith) in
@@ -274,57 +274,57 @@ module _ {file names refs rows recs out names₁ rows′ out₁ names′ recs′
         same = same;
         row-words = slices .row-words;
         fresh = record {
-          row-marks = lists .fresh .row-marks;
-          name-marks = λ n l. rw (name-words (8192 + n) (λ e. omega arith) (λ a b. omega arith)) (lists .fresh .name-marks n l);
+          row-marks = filed-lists .fresh .row-marks;
+          name-marks = λ n l. rw (name-words (8192 + n) (λ e. omega arith) (λ a b. omega arith)) (filed-lists .fresh .name-marks n l);
         };
         few-marks = omega (arith, st .few-marks, mark-is);
         row = row;
         small-kind = omega arith;
         known = λ e. omega (arith, known, more);
-        out-length = size ∙ slices .out-length;
+        lists-length = size ∙ slices .lists-length;
         few-uses = within .3;
         more-uses = omega arith;
         old-uses = λ j l. list-words j (omega (arith, st .recorded .few-uses))
-            ∙ slices .out-words j (λ a b. omega arith) (λ a b. omega (arith, st .recorded .few-uses));
-        new-uses = λ j l u. rw (list-words j (omega (arith, within .3))) (omega (arith, lists .use-words j l u, more));
+            ∙ slices .lists-words j (λ a b. omega arith) (λ a b. omega (arith, st .recorded .few-uses));
+        new-uses = λ j l u. rw (list-words j (omega (arith, within .3))) (omega (arith, filed-lists .use-words j l u, more));
         few-entries = within .2;
         more-entries = omega arith;
         old-entries = λ e l. list-words (entries-base + e) (omega (arith, st .recorded .few-entries))
-            ∙ slices .out-words (entries-base + e) (λ a b. omega arith) (λ a b. omega arith);
+            ∙ slices .lists-words (entries-base + e) (λ a b. omega arith) (λ a b. omega arith);
         old-facts = λ e l.
-            puts .chains .out-words (fact-column + e) (λ a b. omega arith) (λ a b. omega (arith, st .recorded .few-entries))
-            ∙ slices .out-words (fact-column + e) (λ a b. omega arith) (λ a b. omega arith);
+            puts .chains .lists-words (fact-column + e) (λ a b. omega arith) (λ a b. omega (arith, st .recorded .few-entries))
+            ∙ slices .lists-words (fact-column + e) (λ a b. omega arith) (λ a b. omega arith);
         new-entries = λ e l u. rw (list-words (entries-base + e) (omega (arith, within .2)))
-            (lists .entry-words .small (entry-word out₁ e) (among out₁ (k .entries) (x .entries) high (lists .entry-words) e l u));
+            (filed-lists .entry-words .small (entry-word lists₁ e) (among lists₁ (k .entries) (x .entries) high (filed-lists .entry-words) e l u));
         new-facts = puts .chains .facts;
         flagged = λ e l u. rw (list-words (entries-base + e) (omega (arith, within .2)))
-            (lists .entry-words .flagged (entry-word out₁ e) (among out₁ (k .entries) (x .entries) high (lists .entry-words) e l u));
+            (filed-lists .entry-words .flagged (entry-word lists₁ e) (among lists₁ (k .entries) (x .entries) high (filed-lists .entry-words) e l u));
         ended = λ l. rw (list-words (entries-base + (x .entries - 1)) (omega (arith, within .2)))
-            (last-ends out₁ (k .entries) (x .entries) high (lists .entry-words) l);
+            (last-ends lists₁ (k .entries) (x .entries) high (filed-lists .entry-words) l);
         sized = entries-are ∙ ap (λ s. k .entries + entries s) (sym sets);
         only-facts = λ d. absurd (d refl);
         taken = is-taken st few row low free here others (omega arith);
         chained = puts .chains .chained;
       }
 
-  uses-then : free-at (name-of file names′) recs′ out′ (k .records) ≡ fact-names excluded file names refs rows (k .named) (k .used) (k .many) i t
+  uses-then : free-at (name-of file names′) recs′ lists′ (k .records) ≡ fact-names exclude-names file names refs rows (k .names) (k .references) (k .terms) i t
   unfolding free-at
   uses-then =
-      let high : x .uses ≤ length out₁ = omega (arith, room, within .3) in
-      let name : (m : ℕ) → List·Memᴰ m (part out₁ (k .uses) (x .uses)) → name-of file names′ m ≡ name-of file names₁ m =
+      let high : x .uses ≤ length lists₁ = omega (arith, room, within .3) in
+      let name : (m : ℕ) → List·Memᴰ m (part lists₁ (k .uses) (x .uses)) → name-of file names′ m ≡ name-of file names₁ m =
       λ m q. let p = part-elim high q in still .name m (rw (p .is) at (known-use (p .place) (p .low) (p .high))) in
       rw (
         row .uses-from,
         row .uses-to,
-        part-agree out₁ out′ (x .uses - k .uses) (k .uses) (x .uses) refl high (omega (arith, high, size)) (λ j l u. list-words j (omega (arith, within .3))),
+        part-agree lists₁ lists′ (x .uses - k .uses) (k .uses) (x .uses) refl high (omega (arith, high, size)) (λ j l u. list-words j (omega (arith, within .3))),
       )
-      (ap from-list (names-stay (name-of file names′) (name-of file names₁) (part out₁ (k .uses) (x .uses)) name) ∙ lists .free-names)
+      (ap from-list (names-stay (name-of file names′) (name-of file names₁) (part lists₁ (k .uses) (x .uses)) name) ∙ filed-lists .free-names)
     where
-      known-use : (j : ℕ) → k .uses ≤ j → j < x .uses → getD out₁ j 0 < x .named
-      known-use j l u = omega (arith, lists .use-words j l u, more)
+      known-use : (j : ℕ) → k .uses ≤ j → j < x .uses → getD lists₁ j 0 < x .named
+      known-use j l u = omega (arith, filed-lists .use-words j l u, more)
 
-  fact-is : fact-at (name-of file names′) recs′ out′ (k .records)
-      ≡ summarize-assumption excluded (terms-in file names refs rows (k .used) (k .many)) line (name-of file names i) (eqb flag 1) t
+  fact-is : fact-at (name-of file names′) recs′ lists′ (k .records)
+      ≡ summarize-assumption exclude-names (terms-in file names refs rows (k .references) (k .terms)) line (name-of file names i) (eqb flag 1) t
   unfolding fact-at summarize-assumption fact-kind fact-names
   fact-is = rw (
     uses-then,
@@ -341,14 +341,14 @@ module _ {file names refs rows recs out names₁ rows′ out₁ names′ recs′
   )
 
   -- the record is there
-  fact-there : Adds file names refs rows recs out names′ rows′ recs′ out′ k line (said file names i flag t) (step.On next)
+  fact-there : Adds file names refs rows recs lists names′ rows′ recs′ lists′ k line (said file names i flag t) (step.On next)
   unfolding asked nodes spelled trimmed summarize-decl root-of entries-of uses-of sum fold-left summary-at root-at names-then fact-kind fact-names entries summarize-assumption
   fact-there =
       rw (puts .counts) (record-added st few appends (fact-new st line known {w = 0} (sym free) flag t (omega arith)) (record {
         no-ask = refl;
         no-term = refl;
-        spells = still .names ∙ lists .spelled ∙ sym (spelled-before file names (k .named) i
-            (fact-kind excluded file names refs rows (k .named) (k .used) (k .many) i t .trimmed) known);
+        spells = still .names ∙ filed-lists .spelled ∙ sym (spelled-before file names (k .names) i
+            (fact-kind exclude-names file names refs rows (k .names) (k .references) (k .terms) i t .trimmed) known);
         decls = rw fact-is;
         roots = refl;
         entries = omega (arith, entries-are);
@@ -358,13 +358,13 @@ module _ {file names refs rows recs out names₁ rows′ out₁ names′ recs′
 -- ---- what the calls ask, and what stays
 
 -- the table tells the excluded names
-pub excludes-here : {file names refs rows recs out : List ℕ} {k : Counts} → Standing file names refs rows recs out k → Excludes excluded file names (k .named)
+pub excludes-here : {file names refs rows recs lists : List ℕ} {k : Counts} → Standing file names refs rows recs lists k → Excludes exclude-names file names (k .names)
 excludes-here st = excluded-exact (st .tables .name-table)
 
-module _ {file names refs rows recs out : List ℕ} {k : Counts} (st : Standing file names refs rows recs out k) {i t : ℕ} (known : i < k .named)
-    (term : t < k .many) where
+module _ {file names refs rows recs lists : List ℕ} {k : Counts} (st : Standing file names refs rows recs lists k) {i t : ℕ} (known : i < k .names)
+    (term : t < k .terms) where
   -- summarising the fact
-  pub fact-asked : Asked file names refs rows out (k .named) (k .used) (k .many) i t (k .mark) (k .entries) (k .uses)
+  pub fact-asked : Asked file names refs rows lists (k .names) (k .references) (k .terms) i t (k .mark) (k .entries) (k .uses)
   fact-asked = record {
     tables = st .tables;
     fact = known;
@@ -373,27 +373,27 @@ module _ {file names refs rows recs out : List ℕ} {k : Counts} (st : Standing 
     few-marks = omega (arith, st .few-marks, st .recorded .few, st .recorded .few-entries);
     few-entries = st .recorded .few-entries;
     few-uses = st .recorded .few-uses;
-    room = st .recorded .out-room;
+    room = st .recorded .lists-room;
   }
 
   -- putting its summary into the tables
-  pub fact-puttable : {names₁ rows₁ out₁ : List ℕ} {line flag : ℕ} {x : Summary}
+  pub fact-puttable : {names₁ rows₁ lists₁ : List ℕ} {line flag : ℕ} {x : Summary}
       → summarized.Done x ≡ limited (summed file names refs rows k i t)
-      → Lists excluded file names refs rows (k .named) (k .used) (k .many) i t names₁ rows₁ out₁ (k .entries) (k .uses) x
-      → Slices names rows out names₁ rows₁ out₁ (k .entries) (k .uses) → k .records < most-records → line < 4294967296 → flag < 2
-      → Puttable names₁ recs out₁ k line i flag t x
+      → Lists exclude-names file names refs rows (k .names) (k .references) (k .terms) i t names₁ rows₁ lists₁ (k .entries) (k .uses) x
+      → Slices names rows lists names₁ rows₁ lists₁ (k .entries) (k .uses) → k .records < most-records → line < 4294967296 → flag < 2
+      → Puttable names₁ recs lists₁ k line i flag t x
   unfolding fact-summary fact-kind
-  fact-puttable {names₁} {out₁ = out₁} {line} {flag} {x} done lists slices few line-small flag-small =
+  fact-puttable {names₁} {lists₁ = lists₁} {line} {flag} {x} done filed-lists slices few line-small flag-small =
       let (is, few-names, few-entries, few-uses) = limited-done _ done in
       let low : i < most-names = omega (arith, st .tables .name-table .few) in
-      let code : code-of (x .kind) ≤ 3 + x .entries = code-low (x .kind) (x .entries) (λ m e. omega (arith, lists .few-sets m e)) in
+      let code : code-of (x .kind) ≤ 3 + x .entries = code-low (x .kind) (x .entries) (λ m e. omega (arith, filed-lists .few-sets m e)) in
       record {
         chained = chained-kept (st .stocked .chained) (λ n l. slices .name-words .same-words (first-column + n) (λ a b. omega arith))
-            (λ e l. ap (λ w. w % last-flag) (slices .out-words (entries-base + e) (λ a b. omega arith) (λ a b. omega arith)))
-            (λ e l. slices .out-words (next-column + e) (λ a b. omega arith) (λ a b. omega arith));
+            (λ e l. ap (λ w. w % last-flag) (slices .lists-words (entries-base + e) (λ a b. omega arith) (λ a b. omega arith)))
+            (λ e l. slices .lists-words (next-column + e) (λ a b. omega arith) (λ a b. omega arith));
         name-room = omega (arith, slices .name-words .same-length, st .tables .name-table .room);
         record-room = st .recorded .room;
-        out-room = omega (arith, slices .out-length, st .recorded .out-room);
+        lists-room = omega (arith, slices .lists-length, st .recorded .lists-room);
         few = few;
         known = low;
         more = omega (arith, ap (λ y. y .entries) is);
@@ -403,23 +403,23 @@ module _ {file names refs rows recs out : List ℕ} {k : Counts} (st : Standing 
       }
 
 -- words past the tables stay where a fact is refused
-pub over-past : {names rows recs out names₁ rows₁ out₁ : List ℕ} {filed uses : ℕ} → Slices names rows out names₁ rows₁ out₁ filed uses
-    → Untouched names rows recs out names₁ rows₁ recs out₁
+pub over-past : {names rows recs lists names₁ rows₁ lists₁ : List ℕ} {filed uses : ℕ} → Slices names rows lists names₁ rows₁ lists₁ filed uses
+    → Untouched names rows recs lists names₁ rows₁ recs lists₁
 over-past s = record {
   name-words = same-wider 0 working-words (omega arith) (omega arith) (s .name-words);
   row-words = same-wider 0 working-words (omega arith) (omega arith) (s .row-words);
   record-words = record { same-length = refl; same-words = λ i h. refl };
   list-words = record {
-    same-length = s .out-length;
-    same-words = λ i h. s .out-words i (λ a b. h (omega arith) (omega arith)) (λ a b. h (omega arith) (omega arith));
+    same-length = s .lists-length;
+    same-words = λ i h. s .lists-words i (λ a b. h (omega arith) (omega arith)) (λ a b. h (omega arith) (omega arith));
   };
 }
 
 -- and where it is there
-pub fact-past : {names rows recs out names₁ rows₁ out₁ names′ recs′ out′ : List ℕ} {filed uses line i flag t : ℕ} {k : Counts} {x : Summary} {next : Counts}
-    → Slices names rows out names₁ rows₁ out₁ filed uses → x .entries ≤ most-entries → i < most-names
-    → Puts names₁ recs out₁ names′ recs′ out′ k line i flag t x next
-    → Untouched names rows recs out names′ rows₁ recs′ out′
+pub fact-past : {names rows recs lists names₁ rows₁ lists₁ names′ recs′ lists′ : List ℕ} {filed uses line i flag t : ℕ} {k : Counts} {x : Summary} {next : Counts}
+    → Slices names rows lists names₁ rows₁ lists₁ filed uses → x .entries ≤ most-entries → i < most-names
+    → Puts names₁ recs lists₁ names′ recs′ lists′ k line i flag t x next
+    → Untouched names rows recs lists names′ rows₁ recs′ lists′
 fact-past {names₁ = names₁} {i = i} {k = k} s few low p =
     let put = taken-put {names = names₁} i (k .records + 1) low in
     record {
@@ -432,19 +432,19 @@ fact-past {names₁ = names₁} {i = i} {k = k} s few low p =
       row-words = same-wider 0 working-words (omega arith) (omega arith) (s .row-words);
       record-words = row-past (p .row);
       list-words = record {
-        same-length = p .chains .out-length ∙ s .out-length;
+        same-length = p .chains .lists-length ∙ s .lists-length;
         same-words = λ j h.
-            p .chains .out-words j (λ a b. h (omega arith) (omega arith)) (λ a b. h (omega arith) (omega arith))
-            ∙ s .out-words j (λ a b. h (omega arith) (omega arith)) (λ a b. h (omega arith) (omega arith));
+            p .chains .lists-words j (λ a b. h (omega arith) (omega arith)) (λ a b. h (omega arith) (omega arith))
+            ∙ s .lists-words j (λ a b. h (omega arith) (omega arith)) (λ a b. h (omega arith) (omega arith));
       };
     }
 
 -- the fact there, by what the code has found
-pub fact-added : {file names refs rows recs out names₁ rows′ out₁ names′ recs′ out′ : List ℕ} {k : Counts} → Standing file names refs rows recs out k
-    → (line : ℕ) → {i : ℕ} → i < k .named
+pub fact-added : {file names refs rows recs lists names₁ rows′ lists₁ names′ recs′ lists′ : List ℕ} {k : Counts} → Standing file names refs rows recs lists k
+    → (line : ℕ) → {i : ℕ} → i < k .names
     → {w : ℕ} → w ≡ taken-at names i → (flag t : ℕ) → {x : Summary} {next : Counts} → w ≤ 0 → k .records < most-records
     → summarized.Done x ≡ limited (summed file names refs rows k i t)
-    → Lists excluded file names refs rows (k .named) (k .used) (k .many) i t names₁ rows′ out₁ (k .entries) (k .uses) x
-    → Slices names rows out names₁ rows′ out₁ (k .entries) (k .uses) → Puts names₁ recs out₁ names′ recs′ out′ k line i flag t x next
-    → Adds file names refs rows recs out names′ rows′ recs′ out′ k line (said file names i flag t) (step.On next)
-fact-added st line known is flag t h few done lists slices puts = fact-there st line known flag t few (omega arith) done lists slices puts
+    → Lists exclude-names file names refs rows (k .names) (k .references) (k .terms) i t names₁ rows′ lists₁ (k .entries) (k .uses) x
+    → Slices names rows lists names₁ rows′ lists₁ (k .entries) (k .uses) → Puts names₁ recs lists₁ names′ recs′ lists′ k line i flag t x next
+    → Adds file names refs rows recs lists names′ rows′ recs′ lists′ k line (said file names i flag t) (step.On next)
+fact-added st line known is flag t h few done filed-lists slices puts = fact-there st line known flag t few (omega arith) done filed-lists slices puts

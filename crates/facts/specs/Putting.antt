@@ -13,20 +13,20 @@ use Rattle.records.specs.Filing.{Chained}
 use Rattle.records.specs.Writing.{with-record, Small, Rowed}
 
 -- the entries from one on up to another put on the chains of their names, as those of a record
-pub record Chains (names out names′ out′ : List ℕ) (from to fact : ℕ) : Type 0 where
-  pub chained : Chained names′ out′ to
+pub record Chains (names lists names′ lists′ : List ℕ) (from to fact : ℕ) : Type 0 where
+  pub chained : Chained names′ lists′ to
   pub names-same : Same-but first-column most-names names names′
-  pub out-length : length out′ ≡ length out
-  pub out-words : (i : ℕ) → (fact-column + from ≤ i → i < fact-column + to → ⊥) → (next-column + from ≤ i → i < next-column + to → ⊥)
-      → getD out′ i 0 ≡ getD out i 0
-  pub facts : (e : ℕ) → from ≤ e → e < to → entry-fact out′ e ≡ fact
+  pub lists-length : length lists′ ≡ length lists
+  pub lists-words : (i : ℕ) → (fact-column + from ≤ i → i < fact-column + to → ⊥) → (next-column + from ≤ i → i < next-column + to → ⊥)
+      → getD lists′ i 0 ≡ getD lists i 0
+  pub facts : (e : ℕ) → from ≤ e → e < to → entry-fact lists′ e ≡ fact
 
 -- what putting a summary into the tables asks
-pub record Puttable (names recs out : List ℕ) (k : Counts) (line name flag term : ℕ) (s : Summary) : Type 0 where
-  pub chained : Chained names out (k .entries)
+pub record Puttable (names recs lists : List ℕ) (k : Counts) (line name flag term : ℕ) (s : Summary) : Type 0 where
+  pub chained : Chained names lists (k .entries)
   pub name-room : working-words ≤ length names
   pub record-room : working-words ≤ length recs
-  pub out-room : working-words ≤ length out
+  pub lists-room : working-words ≤ length lists
   pub few : k .records < most-records
   pub known : name < most-names
   pub more : k .entries ≤ s .entries
@@ -34,7 +34,7 @@ pub record Puttable (names recs out : List ℕ) (k : Counts) (line name flag ter
   pub small : Small k (with-record k (s .named) (s .entries) (s .uses) (s .mark)) assume-kind line name term flag (code-of (s .kind))
 
 -- a summary put into the tables: the counts, the row, the name taken, the entries chained
-pub record Puts (names recs out names′ recs′ out′ : List ℕ) (k : Counts) (line name flag term : ℕ) (s : Summary) (r : Counts) : Type 0 where
+pub record Puts (names recs lists names′ recs′ lists′ : List ℕ) (k : Counts) (line name flag term : ℕ) (s : Summary) (r : Counts) : Type 0 where
   pub counts : r ≡ with-record k (s .named) (s .entries) (s .uses) (s .mark)
   pub row : Rowed recs recs′ k r assume-kind line name term flag (code-of (s .kind))
-  pub chains : Chains (set names (taken-column + name) (k .records + 1)) out names′ out′ (k .entries) (s .entries) (k .records)
+  pub chains : Chains (set names (taken-column + name) (k .records + 1)) lists names′ lists′ (k .entries) (s .entries) (k .records)

@@ -19,21 +19,21 @@ ghost use Rattle.facts.specs.Putting.{Chains, Puttable, Puts};
 ghost use Rattle.facts.specs.Refusing.{behind-records, over-refusal};
 
 // Puts the entries from `from` on up to `to`, which are those of the record `fact`, on the chains of their names.
-fn chain_entries(names: &mut [u32], out: &mut [u32], from: usize, to: usize, fact: usize)
-    requires { ⌜ Chained (now names) (now out) from × (from ≤ to) × (to ≤ most-entries) × (fact < most-records)
-        × (working-words ≤ length (now names)) × (working-words ≤ length (now out)) ⌝ }
-    ensures { λ x. ⌜ Chains (now (names .entry)) (now (out .entry)) (now (names .exit)) (now (out .exit)) from to fact ⌝ }
+fn chain_entries(names: &mut [u32], lists: &mut [u32], from: usize, to: usize, fact: usize)
+    requires { ⌜ Chained (now names) (now lists) from × (from ≤ to) × (to ≤ most-entries) × (fact < most-records)
+        × (working-words ≤ length (now names)) × (working-words ≤ length (now lists)) ⌝ }
+    ensures { λ x. ⌜ Chains (now (names .entry)) (now (lists .entry)) (now (names .exit)) (now (lists .exit)) from to fact ⌝ }
 {
     let mut e = from;
     while e < to {
         let k = e;
-        let n = words::at(out, triggers::ENTRIES + k) % triggers::LAST;
+        let n = words::at(lists, triggers::ENTRIES + k) % triggers::LAST;
         e += 1;
-        out[records::FACT + k] = fact as u32;
+        lists[records::FACT + k] = fact as u32;
         if triggers::NO_NAME <= n {
             continue;
         }
-        out[records::NEXT + k] = names[records::FIRST + n];
+        lists[records::NEXT + k] = names[records::FIRST + n];
         names[records::FIRST + n] = e as u32;
     }
 }
@@ -59,7 +59,7 @@ fn code(kind: AsumKind) -> usize
 fn put_fact(
     names: &mut [u32],
     recs: &mut [u32],
-    out: &mut [u32],
+    lists: &mut [u32],
     k: Counts,
     line: usize,
     name: usize,
@@ -67,16 +67,16 @@ fn put_fact(
     t: usize,
     s: Summary,
 ) -> Counts
-    requires { ⌜ Puttable (now names) (now recs) (now out) k line name flag t s ⌝ }
-    ensures { λ r. ⌜ Puts (now (names .entry)) (now (recs .entry)) (now (out .entry)) (now (names .exit)) (now (recs .exit))
-        (now (out .exit)) k line name flag t s r ⌝ }
+    requires { ⌜ Puttable (now names) (now recs) (now lists) k line name flag t s ⌝ }
+    ensures { λ r. ⌜ Puts (now (names .entry)) (now (recs .entry)) (now (lists .entry)) (now (names .exit)) (now (recs .exit))
+        (now (lists .exit)) k line name flag t s r ⌝ }
 {
     let kind = s.kind;
     let word = code(kind);
     names[records::TAKEN + name] = (k.records + 1) as u32;
     let next = records::with_record(k, s.named, s.entries, s.uses, s.mark);
     records::put_record(recs, k, next, records::ASSUME, line, name, t, flag, word);
-    chain_entries(names, out, k.entries, s.entries, k.records);
+    chain_entries(names, lists, k.entries, s.entries, k.records);
     next
 }
 
@@ -108,23 +108,23 @@ pub fn add_fact(
     refs: &[u32],
     rows: &mut [u32],
     recs: &mut [u32],
-    out: &mut [u32],
+    lists: &mut [u32],
     k: Counts,
     line: usize,
     name: usize,
     flag: usize,
     t: usize,
 ) -> Step
-    requires { ⌜ (k .named ≤ most-names → Standing (now file) (now names) (now refs) (now rows) (now recs) (now out) k
-        × (name < k .named)) × (t < k .many) × (line < 4294967296) × (flag < 2) ⌝ }
+    requires { ⌜ (k .names ≤ most-names → Standing (now file) (now names) (now refs) (now rows) (now recs) (now lists) k
+        × (name < k .names)) × (t < k .terms) × (line < 4294967296) × (flag < 2) ⌝ }
     ensures record { λ r. ⌜ Adds (now (file .entry)) (now (names .entry)) (now (refs .entry)) (now (rows .entry))
-        (now (recs .entry)) (now (out .entry)) (now (names .exit)) (now (rows .exit)) (now (recs .exit)) (now (out .exit)) k
+        (now (recs .entry)) (now (lists .entry)) (now (names .exit)) (now (rows .exit)) (now (recs .exit)) (now (lists .exit)) k
         line (assume (name-of (now (file .entry)) (now (names .entry)) name) (eqb flag 1) t) r ⌝ }
-    ensures past { λ r. ⌜ Untouched (now (names .entry)) (now (rows .entry)) (now (recs .entry)) (now (out .entry))
-        (now (names .exit)) (now (rows .exit)) (now (recs .exit)) (now (out .exit)) ⌝ }
+    ensures past { λ r. ⌜ Untouched (now (names .entry)) (now (rows .entry)) (now (recs .entry)) (now (lists .entry))
+        (now (names .exit)) (now (rows .exit)) (now (recs .exit)) (now (lists .exit)) ⌝ }
 {
     let count = k.records;
-    if model::MOST_NAMES < k.named {
+    if model::MOST_NAMES < k.names {
         return Step::Refused(Refusal::FullNames);
     }
     if 0 < words::at(names, records::TAKEN + name) {
@@ -135,10 +135,10 @@ pub fn add_fact(
         names,
         refs,
         rows,
-        out,
-        k.named,
-        k.used,
-        k.many,
+        lists,
+        k.names,
+        k.references,
+        k.terms,
         name,
         t,
         k.mark,
@@ -149,7 +149,7 @@ pub fn add_fact(
             if model::MOST_RECORDS <= count {
                 return Step::Refused(Refusal::FullRecords);
             }
-            Step::On(put_fact(names, recs, out, k, line, name, flag, t, s))
+            Step::On(put_fact(names, recs, lists, k, line, name, flag, t, s))
         }
         Summarized::Over(limit) => Step::Refused(over_refusal(limit, count)),
     }

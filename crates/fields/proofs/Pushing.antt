@@ -18,13 +18,13 @@ use Rattle.text.specs.declared.NumberStep.the-variants as numbered
 use Rattle.text.specs.Parts.{Placed, fields-left, number-result, term-at, number-at}
 use Rattle.text.proofs.Laws.{Onward, term-law, term-next, number-law, left-none, left-some}
 use Rattle.terms.proofs.Laws.{below}
-use Rattle.lines.specs.Additions.{pushed}
-use Rattle.lines.proofs.Laws.{pushed-in, pushed-full}
+use Rattle.additions.specs.Additions.{references-pushed}
+use Rattle.additions.proofs.Laws.{pushed-in, pushed-full}
 use Rattle.words.specs.Slices.{Same-but}
 use Rattle.words.proofs.Slices.{same-self, same-set}
 use Rattle.fields.specs.declared.Upto.{Upto}
 use Rattle.fields.specs.declared.Upto.the-variants as upto
-use Rattle.fields.specs.Pushing.{reference, most-number, Run, push-one, push-many, push-rest, push-groups, upto-result, Ahead, Pushes, Pushable}
+use Rattle.fields.specs.Pushing.{reference, most-number, References-read, push-one, push-many, push-rest, push-groups, upto-result, Ahead, Pushes, Pushable}
 
 -- ---- a field read
 
@@ -71,7 +71,7 @@ left-cons file c h =
 
 -- ---- answers
 
-module _ {file refs refs′ : List ℕ} {run : Run} {from : ℕ} {c : Cursor} {r : Upto} (p : Pushes file refs refs′ run from c r) where
+module _ {file refs refs′ : List ℕ} {run : References-read} {from : ℕ} {c : Cursor} {r : Upto} (p : Pushes file refs refs′ run from c r) where
   -- what a run that is done comes to
   pub run-at : {end : ℕ} {next : Cursor} → r ≡ upto.At end next → run ≡ ok (refs′, end, fields-left file next)
   unfolding upto-result
@@ -82,7 +82,7 @@ module _ {file refs refs′ : List ℕ} {run : Run} {from : ℕ} {c : Cursor} {r
   unfolding upto-result
   run-not e = sym (p .answer) ∙ ap (upto-result file refs′) e
 
-module _ {file refs refs′ : List ℕ} {run : Run} {from : ℕ} {c : Cursor} (k : Same-but 0 most-references refs refs′) where
+module _ {file refs refs′ : List ℕ} {run : References-read} {from : ℕ} {c : Cursor} (k : Same-but 0 most-references refs refs′) where
   -- a run that is refused
   pub pushes-not : (x : Refusal) → run ≡ refused x → Pushes file refs refs′ run from c (upto.Refused x)
   unfolding upto-result
@@ -134,7 +134,7 @@ module _ {file refs : List ℕ} {from many : ℕ} {c : Cursor} (p : Pushable fil
 -- ---- one reference
 
 -- a reference is written within the limit
-pub pushed-kept : (refs : List ℕ) (used word : ℕ) → Same-but 0 most-references refs (pushed refs used word)
+pub pushed-kept : (refs : List ℕ) (used word : ℕ) → Same-but 0 most-references refs (references-pushed refs used word)
 pushed-kept refs used word = ⊎-elim
     (λ (l : used < most-references). rw (pushed-in refs used word l) (same-set 0 most-references refs used word (omega arith) (omega arith)))
     (λ (l : most-references ≤ used). rw (pushed-full refs used word l) (same-self 0 most-references refs))
@@ -143,7 +143,7 @@ pushed-kept refs used word = ⊎-elim
 module _ {file refs : List ℕ} {used many : ℕ} {c : Cursor} (p : Pushable file refs used many c) (group : ℕ) where
   -- a term that was read is pushed
   pub one-pushed : {refs′ : List ℕ} {t : ℕ} {n : Cursor} {r : NumberStep} → r ≡ term-at many file c → r ≡ numbered.Number t n
-      → refs′ ≡ pushed refs used (reference t group)
+      → refs′ ≡ references-pushed refs used (reference t group)
       → Pushes file refs refs′ (push-one many group refs used (fields-left file c)) used c (upto.At (used + 1) n)
   unfolding push-one
   one-pushed {t = t} {n} a b e =
@@ -206,9 +206,9 @@ rest-on : (count : ℕ) (refs : List ℕ) (used : ℕ) (f : Field) (gs : List Fi
 unfolding push-rest push-one next
 rest-on count refs used f gs = go (term-field count f)
   where
-    go : (r : Result ℕ) → (r >>= λ t. push-rest count (pushed refs used (reference t 0)) (used + 1) gs)
+    go : (r : Result ℕ) → (r >>= λ t. push-rest count (references-pushed refs used (reference t 0)) (used + 1) gs)
         ≡ (r >>= (λ a. ok (a, gs)) >>= (λ (t, fs₁). ok (
-          pushed refs used (reference t 0),
+          references-pushed refs used (reference t 0),
           used
               + 1,
           fs₁,

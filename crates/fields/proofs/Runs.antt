@@ -17,12 +17,12 @@ use Rattle.model.proofs.ListLaws.{T-true, map-elim}
 use Rattle.model.proofs.PartLaws.{part-nil, part-cons}
 use Rattle.model.proofs.ResultLaws.{bind-ok, ok-eq, not-ok, cond-ok}
 use Rattle.terms.proofs.Groups.{group-words}
-use Rattle.lines.specs.Additions.{pushed}
-use Rattle.lines.proofs.Adding.{push-agrees, push-length}
-use Rattle.lines.proofs.Lines.{push-last}
+use Rattle.additions.specs.Additions.{references-pushed}
+use Rattle.additions.proofs.Adding.{push-agrees, push-length}
+use Rattle.additions.proofs.Lines.{push-last}
 use Rattle.words.specs.Slices.{Same-but}
 use Rattle.words.proofs.Slices.{same-self, same-then}
-use Rattle.fields.specs.Pushing.{reference, most-number, Run, push-one, push-many, push-rest, push-groups, push-all}
+use Rattle.fields.specs.Pushing.{reference, most-number, References-read, push-one, push-many, push-rest, push-groups, push-all}
 use Rattle.fields.proofs.Pushing.{pushed-kept}
 
 -- ---- runs are the fields of `model`, pushed
@@ -37,10 +37,10 @@ unfolding push-all
 push-append refs used [] w = let e : used + 0 ≡ used = omega arith in rw e
 push-append refs used (x ∷ v) w =
     let e : used + suc (length v) ≡ used + 1 + length v = omega arith in
-    rw e (push-append (pushed refs used x) (used + 1) v w)
+    rw e (push-append (references-pushed refs used x) (used + 1) v w)
 
 -- a run that pushes words and leaves fields
-abbrev done : List ℕ → ℕ → List ℕ → List Field → Run
+abbrev done : List ℕ → ℕ → List ℕ → List Field → References-read
 done refs used ws fs = ok (push-all refs used ws, used + length ws, fs)
 
 -- no word
@@ -49,7 +49,7 @@ unfolding push-all
 done-nil refs used fs = let e : used + 0 ≡ used = omega arith in rw e
 
 -- one word and then words
-done-cons : (refs : List ℕ) (used w : ℕ) (ws : List ℕ) (fs : List Field) → done (pushed refs used w) (used + 1) ws fs ≡ done refs used (w ∷ ws) fs
+done-cons : (refs : List ℕ) (used w : ℕ) (ws : List ℕ) (fs : List Field) → done (references-pushed refs used w) (used + 1) ws fs ≡ done refs used (w ∷ ws) fs
 unfolding push-all
 done-cons refs used w ws fs = let e : used + suc (length ws) ≡ used + 1 + length ws = omega arith in rw e
 
@@ -61,8 +61,8 @@ done-append refs used v w fs =
     rw (e, push-append refs used v w)
 
 -- a term pushed
-abbrev one : ℕ → List ℕ → ℕ → ℕ → List Field → Run
-one g refs used t fs₁ = ok (pushed refs used (reference t g), used + 1, fs₁)
+abbrev one : ℕ → List ℕ → ℕ → ℕ → List Field → References-read
+one g refs used t fs₁ = ok (references-pushed refs used (reference t g), used + 1, fs₁)
 
 -- a value before others
 abbrev with : {A : Type 0} → A → List A → List Field → Result (List A × List Field)
@@ -74,18 +74,18 @@ module _ (count : ℕ) where
       → push-rest count refs used fs ≡ (rest (term-field count) fs >>= λ ts. done refs used (in-group 0 ts) [])
   unfolding push-rest rest
   rest-law refs used [] = done-nil refs used []
-  rest-law refs used (f ∷ fs) = go (λ t. rest-law (pushed refs used (reference t 0)) (used + 1) fs) (term-field count f)
+  rest-law refs used (f ∷ fs) = go (λ t. rest-law (references-pushed refs used (reference t 0)) (used + 1) fs) (term-field count f)
     where
       Later : Type 0
-      Later = (t : ℕ) → push-rest count (pushed refs used (reference t 0)) (used + 1) fs
-          ≡ (rest (term-field count) fs >>= λ ts. done (pushed refs used (reference t 0)) (used + 1) (in-group 0 ts) [])
+      Later = (t : ℕ) → push-rest count (references-pushed refs used (reference t 0)) (used + 1) fs
+          ≡ (rest (term-field count) fs >>= λ ts. done (references-pushed refs used (reference t 0)) (used + 1) (in-group 0 ts) [])
 
-      go : Later → (r : Result ℕ) → (r >>= λ t. push-rest count (pushed refs used (reference t 0)) (used + 1) fs)
+      go : Later → (r : Result ℕ) → (r >>= λ t. push-rest count (references-pushed refs used (reference t 0)) (used + 1) fs)
           ≡ (r >>= (λ a. rest (term-field count) fs >>= λ more. ok (a ∷ more)) >>= λ ts. done refs used (in-group 0 ts) [])
       go ih (refused x) = refl
       go ih (ok t) = ih t ∙ on (rest (term-field count) fs)
         where
-          on : (r : Result (List ℕ)) → (r >>= λ ts. done (pushed refs used (reference t 0)) (used + 1) (in-group 0 ts) [])
+          on : (r : Result (List ℕ)) → (r >>= λ ts. done (references-pushed refs used (reference t 0)) (used + 1) (in-group 0 ts) [])
               ≡ (r >>= (λ more. ok (t ∷ more)) >>= λ ts. done refs used (in-group 0 ts) [])
           on (refused x) = refl
           on (ok ts) = done-cons refs used (reference t 0) (in-group 0 ts) []
@@ -95,11 +95,11 @@ module _ (count : ℕ) where
       → push-many count g n refs used fs ≡ (many n (term-field count) fs >>= λ (ts, fs₁). done refs used (in-group g ts) fs₁)
   unfolding push-many push-one many
   many-law g zero refs used fs = done-nil refs used fs
-  many-law g (suc n) refs used fs = go (λ t fs₁. many-law g n (pushed refs used (reference t g)) (used + 1) fs₁) (next (term-field count) fs)
+  many-law g (suc n) refs used fs = go (λ t fs₁. many-law g n (references-pushed refs used (reference t g)) (used + 1) fs₁) (next (term-field count) fs)
     where
       Later : Type 0
-      Later = (t : ℕ) (fs₁ : List Field) → push-many count g n (pushed refs used (reference t g)) (used + 1) fs₁
-          ≡ (many n (term-field count) fs₁ >>= λ (ts, fs₂). done (pushed refs used (reference t g)) (used + 1) (in-group g ts) fs₂)
+      Later = (t : ℕ) (fs₁ : List Field) → push-many count g n (references-pushed refs used (reference t g)) (used + 1) fs₁
+          ≡ (many n (term-field count) fs₁ >>= λ (ts, fs₂). done (references-pushed refs used (reference t g)) (used + 1) (in-group g ts) fs₂)
 
       go : Later → (r : Result (ℕ × List Field))
           → (r >>= (λ (t, fs₁). one g refs used t fs₁) >>= λ (refs₁, used₁, fs₁). push-many count g n refs₁ used₁ fs₁)
@@ -107,7 +107,7 @@ module _ (count : ℕ) where
       go ih (refused x) = refl
       go ih (ok (t, fs₁)) = ih t fs₁ ∙ on (many n (term-field count) fs₁)
         where
-          on : (r : Result (List ℕ × List Field)) → (r >>= λ (ts, fs₂). done (pushed refs used (reference t g)) (used + 1) (in-group g ts) fs₂)
+          on : (r : Result (List ℕ × List Field)) → (r >>= λ (ts, fs₂). done (references-pushed refs used (reference t g)) (used + 1) (in-group g ts) fs₂)
               ≡ (r >>= (λ (more, fs₂). with t more fs₂) >>= λ (ts, fs₁). done refs used (in-group g ts) fs₁)
           on (refused x) = refl
           on (ok (ts, fs₂)) = done-cons refs used (reference t g) (in-group g ts) fs₂
@@ -152,19 +152,19 @@ refused-back (refused y) f e = cc
 all-length : (refs : List ℕ) (used : ℕ) (ws : List ℕ) → length (push-all refs used ws) ≡ length refs
 unfolding push-all
 all-length refs used [] = refl
-all-length refs used (w ∷ ws) = all-length (pushed refs used w) (used + 1) ws ∙ push-length refs used w
+all-length refs used (w ∷ ws) = all-length (references-pushed refs used w) (used + 1) ws ∙ push-length refs used w
 
 -- the references before stay
 all-agrees : (refs : List ℕ) (used : ℕ) (ws : List ℕ) (i : ℕ) → i < used → getD (push-all refs used ws) i 0 ≡ getD refs i 0
 unfolding push-all
 all-agrees refs used [] i h = refl
-all-agrees refs used (w ∷ ws) i h = all-agrees (pushed refs used w) (used + 1) ws i (omega arith) ∙ push-agrees refs used w i h
+all-agrees refs used (w ∷ ws) i h = all-agrees (references-pushed refs used w) (used + 1) ws i (omega arith) ∙ push-agrees refs used w i h
 
 -- nothing is written past the limit
 all-kept : (refs : List ℕ) (used : ℕ) (ws : List ℕ) → Same-but 0 most-references refs (push-all refs used ws)
 unfolding push-all
 all-kept refs used [] = same-self 0 most-references refs
-all-kept refs used (w ∷ ws) = same-then (pushed-kept refs used w) (all-kept (pushed refs used w) (used + 1) ws)
+all-kept refs used (w ∷ ws) = same-then (pushed-kept refs used w) (all-kept (references-pushed refs used w) (used + 1) ws)
 
 -- the words that were pushed, where all have room
 all-words : (refs : List ℕ) (used : ℕ) (ws : List ℕ) → most-references ≤ length refs → used + length ws ≤ most-references
@@ -172,13 +172,13 @@ all-words : (refs : List ℕ) (used : ℕ) (ws : List ℕ) → most-references �
 unfolding push-all
 all-words refs used [] r h = part-nil refs used (used + 0) (omega arith)
 all-words refs used (w ∷ ws) r h =
-    let all = push-all (pushed refs used w) (used + 1) ws in
-    let size : length all ≡ length refs = all-length (pushed refs used w) (used + 1) ws ∙ push-length refs used w in
+    let all = push-all (references-pushed refs used w) (used + 1) ws in
+    let size : length all ≡ length refs = all-length (references-pushed refs used w) (used + 1) ws ∙ push-length refs used w in
     let e : used + suc (length ws) ≡ used + 1 + length ws = omega arith in
     rw (part-cons all used (used + suc (length ws)) (omega arith) (omega arith), e)
     (ap₂ _∷_
-    (all-agrees (pushed refs used w) (used + 1) ws used (omega arith) ∙ push-last refs used w r (omega arith))
-    (all-words (pushed refs used w) (used + 1) ws (rw (push-length refs used w) r) (omega arith)))
+    (all-agrees (references-pushed refs used w) (used + 1) ws used (omega arith) ∙ push-last refs used w r (omega arith))
+    (all-words (references-pushed refs used w) (used + 1) ws (rw (push-length refs used w) r) (omega arith)))
 
 -- words pushed, each of one of `count` terms
 pub record Ran (count : ℕ) (refs refs′ : List ℕ) (from end : ℕ) (words : List ℕ) : Type 0 where
@@ -362,7 +362,7 @@ module _ (count : ℕ) (refs : List ℕ) (from : ℕ) (fs : List Field) {x : Ref
   -- a term that is refused
   pub term-refused : push-one count 0 refs from fs ≡ refused x → next (term-field count) fs ≡ refused x
   unfolding push-one
-  term-refused e = refused-back (next (term-field count) fs) (λ (t, fs₁). (pushed refs from (reference t 0), from + 1, fs₁)) e
+  term-refused e = refused-back (next (term-field count) fs) (λ (t, fs₁). (references-pushed refs from (reference t 0), from + 1, fs₁)) e
 
   -- one of all fields left
   pub rest-refused : push-rest count refs from fs ≡ refused x → rest (term-field count) fs ≡ refused x

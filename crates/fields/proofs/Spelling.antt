@@ -18,7 +18,7 @@ use Rattle.text.specs.declared.FieldStep.{FieldStep}
 use Rattle.text.specs.declared.FieldStep.the-variants as field
 use Rattle.text.specs.Parts.{Placed, fields-left, name-at, field-result}
 use Rattle.text.proofs.Laws.{Onward, name-law, left-none}
-use Rattle.names.specs.Table.{Table, names-of}
+use Rattle.names.specs.Table.{Table, table-names}
 use Rattle.names.proofs.Laws.{names-length}
 use Rattle.names.proofs.Entering.{entered-length, entered-keeps, entered-old, entered-new}
 use Rattle.names.proofs.Spelling.{Was-known, Is-new, Is-full}
@@ -70,7 +70,7 @@ begun-table (none-left d) h = absurd (omega arith)
 
 -- and it has the names
 pub naming-table : {file names : List ℕ} {named : ℕ} {ns : List Name} → Naming file names named ns → named ≤ most-names
-    → Table file names named × (names-of file names named ≡ ns)
+    → Table file names named × (table-names file names named ≡ ns)
 naming-table (in-table t d) h = (t, d)
 naming-table (past d l) h = absurd (omega arith)
 
@@ -100,7 +100,7 @@ spelled-past {file} {names} {named} m b h = record {
 
 -- the names with one more are those of a table with it
 spell-names : {file names : List ℕ} {named : ℕ} {ns : List Name} (m : Name) → Table file names named → Naming file names named ns
-    → spell (names-of file names named) m ≡ spell ns m
+    → spell (table-names file names named) m ≡ spell ns m
 spell-names m t g = ap (λ l. spell l m) (naming-table g (t .few) .1)
 
 module _ {file names names′ : List ℕ} {named a e : ℕ} (t : Table file names named) (o : a ≤ e) where
@@ -214,7 +214,7 @@ module _ (ns : List Name) (file : List ℕ) (c : Cursor) where
 -- names spelled from the fields before a cursor: the names of `model` so far
 pub record Spelling-on (file names₀ names : List ℕ) (named₀ named : ℕ) (fs₀ : List Field) (c : Cursor) : Type 0 where
   pub ns : List Name
-  pub run : spell-fields (names-of file names₀ named₀) fs₀ ≡ spell-fields ns (fields-left file c)
+  pub run : spell-fields (table-names file names₀ named₀) fs₀ ≡ spell-fields ns (fields-left file c)
   pub naming : Naming file names named ns
   pub longer : Longer file names₀ names named₀ named
   pub begun : Begun file names named
@@ -224,7 +224,7 @@ pub record Spelling-on (file names₀ names : List ℕ) (named₀ named : ℕ) (
 pub on-first : {file names : List ℕ} {named : ℕ} {c : Cursor} → Table file names named → Placed file c
     → Spelling-on file names names named named (fields-left file c) c
 on-first {file} {names} {named} t p = record {
-  ns = names-of file names named;
+  ns = table-names file names named;
   run = refl;
   naming = in-table t refl;
   longer = longer-to (omega arith);

@@ -3,7 +3,7 @@ use Prim.Native.Nat.{ℕ, zero, suc, _+_, _-_, _*_, _≤_, _<_}
 use Prim.Native.String.{String}
 use native.Mathlib.Omega.{arith}
 use mathlib.Core.Path.{_≡_, refl, sym, ap, ap₂, _∙_}
-use mathlib.Core.Bool.{Bool, true, false, cond, not, _&&_, Bool·beq, and-eq-true-iff}
+use mathlib.Core.Bool.{Bool, true, false, cond, not, _&&_, and-eq-true-iff}
 use mathlib.Core.List.{List, [], _∷_}
 use mathlib.Core.Option.{Option, none, some}
 use lib.ListN.{length, getD}
@@ -12,7 +12,8 @@ use borrow.Author.Tests.{eq-eqb, ne-eqb, ltb-true, leb-true}
 use Rattle.model.specs.Lists.{all, holds, part}
 use Rattle.model.specs.Names.{bytes, same}
 use Rattle.model.specs.Lines.{Field}
-use Rattle.model.specs.Reading.{Result, ok, refused, _>>=_, need, next, word, op-words, kinds, kind-field, fixed-count, content, parse}
+use Rattle.model.specs.Reading.{Result, ok, refused, _>>=_, need, next, word, op-words, kinds, State, another, place, may-stand, kind-field, fixed-count, content, parse}
+use Rattle.model.specs.declared.Counts.{Counts}
 use Rattle.model.specs.declared.LineKind.{LineKind}
 use Rattle.model.specs.declared.LineKind.the-variants as kind
 use Rattle.model.specs.declared.Refusal.the-variants as refusal
@@ -20,10 +21,14 @@ use Rattle.model.proofs.PartLaws.{part-cons, part-nil}
 use Rattle.model.proofs.ListLaws.{T-ext}
 use Rattle.model.proofs.SetLaws.{same-eq, eq-same}
 use Rattle.text.proofs.Laws.{same-sized}
+use Rattle.fields.specs.declared.TermKind.{TermKind}
+use Rattle.fields.specs.declared.TermKind.the-variants as termed
+use Rattle.fields.specs.declared.RecordKind.{RecordKind}
+use Rattle.fields.specs.declared.RecordKind.the-variants as recorded
 use Rattle.fields.specs.declared.Kind.{Kind}
 use Rattle.fields.specs.declared.Kind.the-variants as kinded
 use Rattle.fields.specs.declared.OpWord.the-variants as is-op
-use Rattle.fields.specs.Wording.{key-from, key-of, is-byte, longest-word, is-short, Keyed, look, term-kind, record-kind, kind-result, fixed-of, count-of, well-counted, as-op}
+use Rattle.fields.specs.Wording.{key-from, key-of, is-byte, longest-word, is-short, Keyed, look, term-kind, record-line-kind, kind-result, stands, Placing, fixed-of, count-of, well-counted, as-op}
 
 -- ---- keys
 
@@ -149,47 +154,67 @@ module _ {A : Type 0} where
 
 -- ---- the kind of a line
 
--- a kind under a test
-kind-tested : (o : Option LineKind) (t : Bool)
-    → (need refusal.Form o >>= λ k. cond t (ok k) (refused refusal.Form)) ≡ cond t (need refusal.Form o) (refused refusal.Form)
-unfolding need
-kind-tested none true = refl
-kind-tested none false = refl
-kind-tested (some k) true = refl
-kind-tested (some k) false = refl
+module _ {s : State} {k : Counts} (p : Placing s k) where
+  -- an ask
+  pub stands-ask : eqb (k .asks) 0 ≡ stands s kinded.Ask
+  unfolding stands place may-stand
+  stands-ask = sym (p .no-asks)
 
--- the key of `ask`
-abbrev pub ask : ℕ
-ask = key-of (bytes "ask")
+  -- a line behind an ask
+  later : not (eqb (k .asks) 0) ≡ may-stand s another
+  unfolding may-stand
+  later = ap not (sym (p .no-asks))
 
-module _ (n key : ℕ) (f : Field) (k : Keyed f key) where
+  pub stands-term : (t : TermKind) → not (eqb (k .asks) 0) ≡ stands s (kinded.Term t)
+  unfolding stands place term-kind
+  stands-term termed.Free = later
+  stands-term termed.Leaf = later
+  stands-term termed.Call = later
+  stands-term termed.Op = later
+  stands-term termed.All = later
+  stands-term termed.Some = later
+  stands-term termed.Let = later
+  stands-term termed.Label = later
+
+  pub stands-record : (r : RecordKind) → not (eqb (k .asks) 0) ≡ stands s (kinded.Record r)
+  unfolding stands place record-line-kind
+  stands-record recorded.Assume = later
+  stands-record recorded.Fun = later
+  stands-record recorded.Def = later
+  stands-record recorded.Retain = later
+  stands-record recorded.Root = later
+
+-- no kind
+pub stands-none : (s : State) → false ≡ stands s kinded.No
+unfolding stands
+stands-none s = refl
+
+-- a kind that may stand, and one that may not
+kind-tested : (s : State) (r : Kind) → (kind-result r >>= λ k. cond (may-stand s (place k)) (ok k) (refused refusal.Form))
+    ≡ cond (stands s r) (kind-result r) (refused refusal.Form)
+unfolding kind-result stands
+kind-tested s kinded.Ask = refl
+kind-tested s (kinded.Term t) = refl
+kind-tested s (kinded.Record r) = refl
+kind-tested s kinded.No = refl
+
+module _ {key : ℕ} (f : Field) (d : Keyed f key) (r : Kind) (e : kind-result r ≡ need refusal.Form (look kinds key)) (s : State) where
   -- the kind of a line by the key of its first field
-  kind-key : cond (Bool·beq (eqb n 1) (eqb key ask)) (need refusal.Form (look kinds key)) (refused refusal.Form) ≡ kind-field n f
+  kind-key : kind-field s f ≡ cond (stands s r) (kind-result r) (refused refusal.Form)
   unfolding kind-field kinds are-short is-short is-byte all bytes
   kind-key =
-      let t : same f (bytes "ask") ≡ eqb key ask = k .tells (bytes "ask") refl in
-      let o : word kinds f ≡ look kinds key = word-look kinds f refl k in
-      sym (kind-tested (word kinds f) (Bool·beq (eqb n 1) (same f (bytes "ask"))) ∙ rw (o, t))
+      ap (λ (x : Result LineKind). x >>= λ k. cond (may-stand s (place k)) (ok k) (refused refusal.Form))
+      (ap (need refusal.Form) (word-look kinds f refl d) ∙ sym e)
+      ∙ kind-tested s r
 
-  -- `ask` on line 1
-  pub kind-ask : n ≡ 1 → key ≡ ask → kind-result kinded.Ask ≡ kind-field n f
-  unfolding kind-result need look kinds key-of key-from bytes
-  kind-ask a b = rw (eq-eqb n 1 a, b) at kind-key
+  -- it may stand
+  pub kind-there : true ≡ stands s r → kind-result r ≡ kind-field s f
+  kind-there t = sym (rw (← t) at kind-key)
 
-  -- another kind on line 1
-  pub kind-first : n ≡ 1 → (key ≡ ask → ⊥) → kind-result kinded.No ≡ kind-field n f
+  -- it may not
+  pub kind-not : false ≡ stands s r → kind-result kinded.No ≡ kind-field s f
   unfolding kind-result
-  kind-first a b = rw (eq-eqb n 1 a, ne-eqb key ask b) at kind-key
-
-  -- `ask` on another line
-  pub kind-later : (n ≡ 1 → ⊥) → key ≡ ask → kind-result kinded.No ≡ kind-field n f
-  unfolding kind-result
-  kind-later a b = rw (ne-eqb n 1 a, eq-eqb key ask b) at kind-key
-
-  -- another kind on another line
-  pub kind-other : {x : Result LineKind} → (n ≡ 1 → ⊥) → (key ≡ ask → ⊥) → x ≡ need refusal.Form (look kinds key)
-      → x ≡ kind-field n f
-  kind-other a b d = d ∙ (rw (ne-eqb n 1 a, ne-eqb key ask b) at kind-key)
+  kind-not t = sym (rw (← t) at kind-key)
 
 -- ---- op words
 
@@ -206,41 +231,41 @@ op-none {key} f k h = ap as-op (look-none (Unit {0}) key op-words h) ∙ op-key 
 -- ---- the number of fields
 
 -- no fixed count is 0
-fixed-some : (k : LineKind) → count-of (fixed-count k) ≡ 0 → fixed-count k ≡ none
+fixed-some : (s : State) (k : LineKind) → count-of (fixed-count s k) ≡ 0 → fixed-count s k ≡ none
 unfolding fixed-count count-of
-fixed-some kind.Ask e = absurd (omega arith)
-fixed-some kind.Free e = absurd (omega arith)
-fixed-some kind.Leaf e = absurd (omega arith)
-fixed-some kind.Call e = refl
-fixed-some kind.Op e = refl
-fixed-some kind.All e = refl
-fixed-some kind.Some e = refl
-fixed-some kind.Let e = refl
-fixed-some kind.Label e = absurd (omega arith)
-fixed-some kind.Assume e = absurd (omega arith)
-fixed-some kind.Fun e = absurd (omega arith)
-fixed-some kind.Def e = absurd (omega arith)
-fixed-some kind.Retain e = refl
-fixed-some kind.Root e = absurd (omega arith)
+fixed-some s kind.Ask e = absurd (omega arith)
+fixed-some s kind.Free e = absurd (omega arith)
+fixed-some s kind.Leaf e = absurd (omega arith)
+fixed-some s kind.Call e = refl
+fixed-some s kind.Op e = refl
+fixed-some s kind.All e = refl
+fixed-some s kind.Some e = refl
+fixed-some s kind.Let e = refl
+fixed-some s kind.Label e = absurd (omega arith)
+fixed-some s kind.Assume e = absurd (omega arith)
+fixed-some s kind.Fun e = absurd (omega arith)
+fixed-some s kind.Def e = absurd (omega arith)
+fixed-some s kind.Retain e = refl
+fixed-some s kind.Root e = absurd (omega arith)
 
 -- where the count is 0 it is not fixed
-fixed-none : (k : Kind) → count-of (fixed-of k) ≡ 0 → fixed-of k ≡ none
+fixed-none : (s : State) (k : Kind) → count-of (fixed-of s k) ≡ 0 → fixed-of s k ≡ none
 unfolding fixed-of
-fixed-none kinded.Ask e = fixed-some kind.Ask e
-fixed-none (kinded.Term t) e = fixed-some (term-kind t) e
-fixed-none (kinded.Record r) e = fixed-some (record-kind r) e
-fixed-none kinded.No e = refl
+fixed-none s kinded.Ask e = fixed-some s kind.Ask e
+fixed-none s (kinded.Term t) e = fixed-some s (term-kind t) e
+fixed-none s (kinded.Record r) e = fixed-some s (record-line-kind r) e
+fixed-none s kinded.No e = refl
 
-module _ (k : Kind) (fs : List Field) {r : ℕ} (p : r ≡ count-of (fixed-of k)) where
+module _ (s : State) (k : Kind) (fs : List Field) {r : ℕ} (p : r ≡ count-of (fixed-of s k)) where
   -- a count that is not fixed
-  pub count-free : r ≡ 0 → true ≡ well-counted k fs
+  pub count-free : r ≡ 0 → true ≡ well-counted s k fs
   unfolding well-counted holds
-  count-free e = rw (fixed-none k (sym p ∙ e))
+  count-free e = rw (fixed-none s k (sym p ∙ e))
 
   -- a count that is
-  pub count-fixed : {m : ℕ} → m ≡ length fs → (r ≡ 0 → ⊥) → eqb m r ≡ well-counted k fs
+  pub count-fixed : {m : ℕ} → m ≡ length fs → (r ≡ 0 → ⊥) → eqb m r ≡ well-counted s k fs
   unfolding well-counted holds count-of
-  count-fixed {m} d e = rw d (go (fixed-of k) p)
+  count-fixed {m} d e = rw d (go (fixed-of s k) p)
     where
       twice : (b : Bool) → b ≡ not (not b)
       twice true = refl
@@ -251,8 +276,8 @@ module _ (k : Kind) (fs : List Field) {r : ℕ} (p : r ≡ count-of (fixed-of k)
       go (some c) q = rw q (twice (eqb (length fs) c))
 
 -- whether a line has another number of fields than its kind asks for
-abbrev wrong : List Field → LineKind → Bool
-wrong fs k = holds (λ n. not (eqb (length fs) n)) (fixed-count k)
+abbrev wrong : State → List Field → LineKind → Bool
+wrong s fs k = holds (λ n. not (eqb (length fs) n)) (fixed-count s k)
 
 -- a kind, and the fields after it
 abbrev and-after : List Field → LineKind → Result (LineKind × List Field)
@@ -264,14 +289,17 @@ turned true x y = refl
 turned false x y = refl
 
 -- a line by its kind and the number of its fields
-pub parse-law : (n count : ℕ) (f : Field) (fs : List Field) (r : Kind) → kind-result r ≡ kind-field n f
-    → parse n count (f ∷ fs) ≡ (kind-result r >>= λ k. cond (well-counted r (f ∷ fs)) (content k count fs) (refused refusal.Form))
+pub parse-law : (s : State) {count : ℕ} (f : Field) (fs : List Field) (r : Kind) → length (s .terms) ≡ count → kind-result r ≡ kind-field s f
+    → parse s (f ∷ fs) ≡ (kind-result r >>= λ k. cond (well-counted s r (f ∷ fs)) (content k count fs) (refused refusal.Form))
 unfolding parse next kind-result well-counted fixed-of
-parse-law n count f fs r e = rw (← e) (go r)
+parse-law s {count} f fs r d e = rw (← e, ← d) (go r)
   where
-    go : (r : Kind) → (kind-result r >>= (λ k. and-after fs k) >>= λ (k, gs). cond (wrong (f ∷ fs) k) (refused refusal.Form) (content k count gs))
-        ≡ (kind-result r >>= λ k. cond (well-counted r (f ∷ fs)) (content k count fs) (refused refusal.Form))
-    go kinded.Ask = turned (wrong (f ∷ fs) kind.Ask) (refused refusal.Form) (content kind.Ask count fs)
-    go (kinded.Term t) = turned (wrong (f ∷ fs) (term-kind t)) (refused refusal.Form) (content (term-kind t) count fs)
-    go (kinded.Record r) = turned (wrong (f ∷ fs) (record-kind r)) (refused refusal.Form) (content (record-kind r) count fs)
+    terms : ℕ
+    terms = length (s .terms)
+
+    go : (r : Kind) → (kind-result r >>= (λ k. and-after fs k) >>= λ (k, gs). cond (wrong s (f ∷ fs) k) (refused refusal.Form) (content k terms gs))
+        ≡ (kind-result r >>= λ k. cond (well-counted s r (f ∷ fs)) (content k terms fs) (refused refusal.Form))
+    go kinded.Ask = turned (wrong s (f ∷ fs) kind.Ask) (refused refusal.Form) (content kind.Ask terms fs)
+    go (kinded.Term t) = turned (wrong s (f ∷ fs) (term-kind t)) (refused refusal.Form) (content (term-kind t) terms fs)
+    go (kinded.Record r) = turned (wrong s (f ∷ fs) (record-line-kind r)) (refused refusal.Form) (content (record-line-kind r) terms fs)
     go kinded.No = refl

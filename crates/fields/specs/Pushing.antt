@@ -7,7 +7,7 @@ use Rattle.model.specs.Lines.{Field}
 use Rattle.model.specs.Reading.{Result, ok, refused, _>>=_, next, number-field, term-field, most-terms, most-references}
 use Rattle.text.specs.declared.Cursor.{Cursor}
 use Rattle.text.specs.Parts.{Placed, fields-left}
-use Rattle.lines.specs.Additions.{pushed}
+use Rattle.additions.specs.Additions.{references-pushed}
 use Rattle.words.specs.Slices.{Same-but}
 use Rattle.fields.specs.declared.Upto.{Upto}
 use Rattle.fields.specs.declared.Upto.the-variants as upto
@@ -21,27 +21,27 @@ abbrev pub reference : ℕ → ℕ → ℕ
 reference t group = t + 4096 * group
 
 -- the references then, how many they are, and the fields after; or the refusal of a field
-abbrev pub Run : Type 0
-Run = Result (List ℕ × ℕ × List Field)
+abbrev pub References-read : Type 0
+References-read = Result (List ℕ × ℕ × List Field)
 
 module _ (count : ℕ) where
   -- the next field, one of `count` terms, in a group
-  unfoldable pub push-one : ℕ → List ℕ → ℕ → List Field → Run
-  push-one group refs used fs = next (term-field count) fs >>= λ (t, fs₁). ok (pushed refs used (reference t group), used + 1, fs₁)
+  unfoldable pub push-one : ℕ → List ℕ → ℕ → List Field → References-read
+  push-one group refs used fs = next (term-field count) fs >>= λ (t, fs₁). ok (references-pushed refs used (reference t group), used + 1, fs₁)
 
   -- the next n fields
-  unfoldable pub push-many : ℕ → ℕ → List ℕ → ℕ → List Field → Run
+  unfoldable pub push-many : ℕ → ℕ → List ℕ → ℕ → List Field → References-read
   push-many group zero refs used fs = ok (refs, used, fs)
   push-many group (suc n) refs used fs =
       push-one group refs used fs >>= λ (refs₁, used₁, fs₁). push-many group n refs₁ used₁ fs₁
 
   -- all fields that are left
-  unfoldable pub push-rest : List ℕ → ℕ → List Field → Run
+  unfoldable pub push-rest : List ℕ → ℕ → List Field → References-read
   push-rest refs used [] = ok (refs, used, [])
-  push-rest refs used (f ∷ fs) = term-field count f >>= λ t. push-rest (pushed refs used (reference t 0)) (used + 1) fs
+  push-rest refs used (f ∷ fs) = term-field count f >>= λ t. push-rest (references-pushed refs used (reference t 0)) (used + 1) fs
 
   -- the next n groups, the first of which has the number g: each a count and that many terms
-  unfoldable pub push-groups : ℕ → ℕ → List ℕ → ℕ → List Field → Run
+  unfoldable pub push-groups : ℕ → ℕ → List ℕ → ℕ → List Field → References-read
   push-groups g zero refs used fs = ok (refs, used, fs)
   push-groups g (suc n) refs used fs = do
     (size, fs₁) ← next (number-field most-number) fs
@@ -51,10 +51,10 @@ module _ (count : ℕ) where
 -- the references with some words more; past the limit none is written
 unfoldable pub push-all : List ℕ → ℕ → List ℕ → List ℕ
 push-all refs used [] = refs
-push-all refs used (w ∷ ws) = push-all (pushed refs used w) (used + 1) ws
+push-all refs used (w ∷ ws) = push-all (references-pushed refs used w) (used + 1) ws
 
 -- an answer as a run
-unfoldable pub upto-result : List ℕ → List ℕ → Upto → Run
+unfoldable pub upto-result : List ℕ → List ℕ → Upto → References-read
 upto-result file refs (upto.At end next) = ok (refs, end, fields-left file next)
 upto-result file refs (upto.Refused r) = refused r
 
@@ -65,7 +65,7 @@ pub record Ahead (file : List ℕ) (from : ℕ) (c : Cursor) (end : ℕ) (next :
   pub placed : Placed file next
 
 -- what pushing comes to; whatever the answer, words past the limit of references stay
-pub record Pushes (file refs refs′ : List ℕ) (run : Run) (from : ℕ) (c : Cursor) (r : Upto) : Type 0 where
+pub record Pushes (file refs refs′ : List ℕ) (run : References-read) (from : ℕ) (c : Cursor) (r : Upto) : Type 0 where
   pub answer : upto-result file refs′ r ≡ run
   pub ahead : (end : ℕ) (next : Cursor) → r ≡ upto.At end next → Ahead file from c end next
   pub kept : Same-but 0 most-references refs refs′

@@ -11,7 +11,7 @@ use Rattle.model.specs.declared.Refusal.{Refusal}
 use Rattle.text.specs.declared.Cursor.{Cursor}
 use Rattle.text.specs.Parts.{fields-left}
 use Rattle.text.proofs.Laws.{Onward}
-use Rattle.names.specs.Table.{Table, name-of, names-of}
+use Rattle.names.specs.Table.{Table, name-of, table-names}
 use Rattle.words.specs.Slices.{Same-but}
 use Rattle.fields.specs.declared.Spelt.{Spelt}
 use Rattle.fields.specs.declared.Word.{Word}
@@ -29,7 +29,7 @@ name-columns = 8192
 
 -- a count of names against the names of `model`: the table has them, or both are past the limit
 pub data Naming (file names : List ℕ) (named : ℕ) (ns : List Name) : Type 0 where
-  in-table : Table file names named → names-of file names named ≡ ns → Naming file names named ns
+  in-table : Table file names named → table-names file names named ≡ ns → Naming file names named ns
   past : named ≡ past-names → most-names < length ns → Naming file names named ns
 
 -- what spelling asks: a table, or a count past the limit
@@ -72,9 +72,9 @@ spell-fields ns (f ∷ fs) = name-field f >>= λ m. spell-fields (spell ns m) fs
 -- what spelling all fields that are left comes to
 pub data Spells-rest (file names names′ : List ℕ) (named : ℕ) (fs : List Field) : Upto → Type 0 where
   all-spelt : {ns : List Name} {named′ : ℕ} {after : Cursor}
-      → spell-fields (names-of file names named) fs ≡ ok ns
+      → spell-fields (table-names file names named) fs ≡ ok ns
       → Naming file names′ named′ ns → Longer file names names′ named named′
       → Spells-rest file names names′ named fs (upto.At named′ after)
   rest-not : {x : Refusal}
-      → spell-fields (names-of file names named) fs ≡ refused x → Same-but 0 name-columns names names′
+      → spell-fields (table-names file names named) fs ≡ refused x → Same-but 0 name-columns names names′
       → Spells-rest file names names′ named fs (upto.Refused x)

@@ -2,15 +2,16 @@
 use Prim.Native.Nat.{ℕ, _+_, _*_}
 use Prim.Native.String.{String}
 use mathlib.Core.Path.{_≡_}
-use mathlib.Core.Bool.{Bool, true, cond, not, _&&_}
+use mathlib.Core.Bool.{Bool, true, false, cond, not, _&&_}
 use mathlib.Core.List.{List, [], _∷_}
 use mathlib.Core.Option.{Option, none, some}
 use lib.ListN.{length}
 use lib.Dec.{leb, ltb, eqb}
-use Rattle.model.specs.Lists.{all, holds}
+use Rattle.model.specs.Lists.{all, is-nil, holds}
 use Rattle.model.specs.Names.{bytes, same}
 use Rattle.model.specs.Lines.{Field}
-use Rattle.model.specs.Reading.{Result, ok, refused, need, word, op-words, next, fixed-count}
+use Rattle.model.specs.Reading.{Result, ok, refused, need, word, op-words, next, State, place, may-stand, fixed-count}
+use Rattle.model.specs.declared.Counts.{Counts}
 use Rattle.model.specs.declared.LineKind.{LineKind}
 use Rattle.model.specs.declared.LineKind.the-variants as kind
 use Rattle.model.specs.declared.Op.{Op}
@@ -72,26 +73,37 @@ term-kind termed.Let = kind.Let
 term-kind termed.Label = kind.Label
 
 -- the kind of a record line
-unfoldable pub record-kind : RecordKind → LineKind
-record-kind recorded.Assume = kind.Assume
-record-kind recorded.Fun = kind.Fun
-record-kind recorded.Def = kind.Def
-record-kind recorded.Retain = kind.Retain
-record-kind recorded.Root = kind.Root
+unfoldable pub record-line-kind : RecordKind → LineKind
+record-line-kind recorded.Assume = kind.Assume
+record-line-kind recorded.Fun = kind.Fun
+record-line-kind recorded.Def = kind.Def
+record-line-kind recorded.Retain = kind.Retain
+record-line-kind recorded.Root = kind.Root
 
 -- the kind of a line; none is 1
 unfoldable pub kind-result : Kind → Result LineKind
 kind-result kinded.Ask = ok kind.Ask
 kind-result (kinded.Term t) = ok (term-kind t)
-kind-result (kinded.Record r) = ok (record-kind r)
+kind-result (kinded.Record r) = ok (record-line-kind r)
 kind-result kinded.No = refused refusal.Form
 
--- the fields of a line, the kind counted, where their count is fixed
-unfoldable pub fixed-of : Kind → Option ℕ
-fixed-of kinded.Ask = fixed-count kind.Ask
-fixed-of (kinded.Term t) = fixed-count (term-kind t)
-fixed-of (kinded.Record r) = fixed-count (record-kind r)
-fixed-of kinded.No = none
+-- whether a line of the kind may stand next
+unfoldable pub stands : State → Kind → Bool
+stands s kinded.Ask = may-stand s (place kind.Ask)
+stands s (kinded.Term t) = may-stand s (place (term-kind t))
+stands s (kinded.Record r) = may-stand s (place (record-line-kind r))
+stands s kinded.No = false
+
+-- the counts say what of a state decides where a line may stand
+pub record Placing (s : State) (k : Counts) : Type 0 where
+  pub no-asks : is-nil (s .asks) ≡ eqb (k .asks) 0
+
+-- the fields of the next line, the kind counted, where their count is fixed
+unfoldable pub fixed-of : State → Kind → Option ℕ
+fixed-of s kinded.Ask = fixed-count s kind.Ask
+fixed-of s (kinded.Term t) = fixed-count s (term-kind t)
+fixed-of s (kinded.Record r) = fixed-count s (record-line-kind r)
+fixed-of s kinded.No = none
 
 -- a count, or 0 where there is none
 unfoldable pub count-of : Option ℕ → ℕ
@@ -99,8 +111,8 @@ count-of none = 0
 count-of (some n) = n
 
 -- whether a line has as many fields as its kind asks for
-unfoldable pub well-counted : Kind → List Field → Bool
-well-counted k fs = not (holds (λ n. not (eqb (length fs) n)) (fixed-of k))
+unfoldable pub well-counted : State → Kind → List Field → Bool
+well-counted s k fs = not (holds (λ n. not (eqb (length fs) n)) (fixed-of s k))
 
 -- an op word as an answer
 unfoldable pub as-op : Option Op → OpWord

@@ -1,3 +1,4 @@
+use model::Counts;
 use model::Op;
 use model::Refusal;
 use names::Spelled;
@@ -9,11 +10,11 @@ ghost use mathlib.Core.Path.{_≡_};
 ghost use lib.ListN.{length};
 ghost use Rattle.model.specs.Lists.{part};
 ghost use Rattle.model.specs.Lines.{fields};
-ghost use Rattle.model.specs.Reading.{need, word, op-words, kinds, kind-field};
+ghost use Rattle.model.specs.Reading.{need, word, op-words, kinds, State, kind-field};
 ghost use Rattle.model.specs.declared.Refusal.the-variants as refusal;
 ghost use Rattle.text.specs.Parts.{Placed, fields-left};
 ghost use Rattle.names.specs.Table.{Table};
-ghost use Rattle.fields.specs.Wording.{Keyed, look, kind-result, count-of, fixed-of, well-counted, as-op, Reads-op};
+ghost use Rattle.fields.specs.Wording.{Keyed, look, kind-result, stands, Placing, count-of, fixed-of, well-counted, as-op, Reads-op};
 ghost use Rattle.fields.specs.Pushing.{most-number, push-one, push-many, push-rest, push-groups, Pushable, Pushes};
 ghost use Rattle.fields.specs.Spelling.{Begun, Spells, Reads-name, Spells-rest};
 
@@ -134,22 +135,28 @@ fn kind_of(key: u64) -> Kind
     }
 }
 
-// The kind of the n-th line, whose first field stands from `a` up to `e`: `ask` on line 1 and nowhere else.
-pub fn line_kind(file: &[u8], n: usize, a: usize, e: usize) -> Kind
-    requires { ⌜ (a ≤ e) × (e ≤ length (now file)) ⌝ }
-    ensures { λ r. ⌜ kind-result r ≡ kind-field n (part (now (file .entry)) a e) ⌝ }
+// Whether a line of a kind may stand after the lines counted: the first is an ask, and no other is.
+fn may_stand(k: Counts, kind: Kind) -> bool
+    ensures { λ r. ⌜ ((s : State) → Placing s k → r ≡ stands s kind) ⌝ }
 {
-    let key = word_key(file, a, e);
-    if n == 1 {
-        if key == ASK {
-            return Kind::Ask;
-        }
-        return Kind::No;
+    match kind {
+        Kind::Ask => k.asks == 0,
+        Kind::Term(_) => k.asks != 0,
+        Kind::Record(_) => k.asks != 0,
+        Kind::No => false,
     }
-    if key == ASK {
-        return Kind::No;
+}
+
+// The kind of the line after those counted, whose first field stands from `a` up to `e`; none where it may not stand there.
+pub fn line_kind(file: &[u8], k: Counts, a: usize, e: usize) -> Kind
+    requires { ⌜ (a ≤ e) × (e ≤ length (now file)) ⌝ }
+    ensures { λ r. ⌜ ((s : State) → Placing s k → kind-result r ≡ kind-field s (part (now (file .entry)) a e)) ⌝ }
+{
+    let kind = kind_of(word_key(file, a, e));
+    if may_stand(k, kind) {
+        return kind;
     }
-    kind_of(key)
+    Kind::No
 }
 
 // The op word that stands from `a` up to `e`.
@@ -169,7 +176,7 @@ fn op_word(file: &[u8], a: usize, e: usize) -> OpWord
 
 // How many fields a term line of a kind has, the kind counted; 0 where that is not fixed.
 fn term_count(kind: TermKind) -> usize
-    ensures { λ r. ⌜ r ≡ count-of (fixed-of (Kind.Term kind)) ⌝ }
+    ensures { λ r. ⌜ ((s : State) → r ≡ count-of (fixed-of s (Kind.Term kind))) ⌝ }
 {
     match kind {
         TermKind::Free => 2,
@@ -185,7 +192,7 @@ fn term_count(kind: TermKind) -> usize
 
 // The same of a record line.
 fn record_count(kind: RecordKind) -> usize
-    ensures { λ r. ⌜ r ≡ count-of (fixed-of (Kind.Record kind)) ⌝ }
+    ensures { λ r. ⌜ ((s : State) → r ≡ count-of (fixed-of s (Kind.Record kind))) ⌝ }
 {
     match kind {
         RecordKind::Assume => 4,
@@ -198,7 +205,7 @@ fn record_count(kind: RecordKind) -> usize
 
 // The same of any line.
 fn fixed_count(kind: Kind) -> usize
-    ensures { λ r. ⌜ r ≡ count-of (fixed-of kind) ⌝ }
+    ensures { λ r. ⌜ ((s : State) → r ≡ count-of (fixed-of s kind)) ⌝ }
 {
     match kind {
         Kind::Ask => 3,
@@ -211,7 +218,7 @@ fn fixed_count(kind: Kind) -> usize
 // Whether the line from `a` up to `e` has as many fields as its kind asks for; where that is not fixed, they are not counted.
 pub fn counted(file: &[u8], kind: Kind, a: usize, e: usize) -> bool
     requires { ⌜ (a ≤ e) × (e ≤ length (now file)) × (length (now file) ≤ 65535) ⌝ }
-    ensures { λ r. ⌜ r ≡ well-counted kind (fields (part (now (file .entry)) a e)) ⌝ }
+    ensures { λ r. ⌜ ((s : State) → r ≡ well-counted s kind (fields (part (now (file .entry)) a e))) ⌝ }
 {
     let fixed = fixed_count(kind);
     if fixed == 0 {
@@ -244,7 +251,7 @@ pub fn push_term(
 {
     match c.term(file, many as u32) {
         NumberStep::Number(t, next) => {
-            lines::push(refs, used, t as usize, group);
+            additions::push(refs, used, t as usize, group);
             Upto::At(used + 1, next)
         }
         NumberStep::Refused(r) => Upto::Refused(r),

@@ -4,6 +4,7 @@ use mathlib.Core.Path.{_≡_, refl, _∙_}
 use mathlib.Core.Bool.{Bool}
 use mathlib.Core.List.{List, [], _∷_}
 use lib.Dec.{eqb}
+use Rattle.model.specs.Summaries.{exclude-names}
 use Rattle.model.specs.Lists.{collect}
 use Rattle.model.specs.Names.{Name}
 use Rattle.model.specs.Lines.{Field}
@@ -18,15 +19,15 @@ use Rattle.text.specs.declared.Cursor.{Cursor}
 use Rattle.text.specs.Parts.{fields-left}
 use Rattle.names.specs.Table.{name-of}
 use Rattle.fields.specs.declared.RecordKind.{RecordKind}
-use Rattle.fields.specs.Wording.{record-kind}
+use Rattle.fields.specs.Wording.{record-line-kind}
 use Rattle.fields.specs.declared.Word.{Word}
 use Rattle.fields.specs.declared.Word.the-variants as word
 use Rattle.fields.specs.Spelling.{Begun, table-there, Reads-name}
 use Rattle.fields.proofs.Spelling.{Name-read, reads-not}
 use Rattle.records.specs.States.{state-of}
-use Rattle.records.specs.Adding.{excluded, Standing, Adds, Untouched}
+use Rattle.records.specs.Adding.{Standing, Adds, Untouched}
 use Rattle.records.proofs.Judging.{repeats-none}
-use Rattle.filing.specs.Lines.{with-names, last-field, root-said, Adds-fact, fact-adds, fact-stops, Reads, Line-read}
+use Rattle.filing.specs.Lines.{with-names, last-field, rest-of-root, Adds-fact, fact-adds, fact-stops, Reads, Line-read}
 use Rattle.filing.proofs.Naming.{not-taken, record-reads, reads-refused, table-past, spelled-past, past-none, past-names, past-then}
 use Rattle.filing.proofs.Saying.{end-none, fun-said, def-said, assume-said, root-is}
 
@@ -48,105 +49,105 @@ root-name : (q t : ℕ) (x : Name) → spelled (root q x t) ≡ x ∷ []
 unfolding spelled
 root-name q t x = refl
 
-fun-takes : (terms : List Term) (n : ℕ) (x : Name) → collect taken-by (summarize-decl excluded terms n (fun x)) ≡ x ∷ []
+fun-takes : (exclude : List Name) (terms : List Term) (n : ℕ) (x : Name) → collect taken-by (summarize-decl exclude terms n (fun x)) ≡ x ∷ []
 unfolding collect taken-by summarize-decl
-fun-takes terms n x = refl
+fun-takes exclude terms n x = refl
 
-def-takes : (terms : List Term) (n t : ℕ) (x : Name) → collect taken-by (summarize-decl excluded terms n (def x t)) ≡ x ∷ []
+def-takes : (exclude : List Name) (terms : List Term) (n t : ℕ) (x : Name) → collect taken-by (summarize-decl exclude terms n (def x t)) ≡ x ∷ []
 unfolding collect taken-by summarize-decl
-def-takes terms n t x = refl
+def-takes exclude terms n t x = refl
 
-assume-takes : (terms : List Term) (n : ℕ) (flag : Bool) (t : ℕ) (x : Name) → collect taken-by (summarize-decl excluded terms n (assume x flag t)) ≡ x ∷ []
+assume-takes : (exclude : List Name) (terms : List Term) (n : ℕ) (flag : Bool) (t : ℕ) (x : Name) → collect taken-by (summarize-decl exclude terms n (assume x flag t)) ≡ x ∷ []
 unfolding collect taken-by summarize-decl Rattle.model.specs.Summaries.summarize-assumption
-assume-takes terms n flag t x = refl
+assume-takes exclude terms n flag t x = refl
 
-root-takes : (terms : List Term) (n q t : ℕ) (x : Name) → collect taken-by (summarize-decl excluded terms n (root q x t)) ≡ []
+root-takes : (exclude : List Name) (terms : List Term) (n q t : ℕ) (x : Name) → collect taken-by (summarize-decl exclude terms n (root q x t)) ≡ []
 unfolding collect summarize-decl
-root-takes terms n q t x = refl
+root-takes exclude terms n q t x = refl
 
 -- ---- the lines
 
 -- a name is read from the table
-pub begins : {file names refs rows recs out : List ℕ} {k : Counts} → Standing file names refs rows recs out k → Begun file names (k .named)
+pub begins : {file names refs rows recs lists : List ℕ} {k : Counts} → Standing file names refs rows recs lists k → Begun file names (k .names)
 begins st = table-there (st .tables .name-table)
 
 -- nothing is written where fields are refused
-pub line-not : (file names refs rows recs out : List ℕ) (k : Counts) (n : ℕ) {said : Result Content} (x : Refusal) → said ≡ refused x
-    → Line-read file names refs rows recs out names refs rows recs out k n said (step.Refused x)
-line-not file names refs rows recs out k n x e = record { reads = reads-refused x e; past = past-none names refs rows recs out }
+pub line-not : (file names refs rows recs lists : List ℕ) (k : Counts) (n : ℕ) {said : Result Content} (x : Refusal) → said ≡ refused x
+    → Line-read file names refs rows recs lists names refs rows recs lists k n said (step.Refused x)
+line-not file names refs rows recs lists k n x e = record { reads = reads-refused x e; past = past-none names refs rows recs lists }
 
 -- what the fields say, said otherwise
-pub line-said : {file names refs rows recs out names′ refs′ rows′ recs′ out′ : List ℕ} {k : Counts} {n : ℕ} {said other : Result Content} {r : Step}
+pub line-said : {file names refs rows recs lists names′ refs′ rows′ recs′ lists′ : List ℕ} {k : Counts} {n : ℕ} {said other : Result Content} {r : Step}
     → said ≡ other
-    → Line-read file names refs rows recs out names′ refs′ rows′ recs′ out′ k n other r
-    → Line-read file names refs rows recs out names′ refs′ rows′ recs′ out′ k n said r
+    → Line-read file names refs rows recs lists names′ refs′ rows′ recs′ lists′ k n other r
+    → Line-read file names refs rows recs lists names′ refs′ rows′ recs′ lists′ k n said r
 line-said e l = rw e l
 
 -- a record line by its kind
-pub record-line : {file names refs rows recs out names′ refs′ rows′ recs′ out′ : List ℕ} {k : Counts} {n : ℕ} (count : ℕ)
+pub record-line : {file names refs rows recs lists names′ refs′ rows′ recs′ lists′ : List ℕ} {k : Counts} {n : ℕ} (count : ℕ)
     (fs : List Field) {kind known : RecordKind} {r : Step} → kind ≡ known
-    → Line-read file names refs rows recs out names′ refs′ rows′ recs′ out′ k n (content (record-kind known) count fs) r
-    → Line-read file names refs rows recs out names′ refs′ rows′ recs′ out′ k n (content (record-kind kind) count fs) r
+    → Line-read file names refs rows recs lists names′ refs′ rows′ recs′ lists′ k n (content (record-line-kind known) count fs) r
+    → Line-read file names refs rows recs lists names′ refs′ rows′ recs′ lists′ k n (content (record-line-kind kind) count fs) r
 record-line count fs e l = rw e l
 
-module _ {file names refs rows recs out : List ℕ} {k : Counts} (n : ℕ) {c : Cursor} (st : Standing file names refs rows recs out k) where
+module _ {file names refs rows recs lists : List ℕ} {k : Counts} (n : ℕ) {c : Cursor} (st : Standing file names refs rows recs lists k) where
   -- the name is refused
-  pub name-not : {names′ : List ℕ} {w : Word} {x : Refusal} {said : Result Content} → Reads-name file names names′ (k .named) c w → w ≡ word.Refused x
+  pub name-not : {names′ : List ℕ} {w : Word} {x : Refusal} {said : Result Content} → Reads-name file names names′ (k .names) c w → w ≡ word.Refused x
       → (next name-field (fields-left file c) ≡ refused x → said ≡ refused x)
-      → Line-read file names refs rows recs out names′ refs rows recs out k n said (step.Refused x)
+      → Line-read file names refs rows recs lists names′ refs rows recs lists k n said (step.Refused x)
   name-not {x = x} r e says =
       let (d, q) = reads-not r e in
-      record { reads = reads-refused x (says d); past = past-names refs rows recs out (table-past q) }
+      record { reads = reads-refused x (says d); past = past-names refs rows recs lists (table-past q) }
 
-  module _ {names′ : List ℕ} {named′ i : ℕ} {last : Cursor} (r : Name-read file names names′ (k .named) named′ i c last) where
+  module _ {names′ : List ℕ} {named′ i : ℕ} {last : Cursor} (r : Name-read file names names′ (k .names) named′ i c last) where
     -- a field after the name is refused
     pub rest-not : {said : Result Content} (x : Refusal) → said ≡ refused x
-        → Line-read file names refs rows recs out names′ refs rows recs out k n said (step.Refused x)
-    rest-not x e = record { reads = reads-refused x e; past = past-names refs rows recs out (spelled-past (r .spelled .longer)) }
+        → Line-read file names refs rows recs lists names′ refs rows recs lists k n said (step.Refused x)
+    rest-not x e = record { reads = reads-refused x e; past = past-names refs rows recs lists (spelled-past (r .spelled .longer)) }
 
-    module _ {names″ rows″ recs″ out″ : List ℕ} {next : Counts} {s : Step} (q : next ≡ with-names k named′)
-        (u : Untouched names′ rows recs out names″ rows″ recs″ out″) where
+    module _ {names″ rows″ recs″ lists″ : List ℕ} {next : Counts} {s : Step} (q : next ≡ with-names k named′)
+        (u : Untouched names′ rows recs lists names″ rows″ recs″ lists″) where
       -- a `fun`
-      pub fun-line : last .end < last .at → Adds file names′ refs rows recs out names″ rows″ recs″ out″ next n (fun (name-of file names′ i)) s
-          → Line-read file names refs rows recs out names″ refs rows″ recs″ out″ k n (content kind.Fun (k .many) (fields-left file c)) s
+      pub fun-line : last .end < last .at → Adds file names′ refs rows recs lists names″ rows″ recs″ lists″ next n (fun (name-of file names′ i)) s
+          → Line-read file names refs rows recs lists names″ refs rows″ recs″ lists″ k n (content kind.Fun (k .terms) (fields-left file c)) s
       fun-line h a = record {
         reads = record-reads n st (r .spelled) fun fun-name
-            (not-taken n st (r .spelled) (fun (r .name)) (fun-name (r .name)) (fun-takes _ n (r .name)))
-            (fun-said (k .many) (fields-left file c) (r .said) (end-none (fun (r .name)) file last h)) q a;
+            (not-taken n st (r .spelled) (fun (r .name)) (fun-name (r .name)) (fun-takes _ _ n (r .name)))
+            (fun-said (k .terms) (fields-left file c) (r .said) (end-none (fun (r .name)) file last h)) q a;
         past = past-then refs (spelled-past (r .spelled .longer)) u;
       }
 
       -- a `def`
-      pub def-line : {t : ℕ} → last-field (k .many) (fields-left file last) ≡ ok t
-          → Adds file names′ refs rows recs out names″ rows″ recs″ out″ next n (def (name-of file names′ i) t) s
-          → Line-read file names refs rows recs out names″ refs rows″ recs″ out″ k n (content kind.Def (k .many) (fields-left file c)) s
+      pub def-line : {t : ℕ} → last-field (k .terms) (fields-left file last) ≡ ok t
+          → Adds file names′ refs rows recs lists names″ rows″ recs″ lists″ next n (def (name-of file names′ i) t) s
+          → Line-read file names refs rows recs lists names″ refs rows″ recs″ lists″ k n (content kind.Def (k .terms) (fields-left file c)) s
       def-line {t} h a = record {
         reads = record-reads n st (r .spelled) (λ x. def x t) (def-name t)
-            (not-taken n st (r .spelled) (def (r .name) t) (def-name t (r .name)) (def-takes _ n t (r .name)))
-            (def-said (k .many) (fields-left file c) (r .said) h) q a;
+            (not-taken n st (r .spelled) (def (r .name) t) (def-name t (r .name)) (def-takes _ _ n t (r .name)))
+            (def-said (k .terms) (fields-left file c) (r .said) h) q a;
         past = past-then refs (spelled-past (r .spelled .longer)) u;
       }
 
       -- a `root`
-      pub root-line : {query t : ℕ} → last-field (k .many) (fields-left file last) ≡ ok t
-          → Adds file names′ refs rows recs out names″ rows″ recs″ out″ next n (root query (name-of file names′ i) t) s
-          → Line-read file names refs rows recs out names″ refs rows″ recs″ out″ k n (root-said (k .many) query (fields-left file c)) s
+      pub root-line : {query t : ℕ} → last-field (k .terms) (fields-left file last) ≡ ok t
+          → Adds file names′ refs rows recs lists names″ rows″ recs″ lists″ next n (root query (name-of file names′ i) t) s
+          → Line-read file names refs rows recs lists names″ refs rows″ recs″ lists″ k n (rest-of-root (k .terms) query (fields-left file c)) s
       root-line {query} {t} h a = record {
         reads = record-reads n st (r .spelled) (λ x. root query x t) (root-name query t)
-            (λ l. repeats-none n (state-of file names refs rows recs out k) (root query (r .name) t) (root-takes _ n query t (r .name)))
-            (root-is (k .many) query (fields-left file c) (r .said) h) q a;
+            (λ l. repeats-none n (state-of file names refs rows recs lists k) (root query (r .name) t) (root-takes _ _ n query t (r .name)))
+            (root-is (k .terms) query (fields-left file c) (r .said) h) q a;
         past = past-then refs (spelled-past (r .spelled .longer)) u;
       }
 
       -- an `assume`
-      pub assume-line : Adds-fact file names′ refs rows recs out names″ rows″ recs″ out″ next n i (fields-left file last) s
-          → Line-read file names refs rows recs out names″ refs rows″ recs″ out″ k n (content kind.Assume (k .many) (fields-left file c)) s
+      pub assume-line : Adds-fact file names′ refs rows recs lists names″ rows″ recs″ lists″ next n i (fields-left file last) s
+          → Line-read file names refs rows recs lists names″ refs rows″ recs″ lists″ k n (content kind.Assume (k .terms) (fields-left file c)) s
       assume-line a = record { reads = go (rw q at a); past = past-then refs (spelled-past (r .spelled .longer)) u }
         where
-          go : Adds-fact file names′ refs rows recs out names″ rows″ recs″ out″ (with-names k named′) n i (fields-left file last) s
-              → Reads file names″ refs rows″ recs″ out″ n (state-of file names refs rows recs out k) (content kind.Assume (k .many) (fields-left file c)) s
+          go : Adds-fact file names′ refs rows recs lists names″ rows″ recs″ lists″ (with-names k named′) n i (fields-left file last) s
+              → Reads file names″ refs rows″ recs″ lists″ n (state-of file names refs rows recs lists k) (content kind.Assume (k .terms) (fields-left file c)) s
           go (fact-adds flag {t} e b) =
               record-reads n st (r .spelled) (λ x. assume x (eqb flag 1) t) (assume-name (eqb flag 1) t)
-              (not-taken n st (r .spelled) (assume (r .name) (eqb flag 1) t) (assume-name (eqb flag 1) t (r .name)) (assume-takes _ n (eqb flag 1) t (r .name)))
-              (assume-said (k .many) (fields-left file c) (r .said) ∙ e (r .name)) refl b
-          go (fact-stops {x} e b) = rw b (reads-refused x (assume-said (k .many) (fields-left file c) (r .said) ∙ e (r .name)))
+              (not-taken n st (r .spelled) (assume (r .name) (eqb flag 1) t) (assume-name (eqb flag 1) t (r .name)) (assume-takes _ _ n (eqb flag 1) t (r .name)))
+              (assume-said (k .terms) (fields-left file c) (r .said) ∙ e (r .name)) refl b
+          go (fact-stops {x} e b) = rw b (reads-refused x (assume-said (k .terms) (fields-left file c) (r .said) ∙ e (r .name)))

@@ -21,7 +21,7 @@ use Rattle.text.proofs.Laws.{left-none, number-next}
 use Rattle.fields.proofs.Pushing.{left-cons, term-read, term-not}
 use Rattle.filing.specs.declared.Last.{Last}
 use Rattle.filing.specs.declared.Last.the-variants as last
-use Rattle.filing.specs.Lines.{last-field, last-result, fact-said, root-said}
+use Rattle.filing.specs.Lines.{last-field, last-result, rest-of-assume, rest-of-root}
 
 -- a term and the fields after it
 abbrev and-after : List Field → ℕ → Result (ℕ × List Field)
@@ -124,8 +124,8 @@ module _ (count : ℕ) (fs : List Field) where
   def-not a = rw a
 
   -- an `assume`, by what it says after its name
-  pub assume-said : {m : Name} {gs : List Field} → next name-field fs ≡ ok (m, gs) → content kind.Assume count fs ≡ fact-said count m gs
-  unfolding content fact-said last-field
+  pub assume-said : {m : Name} {gs : List Field} → next name-field fs ≡ ok (m, gs) → content kind.Assume count fs ≡ rest-of-assume count m gs
+  unfolding content rest-of-assume last-field
   assume-said {m} {gs} a = rw a (go (next (number-field 1) gs))
     where
       go : (r : Result (ℕ × List Field)) → (r >>= λ (flag, hs). next (term-field count) hs >>= λ (t, is). end (assume m (eqb flag 1) t) is)
@@ -139,8 +139,8 @@ module _ (count : ℕ) (fs : List Field) where
   assume-not a = rw a
 
   -- a `root`, by what it says after its query
-  pub root-then : {q : ℕ} {gs : List Field} → next (number-field 255) fs ≡ ok (q, gs) → content kind.Root count fs ≡ root-said count q gs
-  unfolding content root-said last-field
+  pub root-then : {q : ℕ} {gs : List Field} → next (number-field 255) fs ≡ ok (q, gs) → content kind.Root count fs ≡ rest-of-root count q gs
+  unfolding content rest-of-root last-field
   root-then {q} {gs} a = rw a (go (next name-field gs))
     where
       go : (r : Result (Name × List Field)) → (r >>= λ (m, hs). next (term-field count) hs >>= λ (t, is). end (root q m t) is)
@@ -156,32 +156,32 @@ module _ (count : ℕ) (fs : List Field) where
 module _ (count : ℕ) (m : Name) (fs : List Field) where
   -- the flag and the term of a fact
   pub fact-is : {flag t : ℕ} {gs : List Field} → next (number-field 1) fs ≡ ok (flag, gs) → last-field count gs ≡ ok t
-      → fact-said count m fs ≡ ok (assume m (eqb flag 1) t)
-  unfolding fact-said
+      → rest-of-assume count m fs ≡ ok (assume m (eqb flag 1) t)
+  unfolding rest-of-assume
   fact-is a e = rw (a, e)
 
   pub fact-term-not : {flag : ℕ} {gs : List Field} {x : Refusal} → next (number-field 1) fs ≡ ok (flag, gs) → last-field count gs ≡ refused x
-      → fact-said count m fs ≡ refused x
-  unfolding fact-said
+      → rest-of-assume count m fs ≡ refused x
+  unfolding rest-of-assume
   fact-term-not a e = rw (a, e)
 
-  pub fact-not : {x : Refusal} → next (number-field 1) fs ≡ refused x → fact-said count m fs ≡ refused x
-  unfolding fact-said
+  pub fact-not : {x : Refusal} → next (number-field 1) fs ≡ refused x → rest-of-assume count m fs ≡ refused x
+  unfolding rest-of-assume
   fact-not a = rw a
 
 module _ (count q : ℕ) (fs : List Field) where
   -- the name and the term of a root
-  pub root-is : {m : Name} {t : ℕ} {gs : List Field} → next name-field fs ≡ ok (m, gs) → last-field count gs ≡ ok t → root-said count q fs ≡ ok (root q m t)
-  unfolding root-said
+  pub root-is : {m : Name} {t : ℕ} {gs : List Field} → next name-field fs ≡ ok (m, gs) → last-field count gs ≡ ok t → rest-of-root count q fs ≡ ok (root q m t)
+  unfolding rest-of-root
   root-is a e = rw (a, e)
 
   pub root-term-not : {m : Name} {gs : List Field} {x : Refusal} → next name-field fs ≡ ok (m, gs) → last-field count gs ≡ refused x
-      → root-said count q fs ≡ refused x
-  unfolding root-said
+      → rest-of-root count q fs ≡ refused x
+  unfolding rest-of-root
   root-term-not a e = rw (a, e)
 
-  pub root-name-not : {x : Refusal} → next name-field fs ≡ refused x → root-said count q fs ≡ refused x
-  unfolding root-said
+  pub root-name-not : {x : Refusal} → next name-field fs ≡ refused x → rest-of-root count q fs ≡ refused x
+  unfolding rest-of-root
   root-name-not a = rw a
 
 -- ---- the steps of the cursor

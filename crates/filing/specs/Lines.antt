@@ -32,15 +32,15 @@ last-result (last.Term t) = ok t
 last-result (last.Refused x) = refused x
 
 -- what an `assume` says after its name
-unfoldable pub fact-said : ℕ → Name → List Field → Result Content
-fact-said count m fs = do
+unfoldable pub rest-of-assume : ℕ → Name → List Field → Result Content
+rest-of-assume count m fs = do
   (flag, fs₁) ← next (number-field 1) fs
   t ← last-field count fs₁
   ok (assume m (eqb flag 1) t)
 
 -- what a `root` says after its query
-unfoldable pub root-said : ℕ → ℕ → List Field → Result Content
-root-said count q fs = do
+unfoldable pub rest-of-root : ℕ → ℕ → List Field → Result Content
+rest-of-root count q fs = do
   (m, fs₁) ← next name-field fs
   t ← last-field count fs₁
   ok (root q m t)
@@ -48,41 +48,40 @@ root-said count q fs = do
 -- the counts with so many names
 abbrev pub with-names : Counts → ℕ → Counts
 with-names k named = record {
-  named = named;
-  used = k .used;
-  many = k .many;
+  asks = k .asks;
+  names = named;
+  references = k .references;
+  terms = k .terms;
   records = k .records;
   entries = k .entries;
   uses = k .uses;
   mark = k .mark;
-  query = k .query;
-  options = k .options;
 }
 
 -- what reading the flag and the term of a fact comes to, its name spelled
-pub data Adds-fact (file names refs rows recs out names′ rows′ recs′ out′ : List ℕ) (k : Counts) (n i : ℕ) (fs : List Field) (r : Step) : Type 0 where
-  fact-adds : (flag : ℕ) {t : ℕ} → ((m : Name) → fact-said (k .many) m fs ≡ ok (assume m (eqb flag 1) t))
-      → Adds file names refs rows recs out names′ rows′ recs′ out′ k n (assume (name-of file names i) (eqb flag 1) t) r
-      → Adds-fact file names refs rows recs out names′ rows′ recs′ out′ k n i fs r
-  fact-stops : {x : Refusal} → ((m : Name) → fact-said (k .many) m fs ≡ refused x) → r ≡ step.Refused x
-      → Adds-fact file names refs rows recs out names′ rows′ recs′ out′ k n i fs r
+pub data Adds-fact (file names refs rows recs lists names′ rows′ recs′ lists′ : List ℕ) (k : Counts) (n i : ℕ) (fs : List Field) (r : Step) : Type 0 where
+  fact-adds : (flag : ℕ) {t : ℕ} → ((m : Name) → rest-of-assume (k .terms) m fs ≡ ok (assume m (eqb flag 1) t))
+      → Adds file names refs rows recs lists names′ rows′ recs′ lists′ k n (assume (name-of file names i) (eqb flag 1) t) r
+      → Adds-fact file names refs rows recs lists names′ rows′ recs′ lists′ k n i fs r
+  fact-stops : {x : Refusal} → ((m : Name) → rest-of-assume (k .terms) m fs ≡ refused x) → r ≡ step.Refused x
+      → Adds-fact file names refs rows recs lists names′ rows′ recs′ lists′ k n i fs r
 
 -- what a line comes to: the tables with it, or its refusal
-pub data Reads (file names′ refs′ rows′ recs′ out′ : List ℕ) (n : ℕ) (s : State) (said : Result Content) : Step → Type 0 where
-  goes-on : {k′ : Counts} → judged n s said ≡ ok (state-of file names′ refs′ rows′ recs′ out′ k′)
-      → Standing file names′ refs′ rows′ recs′ out′ k′
-      → Reads file names′ refs′ rows′ recs′ out′ n s said (step.On k′)
-  stops : {x : Refusal} → judged n s said ≡ refused x → Reads file names′ refs′ rows′ recs′ out′ n s said (step.Refused x)
+pub data Reads (file names′ refs′ rows′ recs′ lists′ : List ℕ) (n : ℕ) (s : State) (said : Result Content) : Step → Type 0 where
+  goes-on : {k′ : Counts} → judged n s said ≡ ok (state-of file names′ refs′ rows′ recs′ lists′ k′)
+      → Standing file names′ refs′ rows′ recs′ lists′ k′
+      → Reads file names′ refs′ rows′ recs′ lists′ n s said (step.On k′)
+  stops : {x : Refusal} → judged n s said ≡ refused x → Reads file names′ refs′ rows′ recs′ lists′ n s said (step.Refused x)
 
 -- the words past those that a call uses stay
-pub record Past (names refs rows recs out names′ refs′ rows′ recs′ out′ : List ℕ) : Type 0 where
+pub record Past (names refs rows recs lists names′ refs′ rows′ recs′ lists′ : List ℕ) : Type 0 where
   pub name-words : Same-but 0 working-words names names′
   pub reference-words : Same-but 0 working-words refs refs′
   pub row-words : Same-but 0 working-words rows rows′
   pub record-words : Same-but 0 working-words recs recs′
-  pub list-words : Same-but 0 working-words out out′
+  pub list-words : Same-but 0 working-words lists lists′
 
 -- what reading the n-th line leaves in the slices and answers
-pub record Line-read (file names refs rows recs out names′ refs′ rows′ recs′ out′ : List ℕ) (k : Counts) (n : ℕ) (said : Result Content) (r : Step) : Type 0 where
-  pub reads : Reads file names′ refs′ rows′ recs′ out′ n (state-of file names refs rows recs out k) said r
-  pub past : Past names refs rows recs out names′ refs′ rows′ recs′ out′
+pub record Line-read (file names refs rows recs lists names′ refs′ rows′ recs′ lists′ : List ℕ) (k : Counts) (n : ℕ) (said : Result Content) (r : Step) : Type 0 where
+  pub reads : Reads file names′ refs′ rows′ recs′ lists′ n (state-of file names refs rows recs lists k) said r
+  pub past : Past names refs rows recs lists names′ refs′ rows′ recs′ lists′

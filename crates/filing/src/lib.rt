@@ -11,12 +11,9 @@ ghost use mathlib.Core.Path.{_≡_};
 ghost use Rattle.model.specs.Reading.{content, most-names, most-terms};
 ghost use Rattle.model.specs.declared.LineKind.the-variants as kind;
 ghost use Rattle.text.specs.Parts.{Placed, fields-left};
-ghost use Rattle.fields.specs.Wording.{record-kind};
+ghost use Rattle.fields.specs.Wording.{record-line-kind};
 ghost use Rattle.records.specs.Adding.{Standing, Untouched};
-ghost use Rattle.filing.specs.Lines.{with-names, last-field, last-result, root-said, Adds-fact, Line-read};
-
-// The largest query and the largest flag.
-pub const MOST_QUERY: u32 = 255;
+ghost use Rattle.filing.specs.Lines.{with-names, last-field, last-result, rest-of-root, Adds-fact, Line-read};
 
 const MOST_FLAG: u32 = 1;
 
@@ -30,17 +27,9 @@ enum Last {
 fn spelled(k: Counts, named: usize) -> Counts
     ensures { λ r. ⌜ r ≡ with-names k named ⌝ }
 {
-    Counts {
-        named,
-        used: k.used,
-        many: k.many,
-        records: k.records,
-        entries: k.entries,
-        uses: k.uses,
-        mark: k.mark,
-        query: k.query,
-        options: k.options,
-    }
+    let mut next = k;
+    next.names = named;
+    next
 }
 
 // Reads the last field of a line, one of `many` terms.
@@ -66,23 +55,33 @@ fn read_fun(
     refs: &[u32],
     rows: &[u32],
     recs: &mut [u32],
-    out: &[u32],
+    lists: &[u32],
     k: Counts,
     n: usize,
     c: Cursor,
 ) -> Step
-    requires { ⌜ Standing (now file) (now names) (now refs) (now rows) (now recs) (now out) k × Placed (now file) c
+    requires { ⌜ Standing (now file) (now names) (now refs) (now rows) (now recs) (now lists) k × Placed (now file) c
         × (n < 4294967296) ⌝ }
     ensures { λ r. ⌜ Line-read (now (file .entry)) (now (names .entry)) (now (refs .entry)) (now (rows .entry))
-        (now (recs .entry)) (now (out .entry)) (now (names .exit)) (now (refs .entry)) (now (rows .entry)) (now (recs .exit))
-        (now (out .entry)) k n (content kind.Fun (k .many) (fields-left (now (file .entry)) c)) r ⌝ }
+        (now (recs .entry)) (now (lists .entry)) (now (names .exit)) (now (refs .entry)) (now (rows .entry)) (now (recs .exit))
+        (now (lists .entry)) k n (content kind.Fun (k .terms) (fields-left (now (file .entry)) c)) r ⌝ }
 {
-    match fields::read_name(file, names, k.named, c) {
+    match fields::read_name(file, names, k.names, c) {
         Word::Name(i, named, last) => {
             if last.at <= last.end {
                 return Step::Refused(Refusal::Form);
             }
-            records::add_fun(file, names, refs, rows, recs, out, spelled(k, named), n, i)
+            records::add_fun(
+                file,
+                names,
+                refs,
+                rows,
+                recs,
+                lists,
+                spelled(k, named),
+                n,
+                i,
+            )
         }
         Word::Refused(r) => Step::Refused(r),
     }
@@ -95,19 +94,19 @@ fn read_def(
     refs: &[u32],
     rows: &mut [u32],
     recs: &mut [u32],
-    out: &mut [u32],
+    lists: &mut [u32],
     k: Counts,
     n: usize,
     c: Cursor,
 ) -> Step
-    requires { ⌜ Standing (now file) (now names) (now refs) (now rows) (now recs) (now out) k × Placed (now file) c
+    requires { ⌜ Standing (now file) (now names) (now refs) (now rows) (now recs) (now lists) k × Placed (now file) c
         × (n < 4294967296) ⌝ }
     ensures { λ r. ⌜ Line-read (now (file .entry)) (now (names .entry)) (now (refs .entry)) (now (rows .entry))
-        (now (recs .entry)) (now (out .entry)) (now (names .exit)) (now (refs .entry)) (now (rows .exit)) (now (recs .exit))
-        (now (out .exit)) k n (content kind.Def (k .many) (fields-left (now (file .entry)) c)) r ⌝ }
+        (now (recs .entry)) (now (lists .entry)) (now (names .exit)) (now (refs .entry)) (now (rows .exit)) (now (recs .exit))
+        (now (lists .exit)) k n (content kind.Def (k .terms) (fields-left (now (file .entry)) c)) r ⌝ }
 {
-    match fields::read_name(file, names, k.named, c) {
-        Word::Name(i, named, next) => match last_term(file, k.many, next) {
+    match fields::read_name(file, names, k.names, c) {
+        Word::Name(i, named, next) => match last_term(file, k.terms, next) {
             Last::Term(t) => {
                 records::add_def(
                     file,
@@ -115,7 +114,7 @@ fn read_def(
                     refs,
                     rows,
                     recs,
-                    out,
+                    lists,
                     spelled(k, named),
                     n,
                     i,
@@ -135,22 +134,22 @@ fn read_fact(
     refs: &[u32],
     rows: &mut [u32],
     recs: &mut [u32],
-    out: &mut [u32],
+    lists: &mut [u32],
     k: Counts,
     n: usize,
     i: usize,
     c: Cursor,
 ) -> Step
-    requires { ⌜ (k .named ≤ most-names → Standing (now file) (now names) (now refs) (now rows) (now recs) (now out) k
-        × (i < k .named)) × (k .many ≤ most-terms) × Placed (now file) c × (n < 4294967296) ⌝ }
+    requires { ⌜ (k .names ≤ most-names → Standing (now file) (now names) (now refs) (now rows) (now recs) (now lists) k
+        × (i < k .names)) × (k .terms ≤ most-terms) × Placed (now file) c × (n < 4294967296) ⌝ }
     ensures record { λ r. ⌜ Adds-fact (now (file .entry)) (now (names .entry)) (now (refs .entry)) (now (rows .entry))
-        (now (recs .entry)) (now (out .entry)) (now (names .exit)) (now (rows .exit)) (now (recs .exit)) (now (out .exit)) k n i
+        (now (recs .entry)) (now (lists .entry)) (now (names .exit)) (now (rows .exit)) (now (recs .exit)) (now (lists .exit)) k n i
         (fields-left (now (file .entry)) c) r ⌝ }
-    ensures past { λ r. ⌜ Untouched (now (names .entry)) (now (rows .entry)) (now (recs .entry)) (now (out .entry))
-        (now (names .exit)) (now (rows .exit)) (now (recs .exit)) (now (out .exit)) ⌝ }
+    ensures past { λ r. ⌜ Untouched (now (names .entry)) (now (rows .entry)) (now (recs .entry)) (now (lists .entry))
+        (now (names .exit)) (now (rows .exit)) (now (recs .exit)) (now (lists .exit)) ⌝ }
 {
     match c.number(file, MOST_FLAG) {
-        NumberStep::Number(flag, next) => match last_term(file, k.many, next) {
+        NumberStep::Number(flag, next) => match last_term(file, k.terms, next) {
             Last::Term(t) => {
                 facts::add_fact(
                     file,
@@ -158,7 +157,7 @@ fn read_fact(
                     refs,
                     rows,
                     recs,
-                    out,
+                    lists,
                     k,
                     n,
                     i,
@@ -179,21 +178,21 @@ fn read_assume(
     refs: &[u32],
     rows: &mut [u32],
     recs: &mut [u32],
-    out: &mut [u32],
+    lists: &mut [u32],
     k: Counts,
     n: usize,
     c: Cursor,
 ) -> Step
-    requires { ⌜ Standing (now file) (now names) (now refs) (now rows) (now recs) (now out) k × Placed (now file) c
+    requires { ⌜ Standing (now file) (now names) (now refs) (now rows) (now recs) (now lists) k × Placed (now file) c
         × (n < 4294967296) ⌝ }
     ensures { λ r. ⌜ Line-read (now (file .entry)) (now (names .entry)) (now (refs .entry)) (now (rows .entry))
-        (now (recs .entry)) (now (out .entry)) (now (names .exit)) (now (refs .entry)) (now (rows .exit)) (now (recs .exit))
-        (now (out .exit)) k n (content kind.Assume (k .many) (fields-left (now (file .entry)) c)) r ⌝ }
+        (now (recs .entry)) (now (lists .entry)) (now (names .exit)) (now (refs .entry)) (now (rows .exit)) (now (recs .exit))
+        (now (lists .exit)) k n (content kind.Assume (k .terms) (fields-left (now (file .entry)) c)) r ⌝ }
 {
-    match fields::read_name(file, names, k.named, c) {
+    match fields::read_name(file, names, k.names, c) {
         Word::Name(i, named, next) => {
             let known = spelled(k, named);
-            read_fact(file, names, refs, rows, recs, out, known, n, i, next)
+            read_fact(file, names, refs, rows, recs, lists, known, n, i, next)
         }
         Word::Refused(r) => Step::Refused(r),
     }
@@ -206,20 +205,20 @@ fn read_retain(
     refs: &[u32],
     rows: &[u32],
     recs: &mut [u32],
-    out: &[u32],
+    lists: &[u32],
     k: Counts,
     n: usize,
     c: Cursor,
 ) -> Step
-    requires { ⌜ Standing (now file) (now names) (now refs) (now rows) (now recs) (now out) k × Placed (now file) c
+    requires { ⌜ Standing (now file) (now names) (now refs) (now rows) (now recs) (now lists) k × Placed (now file) c
         × (n < 4294967296) ⌝ }
     ensures { λ r. ⌜ Line-read (now (file .entry)) (now (names .entry)) (now (refs .entry)) (now (rows .entry))
-        (now (recs .entry)) (now (out .entry)) (now (names .exit)) (now (refs .entry)) (now (rows .entry)) (now (recs .exit))
-        (now (out .entry)) k n (content kind.Retain (k .many) (fields-left (now (file .entry)) c)) r ⌝ }
+        (now (recs .entry)) (now (lists .entry)) (now (names .exit)) (now (refs .entry)) (now (rows .entry)) (now (recs .exit))
+        (now (lists .entry)) k n (content kind.Retain (k .terms) (fields-left (now (file .entry)) c)) r ⌝ }
 {
-    match fields::spell_rest(file, names, k.named, c) {
+    match fields::spell_rest(file, names, k.names, c) {
         Upto::At(named, _) => {
-            records::add_retain(file, names, refs, rows, recs, out, spelled(k, named), n)
+            records::add_retain(file, names, refs, rows, recs, lists, spelled(k, named), n)
         }
         Upto::Refused(r) => Step::Refused(r),
     }
@@ -232,20 +231,20 @@ fn read_goal(
     refs: &[u32],
     rows: &mut [u32],
     recs: &mut [u32],
-    out: &mut [u32],
+    lists: &mut [u32],
     k: Counts,
     n: usize,
     q: usize,
     c: Cursor,
 ) -> Step
-    requires { ⌜ Standing (now file) (now names) (now refs) (now rows) (now recs) (now out) k × Placed (now file) c
+    requires { ⌜ Standing (now file) (now names) (now refs) (now rows) (now recs) (now lists) k × Placed (now file) c
         × (n < 4294967296) × (q < 256) ⌝ }
     ensures { λ r. ⌜ Line-read (now (file .entry)) (now (names .entry)) (now (refs .entry)) (now (rows .entry))
-        (now (recs .entry)) (now (out .entry)) (now (names .exit)) (now (refs .entry)) (now (rows .exit)) (now (recs .exit))
-        (now (out .exit)) k n (root-said (k .many) q (fields-left (now (file .entry)) c)) r ⌝ }
+        (now (recs .entry)) (now (lists .entry)) (now (names .exit)) (now (refs .entry)) (now (rows .exit)) (now (recs .exit))
+        (now (lists .exit)) k n (rest-of-root (k .terms) q (fields-left (now (file .entry)) c)) r ⌝ }
 {
-    match fields::read_name(file, names, k.named, c) {
-        Word::Name(i, named, next) => match last_term(file, k.many, next) {
+    match fields::read_name(file, names, k.names, c) {
+        Word::Name(i, named, next) => match last_term(file, k.terms, next) {
             Last::Term(t) => {
                 records::add_root(
                     file,
@@ -253,7 +252,7 @@ fn read_goal(
                     refs,
                     rows,
                     recs,
-                    out,
+                    lists,
                     spelled(k, named),
                     n,
                     q,
@@ -274,20 +273,20 @@ fn read_root(
     refs: &[u32],
     rows: &mut [u32],
     recs: &mut [u32],
-    out: &mut [u32],
+    lists: &mut [u32],
     k: Counts,
     n: usize,
     c: Cursor,
 ) -> Step
-    requires { ⌜ Standing (now file) (now names) (now refs) (now rows) (now recs) (now out) k × Placed (now file) c
+    requires { ⌜ Standing (now file) (now names) (now refs) (now rows) (now recs) (now lists) k × Placed (now file) c
         × (n < 4294967296) ⌝ }
     ensures { λ r. ⌜ Line-read (now (file .entry)) (now (names .entry)) (now (refs .entry)) (now (rows .entry))
-        (now (recs .entry)) (now (out .entry)) (now (names .exit)) (now (refs .entry)) (now (rows .exit)) (now (recs .exit))
-        (now (out .exit)) k n (content kind.Root (k .many) (fields-left (now (file .entry)) c)) r ⌝ }
+        (now (recs .entry)) (now (lists .entry)) (now (names .exit)) (now (refs .entry)) (now (rows .exit)) (now (recs .exit))
+        (now (lists .exit)) k n (content kind.Root (k .terms) (fields-left (now (file .entry)) c)) r ⌝ }
 {
-    match c.number(file, MOST_QUERY) {
+    match c.number(file, model::MOST_QUERY) {
         NumberStep::Number(q, next) => {
-            read_goal(file, names, refs, rows, recs, out, k, n, q as usize, next)
+            read_goal(file, names, refs, rows, recs, lists, k, n, q as usize, next)
         }
         NumberStep::Refused(r) => Step::Refused(r),
     }
@@ -300,23 +299,23 @@ pub fn read_record(
     refs: &[u32],
     rows: &mut [u32],
     recs: &mut [u32],
-    out: &mut [u32],
+    lists: &mut [u32],
     k: Counts,
     n: usize,
     kind: RecordKind,
     c: Cursor,
 ) -> Step
-    requires { ⌜ Standing (now file) (now names) (now refs) (now rows) (now recs) (now out) k × Placed (now file) c
+    requires { ⌜ Standing (now file) (now names) (now refs) (now rows) (now recs) (now lists) k × Placed (now file) c
         × (n < 4294967296) ⌝ }
     ensures { λ r. ⌜ Line-read (now (file .entry)) (now (names .entry)) (now (refs .entry)) (now (rows .entry))
-        (now (recs .entry)) (now (out .entry)) (now (names .exit)) (now (refs .entry)) (now (rows .exit)) (now (recs .exit))
-        (now (out .exit)) k n (content (record-kind kind) (k .many) (fields-left (now (file .entry)) c)) r ⌝ }
+        (now (recs .entry)) (now (lists .entry)) (now (names .exit)) (now (refs .entry)) (now (rows .exit)) (now (recs .exit))
+        (now (lists .exit)) k n (content (record-line-kind kind) (k .terms) (fields-left (now (file .entry)) c)) r ⌝ }
 {
     match kind {
-        RecordKind::Assume => read_assume(file, names, refs, rows, recs, out, k, n, c),
-        RecordKind::Fun => read_fun(file, names, refs, rows, recs, out, k, n, c),
-        RecordKind::Def => read_def(file, names, refs, rows, recs, out, k, n, c),
-        RecordKind::Retain => read_retain(file, names, refs, rows, recs, out, k, n, c),
-        RecordKind::Root => read_root(file, names, refs, rows, recs, out, k, n, c),
+        RecordKind::Assume => read_assume(file, names, refs, rows, recs, lists, k, n, c),
+        RecordKind::Fun => read_fun(file, names, refs, rows, recs, lists, k, n, c),
+        RecordKind::Def => read_def(file, names, refs, rows, recs, lists, k, n, c),
+        RecordKind::Retain => read_retain(file, names, refs, rows, recs, lists, k, n, c),
+        RecordKind::Root => read_root(file, names, refs, rows, recs, lists, k, n, c),
     }
 }

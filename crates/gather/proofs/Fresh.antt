@@ -11,8 +11,8 @@ pub fresh-later : {names rows : List ℕ} (m n : ℕ) → m ≤ n → Fresh name
 fresh-later m n h f = record { row-marks = λ t l. omega (arith, f .row-marks t l); name-marks = λ k l. omega (arith, f .name-marks k l) }
 
 -- the marks after gathering a set are below the next one
-pub fresh-next : {names rows out names′ rows′ out′ : List ℕ} {mark at room : ℕ} {r : Walked} → Fresh names rows mark
-    → Gathered names rows out names′ rows′ out′ mark at room r → Fresh names′ rows′ (mark + 1)
+pub fresh-next : {names rows lists names′ rows′ lists′ : List ℕ} {mark at room : ℕ} {r : Walked} → Fresh names rows mark
+    → Gathered names rows lists names′ rows′ lists′ mark at room r → Fresh names′ rows′ (mark + 1)
 fresh-next f g = record {
   row-marks = λ t l. ⊎-elim (λ e. omega arith) (λ e. omega (arith, f .row-marks t l)) (g .row-marks t l);
   name-marks = λ k l. ⊎-elim (λ e. omega arith) (λ e. omega (arith, f .name-marks k l)) (g .name-marks k l);

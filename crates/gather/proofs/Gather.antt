@@ -12,7 +12,7 @@ use Rattle.model.proofs.PartLaws.{part-elim, part-intro}
 use Rattle.gather.specs.declared.Walked.{Walked}
 use Rattle.terms.specs.Rows.{terms-of-words, terms-of, Rows}
 use Rattle.gather.specs.Sets.{row-mark, name-mark, Fresh, Named, ended, Gathers, Gathered}
-use Rattle.gather.specs.Walks.{Free, Among, Ready, References, Steps, Walks, Listed}
+use Rattle.gather.specs.Walks.{Free, Among, Walk-ready, References, Steps, Walks, Marked-listed}
 use Rattle.terms.proofs.Table.{rows-named}
 use Rattle.gather.proofs.Naming.{occurs-named, term-set, list-set, start-listed, steps-gathers}
 
@@ -29,19 +29,19 @@ fresh-row {t} r new l e =
     omega arith
 
 -- the names with the mark are those in the slice
-marks-of : {P : ℕ → Type 0} {names out names′ out′ : List ℕ} {mark from room : ℕ} {answer : Walked} → ((k : ℕ) → k < 2048 → name-mark names k ≡ mark → ⊥)
-    → room ≤ length out
-    → Steps P names out names′ out′ mark from room answer → (k : ℕ) → k < 2048 → (name-mark names′ k ≡ mark) ↔ List·Memᴰ k (part out′ from (ended room answer))
-marks-of {names′} {out′} {mark} {from} {room} {answer} fresh high s k l =
-    let w : Listed names′ out′ mark from (ended room answer) = s .listed from (omega arith) (start-listed fresh) in
-    let fits : ended room answer ≤ length out′ = omega (arith, s .out-same .same-length, s .fits) in (
-      λ e. let (i, (a, b, q)) = w .place k l e in Memᴰ·cast (sym q) (part-intro out′ from (ended room answer) i fits a b),
-      λ m. let p = part-elim {l = out′} {a = from} {e = ended room answer} fits m in rw (p .is) at (w .marked (p .place) (p .low) (p .high)),
+marks-of : {P : ℕ → Type 0} {names lists names′ lists′ : List ℕ} {mark from room : ℕ} {answer : Walked} → ((k : ℕ) → k < 2048 → name-mark names k ≡ mark → ⊥)
+    → room ≤ length lists
+    → Steps P names lists names′ lists′ mark from room answer → (k : ℕ) → k < 2048 → (name-mark names′ k ≡ mark) ↔ List·Memᴰ k (part lists′ from (ended room answer))
+marks-of {names′} {lists′} {mark} {from} {room} {answer} fresh high s k l =
+    let w : Marked-listed names′ lists′ mark from (ended room answer) = s .listed from (omega arith) (start-listed fresh) in
+    let fits : ended room answer ≤ length lists′ = omega (arith, s .lists-same .same-length, s .fits) in (
+      λ e. let (i, (a, b, q)) = w .place k l e in Memᴰ·cast (sym q) (part-intro lists′ from (ended room answer) i fits a b),
+      λ m. let p = part-elim {l = lists′} {a = from} {e = ended room answer} fits m in rw (p .is) at (w .marked (p .place) (p .low) (p .high)),
     )
 
-module _ {names refs rows out : List ℕ} {used many named mark from room : ℕ} (r : Rows refs rows used many named) (new : Fresh names rows mark) where
+module _ {names refs rows lists : List ℕ} {used many named mark from room : ℕ} (r : Rows refs rows used many named) (new : Fresh names rows mark) where
   -- the slices are ready for a walk
-  pub ready-start : 16384 ≤ length names → from ≤ room → room ≤ length out → Ready names refs rows out used many mark from room
+  pub ready-start : 16384 ≤ length names → from ≤ room → room ≤ length lists → Walk-ready names refs rows lists used many mark from room
   ready-start long low high =
       let few = r .few-rows in
       let less = r .few-names in
@@ -53,32 +53,32 @@ module _ {names refs rows out : List ℕ} {used many named mark from room : ℕ}
         high = high;
       }
 
-  module _ {names′ rows′ out′ : List ℕ} {answer : Walked} (low : from ≤ room) (high : room ≤ length out) where
+  module _ {names′ rows′ lists′ : List ℕ} {answer : Walked} (low : from ≤ room) (high : room ≤ length lists) where
     -- a walk of a term gathers its names
-    pub gathers-term : {t : ℕ} → t < many → Walks (Free names refs rows used many t) names refs rows out names′ rows′ out′ used many mark from room answer
+    pub gathers-term : {t : ℕ} → t < many → Walks (Free names refs rows used many t) names refs rows lists names′ rows′ lists′ used many mark from room answer
         → (exclude : List Name) (name : ℕ → Name) → Named exclude name names named
-        → Gathers name named (free-top-level-names exclude (terms-of name refs rows used many) t) from room out′ answer
+        → Gathers name named (free-top-level-names exclude (terms-of name refs rows used many) t) from room lists′ answer
     gathers-term {t} l w exclude name d =
-        steps-gathers names out names′ out′ mark from room named low high (fresh-name new) (λ k f. (occurs-named r l (f .occurs), f .counts .small))
+        steps-gathers names lists names′ lists′ mark from room named low high (fresh-name new) (λ k f. (occurs-named r l (f .occurs), f .counts .small))
         (d .distinct) (term-set name r d t l) (w .steps)
 
     -- a walk of a list gathers its names
     pub gathers-list : {a e : ℕ} → References refs used many a e
-        → Walks (Among names refs rows used many a e) names refs rows out names′ rows′ out′ used many mark from room answer
+        → Walks (Among names refs rows used many a e) names refs rows lists names′ rows′ lists′ used many mark from room answer
         → (exclude : List Name) (name : ℕ → Name) → Named exclude name names named
-        → Gathers name named (group-names exclude (terms-of name refs rows used many) (terms-of-words (part refs a e))) from room out′ answer
+        → Gathers name named (group-names exclude (terms-of name refs rows used many) (terms-of-words (part refs a e))) from room lists′ answer
     gathers-list g w exclude name d =
-        steps-gathers names out names′ out′ mark from room named low high (fresh-name new)
+        steps-gathers names lists names′ lists′ mark from room named low high (fresh-name new)
         (λ k f. (occurs-named r (g .in-table (f .place) (f .low) (f .high)) (f .free .occurs), f .free .counts .small)) (d .distinct) (list-set name r d g)
         (w .steps)
 
     -- what a walk leaves in the slices
-    pub gathered-of : {P : ℕ → Type 0} → Walks P names refs rows out names′ rows′ out′ used many mark from room answer
-        → Gathered names rows out names′ rows′ out′ mark from room answer
+    pub gathered-of : {P : ℕ → Type 0} → Walks P names refs rows lists names′ rows′ lists′ used many mark from room answer
+        → Gathered names rows lists names′ rows′ lists′ mark from room answer
     gathered-of w = record {
       names-same = w .steps .names-same;
       rows-same = w .rows-same;
-      out-same = w .steps .out-same;
+      lists-same = w .steps .lists-same;
       grows = w .steps .grows;
       fits = w .steps .fits;
       small = w .steps .listed from (omega arith) (start-listed (fresh-name new)) .small;

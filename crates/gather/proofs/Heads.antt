@@ -12,20 +12,20 @@ use Rattle.gather.specs.Sets.{name-mark}
 use Rattle.gather.specs.Walks.{Own, Heads, Steps}
 use Rattle.gather.proofs.Steps.{steps-stay, steps-over, steps-one}
 
-module _ {names rows out : List ℕ} {t count room : ℕ} (h : Heads names rows out t count room) (mark : ℕ) where
+module _ {names rows lists : List ℕ} {t count room : ℕ} (h : Heads names rows lists t count room) (mark : ℕ) where
   -- the row has no head
-  pub head-none : has-head (row-kind rows t) ≡ false → Steps (Own names rows t) names out names out mark count room (walks.Names count)
+  pub head-none : has-head (row-kind rows t) ≡ false → Steps (Own names rows t) names lists names lists mark count room (walks.Names count)
   head-none e = steps-stay (h .low) (λ k p. absurd (true≢false (sym (T-true (has-head (row-kind rows t)) (p .headed)) ∙ e)))
 
   module _ (n : ℕ) (is : n ≡ row-head rows t) where
     -- the head does not count
-    pub head-excluded : is-excluded names n ≡ true → Steps (Own names rows t) names out names out mark count room (walks.Names count)
+    pub head-excluded : is-excluded names n ≡ true → Steps (Own names rows t) names lists names lists mark count room (walks.Names count)
     head-excluded e = steps-stay (h .low) (λ k p.
         let f : n ≡ k = is ∙ p .is in
         absurd (true≢false (sym e ∙ ap (is-excluded names) f ∙ p .counts .counted)))
 
     -- the head is there already
-    pub head-there : name-mark names n ≡ mark → Steps (Own names rows t) names out names out mark count room (walks.Names count)
+    pub head-there : name-mark names n ≡ mark → Steps (Own names rows t) names lists names lists mark count room (walks.Names count)
     head-there e = steps-stay (h .low) (λ k p.
         let f : n ≡ k = is ∙ p .is in
         rw (← f) e)
@@ -40,9 +40,9 @@ module _ {names rows out : List ℕ} {t count room : ℕ} (h : Heads names rows 
       head-own = record { headed = true-T has; is = sym is; counts = record { small = head-small; counted = counted } }
 
       -- there is no room for the head
-      pub head-over : room ≤ count → Steps (Own names rows t) names out names out mark count room walks.Full
+      pub head-over : room ≤ count → Steps (Own names rows t) names lists names lists mark count room walks.Full
       head-over e = steps-over (h .low) e head-own head-small new
 
       -- the head is added
-      pub head-added : count < room → Steps (Own names rows t) names out (set names (8192 + n) mark) (set out count n) mark count room (walks.Names (count + 1))
+      pub head-added : count < room → Steps (Own names rows t) names lists (set names (8192 + n) mark) (set lists count n) mark count room (walks.Names (count + 1))
       head-added e = steps-one n head-small (h .name-room) e (h .high) new head-own (λ m p. is ∙ p .is)

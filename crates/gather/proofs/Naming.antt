@@ -19,7 +19,7 @@ use Rattle.gather.specs.declared.Walked.{Walked}
 use Rattle.gather.specs.declared.Walked.the-variants as walks
 use Rattle.terms.specs.Rows.{row-kind, row-op, row-head, row-start, row-extra, row-end, terms-of-words, op-of-code, node-of, terms-of, Rows}
 use Rattle.gather.specs.Sets.{name-mark, Named, Gathers, all-names, no-room, ended}
-use Rattle.gather.specs.Walks.{Occurs, own, under, Free, Among, References, Comes, whole, over, Steps, Listed}
+use Rattle.gather.specs.Walks.{Occurs, own, under, Free, Among, References, Comes, whole, over, Steps, Marked-listed}
 use Rattle.terms.proofs.Table.{own-names, Inside, node-elim, node-intro, own-elim, own-intro, refs-elim, refs-intro, table, entry, table-all, table-term, table-ascending, row-right, kind-small}
 
 -- ---- the free names of a term
@@ -132,7 +132,7 @@ free-ascending exclude name refs rows used many t = rw (table-all name refs rows
 
 module _ (f : ℕ → List Name) where
   -- a name of the union is one of the first set or of one of the others
-  unions-elim : (acc : List Name) (ts : List ℕ) (x : Name) → T (mem x (fold-left (λ out t. union out (f t)) acc ts))
+  unions-elim : (acc : List Name) (ts : List ℕ) (x : Name) → T (mem x (fold-left (λ lists t. union lists (f t)) acc ts))
       → T (mem x acc) ⊎ ((t : ℕ) × (List·Memᴰ t ts × T (mem x (f t))))
   unfolding fold-left
   unions-elim acc [] x h = inl h
@@ -143,7 +143,7 @@ module _ (f : ℕ → List Name) where
 
   -- and back
   unions-intro : (acc : List Name) (ts : List ℕ) (x : Name) → T (mem x acc) ⊎ ((t : ℕ) × (List·Memᴰ t ts × T (mem x (f t))))
-      → T (mem x (fold-left (λ out t. union out (f t)) acc ts))
+      → T (mem x (fold-left (λ lists t. union lists (f t)) acc ts))
   unfolding fold-left
   unions-intro acc [] x h = ⊎-elim (λ k. k) (λ (t, (m, k)). absurd (List·Memᴰ·not-nil m)) h
   unions-intro acc (t ∷ ts) x h = unions-intro (union acc (f t)) ts x (⊎-elim
@@ -152,7 +152,7 @@ module _ (f : ℕ → List Name) where
       h)
 
   -- the union is a set
-  unions-ascending : (acc : List Name) (ts : List ℕ) → Ascending acc → ((t : ℕ) → Ascending (f t)) → Ascending (fold-left (λ out t. union out (f t)) acc ts)
+  unions-ascending : (acc : List Name) (ts : List ℕ) → Ascending acc → ((t : ℕ) → Ascending (f t)) → Ascending (fold-left (λ lists t. union lists (f t)) acc ts)
   unfolding fold-left
   unions-ascending acc [] a h = a
   unions-ascending acc (t ∷ ts) a h = unions-ascending (union acc (f t)) ts (ascending-union acc (h t)) h
@@ -225,28 +225,28 @@ apart-length (more {n} {ns} h a) = add-length n (from-list ns) (λ t. h (mem-fro
 
 module _ (name : ℕ → Name) where
   -- a name of some words' is that of one of them
-  map-place : (out : List ℕ) (a e : ℕ) {x : Name} → e ≤ length out → T (mem x (map name (part out a e)))
-      → (i : ℕ) × ((a ≤ i) × (i < e) × (x ≡ name (getD out i 0)))
-  map-place out a e h m =
-      let (k, n, q) = map-elim name (part out a e) (mem-elim m) in
-      let p = part-elim {l = out} {a = a} {e = e} h n in
+  map-place : (lists : List ℕ) (a e : ℕ) {x : Name} → e ≤ length lists → T (mem x (map name (part lists a e)))
+      → (i : ℕ) × ((a ≤ i) × (i < e) × (x ≡ name (getD lists i 0)))
+  map-place lists a e h m =
+      let (k, n, q) = map-elim name (part lists a e) (mem-elim m) in
+      let p = part-elim {l = lists} {a = a} {e = e} h n in
       (p .place, (p .low, p .high, sym q ∙ ap name (sym (p .is))))
 
   -- the name of a word at a place is one of the words' names
-  place-map : (out : List ℕ) (a e i : ℕ) → e ≤ length out → a ≤ i → i < e → T (mem (name (getD out i 0)) (map name (part out a e)))
-  place-map out a e i h l k = mem-intro (map-intro name (part-intro out a e i h l k))
+  place-map : (lists : List ℕ) (a e i : ℕ) → e ≤ length lists → a ≤ i → i < e → T (mem (name (getD lists i 0)) (map name (part lists a e)))
+  place-map lists a e i h l k = mem-intro (map-intro name (part-intro lists a e i h l k))
 
   -- words whose names are all different
-  words-apart : (out : List ℕ) (d a e : ℕ) → e - a ≡ d → e ≤ length out → ((i j : ℕ) → a ≤ i → i < j → j < e → name (getD out i 0) ≡ name (getD out j 0) → ⊥)
-      → Apart (map name (part out a e))
-  words-apart out zero a e q h u = rw (part-nil out a e (omega arith)) none
-  words-apart out (suc d) a e q h u =
-      rw (part-cons out a e (omega arith) h)
-      (more (λ t. let (i, (l, k, v)) = map-place out (a + 1) e h t in u a i (omega arith) (omega arith) k v)
-      (words-apart out d (a + 1) e (omega arith) h (λ i j l k b v. u i j (omega arith) k b v)))
+  words-apart : (lists : List ℕ) (d a e : ℕ) → e - a ≡ d → e ≤ length lists → ((i j : ℕ) → a ≤ i → i < j → j < e → name (getD lists i 0) ≡ name (getD lists j 0) → ⊥)
+      → Apart (map name (part lists a e))
+  words-apart lists zero a e q h u = rw (part-nil lists a e (omega arith)) none
+  words-apart lists (suc d) a e q h u =
+      rw (part-cons lists a e (omega arith) h)
+      (more (λ t. let (i, (l, k, v)) = map-place lists (a + 1) e h t in u a i (omega arith) (omega arith) k v)
+      (words-apart lists d (a + 1) e (omega arith) h (λ i j l k b v. u i j (omega arith) k b v)))
 
 -- where no name has the mark none is in the slice
-pub start-listed : {names out : List ℕ} {mark from : ℕ} → ((k : ℕ) → k < 2048 → name-mark names k ≡ mark → ⊥) → Listed names out mark from from
+pub start-listed : {names lists : List ℕ} {mark from : ℕ} → ((k : ℕ) → k < 2048 → name-mark names k ≡ mark → ⊥) → Marked-listed names lists mark from from
 start-listed fresh = record {
   place = λ k l e. absurd (fresh k l e);
   small = λ i a b. omega arith;
@@ -254,62 +254,62 @@ start-listed fresh = record {
   once = λ i j a b c e. omega arith;
 }
 
-module _ {P : ℕ → Type 0} (names out names′ out′ : List ℕ) (mark from room named : ℕ) {name : ℕ → Name} {set : List Name}
-    (low : from ≤ room) (high : room ≤ length out) (fresh : (k : ℕ) → k < 2048 → name-mark names k ≡ mark → ⊥)
+module _ {P : ℕ → Type 0} (names lists names′ lists′ : List ℕ) (mark from room named : ℕ) {name : ℕ → Name} {set : List Name}
+    (low : from ≤ room) (high : room ≤ length lists) (fresh : (k : ℕ) → k < 2048 → name-mark names k ≡ mark → ⊥)
     (small : (k : ℕ) → P k → (k < named) × (k < 2048)) (distinct : (m n : ℕ) → m < named → n < named → name m ≡ name n → m ≡ n) (s : Set-of name P set) where
-  module _ (n : ℕ) (fits : n ≤ length out′) (w : Listed names′ out′ mark from n)
+  module _ (n : ℕ) (fits : n ≤ length lists′) (w : Marked-listed names′ lists′ mark from n)
       (sound : (k : ℕ) → k < 2048 → name-mark names′ k ≡ mark → (name-mark names k ≡ mark) ⊎ P k) where
     -- a name in the slice is one of the set
-    listed-in : (i : ℕ) → from ≤ i → i < n → P (getD out′ i 0)
-    listed-in i a b = ⊎-elim (λ e. absurd (fresh (getD out′ i 0) (w .small i a b) e)) (λ p. p) (sound (getD out′ i 0) (w .small i a b) (w .marked i a b))
+    listed-in : (i : ℕ) → from ≤ i → i < n → P (getD lists′ i 0)
+    listed-in i a b = ⊎-elim (λ e. absurd (fresh (getD lists′ i 0) (w .small i a b) e)) (λ p. p) (sound (getD lists′ i 0) (w .small i a b) (w .marked i a b))
 
     -- the names in the slice are all different
-    listed-apart : Apart (map name (part out′ from n))
-    listed-apart = words-apart name out′ (n - from) from n refl fits
-        (λ i j a b c e. w .once i j a b c (distinct (getD out′ i 0) (getD out′ j 0) (small _ (listed-in i a (omega arith)) .0)
+    listed-apart : Apart (map name (part lists′ from n))
+    listed-apart = words-apart name lists′ (n - from) from n refl fits
+        (λ i j a b c e. w .once i j a b c (distinct (getD lists′ i 0) (getD lists′ j 0) (small _ (listed-in i a (omega arith)) .0)
         (small _ (listed-in j (omega arith) c) .0) e))
 
     -- how many names are in the slice
-    listed-length : from ≤ n → length (map name (part out′ from n)) ≡ n - from
-    listed-length l = length-map (part out′ from n) name ∙ part-length out′ from n fits
+    listed-length : from ≤ n → length (map name (part lists′ from n)) ≡ n - from
+    listed-length l = length-map (part lists′ from n) name ∙ part-length lists′ from n fits
 
     -- all names are in the slice
-    gathers-all : from ≤ n → n ≤ room → ((k : ℕ) → P k → name-mark names′ k ≡ mark) → Gathers name named set from room out′ (walks.Names n)
+    gathers-all : from ≤ n → n ≤ room → ((k : ℕ) → P k → name-mark names′ k ≡ mark) → Gathers name named set from room lists′ (walks.Names n)
     gathers-all l b all = all-names same (rw (← same) (omega (arith, apart-length listed-apart, listed-length l))) b (λ i a c. small _ (listed-in i a c) .0)
       where
-        same : from-list (map name (part out′ from n)) ≡ set
-        same = ascending-ext (ascending-from-list (map name (part out′ from n))) (s .is-set)
-            (λ x t. let (i, (a, c, e)) = map-place name out′ from n fits (mem-from-list x (map name (part out′ from n)) .0 t) in rw e
-            (s .into (getD out′ i 0) (listed-in i a c)))
+        same : from-list (map name (part lists′ from n)) ≡ set
+        same = ascending-ext (ascending-from-list (map name (part lists′ from n))) (s .is-set)
+            (λ x t. let (i, (a, c, e)) = map-place name lists′ from n fits (mem-from-list x (map name (part lists′ from n)) .0 t) in rw e
+            (s .into (getD lists′ i 0) (listed-in i a c)))
             (λ x t. let (k, (p, e)) = s .from x t in let (i, (a, c, q)) = w .place k (small k p .1) (all k p) in
-            mem-from-list x (map name (part out′ from n)) .1 (rw (e, ← q) (place-map name out′ from n i fits a c)))
+            mem-from-list x (map name (part lists′ from n)) .1 (rw (e, ← q) (place-map name lists′ from n i fits a c)))
 
     -- a name of the set is not in the slice, which is full
-    gathers-over : from ≤ n → room ≡ n → {k : ℕ} → P k → (name-mark names′ k ≡ mark → ⊥) → Gathers name named set from room out′ walks.Full
+    gathers-over : from ≤ n → room ≡ n → {k : ℕ} → P k → (name-mark names′ k ≡ mark → ⊥) → Gathers name named set from room lists′ walks.Full
     gathers-over l q {k} p new = no-room
-        (omega (arith, apart-length longer, listed-length l, subset-length (ascending-from-list (name k ∷ map name (part out′ from n))) (s .is-set) within))
-        (λ i a c. let m = listed-in i a (omega arith) in (small _ m .0, s .into (getD out′ i 0) m))
+        (omega (arith, apart-length longer, listed-length l, subset-length (ascending-from-list (name k ∷ map name (part lists′ from n))) (s .is-set) within))
+        (λ i a c. let m = listed-in i a (omega arith) in (small _ m .0, s .into (getD lists′ i 0) m))
       where
-        longer : Apart (name k ∷ map name (part out′ from n))
-        longer = more (λ t. let (i, (a, c, e)) = map-place name out′ from n fits t in
-            new (rw (distinct k (getD out′ i 0) (small k p .0) (small _ (listed-in i a c) .0) e) (w .marked i a c))) listed-apart
+        longer : Apart (name k ∷ map name (part lists′ from n))
+        longer = more (λ t. let (i, (a, c, e)) = map-place name lists′ from n fits t in
+            new (rw (distinct k (getD lists′ i 0) (small k p .0) (small _ (listed-in i a c) .0) e) (w .marked i a c))) listed-apart
 
-        within : (x : Name) → T (mem x (from-list (name k ∷ map name (part out′ from n)))) → T (mem x set)
+        within : (x : Name) → T (mem x (from-list (name k ∷ map name (part lists′ from n)))) → T (mem x set)
         within x t = ⊎-elim (λ e. rw e (s .into k p))
-            (λ m. let (i, (a, c, e)) = map-place name out′ from n fits m in rw e (s .into (getD out′ i 0) (listed-in i a c)))
-            (mem-cons x (name k) (map name (part out′ from n)) .0 (mem-from-list x (name k ∷ map name (part out′ from n)) .0 t))
+            (λ m. let (i, (a, c, e)) = map-place name lists′ from n fits m in rw e (s .into (getD lists′ i 0) (listed-in i a c)))
+            (mem-cons x (name k) (map name (part lists′ from n)) .0 (mem-from-list x (name k ∷ map name (part lists′ from n)) .0 t))
 
   -- what a walk of the set's names comes to
-  pub steps-gathers : {r : Walked} → Steps P names out names′ out′ mark from room r → Gathers name named set from room out′ r
+  pub steps-gathers : {r : Walked} → Steps P names lists names′ lists′ mark from room r → Gathers name named set from room lists′ r
   unfolding ended
   steps-gathers {r = walks.Names n} w =
-      gathers-all n (rw (w .out-same .same-length) (omega (arith, w .fits))) (w .listed from (omega arith) (start-listed fresh)) (w .sound) (w .grows)
+      gathers-all n (rw (w .lists-same .same-length) (omega (arith, w .fits))) (w .listed from (omega arith) (start-listed fresh)) (w .sound) (w .grows)
       (w .fits) (all (w .comes))
     where
       all : Comes P names′ mark (walks.Names n) → (k : ℕ) → P k → name-mark names′ k ≡ mark
       all (whole a) = a
   steps-gathers {r = walks.Full} w = go (w .comes)
     where
-      go : Comes P names′ mark walks.Full → Gathers name named set from room out′ walks.Full
-      go (over {k} p l new) = gathers-over room (rw (w .out-same .same-length) high) (w .listed from (omega arith) (start-listed fresh))
+      go : Comes P names′ mark walks.Full → Gathers name named set from room lists′ walks.Full
+      go (over {k} p l new) = gathers-over room (rw (w .lists-same .same-length) high) (w .listed from (omega arith) (start-listed fresh))
           (w .sound) low refl p new

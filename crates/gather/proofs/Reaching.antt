@@ -12,7 +12,7 @@ use Rattle.model.specs.Lists.{fold-left, part}
 use Rattle.model.proofs.ListLaws.{cond-case, fold-left-case}
 use Rattle.terms.specs.Rows.{row-kind, row-head, row-start, row-end, has-head, terms-of-words, Rows}
 use Rattle.names.specs.Table.{is-excluded}
-use Rattle.gather.specs.Visits.{Visit, start-visit, has, find, finish, visit-head, visit, visit-term, visit-list}
+use Rattle.gather.specs.Visits.{Visit, start-visit, has, find, finish, visit-head, visit-below, visit-term, visit-list}
 use Rattle.gather.specs.Walks.{Reached, itself, below}
 use Rattle.gather.proofs.Visiting.{has-in, term-place, place-term, row-fits, lower-in}
 
@@ -38,11 +38,11 @@ module _ (names : List ℕ) {refs rows : List ℕ} {used many named : ℕ} (room
 
     -- a walk comes to no other term than those that are reached
     only-visit : (depth : ℕ) (v : Visit) (t : ℕ) → t < many → ((u : ℕ) → Reached refs rows used many t u → Q u) → Only v
-        → Only (visit names refs rows used many room depth v t)
-    unfolding visit
+        → Only (visit-below names refs rows used many room depth v t)
+    unfolding visit-below
     only-visit zero v t l q p = p
     only-visit (suc depth) v t l q p = cond-case Only (v .full || has (v .walked) t) p (only-finish t _ (q t (itself refl))
-        (fold-left-case Only (visit names refs rows used many room depth) (terms-of-words (part refs (row-start rows t) (row-end rows used many t)))
+        (fold-left-case Only (visit-below names refs rows used many room depth) (terms-of-words (part refs (row-start rows t) (row-end rows used many t)))
         (λ w s m o. let d = lower-in r l m in let (i, (a, b, e)) = term-place refs (row-start rows t) (row-end rows used many t)
         (row-fits r l) m in only-visit depth w s (omega arith) (λ u z. q u (below {t = t} i a b (rw e z))) o)
         (rw (head-walked names refs rows used many room v t) p)))
@@ -97,9 +97,9 @@ module _ (names : List ℕ) {refs rows : List ℕ} {used many named : ℕ} (room
       done-then (h v t (List·Memᴰ·head refl) (d .going)) d
 
   -- a walk of a term that has not stopped
-  visit-done : (depth : ℕ) (v : Visit) (t : ℕ) → t < depth → t < many → visit names refs rows used many room depth v t .full ≡ false
-      → Done (t ∷ []) v (visit names refs rows used many room depth v t)
-  unfolding visit finish
+  visit-done : (depth : ℕ) (v : Visit) (t : ℕ) → t < depth → t < many → visit-below names refs rows used many room depth v t .full ≡ false
+      → Done (t ∷ []) v (visit-below names refs rows used many room depth v t)
+  unfolding visit-below finish
   visit-done zero v t h l g = absurd (not-suc-le-zero h)
   visit-done (suc depth) v t h l g = go (λ w s m. let k = lower-in r l m in visit-done depth w s (omega arith) (omega arith)) (v .full)
       (has (v .walked) t) refl refl g
@@ -114,12 +114,12 @@ module _ (names : List ℕ) {refs rows : List ℕ} {used many named : ℕ} (room
 
       -- and after these terms
       under : Visit
-      under = fold-left (visit names refs rows used many room depth) first ts
+      under = fold-left (visit-below names refs rows used many room depth) first ts
 
       -- the walks of the terms that it names
       Steps-done : Type 0
-      Steps-done = (w : Visit) (s : ℕ) → List·Memᴰ s ts → visit names refs rows used many room depth w s .full ≡ false
-          → Done (s ∷ []) w (visit names refs rows used many room depth w s)
+      Steps-done = (w : Visit) (s : ℕ) → List·Memᴰ s ts → visit-below names refs rows used many room depth w s .full ≡ false
+          → Done (s ∷ []) w (visit-below names refs rows used many room depth w s)
 
       -- the term is not walked yet
       finished : Steps-done → v .full ≡ false → (b : Bool) → under .full ≡ b
@@ -127,7 +127,7 @@ module _ (names : List ℕ) {refs rows : List ℕ} {used many named : ℕ} (room
           → Done (t ∷ []) v (cond b under (record { found = under .found; walked = under .walked ++ (t ∷ []); full = false }))
       finished h p true e g = absurd (true≢false (sym e ∙ g))
       finished h p false e g =
-          done-finish l p (head-walked names refs rows used many room v t) (fold-done (visit names refs rows used many room depth) ts h first e)
+          done-finish l p (head-walked names refs rows used many room v t) (fold-done (visit-below names refs rows used many room depth) ts h first e)
 
       -- it is walked, or was before
       go : Steps-done → (a b : Bool) → v .full ≡ a → has (v .walked) t ≡ b → cond (a || b) v (finish t under) .full ≡ false
@@ -146,8 +146,8 @@ module _ (names : List ℕ) {refs rows : List ℕ} {used many named : ℕ} (room
       → (u : ℕ) → List·Memᴰ u (visit-list names refs rows used many room ts .walked) ↔ ((t : ℕ) × (List·Memᴰ t ts × Reached refs rows used many t u))
   unfolding visit-list start-visit
   list-reached ts l g u =
-      let d = fold-done (visit names refs rows used many room many) ts (λ w s m. visit-done many w s (l s m) (l s m)) start-visit g in (
-        fold-left-case (Only (λ u. (t : ℕ) × (List·Memᴰ t ts × Reached refs rows used many t u))) (visit names refs rows used many room many) ts
+      let d = fold-done (visit-below names refs rows used many room many) ts (λ w s m. visit-done many w s (l s m) (l s m)) start-visit g in (
+        fold-left-case (Only (λ u. (t : ℕ) × (List·Memᴰ t ts × Reached refs rows used many t u))) (visit-below names refs rows used many room many) ts
             (λ w s m o. only-visit (λ u. (t : ℕ) × (List·Memᴰ t ts × Reached refs rows used many t u)) many w s (l s m) (λ u z. (s, (m, z))) o)
             (λ u m. absurd (List·Memᴰ·not-nil m)) u,
         λ (t, (m, z)). d .closed (λ s u n o. absurd (List·Memᴰ·not-nil n)) t u (d .all t m) z,

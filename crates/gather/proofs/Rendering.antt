@@ -17,8 +17,8 @@ use Rattle.terms.proofs.Groups.{terms-split, terms-more}
 use Rattle.words.specs.Slices.{Same-but}
 use Rattle.names.specs.Table.{is-excluded}
 use Rattle.gather.specs.Sets.{row-mark, name-mark, Fresh}
-use Rattle.gather.specs.Visits.{Visit, start-visit, has, find, finish, visit-head, visit, walk-answer, marked-at, put, Walks-as}
-use Rattle.gather.specs.Walks.{Heads, Ready, References, Part, head-part, term-part, list-part, Renders, Follows}
+use Rattle.gather.specs.Visits.{Visit, start-visit, has, find, finish, visit-head, visit-below, walk-answer, marked-at, put, Walks-as}
+use Rattle.gather.specs.Walks.{Heads, Walk-ready, References, Part, head-part, term-part, list-part, Renders, Follows}
 use Rattle.words.proofs.Slices.{same-back}
 use Rattle.gather.proofs.Walking.{excluded-same, kind-same, head-same, start-same, end-same, rows-marked}
 use Rattle.gather.proofs.Visiting.{marked-more, marked-same, marked-has, unmarked-has, put-more, fold-full, visit-parts}
@@ -44,7 +44,7 @@ answer-full from v e = go (v .full) refl e
     go true q e = q
     go false q e = let z : _≡_ {A = ℕ} 0 1 = cc in let n : ⊥ = omega arith in absurd n
 
-module _ {v : Visit} {names rows out names′ rows′ out′ : List ℕ} {mark from : ℕ} {r : Walked} (h : Renders v names rows out names′ rows′ out′ mark from r) where
+module _ {v : Visit} {names rows lists names′ rows′ lists′ : List ℕ} {mark from : ℕ} {r : Walked} (h : Renders v names rows lists names′ rows′ lists′ mark from r) where
   -- the names differ in marks alone
   names-as : Same-but 8192 2048 names names′
   names-as = rw (h .walk .name-words) (marked-same 8192 mark 2048 (v .found) names (h .found-small))
@@ -91,11 +91,11 @@ find-full : (room : ℕ) (v : Visit) (n : ℕ) → room ≤ length (v .found) �
 unfolding find
 find-full room v n h = rw (le-ltb (length (v .found)) room h)
 
-module _ {names rows out : List ℕ} {t count room : ℕ} (h : Heads names rows out t count room) (mark : ℕ) where
+module _ {names rows lists : List ℕ} {t count room : ℕ} (h : Heads names rows lists t count room) (mark : ℕ) where
   -- the row has no head
-  pub follow-none : has-head (row-kind rows t) ≡ false → Follows (head-part t) names rows out names rows out mark count room (walks.Names count)
+  pub follow-none : has-head (row-kind rows t) ≡ false → Follows (head-part t) names rows lists names rows lists mark count room (walks.Names count)
   follow-none e = record {
-    follows = λ {names₀} {rows₀} {out₀} {from} {v} w.
+    follows = λ {names₀} {rows₀} {lists₀} {from} {v} w.
         let k : has-head (row-kind rows₀ t) ≡ false = ap has-head (sym (kind-same (rows-as w) t (h .is-row))) ∙ e in
         rw (head-by names₀ rows₀ (room - from) v t (row-head rows₀ t) refl k refl refl) w;
   }
@@ -106,7 +106,7 @@ module _ {names rows out : List ℕ} {t count room : ℕ} (h : Heads names rows 
     small = rw is (h .head-small (true-T headed))
 
     -- the walk of the head by what the slices tell of it
-    head-told : {names₀ rows₀ out₀ : List ℕ} {from : ℕ} {v : Visit} {b c : Bool} → Renders v names₀ rows₀ out₀ names rows out mark from (walks.Names count)
+    head-told : {names₀ rows₀ lists₀ : List ℕ} {from : ℕ} {v : Visit} {b c : Bool} → Renders v names₀ rows₀ lists₀ names rows lists mark from (walks.Names count)
         → is-excluded names n ≡ b → has (v .found) n ≡ c → head-part t names₀ rows₀ (room - from) v ≡ cond (not b && not c) (find (room - from) v n) v
     head-told {names₀} {rows₀} {from} {v} w p q =
         let s = small in
@@ -114,17 +114,17 @@ module _ {names rows out : List ℕ} {t count room : ℕ} (h : Heads names rows 
         (sym (excluded-same (names-as w) n s) ∙ p) q
 
     -- the head does not count
-    pub follow-excluded : is-excluded names n ≡ true → Follows (head-part t) names rows out names rows out mark count room (walks.Names count)
+    pub follow-excluded : is-excluded names n ≡ true → Follows (head-part t) names rows lists names rows lists mark count room (walks.Names count)
     follow-excluded e = record { follows = λ w. rw (head-told w e refl) w }
 
     module _ (counted : is-excluded names n ≡ false) where
       -- the head is there already
-      pub follow-found : name-mark names n ≡ mark → Follows (head-part t) names rows out names rows out mark count room (walks.Names count)
+      pub follow-found : name-mark names n ≡ mark → Follows (head-part t) names rows lists names rows lists mark count room (walks.Names count)
       follow-found e = record { follows = λ w. rw (head-told w counted (found-true w n small e)) w }
 
       module _ (new : name-mark names n ≡ mark → ⊥) where
         -- there is no room for the head
-        pub follow-over : room ≤ count → Follows (head-part t) names rows out names rows out mark count room walks.Full
+        pub follow-over : room ≤ count → Follows (head-part t) names rows lists names rows lists mark count room walks.Full
         unfolding walk-answer
         follow-over e = record {
           follows = λ {from} {v} w.
@@ -132,18 +132,18 @@ module _ {names rows out : List ℕ} {t count room : ℕ} (h : Heads names rows 
               rw (head-told w counted (found-false w n small (h .name-room) new) ∙ find-full (room - from) v n (omega arith))
               (record {
                 new = w .new;
-                walk = record { answer = refl; name-words = w .walk .name-words; row-words = w .walk .row-words; out-words = w .walk .out-words };
+                walk = record { answer = refl; name-words = w .walk .name-words; row-words = w .walk .row-words; lists-words = w .walk .lists-words };
                 found-small = w .found-small;
                 walked-small = w .walked-small;
               });
         }
 
         -- the head is added
-        pub follow-added : count < room → Follows (head-part t) names rows out (set names (8192 + n) mark) rows (set out count n) mark count room
+        pub follow-added : count < room → Follows (head-part t) names rows lists (set names (8192 + n) mark) rows (set lists count n) mark count room
             (walks.Names (count + 1))
         unfolding walk-answer
         follow-added e = record {
-          follows = λ {names₀} {rows₀} {out₀} {from} {v} w.
+          follows = λ {names₀} {rows₀} {lists₀} {from} {v} w.
               let (going, ends) = answer-names from v (w .walk .answer) in
               let more : count + 1 ≡ from + length (v .found ++ (n ∷ [])) = simp length-append (omega arith) in
               rw (head-told w counted (found-false w n small (h .name-room) new) ∙ find-more (room - from) v n (omega arith))
@@ -153,7 +153,7 @@ module _ {names rows out : List ℕ} {t count room : ℕ} (h : Heads names rows 
                   answer = ap walks.Names more;
                   name-words = rw (w .walk .name-words) (sym (marked-more 8192 mark (v .found) n names₀));
                   row-words = w .walk .row-words;
-                  out-words = rw (w .walk .out-words, ends) (sym (put-more from (v .found) n out₀));
+                  lists-words = rw (w .walk .lists-words, ends) (sym (put-more from (v .found) n lists₀));
                 };
                 found-small = λ m i. ⊎-elim (w .found-small m) (λ j. let q : m ≡ n = List·Memᴰ·eq-of-singleton j in rw q small)
                     (List·Memᴰ·append-cases (v .found) i);
@@ -168,26 +168,26 @@ abbrev both : Part → Part → Part
 both f g names rows room v = g names rows room (f names rows room v)
 
 -- one part after another
-follows-then : {f g : Part} {names rows out names′ rows′ out′ names″ rows″ out″ : List ℕ} {mark count n room : ℕ} {r : Walked}
-    → Follows f names rows out names′ rows′ out′ mark count room (walks.Names n) → Follows g names′ rows′ out′ names″ rows″ out″ mark n room r
-    → Follows (both f g) names rows out names″ rows″ out″ mark count room r
+follows-then : {f g : Part} {names rows lists names′ rows′ lists′ names″ rows″ lists″ : List ℕ} {mark count n room : ℕ} {r : Walked}
+    → Follows f names rows lists names′ rows′ lists′ mark count room (walks.Names n) → Follows g names′ rows′ lists′ names″ rows″ lists″ mark n room r
+    → Follows (both f g) names rows lists names″ rows″ lists″ mark count room r
 follows-then x y = record { follows = λ w. y .follows (x .follows w) }
 
 -- an answer that was taken apart
-pub follows-is : {f : Part} {names rows out names′ rows′ out′ : List ℕ} {mark count room : ℕ} {r r′ : Walked} → r ≡ r′
-    → Follows f names rows out names′ rows′ out′ mark count room r → Follows f names rows out names′ rows′ out′ mark count room r′
+pub follows-is : {f : Part} {names rows lists names′ rows′ lists′ : List ℕ} {mark count room : ℕ} {r r′ : Walked} → r ≡ r′
+    → Follows f names rows lists names′ rows′ lists′ mark count room r → Follows f names rows lists names′ rows′ lists′ mark count room r′
 follows-is e w = rw e at w
 
 -- a part under a new mark is the walk
-pub follows-start : {f : Part} {names rows out names′ rows′ out′ : List ℕ} {mark from room : ℕ} {r : Walked} → Fresh names rows mark
-    → Follows f names rows out names′ rows′ out′ mark from room r
-    → Walks-as (f names rows (room - from) start-visit) names rows out names′ rows′ out′ mark from r
+pub follows-start : {f : Part} {names rows lists names′ rows′ lists′ : List ℕ} {mark from room : ℕ} {r : Walked} → Fresh names rows mark
+    → Follows f names rows lists names′ rows′ lists′ mark from room r
+    → Walks-as (f names rows (room - from) start-visit) names rows lists names′ rows′ lists′ mark from r
 unfolding start-visit walk-answer marked-at put fold-left
 follows-start {from} new w =
     let z : from ≡ from + 0 = omega arith in
     w .follows (record {
       new = new;
-      walk = record { answer = ap walks.Names z; name-words = refl; row-words = refl; out-words = refl };
+      walk = record { answer = ap walks.Names z; name-words = refl; row-words = refl; lists-words = refl };
       found-small = λ n i. absurd (List·Memᴰ·not-nil i);
       walked-small = λ n i. absurd (List·Memᴰ·not-nil i);
     }) .walk
@@ -204,8 +204,8 @@ finish-more : (t : ℕ) (v : Visit) → v .full ≡ false → finish t v ≡ rec
 unfolding finish
 finish-more t v h = rw h
 
-module _ {names refs rows out : List ℕ} {used many mark count room t : ℕ} (h : Ready names refs rows out used many mark count room) (l : t < many) where
-  module _ {names₀ rows₀ out₀ : List ℕ} {from : ℕ} {v : Visit} (w : Renders v names₀ rows₀ out₀ names rows out mark from (walks.Names count)) where
+module _ {names refs rows lists : List ℕ} {used many mark count room t : ℕ} (h : Walk-ready names refs rows lists used many mark count room) (l : t < many) where
+  module _ {names₀ rows₀ lists₀ : List ℕ} {from : ℕ} {v : Visit} (w : Renders v names₀ rows₀ lists₀ names rows lists mark from (walks.Names count)) where
     -- the rows before the walk are a table
     table₀ : Rows refs rows₀ used many 2048
     table₀ = rows-marked (same-back (rows-as w)) (h .table)
@@ -235,30 +235,30 @@ module _ {names refs rows out : List ℕ} {used many mark count room t : ℕ} (h
         )
 
   -- a term with the mark
-  pub follow-there : row-mark rows t ≡ mark → Follows (term-part refs used many t) names rows out names rows out mark count room (walks.Names count)
+  pub follow-there : row-mark rows t ≡ mark → Follows (term-part refs used many t) names rows lists names rows lists mark count room (walks.Names count)
   follow-there e = record { follows = λ w. rw (term-there w e) w }
 
   module _ {a e : ℕ} (new : row-mark rows t ≡ mark → ⊥) (p : a ≡ row-start rows t) (q : e ≡ row-end rows used many t) where
     -- there is no room for one of the names
-    term-stop : {names′ rows′ out′ : List ℕ} → Follows (both (head-part t)
-        (list-part refs used many a e)) names rows out names′ rows′ out′ mark count room walks.Full
-        → Follows (term-part refs used many t) names rows out names′ rows′ out′ mark count room walks.Full
+    term-stop : {names′ rows′ lists′ : List ℕ} → Follows (both (head-part t)
+        (list-part refs used many a e)) names rows lists names′ rows′ lists′ mark count room walks.Full
+        → Follows (term-part refs used many t) names rows lists names′ rows′ lists′ mark count room walks.Full
     term-stop x = record {
       follows = λ {from} w. let y = x .follows w in rw (term-open w new p q ∙ finish-full t _ (answer-full from _ (y .walk .answer))) y;
     }
 
-    module _ {names′ out′ names″ rows″ out″ : List ℕ} {n : ℕ} (x : Follows (head-part t) names rows out names′ rows out′ mark count room (walks.Names n)) where
+    module _ {names′ lists′ names″ rows″ lists″ : List ℕ} {n : ℕ} (x : Follows (head-part t) names rows lists names′ rows lists′ mark count room (walks.Names n)) where
       -- there is no room for a name of the terms that it names
-      pub follow-list-full : Follows (list-part refs used many a e) names′ rows out′ names″ rows″ out″ mark n room walks.Full
-          → Follows (term-part refs used many t) names rows out names″ rows″ out″ mark count room walks.Full
+      pub follow-list-full : Follows (list-part refs used many a e) names′ rows lists′ names″ rows″ lists″ mark n room walks.Full
+          → Follows (term-part refs used many t) names rows lists names″ rows″ lists″ mark count room walks.Full
       follow-list-full y = term-stop (follows-then x y)
 
       -- the term is marked
-      pub follow-marked : {m : ℕ} → Follows (list-part refs used many a e) names′ rows out′ names″ rows″ out″ mark n room (walks.Names m)
-          → Follows (term-part refs used many t) names rows out names″ (set rows″ (12288 + t) mark) out″ mark count room (walks.Names m)
+      pub follow-marked : {m : ℕ} → Follows (list-part refs used many a e) names′ rows lists′ names″ rows″ lists″ mark n room (walks.Names m)
+          → Follows (term-part refs used many t) names rows lists names″ (set rows″ (12288 + t) mark) lists″ mark count room (walks.Names m)
       unfolding walk-answer
       follow-marked y = record {
-        follows = λ {names₀} {rows₀} {out₀} {from} {v} w.
+        follows = λ {names₀} {rows₀} {lists₀} {from} {v} w.
             let z = follows-then x y .follows w in
             let u : Visit = both (head-part t) (list-part refs used many a e) names₀ rows₀ (room - from) v in
             let (going, ends) = answer-names from u (z .walk .answer) in
@@ -269,7 +269,7 @@ module _ {names refs rows out : List ℕ} {used many mark count room t : ℕ} (h
                 answer = ap walks.Names ends;
                 name-words = z .walk .name-words;
                 row-words = rw (z .walk .row-words) (sym (marked-more 12288 mark (u .walked) t rows₀));
-                out-words = z .walk .out-words;
+                lists-words = z .walk .lists-words;
               };
               found-small = z .found-small;
               walked-small = λ s i. ⊎-elim (z .walked-small s) (λ j. let q : s ≡ t = List·Memᴰ·eq-of-singleton j in rw q (is-row w))
@@ -278,12 +278,12 @@ module _ {names refs rows out : List ℕ} {used many mark count room t : ℕ} (h
       }
 
   -- there is no room for the head
-  pub follow-head-full : {names′ out′ : List ℕ} → (row-mark rows t ≡ mark → ⊥)
-      → Follows (head-part t) names rows out names′ rows out′ mark count room walks.Full
-      → Follows (term-part refs used many t) names rows out names′ rows out′ mark count room walks.Full
+  pub follow-head-full : {names′ lists′ : List ℕ} → (row-mark rows t ≡ mark → ⊥)
+      → Follows (head-part t) names rows lists names′ rows lists′ mark count room walks.Full
+      → Follows (term-part refs used many t) names rows lists names′ rows lists′ mark count room walks.Full
   unfolding list-part
   follow-head-full new x = term-stop new refl refl (record {
-    follows = λ {names₀} {rows₀} {out₀} {from} {v} w.
+    follows = λ {names₀} {rows₀} {lists₀} {from} {v} w.
         let y = x .follows w in
         let u : Visit = head-part t names₀ rows₀ (room - from) v in
         rw (fold-full names₀ refs rows₀ used many (room - from) many u (terms-of-words (part refs (row-start rows t) (row-end rows used many t)))
@@ -293,54 +293,54 @@ module _ {names refs rows out : List ℕ} {used many mark count room t : ℕ} (h
 -- ---- a list
 
 -- no term
-pub follow-nil : (refs : List ℕ) (used many a : ℕ) {names rows out : List ℕ} {mark count room : ℕ}
-    → Follows (list-part refs used many a a) names rows out names rows out mark count room (walks.Names count)
+pub follow-nil : (refs : List ℕ) (used many a : ℕ) {names rows lists : List ℕ} {mark count room : ℕ}
+    → Follows (list-part refs used many a a) names rows lists names rows lists mark count room (walks.Names count)
 unfolding list-part terms-of-words fold-left
 follow-nil refs used many a = record { follows = λ w. rw (part-nil refs a a (omega arith)) w }
 
-module _ {names refs rows out : List ℕ} {used many mark count room a e i : ℕ} (h : Ready names refs rows out used many mark count room)
+module _ {names refs rows lists : List ℕ} {used many mark count room a e i : ℕ} (h : Walk-ready names refs rows lists used many mark count room)
     (g : References refs used many a e) (low : a ≤ i) (high : i < e) where
   -- the list is in the slice
   fits : e ≤ length refs
   fits = omega (arith, g .in-use, h .table .ref-room, h .table .few-references)
 
   -- the terms up to one place and the term there are those up to the next
-  pub follow-next : {names′ rows′ out′ names″ rows″ out″ : List ℕ} {n t : ℕ} {r : Walked} → t ≡ getD refs i 0 % 4096
-      → Follows (list-part refs used many a i) names rows out names′ rows′ out′ mark count room (walks.Names n)
-      → Follows (term-part refs used many t) names′ rows′ out′ names″ rows″ out″ mark n room r
-      → Follows (list-part refs used many a (i + 1)) names rows out names″ rows″ out″ mark count room r
+  pub follow-next : {names′ rows′ lists′ names″ rows″ lists″ : List ℕ} {n t : ℕ} {r : Walked} → t ≡ getD refs i 0 % 4096
+      → Follows (list-part refs used many a i) names rows lists names′ rows′ lists′ mark count room (walks.Names n)
+      → Follows (term-part refs used many t) names′ rows′ lists′ names″ rows″ lists″ mark n room r
+      → Follows (list-part refs used many a (i + 1)) names rows lists names″ rows″ lists″ mark count room r
   unfolding list-part term-part fold-left
   follow-next is x y = record {
-    follows = λ {names₀} {rows₀} {out₀} {from} {v} w.
+    follows = λ {names₀} {rows₀} {lists₀} {from} {v} w.
         let long = fits in
         rw (
           terms-more refs a i low (omega arith),
-          fold-left-append (visit names₀ refs rows₀ used many (room - from) many) v (terms-of-words (part refs a i)) (getD refs i 0 % 4096 ∷ []),
+          fold-left-append (visit-below names₀ refs rows₀ used many (room - from) many) v (terms-of-words (part refs a i)) (getD refs i 0 % 4096 ∷ []),
           ← is,
         ) (follows-then x y .follows w);
   }
 
   -- where there is no room for the terms up to a place there is none for the list's
-  pub follow-stop : {names′ rows′ out′ : List ℕ} → Follows (list-part refs used many a (i + 1)) names rows out names′ rows′ out′ mark count room walks.Full
-      → Follows (list-part refs used many a e) names rows out names′ rows′ out′ mark count room walks.Full
+  pub follow-stop : {names′ rows′ lists′ : List ℕ} → Follows (list-part refs used many a (i + 1)) names rows lists names′ rows′ lists′ mark count room walks.Full
+      → Follows (list-part refs used many a e) names rows lists names′ rows′ lists′ mark count room walks.Full
   unfolding list-part
   follow-stop x = record {
-    follows = λ {names₀} {rows₀} {out₀} {from} {v} w.
+    follows = λ {names₀} {rows₀} {lists₀} {from} {v} w.
         let y = x .follows w in
-        let u : Visit = fold-left (visit names₀ refs rows₀ used many (room - from) many) v (terms-of-words (part refs a (i + 1))) in
+        let u : Visit = fold-left (visit-below names₀ refs rows₀ used many (room - from) many) v (terms-of-words (part refs a (i + 1))) in
         rw (
           terms-split refs a (i + 1) e (omega arith) (omega arith) fits,
-          fold-left-append (visit names₀ refs rows₀ used many (room - from) many) v (terms-of-words (part refs a (i + 1)))
+          fold-left-append (visit-below names₀ refs rows₀ used many (room - from) many) v (terms-of-words (part refs a (i + 1)))
               (terms-of-words (part refs (i + 1) e)),
           fold-full names₀ refs rows₀ used many (room - from) many u (terms-of-words (part refs (i + 1) e)) (answer-full from u (y .walk .answer)),
         ) y;
   }
 
 -- the terms up to the end are the list's
-pub follow-end : {refs : List ℕ} {used many a i e : ℕ} {names rows out names′ rows′ out′ : List ℕ} {mark count room : ℕ} {r : Walked}
+pub follow-end : {refs : List ℕ} {used many a i e : ℕ} {names rows lists names′ rows′ lists′ : List ℕ} {mark count room : ℕ} {r : Walked}
     → References refs used many a e → i ≤ e → e ≤ i
-    → Follows (list-part refs used many a i) names rows out names′ rows′ out′ mark count room r
-    → Follows (list-part refs used many a e) names rows out names′ rows′ out′ mark count room r
+    → Follows (list-part refs used many a i) names rows lists names′ rows′ lists′ mark count room r
+    → Follows (list-part refs used many a e) names rows lists names′ rows′ lists′ mark count room r
 follow-end {i} {e} g l k x =
     let q : i ≡ e = omega arith in
     rw q at x

@@ -16,7 +16,7 @@ use Rattle.model.proofs.PartLaws.{part-elim, part-intro}
 use Rattle.terms.specs.Rows.{row-start, row-end, terms-of-words, Rows}
 use Rattle.terms.proofs.Laws.{equal}
 use Rattle.words.specs.Slices.{Same-but}
-use Rattle.gather.specs.Visits.{Visit, has, finish, visit-head, visit, marked-at, put}
+use Rattle.gather.specs.Visits.{Visit, has, finish, visit-head, visit-below, marked-at, put}
 use Rattle.words.proofs.Slices.{same-self, same-then, same-set}
 
 -- ---- numbers of a list
@@ -128,13 +128,13 @@ module _ {refs rows : List ℕ} {used many named : ℕ} (r : Rows refs rows used
 
 module _ (names refs rows : List ℕ) (used many room : ℕ) where
   -- a walk that has stopped goes on no more
-  pub visit-full : (depth : ℕ) (v : Visit) (t : ℕ) → v .full ≡ true → visit names refs rows used many room depth v t ≡ v
-  unfolding visit
+  pub visit-full : (depth : ℕ) (v : Visit) (t : ℕ) → v .full ≡ true → visit-below names refs rows used many room depth v t ≡ v
+  unfolding visit-below
   visit-full zero v t h = refl
   visit-full (suc depth) v t h = rw h
 
   -- nor over a list
-  pub fold-full : (depth : ℕ) (v : Visit) (ts : List ℕ) → v .full ≡ true → fold-left (visit names refs rows used many room depth) v ts ≡ v
+  pub fold-full : (depth : ℕ) (v : Visit) (ts : List ℕ) → v .full ≡ true → fold-left (visit-below names refs rows used many room depth) v ts ≡ v
   unfolding fold-left
   fold-full depth v [] h = refl
   fold-full depth v (t ∷ ts) h = rw (visit-full depth v t h) (fold-full depth v ts h)
@@ -142,21 +142,21 @@ module _ (names refs rows : List ℕ) (used many room : ℕ) where
   module _ {named : ℕ} (r : Rows refs rows used many named) where
     -- any depth above a term is as good
     pub visit-depth : (n m : ℕ) (v : Visit) (t : ℕ) → t < n → t < m → t < many
-        → visit names refs rows used many room n v t ≡ visit names refs rows used many room m v t
-    unfolding visit
+        → visit-below names refs rows used many room n v t ≡ visit-below names refs rows used many room m v t
+    unfolding visit-below
     visit-depth zero m v t h k l = absurd (not-suc-le-zero h)
     visit-depth (suc n) zero v t h k l = absurd (not-suc-le-zero k)
     visit-depth (suc n) (suc m) v t h k l =
         ap (λ w. cond (v .full || has (v .walked) t) v (finish t w))
-        (fold-cong (visit names refs rows used many room n) (visit names refs rows used many room m)
+        (fold-cong (visit-below names refs rows used many room n) (visit-below names refs rows used many room m)
         (terms-of-words (part refs (row-start rows t) (row-end rows used many t)))
         (λ w u i. let d = lower-in r l i in visit-depth n m w u (omega arith) (omega arith) (omega arith)) (visit-head names refs rows used many room v t))
 
     -- the walk of a term by its parts, all at one depth
-    pub visit-parts : (v : Visit) (t : ℕ) → t < many → visit names refs rows used many room many v t
-        ≡ cond (v .full || has (v .walked) t) v (finish t (fold-left (visit names refs rows used many room many)
+    pub visit-parts : (v : Visit) (t : ℕ) → t < many → visit-below names refs rows used many room many v t
+        ≡ cond (v .full || has (v .walked) t) v (finish t (fold-left (visit-below names refs rows used many room many)
         (visit-head names refs rows used many room v t) (terms-of-words (part refs (row-start rows t) (row-end rows used many t)))))
-    unfolding visit
+    unfolding visit-below
     visit-parts v t l = visit-depth many (suc many) v t l (omega arith) l
 
 -- ---- the words of references, one after the other

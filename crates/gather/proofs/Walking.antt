@@ -16,7 +16,7 @@ use Rattle.words.specs.Slices.{Same-but}
 use Rattle.names.specs.Table.{is-excluded}
 use Rattle.names.proofs.Excluded.{excluded-kept}
 use Rattle.gather.specs.Sets.{row-mark, name-mark, ended}
-use Rattle.gather.specs.Walks.{Occurs, own, under, Counted, Own, Free, Among, Heads, Closed, Ready, References, Comes, whole, Steps, Walks}
+use Rattle.gather.specs.Walks.{Occurs, own, under, Name-counts, Own, Free, Among, Heads, Marks-closed, Walk-ready, References, Comes, whole, Steps, Walks}
 use Rattle.terms.proofs.Laws.{equal}
 use Rattle.words.proofs.Slices.{same-self, same-back, same-then, same-set}
 use Rattle.gather.proofs.Steps.{steps-stay, steps-kept, steps-as, steps-full, steps-then}
@@ -112,7 +112,7 @@ pub excluded-same : {names names′ : List ℕ} → Same-but 8192 2048 names nam
 excluded-same {names} {names′} s = excluded-kept names names′ (λ i h. s .same-words i (λ a b. omega arith))
 
 -- a name that counts does so with other marks too
-pub counted-same : {names names′ : List ℕ} {k : ℕ} → Same-but 8192 2048 names names′ → Counted names k → Counted names′ k
+pub counted-same : {names names′ : List ℕ} {k : ℕ} → Same-but 8192 2048 names names′ → Name-counts names k → Name-counts names′ k
 counted-same {k} s c = record { small = c .small; counted = excluded-same s k (c .small) ∙ c .counted }
 
 module _ {names names′ refs rows rows′ : List ℕ} {used many named : ℕ} (n : Same-but 8192 2048 names names′) (s : Same-but 12288 4096 rows rows′)
@@ -131,15 +131,15 @@ references-of {t} r l p q = rw (p, q) (record { in-order = r .in-order t l; in-u
 -- a longer count of marks leaves the marked terms closed
 closed-more : {names names′ refs rows : List ℕ} {used many mark : ℕ} → Rows refs rows used many 2048 → Same-but 8192 2048 names names′
     → ((k : ℕ) → k < 2048 → name-mark names k ≡ mark → name-mark names′ k ≡ mark)
-    → Closed names refs rows used many mark → Closed names′ refs rows used many mark
+    → Marks-closed names refs rows used many mark → Marks-closed names′ refs rows used many mark
 closed-more {rows} r s kept c = record {
   marked = λ t k l e f. kept k (f .counts .small) (c .marked t k l e (free-same (same-back s) (same-self 12288 4096 rows) r l f));
 }
 
 -- a change of names alone is a walk
-pub walks-names : {P : ℕ → Type 0} {names refs rows out names′ out′ : List ℕ} {used many mark count room : ℕ} {r : Walked}
-    → Ready names refs rows out used many mark count room → Steps P names out names′ out′ mark count room r
-    → Walks P names refs rows out names′ rows out′ used many mark count room r
+pub walks-names : {P : ℕ → Type 0} {names refs rows lists names′ lists′ : List ℕ} {used many mark count room : ℕ} {r : Walked}
+    → Walk-ready names refs rows lists used many mark count room → Steps P names lists names′ lists′ mark count room r
+    → Walks P names refs rows lists names′ rows lists′ used many mark count room r
 walks-names {rows} h s = record {
   steps = s;
   rows-same = same-self 12288 4096 rows;
@@ -148,45 +148,45 @@ walks-names {rows} h s = record {
 }
 
 -- a term with the mark adds nothing
-pub walks-there : {names refs rows out : List ℕ} {used many mark count room t : ℕ} → Ready names refs rows out used many mark count room → t < many
+pub walks-there : {names refs rows lists : List ℕ} {used many mark count room t : ℕ} → Walk-ready names refs rows lists used many mark count room → t < many
     → row-mark rows t ≡ mark
-    → Walks (Free names refs rows used many t) names refs rows out names rows out used many mark count room (walks.Names count)
+    → Walks (Free names refs rows used many t) names refs rows lists names rows lists used many mark count room (walks.Names count)
 walks-there {t} h l e = walks-names h (steps-stay (h .low) (λ k f. h .closed .marked t k l e f))
 
 -- no term adds nothing
-pub walks-none : {names refs rows out : List ℕ} {used many mark count room a : ℕ} → Ready names refs rows out used many mark count room
-    → Walks (Among names refs rows used many a a) names refs rows out names rows out used many mark count room (walks.Names count)
+pub walks-none : {names refs rows lists : List ℕ} {used many mark count room a : ℕ} → Walk-ready names refs rows lists used many mark count room
+    → Walks (Among names refs rows used many a a) names refs rows lists names rows lists used many mark count room (walks.Names count)
 walks-none h = walks-names h (steps-stay (h .low) (λ k m. let l = m .low in let g = m .high in omega arith))
 
 -- the slices after a walk are ready for another
-pub ready-then : {P : ℕ → Type 0} {names refs rows out names′ rows′ out′ : List ℕ} {used many mark count room n : ℕ}
-    → Ready names refs rows out used many mark count room → Walks P names refs rows out names′ rows′ out′ used many mark count room (walks.Names n)
-    → Ready names′ refs rows′ out′ used many mark n room
+pub ready-then : {P : ℕ → Type 0} {names refs rows lists names′ rows′ lists′ : List ℕ} {used many mark count room n : ℕ}
+    → Walk-ready names refs rows lists used many mark count room → Walks P names refs rows lists names′ rows′ lists′ used many mark count room (walks.Names n)
+    → Walk-ready names′ refs rows′ lists′ used many mark n room
 unfolding ended
 ready-then h w = record {
   table = rows-marked (w .rows-same) (h .table);
   name-room = rw (w .steps .names-same .same-length) (h .name-room);
   closed = w .closed;
   low = w .steps .fits;
-  high = rw (w .steps .out-same .same-length) (h .high);
+  high = rw (w .steps .lists-same .same-length) (h .high);
 }
 
-module _ {P Q : ℕ → Type 0} {names refs rows out names′ rows′ out′ : List ℕ} {used many mark count room : ℕ} where
+module _ {P Q : ℕ → Type 0} {names refs rows lists names′ rows′ lists′ : List ℕ} {used many mark count room : ℕ} where
   -- where there is no room for a set there is none for a larger one
-  pub walks-full : ((k : ℕ) → P k → Q k) → Walks P names refs rows out names′ rows′ out′ used many mark count room walks.Full
-      → Walks Q names refs rows out names′ rows′ out′ used many mark count room walks.Full
+  pub walks-full : ((k : ℕ) → P k → Q k) → Walks P names refs rows lists names′ rows′ lists′ used many mark count room walks.Full
+      → Walks Q names refs rows lists names′ rows′ lists′ used many mark count room walks.Full
   walks-full f w = record { steps = steps-full f (w .steps); rows-same = w .rows-same; row-marks = w .row-marks; closed = w .closed }
 
   -- the same of a set with the same names
-  pub walks-as : {r : Walked} → ((k : ℕ) → P k → Q k) → ((k : ℕ) → Q k → P k) → Walks P names refs rows out names′ rows′ out′ used many mark count room r
-      → Walks Q names refs rows out names′ rows′ out′ used many mark count room r
+  pub walks-as : {r : Walked} → ((k : ℕ) → P k → Q k) → ((k : ℕ) → Q k → P k) → Walks P names refs rows lists names′ rows′ lists′ used many mark count room r
+      → Walks Q names refs rows lists names′ rows′ lists′ used many mark count room r
   walks-as f g w = record { steps = steps-as f g (w .steps); rows-same = w .rows-same; row-marks = w .row-marks; closed = w .closed }
 
   -- one walk after another
-  pub walks-then : {names″ rows″ out″ : List ℕ} {n : ℕ} {r : Walked} → ((k : ℕ) → P k → k < 2048)
-      → Walks P names refs rows out names′ rows′ out′ used many mark count room (walks.Names n)
-      → Walks Q names′ refs rows′ out′ names″ rows″ out″ used many mark n room r
-      → Walks (λ k. P k ⊎ Q k) names refs rows out names″ rows″ out″ used many mark count room r
+  pub walks-then : {names″ rows″ lists″ : List ℕ} {n : ℕ} {r : Walked} → ((k : ℕ) → P k → k < 2048)
+      → Walks P names refs rows lists names′ rows′ lists′ used many mark count room (walks.Names n)
+      → Walks Q names′ refs rows′ lists′ names″ rows″ lists″ used many mark n room r
+      → Walks (λ k. P k ⊎ Q k) names refs rows lists names″ rows″ lists″ used many mark count room r
   walks-then b v w = record {
     steps = steps-then b (v .steps) (w .steps);
     rows-same = same-then (v .rows-same) (w .rows-same);
@@ -199,11 +199,11 @@ comes-whole : {P : ℕ → Type 0} {names : List ℕ} {mark n : ℕ} → Comes P
 comes-whole (whole a) = a
 
 -- the terms up to one place and the term there are those up to the next
-pub walks-next : {names refs rows out names′ rows′ out′ names″ rows″ out″ : List ℕ} {used many mark count room n a e i t : ℕ} {r : Walked}
-    → Ready names refs rows out used many mark count room → References refs used many a e → a ≤ i → i < e → t ≡ getD refs i 0 % 4096
-    → Walks (Among names refs rows used many a i) names refs rows out names′ rows′ out′ used many mark count room (walks.Names n)
-    → Walks (Free names′ refs rows′ used many t) names′ refs rows′ out′ names″ rows″ out″ used many mark n room r
-    → Walks (Among names refs rows used many a (i + 1)) names refs rows out names″ rows″ out″ used many mark count room r
+pub walks-next : {names refs rows lists names′ rows′ lists′ names″ rows″ lists″ : List ℕ} {used many mark count room n a e i t : ℕ} {r : Walked}
+    → Walk-ready names refs rows lists used many mark count room → References refs used many a e → a ≤ i → i < e → t ≡ getD refs i 0 % 4096
+    → Walks (Among names refs rows used many a i) names refs rows lists names′ rows′ lists′ used many mark count room (walks.Names n)
+    → Walks (Free names′ refs rows′ used many t) names′ refs rows′ lists′ names″ rows″ lists″ used many mark n room r
+    → Walks (Among names refs rows used many a (i + 1)) names refs rows lists names″ rows″ lists″ used many mark count room r
 walks-next {names} {refs} {rows} {names′} {rows′} {used} {many} {a} {e} {i} {t} h g low high is v w =
     walks-as f b (walks-then (λ k m. m .free .counts .small) v w)
   where
@@ -227,11 +227,11 @@ walks-next {names} {refs} {rows} {names′} {rows′} {used} {many} {a} {e} {i} 
         (equal (m .place) i)
 
 -- the head of a term and the terms that it names are the term
-pub walks-term : {names refs rows out names′ out′ names″ rows″ out″ : List ℕ} {used many mark count room n t a e : ℕ} {r : Walked}
-    → Ready names refs rows out used many mark count room → a ≡ row-start rows t → e ≡ row-end rows used many t
-    → Steps (Own names rows t) names out names′ out′ mark count room (walks.Names n)
-    → Walks (Among names′ refs rows used many a e) names′ refs rows out′ names″ rows″ out″ used many mark n room r
-    → Walks (Free names refs rows used many t) names refs rows out names″ rows″ out″ used many mark count room r
+pub walks-term : {names refs rows lists names′ lists′ names″ rows″ lists″ : List ℕ} {used many mark count room n t a e : ℕ} {r : Walked}
+    → Walk-ready names refs rows lists used many mark count room → a ≡ row-start rows t → e ≡ row-end rows used many t
+    → Steps (Own names rows t) names lists names′ lists′ mark count room (walks.Names n)
+    → Walks (Among names′ refs rows used many a e) names′ refs rows lists′ names″ rows″ lists″ used many mark n room r
+    → Walks (Free names refs rows used many t) names refs rows lists names″ rows″ lists″ used many mark count room r
 walks-term {names} {refs} {rows} {names′} {used} {many} {t} {a} {e} h p q v w =
     walks-as f b (walks-then (λ k m. m .counts .small) (walks-names h v) w)
   where
@@ -246,7 +246,7 @@ walks-term {names} {refs} {rows} {names′} {used} {many} {t} {a} {e} h p q v w 
           (m .free .counts);
     }
 
-    split : {k : ℕ} → Occurs refs rows used many t k → Counted names k → Own names rows t k ⊎ Among names′ refs rows used many a e k
+    split : {k : ℕ} → Occurs refs rows used many t k → Name-counts names k → Own names rows t k ⊎ Among names′ refs rows used many a e k
     split (own x y) c = inl (record { headed = x; is = y; counts = c })
     split (under i x y o) c = inr (record { place = i; low = rw p x; high = rw q y; free = record { occurs = o; counts = counted-same n c } })
 
@@ -254,16 +254,16 @@ walks-term {names} {refs} {rows} {names′} {used} {many} {t} {a} {e} h p q v w 
     b k m = split (m .occurs) (m .counts)
 
 -- where there is no room for a head there is none for its term's names
-pub walks-head-full : {names refs rows out names′ out′ : List ℕ} {used many mark count room t : ℕ}
-    → Ready names refs rows out used many mark count room → Steps (Own names rows t) names out names′ out′ mark count room walks.Full
-    → Walks (Free names refs rows used many t) names refs rows out names′ rows out′ used many mark count room walks.Full
+pub walks-head-full : {names refs rows lists names′ lists′ : List ℕ} {used many mark count room t : ℕ}
+    → Walk-ready names refs rows lists used many mark count room → Steps (Own names rows t) names lists names′ lists′ mark count room walks.Full
+    → Walks (Free names refs rows used many t) names refs rows lists names′ rows lists′ used many mark count room walks.Full
 walks-head-full {t} h v = walks-names h (steps-full (λ k m. record { occurs = own {t = t} (m .headed) (m .is); counts = m .counts }) v)
 
 -- a term is marked once its names are
-pub walks-marked : {names refs rows out names′ rows′ out′ : List ℕ} {used many mark count room n t : ℕ}
-    → Ready names refs rows out used many mark count room → t < many
-    → Walks (Free names refs rows used many t) names refs rows out names′ rows′ out′ used many mark count room (walks.Names n)
-    → Walks (Free names refs rows used many t) names refs rows out names′ (set rows′ (12288 + t) mark) out′ used many mark count room (walks.Names n)
+pub walks-marked : {names refs rows lists names′ rows′ lists′ : List ℕ} {used many mark count room n t : ℕ}
+    → Walk-ready names refs rows lists used many mark count room → t < many
+    → Walks (Free names refs rows used many t) names refs rows lists names′ rows′ lists′ used many mark count room (walks.Names n)
+    → Walks (Free names refs rows used many t) names refs rows lists names′ (set rows′ (12288 + t) mark) lists′ used many mark count room (walks.Names n)
 walks-marked {names} {refs} {rows} {names′} {rows′} {used} {many} {mark} {t} h l w = record {
   steps = w .steps;
   rows-same = same-then (w .rows-same) s;
@@ -296,8 +296,8 @@ walks-marked {names} {refs} {rows} {names′} {rows′} {used} {many} {mark} {t}
     back f = free-same (same-back (w .steps .names-same)) (same-back (same-then (w .rows-same) s)) table″ l f
 
 -- what adding the head of a term asks
-pub heads-of : {names refs rows out : List ℕ} {used many mark count room t : ℕ} → Ready names refs rows out used many mark count room → t < many
-    → Heads names rows out t count room
+pub heads-of : {names refs rows lists : List ℕ} {used many mark count room t : ℕ} → Walk-ready names refs rows lists used many mark count room → t < many
+    → Heads names rows lists t count room
 heads-of {t} h l =
     let few = h .table .few-rows in
     record {
@@ -346,26 +346,26 @@ pub in-table-at : {refs : List ℕ} {used many a e i t : ℕ} → References ref
 in-table-at {i} g l h is = rw is (g .in-table i l h)
 
 -- an answer that was taken apart
-pub walks-is : {P : ℕ → Type 0} {names refs rows out names′ rows′ out′ : List ℕ} {used many mark count room : ℕ} {r r′ : Walked}
-    → r ≡ r′ → Walks P names refs rows out names′ rows′ out′ used many mark count room r
-    → Walks P names refs rows out names′ rows′ out′ used many mark count room r′
+pub walks-is : {P : ℕ → Type 0} {names refs rows lists names′ rows′ lists′ : List ℕ} {used many mark count room : ℕ} {r r′ : Walked}
+    → r ≡ r′ → Walks P names refs rows lists names′ rows′ lists′ used many mark count room r
+    → Walks P names refs rows lists names′ rows′ lists′ used many mark count room r′
 walks-is e w = rw e at w
 
 -- the same of a step
-pub steps-is : {P : ℕ → Type 0} {names out names′ out′ : List ℕ} {mark count room : ℕ} {r r′ : Walked} → r ≡ r′
-    → Steps P names out names′ out′ mark count room r → Steps P names out names′ out′ mark count room r′
+pub steps-is : {P : ℕ → Type 0} {names lists names′ lists′ : List ℕ} {mark count room : ℕ} {r r′ : Walked} → r ≡ r′
+    → Steps P names lists names′ lists′ mark count room r → Steps P names lists names′ lists′ mark count room r′
 steps-is e w = rw e at w
 
 -- where there is no room for the terms up to a place there is none for the list's
-pub walks-stop : {names refs rows out names′ rows′ out′ : List ℕ} {used many mark count room a i e : ℕ} → i < e
-    → Walks (Among names refs rows used many a (i + 1)) names refs rows out names′ rows′ out′ used many mark count room walks.Full
-    → Walks (Among names refs rows used many a e) names refs rows out names′ rows′ out′ used many mark count room walks.Full
+pub walks-stop : {names refs rows lists names′ rows′ lists′ : List ℕ} {used many mark count room a i e : ℕ} → i < e
+    → Walks (Among names refs rows used many a (i + 1)) names refs rows lists names′ rows′ lists′ used many mark count room walks.Full
+    → Walks (Among names refs rows used many a e) names refs rows lists names′ rows′ lists′ used many mark count room walks.Full
 walks-stop l w = walks-full (λ k m. let h = m .high in record { place = m .place; low = m .low; high = omega arith; free = m .free }) w
 
 -- the terms up to the end are the list's
-pub walks-end : {names refs rows out names′ rows′ out′ : List ℕ} {used many mark count room a i e : ℕ} {r : Walked} → i ≤ e → e ≤ i
-    → Walks (Among names refs rows used many a i) names refs rows out names′ rows′ out′ used many mark count room r
-    → Walks (Among names refs rows used many a e) names refs rows out names′ rows′ out′ used many mark count room r
+pub walks-end : {names refs rows lists names′ rows′ lists′ : List ℕ} {used many mark count room a i e : ℕ} {r : Walked} → i ≤ e → e ≤ i
+    → Walks (Among names refs rows used many a i) names refs rows lists names′ rows′ lists′ used many mark count room r
+    → Walks (Among names refs rows used many a e) names refs rows lists names′ rows′ lists′ used many mark count room r
 walks-end {i} {e} l h w =
     let q : i ≡ e = omega arith in
     rw q at w

@@ -45,24 +45,24 @@ ended room walks.Full = room
 
 -- what gathering a set of names into a slice from `at` on comes to, where there is room up to `room`: the numbers of its
 -- names, each once and each below `named`, or numbers of some of its names and that there are more than fit
-pub data Gathers (name : ℕ → Name) (named : ℕ) (set : List Name) (at room : ℕ) (out : List ℕ) : Walked → Type 0 where
+pub data Gathers (name : ℕ → Name) (named : ℕ) (set : List Name) (at room : ℕ) (lists : List ℕ) : Walked → Type 0 where
   all-names : {n : ℕ}
-      → from-list (map name (part out at n)) ≡ set → length set + at ≡ n → n ≤ room
-      → ((i : ℕ) → at ≤ i → i < n → getD out i 0 < named)
-      → Gathers name named set at room out (walks.Names n)
+      → from-list (map name (part lists at n)) ≡ set → length set + at ≡ n → n ≤ room
+      → ((i : ℕ) → at ≤ i → i < n → getD lists i 0 < named)
+      → Gathers name named set at room lists (walks.Names n)
   no-room : room < length set + at
-      → ((i : ℕ) → at ≤ i → i < room → (getD out i 0 < named) × T (mem (name (getD out i 0)) set))
-      → Gathers name named set at room out walks.Full
+      → ((i : ℕ) → at ≤ i → i < room → (getD lists i 0 < named) × T (mem (name (getD lists i 0)) set))
+      → Gathers name named set at room lists walks.Full
 
--- the slices after gathering: in the tables only marks change, each to the set's or not at all; in `out` only the places of
--- the numbers, within the room; the names with the set's mark are those in `out`
-pub record Gathered (names rows out names′ rows′ out′ : List ℕ) (mark at room : ℕ) (r : Walked) : Type 0 where
+-- the slices after gathering: in the tables only marks change, each to the set's or not at all; in `lists` only the places of
+-- the numbers, within the room; the names with the set's mark are those in `lists`
+pub record Gathered (names rows lists names′ rows′ lists′ : List ℕ) (mark at room : ℕ) (r : Walked) : Type 0 where
   pub names-same : Same-but name-mark-column most-names names names′
   pub rows-same : Same-but row-mark-column most-terms rows rows′
-  pub out-same : Same-but at (ended room r - at) out out′
+  pub lists-same : Same-but at (ended room r - at) lists lists′
   pub grows : at ≤ ended room r
   pub fits : ended room r ≤ room
-  pub small : (i : ℕ) → at ≤ i → i < ended room r → getD out′ i 0 < most-names
+  pub small : (i : ℕ) → at ≤ i → i < ended room r → getD lists′ i 0 < most-names
   pub name-marks : (k : ℕ) → k < most-names → (name-mark names′ k ≡ mark) ⊎ (name-mark names′ k ≡ name-mark names k)
   pub row-marks : (t : ℕ) → t < most-terms → (row-mark rows′ t ≡ mark) ⊎ (row-mark rows′ t ≡ row-mark rows t)
-  pub marks : (k : ℕ) → k < most-names → (name-mark names′ k ≡ mark) ↔ List·Memᴰ k (part out′ at (ended room r))
+  pub marks : (k : ℕ) → k < most-names → (name-mark names′ k ≡ mark) ↔ List·Memᴰ k (part lists′ at (ended room r))

@@ -47,19 +47,19 @@ module _ (names refs rows : List ℕ) (used many room : ℕ) where
       cond (counts && not (has (v .found) n)) (find room v n) v
 
   -- a term below `depth`: its head, then the terms that it names; a term walked before is not walked again
-  unfoldable pub visit : ℕ → Visit → ℕ → Visit
-  visit zero v t = v
-  visit (suc depth) v t =
-      let below = fold-left (visit depth) (visit-head v t) (terms-of-words (part refs (row-start rows t) (row-end rows used many t))) in
+  unfoldable pub visit-below : ℕ → Visit → ℕ → Visit
+  visit-below zero v t = v
+  visit-below (suc depth) v t =
+      let below = fold-left (visit-below depth) (visit-head v t) (terms-of-words (part refs (row-start rows t) (row-end rows used many t))) in
       cond (v .full || has (v .walked) t) v (finish t below)
 
   -- the walk of a term
   unfoldable pub visit-term : ℕ → Visit
-  visit-term t = visit many start-visit t
+  visit-term t = visit-below many start-visit t
 
   -- the walk of a list of terms
   unfoldable pub visit-list : List ℕ → Visit
-  visit-list ts = fold-left (visit many) start-visit ts
+  visit-list ts = fold-left (visit-below many) start-visit ts
 
 -- what a walk comes to, where the first name goes to the place `at`
 unfoldable pub walk-answer : ℕ → Visit → Walked
@@ -75,8 +75,8 @@ put at [] slice = slice
 put at (n ∷ ns) slice = put (at + 1) ns (set slice at n)
 
 -- the answer and every word of the slices after a walk
-pub record Walks-as (v : Visit) (names rows out names′ rows′ out′ : List ℕ) (mark at : ℕ) (r : Walked) : Type 0 where
+pub record Walks-as (v : Visit) (names rows lists names′ rows′ lists′ : List ℕ) (mark at : ℕ) (r : Walked) : Type 0 where
   pub answer : r ≡ walk-answer at v
   pub name-words : names′ ≡ marked-at name-mark-column mark (v .found) names
   pub row-words : rows′ ≡ marked-at row-mark-column mark (v .walked) rows
-  pub out-words : out′ ≡ put at (v .found) out
+  pub lists-words : lists′ ≡ put at (v .found) lists

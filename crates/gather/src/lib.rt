@@ -9,7 +9,7 @@ ghost use Rattle.model.specs.Summaries.{free-top-level-names, group-names};
 ghost use Rattle.terms.specs.Rows.{term-of, terms-of-words, terms-of, Rows};
 ghost use Rattle.gather.specs.Sets.{row-mark, Fresh, Named, Gathers, Gathered};
 ghost use Rattle.gather.specs.Visits.{visit-term, visit-list, Walks-as};
-ghost use Rattle.gather.specs.Walks.{Own, Free, Among, Heads, Ready, References, Steps, Walks, head-part, term-part, list-part, Follows};
+ghost use Rattle.gather.specs.Walks.{Own, Free, Among, Heads, Walk-ready, References, Steps, Walks, head-part, term-part, list-part, Follows};
 
 // The columns of marks, by their first word: by name, and by row.
 pub const NAME_MARK: usize = 8192;
@@ -26,17 +26,17 @@ pub enum Walked {
 fn gather_head(
     names: &mut [u32],
     rows: &[u32],
-    out: &mut [u32],
+    lists: &mut [u32],
     t: usize,
     mark: u32,
     count: usize,
     room: usize,
 ) -> Walked
-    requires { ⌜ Heads (now names) (now rows) (now out) t count room ⌝ }
-    ensures set { λ r. ⌜ Steps (Own (now (names .entry)) (now (rows .entry)) t) (now (names .entry)) (now (out .entry))
-        (now (names .exit)) (now (out .exit)) mark count room r ⌝ }
-    ensures walk { λ r. ⌜ Follows (head-part t) (now (names .entry)) (now (rows .entry)) (now (out .entry)) (now (names .exit))
-        (now (rows .entry)) (now (out .exit)) mark count room r ⌝ }
+    requires { ⌜ Heads (now names) (now rows) (now lists) t count room ⌝ }
+    ensures set { λ r. ⌜ Steps (Own (now (names .entry)) (now (rows .entry)) t) (now (names .entry)) (now (lists .entry))
+        (now (names .exit)) (now (lists .exit)) mark count room r ⌝ }
+    ensures walk { λ r. ⌜ Follows (head-part t) (now (names .entry)) (now (rows .entry)) (now (lists .entry)) (now (names .exit))
+        (now (rows .entry)) (now (lists .exit)) mark count room r ⌝ }
 {
     if !terms::has_head(rows, t) {
         return Walked::Names(count);
@@ -51,7 +51,7 @@ fn gather_head(
     if room <= count {
         return Walked::Full;
     }
-    out[count] = n as u32;
+    lists[count] = n as u32;
     names[NAME_MARK + n] = mark;
     Walked::Names(count + 1)
 }
@@ -62,7 +62,7 @@ fn walk_term(
     names: &mut [u32],
     refs: &[u32],
     rows: &mut [u32],
-    out: &mut [u32],
+    lists: &mut [u32],
     used: usize,
     many: usize,
     t: usize,
@@ -70,20 +70,20 @@ fn walk_term(
     count: usize,
     room: usize,
 ) -> Walked
-    requires { ⌜ Ready (now names) (now refs) (now rows) (now out) used many mark count room × (t < many)
+    requires { ⌜ Walk-ready (now names) (now refs) (now rows) (now lists) used many mark count room × (t < many)
         × (row-mark (now rows) t ≡ mark → ⊥) ⌝ }
     ensures set { λ r. ⌜ Walks (Free (now (names .entry)) (now (refs .entry)) (now (rows .entry)) used many t)
-        (now (names .entry)) (now (refs .entry)) (now (rows .entry)) (now (out .entry)) (now (names .exit)) (now (rows .exit))
-        (now (out .exit)) used many mark count room r ⌝ }
+        (now (names .entry)) (now (refs .entry)) (now (rows .entry)) (now (lists .entry)) (now (names .exit)) (now (rows .exit))
+        (now (lists .exit)) used many mark count room r ⌝ }
     ensures walk { λ r. ⌜ Follows (term-part (now (refs .entry)) used many t) (now (names .entry)) (now (rows .entry))
-        (now (out .entry)) (now (names .exit)) (now (rows .exit)) (now (out .exit)) mark count room r ⌝ }
+        (now (lists .entry)) (now (names .exit)) (now (rows .exit)) (now (lists .exit)) mark count room r ⌝ }
 {
-    let Walked::Names(own) = gather_head(names, rows, out, t, mark, count, room) else {
+    let Walked::Names(own) = gather_head(names, rows, lists, t, mark, count, room) else {
         return Walked::Full;
     };
     let a = terms::start(rows, t);
     let e = terms::end(rows, used, many, t);
-    let Walked::Names(n) = walk_list(names, refs, rows, out, used, many, a, e, mark, own, room)
+    let Walked::Names(n) = walk_list(names, refs, rows, lists, used, many, a, e, mark, own, room)
     else {
         return Walked::Full;
     };
@@ -96,7 +96,7 @@ fn walk_list(
     names: &mut [u32],
     refs: &[u32],
     rows: &mut [u32],
-    out: &mut [u32],
+    lists: &mut [u32],
     used: usize,
     many: usize,
     a: usize,
@@ -105,13 +105,13 @@ fn walk_list(
     count: usize,
     room: usize,
 ) -> Walked
-    requires { ⌜ Ready (now names) (now refs) (now rows) (now out) used many mark count room
+    requires { ⌜ Walk-ready (now names) (now refs) (now rows) (now lists) used many mark count room
         × References (now refs) used many a e ⌝ }
     ensures set { λ r. ⌜ Walks (Among (now (names .entry)) (now (refs .entry)) (now (rows .entry)) used many a e)
-        (now (names .entry)) (now (refs .entry)) (now (rows .entry)) (now (out .entry)) (now (names .exit)) (now (rows .exit))
-        (now (out .exit)) used many mark count room r ⌝ }
+        (now (names .entry)) (now (refs .entry)) (now (rows .entry)) (now (lists .entry)) (now (names .exit)) (now (rows .exit))
+        (now (lists .exit)) used many mark count room r ⌝ }
     ensures walk { λ r. ⌜ Follows (list-part (now (refs .entry)) used many a e) (now (names .entry)) (now (rows .entry))
-        (now (out .entry)) (now (names .exit)) (now (rows .exit)) (now (out .exit)) mark count room r ⌝ }
+        (now (lists .entry)) (now (names .exit)) (now (rows .exit)) (now (lists .exit)) mark count room r ⌝ }
 {
     let mut i = a;
     let mut n = count;
@@ -121,7 +121,7 @@ fn walk_list(
         if words::at(rows, ROW_MARK + t) == mark as usize {
             continue;
         }
-        let Walked::Names(more) = walk_term(names, refs, rows, out, used, many, t, mark, n, room)
+        let Walked::Names(more) = walk_term(names, refs, rows, lists, used, many, t, mark, n, room)
         else {
             return Walked::Full;
         };
@@ -130,12 +130,12 @@ fn walk_list(
     Walked::Names(n)
 }
 
-// Gathers the free names of a term into `out` from `from` on, up to `room`, under a mark that no row and no name has yet.
+// Gathers the free names of a term into `lists` from `from` on, up to `room`, under a mark that no row and no name has yet.
 pub fn gather_term(
     names: &mut [u32],
     refs: &[u32],
     rows: &mut [u32],
-    out: &mut [u32],
+    lists: &mut [u32],
     named: usize,
     used: usize,
     many: usize,
@@ -145,17 +145,17 @@ pub fn gather_term(
     room: usize,
 ) -> Walked
     requires { ⌜ Rows (now refs) (now rows) used many named × (working-words ≤ length (now names)) × (t < many)
-        × Fresh (now names) (now rows) mark × (from ≤ room) × (room ≤ length (now out)) ⌝ }
+        × Fresh (now names) (now rows) mark × (from ≤ room) × (room ≤ length (now lists)) ⌝ }
     ensures set { λ r. ⌜ ((exclude : List Name) (name : ℕ → Name) → Named exclude name (now (names .entry)) named
         → Gathers name named (free-top-level-names exclude (terms-of name (now (refs .entry)) (now (rows .entry)) used many) t)
-        from room (now (out .exit)) r) ⌝ }
-    ensures slices { λ r. ⌜ Gathered (now (names .entry)) (now (rows .entry)) (now (out .entry)) (now (names .exit))
-        (now (rows .exit)) (now (out .exit)) mark from room r ⌝ }
+        from room (now (lists .exit)) r) ⌝ }
+    ensures slices { λ r. ⌜ Gathered (now (names .entry)) (now (rows .entry)) (now (lists .entry)) (now (names .exit))
+        (now (rows .exit)) (now (lists .exit)) mark from room r ⌝ }
     ensures walk { λ r. ⌜ Walks-as (visit-term (now (names .entry)) (now (refs .entry)) (now (rows .entry)) used many
-        (room - from) t) (now (names .entry)) (now (rows .entry)) (now (out .entry)) (now (names .exit)) (now (rows .exit))
-        (now (out .exit)) mark from r ⌝ }
+        (room - from) t) (now (names .entry)) (now (rows .entry)) (now (lists .entry)) (now (names .exit)) (now (rows .exit))
+        (now (lists .exit)) mark from r ⌝ }
 {
-    walk_term(names, refs, rows, out, used, many, t, mark, from, room)
+    walk_term(names, refs, rows, lists, used, many, t, mark, from, room)
 }
 
 // Gathers the free names of the terms that the references from `a` up to `e` name.
@@ -163,7 +163,7 @@ pub fn gather_list(
     names: &mut [u32],
     refs: &[u32],
     rows: &mut [u32],
-    out: &mut [u32],
+    lists: &mut [u32],
     named: usize,
     used: usize,
     many: usize,
@@ -175,15 +175,15 @@ pub fn gather_list(
 ) -> Walked
     requires { ⌜ Rows (now refs) (now rows) used many named × (working-words ≤ length (now names)) × (a ≤ e) × (e ≤ used)
         × ((i : ℕ) → a ≤ i → i < e → term-of (getD (now refs) i 0) < many) × Fresh (now names) (now rows) mark × (from ≤ room)
-        × (room ≤ length (now out)) ⌝ }
+        × (room ≤ length (now lists)) ⌝ }
     ensures set { λ r. ⌜ ((exclude : List Name) (name : ℕ → Name) → Named exclude name (now (names .entry)) named
         → Gathers name named (group-names exclude (terms-of name (now (refs .entry)) (now (rows .entry)) used many)
-        (terms-of-words (part (now (refs .entry)) a e))) from room (now (out .exit)) r) ⌝ }
-    ensures slices { λ r. ⌜ Gathered (now (names .entry)) (now (rows .entry)) (now (out .entry)) (now (names .exit))
-        (now (rows .exit)) (now (out .exit)) mark from room r ⌝ }
+        (terms-of-words (part (now (refs .entry)) a e))) from room (now (lists .exit)) r) ⌝ }
+    ensures slices { λ r. ⌜ Gathered (now (names .entry)) (now (rows .entry)) (now (lists .entry)) (now (names .exit))
+        (now (rows .exit)) (now (lists .exit)) mark from room r ⌝ }
     ensures walk { λ r. ⌜ Walks-as (visit-list (now (names .entry)) (now (refs .entry)) (now (rows .entry)) used many
         (room - from) (terms-of-words (part (now (refs .entry)) a e))) (now (names .entry)) (now (rows .entry))
-        (now (out .entry)) (now (names .exit)) (now (rows .exit)) (now (out .exit)) mark from r ⌝ }
+        (now (lists .entry)) (now (names .exit)) (now (rows .exit)) (now (lists .exit)) mark from r ⌝ }
 {
-    walk_list(names, refs, rows, out, used, many, a, e, mark, from, room)
+    walk_list(names, refs, rows, lists, used, many, a, e, mark, from, room)
 }

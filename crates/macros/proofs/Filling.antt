@@ -14,7 +14,7 @@ use Rattle.records.specs.Columns.{taken-column, macro-column, first-column, tak
 use Rattle.records.specs.Adding.{Standing}
 use Rattle.records.proofs.Chaining.{newest-cong}
 use Rattle.records.proofs.Standing.{Beside, stocked-longer}
-use Rattle.macros.specs.Macros.{macro-count, start-word, macro-word, Opens, Filled}
+use Rattle.macros.specs.Macros.{macro-count, start-word, macro-word, Macros-opened, Filled}
 
 -- the words of macros do not depend on the column
 macro-same : {names names′ : List ℕ} (recs : List ℕ) (named n : ℕ) → named ≤ most-names → n < most-names → Same-but macro-column most-names names names′
@@ -28,20 +28,20 @@ macro-same {names} {names′} recs named n few low s =
       newest-cong (name-code names′) (name-code names) (name-code names n + macro-count) named (λ m l. code m (omega arith)),
     )
 
-module _ {file names refs rows recs out : List ℕ} {k : Counts} (st : Standing file names refs rows recs out k) where
+module _ {file names refs rows recs lists : List ℕ} {k : Counts} (st : Standing file names refs rows recs lists k) where
   -- what filling it asks
-  pub standing-opens : (k .named ≤ most-names) × (working-words ≤ length names) × (working-words ≤ length recs)
-      × ((n : ℕ) → n < k .named → taken-at names n ≤ most-records)
+  pub standing-opens : (k .names ≤ most-names) × (working-words ≤ length names) × (working-words ≤ length recs)
+      × ((n : ℕ) → n < k .names → taken-at names n ≤ most-records)
   standing-opens =
       let few = st .tables .name-table .few in
       (few, st .tables .name-table .room, st .recorded .room, λ n l. omega (arith, st .stocked .taken .low n (omega arith), st .recorded .few))
 
   -- the tables are then as a run asks
-  pub standing-filled : {names′ : List ℕ} → Opens names recs names′ (k .named) (k .named) → Filled file names′ recs out k
+  pub standing-filled : {names′ : List ℕ} → Macros-opened names recs names′ (k .names) (k .names) → Filled file names′ recs lists k
   standing-filled {names′} o =
       let few = st .tables .name-table .few in
       let kept = table-kept (st .tables .name-table) (o .same .same-length) (λ i l. o .same .same-words i (λ a b. omega arith)) in
-      let beside : Beside file names names′ (k .named) = record {
+      let beside : Beside file names names′ (k .names) = record {
         same = kept .name;
         taken = λ n l. o .same .same-words (taken-column + n) (λ a b. omega arith);
         first = λ n l. o .same .same-words (first-column + n) (λ a b. omega arith);
@@ -50,5 +50,5 @@ module _ {file names refs rows recs out : List ℕ} {k : Counts} (st : Standing 
         table = kept .table;
         recorded = st .recorded;
         stocked = stocked-longer st beside;
-        macros = λ n l. o .macros n l ∙ sym (macro-same recs (k .named) n few (omega arith) (o .same));
+        macros = λ n l. o .macros n l ∙ sym (macro-same recs (k .names) n few (omega arith) (o .same));
       }

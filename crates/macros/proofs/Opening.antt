@@ -15,7 +15,7 @@ use Rattle.names.specs.Table.{name-code}
 use Rattle.terms.proofs.Laws.{equal}
 use Rattle.records.specs.Columns.{record-kind, def-kind, taken-column, macro-column, taken-at}
 use Rattle.records.specs.Filing.{newest}
-use Rattle.macros.specs.Macros.{opened-word, first-macro, macro-count, first-opened, opened, start-word, is-def, macro-word, Found, found-word, word-from, Opens}
+use Rattle.macros.specs.Macros.{opened-word, first-macro, macro-count, first-opened, opened, start-word, is-def, macro-word, Found, found-word, word-from, Macros-opened}
 use Rattle.records.proofs.Chaining.{newest-here, newest-other, newest-low}
 
 -- ---- the numbers that the macros of the start open to
@@ -152,11 +152,11 @@ module _ (names recs found : List ℕ) (n : ℕ) {t : ℕ} {b : Bool} (taken : t
 -- ---- the column
 
 -- no word yet
-pub opens-none : (names recs : List ℕ) (named : ℕ) → Opens names recs names named 0
+pub opens-none : (names recs : List ℕ) (named : ℕ) → Macros-opened names recs names named 0
 opens-none names recs named = record { same = record { same-length = refl; same-words = λ i h. refl }; macros = λ m h. absurd (omega arith) }
 
 -- one word more
-module _ {names recs names′ found : List ℕ} {named n : ℕ} (o : Opens names recs names′ named n) (f : Found names named found) (low : n < named)
+module _ {names recs names′ found : List ℕ} {named n : ℕ} (o : Macros-opened names recs names′ named n) (f : Found names named found) (low : n < named)
     (few : named ≤ most-names) where
   -- the words that it depends on are those at entry
   word-same : word-from names′ recs found n ≡ macro-word names recs named n
@@ -164,7 +164,7 @@ module _ {names recs names′ found : List ℕ} {named n : ℕ} (o : Opens names
   word-same =
       rw (o .same .same-words (taken-column + n) (λ a b. omega arith), o .same .same-words (6144 + n) (λ a b. omega arith), found-start f (name-code names n))
 
-  pub opens-more : {w : ℕ} → working-words ≤ length names → w ≡ word-from names′ recs found n → Opens names recs (set names′ (macro-column + n) w) named (n + 1)
+  pub opens-more : {w : ℕ} → working-words ≤ length names → w ≡ word-from names′ recs found n → Macros-opened names recs (set names′ (macro-column + n) w) named (n + 1)
   opens-more {w} room is =
       let other : (i : ℕ) → (i ≡ macro-column + n → ⊥) → getD (set names′ (macro-column + n) w) i 0
       ≡ getD names′ i 0 = λ i d. getD-set-other names′ (macro-column + n) i w 0 d in
@@ -184,5 +184,5 @@ module _ {names recs names′ found : List ℕ} {named n : ℕ} (o : Opens names
   taken-low h = rw (o .same .same-words (taken-column + n) (λ a b. omega arith)) (h n low)
 
 -- the last word
-pub opens-end : {names recs names′ : List ℕ} {named n : ℕ} → Opens names recs names′ named n → n ≤ named → named ≤ n → Opens names recs names′ named named
-opens-end {names} {recs} {names′} {named} {n} o a b = let e : n ≡ named = omega arith in subst (λ m. Opens names recs names′ named m) e o
+pub opens-end : {names recs names′ : List ℕ} {named n : ℕ} → Macros-opened names recs names′ named n → n ≤ named → named ≤ n → Macros-opened names recs names′ named named
+opens-end {names} {recs} {names′} {named} {n} o a b = let e : n ≡ named = omega arith in subst (λ m. Macros-opened names recs names′ named m) e o

@@ -51,7 +51,7 @@ macro-word names recs named n =
 
 -- the numbers of the names that a macro word opens to
 unfoldable pub opens-at : List ℕ → List ℕ → ℕ → List ℕ
-opens-at recs out word = cond (eqb word 0) [] (cond (ltb word opened-word) (uses-at recs out (word - 1)) ((word - opened-word) ∷ []))
+opens-at recs lists word = cond (eqb word 0) [] (cond (ltb word opened-word) (uses-at recs lists (word - 1)) ((word - opened-word) ∷ []))
 
 -- for each macro of the start, the number and one of the name that it opens to
 pub record Found (names : List ℕ) (named : ℕ) (found : List ℕ) : Type 0 where
@@ -67,13 +67,13 @@ unfoldable pub word-from : List ℕ → List ℕ → List ℕ → ℕ → ℕ
 word-from names recs found n = cond (is-def recs (taken-at names n)) (taken-at names n) (found-word found (name-code names n))
 
 -- the macro column filled up to the n-th name, and nothing else changed
-pub record Opens (names recs names′ : List ℕ) (named n : ℕ) : Type 0 where
+pub record Macros-opened (names recs names′ : List ℕ) (named n : ℕ) : Type 0 where
   pub same : Same-but macro-column most-names names names′
   pub macros : (m : ℕ) → m < n → macro-at names′ m ≡ macro-word names recs named m
 
 -- the tables after the last line, with the macro column filled: all that a run asks
-pub record Filled (file names recs out : List ℕ) (k : Counts) : Type 0 where
-  pub table : Table file names (k .named)
-  pub recorded : Records recs out (k .named) (k .records) (k .entries) (k .uses)
-  pub stocked : Stocked file names recs out (k .records) (k .entries)
-  pub macros : (n : ℕ) → n < k .named → macro-at names n ≡ macro-word names recs (k .named) n
+pub record Filled (file names recs lists : List ℕ) (k : Counts) : Type 0 where
+  pub table : Table file names (k .names)
+  pub recorded : Records recs lists (k .names) (k .records) (k .entries) (k .uses)
+  pub stocked : Stocked file names recs lists (k .records) (k .entries)
+  pub macros : (n : ℕ) → n < k .names → macro-at names n ≡ macro-word names recs (k .names) n

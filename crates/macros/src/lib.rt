@@ -4,7 +4,7 @@ ghost use lib.ListN.{length, getD};
 ghost use Rattle.model.specs.Reading.{most-names, most-records};
 ghost use Rattle.model.specs.Outcome.{working-words};
 ghost use Rattle.records.specs.Columns.{taken-at};
-ghost use Rattle.macros.specs.Macros.{macro-count, is-def, found-word, word-from, Found, Opens};
+ghost use Rattle.macros.specs.Macros.{macro-count, is-def, found-word, word-from, Found, Macros-opened};
 
 // Macro words from here on say the number of the name that a macro of the start opens to.
 pub const OPENED: usize = 2048;
@@ -88,7 +88,7 @@ fn macro_word(names: &[u32], recs: &[u32], found: &[u32], n: usize) -> usize
 pub fn open_macros(names: &mut [u32], recs: &[u32], named: usize)
     requires { ⌜ (named ≤ most-names) × (working-words ≤ length (now names)) × (working-words ≤ length (now recs))
         × ((n : ℕ) → n < named → taken-at (now names) n ≤ most-records) ⌝ }
-    ensures { λ x. ⌜ Opens (now (names .entry)) (now (recs .entry)) (now (names .exit)) named named ⌝ }
+    ensures { λ x. ⌜ Macros-opened (now (names .entry)) (now (recs .entry)) (now (names .exit)) named named ⌝ }
 {
     let mut found: [u32; 5] = [0; 5];
     find_opened(names, named, &mut found);

@@ -1,5 +1,5 @@
 -- List functions that the definitions share.
-use Prim.Native.Nat.{ℕ, _+_, _-_}
+use Prim.Native.Nat.{ℕ, suc, _+_, _-_}
 use mathlib.Core.Bool.{Bool, true, false, cond, _&&_, _||_}
 use mathlib.Core.List.{List, [], _∷_, _++_}
 use mathlib.Core.Option.{Option, none, some}
@@ -25,6 +25,11 @@ module _ {A : Type 0} where
   unfoldable pub count : (A → Bool) → List A → ℕ
   count test [] = 0
   count test (x ∷ xs) = let r = count test xs in cond (test x) (1 + r) r
+
+  -- the place of the first element of which the test holds, from 0; the length where it holds of none
+  unfoldable pub find-index : (A → Bool) → List A → ℕ
+  find-index test [] = 0
+  find-index test (x ∷ xs) = let later = find-index test xs in cond (test x) 0 (suc later)
 
   -- the lists one after the other
   unfoldable pub concat : List (List A) → List A

@@ -2,12 +2,12 @@
 -- document 02, Change 1: 10 to 12.
 use Prim.Native.Nat.{ℕ, zero, suc, _+_, _/_, _%_}
 use Prim.Native.String.{String}
-use mathlib.Core.Bool.{Bool, cond, not, Bool·beq}
+use mathlib.Core.Bool.{Bool, cond, not}
 use mathlib.Core.List.{List, [], _∷_, _++_, map}
 use mathlib.Core.Option.{Option, none, some}
 use lib.ListN.{length}
 use lib.Dec.{leb, ltb, eqb}
-use Rattle.model.specs.Lists.{any, sum, collect, fold-left, holds}
+use Rattle.model.specs.Lists.{any, sum, collect, fold-left, is-nil, holds}
 use Rattle.model.specs.Names.{Name, bytes, same, mem}
 use Rattle.model.specs.Lines.{Line, lines, Field, fields, is-name, number}
 use Rattle.model.specs.Terms.{Node, FreeV, Leaf, Call, App, Forall, Exists, Let, Labeled, Term, add-term, references}
@@ -76,23 +76,6 @@ unfoldable pub word : {A : Type 0} → List (String × A) → Field → Option A
 word [] f = none
 word ((w, a) ∷ words) f = let other = word words f in cond (same f (bytes w)) (some a) other
 
--- the fields of a line, the kind counted, where their count is fixed
-unfoldable pub fixed-count : LineKind → Option ℕ
-fixed-count kind.Ask = some 3
-fixed-count kind.Free = some 2
-fixed-count kind.Leaf = some 1
-fixed-count kind.Call = none
-fixed-count kind.Op = none
-fixed-count kind.All = none
-fixed-count kind.Some = none
-fixed-count kind.Let = none
-fixed-count kind.Label = some 2
-fixed-count kind.Assume = some 4
-fixed-count kind.Fun = some 2
-fixed-count kind.Def = some 3
-fixed-count kind.Retain = none
-fixed-count kind.Root = some 4
-
 module _ {A : Type 0} where
   -- the next field, and the fields after it; a lacking one is 1
   unfoldable pub next : (Field → Result A) → List Field → Result (A × List Field)
@@ -147,11 +130,18 @@ quantifier make count fs = do
   (gs, fs₃) ← groups count g fs₂
   end (term (make body gs)) fs₃
 
+-- the highest number of a query and of options
+abbrev pub most-query : ℕ
+most-query = 255
+
+abbrev pub most-options : ℕ
+most-options = 7
+
 -- the fields of a line after its kind, left to right; `count` is the number of term lines so far
 unfoldable pub content : LineKind → ℕ → List Field → Result Content
 content kind.Ask count fs = do
-  (q, fs₁) ← next (number-field 255) fs
-  (options, fs₂) ← next (number-field 7) fs₁
+  (q, fs₁) ← next (number-field most-query) fs
+  (options, fs₂) ← next (number-field most-options) fs₁
   end (ask q options) fs₂
 content kind.Free count fs = do
   (name, fs₁) ← next name-field fs
@@ -190,22 +180,10 @@ content kind.Retain count fs = do
   names ← rest name-field fs
   ok (retain names)
 content kind.Root count fs = do
-  (q, fs₁) ← next (number-field 255) fs
+  (q, fs₁) ← next (number-field most-query) fs
   (name, fs₂) ← next name-field fs₁
   (t, fs₃) ← next (term-field count) fs₂
   end (root q name t) fs₃
-
--- the kind of the n-th line: `ask` on line 1 and nowhere else
-unfoldable pub kind-field : ℕ → Field → Result LineKind
-kind-field n f =
-    need refusal.Form (word kinds f) >>= λ k.
-    cond (Bool·beq (eqb n 1) (same f (bytes "ask"))) (ok k) (refused refusal.Form)
-
--- a line's fields: kind, field count where it is fixed, fields left to right
-unfoldable pub parse : ℕ → ℕ → List Field → Result Content
-parse n count all = do
-  (k, fs) ← next (kind-field n) all
-  cond (holds (λ c. not (eqb (length all) c)) (fixed-count k)) (refused refusal.Form) (content k count fs)
 
 -- a (define-fun) or (declare-fun) record
 pub record Decl : Type 0 where
@@ -227,9 +205,9 @@ pub record Root : Type 0 where
   pub name : Name
   pub free-names : List Name
 
--- the ask of a file: its query and its options number
+-- what a file asks for: the queries whose roots are the goal, and the options number
 pub record Ask : Type 0 where
-  pub query : ℕ
+  pub queries : List ℕ
   pub options : ℕ
 
 -- option 1, `no_ambients`
@@ -244,9 +222,11 @@ pretyping-axioms a = eqb (a .options / 2 % 2) 1
 unfoldable pub prune-decls : Ask → Bool
 prune-decls a = eqb (a .options / 4 % 2) 1
 
--- what reading carries from line to line. `names`: in order of first spelling. `decls` and `roots`: in file order
+-- what reading carries from line to line. `hidden`: the names that join `exclude_names`. `names`: in order of first spelling.
+-- `decls` and `roots`: in file order
 pub record State : Type 0 where
-  pub goal : Ask
+  pub asks : List Ask
+  pub hidden : List Name
   pub terms : List Term
   pub names : List Name
   pub decls : List Summary
@@ -259,7 +239,8 @@ pub record State : Type 0 where
 unfoldable pub start : State
 start =
     record {
-      goal = record { query = 0; options = 0 };
+      asks = [];
+      hidden = [];
       terms = [];
       names = [];
       decls = [];
@@ -269,15 +250,70 @@ start =
       uses = 0;
     }
 
+-- what decides where a line of a kind may stand: an ask, or any other
+pub data Place : Type 0 where
+  an-ask : Place
+  another : Place
+
+unfoldable pub place : LineKind → Place
+place kind.Ask = an-ask
+place kind.Free = another
+place kind.Leaf = another
+place kind.Call = another
+place kind.Op = another
+place kind.All = another
+place kind.Some = another
+place kind.Let = another
+place kind.Label = another
+place kind.Assume = another
+place kind.Fun = another
+place kind.Def = another
+place kind.Retain = another
+place kind.Root = another
+
+-- whether such a line may stand next: the first is an ask, and no other is
+unfoldable pub may-stand : State → Place → Bool
+may-stand s an-ask = is-nil (s .asks)
+may-stand s another = not (is-nil (s .asks))
+
+-- the kind of the next line: 1 where it is unknown or may not stand
+unfoldable pub kind-field : State → Field → Result LineKind
+kind-field s f = do
+  k ← need refusal.Form (word kinds f)
+  cond (may-stand s (place k)) (ok k) (refused refusal.Form)
+
+-- the fields of the next line, the kind counted, where their count is fixed
+unfoldable pub fixed-count : State → LineKind → Option ℕ
+fixed-count s kind.Ask = some 3
+fixed-count s kind.Free = some 2
+fixed-count s kind.Leaf = some 1
+fixed-count s kind.Call = none
+fixed-count s kind.Op = none
+fixed-count s kind.All = none
+fixed-count s kind.Some = none
+fixed-count s kind.Let = none
+fixed-count s kind.Label = some 2
+fixed-count s kind.Assume = some 4
+fixed-count s kind.Fun = some 2
+fixed-count s kind.Def = some 3
+fixed-count s kind.Retain = none
+fixed-count s kind.Root = some 4
+
+-- the next line's fields: kind, field count where it is fixed, fields left to right
+unfoldable pub parse : State → List Field → Result Content
+parse s all = do
+  (k, fs) ← next (kind-field s) all
+  cond (holds (λ c. not (eqb (length all) c)) (fixed-count s k)) (refused refusal.Form) (content k (length (s .terms)) fs)
+
 -- the ask that a line states
-unfoldable pub asked : Content → Ask → Ask
-asked (ask q options) goal = record { query = q; options = options }
-asked (term node) goal = goal
-asked (assume name flag t) goal = goal
-asked (fun name) goal = goal
-asked (def name t) goal = goal
-asked (retain names) goal = goal
-asked (root q name t) goal = goal
+unfoldable pub asked : Content → List Ask
+asked (ask q options) = record { queries = q ∷ []; options = options } ∷ []
+asked (term node) = []
+asked (assume name flag t) = []
+asked (fun name) = []
+asked (def name t) = []
+asked (retain names) = []
+asked (root q name t) = []
 
 -- the term line that a line is
 unfoldable pub nodes : Content → List Node
@@ -413,15 +449,22 @@ module _ (exclude : List Name) where
   root-of terms n (root q name t) =
       record { line = n; query = q; name = name; free-names = free-top-level-names exclude terms t } ∷ []
 
+  -- the names that are not free names: `exclude_names`, and those hidden
+  unfoldable pub excluded : State → List Name
+  excluded s = exclude ++ s .hidden
+
+module _ (exclude : List Name) where
   -- the state after the n-th line
   unfoldable pub add-line : ℕ → State → Content → State
   add-line n s c =
-      let decls = summarize-decl (s .terms) n c in
-      let roots = root-of (s .terms) n c in
+      let out = excluded exclude s in
+      let decls = summarize-decl out (s .terms) n c in
+      let roots = root-of out (s .terms) n c in
       record {
-        goal = asked c (s .goal);
+        asks = s .asks ++ asked c;
+        hidden = s .hidden;
         terms = fold-left add-term (s .terms) (nodes c);
-        names = fold-left spell (s .names) (spelled c ++ trimmed (s .terms) c);
+        names = fold-left spell (s .names) (spelled c ++ trimmed out (s .terms) c);
         decls = s .decls ++ decls;
         roots = s .roots ++ roots;
         references = s .references + length (collect references (nodes c));
@@ -432,13 +475,13 @@ module _ (exclude : List Name) where
   -- whether the n-th line, an assume, fun or def, repeats the name of an earlier one of the three
   unfoldable pub repeats : ℕ → State → Content → Bool
   repeats n s c =
-      any (λ name. mem name (collect taken-by (s .decls))) (collect taken-by (summarize-decl (s .terms) n c))
+      any (λ name. mem name (collect taken-by (s .decls))) (collect taken-by (summarize-decl (excluded exclude s) (s .terms) n c))
 
   -- the n-th line: its final 0A, its fields, 5, then the limits
   unfoldable pub read-line : ℕ → State → Line → Result State
   read-line n s line = do
     fs ← cond (line .ended) (ok (fields (line .bytes))) (refused refusal.Form)
-    c ← parse n (length (s .terms)) fs
+    c ← parse s fs
     fresh ← cond (repeats n s c) (refused refusal.Repeated) (ok c)
     under-limits (limits (add-line n s fresh)) (add-line n s fresh)
 

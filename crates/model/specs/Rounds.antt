@@ -3,9 +3,9 @@ use Prim.Native.Nat.{ℕ, zero, suc, _+_}
 use mathlib.Core.Bool.{Bool, true, false, cond, not, _&&_, _||_}
 use mathlib.Core.List.{List, [], _∷_, _++_, map}
 use mathlib.Core.Option.{Option·getD}
-use lib.ListN.{length}
+use lib.ListN.{length, getD}
 use lib.Dec.{eqb}
-use Rattle.model.specs.Lists.{any, all, keep, count, concat, collect, is-nil}
+use Rattle.model.specs.Lists.{any, all, keep, count, find-index, concat, collect, is-nil}
 use Rattle.model.specs.Names.{Name, mem, from-list, union}
 use Rattle.model.specs.Summaries.{Fact}
 use Rattle.model.specs.Reading.{Ask, no-ambients, pretyping-axioms, Root, Decl, Summary, Sum-assume, Sum-definefun, Sum-declfun, Sum-retain}
@@ -76,6 +76,10 @@ pub record Run : Type 0 where
   pub reached : List Name
   pub rounds : ℕ
 
+-- a run before its first round
+abbrev pub first-run : Run
+first-run = record { met = []; reached = []; rounds = 0 }
+
 -- the names met at the end of a round that scans items with these free names
 unfoldable pub met-after : Map (List Name) → Run → List Name → List Name
 met-after ms r scanned = union (met-from ms scanned) (r .met)
@@ -120,9 +124,13 @@ is-ambient-root Drop = false
 is-ambient-root (Ambient is-root) = is-root
 is-ambient-root (Triggers n) = false
 
--- the roots of the query
+-- whether a query is one of the ask's
+unfoldable pub asks-for : Ask → ℕ → Bool
+asks-for a q = any (eqb q) (a .queries)
+
+-- the roots of the ask's queries
 unfoldable pub goal-roots : Ask → List Root → List Root
-goal-roots a roots = keep (λ r. eqb (r .query) (a .query)) roots
+goal-roots a roots = keep (λ r. asks-for a (r .query)) roots
 
 -- the ambient roots, none with option 1
 unfoldable pub ambient-roots : Ask → List Fact → List Fact
@@ -133,14 +141,40 @@ unfoldable pub first-scanned : Ask → List Fact → List Root → List Name
 first-scanned a fs roots =
     collect (λ r. r .free-names) (goal-roots a roots) ++ collect (λ f. f .free-names) (ambient-roots a fs)
 
--- the run of an ask over the records of a file; its fuel is one more than the distinct trigger names filed
+-- the fuel of a run: one more than the distinct trigger names filed
+abbrev pub most-rounds : List Fact → ℕ
+most-rounds fs = suc (length (from-list (filed fs)))
+
+-- the run of an ask over the records of a file
 unfoldable pub run : Ask → List Summary → List Root → Run
 run a decls roots =
     let fs = facts decls in
-    rounds-from a (macros decls) fs
-    (suc (length (from-list (filed fs))))
-    (record { met = []; reached = []; rounds = 0 })
-    (first-scanned a fs roots)
+    rounds-from a (macros decls) fs (most-rounds fs) first-run (first-scanned a fs roots)
+
+-- the states of the rounds from a state on, itself first, as long as the fuel lasts
+unfoldable pub states-from : Ask → Map (List Name) → List Fact → ℕ → Run → List Name → List Run
+states-from a ms fs zero r scanned = r ∷ []
+states-from a ms fs (suc fuel) r scanned =
+    let further = states-from a ms fs fuel (after-round a ms fs r scanned) (next-scanned a ms fs r scanned) in
+    r ∷ cond (is-nil (triggered ms fs r scanned)) (after-round a ms fs r scanned ∷ []) further
+
+-- the history of a run: its state before round 1, then that at the end of each round; the run is the last
+unfoldable pub history : Ask → List Summary → List Root → List Run
+history a decls roots =
+    let fs = facts decls in
+    states-from a (macros decls) fs (most-rounds fs) first-run (first-scanned a fs roots)
+
+-- the state at the end of a round, of which 0 stands for the state before round 1
+unfoldable pub end-of : List Run → ℕ → Run
+end-of h k = getD h k first-run
+
+-- the round that reaches a fact
+unfoldable pub round-of : List Run → Fact → ℕ
+round-of h f = find-index (λ r. mem (f .name) (r .reached)) h
+
+-- the round that first meets a name
+unfoldable pub round-met : List Run → Name → ℕ
+round-met h n = find-index (λ r. mem n (r .met)) h
 
 -- the visits: the filed entries whose name is met
 unfoldable pub visits : List Name → List Fact → ℕ

@@ -85,19 +85,29 @@ pub const MOST_ENTRIES: usize = 2048;
 
 pub const MOST_USES: usize = 6144;
 
+// The highest number of a query and of options.
+pub const MOST_QUERY: u32 = 255;
+
+pub const MOST_OPTIONS: u32 = 7;
+
 // The words of a working slice that a call uses.
 pub const WORKING_WORDS: usize = 16384;
 
-// How much of the tables the lines read so far fill: names, references, terms, records, trigger entries, name uses; the next
-// mark; and the ask.
+// How much of the tables the lines read so far fill: asks, names, references, terms, records, trigger entries, name uses; and
+// the next mark.
 pub struct Counts {
-    pub named: usize,
-    pub used: usize,
-    pub many: usize,
+    pub asks: usize,
+    pub names: usize,
+    pub references: usize,
+    pub terms: usize,
     pub records: usize,
     pub entries: usize,
     pub uses: usize,
     pub mark: usize,
+}
+
+// What a run is asked: a query and an options number.
+pub struct Asked {
     pub query: usize,
     pub options: usize,
 }

@@ -14,7 +14,7 @@ use Rattle.model.specs.Summaries.{common-names, exclude-names}
 use Rattle.model.proofs.ListLaws.{T-true, T-false, true-T}
 use Rattle.model.proofs.SetLaws.{same-refl, same-eq, mem-first, mem-later, from-list-mem}
 use Rattle.names.specs.Known.{known-names, code-from, head-code}
-use Rattle.names.specs.Table.{name-of, names-of, Table}
+use Rattle.names.specs.Table.{name-of, table-names, Table}
 use Rattle.names.proofs.Codes.{known-length}
 
 -- ---- codes
@@ -121,7 +121,7 @@ code-excluded n =
 -- a slice with the same words below 8192: its table, its names, and the name of each number are those of the first
 pub record Kept (file w w′ : List ℕ) (named : ℕ) : Type 0 where
   pub table : Table file w′ named
-  pub names : names-of file w′ named ≡ names-of file w named
+  pub names : table-names file w′ named ≡ table-names file w named
   pub name : (n : ℕ) → n < named → name-of file w′ n ≡ name-of file w n
 
 module _ (file w w′ : List ℕ) (words : (i : ℕ) → i < 8192 → getD w′ i 0 ≡ getD w i 0) where
@@ -131,8 +131,8 @@ module _ (file w w′ : List ℕ) (words : (i : ℕ) → i < 8192 → getD w′ 
   name-stays n h = rw (words n (omega arith), words (2048 + n) (omega arith))
 
   -- the names by number stay
-  names-stay : (k : ℕ) → k ≤ 2048 → names-of file w′ k ≡ names-of file w k
-  unfolding names-of
+  names-stay : (k : ℕ) → k ≤ 2048 → table-names file w′ k ≡ table-names file w k
+  unfolding table-names
   names-stay zero h = refl
   names-stay (suc k) h = rw (names-stay k (omega arith), name-stays k (omega arith))
 

@@ -14,7 +14,7 @@ use Rattle.model.specs.declared.Order.the-variants.{Before}
 use Rattle.model.proofs.SetLaws.{order-flip}
 use Rattle.names.specs.declared.Found.the-variants as found
 use Rattle.names.specs.Known.{head-code}
-use Rattle.names.specs.Table.{name-of, ranked, names-of, Table, look-up, index-with, entered}
+use Rattle.names.specs.Table.{name-of, ranked, table-names, Table, look-up, index-with, entered}
 use Rattle.names.proofs.Laws.{Stands, under, level, over, stands, last-or, below-or, name-at, Lacks, found-missing}
 
 -- ---- the index with one number more
@@ -251,11 +251,11 @@ module _ (file w : List ℕ) (named a e rank : ℕ) (h : rank ≤ named) (few : 
       rw (entered-start, entered-size, n)
 
   -- the names by number are those that were there, then the new one
-  pub entered-names : a ≤ e → names-of file (entered file w named a e rank) (named + 1) ≡ names-of file w named ++ (part file a e ∷ [])
-  unfolding names-of
+  pub entered-names : a ≤ e → table-names file (entered file w named a e rank) (named + 1) ≡ table-names file w named ++ (part file a e ∷ [])
+  unfolding table-names
   entered-names o = rw (add-one named, entered-new o) (ap (_++ (part file a e ∷ [])) (go named (omega arith)))
     where
-      go : (k : ℕ) → k ≤ named → names-of file (entered file w named a e rank) k ≡ names-of file w k
+      go : (k : ℕ) → k ≤ named → table-names file (entered file w named a e rank) k ≡ table-names file w k
       go zero l = refl
       go (suc k) l = rw (go k (omega arith), entered-old k (omega arith))
 
@@ -352,7 +352,7 @@ module _ (file w : List ℕ) (named a e rank : ℕ) (h : rank ≤ named) (few : 
 
 -- a table with one name more is a table
 pub entered-table : {file w : List ℕ} {named : ℕ} → Table file w named → named < 2048 → (a e rank : ℕ) → a ≤ e → e ≤ length file
-    → look-up (names-of file w named) (part file a e) ≡ found.Missing rank → Table file (entered file w named a e rank) (named + 1)
+    → look-up (table-names file w named) (part file a e) ≡ found.Missing rank → Table file (entered file w named a e rank) (named + 1)
 entered-table {file} {w} {named} table few a e rank o inside missing =
     let lacks = found-missing table (part file a e) rank missing in
     table-still file w named a e rank (lacks .within) few (table .room) table o inside lacks

@@ -11,7 +11,7 @@ use borrow.Author.Tests.{lt-ltb, ltb-true}
 use Rattle.model.specs.Lists.{part}
 use Rattle.model.specs.Names.{Name}
 use Rattle.model.specs.Summaries.{exclude-names}
-use Rattle.names.specs.Table.{name-code, name-of, names-of, look-up, is-excluded, Excludes, entered, spell-table, Table}
+use Rattle.names.specs.Table.{name-code, name-of, table-names, look-up, is-excluded, Excludes, entered, spell-table, Table}
 use Rattle.names.specs.declared.Found.{Found}
 use Rattle.names.specs.declared.Found.the-variants as found
 use Rattle.names.proofs.Laws.{found-missing}
@@ -46,11 +46,11 @@ excluded-kept w w′ words n h = rw (words (6144 + n) (omega arith))
 
 -- and so does a table with one name more of those that were there
 pub excluded-spelled : {file w : List ℕ} {named : ℕ} → Table file w named → (a e n : ℕ) → n < named
-    → is-excluded (spell-table file w named a e (look-up (names-of file w named) (part file a e))) n ≡ is-excluded w n
+    → is-excluded (spell-table file w named a e (look-up (table-names file w named) (part file a e))) n ≡ is-excluded w n
 unfolding spell-table is-excluded
-excluded-spelled {file} {w} {named} table a e n h = go (look-up (names-of file w named) (part file a e)) refl
+excluded-spelled {file} {w} {named} table a e n h = go (look-up (table-names file w named) (part file a e)) refl
   where
-    go : (f : Found) → look-up (names-of file w named) (part file a e) ≡ f → is-excluded (spell-table file w named a e f) n ≡ is-excluded w n
+    go : (f : Found) → look-up (table-names file w named) (part file a e) ≡ f → is-excluded (spell-table file w named a e f) n ≡ is-excluded w n
     go (found.At m) q = refl
     go (found.Missing rank) q = choose (ltb named 2048) refl
       where

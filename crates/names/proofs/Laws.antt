@@ -23,7 +23,7 @@ use Rattle.text.specs.Parts.{shared, comparison}
 use Rattle.text.proofs.Laws.{shared-between}
 use Rattle.names.specs.declared.Found.{Found}
 use Rattle.names.specs.declared.Found.the-variants.{At, Missing}
-use Rattle.names.specs.Table.{name-of, ranked, names-of, Table, place-from, is-before, rank-among, found-or, look-up}
+use Rattle.names.specs.Table.{name-of, ranked, table-names, Table, place-from, is-before, rank-among, found-or, look-up}
 
 -- ---- numbers
 
@@ -258,8 +258,8 @@ sought f (suc k) name up = go (sought f k name (λ r q h l. up r q h (omega arit
 -- ---- a table of names
 
 -- the names are the names of the numbers
-names-listed : (file w : List ℕ) (named : ℕ) → names-of file w named ≡ listed (name-of file w) named
-unfolding names-of listed
+names-listed : (file w : List ℕ) (named : ℕ) → table-names file w named ≡ listed (name-of file w) named
+unfolding table-names listed
 names-listed file w zero = refl
 names-listed file w (suc named) = rw (names-listed file w named)
 
@@ -272,26 +272,26 @@ unfoldable pub index-names : List ℕ → List ℕ → ℕ → List Name
 index-names file w named = listed (name-at file w) named
 
 -- there are as many names as numbers
-pub names-length : (file w : List ℕ) (named : ℕ) → length (names-of file w named) ≡ named
+pub names-length : (file w : List ℕ) (named : ℕ) → length (table-names file w named) ≡ named
 names-length file w named = rw (names-listed file w named) (listed-length (name-of file w) named)
 
 -- a number is the place of its name
-pub names-at : (file w : List ℕ) (named n : ℕ) → n < named → getD (names-of file w named) n [] ≡ name-of file w n
-unfolding names-of
+pub names-at : (file w : List ℕ) (named n : ℕ) → n < named → getD (table-names file w named) n [] ≡ name-of file w n
+unfolding table-names
 names-at file w zero n h = absurd (not-suc-le-zero h)
 names-at file w (suc k) n h = ⊎-elim
-    (λ (e : n ≡ k). rw e (getD-at (names-of file w k) (name-of file w k) [] [] k (names-length file w k)))
+    (λ (e : n ≡ k). rw e (getD-at (table-names file w k) (name-of file w k) [] [] k (names-length file w k)))
     (λ (l : n < k).
-    List·getD-append (names-of file w k) (name-of file w k ∷ []) [] n (rw (names-length file w k) l)
+    List·getD-append (table-names file w k) (name-of file w k ∷ []) [] n (rw (names-length file w k) l)
     ∙ names-at file w k n l)
     (last-or k h)
 
 -- the name of a number is among the names
-pub names-intro : (file w : List ℕ) (named n : ℕ) → n < named → T (mem (name-of file w n) (names-of file w named))
+pub names-intro : (file w : List ℕ) (named n : ℕ) → n < named → T (mem (name-of file w n) (table-names file w named))
 names-intro file w named n h = rw (names-listed file w named) (listed-intro (name-of file w) named n h)
 
 -- what is among the names is the name of a number
-pub names-elim : (file w : List ℕ) (named : ℕ) (name : Name) → T (mem name (names-of file w named)) → (n : ℕ) × (n < named) × (name ≡ name-of file w n)
+pub names-elim : (file w : List ℕ) (named : ℕ) (name : Name) → T (mem name (table-names file w named)) → (n : ℕ) × (n < named) × (name ≡ name-of file w n)
 names-elim file w named name t = listed-elim (name-of file w) named name (rw (names-listed file w named) at t)
 
 -- the part of the file that a row says is the name of its number
@@ -352,7 +352,7 @@ pub record Lacks (file w : List ℕ) (named : ℕ) (name : Name) (rank : ℕ) : 
   pub within : rank ≤ named
   pub below : (q : ℕ) → q < rank → order (name-at file w q) name ≡ Before
   pub above : (q : ℕ) → rank ≤ q → q < named → order (name-at file w q) name ≡ After
-  pub absent : T (mem name (names-of file w named)) → ⊥
+  pub absent : T (mem name (table-names file w named)) → ⊥
 
 module _ {file w : List ℕ} {named : ℕ} (table : Table file w named) where
   -- two ranks with one number are one
@@ -381,7 +381,7 @@ module _ {file w : List ℕ} {named : ℕ} (table : Table file w named) where
   index-ascending = listed-ascending (name-at file w) named (table .ascending)
 
   -- with the members of the names
-  pub index-members : (name : Name) → T (mem name (names-of file w named)) ↔ T (mem name (index-names file w named))
+  pub index-members : (name : Name) → T (mem name (table-names file w named)) ↔ T (mem name (index-names file w named))
   unfolding index-names
   index-members name = (
     λ t. let (n, h, e) = names-elim file w named name t in let (r, l, d) = table .each n h in rw (e, ← d) (listed-intro (name-at file w) named r l),
@@ -454,7 +454,7 @@ module _ {file w : List ℕ} {named : ℕ} (table : Table file w named) where
     }
 
   -- a name that stands at a rank is found there
-  pub look-up-at : (r : ℕ) (name : Name) → r < named → name-at file w r ≡ name → look-up (names-of file w named) name ≡ At (ranked w r)
+  pub look-up-at : (r : ℕ) (name : Name) → r < named → name-at file w r ≡ name → look-up (table-names file w named) name ≡ At (ranked w r)
   unfolding look-up found-or
   look-up-at r name h e = rw (← e, names-listed file w named, listed-place (name-of file w) named (ranked w r) apart (table .numbers r h))
 
@@ -462,7 +462,7 @@ module _ {file w : List ℕ} {named : ℕ} (table : Table file w named) where
   not-among : (low : ℕ) (name : Name)
       → ((q : ℕ) → q < low → order (name-at file w q) name ≡ Before)
       → ((q : ℕ) → low ≤ q → q < named → order (name-at file w q) name ≡ After)
-      → T (mem name (names-of file w named)) → ⊥
+      → T (mem name (table-names file w named)) → ⊥
   not-among low name b a t =
       let (n, h, e) = names-elim file w named name t in
       let (r, l, d) = table .each n h in
@@ -474,18 +474,18 @@ module _ {file w : List ℕ} {named : ℕ} (table : Table file w named) where
 
   -- a name before which each rank below one stands, and after which each other, is missing there
   pub look-up-missing : (low : ℕ) (name : Name) → low ≤ named → ((q : ℕ) → q < low → order (name-at file w q) name ≡ Before)
-      → ((q : ℕ) → low ≤ q → q < named → order (name-at file w q) name ≡ After) → look-up (names-of file w named) name ≡ Missing low
+      → ((q : ℕ) → low ≤ q → q < named → order (name-at file w q) name ≡ After) → look-up (table-names file w named) name ≡ Missing low
   unfolding look-up found-or rank-among is-before index-names
   look-up-missing low name h b a =
       let test : Name → Bool = λ m. is-before (order m name) in
-      let n : count test (names-of file w named) ≡ low =
+      let n : count test (table-names file w named) ≡ low =
       ap (count test) (names-listed file w named)
       ∙ listed-recount test (name-of file w) (name-at file w) named apart index-ascending (λ m. rw (names-listed file w named) at (index-members m))
       ∙ listed-count test (name-at file w) low named h (λ q l. rw (b q l)) (λ q l k. rw (a q l k)) in
-      rw (place-none 0 (names-of file w named) name (not-among low name b a), n)
+      rw (place-none 0 (table-names file w named) name (not-among low name b a), n)
 
   -- a name that is found has that number
-  pub found-at : (name : Name) (n : ℕ) → look-up (names-of file w named) name ≡ At n → (n < named) × (name-of file w n ≡ name)
+  pub found-at : (name : Name) (n : ℕ) → look-up (table-names file w named) name ≡ At n → (n < named) × (name-of file w n ≡ name)
   found-at name n h = go (sought (name-at file w) named name (table .ascending))
     where
       go : Sought (name-at file w) named name → (n < named) × (name-of file w n ≡ name)
@@ -499,7 +499,7 @@ module _ {file w : List ℕ} {named : ℕ} (table : Table file w named) where
           absurd (omega arith)
 
   -- a name that is missing belongs at that rank
-  pub found-missing : (name : Name) (rank : ℕ) → look-up (names-of file w named) name ≡ Missing rank → Lacks file w named name rank
+  pub found-missing : (name : Name) (rank : ℕ) → look-up (table-names file w named) name ≡ Missing rank → Lacks file w named name rank
   found-missing name rank h = go (sought (name-at file w) named name (table .ascending))
     where
       go : Sought (name-at file w) named name → Lacks file w named name rank
@@ -514,7 +514,7 @@ module _ {file w : List ℕ} {named : ℕ} (table : Table file w named) where
           rw d at lacks
 
   -- the rank that is answered is at most the count
-  pub missing-within : (name : Name) (rank : ℕ) (x : Found) → x ≡ look-up (names-of file w named) name → x ≡ Missing rank → rank ≤ named
+  pub missing-within : (name : Name) (rank : ℕ) (x : Found) → x ≡ look-up (table-names file w named) name → x ≡ Missing rank → rank ≤ named
   missing-within name rank x p q = found-missing name rank (sym p ∙ q) .within
 
 -- a slice with room, and no names

@@ -15,7 +15,7 @@ use Rattle.names.specs.declared.Found.{Found}
 use Rattle.names.specs.declared.Found.the-variants.{At, Missing}
 use Rattle.names.specs.declared.Spelled.{Spelled}
 use Rattle.names.specs.declared.Spelled.the-variants.{Known, New, Full}
-use Rattle.names.specs.Table.{name-of, names-of, Table, look-up, entered, spell-answer, spell-table}
+use Rattle.names.specs.Table.{name-of, table-names, Table, look-up, entered, spell-answer, spell-table}
 use Rattle.names.proofs.Laws.{Lacks, found-at, found-missing, names-intro}
 use Rattle.names.proofs.Entering.{entered-names, entered-table}
 
@@ -52,7 +52,7 @@ pub record Was-known (file w w′ : List ℕ) (named a e n : ℕ) : Type 0 where
   pub number : n < named
   pub is : name-of file w n ≡ part file a e
   pub kept : w′ ≡ w
-  pub names : names-of file w named ≡ spell (names-of file w named) (part file a e)
+  pub names : table-names file w named ≡ spell (table-names file w named) (part file a e)
 
 -- a name that is new: it has the next number, and the table one name more
 pub record Is-new (file w w′ : List ℕ) (named a e n : ℕ) : Type 0 where
@@ -62,13 +62,13 @@ pub record Is-new (file w w′ : List ℕ) (named a e n : ℕ) : Type 0 where
   pub lacks : Lacks file w named (part file a e) rank
   pub slice : w′ ≡ entered file w named a e rank
   pub table : Table file w′ (named + 1)
-  pub appended : names-of file w′ (named + 1) ≡ names-of file w named ++ (part file a e ∷ [])
-  pub names : names-of file w′ (named + 1) ≡ spell (names-of file w named) (part file a e)
+  pub appended : table-names file w′ (named + 1) ≡ table-names file w named ++ (part file a e ∷ [])
+  pub names : table-names file w′ (named + 1) ≡ spell (table-names file w named) (part file a e)
 
 -- a full table: the name is another than its 2,048, and nothing has changed
 pub record Is-full (file w w′ : List ℕ) (named a e : ℕ) : Type 0 where
   pub full : named ≡ 2048
-  pub absent : T (mem (part file a e) (names-of file w named)) → ⊥
+  pub absent : T (mem (part file a e) (table-names file w named)) → ⊥
   pub kept : w′ ≡ w
 
 -- what an answer says
@@ -79,12 +79,12 @@ pub data Spelling (file w w′ : List ℕ) (named a e : ℕ) : Spelled → Type 
 
 module _ {file w : List ℕ} {named : ℕ} (table : Table file w named) (a e : ℕ) (o : a ≤ e) (inside : e ≤ length file) where
   -- the answer and the slice of spelling a name, and the names then
-  pub spell-law : (w′ : List ℕ) (r : Spelled) → r ≡ spell-answer named (look-up (names-of file w named) (part file a e))
-      → w′ ≡ spell-table file w named a e (look-up (names-of file w named) (part file a e)) → Spelling file w w′ named a e r
+  pub spell-law : (w′ : List ℕ) (r : Spelled) → r ≡ spell-answer named (look-up (table-names file w named) (part file a e))
+      → w′ ≡ spell-table file w named a e (look-up (table-names file w named) (part file a e)) → Spelling file w w′ named a e r
   unfolding spell-answer spell-table
-  spell-law w′ r p q = rw p (go (look-up (names-of file w named) (part file a e)) refl q)
+  spell-law w′ r p q = rw p (go (look-up (table-names file w named) (part file a e)) refl q)
     where
-      go : (f : Found) → look-up (names-of file w named) (part file a e) ≡ f → w′ ≡ spell-table file w named a e f
+      go : (f : Found) → look-up (table-names file w named) (part file a e) ≡ f → w′ ≡ spell-table file w named a e f
           → Spelling file w w′ named a e (spell-answer named f)
       go (At n) d q =
           let (h, is-name) = found-at table (part file a e) n d in
@@ -93,7 +93,7 @@ module _ {file w : List ℕ} {named : ℕ} (table : Table file w named) (a e : �
             number = h;
             is = is-name;
             kept = q;
-            names = spell-old (part file a e) (names-of file w named) (rw is-name at (names-intro file w named n h));
+            names = spell-old (part file a e) (table-names file w named) (rw is-name at (names-intro file w named n h));
           })
       go (Missing rank) d q = choose (ltb named 2048) refl q
         where
@@ -114,7 +114,7 @@ module _ {file w : List ℕ} {named : ℕ} (table : Table file w named) (a e : �
                 slice = q;
                 table = rw q (entered-table table few a e rank o inside d);
                 appended = rw q names;
-                names = rw q (names ∙ spell-fresh (part file a e) (names-of file w named) (lacks .absent));
+                names = rw q (names ∙ spell-fresh (part file a e) (table-names file w named) (lacks .absent));
               })
           choose false t q = full (record { full = omega (arith, table .few, ltb-false named 2048 t); absent = lacks .absent; kept = q })
 

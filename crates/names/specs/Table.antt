@@ -50,9 +50,9 @@ unfoldable pub name-of : List ℕ → List ℕ → ℕ → Name
 name-of file w n = part file (name-start w n) (name-start w n + name-length w n)
 
 -- the names of a table with `named` names, by number
-unfoldable pub names-of : List ℕ → List ℕ → ℕ → List Name
-names-of file w zero = []
-names-of file w (suc named) = names-of file w named ++ (name-of file w named ∷ [])
+unfoldable pub table-names : List ℕ → List ℕ → ℕ → List Name
+table-names file w zero = []
+table-names file w (suc named) = table-names file w named ++ (name-of file w named ∷ [])
 
 -- a table of `named` names of the file
 pub record Table (file w : List ℕ) (named : ℕ) : Type 0 where

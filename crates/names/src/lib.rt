@@ -7,7 +7,7 @@ ghost use Rattle.model.specs.Reading.{most-names};
 ghost use Rattle.model.specs.Outcome.{working-words};
 ghost use Rattle.text.specs.Parts.{shared, comparison};
 ghost use Rattle.names.specs.Known.{head-code, known-text};
-ghost use Rattle.names.specs.Table.{length-column, name-start, name-length, Table, is-excluded, name-of, names-of, look-up, index-with, spell-answer, spell-table};
+ghost use Rattle.names.specs.Table.{length-column, name-start, name-length, Table, is-excluded, name-of, table-names, look-up, index-with, spell-answer, spell-table};
 
 // What a look-up finds: the name's number, or the rank where the name belongs in byte order.
 pub enum Found {
@@ -97,7 +97,7 @@ fn compare(file: &[u8], w: &[u32], n: usize, a: usize, e: usize, from: usize) ->
 // such name; what stands between the two shares at least the lesser number of bytes with it.
 fn look_up(file: &[u8], w: &[u32], named: usize, a: usize, e: usize) -> Found
     requires { ⌜ Table (now file) (now w) named × (a ≤ e) × (e ≤ length (now file)) ⌝ }
-    ensures { λ r. ⌜ r ≡ look-up (names-of (now (file .entry)) (now (w .entry)) named) (part (now (file .entry)) a e) ⌝ }
+    ensures { λ r. ⌜ r ≡ look-up (table-names (now (file .entry)) (now (w .entry)) named) (part (now (file .entry)) a e) ⌝ }
 {
     let mut low: usize = 0;
     let mut high = named;
@@ -128,10 +128,10 @@ fn look_up(file: &[u8], w: &[u32], named: usize, a: usize, e: usize) -> Found
 // Spells the name from `a` up to `e`: a new one takes the number `named`, unless the table is full.
 pub fn spell(file: &[u8], w: &mut [u32], named: usize, a: usize, e: usize) -> Spelled
     requires { ⌜ Table (now file) (now w) named × (a ≤ e) × (e ≤ length (now file)) ⌝ }
-    ensures answer { λ r. ⌜ r ≡ spell-answer named (look-up (names-of (now (file .entry)) (now (w .entry)) named)
+    ensures answer { λ r. ⌜ r ≡ spell-answer named (look-up (table-names (now (file .entry)) (now (w .entry)) named)
         (part (now (file .entry)) a e)) ⌝ }
     ensures table { λ r. ⌜ now (w .exit) ≡ spell-table (now (file .entry)) (now (w .entry)) named a e
-        (look-up (names-of (now (file .entry)) (now (w .entry)) named) (part (now (file .entry)) a e)) ⌝ }
+        (look-up (table-names (now (file .entry)) (now (w .entry)) named) (part (now (file .entry)) a e)) ⌝ }
 {
     match look_up(file, w, named, a, e) {
         Found::At(n) => Spelled::Known(n),

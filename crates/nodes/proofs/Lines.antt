@@ -21,7 +21,7 @@ use Rattle.model.proofs.PartLaws.{part-cons, part-drop}
 use Rattle.text.specs.declared.Cursor.{Cursor}
 use Rattle.text.specs.Parts.{fields-left}
 use Rattle.text.proofs.Laws.{left-none}
-use Rattle.names.specs.Table.{names-of}
+use Rattle.names.specs.Table.{table-names}
 use Rattle.terms.specs.Rows.{terms-of-words, op-of-code}
 use Rattle.nodes.specs.declared.Passed.{Passed}
 use Rattle.nodes.specs.declared.Passed.the-variants as passed
@@ -134,20 +134,20 @@ module _ (count : ℕ) (fs : List Field) where
 -- ---- each kind, read
 
 module _ {file names refs rows refs′ : List ℕ} {k : Counts} {end : ℕ} {words : List ℕ} {kind : LineKind} {c : Cursor} {node : Node}
-    (t : Stands file names refs rows k) (says : content kind (k .many) (fields-left file c) ≡ ok (term node))
-    (ran : Ran (k .many) refs refs′ (k .used) end words) (count : length words ≡ length (references node)) where
+    (t : Stands file names refs rows k) (says : content kind (k .terms) (fields-left file c) ≡ ok (term node))
+    (ran : Ran (k .terms) refs refs′ (k .references) end words) (count : length words ≡ length (references node)) where
   -- a line that spells no name
-  pub plain-line : spelled-by node ≡ [] → Line-read file names refs names refs′ k kind c (k .named) end node words
+  pub plain-line : spelled-by node ≡ [] → Line-read file names refs names refs′ k kind c (k .names) end node words
   unfolding fold-left
   plain-line e = record { says = says; naming = in-table (t .name-table) (rw e); longer = longer-to (omega arith); ran = ran; count = count }
 
   -- a line that spells a name
-  pub named-line : {names′ : List ℕ} {named′ n : ℕ} {m : Name} → Spelled-as file names names′ (k .named) named′ n m → spelled-by node ≡ m ∷ []
+  pub named-line : {names′ : List ℕ} {named′ n : ℕ} {m : Name} → Spelled-as file names names′ (k .names) named′ n m → spelled-by node ≡ m ∷ []
       → Line-read file names refs names′ refs′ k kind c named′ end node words
   unfolding fold-left
   named-line s e = record {
     says = says;
-    naming = rw e (s .naming (names-of file names (k .named)) (in-table (t .name-table) refl));
+    naming = rw e (s .naming (table-names file names (k .names)) (in-table (t .name-table) refl));
     longer = s .longer;
     ran = ran;
     count = count;
@@ -155,47 +155,47 @@ module _ {file names refs rows refs′ : List ℕ} {k : Counts} {end : ℕ} {wor
 
 module _ {file names refs rows : List ℕ} (k : Counts) (t : Stands file names refs rows k) (c : Cursor) where
   -- a `leaf`
-  pub leaf-read : c .end < c .at → Line-read file names refs names refs k kind.Leaf c (k .named) (k .used) Leaf []
+  pub leaf-read : c .end < c .at → Line-read file names refs names refs k kind.Leaf c (k .names) (k .references) Leaf []
   unfolding spelled-by references
-  leaf-read h = plain-line t (leaf-said (k .many) (fields-left file c) ∙ end-none (term Leaf) file c h) ran-none refl refl
+  leaf-read h = plain-line t (leaf-said (k .terms) (fields-left file c) ∙ end-none (term Leaf) file c h) ran-none refl refl
 
-  module _ {names′ : List ℕ} {named′ n : ℕ} {after : Cursor} (r : Name-read file names names′ (k .named) named′ n c after) where
+  module _ {names′ : List ℕ} {named′ n : ℕ} {after : Cursor} (r : Name-read file names names′ (k .names) named′ n c after) where
     -- a `free`
-    pub free-read : after .end < after .at → Line-read file names refs names′ refs k kind.Free c named′ (k .used) (FreeV (r .name)) []
+    pub free-read : after .end < after .at → Line-read file names refs names′ refs k kind.Free c named′ (k .references) (FreeV (r .name)) []
     unfolding spelled-by references
-    free-read h = named-line t (free-said (k .many) (fields-left file c) (r .said) ∙ end-none (term (FreeV (r .name))) file after h) ran-none refl
+    free-read h = named-line t (free-said (k .terms) (fields-left file c) (r .said) ∙ end-none (term (FreeV (r .name))) file after h) ran-none refl
         (r .spelled) refl
 
     -- a `call`
-    pub call-read : {refs′ : List ℕ} {end : ℕ} (b : Rest-ran (k .many) refs refs′ (k .used) end (fields-left file after))
+    pub call-read : {refs′ : List ℕ} {end : ℕ} (b : Rest-ran (k .terms) refs refs′ (k .references) end (fields-left file after))
         → Line-read file names refs names′ refs′ k kind.Call c named′ end (Call (r .name) (b .terms)) (in-group 0 (b .terms))
     unfolding spelled-by references
-    call-read b = named-line t (call-said (k .many) (fields-left file c) (r .said) ∙ rw (b .said)) (b .ran) (length-map (b .terms) (λ t. reference t 0))
+    call-read b = named-line t (call-said (k .terms) (fields-left file c) (r .said) ∙ rw (b .said)) (b .ran) (length-map (b .terms) (λ t. reference t 0))
         (r .spelled) refl
 
   -- an `op`
   pub op-line : {refs′ : List ℕ} {end : ℕ} {w : Op} {gs : List Field} → next op-field (fields-left file c) ≡ ok (w, gs)
-      → (b : Rest-ran (k .many) refs refs′ (k .used) end gs)
-      → Line-read file names refs names refs′ k kind.Op c (k .named) end (App w (b .terms)) (in-group 0 (b .terms))
+      → (b : Rest-ran (k .terms) refs refs′ (k .references) end gs)
+      → Line-read file names refs names refs′ k kind.Op c (k .names) end (App w (b .terms)) (in-group 0 (b .terms))
   unfolding spelled-by references
-  op-line e b = plain-line t (op-said (k .many) (fields-left file c) e ∙ rw (b .said)) (b .ran) (length-map (b .terms) (λ t. reference t 0)) refl
+  op-line e b = plain-line t (op-said (k .terms) (fields-left file c) e ∙ rw (b .said)) (b .ran) (length-map (b .terms) (λ t. reference t 0)) refl
 
   -- a `let`
-  pub let-read : {refs₁ refs′ : List ℕ} {one end : ℕ} {gs : List Field} (a : Term-ran (k .many) refs refs₁ (k .used) one (fields-left file c) gs)
-      (b : Rest-ran (k .many) refs₁ refs′ one end gs)
-      → Line-read file names refs names refs′ k kind.Let c (k .named) end (Let (a .term) (b .terms)) (reference (a .term) 0 ∷ in-group 0 (b .terms))
+  pub let-read : {refs₁ refs′ : List ℕ} {one end : ℕ} {gs : List Field} (a : Term-ran (k .terms) refs refs₁ (k .references) one (fields-left file c) gs)
+      (b : Rest-ran (k .terms) refs₁ refs′ one end gs)
+      → Line-read file names refs names refs′ k kind.Let c (k .names) end (Let (a .term) (b .terms)) (reference (a .term) 0 ∷ in-group 0 (b .terms))
   unfolding spelled-by references
   let-read a b =
-      plain-line t (let-said (k .many) (fields-left file c) (a .said) ∙ rw (b .said)) (ran-then (a .ran) (b .ran))
+      plain-line t (let-said (k .terms) (fields-left file c) (a .said) ∙ rw (b .said)) (ran-then (a .ran) (b .ran))
       (ap suc (length-map (b .terms) (λ t. reference t 0))) refl
 
   -- a `label`
-  pub label-read : {refs′ : List ℕ} {one : ℕ} {after : Cursor} (a : Term-ran (k .many) refs refs′ (k .used) one (fields-left file c) (fields-left file after))
+  pub label-read : {refs′ : List ℕ} {one : ℕ} {after : Cursor} (a : Term-ran (k .terms) refs refs′ (k .references) one (fields-left file c) (fields-left file after))
       → after .end < after .at
-      → Line-read file names refs names refs′ k kind.Label c (k .named) (k .used + 1) (Labeled (a .term)) (reference (a .term) 0 ∷ [])
+      → Line-read file names refs names refs′ k kind.Label c (k .names) (k .references + 1) (Labeled (a .term)) (reference (a .term) 0 ∷ [])
   unfolding spelled-by references
   label-read {after = after} a h =
-      plain-line t (label-said (k .many) (fields-left file c) (a .said) ∙ end-none (term (Labeled (a .term))) file after h)
+      plain-line t (label-said (k .terms) (fields-left file c) (a .said) ∙ end-none (term (Labeled (a .term))) file after h)
       (record { is = a .ran .is; ends = omega arith; small = a .ran .small }) refl refl
 
 -- ---- its words behind the table
@@ -204,27 +204,27 @@ module _ {file names refs rows names′ refs′ : List ℕ} {k : Counts} {kind :
     (t : Stands file names refs rows k) {r : Passed} (d : First-passed named′ end r) (e : r ≡ passed.Nothing) where
   -- the terms of a line whose words are those of terms
   pub line-terms : {ts : List ℕ} → Line-read file names refs names′ refs′ k kind c named′ end node (in-group 0 ts)
-      → ((u : ℕ) → List·Memᴰ u ts → u < k .many)
-      → terms-of-words (part refs′ (k .used) end) ≡ ts
+      → ((u : ℕ) → List·Memᴰ u ts → u < k .terms)
+      → terms-of-words (part refs′ (k .references) end) ≡ ts
   line-terms {ts} b s = ap terms-of-words (line-words t b d e) ∙ terms-back ts s (t .term-table .few-rows)
 
   module _ (body : ℕ) {words : List ℕ} (b : Line-read file names refs names′ refs′ k kind c named′ end node (reference body 0 ∷ words)) where
     -- a line with a body
-    pub line-bodied : k .used < end
+    pub line-bodied : k .references < end
     line-bodied = omega (arith, b .ran .ends)
 
     -- its body
-    pub line-body : body < k .many → getD refs′ (k .used) 0 % 4096 ≡ body
+    pub line-body : body < k .terms → getD refs′ (k .references) 0 % 4096 ≡ body
     line-body low =
         let few = t .term-table .few-rows in
-        let q = ap (λ ws. getD ws 0 0) (sym (part-cons refs′ (k .used) end line-bodied (line-long t b d e)) ∙ line-words t b d e) in
+        let q = ap (λ ws. getD ws 0 0) (sym (part-cons refs′ (k .references) end line-bodied (line-long t b d e)) ∙ line-words t b d e) in
         omega arith
 
     -- its words after the body
-    pub line-after : part refs′ (k .used + 1) end ≡ words
-    line-after = sym (part-drop refs′ (k .used) end 1) ∙ ap (drop 1) (line-words t b d e)
+    pub line-after : part refs′ (k .references + 1) end ≡ words
+    line-after = sym (part-drop refs′ (k .references) end 1) ∙ ap (drop 1) (line-words t b d e)
 
     -- and their terms
-    pub line-rest : {ts : List ℕ} → words ≡ in-group 0 ts → ((u : ℕ) → List·Memᴰ u ts → u < k .many)
-        → terms-of-words (part refs′ (k .used + 1) end) ≡ ts
+    pub line-rest : {ts : List ℕ} → words ≡ in-group 0 ts → ((u : ℕ) → List·Memᴰ u ts → u < k .terms)
+        → terms-of-words (part refs′ (k .references + 1) end) ≡ ts
     line-rest {ts} q s = ap terms-of-words (line-after ∙ q) ∙ terms-back ts s (t .term-table .few-rows)

@@ -17,13 +17,13 @@ use Rattle.text.specs.declared.Cursor.{Cursor}
 use Rattle.text.specs.Parts.{fields-left}
 use Rattle.terms.specs.Rows.{groups-of-words}
 use Rattle.terms.proofs.Groups.{group-words, groups-law, group-words-rise}
-use Rattle.lines.specs.Additions.{Patterns}
+use Rattle.additions.specs.Additions.{Patterns}
 use Rattle.words.specs.Slices.{Same-but}
 use Rattle.nodes.specs.declared.Passed.{Passed}
 use Rattle.nodes.specs.declared.Passed.the-variants as passed
 use Rattle.nodes.specs.declared.Quantifier.{Quantifier}
 use Rattle.nodes.specs.declared.Quantifier.the-variants as quantified
-use Rattle.fields.specs.Pushing.{reference, most-number, Run, push-one, push-groups}
+use Rattle.fields.specs.Pushing.{reference, most-number, References-read, push-one, push-groups}
 use Rattle.nodes.specs.Growing.{quantifier-kind, push-quantifier, quantifier-result, Quantifies, First-passed, Stands}
 use Rattle.fields.proofs.Runs.{Ran, ran-then, word-small, term-ran, groups-ran, term-refused, groups-refused}
 use Rattle.nodes.proofs.Terms.{Line-read, line-long}
@@ -103,7 +103,7 @@ abbrev and-after : ℕ → List Field → Result (ℕ × List Field)
 and-after g fs = ok (g, fs)
 
 -- the references of a run, how many they are, and the fields after
-abbrev run-to : List ℕ → ℕ → List Field → Run
+abbrev run-to : List ℕ → ℕ → List Field → References-read
 run-to refs used fs = ok (refs, used, fs)
 
 -- the references of a quantifier, how many they are, and how many groups
@@ -131,7 +131,7 @@ module _ (count : ℕ) (few : count ≤ 4096) (refs : List ℕ) (from : ℕ) (fs
           }
 
       -- or not
-      groups-not : (make : ℕ → List (List ℕ) → Node) {x : Refusal} (r : Run) → push-groups count 0 g refs₁ one fs₂ ≡ r
+      groups-not : (make : ℕ → List (List ℕ) → Node) {x : Refusal} (r : References-read) → push-groups count 0 g refs₁ one fs₂ ≡ r
           → (r >>= λ (refs₂, used₂, fs₃). all-to g refs₂ used₂ fs₃) ≡ refused x
           → quantifier make count fs ≡ refused x
       unfolding quantifier
@@ -150,7 +150,7 @@ module _ (count : ℕ) (few : count ≤ 4096) (refs : List ℕ) (from : ℕ) (fs
     number-not make (ok (g, fs₂)) b e = groups-not b make (push-groups count 0 g refs₁ one fs₂) refl e
 
   -- a body that was read, or not
-  body-not : (make : ℕ → List (List ℕ) → Node) {x : Refusal} (r : Run) → push-one count 0 refs from fs ≡ r
+  body-not : (make : ℕ → List (List ℕ) → Node) {x : Refusal} (r : References-read) → push-one count 0 refs from fs ≡ r
       → (r >>= λ (refs₁, one, fs₁). next (number-field most-number) fs₁ >>= λ (g, fs₂). push-groups count 0 g refs₁ one fs₂ >>= λ (refs₂, used₂, fs₃). all-to g refs₂ used₂ fs₃) ≡ refused x
       → quantifier make count fs ≡ refused x
   unfolding quantifier
@@ -231,43 +231,43 @@ group-length g (ts ∷ gs) =
     )
 
 module _ {file names refs rows refs′ : List ℕ} (k : Counts) {stop g : ℕ} (c : Cursor) (t : Stands file names refs rows k)
-    (b : Quantified (k .many) refs refs′ (k .used) stop g (fields-left file c)) (all : Bool) where
+    (b : Quantified (k .terms) refs refs′ (k .references) stop g (fields-left file c)) (all : Bool) where
   -- the line of a quantifier
   pub quantifier-line :
-      Line-read file names refs names refs′ k (quantifier-kind all) c (k .named) stop (quantifier-node all (b .body) (b .gs))
+      Line-read file names refs names refs′ k (quantifier-kind all) c (k .names) stop (quantifier-node all (b .body) (b .gs))
       (reference (b .body) 0 ∷ group-words 0 (b .gs))
   quantifier-line =
       let (refers, plain) = quantifier-plain all (b .body) (b .gs) in
-      plain-line t (quantifier-content all (k .many) (fields-left file c) ∙ b .said (quantifier-node all)) (b .ran)
+      plain-line t (quantifier-content all (k .terms) (fields-left file c) ∙ b .said (quantifier-node all)) (b .ran)
       (rw refers (ap suc (group-length 0 (b .gs)))) plain
 
-  module _ {r : Passed} (d : First-passed (k .named) stop r) (e : r ≡ passed.Nothing) where
+  module _ {r : Passed} (d : First-passed (k .names) stop r) (e : r ≡ passed.Nothing) where
     -- the words after the body
-    after-body : part refs′ (k .used + 1) stop ≡ group-words 0 (b .gs)
+    after-body : part refs′ (k .references + 1) stop ≡ group-words 0 (b .gs)
     after-body = line-after t d e (b .body) quantifier-line
 
     -- the patterns stand in the order of their groups
-    pub quantifier-patterns : Patterns refs′ (k .used) stop g
+    pub quantifier-patterns : Patterns refs′ (k .references) stop g
     quantifier-patterns =
         let long = line-long t quantifier-line d e in
         let few = t .term-table .few-rows in
         record {
           bodied = line-bodied t d e (b .body) quantifier-line;
           grouped = λ i low high.
-              let w = rw after-body at (part-intro refs′ (k .used + 1) stop i long (omega arith) high) in
-              omega (arith, b .size, word-small (k .many) (b .gs) 0 few (b .small) (getD refs′ i 0) w .1);
+              let w = rw after-body at (part-intro refs′ (k .references + 1) stop i long (omega arith) high) in
+              omega (arith, b .size, word-small (k .terms) (b .gs) 0 few (b .small) (getD refs′ i 0) w .1);
           rising = λ i low high.
-              let p = i - (k .used + 1) in
-              let x = part-at refs′ (k .used + 1) stop i (omega arith) (omega arith) in
-              let y = part-at refs′ (k .used + 1) stop (i + 1) (omega arith) high in
-              let z : i + 1 - (k .used + 1) ≡ p + 1 = omega arith in
-              let l : p + 1 < length (group-words 0 (b .gs)) = omega (arith, ap length after-body, part-length refs′ (k .used + 1) stop long) in
+              let p = i - (k .references + 1) in
+              let x = part-at refs′ (k .references + 1) stop i (omega arith) (omega arith) in
+              let y = part-at refs′ (k .references + 1) stop (i + 1) (omega arith) high in
+              let z : i + 1 - (k .references + 1) ≡ p + 1 = omega arith in
+              let l : p + 1 < length (group-words 0 (b .gs)) = omega (arith, ap length after-body, part-length refs′ (k .references + 1) stop long) in
               rw (← x, ← y, z, after-body) (group-words-rise (b .gs) 0 (λ u m. omega (arith, b .small u m)) p l);
         }
 
     -- its node, as its row has it
     pub quantifier-row : {all′ : Bool} → all ≡ all′
-        → quantifier-node all′ (getD refs′ (k .used) 0 % 4096) (groups-of-words (part refs′ (k .used + 1) stop) g) ≡ quantifier-node all (b .body) (b .gs)
+        → quantifier-node all′ (getD refs′ (k .references) 0 % 4096) (groups-of-words (part refs′ (k .references + 1) stop) g) ≡ quantifier-node all (b .body) (b .gs)
     quantifier-row q =
         let few = t .term-table .few-rows in
         rw q

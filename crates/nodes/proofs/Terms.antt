@@ -15,14 +15,14 @@ use Rattle.model.specs.declared.Refusal.{Refusal}
 use Rattle.model.proofs.PartLaws.{part-same}
 use Rattle.text.specs.declared.Cursor.{Cursor}
 use Rattle.text.specs.Parts.{Placed, fields-left}
-use Rattle.names.specs.Table.{name-of, names-of}
+use Rattle.names.specs.Table.{name-of, table-names}
 use Rattle.terms.specs.Rows.{row-start, row-end, row-kind, row-op, row-head, row-extra, op-of-code, make-node, node-of, nodes-below, terms-of, Rows}
 use Rattle.terms.proofs.Laws.{below}
 use Rattle.terms.proofs.Table.{rows-named, terms-named}
-use Rattle.lines.specs.Additions.{with-row, rows-after, pushed, Pushed, Adds}
-use Rattle.lines.specs.declared.Added.{Added}
-use Rattle.lines.proofs.Laws.{added-in, added-full}
-use Rattle.lines.proofs.Lines.{pushed-none, pushed-one}
+use Rattle.additions.specs.Additions.{with-row, rows-after, references-pushed, Pushed, Adds-term}
+use Rattle.additions.specs.declared.Added.{Added}
+use Rattle.additions.proofs.Laws.{added-in, added-full}
+use Rattle.additions.proofs.Lines.{pushed-none, pushed-one}
 use Rattle.words.specs.Slices.{Same-but}
 use Rattle.words.proofs.Slices.{same-self, same-then, same-set}
 use Rattle.rules.specs.Views.{Tables, terms-in}
@@ -34,7 +34,7 @@ use Rattle.model.specs.declared.Step.the-variants as step
 use Rattle.fields.specs.Wording.{term-kind}
 use Rattle.fields.specs.Pushing.{push-all, Pushable}
 use Rattle.fields.specs.Spelling.{name-columns, Naming, Longer}
-use Rattle.nodes.specs.Growing.{First-passed, by-names, by-references, by-none, grown-to, Stands, row-columns, Kept, Passes, names-passed, terms-passed, references-passed, grown, over, not-read, Reads-term}
+use Rattle.nodes.specs.Growing.{First-passed, by-names, by-references, by-none, grown-to, Stands, rows-marks-start, Kept, Passes, names-passed, terms-passed, references-passed, grown, over, not-read, Reads-term}
 use Rattle.fields.proofs.Spelling.{naming-table, naming-past, naming-few}
 use Rattle.fields.proofs.Runs.{Ran, ran-kept, ran-agrees, ran-words}
 
@@ -68,20 +68,20 @@ pushed-words {used = used} [] p s h = let e : used + 0 ≡ used = omega arith in
 pushed-words {refs} {rows} {start} {used} {many} {named} (w ∷ ws) p s h =
     let e : used + suc (length ws) ≡ used + 1 + length ws = omega arith in
     let d : w % 4096 + 4096 * (w / 4096) ≡ w = omega arith in
-    let one : Pushed (pushed refs used w) rows start (used + 1) many named =
+    let one : Pushed (references-pushed refs used w) rows start (used + 1) many named =
     rw d at (pushed-one (w % 4096) (w / 4096) p (s w (List·Memᴰ·head refl)) (omega arith)) in
     rw e (pushed-words ws one (λ u m. s u (List·Memᴰ·tail m)) (omega arith))
 
 -- a row is written into the columns of the rows
-row-kept : (rows : List ℕ) (many word start extra : ℕ) → Same-but 0 row-columns rows (rows-after rows many word start extra)
+row-kept : (rows : List ℕ) (many word start extra : ℕ) → Same-but 0 rows-marks-start rows (rows-after rows many word start extra)
 unfolding with-row
 row-kept rows many word start extra = ⊎-elim
     (λ (l : many < most-terms). rw (added-in rows many word start extra l .1)
     (same-then (same-then
-    (same-set 0 row-columns rows many word (omega arith) (omega arith))
-    (same-set 0 row-columns _ (4096 + many) start (omega arith) (omega arith)))
-    (same-set 0 row-columns _ (8192 + many) extra (omega arith) (omega arith))))
-    (λ (l : most-terms ≤ many). rw (added-full rows many word start extra l .1) (same-self 0 row-columns rows))
+    (same-set 0 rows-marks-start rows many word (omega arith) (omega arith))
+    (same-set 0 rows-marks-start _ (4096 + many) start (omega arith) (omega arith)))
+    (same-set 0 rows-marks-start _ (8192 + many) extra (omega arith) (omega arith))))
+    (λ (l : most-terms ≤ many). rw (added-full rows many word start extra l .1) (same-self 0 rows-marks-start rows))
     (below many most-terms)
 
 -- ---- limits
@@ -114,24 +114,24 @@ pushable-start t p = record {
 -- the fields of a term line, read: they say a node, its names are spelled, the words of its references pushed
 pub record Line-read (file names refs names′ refs′ : List ℕ) (k : Counts) (kind : LineKind) (c : Cursor) (named′ end : ℕ) (node : Node) (words : List ℕ)
     : Type 0 where
-  pub says : content kind (k .many) (fields-left file c) ≡ ok (term node)
-  pub naming : Naming file names′ named′ (fold-left spell (names-of file names (k .named)) (spelled-by node))
-  pub longer : Longer file names names′ (k .named) named′
-  pub ran : Ran (k .many) refs refs′ (k .used) end words
+  pub says : content kind (k .terms) (fields-left file c) ≡ ok (term node)
+  pub naming : Naming file names′ named′ (fold-left spell (table-names file names (k .names)) (spelled-by node))
+  pub longer : Longer file names names′ (k .names) named′
+  pub ran : Ran (k .terms) refs refs′ (k .references) end words
   pub count : length words ≡ length (references node)
 
 module _ {file names refs rows names′ refs′ : List ℕ} {k : Counts} {kind : LineKind} {c : Cursor} where
   -- a field that is refused
-  pub line-not : {x : Refusal} → content kind (k .many) (fields-left file c) ≡ refused x → Same-but 0 name-columns names names′
+  pub line-not : {x : Refusal} → content kind (k .terms) (fields-left file c) ≡ refused x → Same-but 0 name-columns names names′
       → Same-but 0 most-references refs refs′
       → Reads-term file names refs rows names′ refs′ rows k kind c (step.Refused x)
-  line-not {x} e a b = record { grows = not-read {x = x} e; kept = record { names-kept = a; refs-kept = b; rows-kept = same-self 0 row-columns rows } }
+  line-not {x} e a b = record { grows = not-read {x = x} e; kept = record { names-kept = a; refs-kept = b; rows-kept = same-self 0 rows-marks-start rows } }
 
   module _ {named′ end : ℕ} {node : Node} {words : List ℕ} (t : Stands file names refs rows k)
       (b : Line-read file names refs names′ refs′ k kind c named′ end node words)
       {r : Passed} (d : First-passed named′ end r) where
     -- the slices but the rows
-    line-kept : {rows′ : List ℕ} → Same-but 0 row-columns rows rows′ → Kept names refs rows names′ refs′ rows′
+    line-kept : {rows′ : List ℕ} → Same-but 0 rows-marks-start rows rows′ → Kept names refs rows names′ refs′ rows′
     line-kept r = record { names-kept = b .longer .kept; refs-kept = ran-kept (b .ran); rows-kept = r }
 
     -- names or references past their limit
@@ -139,7 +139,7 @@ module _ {file names refs rows names′ refs′ : List ℕ} {k : Counts} {kind :
         → Reads-term file names refs rows names′ refs′ rows k kind c (step.Refused x)
     line-over {x} e = record {
       grows = over {x = x} (b .says) (go (rw e at d));
-      kept = line-kept (same-self 0 row-columns rows);
+      kept = line-kept (same-self 0 rows-marks-start rows);
     }
       where
         go : {x : Refusal} → First-passed named′ end (passed.Full x)
@@ -157,25 +157,25 @@ module _ {file names refs rows names′ refs′ : List ℕ} {k : Counts} {kind :
       line-long = omega (arith, line-few .1, ran-kept (b .ran) .same-length, t .term-table .ref-room)
 
       -- the references stand behind the table
-      pub line-pushed : Pushed refs′ rows (k .used) end (k .many) named′
+      pub line-pushed : Pushed refs′ rows (k .references) end (k .terms) named′
       line-pushed =
           let table = rows-named (b .longer .more) (line-few .0) (t .term-table) in
           rw (b .ran .is, b .ran .ends) (pushed-words words (pushed-none table) (b .ran .small) (omega (arith, b .ran .ends, line-few .1)))
 
       -- they are the words of the line
-      pub line-words : part refs′ (k .used) end ≡ words
+      pub line-words : part refs′ (k .references) end ≡ words
       line-words = ran-words (b .ran) (t .term-table .ref-room) (line-few .1)
 
       -- the line's row is added
       pub line-added : {rows′ : List ℕ} {a : Added} {f : Step} {word extra : ℕ} {make : (ℕ → Name) → Node} → f ≡ grown-to a k named′ end
-          → Adds refs′ rows rows′ (k .used) end (k .many) named′ word extra make a → make (name-of file names′) ≡ node
+          → Adds-term refs′ rows rows′ (k .references) end (k .terms) named′ word extra make a → make (name-of file names′) ≡ node
           → Reads-term file names refs rows names′ refs′ rows′ k kind c f
       unfolding grown-to terms-in
       line-added {word = word} {extra} g w is = record {
         grows = ⊎-elim
-            (λ (q : k .many < most-terms).
+            (λ (q : k .terms < most-terms).
             let (table, spelt) = naming-table (b .naming) (line-few .0) in
-            rw (g, w .answer, added-in rows (k .many) word (k .used) extra q .0) (grown (b .says) (record {
+            rw (g, w .answer, added-in rows (k .terms) word (k .references) extra q .0) (grown (b .says) (record {
               tables = record { name-table = table; term-table = w .table q };
               spelt = spelt;
               terms = w .terms q (name-of file names′)
@@ -186,10 +186,10 @@ module _ {file names refs rows names′ refs′ : List ℕ} {k : Counts} {kind :
               used = omega (arith, b .ran .ends, b .count);
               longer = b .longer;
             })))
-            (λ (q : most-terms ≤ k .many). rw (g, w .answer, added-full rows (k .many) word (k .used) extra q .0)
+            (λ (q : most-terms ≤ k .terms). rw (g, w .answer, added-full rows (k .terms) word (k .references) extra q .0)
             (over (b .says) (terms-passed (naming-few (b .naming) (line-few .0)) q)))
-            (below (k .many) most-terms);
-        kept = line-kept (rw (w .row-words) (row-kept rows (k .many) word (k .used) extra));
+            (below (k .terms) most-terms);
+        kept = line-kept (rw (w .row-words) (row-kept rows (k .terms) word (k .references) extra));
       }
 
 -- a kind said otherwise

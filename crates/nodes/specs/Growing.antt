@@ -15,9 +15,9 @@ use Rattle.model.specs.declared.Refusal.{Refusal}
 use Rattle.model.specs.declared.Refusal.the-variants as refusal
 use Rattle.text.specs.declared.Cursor.{Cursor}
 use Rattle.text.specs.Parts.{fields-left}
-use Rattle.names.specs.Table.{names-of}
-use Rattle.lines.specs.declared.Added.{Added}
-use Rattle.lines.specs.declared.Added.the-variants as adds
+use Rattle.names.specs.Table.{table-names}
+use Rattle.additions.specs.declared.Added.{Added}
+use Rattle.additions.specs.declared.Added.the-variants as adds
 use Rattle.words.specs.Slices.{Same-but}
 use Rattle.rules.specs.Views.{Tables, terms-in}
 use Rattle.nodes.specs.declared.Passed.{Passed}
@@ -67,15 +67,14 @@ pub data First-passed (named used : ℕ) : Passed → Type 0 where
 unfoldable pub with-term : Counts → ℕ → ℕ → Counts
 with-term k named used =
     record {
-      named = named;
-      used = used;
-      many = k .many + 1;
+      asks = k .asks;
+      names = named;
+      references = used;
+      terms = k .terms + 1;
       records = k .records;
       entries = k .entries;
       uses = k .uses;
       mark = k .mark;
-      query = k .query;
-      options = k .options;
     }
 
 -- what adding a row comes to
@@ -85,36 +84,36 @@ grown-to adds.Full k named used = step.Refused refusal.FullTerms
 
 -- the two tables of the counts
 abbrev pub Stands : List ℕ → List ℕ → List ℕ → List ℕ → Counts → Type 0
-Stands file names refs rows k = Tables file names refs rows (k .named) (k .used) (k .many)
+Stands file names refs rows k = Tables file names refs rows (k .names) (k .references) (k .terms)
 
 -- the words of the columns of the rows; from there on the marks
-abbrev pub row-columns : ℕ
-row-columns = 12288
+abbrev pub rows-marks-start : ℕ
+rows-marks-start = 12288
 
 -- the slices at exit, whatever a line comes to: only the words of the tables may change
 pub record Kept (names refs rows names′ refs′ rows′ : List ℕ) : Type 0 where
   pub names-kept : Same-but 0 name-columns names names′
   pub refs-kept : Same-but 0 most-references refs refs′
-  pub rows-kept : Same-but 0 row-columns rows rows′
+  pub rows-kept : Same-but 0 rows-marks-start rows rows′
 
 module _ (file names refs rows names′ refs′ rows′ : List ℕ) (k : Counts) where
   -- the tables with the term of a node
   pub record Grown (node : Node) (named′ used′ : ℕ) : Type 0 where
-    pub tables : Tables file names′ refs′ rows′ named′ used′ (k .many + 1)
-    pub spelt : names-of file names′ named′ ≡ fold-left spell (names-of file names (k .named)) (spelled-by node)
-    pub terms : terms-in file names′ refs′ rows′ used′ (k .many + 1) ≡ add-term (terms-in file names refs rows (k .used) (k .many)) node
-    pub used : used′ ≡ k .used + length (references node)
-    pub longer : Longer file names names′ (k .named) named′
+    pub tables : Tables file names′ refs′ rows′ named′ used′ (k .terms + 1)
+    pub spelt : table-names file names′ named′ ≡ fold-left spell (table-names file names (k .names)) (spelled-by node)
+    pub terms : terms-in file names′ refs′ rows′ used′ (k .terms + 1) ≡ add-term (terms-in file names refs rows (k .references) (k .terms)) node
+    pub used : used′ ≡ k .references + length (references node)
+    pub longer : Longer file names names′ (k .names) named′
 
   -- how many names there are with those of the node
   abbrev pub names-with : Node → ℕ
-  names-with node = length (fold-left spell (names-of file names (k .named)) (spelled-by node))
+  names-with node = length (fold-left spell (table-names file names (k .names)) (spelled-by node))
 
   -- the lowest refusal of the limits that the node passes
   pub data Passes (node : Node) : Refusal → Type 0 where
     names-passed : most-names < names-with node → Passes node refusal.FullNames
-    terms-passed : names-with node ≤ most-names → most-terms ≤ k .many → Passes node refusal.FullTerms
-    references-passed : names-with node ≤ most-names → most-references < k .used + length (references node)
+    terms-passed : names-with node ≤ most-names → most-terms ≤ k .terms → Passes node refusal.FullTerms
+    references-passed : names-with node ≤ most-names → most-references < k .references + length (references node)
         → Passes node refusal.FullTerms
 
   -- what a term line comes to, by what its fields say
@@ -126,5 +125,5 @@ module _ (file names refs rows names′ refs′ rows′ : List ℕ) (k : Counts)
 
   -- what reading a term line of a kind comes to, from the first field after its kind on
   pub record Reads-term (kind : LineKind) (c : Cursor) (r : Step) : Type 0 where
-    pub grows : Grows (content kind (k .many) (fields-left file c)) r
+    pub grows : Grows (content kind (k .terms) (fields-left file c)) r
     pub kept : Kept names refs rows names′ refs′ rows′

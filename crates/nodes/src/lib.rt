@@ -1,8 +1,8 @@
+use additions::Added;
 use fields::OpStep;
 use fields::TermKind;
 use fields::Upto;
 use fields::Word;
-use lines::Added;
 use model::Counts;
 use model::Op;
 use model::Refusal;
@@ -70,21 +70,17 @@ fn first_passed(named: usize, used: usize) -> Passed
 
 // The counts with one term more, where its row was added.
 fn grown(added: Added, k: Counts, named: usize, used: usize) -> Step
-    requires { ⌜ k .many ≤ most-terms ⌝ }
+    requires { ⌜ k .terms ≤ most-terms ⌝ }
     ensures { λ r. ⌜ r ≡ grown-to added k named used ⌝ }
 {
     match added {
-        Added::Done => Step::On(Counts {
-            named,
-            used,
-            many: k.many + 1,
-            records: k.records,
-            entries: k.entries,
-            uses: k.uses,
-            mark: k.mark,
-            query: k.query,
-            options: k.options,
-        }),
+        Added::Done => {
+            let mut next = k;
+            next.names = named;
+            next.references = used;
+            next.terms = k.terms + 1;
+            Step::On(next)
+        }
         Added::Full => Step::Refused(Refusal::FullTerms),
     }
 }
@@ -115,8 +111,8 @@ fn read_free(
     ensures { λ r. ⌜ Reads-term (now (file .entry)) (now (names .entry)) (now (refs .entry)) (now (rows .entry))
         (now (names .exit)) (now (refs .entry)) (now (rows .exit)) k kind.Free c r ⌝ }
 {
-    let used = k.used;
-    match fields::read_name(file, names, k.named, c) {
+    let used = k.references;
+    match fields::read_name(file, names, k.names, c) {
         Word::Name(n, named, next) => {
             if next.at <= next.end {
                 return Step::Refused(Refusal::Form);
@@ -125,7 +121,7 @@ fn read_free(
                 return Step::Refused(r);
             }
             grown(
-                lines::add_free(refs, rows, used, k.many, named, n),
+                additions::add_free(refs, rows, used, k.terms, named, n),
                 k,
                 named,
                 used,
@@ -148,13 +144,13 @@ fn read_leaf(
     ensures { λ r. ⌜ Reads-term (now (file .entry)) (now (names .entry)) (now (refs .entry)) (now (rows .entry))
         (now (names .entry)) (now (refs .entry)) (now (rows .exit)) k kind.Leaf c r ⌝ }
 {
-    let used = k.used;
-    let named = k.named;
+    let used = k.references;
+    let named = k.names;
     if c.at <= c.end {
         return Step::Refused(Refusal::Form);
     }
     grown(
-        lines::add_leaf(refs, rows, used, k.many, named),
+        additions::add_leaf(refs, rows, used, k.terms, named),
         k,
         named,
         used,
@@ -174,16 +170,16 @@ fn read_call(
     ensures { λ r. ⌜ Reads-term (now (file .entry)) (now (names .entry)) (now (refs .entry)) (now (rows .entry))
         (now (names .exit)) (now (refs .exit)) (now (rows .exit)) k kind.Call c r ⌝ }
 {
-    let start = k.used;
-    let many = k.many;
-    match fields::read_name(file, names, k.named, c) {
+    let start = k.references;
+    let many = k.terms;
+    match fields::read_name(file, names, k.names, c) {
         Word::Name(n, named, next) => match fields::push_rest(file, refs, start, many, next) {
             Upto::At(used, _) => {
                 if let Passed::Full(r) = first_passed(named, used) {
                     return Step::Refused(r);
                 }
                 grown(
-                    lines::add_call(refs, rows, start, used, many, named, n),
+                    additions::add_call(refs, rows, start, used, many, named, n),
                     k,
                     named,
                     used,
@@ -208,9 +204,9 @@ fn read_op(
     ensures { λ r. ⌜ Reads-term (now (file .entry)) (now (names .entry)) (now (refs .entry)) (now (rows .entry))
         (now (names .entry)) (now (refs .exit)) (now (rows .exit)) k kind.Op c r ⌝ }
 {
-    let start = k.used;
-    let many = k.many;
-    let named = k.named;
+    let start = k.references;
+    let many = k.terms;
+    let named = k.names;
     match fields::read_op_word(file, c) {
         OpStep::Is(op, next) => match fields::push_rest(file, refs, start, many, next) {
             Upto::At(used, _) => {
@@ -219,7 +215,7 @@ fn read_op(
                 }
                 let word = op_number(op);
                 grown(
-                    lines::add_op(refs, rows, start, used, many, named, word),
+                    additions::add_op(refs, rows, start, used, many, named, word),
                     k,
                     named,
                     used,
@@ -245,9 +241,9 @@ fn read_quantifier(
     ensures { λ r. ⌜ Reads-term (now (file .entry)) (now (names .entry)) (now (refs .entry)) (now (rows .entry))
         (now (names .entry)) (now (refs .exit)) (now (rows .exit)) k (quantifier-kind all) c r ⌝ }
 {
-    let start = k.used;
-    let many = k.many;
-    let named = k.named;
+    let start = k.references;
+    let many = k.terms;
+    let named = k.names;
     match push_quantifier(file, refs, start, many, c) {
         Quantifier::Read(used, groups) => {
             if let Passed::Full(r) = first_passed(named, used) {
@@ -255,14 +251,14 @@ fn read_quantifier(
             }
             if all {
                 return grown(
-                    lines::add_all(refs, rows, start, used, many, named, groups),
+                    additions::add_all(refs, rows, start, used, many, named, groups),
                     k,
                     named,
                     used,
                 );
             }
             grown(
-                lines::add_some(refs, rows, start, used, many, named, groups),
+                additions::add_some(refs, rows, start, used, many, named, groups),
                 k,
                 named,
                 used,
@@ -285,9 +281,9 @@ fn read_let(
     ensures { λ r. ⌜ Reads-term (now (file .entry)) (now (names .entry)) (now (refs .entry)) (now (rows .entry))
         (now (names .entry)) (now (refs .exit)) (now (rows .exit)) k kind.Let c r ⌝ }
 {
-    let start = k.used;
-    let many = k.many;
-    let named = k.named;
+    let start = k.references;
+    let many = k.terms;
+    let named = k.names;
     match fields::push_term(file, refs, start, many, 0, c) {
         Upto::At(one, next) => match fields::push_rest(file, refs, one, many, next) {
             Upto::At(used, _) => {
@@ -295,7 +291,7 @@ fn read_let(
                     return Step::Refused(r);
                 }
                 grown(
-                    lines::add_let(refs, rows, start, used, many, named),
+                    additions::add_let(refs, rows, start, used, many, named),
                     k,
                     named,
                     used,
@@ -320,9 +316,9 @@ fn read_label(
     ensures { λ r. ⌜ Reads-term (now (file .entry)) (now (names .entry)) (now (refs .entry)) (now (rows .entry))
         (now (names .entry)) (now (refs .exit)) (now (rows .exit)) k kind.Label c r ⌝ }
 {
-    let start = k.used;
-    let many = k.many;
-    let named = k.named;
+    let start = k.references;
+    let many = k.terms;
+    let named = k.names;
     match fields::push_term(file, refs, start, many, 0, c) {
         Upto::At(_, next) => {
             if next.at <= next.end {
@@ -333,7 +329,7 @@ fn read_label(
                 return Step::Refused(r);
             }
             grown(
-                lines::add_label(refs, rows, start, many, named),
+                additions::add_label(refs, rows, start, many, named),
                 k,
                 named,
                 used,

@@ -2,9 +2,9 @@
 use Prim.Native.Nat.{ℕ, _/_, _%_, _≤_}
 use mathlib.Core.Path.{_≡_, refl}
 use lib.Dec.{eqb}
-use Rattle.model.specs.Reading.{no-ambients, pretyping-axioms, prune-decls}
-use Rattle.demands.proofs.Options.{options-sum}
-use Rattle.options.specs.OptionsOf.{asks, most-options, options-value, Options-of}
+use Rattle.model.specs.Reading.{no-ambients, pretyping-axioms, prune-decls, most-options}
+use Rattle.laws.proofs.OptionLaws.{options-sum}
+use Rattle.options.specs.OptionsOf.{asks, options-value, Options-of}
 use Rattle.options.specs.declared.Options.{Options}
 
 -- the struct of a number

@@ -1,6 +1,7 @@
 ghost use Prim.Native.Nat.{ℕ, _≤_};
 ghost use mathlib.Core.Path.{_≡_};
-ghost use Rattle.options.specs.OptionsOf.{asks, most-options, options-value, Options-of};
+ghost use Rattle.model.specs.Reading.{most-options};
+ghost use Rattle.options.specs.OptionsOf.{asks, options-value, Options-of};
 
 // The options of an ask: 1, `no_ambients`; 2, `pretyping_axioms`; 4, `prune_decls`.
 pub struct Options {

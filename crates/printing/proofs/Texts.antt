@@ -14,7 +14,7 @@ use Rattle.io.specs.Digits as io
 use Rattle.model.specs.Names.{bytes}
 use Rattle.model.specs.Outcome.{refusal-number}
 use Rattle.model.specs.declared.Refusal.{Refusal}
-use Rattle.printing.specs.Printed.{digits, show, comma, Puts, Holds, name-on, line, kept-line, sum-line, refused-line, reason, has-line, reason-line}
+use Rattle.printing.specs.Printed.{digits, show, comma, Bytes-put, Text-begins, name-on, line, kept-line, sum-line, refused-line, reason, has-line, reason-line}
 
 -- ---- bytes
 
@@ -48,13 +48,13 @@ putting-next at new before text i p h room =
 
 -- all are put
 pub putting-end : (at : ℕ) (new before text : List ℕ) (i : ℕ) → Putting at new before text i → length new ≤ i → at + length new ≤ length before
-    → Puts at new before text (at + length new)
+    → Bytes-put at new before text (at + length new)
 putting-end at new before text i p h room =
     let e : i ≡ length new = omega (arith, p .few) in
     record { ends = refl; written = rw (← e, p .written, take-all i new h); inside = omega (arith, p .same-length) }
 
 -- one text after another
-pub puts-then : {at : ℕ} {a b t0 t1 t2 : List ℕ} {d e : ℕ} → Puts at a t0 t1 d → Puts d b t1 t2 e → Puts at (a ++ b) t0 t2 e
+pub puts-then : {at : ℕ} {a b t0 t1 t2 : List ℕ} {d e : ℕ} → Bytes-put at a t0 t1 d → Bytes-put d b t1 t2 e → Bytes-put at (a ++ b) t0 t2 e
 puts-then {at} {a} {b} {t0} p q =
     record {
       ends = rw (length-append a b) (omega (arith, p .ends, q .ends));
@@ -63,11 +63,11 @@ puts-then {at} {a} {b} {t0} p q =
     }
 
 -- the same bytes
-pub puts-same : {at : ℕ} {a b t0 t1 : List ℕ} {e : ℕ} → Puts at a t0 t1 e → a ≡ b → Puts at b t0 t1 e
+pub puts-same : {at : ℕ} {a b t0 t1 : List ℕ} {e : ℕ} → Bytes-put at a t0 t1 e → a ≡ b → Bytes-put at b t0 t1 e
 puts-same {at} {t0 = t0} p q = record { ends = p .ends ∙ ap (λ l. at + length l) q; written = p .written ∙ ap (take at t0 ++_) q; inside = p .inside }
 
 -- a text that is put from the start
-pub held : {a b t0 t1 : List ℕ} {e : ℕ} → Puts 0 a t0 t1 e → a ≡ b → Holds b t1 e
+pub held : {a b t0 t1 : List ℕ} {e : ℕ} → Bytes-put 0 a t0 t1 e → a ≡ b → Text-begins b t1 e
 held {a} {b} p q =
     let same : length a ≡ length b = ap length q in
     record { sized = omega (arith, p .ends); begins = p .written ∙ q; inside = p .inside }

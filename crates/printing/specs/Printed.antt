@@ -30,13 +30,13 @@ comma (f ∷ []) = f
 comma (f ∷ g ∷ fs) = f ++ 0x2c ∷ comma (g ∷ fs)
 
 -- bytes stand in a text from a place on, up to `end`, behind what stood there
-pub record Puts (at : ℕ) (new before after : List ℕ) (end : ℕ) : Type 0 where
+pub record Bytes-put (at : ℕ) (new before after : List ℕ) (end : ℕ) : Type 0 where
   pub ends : end ≡ at + length new
   pub written : take end after ≡ take at before ++ new
   pub inside : end ≤ length after
 
 -- a text begins with a line, of this length
-pub record Holds (line text : List ℕ) (n : ℕ) : Type 0 where
+pub record Text-begins (line text : List ℕ) (n : ℕ) : Type 0 where
   pub sized : n ≡ length line
   pub begins : take n text ≡ line
   pub inside : n ≤ length text
@@ -125,4 +125,4 @@ reason-line r place =
 pub record Answered (file : List ℕ) (a : Answer) (out : List ℕ) (i : ℕ) (text : List ℕ) (n : ℕ) : Type 0 where
   pub inside : n ≤ length text
   pub prints : (o : Outcome) → a ≡ answer o → (before : List ℕ) → take (a .kept) out ≡ take (a .kept) (result-after o before)
-      → Holds (outcome-line file o i) text n
+      → Text-begins (outcome-line file o i) text n

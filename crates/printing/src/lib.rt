@@ -7,12 +7,12 @@ ghost use mathlib.Core.Path.{_≡_};
 ghost use lib.ListN.{length, getD};
 ghost use Rattle.model.specs.Lists.{part};
 ghost use Rattle.model.specs.Lines.{fields};
-ghost use Rattle.printing.specs.Printed.{show, Puts, Holds, Starts, second, name-on, kept-line, sum-line, refused-line, reason, has-line, reason-line, Answered, outcome-line};
+ghost use Rattle.printing.specs.Printed.{show, Bytes-put, Text-begins, Starts, second, name-on, kept-line, sum-line, refused-line, reason, has-line, reason-line, Answered, outcome-line};
 
 // Writes bytes from a place on; where they end.
 fn put(text: &mut [u8], at: usize, bytes: &[u8]) -> usize
     requires { ⌜ at + length (now bytes) ≤ length (now text) ⌝ }
-    ensures { λ r. ⌜ Puts at (now (bytes .entry)) (now (text .entry)) (now (text .exit)) r ⌝ }
+    ensures { λ r. ⌜ Bytes-put at (now (bytes .entry)) (now (text .entry)) (now (text .exit)) r ⌝ }
 {
     let mut i = 0;
     while i < bytes.len() {
@@ -25,7 +25,7 @@ fn put(text: &mut [u8], at: usize, bytes: &[u8]) -> usize
 // Writes a number in decimal from a place on; where it ends.
 fn put_number(text: &mut [u8], at: usize, n: u32) -> usize
     requires { ⌜ at + 20 ≤ length (now text) ⌝ }
-    ensures { λ r. ⌜ Puts at (show n) (now (text .entry)) (now (text .exit)) r × (r ≤ at + 20) ⌝ }
+    ensures { λ r. ⌜ Bytes-put at (show n) (now (text .entry)) (now (text .exit)) r × (r ≤ at + 20) ⌝ }
 {
     let mut digits = [0u8; 20];
     let k = io::decimal(n as u64, &mut digits);
@@ -82,7 +82,7 @@ fn name_on<'a>(file: &'a [u8], starts: &[u32], many: usize, line: u32) -> &'a [u
 // Writes the line of a kept record; its length.
 fn kept_line(file: &[u8], starts: &[u32], many: usize, line: u32, text: &mut [u8]) -> usize
     requires { ⌜ Starts (now file) (now starts) many × (length (now file) + 64 ≤ length (now text)) ⌝ }
-    ensures { λ r. ⌜ Holds (kept-line (now (file .entry)) line) (now (text .exit)) r ⌝ }
+    ensures { λ r. ⌜ Text-begins (kept-line (now (file .entry)) line) (now (text .exit)) r ⌝ }
 {
     let name = name_on(file, starts, many, line);
     let mut at = put(text, 0, b"kept,");
@@ -95,7 +95,7 @@ fn kept_line(file: &[u8], starts: &[u32], many: usize, line: u32, text: &mut [u8
 // Writes the last line of a list; its length.
 fn sum_line(kept: u32, visits: u32, rounds: u32, text: &mut [u8]) -> usize
     requires { ⌜ 128 ≤ length (now text) ⌝ }
-    ensures { λ r. ⌜ Holds (sum-line kept visits rounds) (now (text .exit)) r ⌝ }
+    ensures { λ r. ⌜ Text-begins (sum-line kept visits rounds) (now (text .exit)) r ⌝ }
 {
     let mut at = put(text, 0, b"sum,");
     at = put_number(text, at, kept);
@@ -109,7 +109,7 @@ fn sum_line(kept: u32, visits: u32, rounds: u32, text: &mut [u8]) -> usize
 // Writes the line of a refusal; its length.
 fn refused_line(r: Refusal, place: u32, text: &mut [u8]) -> usize
     requires { ⌜ 128 ≤ length (now text) ⌝ }
-    ensures { λ n. ⌜ Holds (refused-line r place) (now (text .exit)) n ⌝ }
+    ensures { λ n. ⌜ Text-begins (refused-line r place) (now (text .exit)) n ⌝ }
 {
     let mut at = put(text, 0, b"refused,");
     at = put_number(text, at, refusals::refusal_number(r));
@@ -148,7 +148,7 @@ pub fn answer_line(
 // Writes why a refusal is given from a place on; where it ends.
 fn put_reason(text: &mut [u8], at: usize, r: Refusal) -> usize
     requires { ⌜ at + 64 ≤ length (now text) ⌝ }
-    ensures { λ n. ⌜ Puts at (reason r) (now (text .entry)) (now (text .exit)) n × (n ≤ at + 64) ⌝ }
+    ensures { λ n. ⌜ Bytes-put at (reason r) (now (text .entry)) (now (text .exit)) n × (n ≤ at + 64) ⌝ }
 {
     match r {
         Refusal::Form => put(text, at, b"not a line of a fact file"),
@@ -201,7 +201,7 @@ fn has_line(r: Refusal) -> bool
 // Writes a refusal in words, after its line where it has one; the length.
 pub fn reason_line(r: Refusal, place: u32, text: &mut [u8]) -> usize
     requires { ⌜ 128 ≤ length (now text) ⌝ }
-    ensures { λ n. ⌜ Holds (reason-line r place) (now (text .exit)) n ⌝ }
+    ensures { λ n. ⌜ Text-begins (reason-line r place) (now (text .exit)) n ⌝ }
 {
     if has_line(r) {
         let mut at = put(text, 0, b"line ");

@@ -14,7 +14,7 @@ use Rattle.words.proofs.Slices.{same-then, same-wider, same-set}
 use Rattle.terms.proofs.Laws.{equal}
 use Rattle.records.specs.Filing.{newest}
 use Rattle.records.proofs.Chaining.{newest-cong, newest-here, newest-other}
-use Rattle.prune.specs.Loops.{below-column, highest-column, most-stamps, stamp-in, Index, Linked, Links}
+use Rattle.prune.specs.Loops.{below-column, highest-column, stamp-column, most-stamps, stamp-in, Index, Linked, Links}
 
 -- ---- chains stay
 
@@ -38,10 +38,6 @@ pub record Links-to (names : List ℕ) (named : ℕ) (w₀ w : List ℕ) (r : �
   pub linked : Linked (stamp-in names w₀) r w
 
 module _ {names : List ℕ} {named : ℕ} (index : Index names named) where
-  -- a word of the met column is none of the chains
-  number-low : {r : ℕ} → r < named → ranked names r < below-column
-  number-low {r} h = let a = index .numbers r h in let b = index .few in omega arith
-
   -- the chains are cleared
   pub links-start : {before w : List ℕ} → Zeroed highest-column most-stamps before w → Links-to names named w w 0
   unfolding newest
@@ -53,22 +49,19 @@ module _ {names : List ℕ} {named : ℕ} (index : Index names named) where
 
   module _ {before w₀ w : List ℕ} {r : ℕ} (z : Zeroed highest-column most-stamps before w₀) (room : working-words ≤ length before)
       (stamps : (q : ℕ) → q < named → stamp-in names before q ≤ most-stamps) (c : Links-to names named w₀ w r) (h : r < named) {n x : ℕ}
-      (e : n ≡ ranked names r) (d : x ≡ getD w n 0) where
+      (e : n ≡ ranked names r) (d : x ≡ getD w (stamp-column + n) 0) where
     size-is : length w ≡ length before
     size-is = c .same .same-length ∙ z .same .same-length
 
     -- the stamp is that of the start
     stamp-is : x ≡ stamp-in names w₀ r
-    stamp-is =
-        let l = number-low h in
-        d ∙ c .same .same-words n (λ a b. omega arith) ∙ ap (λ (m : ℕ). getD w₀ m 0) e
+    stamp-is = d ∙ c .same .same-words (stamp-column + n) (λ a b. omega arith) ∙ ap (λ (m : ℕ). getD w₀ (stamp-column + m) 0) e
 
     pub stamp-low : x ≤ most-stamps
     stamp-low =
-        let l = number-low h in
         let a = stamps r h in
         let b = stamp-is in
-        let y = z .same .same-words (ranked names r) (λ p q. omega arith) in
+        let y = z .same .same-words (stamp-column + ranked names r) (λ p q. omega arith) in
         omega arith
 
     -- the words of its chain are in the slice
@@ -141,7 +134,7 @@ module _ {names : List ℕ} {named : ℕ} (index : Index names named) where
       let e : r ≡ named = omega arith in
       record {
         linked = linked-same (subst (λ (n : ℕ). Linked (stamp-in names w₀) n w) e (c .linked))
-            (λ q l. sym (z .same .same-words (ranked names q) (λ a d. let k = number-low l in omega arith)))
+            (λ q l. sym (z .same .same-words (stamp-column + ranked names q) (λ a d. omega arith)))
             (λ j l. refl) (index .few);
         same = same-then (same-wider below-column (most-names + most-stamps) (omega arith) (omega arith) (z .same)) (c .same);
       }

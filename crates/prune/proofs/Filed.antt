@@ -11,7 +11,7 @@ use Rattle.model.specs.Names.{Name}
 use Rattle.model.specs.Reading.{Decl}
 use Rattle.model.specs.Rounds.{facts, definitions, declarations}
 use Rattle.model.proofs.ListLaws.{keep-append}
-use Rattle.demands.proofs.Records.{declarations-append}
+use Rattle.laws.proofs.Records.{declarations-append}
 use Rattle.records.specs.Columns.{record-kind, fun-kind}
 use Rattle.records.specs.States.{fact-at, decl-at, summary-at, decls-of, roots-of}
 use Rattle.scan.proofs.Background.{is-fact, is-definition, is-root, def-at, root-of, no-facts, next-facts, no-defs, next-defs, no-roots, next-roots}
@@ -38,13 +38,13 @@ over-from list test one start next (suc n) =
 abbrev pub is-declaration : List ℕ → ℕ → Bool
 is-declaration recs i = eqb (record-kind recs i) fun-kind
 
-module _ (name : ℕ → Name) (recs out : List ℕ) where
+module _ (name : ℕ → Name) (recs lists : List ℕ) where
   -- the declaration of a record
   abbrev pub fun-at : ℕ → Decl
-  fun-at i = decl-at name recs out i []
+  fun-at i = decl-at name recs lists i []
 
   -- what a record adds to the declarations
-  record-funs : (i kind : ℕ) → declarations (summary-at name recs out i kind) ≡ cond (eqb kind fun-kind) (fun-at i ∷ []) []
+  record-funs : (i kind : ℕ) → declarations (summary-at name recs lists i kind) ≡ cond (eqb kind fun-kind) (fun-at i ∷ []) []
   unfolding summary-at declarations
   record-funs i zero = refl
   record-funs i (suc zero) = refl
@@ -54,31 +54,31 @@ module _ (name : ℕ → Name) (recs out : List ℕ) where
 
   -- the declarations of one record more
   next-funs : (n : ℕ)
-      → declarations (decls-of name recs out (suc n)) ≡ declarations (decls-of name recs out n) ++ cond (is-declaration recs n) (fun-at n ∷ []) []
+      → declarations (decls-of name recs lists (suc n)) ≡ declarations (decls-of name recs lists n) ++ cond (is-declaration recs n) (fun-at n ∷ []) []
   unfolding decls-of
   next-funs n =
-      declarations-append (decls-of name recs out n) (summary-at name recs out n (record-kind recs n))
-      ∙ ap (declarations (decls-of name recs out n) ++_) (record-funs n (record-kind recs n))
+      declarations-append (decls-of name recs lists n) (summary-at name recs lists n (record-kind recs n))
+      ∙ ap (declarations (decls-of name recs lists n) ++_) (record-funs n (record-kind recs n))
 
   -- those of none
-  no-funs : declarations (decls-of name recs out 0) ≡ []
+  no-funs : declarations (decls-of name recs lists 0) ≡ []
   unfolding decls-of declarations
   no-funs = refl
 
   -- the facts by record
-  pub facts-are : (n : ℕ) → facts (decls-of name recs out n) ≡ map (fact-at name recs out) (keep (is-fact recs) (from 0 n))
+  pub facts-are : (n : ℕ) → facts (decls-of name recs lists n) ≡ map (fact-at name recs lists) (keep (is-fact recs) (from 0 n))
   facts-are =
-      over-from (λ n. facts (decls-of name recs out n)) (is-fact recs) (fact-at name recs out) (no-facts name recs out) (next-facts name recs out)
+      over-from (λ n. facts (decls-of name recs lists n)) (is-fact recs) (fact-at name recs lists) (no-facts name recs lists) (next-facts name recs lists)
 
   -- the definitions by record
-  pub definitions-are : (n : ℕ) → definitions (decls-of name recs out n) ≡ map (def-at name recs out) (keep (is-definition recs) (from 0 n))
+  pub definitions-are : (n : ℕ) → definitions (decls-of name recs lists n) ≡ map (def-at name recs lists) (keep (is-definition recs) (from 0 n))
   definitions-are =
-      over-from (λ n. definitions (decls-of name recs out n)) (is-definition recs) (def-at name recs out) (no-defs name recs out) (next-defs name recs out)
+      over-from (λ n. definitions (decls-of name recs lists n)) (is-definition recs) (def-at name recs lists) (no-defs name recs lists) (next-defs name recs lists)
 
   -- the declarations by record
-  pub declarations-are : (n : ℕ) → declarations (decls-of name recs out n) ≡ map fun-at (keep (is-declaration recs) (from 0 n))
-  declarations-are = over-from (λ n. declarations (decls-of name recs out n)) (is-declaration recs) fun-at no-funs next-funs
+  pub declarations-are : (n : ℕ) → declarations (decls-of name recs lists n) ≡ map fun-at (keep (is-declaration recs) (from 0 n))
+  declarations-are = over-from (λ n. declarations (decls-of name recs lists n)) (is-declaration recs) fun-at no-funs next-funs
 
   -- the roots by record
-  pub roots-are : (n : ℕ) → roots-of name recs out n ≡ map (root-of name recs out) (keep (is-root recs) (from 0 n))
-  roots-are = over-from (roots-of name recs out) (is-root recs) (root-of name recs out) (no-roots name recs out) (next-roots name recs out)
+  pub roots-are : (n : ℕ) → roots-of name recs lists n ≡ map (root-of name recs lists) (keep (is-root recs) (from 0 n))
+  roots-are = over-from (roots-of name recs lists) (is-root recs) (root-of name recs lists) (no-roots name recs lists) (next-roots name recs lists)

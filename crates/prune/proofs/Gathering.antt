@@ -10,16 +10,19 @@ use lib.Seq.{sets, sets-eq, length-sets, length-take-le, drop-at, take-at}
 use Rattle.model.specs.Lists.{keep, part}
 use Rattle.model.specs.Reading.{prune-decls, most-names, most-records}
 use Rattle.model.specs.Outcome.{working-words}
+use Rattle.model.specs.declared.Asked.{Asked}
 use Rattle.model.specs.declared.Counts.{Counts}
 use Rattle.model.proofs.ListLaws.{cond-case, map-elim}
 use Rattle.model.proofs.PartLaws.{part-agree, part-split, part-intro}
 use Rattle.names.specs.Table.{ranked}
 use Rattle.words.specs.Slices.{Same-but, Zeroed}
-use Rattle.records.specs.States.{uses-at, ask-of}
-use Rattle.prune.specs.Listing.{from, is-goal, reached-records, fact-records, goal-records, items, decl-records, item-stamp, kept-records}
-use Rattle.prune.specs.Loops.{kept-column, prune-end, most-stamps, stamp-in, Index, Lists, noted, Notes, Linked, Links, Listable, Listed}
-use Rattle.prune.proofs.Writing.{sets-below, sets-above, lists-length}
-use Rattle.prune.proofs.Noting.{notes-then, uses-small, noted-length, noted-append, noted-out, noted-stamped, stamped-low}
+use Rattle.words.proofs.Slices.{same-then, same-wider}
+use Rattle.options.specs.OptionsOf.{ask-of}
+use Rattle.records.specs.States.{uses-at}
+use Rattle.prune.specs.Listing.{from, is-goal, reached-records, fact-records, goal-records, kept-items, decl-records, item-stamp, kept-records}
+use Rattle.prune.specs.Loops.{kept-column, stamp-column, prune-room, most-stamps, stamp-in, stamp-words, Index, Kept-behind, noted, Notes, Linked, Links, Listable, Records-listed}
+use Rattle.prune.proofs.Writing.{sets-below, lists-length, lists-same}
+use Rattle.prune.proofs.Noting.{notes-then, words-in, noted-length, noted-append, noted-out, noted-stamped, stamps-words, stamped-low}
 use Rattle.prune.proofs.Chains.{linked-same}
 use Rattle.prune.proofs.Stamps.{decls-same}
 use Rattle.prune.proofs.Members.{reached-small, ambients-small, goals-small}
@@ -55,101 +58,93 @@ kept-few test i (suc n) =
     cond-case (λ (l : List ℕ). length l ≤ suc n) (test i) (omega arith) (omega arith)
 
 -- without option 4 the kept records are the facts
-kept-off : (names recs out w : List ℕ) (k : Counts) → prune-decls (ask-of k) ≡ false → kept-records names recs out w k ≡ fact-records names recs w k
+kept-off : (names recs lists w : List ℕ) (k : Counts) (a : Asked) → prune-decls (ask-of a) ≡ false → kept-records names recs lists w k a ≡ fact-records names recs w k a
 unfolding kept-records
-kept-off names recs out w k e =
+kept-off names recs lists w k a e =
     ap
-    (λ (b : Bool). fact-records names recs w k
-    ++ cond b (decl-records names recs (k .named) (item-stamp names recs out w k) (length (items names recs w k))) [])
+    (λ (b : Bool). fact-records names recs w k a
+    ++ cond b (decl-records names recs (k .names) (item-stamp names recs lists w k a) (length (kept-items names recs w k a))) [])
     e
-    ∙ append-nil (fact-records names recs w k)
+    ∙ append-nil (fact-records names recs w k a)
 
 -- with it, the records of their names too
-kept-on : (names recs out w : List ℕ) (k : Counts) → prune-decls (ask-of k) ≡ true
-    → kept-records names recs out w k
-    ≡ fact-records names recs w k ++ decl-records names recs (k .named) (item-stamp names recs out w k) (length (items names recs w k))
+kept-on : (names recs lists w : List ℕ) (k : Counts) (a : Asked) → prune-decls (ask-of a) ≡ true
+    → kept-records names recs lists w k a
+    ≡ fact-records names recs w k a ++ decl-records names recs (k .names) (item-stamp names recs lists w k a) (length (kept-items names recs w k a))
 unfolding kept-records
-kept-on names recs out w k e =
+kept-on names recs lists w k a e =
     ap
-    (λ (b : Bool). fact-records names recs w k
-    ++ cond b (decl-records names recs (k .named) (item-stamp names recs out w k) (length (items names recs w k))) [])
+    (λ (b : Bool). fact-records names recs w k a
+    ++ cond b (decl-records names recs (k .names) (item-stamp names recs lists w k a) (length (kept-items names recs w k a))) [])
     e
 
 -- the front of a list is no longer than it
 front-low : (l m : List ℕ) → length (l ++ m) ≤ most-records → length l ≤ most-records
 front-low l m h = let e = length-append l m in omega arith
 
-module _ {names recs out w : List ℕ} {k : Counts} (t : Listable names recs out w k) where
-  facts-small : {x : ℕ} → List·Memᴰ x (fact-records names recs w k) → x < k .records
+module _ {names recs lists w : List ℕ} {k : Counts} {a : Asked} (t : Listable names recs lists w k a) where
+  facts-small : {x : ℕ} → List·Memᴰ x (fact-records names recs w k a) → x < k .records
   unfolding fact-records
   facts-small m =
       ⊎-elim
-      (λ q. reached-small names w (k .named) (k .records) (λ r h. t .took (ranked names r) (t .index .numbers r h)) q)
-      (λ q. ambients-small recs k q)
-      (List·Memᴰ·append-cases (reached-records names w (k .named)) m)
+      (λ q. reached-small names w (k .names) (k .records) (λ r h. t .took (ranked names r) (t .index .numbers r h)) q)
+      (λ q. ambients-small recs k a q)
+      (List·Memᴰ·append-cases (reached-records names w (k .names)) m)
 
-  items-small : {x : ℕ} → List·Memᴰ x (items names recs w k) → x < k .records
-  unfolding items
-  items-small m = ⊎-elim (λ q. facts-small q) (λ q. goals-small recs k q) (List·Memᴰ·append-cases (fact-records names recs w k) m)
+  items-small : {x : ℕ} → List·Memᴰ x (kept-items names recs w k a) → x < k .records
+  unfolding kept-items
+  items-small m = ⊎-elim (λ q. facts-small q) (λ q. goals-small recs k a q) (List·Memᴰ·append-cases (fact-records names recs w k a) m)
 
-  -- the names of the items are names of the table
-  names-small : (l : List ℕ) → List·Memᴰ l (map (uses-at recs out) (items names recs w k)) → {n : ℕ} → List·Memᴰ n l → n < k .named
-  names-small l m {n} q =
-      let (i, j, e) = map-elim (uses-at recs out) (items names recs w k) m in
-      uses-small (t .notes) (items-small j) (subst (λ (l : List ℕ). List·Memᴰ n l) (sym e) q)
+  -- the words of the names of the items are those of the column of stamps
+  items-words : (l : List ℕ) → List·Memᴰ l (map (stamp-words recs lists) (kept-items names recs w k a)) → {n : ℕ} → List·Memᴰ n l
+      → (stamp-column ≤ n) × (n < stamp-column + most-names)
+  items-words l m {n} q =
+      let (i, j, e) = map-elim (stamp-words recs lists) (kept-items names recs w k a) m in
+      words-in (t .notes) (items-small j) (subst (λ (l : List ℕ). List·Memᴰ n l) (sym e) q)
 
-  pub facts-fit : length (fact-records names recs w k) ≤ most-records
+  pub facts-fit : length (fact-records names recs w k a) ≤ most-records
   unfolding kept-records
-  facts-fit = front-low (fact-records names recs w k) _ (t .fits)
+  facts-fit = front-low (fact-records names recs w k a) _ (t .fits)
 
   -- ---- the facts listed
 
-  module _ {w₁ : List ℕ} {f : ℕ} (p : Lists w 0 (fact-records names recs w k) w₁ f) where
-    facts-count : f ≡ length (fact-records names recs w k)
+  module _ {w₁ : List ℕ} {f : ℕ} (p : Kept-behind w 0 (fact-records names recs w k a) w₁ f) where
+    facts-count : f ≡ length (fact-records names recs w k a)
     facts-count = let c = p .count in omega arith
 
     pub few-facts : f ≤ most-records
-    few-facts = let a = facts-count in let b = facts-fit in omega arith
+    few-facts = let y = facts-count in let b = facts-fit in omega arith
 
     -- they stand in the slice
-    facts-first : part w₁ kept-column (kept-column + f) ≡ fact-records names recs w k
+    facts-first : part w₁ kept-column (kept-column + f) ≡ fact-records names recs w k a
     facts-first =
-        let a = facts-fit in
+        let y = facts-fit in
         let r = t .notes .room in
         ap₂ (λ (v : List ℕ) (n : ℕ). part v kept-column (kept-column + n)) (p .written) facts-count
-        ∙ part-sets w kept-column (fact-records names recs w k) (omega arith)
+        ∙ part-sets w kept-column (fact-records names recs w k a) (omega arith)
 
     -- and nothing else changes
-    facts-same : Same-but 0 prune-end w w₁
-    facts-same = record {
-      same-length = lists-length p;
-      same-words = λ i h.
-          let a = facts-fit in
-          ap (λ (v : List ℕ). getD v i 0) (p .written)
-          ∙ sets-above w kept-column (fact-records names recs w k) i (omega (arith, h (omega arith)));
-    }
-
-    facts-below : (i : ℕ) → i < kept-column → getD w₁ i 0 ≡ getD w i 0
-    facts-below i h = ap (λ (v : List ℕ). getD v i 0) (p .written) ∙ sets-below w kept-column (fact-records names recs w k) i h
+    facts-same : Same-but kept-column prune-room w w₁
+    facts-same = lists-same p (let y = facts-fit in omega arith)
 
     -- without option 4 that is all
-    pub listed-facts : {x : Bool} → x ≡ prune-decls (ask-of k) → x ≡ false → Listed names recs out w w₁ k f
+    pub listed-facts : {x : Bool} → x ≡ prune-decls (ask-of a) → x ≡ false → Records-listed names recs lists w w₁ k a f
     listed-facts e z =
-        let q = kept-off names recs out w k (sym e ∙ z) in
-        record { records = facts-first ∙ sym q; count = facts-count ∙ ap length (sym q); same = facts-same; run-same = λ i g h. facts-below i h }
+        let q = kept-off names recs lists w k a (sym e ∙ z) in
+        record { records = facts-first ∙ sym q; count = facts-count ∙ ap length (sym q); same = facts-same }
 
-    -- ---- the met column cleared
+    -- ---- the column of stamps cleared
 
-    module _ {w₂ : List ℕ} (z : Zeroed 0 most-names w₁ w₂) where
+    module _ {w₂ : List ℕ} (z : Zeroed stamp-column most-names w₁ w₂) where
       cleared-length : length w₂ ≡ length w
       cleared-length = z .same .same-length ∙ lists-length p
 
-      pub cleared-notes : Notes recs out w₂ k
+      pub cleared-notes : Notes recs lists w₂ k
       cleared-notes = notes-then (t .notes) cleared-length
 
-      facts-there : part w₂ kept-column (kept-column + f) ≡ fact-records names recs w k
+      facts-there : part w₂ kept-column (kept-column + f) ≡ fact-records names recs w k a
       facts-there =
-          let a = few-facts in
+          let few = few-facts in
           let r = t .notes .room in
           let c = lists-length p in
           let d = cleared-length in
@@ -160,7 +155,7 @@ module _ {names recs out w : List ℕ} {k : Counts} (t : Listable names recs out
       -- the facts listed are records
       pub facts-in : (j : ℕ) → j < f → getD w₂ (kept-column + j) 0 < k .records
       facts-in j h =
-          let a = few-facts in
+          let few = few-facts in
           let r = t .notes .room in
           let d = cleared-length in
           facts-small
@@ -169,155 +164,148 @@ module _ {names recs out w : List ℕ} {k : Counts} (t : Listable names recs out
 
       -- ---- the names noted
 
-      module _ {w₃ : List ℕ} (n : w₃ ≡ noted 1 w₂ (map (uses-at recs out) (part w₂ kept-column (kept-column + f)))) where
-        pub noted-notes : Notes recs out w₃ k
+      module _ {w₃ : List ℕ} (n : w₃ ≡ noted 1 w₂ (map (stamp-words recs lists) (part w₂ kept-column (kept-column + f)))) where
+        pub noted-notes : Notes recs lists w₃ k
         noted-notes =
             notes-then cleared-notes
-            (ap length n ∙ noted-length 1 w₂ (map (uses-at recs out) (part w₂ kept-column (kept-column + f))))
+            (ap length n ∙ noted-length 1 w₂ (map (stamp-words recs lists) (part w₂ kept-column (kept-column + f))))
 
-        module _ {w₄ : List ℕ} {s : ℕ} (q : w₄ ≡ noted (f + 1) w₃ (map (uses-at recs out) (goal-records recs k)))
-            (c : s ≡ f + length (goal-records recs k)) where
+        module _ {w₄ : List ℕ} {s : ℕ} (q : w₄ ≡ noted (f + 1) w₃ (map (stamp-words recs lists) (goal-records recs k a)))
+            (c : s ≡ f + length (goal-records recs k a)) where
           -- those of all items
-          all-noted : w₄ ≡ noted 1 w₂ (map (uses-at recs out) (items names recs w k))
-          unfolding items
+          all-noted : w₄ ≡ noted 1 w₂ (map (stamp-words recs lists) (kept-items names recs w k a))
+          unfolding kept-items
           all-noted =
-              let u : ℕ → List ℕ = uses-at recs out in
-              let a = facts-count in
-              let b = length-map (fact-records names recs w k) u in
+              let u : ℕ → List ℕ = stamp-words recs lists in
+              let y = facts-count in
+              let b = length-map (fact-records names recs w k a) u in
               q
-              ∙ ap₂ (λ (m : ℕ) (v : List ℕ). noted m v (map u (goal-records recs k)))
-              (let e : f + 1 ≡ 1 + length (map u (fact-records names recs w k)) = omega arith in e)
+              ∙ ap₂ (λ (m : ℕ) (v : List ℕ). noted m v (map u (goal-records recs k a)))
+              (let e : f + 1 ≡ 1 + length (map u (fact-records names recs w k a)) = omega arith in e)
               (n ∙ ap (λ (l : List ℕ). noted 1 w₂ (map u l)) facts-there)
-              ∙ sym (noted-append 1 w₂ (map u (fact-records names recs w k)) (map u (goal-records recs k)))
-              ∙ ap (noted 1 w₂) (sym (map-append u (fact-records names recs w k) (goal-records recs k)))
+              ∙ sym (noted-append 1 w₂ (map u (fact-records names recs w k a)) (map u (goal-records recs k a)))
+              ∙ ap (noted 1 w₂) (sym (map-append u (fact-records names recs w k a) (goal-records recs k a)))
+
+          -- only the column of stamps changes
+          noted-same : Same-but stamp-column most-names w₂ w₄
+          noted-same = record {
+            same-length = ap length all-noted ∙ noted-length 1 w₂ (map (stamp-words recs lists) (kept-items names recs w k a));
+            same-words = λ i h.
+                ap (λ (v : List ℕ). getD v i 0) all-noted
+                ∙ noted-out 1 w₂ (map (stamp-words recs lists) (kept-items names recs w k a)) i (λ l m o. let (y, b) = items-words l m o in h y b);
+          }
 
           noted-size : length w₄ ≡ length w
-          noted-size = ap length all-noted ∙ noted-length 1 w₂ (map (uses-at recs out) (items names recs w k)) ∙ cleared-length
+          noted-size = noted-same .same-length ∙ cleared-length
 
-          -- words of no name stay
-          noted-same : (i : ℕ) → k .named ≤ i → getD w₄ i 0 ≡ getD w₂ i 0
-          noted-same i h =
-              ap (λ (v : List ℕ). getD v i 0) all-noted
-              ∙ noted-out 1 w₂ (map (uses-at recs out) (items names recs w k)) i (λ l m o. let b = names-small l m o in omega arith)
-
-          stamps-are : (r : ℕ) → r < k .named → stamp-in names w₄ r ≡ item-stamp names recs out w k r
+          stamps-are : (r : ℕ) → r < k .names → stamp-in names w₄ r ≡ item-stamp names recs lists w k a r
           unfolding item-stamp
           stamps-are r h =
-              let a = t .index .numbers r h in
+              let y = t .index .numbers r h in
               let b = t .index .few in
               let e = t .notes .room in
               let d = cleared-length in
-              ap (λ (v : List ℕ). getD v (ranked names r) 0) all-noted
-              ∙ noted-stamped 1 w₂ (map (uses-at recs out) (items names recs w k)) (ranked names r) (omega arith) (omega arith)
-              (z .zero (ranked names r) (omega arith) (omega arith))
+              ap (λ (v : List ℕ). getD v (stamp-column + ranked names r) 0) all-noted
+              ∙ noted-stamped 1 w₂ (map (stamp-words recs lists) (kept-items names recs w k a)) (stamp-column + ranked names r) (omega arith) (omega arith)
+              (z .zero (stamp-column + ranked names r) (omega arith) (omega arith))
+              ∙ stamps-words recs lists 1 (kept-items names recs w k a) (ranked names r)
 
-          stamps-count : s ≡ length (items names recs w k)
-          unfolding items
+          stamps-count : s ≡ length (kept-items names recs w k a)
+          unfolding kept-items
           stamps-count =
-              let a = facts-count in
-              let b = length-append (fact-records names recs w k) (goal-records recs k) in
+              let y = facts-count in
+              let b = length-append (fact-records names recs w k a) (goal-records recs k a) in
               omega arith
 
           few-stamps : s ≤ most-stamps
           few-stamps =
-              let a = few-facts in
-              let b = kept-few (is-goal recs k) 0 (k .records) in
+              let few = few-facts in
+              let b = kept-few (is-goal recs a) 0 (k .records) in
               let d = t .notes .recorded .few in
               omega arith
 
-          stamps-low : (r : ℕ) → r < k .named → stamp-in names w₄ r ≤ most-stamps
+          stamps-low : (r : ℕ) → r < k .names → stamp-in names w₄ r ≤ most-stamps
           unfolding item-stamp
           stamps-low r h =
-              let a = stamps-are r h in
-              let b = stamped-low 1 (map (uses-at recs out) (items names recs w k)) (ranked names r) (omega arith) in
-              let d = length-map (items names recs w k) (uses-at recs out) in
+              let y = stamps-are r h in
+              let b = stamped-low 1 (map (uses-at recs lists) (kept-items names recs w k a)) (ranked names r) (omega arith) in
+              let d = length-map (kept-items names recs w k a) (uses-at recs lists) in
               let e = stamps-count in
               let g = few-stamps in
               omega arith
 
           noted-room : working-words ≤ length w₄
-          noted-room = let a = noted-size in let b = t .notes .room in omega arith
+          noted-room = let y = noted-size in let b = t .notes .room in omega arith
 
           -- what linking asks
-          pub link-asks : Index names (k .named) × (working-words ≤ length w₄) × ((r : ℕ) → r < k .named → stamp-in names w₄ r ≤ most-stamps)
+          pub link-asks : Index names (k .names) × (working-words ≤ length w₄) × ((r : ℕ) → r < k .names → stamp-in names w₄ r ≤ most-stamps)
           link-asks = (t .index, noted-room, stamps-low)
 
           -- ---- the ranks linked
 
-          module _ {w₅ : List ℕ} (l : Links names w₄ w₅ (k .named)) where
-            linked-stamps : (r : ℕ) → r < k .named → stamp-in names w₅ r ≡ stamp-in names w₄ r
-            linked-stamps r h =
-                let a = t .index .numbers r h in
-                let b = t .index .few in
-                l .same .same-words (ranked names r) (λ x y. omega arith)
+          module _ {w₅ : List ℕ} (l : Links names w₄ w₅ (k .names)) where
+            linked-stamps : (r : ℕ) → r < k .names → stamp-in names w₅ r ≡ stamp-in names w₄ r
+            linked-stamps r h = l .same .same-words (stamp-column + ranked names r) (λ x y. omega arith)
 
-            all-linked : Linked (stamp-in names w₅) (k .named) w₅
+            all-linked : Linked (stamp-in names w₅) (k .names) w₅
             all-linked = linked-same (l .linked) linked-stamps (λ j h. refl) (t .index .few)
 
             linked-room : working-words ≤ length w₅
-            linked-room = let a = l .same .same-length in let b = noted-room in omega arith
+            linked-room = let y = l .same .same-length in let b = noted-room in omega arith
 
             -- ---- the records of the names
 
-            decls-are : decl-records names recs (k .named) (stamp-in names w₅) s
-                ≡ decl-records names recs (k .named) (item-stamp names recs out w k) (length (items names recs w k))
+            decls-are : decl-records names recs (k .names) (stamp-in names w₅) s
+                ≡ decl-records names recs (k .names) (item-stamp names recs lists w k a) (length (kept-items names recs w k a))
             decls-are =
-                decls-same names recs (k .named) (λ r h. linked-stamps r h ∙ stamps-are r h) s
-                ∙ ap (decl-records names recs (k .named) (item-stamp names recs out w k)) stamps-count
+                decls-same names recs (k .names) (λ r h. linked-stamps r h ∙ stamps-are r h) s
+                ∙ ap (decl-records names recs (k .names) (item-stamp names recs lists w k a)) stamps-count
 
-            module _ {x : Bool} (e : x ≡ prune-decls (ask-of k)) (on : x ≡ true) where
-              kept-are : kept-records names recs out w k
-                  ≡ fact-records names recs w k ++ decl-records names recs (k .named) (stamp-in names w₅) s
-              kept-are = kept-on names recs out w k (sym e ∙ on) ∙ ap (λ (d : List ℕ). fact-records names recs w k ++ d) (sym decls-are)
+            module _ {x : Bool} (e : x ≡ prune-decls (ask-of a)) (on : x ≡ true) where
+              kept-are : kept-records names recs lists w k a
+                  ≡ fact-records names recs w k a ++ decl-records names recs (k .names) (stamp-in names w₅) s
+              kept-are = kept-on names recs lists w k a (sym e ∙ on) ∙ ap (λ (d : List ℕ). fact-records names recs w k a ++ d) (sym decls-are)
 
-              decls-fit : f + length (decl-records names recs (k .named) (stamp-in names w₅) s) ≤ most-records
+              decls-fit : f + length (decl-records names recs (k .names) (stamp-in names w₅) s) ≤ most-records
               decls-fit =
-                  let a = facts-count in
+                  let y = facts-count in
                   let b = t .fits in
                   let g = ap length kept-are in
-                  let h = length-append (fact-records names recs w k) (decl-records names recs (k .named) (stamp-in names w₅) s) in
+                  let h = length-append (fact-records names recs w k a) (decl-records names recs (k .names) (stamp-in names w₅) s) in
                   omega arith
 
               -- what listing them asks
-              pub decls-ask : Index names (k .named) × (working-words ≤ length recs) × (working-words ≤ length w₅)
-                  × Linked (stamp-in names w₅) (k .named) w₅ × (s ≤ most-stamps)
-                  × (f + length (decl-records names recs (k .named) (stamp-in names w₅) s) ≤ most-records)
+              pub decls-ask : Index names (k .names) × (working-words ≤ length recs) × (working-words ≤ length w₅)
+                  × Linked (stamp-in names w₅) (k .names) w₅ × (s ≤ most-stamps)
+                  × (f + length (decl-records names recs (k .names) (stamp-in names w₅) s) ≤ most-records)
               decls-ask = (t .index, t .notes .recorded .room, linked-room, all-linked, few-stamps, decls-fit)
 
-              pub listed-all : {w₆ : List ℕ} {to : ℕ} → Lists w₅ f (decl-records names recs (k .named) (stamp-in names w₅) s) w₆ to
-                  → Listed names recs out w w₆ k to
+              pub listed-all : {w₆ : List ℕ} {to : ℕ} → Kept-behind w₅ f (decl-records names recs (k .names) (stamp-in names w₅) s) w₆ to
+                  → Records-listed names recs lists w w₆ k a to
               listed-all {w₆} {to} d =
                   let few = few-facts in
                   let fit = decls-fit in
                   let count = facts-count in
                   let room = linked-room in
                   let many = d .count in
-                  let names-few = t .index .few in
                   let size : length w₅ ≡ length w = l .same .same-length ∙ noted-size in
-                  let D : List ℕ = decl-records names recs (k .named) (stamp-in names w₅) s in
-                  let there : part w₅ kept-column (kept-column + f) ≡ fact-records names recs w k =
+                  let D : List ℕ = decl-records names recs (k .names) (stamp-in names w₅) s in
+                  let there : part w₅ kept-column (kept-column + f) ≡ fact-records names recs w k a =
                   part-agree w₂ w₅ f kept-column (kept-column + f) (omega arith) (omega (arith, cleared-length)) (omega arith)
-                  (λ i g h. l .same .same-words i (λ a b. omega arith) ∙ noted-same i (omega arith))
+                  (λ i g h. l .same .same-words i (λ y b. omega arith) ∙ noted-same .same-words i (λ y b. omega arith))
                   ∙ facts-there in
                   record {
                     records = ap₂ (λ (v : List ℕ) (b : ℕ). part v kept-column b) (d .written)
                         (let y : kept-column + to ≡ kept-column + f + length D = omega arith in y)
-                        ∙ part-behind w₅ kept-column (kept-column + f) (fact-records names recs w k) D (omega arith) there (omega arith)
+                        ∙ part-behind w₅ kept-column (kept-column + f) (fact-records names recs w k a) D (omega arith) there (omega arith)
                         ∙ sym kept-are;
                     count =
                         let g = ap length kept-are in
-                        let h = length-append (fact-records names recs w k) D in
+                        let h = length-append (fact-records names recs w k a) D in
                         omega arith;
-                    same = record {
-                      same-length = lists-length d ∙ size;
-                      same-words = λ i h.
-                          let far : prune-end ≤ i = omega (arith, h (omega arith)) in
-                          ap (λ (v : List ℕ). getD v i 0) (d .written) ∙ sets-above w₅ (kept-column + f) D i (omega arith)
-                          ∙ l .same .same-words i (λ a b. omega arith) ∙ noted-same i (omega arith)
-                          ∙ z .same .same-words i (λ a b. omega arith) ∙ facts-same .same-words i h;
-                    };
-                    run-same = λ i g h.
-                        ap (λ (v : List ℕ). getD v i 0) (d .written) ∙ sets-below w₅ (kept-column + f) D i (omega arith)
-                        ∙ l .same .same-words i (λ a b. omega arith) ∙ noted-same i (omega arith)
-                        ∙ z .same .same-words i (λ a b. omega arith) ∙ facts-below i h;
+                    same =
+                        same-then facts-same
+                        (same-then (same-wider kept-column prune-room (omega arith) (omega arith) (z .same))
+                        (same-then (same-wider kept-column prune-room (omega arith) (omega arith) noted-same)
+                        (same-then (same-wider kept-column prune-room (omega arith) (omega arith) (l .same)) (lists-same d fit))));
                   }

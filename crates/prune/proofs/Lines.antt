@@ -10,7 +10,7 @@ use Rattle.model.specs.Reading.{most-records}
 use Rattle.model.specs.Outcome.{working-words}
 use Rattle.model.proofs.PartLaws.{part-cons, part-nil}
 use Rattle.records.specs.Columns.{record-line}
-use Rattle.prune.specs.Loops.{kept-column, Lists}
+use Rattle.prune.specs.Loops.{kept-column, Kept-behind}
 use Rattle.prune.proofs.Writing.{Going, going-start, going-end, going-list}
 
 -- the records from place j on are left
@@ -44,9 +44,9 @@ module _ {recs w : List ℕ} {count : ℕ} {v : List ℕ} {j : ℕ} (g : Lines-t
         left = λ i l. getD-set-other v (kept-column + j) i (record-line recs x) 0 (λ q. omega arith) ∙ g .left i (omega arith);
       }
 
-  pub lines-end : count ≤ j → Lists w 0 (map (record-line recs) (part w kept-column (kept-column + count))) v count
+  pub lines-end : count ≤ j → Kept-behind w 0 (map (record-line recs) (part w kept-column (kept-column + count))) v count
   lines-end h =
       let b = g .high in
       let e : j ≡ count = omega arith in
-      subst (λ (to : ℕ). Lists w 0 (map (record-line recs) (part w kept-column (kept-column + count))) v to) e
+      subst (λ (to : ℕ). Kept-behind w 0 (map (record-line recs) (part w kept-column (kept-column + count))) v to) e
       (going-end (g .going) (ap (map (record-line recs)) (part-nil w (kept-column + j) (kept-column + count) (omega arith))))

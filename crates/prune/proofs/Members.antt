@@ -7,20 +7,21 @@ use mathlib.Core.List.{List, [], _∷_, List·Memᴰ, List·Memᴰ·not-nil}
 use lib.Dec.{eqb}
 use borrow.Author.Tests.{eqb-false}
 use Rattle.model.specs.Reading.{no-ambients}
+use Rattle.model.specs.declared.Asked.{Asked}
 use Rattle.model.specs.declared.Counts.{Counts}
 use Rattle.model.proofs.ListLaws.{cond-case, keep-elim, collect-elim}
-use Rattle.records.specs.States.{ask-of}
+use Rattle.options.specs.OptionsOf.{ask-of}
 use Rattle.scan.specs.Held.{upto}
 use Rattle.scan.specs.Steps.{is-reached}
 use Rattle.scan.proofs.Numbers.{upto-elim}
 use Rattle.scan.proofs.Background.{only}
-use Rattle.prune.specs.Listing.{from, one, picked, taker, reached-at, ambient-at, is-goal, reached-records, ambient-records, goal-records}
+use Rattle.prune.specs.Listing.{from, record-behind, picked, taker, reached-at, ambient-at, is-goal, reached-records, ambient-records, goal-records}
 use Rattle.prune.proofs.Ranges.{from-below}
 use Rattle.prune.proofs.Picking.{ambient-small}
 
 -- a record by its number and one
-pub one-elim : (t : ℕ) {i : ℕ} → List·Memᴰ i (one t) → t ≡ suc i
-unfolding one
+pub one-elim : (t : ℕ) {i : ℕ} → List·Memᴰ i (record-behind t) → t ≡ suc i
+unfolding record-behind
 one-elim t {i} m = go (eqb t 0) refl m
   where
     go : (b : Bool) → eqb t 0 ≡ b → List·Memᴰ i (cond b [] ((t - 1) ∷ [])) → t ≡ suc i
@@ -30,7 +31,7 @@ one-elim t {i} m = go (eqb t 0) refl m
 -- what is picked, by the number that picks it
 pub picked-elim : (pick : ℕ → ℕ) (l : List ℕ) {i : ℕ} → List·Memᴰ i (picked pick l) → (r : ℕ) × List·Memᴰ r l × (pick r ≡ suc i)
 unfolding picked
-picked-elim pick l m = let (r, a, b) = collect-elim (λ r. one (pick r)) l m in (r, a, one-elim (pick r) b)
+picked-elim pick l m = let (r, a, b) = collect-elim (λ r. record-behind (pick r)) l m in (r, a, one-elim (pick r) b)
 
 -- what is picked of numbers that pick records below a bound
 picked-small : (pick : ℕ → ℕ) (l : List ℕ) (n : ℕ) → ((r : ℕ) → List·Memᴰ r l → pick r ≤ n) → {x : ℕ} → List·Memᴰ x (picked pick l) → x < n
@@ -48,15 +49,15 @@ reached-small names w named n low m =
     picked-small (reached-at names w) (from 0 named) n
     (λ r i. let a = reached-low names w r in let c = low r (from-below named i) in omega arith) m
 
-pub ambients-small : (recs : List ℕ) (k : Counts) {x : ℕ} → List·Memᴰ x (ambient-records recs k) → x < k .records
+pub ambients-small : (recs : List ℕ) (k : Counts) (a : Asked) {x : ℕ} → List·Memᴰ x (ambient-records recs k a) → x < k .records
 unfolding ambient-records
-ambients-small recs k {x} m = go (no-ambients (ask-of k)) m
+ambients-small recs k a {x} m = go (no-ambients (ask-of a)) m
   where
     go : (b : Bool) → List·Memᴰ x (cond b [] (picked (ambient-at recs) (upto (k .records)))) → x < k .records
     go true m = absurd (List·Memᴰ·not-nil m)
     go false m =
         picked-small (ambient-at recs) (upto (k .records)) (k .records)
-        (λ r i. let a = ambient-small recs r refl in let b = upto-elim (k .records) i in omega arith) m
+        (λ r i. let y = ambient-small recs r refl in let b = upto-elim (k .records) i in omega arith) m
 
-pub goals-small : (recs : List ℕ) (k : Counts) {x : ℕ} → List·Memᴰ x (goal-records recs k) → x < k .records
-goals-small recs k m = from-below (k .records) (keep-elim (is-goal recs k) (from 0 (k .records)) m .0)
+pub goals-small : (recs : List ℕ) (k : Counts) (a : Asked) {x : ℕ} → List·Memᴰ x (goal-records recs k a) → x < k .records
+goals-small recs k a m = from-below (k .records) (keep-elim (is-goal recs a) (from 0 (k .records)) m .0)

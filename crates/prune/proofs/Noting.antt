@@ -8,53 +8,93 @@ use lib.Dec.{T, eqb, ltb, not-T, eqb→eq, ltb→lt}
 use lib.ListN.{length, getD}
 use borrow.Author.Tests.{eq-eqb}
 use Rattle.model.specs.Lists.{keep, part}
-use Rattle.model.specs.Reading.{most-records}
+use Rattle.model.specs.Reading.{most-names, most-records}
+use Rattle.model.specs.declared.Asked.{Asked}
 use Rattle.model.specs.declared.Counts.{Counts}
-use Rattle.model.proofs.ListLaws.{cond-case, true-T, any-intro, any-elim}
+use Rattle.model.proofs.ListLaws.{cond-case, true-T, T-ext, any-intro, any-elim, map-intro, map-elim}
 use Rattle.model.proofs.PartLaws.{part-cons, part-nil, part-elim}
-use Rattle.words.specs.Slices.{word-limit}
 use Rattle.records.specs.Columns.{uses-start, uses-end}
 use Rattle.records.specs.States.{uses-at}
-use Rattle.scan.specs.Steps.{marks, is-met}
-use Rattle.scan.proofs.Marks.{marks-length, marks-old, marks-out, met-in, new-intro}
-use Rattle.prune.specs.Listing.{from, is-goal, goal-records, has, stamped}
-use Rattle.prune.specs.Loops.{kept-column, most-stamps, noted, Notes}
+use Rattle.scan.specs.Steps.{mark, marks, is-met}
+use Rattle.scan.proofs.Marks.{mark-length, marks-nil, marks-cons, marks-length, marks-old, marks-out, met-in, new-intro}
+use Rattle.prune.specs.Listing.{from, is-goal, goal-records, is-among, stamped}
+use Rattle.prune.specs.Loops.{kept-column, stamp-column, stamp-words, noted, Notes}
 use Rattle.prune.proofs.Picking.{kept-skip, kept-take, kept-end}
 
 -- ---- one record
 
 -- another slice of the same length
-pub notes-then : {recs out run v : List ℕ} {k : Counts} → Notes recs out run k → length v ≡ length run → Notes recs out v k
+pub notes-then : {recs lists run v : List ℕ} {k : Counts} → Notes recs lists run k → length v ≡ length run → Notes recs lists v k
 notes-then n e = let r = n .room in record { recorded = n .recorded; few = n .few; room = omega arith }
 
-module _ {recs out run : List ℕ} {k : Counts} (n : Notes recs out run k) {i : ℕ} (h : i < k .records) where
+module _ {recs lists run : List ℕ} {k : Counts} (n : Notes recs lists run k) {i : ℕ} (h : i < k .records) where
   -- the free names of a record are names of the table
-  pub uses-small : {m : ℕ} → List·Memᴰ m (uses-at recs out i) → m < k .named
+  uses-small : {m : ℕ} → List·Memᴰ m (uses-at recs lists i) → m < k .names
   uses-small q =
       let a = n .recorded .uses-in i h in
       let b = n .recorded .few-uses in
-      let c = n .recorded .out-room in
-      let p = part-elim {l = out} {a = uses-start recs i} {e = uses-end recs i} (omega arith) q in
+      let c = n .recorded .lists-room in
+      let p = part-elim {l = lists} {a = uses-start recs i} {e = uses-end recs i} (omega arith) q in
       let d = p .high in
       let s = n .recorded .use-words (p .place) (omega arith) in
       let e = p .is in
       omega arith
 
+  -- and so the words of their stamps
+  pub words-in : {m : ℕ} → List·Memᴰ m (stamp-words recs lists i) → (stamp-column ≤ m) × (m < stamp-column + most-names)
+  unfolding stamp-words
+  words-in q =
+      let (x, y, e) = map-elim (λ n. stamp-column + n) (uses-at recs lists i) q in
+      let s = uses-small y in
+      let f = n .few in
+      (omega arith, omega arith)
+
   -- where they stand
-  pub uses-place : {a e s : ℕ} → a ≡ uses-start recs i → e ≡ uses-end recs i → s ≤ most-stamps
-      → (a ≤ e) × (e ≤ length out) × ((j : ℕ) → a ≤ j → j < e → getD out j 0 < length run) × (s < word-limit)
-  uses-place {a} {e} {s} p q l =
+  pub uses-place : {a e : ℕ} → a ≡ uses-start recs i → e ≡ uses-end recs i → (a ≤ e) × (e ≤ length lists)
+  uses-place {a} {e} p q =
       let up = n .recorded .rising i h in
       let low = n .recorded .uses-in i h in
       let few = n .recorded .few-uses in
-      let room = n .recorded .out-room in
-      (omega arith, omega arith, λ j b d. let w = n .recorded .use-words j (omega arith) in let m = n .few in let r = n .room in omega arith, omega arith)
+      let room = n .recorded .lists-room in
+      (omega arith, omega arith)
 
-pub record-noted : (recs out run v : List ℕ) (i a e s : ℕ) → a ≡ uses-start recs i → e ≡ uses-end recs i → v ≡ marks s run (part out a e)
-    → v ≡ marks s run (uses-at recs out i)
-record-noted recs out run v i a e s p q m = rw (← p, ← q) m
+  -- each has a word for its stamp
+  pub use-word : {a e : ℕ} → a ≡ uses-start recs i → e ≡ uses-end recs i → (j : ℕ) → j < e → stamp-column + getD lists j 0 < length run
+  use-word {a} {e} p q j d =
+      let low = n .recorded .uses-in i h in
+      let w = n .recorded .use-words j (omega arith) in
+      let m = n .few in
+      let r = n .room in
+      omega arith
 
--- ---- lists of names
+-- those from place j up to e are left
+pub record Names-to (lists w₀ : List ℕ) (a e s : ℕ) (w : List ℕ) (j : ℕ) : Type 0 where
+  pub low : a ≤ j
+  pub high : j ≤ e
+  pub same-length : length w ≡ length w₀
+  pub left : marks s w₀ (map (λ n. stamp-column + n) (part lists a e)) ≡ marks s w (map (λ n. stamp-column + n) (part lists j e))
+
+module _ {lists w₀ : List ℕ} {a e s : ℕ} where
+  pub names-start : a ≤ e → Names-to lists w₀ a e s w₀ a
+  names-start h = record { low = omega arith; high = h; same-length = refl; left = refl }
+
+  pub names-next : {w v : List ℕ} {j x : ℕ} → Names-to lists w₀ a e s w j → j < e → e ≤ length lists → x ≡ getD lists j 0
+      → v ≡ mark s w (stamp-column + x) → Names-to lists w₀ a e s v (j + 1)
+  names-next {w} {v} {j} {x} f h b c d =
+      let low = f .low in
+      record {
+        low = omega arith;
+        high = omega arith;
+        same-length = ap length d ∙ mark-length s w (stamp-column + x) ∙ f .same-length;
+        left = f .left ∙ rw (part-cons lists j e h b, marks-cons, ← c, ← d);
+      }
+
+  pub names-end : {w : List ℕ} {j : ℕ} (recs : List ℕ) (i : ℕ) → a ≡ uses-start recs i → e ≡ uses-end recs i → Names-to lists w₀ a e s w j → e ≤ j
+      → w ≡ marks s w₀ (stamp-words recs lists i)
+  unfolding stamp-words
+  names-end {w} {j} recs i p q f h = rw (← p, ← q) (sym (f .left ∙ rw (part-nil lists j e h, marks-nil)))
+
+-- ---- lists of words
 
 pub noted-length : (s : ℕ) (w : List ℕ) (ls : List (List ℕ)) → length (noted s w ls) ≡ length w
 unfolding noted
@@ -83,28 +123,31 @@ noted-old s w (l ∷ ls) n h =
     let e = marks-old s w l n h in noted-old (s + 1) (marks s w l) ls n (omega arith) ∙ e
 
 -- a number that a list has
-has-elim : (n : ℕ) (l : List ℕ) → T (has n l) → List·Memᴰ n l
-unfolding has
+has-elim : (n : ℕ) (l : List ℕ) → T (is-among n l) → List·Memᴰ n l
+unfolding is-among
 has-elim n l t = let (m, i, e) = any-elim (λ m. eqb m n) l t in Memᴰ·cast (sym (eqb→eq m n e)) i
 
-has-not : (n : ℕ) (l : List ℕ) → has n l ≡ false → List·Memᴰ n l → ⊥
-unfolding has
-has-not n l e m = let t = any-intro (λ m. eqb m n) m (true-T (eq-eqb n n refl)) in absurd (rw e at t)
+has-intro : {n : ℕ} {l : List ℕ} → List·Memᴰ n l → T (is-among n l)
+unfolding is-among
+has-intro {n} m = any-intro (λ m. eqb m n) m (true-T (eq-eqb n n refl))
 
--- a name without a stamp is noted with that of its list
+has-not : (n : ℕ) (l : List ℕ) → is-among n l ≡ false → List·Memᴰ n l → ⊥
+has-not n l e m = absurd (rw e at (has-intro m))
+
+-- a word without a mark gets that of its list
 first-noted : (s : ℕ) (w l : List ℕ) (n : ℕ) → 0 < s → n < length w → getD w n 0 ≡ 0 → List·Memᴰ n l → getD (marks s w l) n 0 ≡ s
 unfolding is-met
 first-noted s w l n p h z m =
     new-intro s w l n p h (met-in s w l p h m) (not-T (ltb 0 (getD w n 0)) (λ t. let x = ltb→lt 0 (getD w n 0) t in omega arith))
 
--- the stamps in a slice that had none are the places of the lists
+-- the marks in a column that had none are the places of the lists
 pub noted-stamped : (s : ℕ) (w : List ℕ) (ls : List (List ℕ)) (n : ℕ) → 0 < s → n < length w → getD w n 0 ≡ 0
     → getD (noted s w ls) n 0 ≡ stamped s ls n
 unfolding noted stamped
 noted-stamped s w [] n p h z = z
-noted-stamped s w (l ∷ ls) n p h z = go (has n l) refl (noted-stamped (s + 1) (marks s w l) ls n (omega arith) (rw (marks-length s w l) h))
+noted-stamped s w (l ∷ ls) n p h z = go (is-among n l) refl (noted-stamped (s + 1) (marks s w l) ls n (omega arith) (rw (marks-length s w l) h))
   where
-    go : (b : Bool) → has n l ≡ b → (getD (marks s w l) n 0 ≡ 0 → getD (noted (s + 1) (marks s w l) ls) n 0 ≡ stamped (s + 1) ls n)
+    go : (b : Bool) → is-among n l ≡ b → (getD (marks s w l) n 0 ≡ 0 → getD (noted (s + 1) (marks s w l) ls) n 0 ≡ stamped (s + 1) ls n)
         → getD (noted (s + 1) (marks s w l) ls) n 0 ≡ cond b s (stamped (s + 1) ls n)
     go true e ih =
         let m = has-elim n l (true-T e) in
@@ -112,96 +155,113 @@ noted-stamped s w (l ∷ ls) n p h z = go (has n l) refl (noted-stamped (s + 1) 
         noted-old (s + 1) (marks s w l) ls n (omega arith) ∙ f
     go false e ih = ih (marks-out s w l n (λ m. has-not n l e m) ∙ z)
 
+-- a name is in a list where its word is among those of the list
+word-among : (l : List ℕ) (n : ℕ) → is-among (stamp-column + n) (map (λ m. stamp-column + m) l) ≡ is-among n l
+word-among l n =
+    T-ext
+    (λ t.
+    let (m, i, e) = map-elim (λ m. stamp-column + m) l (has-elim (stamp-column + n) (map (λ m. stamp-column + m) l) t) in
+    let q : n ≡ m = omega arith in
+    has-intro (Memᴰ·cast q i))
+    (λ t. has-intro (map-intro (λ m. stamp-column + m) (has-elim n l t)))
+
+-- the stamps of names are the marks of their words
+pub stamps-words : (recs lists : List ℕ) (s : ℕ) (is : List ℕ) (n : ℕ)
+    → stamped s (map (stamp-words recs lists) is) (stamp-column + n) ≡ stamped s (map (uses-at recs lists) is) n
+unfolding stamped stamp-words
+stamps-words recs lists s [] n = refl
+stamps-words recs lists s (i ∷ is) n = rw (word-among (uses-at recs lists i) n, stamps-words recs lists (s + 1) is n)
+
 -- stamps are no higher than the last place
 pub stamped-low : (s : ℕ) (ls : List (List ℕ)) (n : ℕ) → 0 < s → stamped s ls n < s + length ls
 unfolding stamped
 stamped-low s [] n p = omega arith
 stamped-low s (l ∷ ls) n p =
-    let ih = stamped-low (s + 1) ls n (omega arith) in cond-case (λ x. x < s + suc (length ls)) (has n l) (omega arith) (omega arith)
+    let ih = stamped-low (s + 1) ls n (omega arith) in cond-case (λ x. x < s + suc (length ls)) (is-among n l) (omega arith) (omega arith)
 
 -- ---- the kept facts
 
 -- those from place j on are left
-pub record Facts-to (recs out : List ℕ) (named : ℕ) (w₀ : List ℕ) (count : ℕ) (w : List ℕ) (j : ℕ) : Type 0 where
+pub record Facts-to (recs lists w₀ : List ℕ) (count : ℕ) (w : List ℕ) (j : ℕ) : Type 0 where
   pub high : j ≤ count
   pub same-length : length w ≡ length w₀
-  pub left : noted 1 w₀ (map (uses-at recs out) (part w₀ kept-column (kept-column + count)))
-      ≡ noted (j + 1) w (map (uses-at recs out) (part w₀ (kept-column + j) (kept-column + count)))
-  pub same : (i : ℕ) → named ≤ i → getD w i 0 ≡ getD w₀ i 0
+  pub left : noted 1 w₀ (map (stamp-words recs lists) (part w₀ kept-column (kept-column + count)))
+      ≡ noted (j + 1) w (map (stamp-words recs lists) (part w₀ (kept-column + j) (kept-column + count)))
+  pub same : (i : ℕ) → i < stamp-column → getD w i 0 ≡ getD w₀ i 0
 
-pub facts-start : (recs out : List ℕ) (named : ℕ) (w : List ℕ) (count : ℕ) → Facts-to recs out named w count w 0
-facts-start recs out named w count = record { high = omega arith; same-length = refl; left = refl; same = λ i h. refl }
+pub facts-start : (recs lists w : List ℕ) (count : ℕ) → Facts-to recs lists w count w 0
+facts-start recs lists w count = record { high = omega arith; same-length = refl; left = refl; same = λ i h. refl }
 
-module _ {recs out w₀ : List ℕ} {k : Counts} {count : ℕ} {w : List ℕ} {j : ℕ} (n : Notes recs out w₀ k) (few : count ≤ most-records)
-    (f : Facts-to recs out (k .named) w₀ count w j) where
+module _ {recs lists w₀ : List ℕ} {k : Counts} {count : ℕ} {w : List ℕ} {j : ℕ} (n : Notes recs lists w₀ k) (few : count ≤ most-records)
+    (f : Facts-to recs lists w₀ count w j) where
   -- the fact at place j is still there
   pub fact-there : {x : ℕ} → x ≡ getD w (kept-column + j) 0 → x ≡ getD w₀ (kept-column + j) 0
-  fact-there e = e ∙ f .same (kept-column + j) (let a = n .few in omega arith)
+  fact-there e = e ∙ f .same (kept-column + j) (let a = f .high in omega arith)
 
   pub facts-next : {x : ℕ} {v : List ℕ} → j < count → x ≡ getD w (kept-column + j) 0 → x < k .records
-      → v ≡ marks (j + 1) w (uses-at recs out x) → Facts-to recs out (k .named) w₀ count v (j + 1)
+      → v ≡ marks (j + 1) w (stamp-words recs lists x) → Facts-to recs lists w₀ count v (j + 1)
   unfolding noted
   facts-next {x} {v} h e s m =
       let room = n .room in
       let z : kept-column + j + 1 ≡ kept-column + (j + 1) = omega arith in
       record {
         high = omega arith;
-        same-length = ap length m ∙ marks-length (j + 1) w (uses-at recs out x) ∙ f .same-length;
+        same-length = ap length m ∙ marks-length (j + 1) w (stamp-words recs lists x) ∙ f .same-length;
         left = f .left ∙ rw (part-cons w₀ (kept-column + j) (kept-column + count) (omega arith) (omega arith), ← (fact-there e), z, m);
         same = λ i l.
             ap (λ (u : List ℕ). getD u i 0) m
-            ∙ marks-out (j + 1) w (uses-at recs out x) i (λ q. let a = uses-small n s q in omega arith) ∙ f .same i l;
+            ∙ marks-out (j + 1) w (stamp-words recs lists x) i (λ q. let a = words-in n s q .0 in omega arith) ∙ f .same i l;
       }
 
-  pub facts-end : count ≤ j → w ≡ noted 1 w₀ (map (uses-at recs out) (part w₀ kept-column (kept-column + count)))
+  pub facts-end : count ≤ j → w ≡ noted 1 w₀ (map (stamp-words recs lists) (part w₀ kept-column (kept-column + count)))
   unfolding noted
   facts-end h = sym (f .left ∙ rw (part-nil w₀ (kept-column + j) (kept-column + count) (omega arith)))
 
 -- ---- the roots of the query
 
 -- those from record i on are left
-pub record Roots-to (recs out : List ℕ) (k : Counts) (w₀ : List ℕ) (m : ℕ) (w : List ℕ) (s i : ℕ) : Type 0 where
+pub record Roots-to (recs lists : List ℕ) (k : Counts) (a : Asked) (w₀ : List ℕ) (m : ℕ) (w : List ℕ) (s i : ℕ) : Type 0 where
   pub high : i ≤ k .records
   pub low : s ≤ m + i
   pub same-length : length w ≡ length w₀
-  pub left : noted (m + 1) w₀ (map (uses-at recs out) (goal-records recs k))
-      ≡ noted (s + 1) w (map (uses-at recs out) (keep (is-goal recs k) (from i (k .records - i))))
-  pub stamps : m + length (goal-records recs k) ≡ s + length (keep (is-goal recs k) (from i (k .records - i)))
+  pub left : noted (m + 1) w₀ (map (stamp-words recs lists) (goal-records recs k a))
+      ≡ noted (s + 1) w (map (stamp-words recs lists) (keep (is-goal recs a) (from i (k .records - i))))
+  pub stamps : m + length (goal-records recs k a) ≡ s + length (keep (is-goal recs a) (from i (k .records - i)))
 
-pub roots-start : (recs out : List ℕ) (k : Counts) (w : List ℕ) (m : ℕ) → Roots-to recs out k w m w m 0
-roots-start recs out k w m =
+pub roots-start : (recs lists : List ℕ) (k : Counts) (a : Asked) (w : List ℕ) (m : ℕ) → Roots-to recs lists k a w m w m 0
+roots-start recs lists k a w m =
     let e : k .records - 0 ≡ k .records = omega arith in
     record { high = omega arith; low = omega arith; same-length = refl; left = rw e; stamps = rw e }
 
-module _ {recs out : List ℕ} {k : Counts} {w₀ : List ℕ} {m : ℕ} {w : List ℕ} {s i : ℕ} (f : Roots-to recs out k w₀ m w s i) where
+module _ {recs lists : List ℕ} {k : Counts} {a : Asked} {w₀ : List ℕ} {m : ℕ} {w : List ℕ} {s i : ℕ} (f : Roots-to recs lists k a w₀ m w s i) where
   -- another record
-  pub roots-skip : {b : Bool} → i < k .records → b ≡ is-goal recs k i → b ≡ false → Roots-to recs out k w₀ m w s (i + 1)
+  pub roots-skip : {b : Bool} → i < k .records → b ≡ is-goal recs a i → b ≡ false → Roots-to recs lists k a w₀ m w s (i + 1)
   roots-skip h e z =
       let low = f .low in
-      let next = kept-skip (is-goal recs k) i (k .records) h (sym e ∙ z) in
+      let next = kept-skip (is-goal recs a) i (k .records) h (sym e ∙ z) in
       record { high = omega arith; low = omega arith; same-length = f .same-length; left = f .left ∙ rw next; stamps = f .stamps ∙ rw next }
 
   -- a root of the query
-  pub roots-next : {b : Bool} {v : List ℕ} → i < k .records → b ≡ is-goal recs k i → b ≡ true → v ≡ marks (s + 1) w (uses-at recs out i)
-      → Roots-to recs out k w₀ m v (s + 1) (i + 1)
+  pub roots-next : {b : Bool} {v : List ℕ} → i < k .records → b ≡ is-goal recs a i → b ≡ true → v ≡ marks (s + 1) w (stamp-words recs lists i)
+      → Roots-to recs lists k a w₀ m v (s + 1) (i + 1)
   unfolding noted
   roots-next {b} {v} h e z q =
       let low = f .low in
-      let next = kept-take (is-goal recs k) i (k .records) h (sym e ∙ z) in
+      let next = kept-take (is-goal recs a) i (k .records) h (sym e ∙ z) in
       record {
         high = omega arith;
         low = omega arith;
-        same-length = ap length q ∙ marks-length (s + 1) w (uses-at recs out i) ∙ f .same-length;
+        same-length = ap length q ∙ marks-length (s + 1) w (stamp-words recs lists i) ∙ f .same-length;
         left = f .left ∙ rw (next, q);
         stamps = f .stamps ∙ rw next (omega arith);
       }
 
-  pub roots-end : k .records ≤ i → w ≡ noted (m + 1) w₀ (map (uses-at recs out) (goal-records recs k))
+  pub roots-end : k .records ≤ i → w ≡ noted (m + 1) w₀ (map (stamp-words recs lists) (goal-records recs k a))
   unfolding noted
-  roots-end h = sym (f .left ∙ rw (kept-end (is-goal recs k) i (k .records) h))
+  roots-end h = sym (f .left ∙ rw (kept-end (is-goal recs a) i (k .records) h))
 
-  pub roots-stamps : k .records ≤ i → s ≡ m + length (goal-records recs k)
+  pub roots-stamps : k .records ≤ i → s ≡ m + length (goal-records recs k a)
   roots-stamps h =
       let e = f .stamps in
-      let d = ap length (kept-end (is-goal recs k) i (k .records) h) in
+      let d = ap length (kept-end (is-goal recs a) i (k .records) h) in
       omega arith

@@ -10,13 +10,13 @@ use borrow.Author.Tests.{eq-eqb, ne-eqb, lt-ltb, le-ltb}
 use Rattle.model.specs.Lists.{keep, collect}
 use Rattle.model.specs.Reading.{most-records}
 use Rattle.model.specs.Rounds.{is-ambient}
-use Rattle.model.specs.declared.Counts.{Counts}
+use Rattle.model.specs.declared.Asked.{Asked}
 use Rattle.model.proofs.ListLaws.{cond-case}
 use Rattle.names.specs.Table.{ranked}
 use Rattle.records.specs.Columns.{record-kind, record-flag, summary-code, kind-of-code, assume-kind, root-kind, taken-at}
 use Rattle.scan.specs.Held.{upto}
 use Rattle.scan.specs.Steps.{is-reached, reached-column}
-use Rattle.prune.specs.Listing.{from, one, picked, taker, reached-at, kind-at, ambient-at, is-goal}
+use Rattle.prune.specs.Listing.{from, record-behind, picked, taker, reached-at, kind-at, ambient-at, is-goal}
 use Rattle.prune.specs.Loops.{kept-column, Index}
 
 -- ---- the name of a rank and who took it
@@ -104,19 +104,19 @@ module _ (recs : List ℕ) (i x : ℕ) (e : x ≡ record-kind recs i) where
 
 -- ---- a root of the query
 
-module _ (recs : List ℕ) (k : Counts) (i x : ℕ) (e : x ≡ record-kind recs i) where
-  pub goal-other : (x ≡ root-kind → ⊥) → false ≡ is-goal recs k i
+module _ (recs : List ℕ) (a : Asked) (i x : ℕ) (e : x ≡ record-kind recs i) where
+  pub goal-other : (x ≡ root-kind → ⊥) → false ≡ is-goal recs a i
   unfolding is-goal
   goal-other d = rw (← e, ne-eqb x root-kind d)
 
-  pub goal-root : x ≡ root-kind → (y : ℕ) → y ≡ record-flag recs i → eqb y (k .query) ≡ is-goal recs k i
+  pub goal-root : x ≡ root-kind → (y : ℕ) → y ≡ record-flag recs i → eqb y (a .query) ≡ is-goal recs a i
   unfolding is-goal
-  goal-root a y q = rw (← e, eq-eqb x root-kind a, ← q)
+  goal-root p y q = rw (← e, eq-eqb x root-kind p, ← q)
 
 -- ---- ranks upward
 
 -- the first of the numbers left
-pub from-next : (pick : ℕ → ℕ) (r n : ℕ) → r < n → picked pick (from r (n - r)) ≡ one (pick r) ++ picked pick (from (r + 1) (n - (r + 1)))
+pub from-next : (pick : ℕ → ℕ) (r n : ℕ) → r < n → picked pick (from r (n - r)) ≡ record-behind (pick r) ++ picked pick (from (r + 1) (n - (r + 1)))
 unfolding picked from collect
 from-next pick r n h = ap (λ (k : ℕ). picked pick (from r k)) (let e : n - r ≡ suc (n - (r + 1)) = omega arith in e)
 
@@ -157,13 +157,13 @@ unfolding upto collect
 collect-end f zero h = refl
 collect-end f (suc r) h = absurd (omega arith)
 
-pub picked-next : (pick : ℕ → ℕ) (r : ℕ) → 0 < r → picked pick (upto r) ≡ one (pick (r - 1)) ++ picked pick (upto (r - 1))
+pub picked-next : (pick : ℕ → ℕ) (r : ℕ) → 0 < r → picked pick (upto r) ≡ record-behind (pick (r - 1)) ++ picked pick (upto (r - 1))
 unfolding picked
-picked-next pick r h = collect-next (λ r. one (pick r)) r h
+picked-next pick r h = collect-next (λ r. record-behind (pick r)) r h
 
 pub picked-end : (pick : ℕ → ℕ) (r : ℕ) → r ≤ 0 → picked pick (upto r) ≡ []
 unfolding picked
-picked-end pick r h = collect-end (λ r. one (pick r)) r h
+picked-end pick r h = collect-end (λ r. record-behind (pick r)) r h
 
 -- ---- what is picked depends on the columns before the kept list only
 

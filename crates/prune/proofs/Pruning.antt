@@ -7,30 +7,32 @@ use lib.ListN.{length, getD, length-map}
 use Rattle.model.specs.Lists.{part}
 use Rattle.model.specs.Reading.{most-records}
 use Rattle.model.specs.Outcome.{working-words}
+use Rattle.model.specs.declared.Asked.{Asked}
 use Rattle.model.specs.declared.Counts.{Counts}
 use Rattle.model.proofs.PartLaws.{part-intro}
+use Rattle.words.proofs.Slices.{same-then}
 use Rattle.records.specs.Columns.{record-line}
 use Rattle.prune.specs.Listing.{kept-records}
-use Rattle.prune.specs.Loops.{kept-column, prune-end, Lists, Listable, Listed}
+use Rattle.prune.specs.Loops.{kept-column, Kept-behind, Listable, Records-listed}
 use Rattle.prune.specs.Kept.{kept-of, Run-over, Pruned}
-use Rattle.prune.proofs.Writing.{sets-below, sets-above, lists-length}
+use Rattle.prune.proofs.Writing.{lists-same}
 use Rattle.prune.proofs.Gathering.{part-sets}
 use Rattle.prune.proofs.Linking.{kept-lines, records-small}
 
-module _ {file names recs out w : List ℕ} {k : Counts} (t : Run-over file names recs out w k) where
-  lines-are : map (record-line recs) (kept-records names recs out w k) ≡ kept-of file names recs out w k
-  lines-are = kept-lines (t .filled) w (t .only-facts)
+module _ {file names recs lists w : List ℕ} {k : Counts} {a : Asked} (t : Run-over file names recs lists w k a) where
+  lines-are : map (record-line recs) (kept-records names recs lists w k a) ≡ kept-of file names recs lists w k a
+  lines-are = kept-lines (t .filled) a w (t .only-facts)
 
   -- as many records as lines
-  records-fit : length (kept-records names recs out w k) ≤ most-records
+  records-fit : length (kept-records names recs lists w k a) ≤ most-records
   records-fit =
-      let a = length-map (kept-records names recs out w k) (record-line recs) in
+      let y = length-map (kept-records names recs lists w k a) (record-line recs) in
       let b = ap length lines-are in
       let c = t .fits in
       omega arith
 
   -- the tables are in range
-  pub tables-fit : Listable names recs out w k
+  pub tables-fit : Listable names recs lists w k a
   tables-fit =
       let table = t .filled .table in
       let few = table .few in
@@ -41,36 +43,36 @@ module _ {file names recs out w : List ℕ} {k : Counts} (t : Run-over file name
           room = table .room;
           few = few;
           numbers = table .numbers;
-          takers = λ n h. let a = low n (omega arith) in omega arith;
+          takers = λ n h. let y = low n (omega arith) in omega arith;
         };
         took = λ n h. low n (omega arith);
         notes = record { recorded = t .filled .recorded; few = few; room = t .room };
         fits = records-fit;
       }
 
-  module _ {v : List ℕ} {count : ℕ} (l : Listed names recs out w v k count) where
+  module _ {v : List ℕ} {count : ℕ} (l : Records-listed names recs lists w v k a count) where
     pub few-kept : count ≤ most-records
-    few-kept = let a = l .count in let b = records-fit in omega arith
+    few-kept = let y = l .count in let b = records-fit in omega arith
 
     pub listed-room : working-words ≤ length v
-    listed-room = let a = l .same .same-length in let b = t .room in omega arith
+    listed-room = let y = l .same .same-length in let b = t .room in omega arith
 
     -- what is listed are records
     pub records-in : (j : ℕ) → j < count → getD v (kept-column + j) 0 < most-records
     records-in j h =
-        let a = few-kept in
+        let y = few-kept in
         let r = listed-room in
         let many = t .filled .recorded .few in
         let m = part-intro v kept-column (kept-column + count) (kept-column + j) (omega arith) (omega arith) (omega arith) in
-        let b = records-small (t .filled) w (getD v (kept-column + j) 0)
+        let b = records-small (t .filled) a w (getD v (kept-column + j) 0)
         (subst (λ (x : List ℕ). List·Memᴰ (getD v (kept-column + j) 0) x) (l .records) m) in
         omega arith
 
-    pub pruned : {u : List ℕ} → Lists v 0 (map (record-line recs) (part v kept-column (kept-column + count))) u count
-        → Pruned file names recs out w u k count
+    pub pruned : {u : List ℕ} → Kept-behind v 0 (map (record-line recs) (part v kept-column (kept-column + count))) u count
+        → Pruned file names recs lists w u k a count
     pruned {u} p =
         let lines : List ℕ = map (record-line recs) (part v kept-column (kept-column + count)) in
-        let are : lines ≡ kept-of file names recs out w k = ap (map (record-line recs)) (l .records) ∙ lines-are in
+        let are : lines ≡ kept-of file names recs lists w k a = ap (map (record-line recs)) (l .records) ∙ lines-are in
         let few = few-kept in
         let room = listed-room in
         let many : count ≡ length lines = (let c = p .count in omega arith) in
@@ -78,12 +80,5 @@ module _ {file names recs out w : List ℕ} {k : Counts} (t : Run-over file name
           lines = ap₂ (λ (x : List ℕ) (n : ℕ). part x kept-column (kept-column + n)) (p .written) many
               ∙ part-sets v kept-column lines (omega arith) ∙ are;
           count = many ∙ ap length are;
-          same = record {
-            same-length = lists-length p ∙ l .same .same-length;
-            same-words = λ i h.
-                let far : prune-end ≤ i = omega (arith, h (omega arith)) in
-                ap (λ (x : List ℕ). getD x i 0) (p .written) ∙ sets-above v kept-column lines i (omega arith) ∙ l .same .same-words i h;
-          };
-          run-same = λ i g h.
-              ap (λ (x : List ℕ). getD x i 0) (p .written) ∙ sets-below v kept-column lines i h ∙ l .run-same i g h;
+          same = same-then (l .same) (lists-same p (omega arith));
         }

@@ -17,8 +17,8 @@ use Rattle.records.proofs.Chaining.{newest-low}
 use Rattle.scan.specs.Held.{upto}
 use Rattle.scan.proofs.Numbers.{upto-elim}
 use Rattle.scan.proofs.Visited.{newest-at}
-use Rattle.prune.specs.Listing.{one, picked, kind-at, stamp-records, kind-records, decl-records}
-use Rattle.prune.specs.Loops.{kept-column, below-column, highest-column, most-stamps, stamp-in, Index, Lists, Linked}
+use Rattle.prune.specs.Listing.{record-behind, picked, kind-at, stamp-records, kind-records, decl-records}
+use Rattle.prune.specs.Loops.{kept-column, below-column, highest-column, stamp-column, most-stamps, stamp-in, Index, Kept-behind, Linked}
 use Rattle.prune.proofs.Chains.{linked-same}
 use Rattle.prune.proofs.Picking.{collect-next, collect-end}
 use Rattle.prune.proofs.Writing.{Going, going-start, going-length, going-below, going-above, going-end, going-list, lists-both, list-room, pick-none, pick-one, pick-room}
@@ -64,11 +64,11 @@ module _ (names recs : List ℕ) (kind : ℕ) (f : ℕ → ℕ) where
 
   -- the record of the first of them, then the others
   first-rank : (s p q : ℕ) → 0 < p → f (p - 1) ≡ s → q ≡ newest f s (p - 1)
-      → stamp-records names recs p f kind s ≡ one (kind-at names recs kind (p - 1)) ++ stamp-records names recs q f kind s
+      → stamp-records names recs p f kind s ≡ record-behind (kind-at names recs kind (p - 1)) ++ stamp-records names recs q f kind s
   unfolding stamp-records picked collect
   first-rank s p q h e n =
       ap (picked (kind-at names recs kind)) (kept-first f s p h e)
-      ∙ ap (λ (l : List ℕ). one (kind-at names recs kind (p - 1)) ++ l) (up-to-newest s (p - 1) q n)
+      ∙ ap (λ (l : List ℕ). record-behind (kind-at names recs kind (p - 1)) ++ l) (up-to-newest s (p - 1) q n)
 
 module _ {names recs : List ℕ} {f : ℕ → ℕ} {named kind : ℕ} {w : List ℕ} (c : Linked f named w) where
   pub chain-start : {s p : ℕ} (m : ℕ) → 0 < s → s ≤ most-stamps → p ≡ getD w (highest-column + (s - 1)) 0
@@ -104,7 +104,7 @@ module _ {names recs : List ℕ} {f : ℕ → ℕ} {named kind : ℕ} {w : List 
     next-on : 0 < q → f (q - 1) ≡ s
     next-on l = subst (λ (x : ℕ). f (x - 1) ≡ s) (sym next-is) (newest-has f s (p - 1) (let a = next-is in omega arith))
 
-    left-is : stamp-records names recs p f kind s ≡ one (kind-at names recs kind (p - 1)) ++ stamp-records names recs q f kind s
+    left-is : stamp-records names recs p f kind s ≡ record-behind (kind-at names recs kind (p - 1)) ++ stamp-records names recs q f kind s
     left-is = first-rank names recs kind f s p q (omega (arith, h)) (g .on (omega (arith, h))) next-is
 
     module _ {t : ℕ} (d : t ≡ kind-at names recs kind (p - 1)) where
@@ -120,7 +120,7 @@ module _ {names recs : List ℕ} {f : ℕ → ℕ} {named kind : ℕ} {w : List 
       chain-room z = pick-room (stamp-records names recs q f kind s) (g .going) left-is d z fits
 
   pub chain-end : {s m : ℕ} {v : List ℕ} {to p : ℕ} → Listed-to names recs f named kind s w m v to p → p ≡ 0
-      → Lists w m (stamp-records names recs named f kind s) v to
+      → Kept-behind w m (stamp-records names recs named f kind s) v to
   unfolding stamp-records picked collect keep upto
   chain-end {s} g z = going-end (g .going) (ap (λ (p : ℕ). stamp-records names recs p f kind s) z)
 
@@ -157,7 +157,7 @@ going-apart g f = record { size = going-length g; low = going-below g; high = go
 module _ {names w v : List ℕ} {named : ℕ} (index : Index names named) (apart : Apart w v) where
   -- the stamps of the ranks stay
   stamps-apart : (r : ℕ) → r < named → stamp-in names v r ≡ stamp-in names w r
-  stamps-apart r h = apart .low (ranked names r) (omega (arith, index .numbers r h, index .few))
+  stamps-apart r h = apart .high (stamp-column + ranked names r) (omega arith)
 
   -- and the chains
   pub linked-apart : Linked (stamp-in names w) named w → Linked (stamp-in names v) named v
@@ -194,17 +194,17 @@ module _ {names recs : List ℕ} {named kind stamps : ℕ} {w : List ℕ} {m : �
       list-room (stamp-records names recs named (stamp-in names v) kind s) (kind-records names recs named (stamp-in names w) kind (s - 1)) (g .going)
       (left-kinds h) fits
 
-  pub kinds-next : {u : List ℕ} {next : ℕ} → 0 < s → Lists v to (stamp-records names recs named (stamp-in names v) kind s) u next
+  pub kinds-next : {u : List ℕ} {next : ℕ} → 0 < s → Kept-behind v to (stamp-records names recs named (stamp-in names v) kind s) u next
       → Kinds-to names recs named kind stamps w m u next (s - 1)
   kinds-next h p = let b = g .high in record { high = omega arith; going = going-list (g .going) (left-kinds h) p }
 
-  pub kinds-end : s ≤ 0 → Lists w m (kind-records names recs named (stamp-in names w) kind stamps) v to
+  pub kinds-end : s ≤ 0 → Kept-behind w m (kind-records names recs named (stamp-in names w) kind stamps) v to
   unfolding kind-records
   kinds-end h = going-end (g .going) (collect-end (λ j. stamp-records names recs named (stamp-in names w) kind (j + 1)) s h)
 
 -- ---- definitions, then declarations
 
-lists-apart : {w : List ℕ} {m : ℕ} {l v : List ℕ} {to : ℕ} → Lists w m l v to → m + length l ≤ most-records → Apart w v
+lists-apart : {w : List ℕ} {m : ℕ} {l v : List ℕ} {to : ℕ} → Kept-behind w m l v to → m + length l ≤ most-records → Apart w v
 lists-apart {w} {m} {l} {v} {to} p f = going-apart {rest = []} (going-list {rest = []} (going-start w m l) (sym (append-nil l)) p) f
 
 module _ (names recs : List ℕ) {named : ℕ} (s : ℕ) (w : List ℕ) (m : ℕ) (index : Index names named)
@@ -216,7 +216,7 @@ module _ (names recs : List ℕ) {named : ℕ} (s : ℕ) (w : List ℕ) (m : ℕ
       let e = length-append (kind-records names recs named (stamp-in names w) def-kind s) (kind-records names recs named (stamp-in names w) fun-kind s) in
       omega arith
 
-  module _ {v : List ℕ} {to : ℕ} (p : Lists w m (kind-records names recs named (stamp-in names w) def-kind s) v to) where
+  module _ {v : List ℕ} {to : ℕ} (p : Kept-behind w m (kind-records names recs named (stamp-in names w) def-kind s) v to) where
     pub defs-apart : Apart w v
     defs-apart = lists-apart p defs-fit
 
@@ -229,9 +229,9 @@ module _ (names recs : List ℕ) {named : ℕ} (s : ℕ) (w : List ℕ) (m : ℕ
         let c = p .count in
         omega arith
 
-    pub decls-listed : {u : List ℕ} {next : ℕ} → Lists v to (kind-records names recs named (stamp-in names v) fun-kind s) u next
-        → Lists w m (decl-records names recs named (stamp-in names w) s) u next
+    pub decls-listed : {u : List ℕ} {next : ℕ} → Kept-behind v to (kind-records names recs named (stamp-in names v) fun-kind s) u next
+        → Kept-behind w m (decl-records names recs named (stamp-in names w) s) u next
     unfolding decl-records
     decls-listed {u} {next} q =
         lists-both p
-        (subst (λ (l : List ℕ). Lists v to l u next) (kinds-same names recs named (stamps-apart index defs-apart) fun-kind s) q)
+        (subst (λ (l : List ℕ). Kept-behind v to l u next) (kinds-same names recs named (stamps-apart index defs-apart) fun-kind s) q)

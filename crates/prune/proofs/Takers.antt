@@ -12,6 +12,7 @@ use borrow.Author.Tests.{eq-eqb, ne-eqb}
 use Rattle.model.specs.Lists.{keep}
 use Rattle.model.specs.Names.{Name, same, mem}
 use Rattle.model.specs.Reading.{prune-decls}
+use Rattle.model.specs.declared.Asked.{Asked}
 use Rattle.model.specs.declared.Counts.{Counts}
 use Rattle.model.proofs.ListLaws.{T-and, T-true, T-false, true-T, T-dec, cond-true, cond-false, cond-case, option-elim, keep-elim, keep-none, collect-elim}
 use Rattle.model.proofs.SetLaws.{same-eq, eq-same}
@@ -19,12 +20,12 @@ use Rattle.names.specs.Table.{name-of, ranked}
 use Rattle.names.proofs.Laws.{distinct}
 use Rattle.terms.proofs.Laws.{equal}
 use Rattle.records.specs.Columns.{record-kind, record-name, assume-kind, fun-kind, def-kind, retain-kind, taken-at}
-use Rattle.records.specs.States.{ask-of}
+use Rattle.options.specs.OptionsOf.{ask-of}
 use Rattle.macros.specs.Macros.{Filled}
 use Rattle.scan.specs.Held.{upto}
 use Rattle.scan.specs.Steps.{is-reached}
 use Rattle.scan.proofs.Numbers.{set-intro, set-elim, upto-elim}
-use Rattle.prune.specs.Listing.{from, one, taker, reached-at, kind-at, reached-records, fact-records, items, stamp-records, kind-records, decl-records, item-stamp, kept-records}
+use Rattle.prune.specs.Listing.{from, record-behind, taker, reached-at, kind-at, reached-records, fact-records, kept-items, stamp-records, kind-records, decl-records, item-stamp, kept-records}
 use Rattle.prune.specs.Kept.{reached-of}
 use Rattle.prune.proofs.Members.{picked-elim, reached-small, ambients-small, goals-small}
 use Rattle.prune.proofs.Ranges.{keep-keep, keep-only, from-below}
@@ -32,13 +33,13 @@ use Rattle.prune.proofs.Ranges.{keep-keep, keep-only, from-below}
 -- ---- a record listed by its number and one
 
 -- none by 0
-pub one-zero : (t : ℕ) → t ≡ 0 → one t ≡ []
-unfolding one
+pub one-zero : (t : ℕ) → t ≡ 0 → record-behind t ≡ []
+unfolding record-behind
 one-zero t e = rw (eq-eqb t 0 e)
 
 -- one by another number
-pub one-suc : (t i : ℕ) → t ≡ suc i → one t ≡ i ∷ []
-unfolding one
+pub one-suc : (t i : ℕ) → t ≡ suc i → record-behind t ≡ i ∷ []
+unfolding record-behind
 one-suc t i e =
     cond-false (eqb t 0) [] ((t - 1) ∷ []) (not-T (eqb t 0) (λ u. omega (arith, eqb→eq t 0 u))) ∙ ap (_∷ []) (let z : t - 1 ≡ i = omega arith in z)
 
@@ -62,27 +63,27 @@ unfolding kind-at
 kind-taker names recs kind r e =
     cond-suc (eqb (record-kind recs (taker names r - 1)) kind) (taker names r) (cond-zero (eqb (taker names r) 0) _ e)
 
-module _ {file names recs out : List ℕ} {k : Counts} (x : Filled file names recs out k) where
+module _ {file names recs lists : List ℕ} {k : Counts} (x : Filled file names recs lists k) where
   -- what took a name is a record
-  taken-low : (n i : ℕ) → n < k .named → taken-at names n ≡ suc i → i < k .records
+  taken-low : (n i : ℕ) → n < k .names → taken-at names n ≡ suc i → i < k .records
   taken-low n i h e = omega (arith, x .stocked .taken .low n (omega (arith, x .table .few)))
 
   -- the same by rank
-  pub taker-low : (r i : ℕ) → r < k .named → taker names r ≡ suc i → i < k .records
+  pub taker-low : (r i : ℕ) → r < k .names → taker names r ≡ suc i → i < k .records
   taker-low r i h e = taken-low (ranked names r) i (x .table .numbers r h) e
 
   -- a record of a kind whose name is that of a number took it
-  named-took : (kind n i : ℕ) → kind < retain-kind → n < k .named → i < k .records → record-kind recs i ≡ kind
+  named-took : (kind n i : ℕ) → kind < retain-kind → n < k .names → i < k .records → record-kind recs i ≡ kind
       → name-of file names (record-name recs i) ≡ name-of file names n → taken-at names n ≡ suc i
   named-took kind n i l h j e q =
       let low = x .recorded .named-in i j (λ z. omega arith) in
       ap (taken-at names) (sym (distinct (x .table) (record-name recs i) n low h q)) ∙ x .stocked .taken .took i j (omega arith) ∙ add-one i
 
   -- the record of a kind that is found by a name is the taker of it
-  pub by-name : (kind r : ℕ) → kind < retain-kind → r < k .named
+  pub by-name : (kind r : ℕ) → kind < retain-kind → r < k .names
       → keep (λ i. same (name-of file names (record-name recs i)) (name-of file names (ranked names r)))
       (keep (λ i. eqb (record-kind recs i) kind) (from 0 (k .records)))
-      ≡ one (kind-at names recs kind r)
+      ≡ record-behind (kind-at names recs kind r)
   unfolding kind-at
   by-name kind r l h =
       keep-keep found of-kind (from 0 (k .records)) ∙ go (taker names r) refl
@@ -107,7 +108,7 @@ module _ {file names recs out : List ℕ} {k : Counts} (x : Filled file names re
       none never = keep-none test (from 0 (k .records)) (λ i m. not-T (test i) (λ t. never i m (took i m t)))
 
       go : (t : ℕ) → taker names r ≡ t
-          → keep test (from 0 (k .records)) ≡ one (cond (eqb t 0) 0 (cond (eqb (record-kind recs (t - 1)) kind) t 0))
+          → keep test (from 0 (k .records)) ≡ record-behind (cond (eqb t 0) 0 (cond (eqb (record-kind recs (t - 1)) kind) t 0))
       go zero e = none (λ i m p. let q = p .0 in omega arith) ∙ sym (one-zero 0 refl)
       go (suc i) e =
           let z : suc i - 1 ≡ i = omega arith in
@@ -118,7 +119,7 @@ module _ {file names recs out : List ℕ} {k : Counts} (x : Filled file names re
           keep-only test 0 (k .records) i (omega arith) (let w = taker-low r i h e in omega arith)
           (T-and (of-kind i) (found i) .1 (true-T (eq-eqb (record-kind recs i) kind q), eq-same (ap (name-of file names) b)))
           (λ j m t. let w = took j m t .0 in omega arith)
-          ∙ sym (ap one (rw (eq-eqb (record-kind recs i) kind q)) ∙ one-suc (suc i) i refl))
+          ∙ sym (ap record-behind (rw (eq-eqb (record-kind recs i) kind q)) ∙ one-suc (suc i) i refl))
           (λ (q : record-kind recs i ≡ kind → ⊥).
           none (λ j m p. let (u, v) = p in let w : j ≡ i = omega arith in q (rw (← w) v))
           ∙ sym (one-zero _ (rw (ne-eqb (record-kind recs i) kind q))))
@@ -126,9 +127,9 @@ module _ {file names recs out : List ℕ} {k : Counts} (x : Filled file names re
 
   -- a rank's name is that of a reached record exactly where its taker is one
   pub reached-one : (run : List ℕ) → ((i : ℕ) → i < k .records → T (is-reached run i) → record-kind recs i ≡ assume-kind)
-      → (r : ℕ) → r < k .named
-      → cond (mem (name-of file names (ranked names r)) (reached-of file names recs run k)) (one (kind-at names recs assume-kind r)) []
-      ≡ one (reached-at names run r)
+      → (r : ℕ) → r < k .names
+      → cond (mem (name-of file names (ranked names r)) (reached-of file names recs run k)) (record-behind (kind-at names recs assume-kind r)) []
+      ≡ record-behind (reached-at names run r)
   unfolding kind-at reached-at reached-of
   reached-one run facts r h = go (taker names r) refl
     where
@@ -148,9 +149,9 @@ module _ {file names recs out : List ℕ} {k : Counts} (x : Filled file names re
           (i, u, named-took assume-kind (ranked names r) i (omega arith) (x .table .numbers r h) l (facts i l u) (sym e))
 
       go : (t : ℕ) → taker names r ≡ t
-          → cond there (one (cond (eqb t 0) 0 (cond (eqb (record-kind recs (t - 1)) assume-kind) t 0))) []
-          ≡ one (cond (eqb t 0) 0 (cond (is-reached run (t - 1)) t 0))
-      go zero e = cond-case (λ l. l ≡ one 0) there refl (sym (one-zero 0 refl))
+          → cond there (record-behind (cond (eqb t 0) 0 (cond (eqb (record-kind recs (t - 1)) assume-kind) t 0))) []
+          ≡ record-behind (cond (eqb t 0) 0 (cond (is-reached run (t - 1)) t 0))
+      go zero e = cond-case (λ l. l ≡ record-behind 0) there refl (sym (one-zero 0 refl))
       go (suc i) e =
           let z : suc i - 1 ≡ i = omega arith in
           rw (z, nonzero i)
@@ -160,7 +161,7 @@ module _ {file names recs out : List ℕ} {k : Counts} (x : Filled file names re
           let (a, b) = x .stocked .taken .takes (ranked names r) i (omega (arith, x .table .numbers r h, x .table .few)) (e ∙ sym (add-one i)) in
           let t : T there = subst (λ n. T (mem (name-of file names n) (reached-of file names recs run k))) b (set-intro name (is-reached run) l u) in
           cond-true there _ [] t
-          ∙ ap one (rw (eq-eqb (record-kind recs i) assume-kind (facts i l u), T-true (is-reached run i) u)))
+          ∙ ap record-behind (rw (eq-eqb (record-kind recs i) assume-kind (facts i l u), T-true (is-reached run i) u)))
           (λ (u : T (not (is-reached run i))).
           cond-false there _ [] (not-T there (λ t. let (j, v, w) = took t in let q : j ≡ i = omega arith in
           T-not (is-reached run i) u (rw (← q) v)))
@@ -170,39 +171,39 @@ module _ {file names recs out : List ℕ} {k : Counts} (x : Filled file names re
   -- ---- all numbers listed are those of records
 
   -- a rank picks no more than the last record
-  low : (r : ℕ) → r < k .named → taker names r ≤ k .records
+  low : (r : ℕ) → r < k .names → taker names r ≤ k .records
   low r h = x .stocked .taken .low (ranked names r) (omega (arith, x .table .numbers r h, x .table .few))
 
   -- the kept facts
-  pub facts-small : (run : List ℕ) (i : ℕ) → List·Memᴰ i (fact-records names recs run k) → i < k .records
+  pub facts-small : (a : Asked) (run : List ℕ) (i : ℕ) → List·Memᴰ i (fact-records names recs run k a) → i < k .records
   unfolding fact-records
-  facts-small run i m =
-      ⊎-elim (reached-small names run (k .named) (k .records) low) (ambients-small recs k)
-      (List·Memᴰ·append-cases (reached-records names run (k .named)) m)
+  facts-small a run i m =
+      ⊎-elim (reached-small names run (k .names) (k .records) low) (ambients-small recs k a)
+      (List·Memᴰ·append-cases (reached-records names run (k .names)) m)
 
   -- the items
-  pub items-small : (run : List ℕ) (i : ℕ) → List·Memᴰ i (items names recs run k) → i < k .records
-  unfolding items
-  items-small run i m =
-      ⊎-elim (facts-small run i) (goals-small recs k)
-      (List·Memᴰ·append-cases (fact-records names recs run k) m)
+  pub items-small : (a : Asked) (run : List ℕ) (i : ℕ) → List·Memᴰ i (kept-items names recs run k a) → i < k .records
+  unfolding kept-items
+  items-small a run i m =
+      ⊎-elim (facts-small a run i) (goals-small recs k a)
+      (List·Memᴰ·append-cases (fact-records names recs run k a) m)
 
   -- the definitions, or the declarations
-  kinds-small : (stamp : ℕ → ℕ) (kind s i : ℕ) → List·Memᴰ i (kind-records names recs (k .named) stamp kind s) → i < k .records
+  kinds-small : (stamp : ℕ → ℕ) (kind s i : ℕ) → List·Memᴰ i (kind-records names recs (k .names) stamp kind s) → i < k .records
   unfolding kind-records stamp-records
   kinds-small stamp kind s i m =
-      let (j, a, b) = collect-elim (λ j. stamp-records names recs (k .named) stamp kind (j + 1)) (upto s) m in
-      let (r, c, d) = picked-elim (kind-at names recs kind) (keep (λ r. eqb (stamp r) (j + 1)) (upto (k .named))) b in
-      taker-low r i (upto-elim (k .named) (keep-elim (λ r. eqb (stamp r) (j + 1)) (upto (k .named)) c .0)) (kind-taker names recs kind r d)
+      let (j, a, b) = collect-elim (λ j. stamp-records names recs (k .names) stamp kind (j + 1)) (upto s) m in
+      let (r, c, d) = picked-elim (kind-at names recs kind) (keep (λ r. eqb (stamp r) (j + 1)) (upto (k .names))) b in
+      taker-low r i (upto-elim (k .names) (keep-elim (λ r. eqb (stamp r) (j + 1)) (upto (k .names)) c .0)) (kind-taker names recs kind r d)
 
   -- the kept records
-  pub records-small : (run : List ℕ) (i : ℕ) → List·Memᴰ i (kept-records names recs out run k) → i < k .records
+  pub records-small : (a : Asked) (run : List ℕ) (i : ℕ) → List·Memᴰ i (kept-records names recs lists run k a) → i < k .records
   unfolding kept-records decl-records
-  records-small run i m =
-      let stamp = item-stamp names recs out run k in
-      let s = length (items names recs run k) in
-      ⊎-elim (facts-small run i)
+  records-small a run i m =
+      let stamp = item-stamp names recs lists run k a in
+      let s = length (kept-items names recs run k a) in
+      ⊎-elim (facts-small a run i)
       (λ n.
       ⊎-elim (kinds-small stamp def-kind s i) (kinds-small stamp fun-kind s i)
-      (List·Memᴰ·append-cases (kind-records names recs (k .named) stamp def-kind s) (option-elim (prune-decls (ask-of k)) n)))
-      (List·Memᴰ·append-cases (fact-records names recs run k) m)
+      (List·Memᴰ·append-cases (kind-records names recs (k .names) stamp def-kind s) (option-elim (prune-decls (ask-of a)) n)))
+      (List·Memᴰ·append-cases (fact-records names recs run k a) m)

@@ -6,11 +6,12 @@ use mathlib.Core.Bool.{Bool, true, false}
 use mathlib.Core.List.{List}
 use lib.ListN.{length, set}
 use Rattle.model.specs.Reading.{no-ambients, most-records}
+use Rattle.model.specs.declared.Asked.{Asked}
 use Rattle.model.specs.declared.Counts.{Counts}
-use Rattle.records.specs.States.{ask-of}
+use Rattle.options.specs.OptionsOf.{ask-of}
 use Rattle.scan.specs.Held.{upto}
 use Rattle.prune.specs.Listing.{from, picked, ambient-at, ambient-records}
-use Rattle.prune.specs.Loops.{kept-column, Lists}
+use Rattle.prune.specs.Loops.{kept-column, Kept-behind}
 use Rattle.prune.proofs.Picking.{from-next, from-end, picked-next, picked-end}
 use Rattle.prune.proofs.Writing.{Going, going-start, going-end, lists-none, pick-none, pick-one, pick-room}
 
@@ -40,7 +41,7 @@ module _ {w : List ℕ} {m : ℕ} {pick : ℕ → ℕ} {n : ℕ} {v : List ℕ} 
     pub rising-room : (t ≡ 0 → ⊥) → m + length (picked pick (from 0 n)) ≤ most-records → to < most-records
     rising-room z f = pick-room later (s .going) (from-next pick r n h) e z f
 
-  pub rising-end : n ≤ r → Lists w m (picked pick (from 0 n)) v to
+  pub rising-end : n ≤ r → Kept-behind w m (picked pick (from 0 n)) v to
   rising-end h = going-end (s .going) (from-end pick r n h)
 
 -- ---- downward
@@ -68,26 +69,26 @@ module _ {w : List ℕ} {m : ℕ} {pick : ℕ → ℕ} {n : ℕ} {v : List ℕ} 
     pub falling-room : (t ≡ 0 → ⊥) → m + length (picked pick (upto n)) ≤ most-records → to < most-records
     falling-room z f = pick-room (picked pick (upto (i - 1))) (s .going) (picked-next pick i h) e z f
 
-  pub falling-end : i ≤ 0 → Lists w m (picked pick (upto n)) v to
+  pub falling-end : i ≤ 0 → Kept-behind w m (picked pick (upto n)) v to
   falling-end h = going-end (s .going) (picked-end pick i h)
 
 -- ---- option 1
 
-module _ (recs : List ℕ) (k : Counts) {x : Bool} (e : x ≡ no-ambients (ask-of k)) where
+module _ (recs : List ℕ) (k : Counts) (a : Asked) {x : Bool} (e : x ≡ no-ambients (ask-of a)) where
   -- no ambients with it
-  pub ambients-off : (w : List ℕ) (m : ℕ) → x ≡ true → Lists w m (ambient-records recs k) w m
+  pub ambients-off : (w : List ℕ) (m : ℕ) → x ≡ true → Kept-behind w m (ambient-records recs k a) w m
   unfolding ambient-records
   ambients-off w m t = rw (← e, t) (lists-none w m)
 
   -- without it they are those picked
-  ambients-on : x ≡ false → ambient-records recs k ≡ picked (ambient-at recs) (upto (k .records))
+  ambients-on : x ≡ false → ambient-records recs k a ≡ picked (ambient-at recs) (upto (k .records))
   unfolding ambient-records
   ambients-on t = rw (← e, t)
 
-  pub ambients-listed : {w v : List ℕ} {m to : ℕ} → x ≡ false → Lists w m (picked (ambient-at recs) (upto (k .records))) v to
-      → Lists w m (ambient-records recs k) v to
+  pub ambients-listed : {w v : List ℕ} {m to : ℕ} → x ≡ false → Kept-behind w m (picked (ambient-at recs) (upto (k .records))) v to
+      → Kept-behind w m (ambient-records recs k a) v to
   ambients-listed t l = rw (ambients-on t) l
 
-  pub ambients-fit : (m : ℕ) → x ≡ false → m + length (ambient-records recs k) ≤ most-records
+  pub ambients-fit : (m : ℕ) → x ≡ false → m + length (ambient-records recs k a) ≤ most-records
       → m + length (picked (ambient-at recs) (upto (k .records))) ≤ most-records
   ambients-fit m t f = rw (ambients-on t) at f

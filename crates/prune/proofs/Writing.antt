@@ -2,13 +2,16 @@
 use Prim.Native.Nat.{ℕ, suc, _+_, _-_, _≤_, _<_}
 use native.Mathlib.Omega.{arith}
 use mathlib.Core.Path.{_≡_, refl, sym, _∙_, ap}
+use mathlib.Core.Logic.{⊎-elim}
 use mathlib.Core.List.{List, [], _∷_, _++_, append-nil}
 use lib.ListN.{length, getD, set, length-append}
 use lib.Seq.{sets, length-sets, getD-set-other}
 use borrow.Author.Tests.{eq-eqb, ne-eqb}
 use Rattle.model.specs.Reading.{most-records}
-use Rattle.prune.specs.Listing.{one}
-use Rattle.prune.specs.Loops.{kept-column, Lists}
+use Rattle.words.specs.Slices.{Same-but}
+use Rattle.terms.proofs.Laws.{below}
+use Rattle.prune.specs.Listing.{record-behind}
+use Rattle.prune.specs.Loops.{kept-column, prune-room, Kept-behind}
 
 -- words before a place are not written from it on
 pub sets-below : (w : List ℕ) (a : ℕ) (l : List ℕ) (j : ℕ) → j < a → getD (sets w a l) j 0 ≡ getD w j 0
@@ -47,7 +50,7 @@ module _ {w : List ℕ} {m : ℕ} {whole v : List ℕ} {to : ℕ} {rest : List �
       sym (sets-above v (kept-column + to) rest j (omega arith)) ∙ ap (λ (u : List ℕ). getD u j 0) (sym (g .same))
       ∙ sets-above w (kept-column + m) whole j (omega arith)
 
-  pub going-end : rest ≡ [] → Lists w m whole v to
+  pub going-end : rest ≡ [] → Kept-behind w m whole v to
   going-end e = record {
     written = sym (g .same ∙ ap (sets v (kept-column + to)) e);
     count = let c = g .count in let d = ap length e in omega arith;
@@ -57,12 +60,24 @@ pub going-start : (w : List ℕ) (m : ℕ) (whole : List ℕ) → Going w m whol
 going-start w m whole = record { same = refl; count = refl }
 
 -- a list of records written is as long as the slice it is written to
-pub lists-length : {w : List ℕ} {m : ℕ} {l v : List ℕ} {to : ℕ} → Lists w m l v to → length v ≡ length w
+pub lists-length : {w : List ℕ} {m : ℕ} {l v : List ℕ} {to : ℕ} → Kept-behind w m l v to → length v ≡ length w
 lists-length {w} {m} {l} p = ap length (p .written) ∙ length-sets w (kept-column + m) l
+
+-- only the columns of the list change
+pub lists-same : {w : List ℕ} {m : ℕ} {l v : List ℕ} {to : ℕ} → Kept-behind w m l v to → m + length l ≤ most-records → Same-but kept-column prune-room w v
+lists-same {w} {m} {l} p f = record {
+  same-length = lists-length p;
+  same-words = λ i h.
+      ap (λ (v : List ℕ). getD v i 0) (p .written)
+      ∙ ⊎-elim
+      (λ low. sets-below w (kept-column + m) l i (omega arith))
+      (λ high. sets-above w (kept-column + m) l i (omega (arith, h high)))
+      (below i kept-column);
+}
 
 -- a list written, the rest still to come
 pub going-list : {w : List ℕ} {m : ℕ} {whole v u : List ℕ} {to next : ℕ} {l rest all : List ℕ} → Going w m whole v to all → all ≡ l ++ rest
-    → Lists v to l u next → Going w m whole u next rest
+    → Kept-behind v to l u next → Going w m whole u next rest
 going-list {v} {to} {l} {rest} g e p =
     let c = g .count in
     let n = p .count in
@@ -80,30 +95,30 @@ pub list-room : {w : List ℕ} {m : ℕ} {whole v : List ℕ} {to : ℕ} {all : 
 list-room l rest g e h = let c = g .count in let d = ap length e in let f = length-append l rest in omega arith
 
 -- two lists written one after the other
-pub lists-both : {w v u : List ℕ} {m mid to : ℕ} {l k : List ℕ} → Lists w m l v mid → Lists v mid k u to → Lists w m (l ++ k) u to
+pub lists-both : {w v u : List ℕ} {m mid to : ℕ} {l k : List ℕ} → Kept-behind w m l v mid → Kept-behind v mid k u to → Kept-behind w m (l ++ k) u to
 lists-both {w} {m} {l} {k} p q =
     going-end (going-list (going-list (going-start w m (l ++ k)) refl p) (sym (append-nil k)) q) refl
 
 -- nothing is written
-pub lists-none : (w : List ℕ) (m : ℕ) → Lists w m [] w m
+pub lists-none : (w : List ℕ) (m : ℕ) → Kept-behind w m [] w m
 lists-none w m = record { written = refl; count = omega arith }
 
 module _ {w : List ℕ} {m : ℕ} {whole v : List ℕ} {to : ℕ} {all : List ℕ} {t x : ℕ} (rest : List ℕ) (g : Going w m whole v to all)
-    (e : all ≡ one x ++ rest) (p : t ≡ x) where
+    (e : all ≡ record-behind x ++ rest) (p : t ≡ x) where
   -- nothing is picked
   pub pick-none : t ≡ 0 → Going w m whole v to rest
-  unfolding one
+  unfolding record-behind
   pick-none z = going-list {l = []} g (e ∙ rw (eq-eqb x 0 (sym p ∙ z))) (lists-none v to)
 
   -- a record is picked and written
   pub pick-one : (t ≡ 0 → ⊥) → Going w m whole (set v (kept-column + to) (t - 1)) (to + 1) rest
-  unfolding one
+  unfolding record-behind
   pick-one z =
       going-list {l = (t - 1) ∷ []} g (e ∙ rw (ne-eqb x 0 (λ y. z (p ∙ y)), ← p)) (record { written = refl; count = refl })
 
   -- room for one more
   pub pick-room : (t ≡ 0 → ⊥) → m + length whole ≤ most-records → to < most-records
-  unfolding one
+  unfolding record-behind
   pick-room z h =
       let c = g .count in
       let f : all ≡ (t - 1) ∷ rest = e ∙ rw (ne-eqb x 0 (λ y. z (p ∙ y)), ← p) in

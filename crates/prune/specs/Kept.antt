@@ -3,44 +3,45 @@ use Prim.Native.Nat.{ℕ, _+_, _≤_, _<_}
 use mathlib.Core.Path.{_≡_}
 use mathlib.Core.List.{List}
 use lib.Dec.{T}
-use lib.ListN.{length, getD}
+use lib.ListN.{length}
 use Rattle.model.specs.Lists.{part}
 use Rattle.model.specs.Names.{Name}
-use Rattle.model.specs.Reading.{most-names, most-records}
+use Rattle.model.specs.Reading.{most-records}
 use Rattle.model.specs.Kept.{kept}
 use Rattle.model.specs.Outcome.{working-words}
+use Rattle.model.specs.declared.Asked.{Asked}
 use Rattle.model.specs.declared.Counts.{Counts}
 use Rattle.names.specs.Table.{name-of}
 use Rattle.words.specs.Slices.{Same-but}
 use Rattle.records.specs.Columns.{record-kind, record-name, assume-kind}
-use Rattle.records.specs.States.{decls-of, roots-of, ask-of}
+use Rattle.options.specs.OptionsOf.{ask-of}
+use Rattle.records.specs.States.{decls-of, roots-of}
 use Rattle.macros.specs.Macros.{Filled}
 use Rattle.scan.specs.Held.{set-of}
-use Rattle.scan.specs.Steps.{is-reached}
-use Rattle.prune.specs.Loops.{kept-column, prune-end}
+use Rattle.scan.specs.Steps.{is-reached, run-end}
+use Rattle.prune.specs.Loops.{kept-column, prune-room}
 
 -- the names of the reached records
 unfoldable pub reached-of : List ℕ → List ℕ → List ℕ → List ℕ → Counts → List Name
 reached-of file names recs run k = set-of (λ i. name-of file names (record-name recs i)) (is-reached run) (k .records)
 
 -- the kept lines of the tables after a run
-unfoldable pub kept-of : List ℕ → List ℕ → List ℕ → List ℕ → List ℕ → Counts → List ℕ
-kept-of file names recs out run k =
-    kept (ask-of k)
-    (decls-of (name-of file names) recs out (k .records))
-    (roots-of (name-of file names) recs out (k .records))
+unfoldable pub kept-of : List ℕ → List ℕ → List ℕ → List ℕ → List ℕ → Counts → Asked → List ℕ
+kept-of file names recs lists run k a =
+    kept (ask-of a)
+    (decls-of (name-of file names) recs lists (k .records))
+    (roots-of (name-of file names) recs lists (k .records))
     (reached-of file names recs run k)
 
 -- tables that were filled and a slice of a run over them, with room for the kept lines
-pub record Run-over (file names recs out run : List ℕ) (k : Counts) : Type 0 where
-  pub filled : Filled file names recs out k
+pub record Run-over (file names recs lists run : List ℕ) (k : Counts) (a : Asked) : Type 0 where
+  pub filled : Filled file names recs lists k
   pub room : working-words ≤ length run
   pub only-facts : (i : ℕ) → i < k .records → T (is-reached run i) → record-kind recs i ≡ assume-kind
-  pub fits : length (kept-of file names recs out run k) ≤ most-records
+  pub fits : length (kept-of file names recs lists run k a) ≤ most-records
 
--- the kept lines stand in the slice, so many
-pub record Pruned (file names recs out before after : List ℕ) (k : Counts) (r : ℕ) : Type 0 where
-  pub lines : part after kept-column (kept-column + r) ≡ kept-of file names recs out before k
-  pub count : r ≡ length (kept-of file names recs out before k)
-  pub same : Same-but 0 prune-end before after
-  pub run-same : (i : ℕ) → most-names ≤ i → i < kept-column → getD after i 0 ≡ getD before i 0
+-- the kept lines stand in the slice, so many; the columns of the run are as it left them
+pub record Pruned (file names recs lists before after : List ℕ) (k : Counts) (a : Asked) (r : ℕ) : Type 0 where
+  pub lines : part after kept-column (kept-column + r) ≡ kept-of file names recs lists before k a
+  pub count : r ≡ length (kept-of file names recs lists before k a)
+  pub same : Same-but run-end prune-room before after

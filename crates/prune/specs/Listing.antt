@@ -7,10 +7,12 @@ use lib.ListN.{length}
 use Rattle.model.specs.Lists.{any, keep, collect}
 use Rattle.model.specs.Reading.{no-ambients, prune-decls}
 use Rattle.model.specs.Rounds.{is-ambient}
+use Rattle.model.specs.declared.Asked.{Asked}
 use Rattle.model.specs.declared.Counts.{Counts}
 use Rattle.names.specs.Table.{ranked}
 use Rattle.records.specs.Columns.{record-kind, record-flag, summary-code, kind-of-code, assume-kind, fun-kind, def-kind, root-kind, taken-at}
-use Rattle.records.specs.States.{uses-at, ask-of}
+use Rattle.options.specs.OptionsOf.{ask-of}
+use Rattle.records.specs.States.{uses-at}
 use Rattle.scan.specs.Held.{upto}
 use Rattle.scan.specs.Steps.{is-reached}
 
@@ -20,12 +22,12 @@ from i zero = []
 from i (suc n) = i ∷ from (i + 1) n
 
 -- a record by its number and one; none by 0
-unfoldable pub one : ℕ → List ℕ
-one t = cond (eqb t 0) [] ((t - 1) ∷ [])
+unfoldable pub record-behind : ℕ → List ℕ
+record-behind t = cond (eqb t 0) [] ((t - 1) ∷ [])
 
 -- the records that a function picks
 unfoldable pub picked : (ℕ → ℕ) → List ℕ → List ℕ
-picked pick l = collect (λ r. one (pick r)) l
+picked pick l = collect (λ r. record-behind (pick r)) l
 
 -- the assume, fun or def that took the name of a rank, and one; or 0
 abbrev pub taker : List ℕ → ℕ → ℕ
@@ -44,37 +46,37 @@ unfoldable pub ambient-at : List ℕ → ℕ → ℕ
 ambient-at recs i = cond (eqb (record-kind recs i) assume-kind) (cond (is-ambient (kind-of-code (summary-code recs i))) (i + 1) 0) 0
 
 -- whether a record is a root of the query
-unfoldable pub is-goal : List ℕ → Counts → ℕ → Bool
-is-goal recs k i = eqb (record-kind recs i) root-kind && eqb (record-flag recs i) (k .query)
+unfoldable pub is-goal : List ℕ → Asked → ℕ → Bool
+is-goal recs a i = eqb (record-kind recs i) root-kind && eqb (record-flag recs i) (a .query)
 
 -- the reached facts by name in byte order
 abbrev pub reached-records : List ℕ → List ℕ → ℕ → List ℕ
 reached-records names run named = picked (reached-at names run) (from 0 named)
 
 -- the ambients, last filed first; none with option 1
-unfoldable pub ambient-records : List ℕ → Counts → List ℕ
-ambient-records recs k = cond (no-ambients (ask-of k)) [] (picked (ambient-at recs) (upto (k .records)))
+unfoldable pub ambient-records : List ℕ → Counts → Asked → List ℕ
+ambient-records recs k a = cond (no-ambients (ask-of a)) [] (picked (ambient-at recs) (upto (k .records)))
 
 -- the kept facts
-unfoldable pub fact-records : List ℕ → List ℕ → List ℕ → Counts → List ℕ
-fact-records names recs run k = reached-records names run (k .named) ++ ambient-records recs k
+unfoldable pub fact-records : List ℕ → List ℕ → List ℕ → Counts → Asked → List ℕ
+fact-records names recs run k a = reached-records names run (k .names) ++ ambient-records recs k a
 
 -- the roots of the query by line
-abbrev pub goal-records : List ℕ → Counts → List ℕ
-goal-records recs k = keep (is-goal recs k) (from 0 (k .records))
+abbrev pub goal-records : List ℕ → Counts → Asked → List ℕ
+goal-records recs k a = keep (is-goal recs a) (from 0 (k .records))
 
 -- the items: the kept facts as listed, then the roots of the query
-unfoldable pub items : List ℕ → List ℕ → List ℕ → Counts → List ℕ
-items names recs run k = fact-records names recs run k ++ goal-records recs k
+unfoldable pub kept-items : List ℕ → List ℕ → List ℕ → Counts → Asked → List ℕ
+kept-items names recs run k a = fact-records names recs run k a ++ goal-records recs k a
 
 -- whether a number is in a list
-unfoldable pub has : ℕ → List ℕ → Bool
-has n l = any (λ m. eqb m n) l
+unfoldable pub is-among : ℕ → List ℕ → Bool
+is-among n l = any (λ m. eqb m n) l
 
 -- the place, counted from s, of the first list that has the number; 0 where none has
 unfoldable pub stamped : ℕ → List (List ℕ) → ℕ → ℕ
 stamped s [] n = 0
-stamped s (l ∷ ls) n = let later = stamped (s + 1) ls n in cond (has n l) s later
+stamped s (l ∷ ls) n = let later = stamped (s + 1) ls n in cond (is-among n l) s later
 
 module _ (names recs : List ℕ) (named : ℕ) (stamp : ℕ → ℕ) (kind : ℕ) where
   -- the definitions, or the declarations, of the names whose ranks have a stamp, last name first
@@ -90,13 +92,13 @@ unfoldable pub decl-records : List ℕ → List ℕ → ℕ → (ℕ → ℕ) �
 decl-records names recs named stamp s = kind-records names recs named stamp def-kind s ++ kind-records names recs named stamp fun-kind s
 
 -- the stamp of the name of a rank: the place of the item that first has it, from 1
-unfoldable pub item-stamp : List ℕ → List ℕ → List ℕ → List ℕ → Counts → ℕ → ℕ
-item-stamp names recs out run k r = stamped 1 (map (uses-at recs out) (items names recs run k)) (ranked names r)
+unfoldable pub item-stamp : List ℕ → List ℕ → List ℕ → List ℕ → Counts → Asked → ℕ → ℕ
+item-stamp names recs lists run k a r = stamped 1 (map (uses-at recs lists) (kept-items names recs run k a)) (ranked names r)
 
 -- the kept records: the facts, and with option 4 definitions and then declarations
-unfoldable pub kept-records : List ℕ → List ℕ → List ℕ → List ℕ → Counts → List ℕ
-kept-records names recs out run k =
-    fact-records names recs run k
-    ++ cond (prune-decls (ask-of k))
-    (decl-records names recs (k .named) (item-stamp names recs out run k) (length (items names recs run k)))
+unfoldable pub kept-records : List ℕ → List ℕ → List ℕ → List ℕ → Counts → Asked → List ℕ
+kept-records names recs lists run k a =
+    fact-records names recs run k a
+    ++ cond (prune-decls (ask-of a))
+    (decl-records names recs (k .names) (item-stamp names recs lists run k a) (length (kept-items names recs run k a)))
     []

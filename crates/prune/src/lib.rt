@@ -1,26 +1,28 @@
+use model::Asked;
 use model::Counts;
 ghost use Prim.Native.Nat.{ℕ, _+_, _≤_, _<_};
 ghost use mathlib.Core.Path.{_≡_};
 ghost use mathlib.Core.List.{map};
 ghost use lib.ListN.{length, getD};
 ghost use Rattle.model.specs.Lists.{part};
-ghost use Rattle.model.specs.Reading.{most-names, most-records};
+ghost use Rattle.model.specs.Reading.{most-records};
 ghost use Rattle.model.specs.Outcome.{working-words};
 ghost use Rattle.records.specs.Columns.{record-line};
-ghost use Rattle.records.specs.States.{uses-at};
 ghost use Rattle.scan.specs.Steps.{marks};
 ghost use Rattle.prune.specs.Listing.{taker, reached-at, kind-at, ambient-at, is-goal, reached-records, ambient-records, fact-records, goal-records, stamp-records, kind-records, decl-records};
-ghost use Rattle.prune.specs.Loops.{kept-column, most-stamps, stamp-in, Index, Lists, noted, Notes, Linked, Links, Listable, Listed};
+ghost use Rattle.prune.specs.Loops.{kept-column, most-stamps, stamp-in, stamp-words, Index, Kept-behind, noted, Notes, Linked, Links, Listable, Records-listed};
 ghost use Rattle.prune.specs.Kept.{Run-over, Pruned};
 
 // The columns of the run's slice behind those of the run: the kept list; by rank, the next lower rank of the same stamp, and one;
-// by stamp, counted from 0, its highest rank and one. A stamp is the place of the item that first has a name, counted from 1: it
-// stands in the column of met names. A rank is a name's place in byte order.
+// by stamp, counted from 0, its highest rank and one; by name, its stamp. A stamp is the place of the item that first has a name,
+// counted from 1. A rank is a name's place in byte order.
 pub const KEPT: usize = 5120;
 
 const BELOW: usize = 6144;
 
 const HIGHEST: usize = 8192;
+
+const STAMP: usize = 10240;
 
 // The room for stamps: the kept facts and the roots.
 const MOST_STAMPS: usize = 2048;
@@ -53,7 +55,7 @@ fn reached_at(names: &[u32], run: &[u32], named: usize, r: usize) -> usize
 fn list_reached(names: &[u32], run: &mut [u32], named: usize) -> usize
     requires { ⌜ Index (now names) named × (working-words ≤ length (now run))
         × (length (reached-records (now names) (now run) named) ≤ most-records) ⌝ }
-    ensures { λ to. ⌜ Lists (now (run .entry)) 0 (reached-records (now (names .entry)) (now (run .entry)) named)
+    ensures { λ to. ⌜ Kept-behind (now (run .entry)) 0 (reached-records (now (names .entry)) (now (run .entry)) named)
         (now (run .exit)) to ⌝ }
 {
     let mut to = 0;
@@ -89,13 +91,13 @@ fn ambient_at(recs: &[u32], i: usize) -> usize
 }
 
 // Lists the ambients, last filed first; none with option 1.
-fn list_ambients(recs: &[u32], run: &mut [u32], k: Counts, m: usize) -> usize
+fn list_ambients(recs: &[u32], run: &mut [u32], k: Counts, a: Asked, m: usize) -> usize
     requires { ⌜ (working-words ≤ length (now recs)) × (working-words ≤ length (now run)) × (k .records ≤ most-records)
-        × (m + length (ambient-records (now recs) k) ≤ most-records) ⌝ }
-    ensures { λ to. ⌜ Lists (now (run .entry)) m (ambient-records (now (recs .entry)) k) (now (run .exit)) to ⌝ }
+        × (m + length (ambient-records (now recs) k a) ≤ most-records) ⌝ }
+    ensures { λ to. ⌜ Kept-behind (now (run .entry)) m (ambient-records (now (recs .entry)) k a) (now (run .exit)) to ⌝ }
 {
     let mut to = m;
-    let options = options::options_of(k.options);
+    let options = options::options_of(a.options);
     if options.no_ambients {
         return to;
     }
@@ -113,58 +115,62 @@ fn list_ambients(recs: &[u32], run: &mut [u32], k: Counts, m: usize) -> usize
 }
 
 // Lists the kept facts.
-fn list_facts(names: &[u32], recs: &[u32], run: &mut [u32], k: Counts) -> usize
-    requires { ⌜ Index (now names) (k .named) × (working-words ≤ length (now recs)) × (working-words ≤ length (now run))
-        × (k .records ≤ most-records) × (length (fact-records (now names) (now recs) (now run) k) ≤ most-records) ⌝ }
-    ensures { λ to. ⌜ Lists (now (run .entry)) 0 (fact-records (now (names .entry)) (now (recs .entry)) (now (run .entry)) k)
+fn list_facts(names: &[u32], recs: &[u32], run: &mut [u32], k: Counts, a: Asked) -> usize
+    requires { ⌜ Index (now names) (k .names) × (working-words ≤ length (now recs)) × (working-words ≤ length (now run))
+        × (k .records ≤ most-records) × (length (fact-records (now names) (now recs) (now run) k a) ≤ most-records) ⌝ }
+    ensures { λ to. ⌜ Kept-behind (now (run .entry)) 0 (fact-records (now (names .entry)) (now (recs .entry)) (now (run .entry)) k a)
         (now (run .exit)) to ⌝ }
 {
-    let reached = list_reached(names, run, k.named);
-    list_ambients(recs, run, k, reached)
+    let reached = list_reached(names, run, k.names);
+    list_ambients(recs, run, k, a, reached)
 }
 
 // Notes the free names of a record with a stamp, those that have none yet.
-fn note_record(recs: &[u32], out: &[u32], run: &mut [u32], k: Counts, i: usize, stamp: usize)
-    requires { ⌜ Notes (now recs) (now out) (now run) k × (i < k .records) × (stamp ≤ most-stamps) ⌝ }
-    ensures { λ r. ⌜ now (run .exit) ≡ marks stamp (now (run .entry)) (uses-at (now (recs .entry)) (now (out .entry)) i) ⌝ }
+fn note_record(recs: &[u32], lists: &[u32], run: &mut [u32], k: Counts, i: usize, stamp: usize)
+    requires { ⌜ Notes (now recs) (now lists) (now run) k × (i < k .records) × (stamp ≤ most-stamps) ⌝ }
+    ensures { λ r. ⌜ now (run .exit) ≡ marks stamp (now (run .entry)) (stamp-words (now (recs .entry)) (now (lists .entry)) i) ⌝ }
 {
     let a = words::at(recs, records::USES_START + i);
     let e = words::at(recs, records::USES_END + i);
-    scan::meet_part(out, run, a, e, stamp);
+    let mut j = a;
+    while j < e {
+        scan::meet(run, STAMP + words::at(lists, j), stamp);
+        j += 1;
+    }
 }
 
 // Notes the names of the kept facts, as listed.
-fn note_facts(recs: &[u32], out: &[u32], run: &mut [u32], k: Counts, count: usize)
-    requires { ⌜ Notes (now recs) (now out) (now run) k × (count ≤ most-records)
+fn note_facts(recs: &[u32], lists: &[u32], run: &mut [u32], k: Counts, count: usize)
+    requires { ⌜ Notes (now recs) (now lists) (now run) k × (count ≤ most-records)
         × ((j : ℕ) → j < count → getD (now run) (kept-column + j) 0 < k .records) ⌝ }
     ensures { λ r. ⌜ now (run .exit) ≡ noted 1 (now (run .entry))
-        (map (uses-at (now (recs .entry)) (now (out .entry))) (part (now (run .entry)) kept-column (kept-column + count))) ⌝ }
+        (map (stamp-words (now (recs .entry)) (now (lists .entry))) (part (now (run .entry)) kept-column (kept-column + count))) ⌝ }
 {
     let mut j = 0;
     while j < count {
         let i = words::at(run, KEPT + j);
         j += 1;
-        note_record(recs, out, run, k, i, j);
+        note_record(recs, lists, run, k, i, j);
     }
 }
 
 // Whether a record is a root of the query.
-fn is_goal(recs: &[u32], k: Counts, i: usize) -> bool
+fn is_goal(recs: &[u32], a: Asked, i: usize) -> bool
     requires { ⌜ (working-words ≤ length (now recs)) × (i < most-records) ⌝ }
-    ensures { λ r. ⌜ r ≡ is-goal (now (recs .entry)) k i ⌝ }
+    ensures { λ r. ⌜ r ≡ is-goal (now (recs .entry)) a i ⌝ }
 {
     if words::at(recs, records::KIND + i) != records::ROOT {
         return false;
     }
-    words::at(recs, records::FLAG + i) == k.query
+    words::at(recs, records::FLAG + i) == a.query
 }
 
 // Notes the names of the roots of the query, by line, and gives the last stamp.
-fn note_roots(recs: &[u32], out: &[u32], run: &mut [u32], k: Counts, m: usize) -> usize
-    requires { ⌜ Notes (now recs) (now out) (now run) k × (m ≤ most-records) ⌝ }
+fn note_roots(recs: &[u32], lists: &[u32], run: &mut [u32], k: Counts, a: Asked, m: usize) -> usize
+    requires { ⌜ Notes (now recs) (now lists) (now run) k × (m ≤ most-records) ⌝ }
     ensures noted { λ s. ⌜ now (run .exit) ≡ noted (m + 1) (now (run .entry))
-        (map (uses-at (now (recs .entry)) (now (out .entry))) (goal-records (now (recs .entry)) k)) ⌝ }
-    ensures stamps { λ s. ⌜ s ≡ m + length (goal-records (now (recs .entry)) k) ⌝ }
+        (map (stamp-words (now (recs .entry)) (now (lists .entry))) (goal-records (now (recs .entry)) k a)) ⌝ }
+    ensures stamps { λ s. ⌜ s ≡ m + length (goal-records (now (recs .entry)) k a) ⌝ }
 {
     let count = k.records;
     let mut stamp = m;
@@ -172,11 +178,11 @@ fn note_roots(recs: &[u32], out: &[u32], run: &mut [u32], k: Counts, m: usize) -
     while i < count {
         let j = i;
         i += 1;
-        if !is_goal(recs, k, j) {
+        if !is_goal(recs, a, j) {
             continue;
         }
         stamp += 1;
-        note_record(recs, out, run, k, j, stamp);
+        note_record(recs, lists, run, k, j, stamp);
     }
     stamp
 }
@@ -192,7 +198,7 @@ fn link_names(names: &[u32], run: &mut [u32], named: usize)
     while r < named {
         let rank = r;
         r += 1;
-        let stamp = words::at(run, words::at(names, names::INDEX + rank));
+        let stamp = words::at(run, STAMP + words::at(names, names::INDEX + rank));
         if stamp == 0 {
             continue;
         }
@@ -230,7 +236,7 @@ fn list_stamp(
         × Linked (stamp-in (now names) (now run)) named (now run) × (0 < stamp) × (stamp ≤ most-stamps)
         × (m + length (stamp-records (now names) (now recs) named (stamp-in (now names) (now run)) kind
         stamp) ≤ most-records) ⌝ }
-    ensures { λ to. ⌜ Lists (now (run .entry)) m (stamp-records (now (names .entry)) (now (recs .entry)) named
+    ensures { λ to. ⌜ Kept-behind (now (run .entry)) m (stamp-records (now (names .entry)) (now (recs .entry)) named
         (stamp-in (now (names .entry)) (now (run .entry))) kind stamp) (now (run .exit)) to ⌝ }
 {
     let mut to = m;
@@ -261,7 +267,7 @@ fn list_kind(
         × Linked (stamp-in (now names) (now run)) named (now run) × (stamps ≤ most-stamps)
         × (m + length (kind-records (now names) (now recs) named (stamp-in (now names) (now run)) kind
         stamps) ≤ most-records) ⌝ }
-    ensures { λ to. ⌜ Lists (now (run .entry)) m (kind-records (now (names .entry)) (now (recs .entry)) named
+    ensures { λ to. ⌜ Kept-behind (now (run .entry)) m (kind-records (now (names .entry)) (now (recs .entry)) named
         (stamp-in (now (names .entry)) (now (run .entry))) kind stamps) (now (run .exit)) to ⌝ }
 {
     let mut to = m;
@@ -285,7 +291,7 @@ fn list_decls(
     requires { ⌜ Index (now names) named × (working-words ≤ length (now recs)) × (working-words ≤ length (now run))
         × Linked (stamp-in (now names) (now run)) named (now run) × (stamps ≤ most-stamps)
         × (m + length (decl-records (now names) (now recs) named (stamp-in (now names) (now run)) stamps) ≤ most-records) ⌝ }
-    ensures { λ to. ⌜ Lists (now (run .entry)) m (decl-records (now (names .entry)) (now (recs .entry)) named
+    ensures { λ to. ⌜ Kept-behind (now (run .entry)) m (decl-records (now (names .entry)) (now (recs .entry)) named
         (stamp-in (now (names .entry)) (now (run .entry))) stamps) (now (run .exit)) to ⌝ }
 {
     let defs = list_kind(names, recs, run, named, records::DEF, stamps, m);
@@ -296,7 +302,7 @@ fn list_decls(
 fn put_lines(recs: &[u32], run: &mut [u32], count: usize)
     requires { ⌜ (working-words ≤ length (now recs)) × (working-words ≤ length (now run)) × (count ≤ most-records)
         × ((j : ℕ) → j < count → getD (now run) (kept-column + j) 0 < most-records) ⌝ }
-    ensures { λ r. ⌜ Lists (now (run .entry)) 0 (map (record-line (now (recs .entry)))
+    ensures { λ r. ⌜ Kept-behind (now (run .entry)) 0 (map (record-line (now (recs .entry)))
         (part (now (run .entry)) kept-column (kept-column + count))) (now (run .exit)) count ⌝ }
 {
     let mut j = 0;
@@ -308,21 +314,28 @@ fn put_lines(recs: &[u32], run: &mut [u32], count: usize)
 }
 
 // Lists the kept records: the facts, and with option 4 definitions and then declarations.
-fn list_records(names: &[u32], recs: &[u32], out: &[u32], run: &mut [u32], k: Counts) -> usize
-    requires { ⌜ Listable (now names) (now recs) (now out) (now run) k ⌝ }
-    ensures { λ to. ⌜ Listed (now (names .entry)) (now (recs .entry)) (now (out .entry)) (now (run .entry)) (now (run .exit)) k
-        to ⌝ }
+fn list_records(
+    names: &[u32],
+    recs: &[u32],
+    lists: &[u32],
+    run: &mut [u32],
+    k: Counts,
+    a: Asked,
+) -> usize
+    requires { ⌜ Listable (now names) (now recs) (now lists) (now run) k a ⌝ }
+    ensures { λ to. ⌜ Records-listed (now (names .entry)) (now (recs .entry)) (now (lists .entry)) (now (run .entry)) (now (run .exit)) k
+        a to ⌝ }
 {
-    let facts = list_facts(names, recs, run, k);
-    let options = options::options_of(k.options);
+    let facts = list_facts(names, recs, run, k, a);
+    let options = options::options_of(a.options);
     if !options.prune_decls {
         return facts;
     }
-    words::clear(run, 0, model::MOST_NAMES);
-    note_facts(recs, out, run, k, facts);
-    let stamps = note_roots(recs, out, run, k, facts);
-    link_names(names, run, k.named);
-    list_decls(names, recs, run, k.named, stamps, facts)
+    words::clear(run, STAMP, model::MOST_NAMES);
+    note_facts(recs, lists, run, k, facts);
+    let stamps = note_roots(recs, lists, run, k, a, facts);
+    link_names(names, run, k.names);
+    list_decls(names, recs, run, k.names, stamps, facts)
 }
 
 // Lists the kept lines.
@@ -330,15 +343,16 @@ pub fn prune(
     file: &[u8],
     names: &[u32],
     recs: &[u32],
-    out: &[u32],
+    lists: &[u32],
     run: &mut [u32],
     k: Counts,
+    a: Asked,
 ) -> usize
-    requires { ⌜ Run-over (now file) (now names) (now recs) (now out) (now run) k ⌝ }
-    ensures { λ r. ⌜ Pruned (now (file .entry)) (now (names .entry)) (now (recs .entry)) (now (out .entry)) (now (run .entry))
-        (now (run .exit)) k r ⌝ }
+    requires { ⌜ Run-over (now file) (now names) (now recs) (now lists) (now run) k a ⌝ }
+    ensures { λ r. ⌜ Pruned (now (file .entry)) (now (names .entry)) (now (recs .entry)) (now (lists .entry)) (now (run .entry))
+        (now (run .exit)) k a r ⌝ }
 {
-    let count = list_records(names, recs, out, run, k);
+    let count = list_records(names, recs, lists, run, k, a);
     put_lines(recs, run, count);
     count
 }

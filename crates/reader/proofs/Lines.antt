@@ -4,10 +4,13 @@ use native.Mathlib.Omega.{arith}
 use mathlib.Core.Path.{_≡_, refl, sym, ap, ap₂, _∙_}
 use mathlib.Core.Bool.{Bool, true, false, cond, not}
 use mathlib.Core.List.{List, [], _∷_}
+use lib.Dec.{T, eqb}
 use lib.ListN.{length, drop}
-use Rattle.model.specs.Lists.{fold-left, part}
+use borrow.Author.Tests.{eqb-true}
+use Rattle.model.specs.Summaries.{exclude-names}
+use Rattle.model.specs.Lists.{fold-left, is-nil, part}
 use Rattle.model.specs.Lines.{lines, Field, fields}
-use Rattle.model.specs.Reading.{Result, ok, refused, _>>=_, next, kind-field, content, parse, State, start, read, refused-at, go-on, read-line, read-lines, read-file, Content}
+use Rattle.model.specs.Reading.{Result, ok, refused, _>>=_, next, place, may-stand, kind-field, content, parse, State, start, read, refused-at, go-on, read-line, read-lines, read-file, Content}
 use Rattle.model.specs.Outcome.{most-bytes, working-words}
 use Rattle.model.specs.declared.Counts.{Counts}
 use Rattle.model.specs.declared.LineKind.the-variants as kind
@@ -15,36 +18,39 @@ use Rattle.model.specs.declared.Refusal.{Refusal}
 use Rattle.model.specs.declared.Refusal.the-variants as refusal
 use Rattle.model.specs.declared.Step.{Step}
 use Rattle.model.specs.declared.Step.the-variants as step
+use Rattle.model.proofs.ListLaws.{T-true}
 use Rattle.model.proofs.ResultLaws.{ok-eq, not-ok}
+use Rattle.laws.proofs.ReadingLaws.{kind-ok}
 use Rattle.text.specs.declared.Cursor.{Cursor}
 use Rattle.text.specs.declared.FieldStep.{FieldStep}
 use Rattle.text.specs.declared.FieldStep.the-variants as field
 use Rattle.text.specs.Parts.{mark-at, Placed, fields-left, field-at, field-result}
 use Rattle.text.proofs.Laws.{field-law, field-some, left-some, field-next, line-ended, line-last, line-none, mark-from}
-use Rattle.names.specs.Table.{name-of, names-of}
+use Rattle.names.specs.Table.{name-of, table-names}
 use Rattle.terms.specs.Rows.{terms-of, nodes-below}
 use Rattle.rules.specs.Views.{terms-in}
 use Rattle.fields.specs.declared.Kind.{Kind}
 use Rattle.fields.specs.declared.Kind.the-variants as kinded
 use Rattle.fields.specs.declared.TermKind.{TermKind}
 use Rattle.fields.specs.declared.RecordKind.{RecordKind}
-use Rattle.fields.specs.Wording.{kind-result, term-kind, record-kind, well-counted}
+use Rattle.fields.specs.Wording.{kind-result, term-kind, record-line-kind, Placing, well-counted}
 use Rattle.fields.proofs.Words.{parse-law}
 use Rattle.words.proofs.Slices.{same-then, same-wider}
-use Rattle.records.specs.States.{decls-of, roots-of, state-of}
-use Rattle.records.specs.Columns.{taken-column, first-column}
-use Rattle.macros.specs.Macros.{Opens}
+use Rattle.records.specs.States.{asks-of, decls-of, roots-of, state-of}
+use Rattle.records.specs.Columns.{taken-column, first-column, ask-room}
+use Rattle.macros.specs.Macros.{Macros-opened}
 use Rattle.records.proofs.Standing.{Beside, standing-start, decls-longer, roots-longer}
 use Rattle.macros.proofs.Filling.{standing-filled}
 use Rattle.names.proofs.Coded.{table-kept}
 use Rattle.terms.proofs.Table.{terms-named}
-use Rattle.records.specs.Adding.{excluded, Standing, judge}
+use Rattle.records.specs.Adding.{Standing, judge}
 use Rattle.records.proofs.Judging.{line-judged}
 use Rattle.records.proofs.Appending.{terms-length}
+use Rattle.records.proofs.Asking.{asks-none}
 use Rattle.records.specs.Writing.{no-counts}
 use Rattle.filing.specs.Lines.{judged, Reads, goes-on, stops, Past}
 use Rattle.reader.specs.declared.Reading.the-variants as answer
-use Rattle.reader.specs.Lines.{kind-content, Cleared, Reads-file, all-read, read-stops, File-read}
+use Rattle.reader.specs.Lines.{kind-content, Tables-cleared, Reads-file, all-read, read-stops, File-read}
 
 -- ---- the form of a line
 
@@ -106,7 +112,7 @@ module _ (count : ℕ) (fs : List Field) {k : Kind} where
   unfolding kind-content kind-result
   kind-term e = rw e
 
-  pub kind-record : {r : RecordKind} → k ≡ kinded.Record r → kind-content k count fs ≡ content (record-kind r) count fs
+  pub kind-record : {r : RecordKind} → k ≡ kinded.Record r → kind-content k count fs ≡ content (record-line-kind r) count fs
   unfolding kind-content kind-result
   kind-record e = rw e
 
@@ -114,18 +120,19 @@ module _ (count : ℕ) (fs : List Field) {k : Kind} where
   unfolding kind-content kind-result
   kind-none e = rw e
 
-module _ (n count : ℕ) {all : List Field} {f : Field} {fs : List Field} (d : all ≡ f ∷ fs) (k : Kind) (q : kind-result k ≡ kind-field n f) where
+module _ (s : State) {count : ℕ} (terms : length (s .terms) ≡ count) {all : List Field} {f : Field} {fs : List Field} (d : all ≡ f ∷ fs) (k : Kind)
+    (q : kind-result k ≡ kind-field s f) where
   -- the number of fields is right
-  pub parse-on : true ≡ well-counted k all → parse n count all ≡ kind-content k count fs
+  pub parse-on : true ≡ well-counted s k all → parse s all ≡ kind-content k count fs
   unfolding kind-content
-  parse-on c = ap (parse n count) d ∙ parse-law n count f fs k q
-      ∙ ap (λ b. kind-result k >>= λ l. cond b (content l count fs) (refused refusal.Form)) (sym (c ∙ ap (well-counted k) d))
+  parse-on c = ap (parse s) d ∙ parse-law s f fs k terms q
+      ∙ ap (λ b. kind-result k >>= λ l. cond b (content l count fs) (refused refusal.Form)) (sym (c ∙ ap (well-counted s k) d))
 
   -- it is not
-  pub parse-count : false ≡ well-counted k all → parse n count all ≡ refused refusal.Form
+  pub parse-count : false ≡ well-counted s k all → parse s all ≡ refused refusal.Form
   unfolding kind-result
-  parse-count c = ap (parse n count) d ∙ parse-law n count f fs k q
-      ∙ ap (λ b. kind-result k >>= λ l. cond b (content l count fs) (refused refusal.Form)) (sym (c ∙ ap (well-counted k) d))
+  parse-count c = ap (parse s) d ∙ parse-law s f fs k terms q
+      ∙ ap (λ b. kind-result k >>= λ l. cond b (content l count fs) (refused refusal.Form)) (sym (c ∙ ap (well-counted s k) d))
       ∙ go k
     where
       go : (k : Kind) → _≡_ {A = Result Content} (kind-result k >>= λ l. refused refusal.Form) (refused refusal.Form)
@@ -134,93 +141,109 @@ module _ (n count : ℕ) {all : List Field} {f : Field} {fs : List Field} (d : a
       go (kinded.Record r) = refl
       go kinded.No = refl
 
+-- what of the tables decides where a line may stand
+pub placing : (file names refs rows recs lists : List ℕ) (k : Counts) → Placing (state-of file names refs rows recs lists k) k
+unfolding state-of
+placing file names refs rows recs lists k = record { no-asks = asks-none recs (k .asks) }
+
+-- the terms of the tables
+pub terms-counted : (file names refs rows recs lists : List ℕ) (k : Counts) → length (state-of file names refs rows recs lists k .terms) ≡ k .terms
+unfolding state-of
+terms-counted file names refs rows recs lists k = terms-length file names refs rows (k .references) (k .terms)
+
+-- an ask that may stand has room
+pub ask-fits : (s : State) {k : Counts} (f : Field) {r : Kind} → Placing s k → kind-result r ≡ kind-field s f → r ≡ kinded.Ask → k .asks < ask-room
+unfolding kind-result place may-stand
+ask-fits s {k} f {r} p e a =
+    let d : kind-field s f ≡ ok kind.Ask = sym (rw a at e) in
+    let none = T-true (is-nil (s .asks)) (kind-ok s f d .1) in
+    omega (arith, eqb-true (k .asks) 0 (sym (p .no-asks) ∙ none))
+
 -- ---- the loop over lines
 
 -- the lines of a file that has some
-file-lines : (file : List ℕ) → (length file ≡ 0 → ⊥) → read-file excluded file ≡ read-lines excluded 1 start (lines file)
+file-lines : (file : List ℕ) → (length file ≡ 0 → ⊥) → read-file exclude-names file ≡ read-lines exclude-names 1 start (lines file)
 unfolding read-file
 file-lines [] h = absurd (h refl)
 file-lines (b ∷ bs) h = refl
 
 -- no line
-pub no-lines : (file : List ℕ) → length file ≡ 0 → read-file excluded file ≡ refused-at refusal.Form 1
+pub no-lines : (file : List ℕ) → length file ≡ 0 → read-file exclude-names file ≡ refused-at refusal.Form 1
 unfolding read-file
 no-lines [] h = refl
 no-lines (b ∷ bs) h = absurd (omega arith)
 
 -- the state before line 1
-start-state : (file names refs rows recs out : List ℕ) → start ≡ state-of file names refs rows recs out no-counts
-unfolding start state-of terms-in terms-of nodes-below fold-left names-of decls-of roots-of
-start-state file names refs rows recs out = refl
+start-state : (file names refs rows recs lists : List ℕ) → start ≡ state-of file names refs rows recs lists no-counts
+unfolding start state-of asks-of terms-in terms-of nodes-below fold-left table-names decls-of roots-of
+start-state file names refs rows recs lists = refl
 
 -- one line of some
 one-line : (file : List ℕ) (from end n : ℕ) (s : State) {s′ : State}
     → lines (drop from file) ≡ record { bytes = part file from end; ended = true } ∷ lines (drop (end + 1) file)
-    → read-line excluded n s (record { bytes = part file from end; ended = true }) ≡ ok s′
-    → read-lines excluded n s (lines (drop from file)) ≡ read-lines excluded (n + 1) s′ (lines (drop (end + 1) file))
+    → read-line exclude-names n s (record { bytes = part file from end; ended = true }) ≡ ok s′
+    → read-lines exclude-names n s (lines (drop from file)) ≡ read-lines exclude-names (n + 1) s′ (lines (drop (end + 1) file))
 unfolding read-lines go-on
 one-line file from end n s p q = rw (p, q)
 
 -- a line that is refused
 one-refused : (file : List ℕ) (from end n : ℕ) (s : State) {x : Refusal}
     → lines (drop from file) ≡ record { bytes = part file from end; ended = true } ∷ lines (drop (end + 1) file)
-    → read-line excluded n s (record { bytes = part file from end; ended = true }) ≡ refused x
-    → read-lines excluded n s (lines (drop from file)) ≡ refused-at x n
+    → read-line exclude-names n s (record { bytes = part file from end; ended = true }) ≡ refused x
+    → read-lines exclude-names n s (lines (drop from file)) ≡ refused-at x n
 unfolding read-lines go-on
 one-refused file from end n s p q = rw (p, q)
 
 -- the loop's state: what is left to read, from the tables as they are
-pub record Reading-on (file names refs rows recs out : List ℕ) (k : Counts) (n from : ℕ) : Type 0 where
-  pub run : read-file excluded file ≡ read-lines excluded n (state-of file names refs rows recs out k) (lines (drop from file))
-  pub standing : Standing file names refs rows recs out k
+pub record Reading-on (file names refs rows recs lists : List ℕ) (k : Counts) (n from : ℕ) : Type 0 where
+  pub run : read-file exclude-names file ≡ read-lines exclude-names n (state-of file names refs rows recs lists k) (lines (drop from file))
+  pub standing : Standing file names refs rows recs lists k
   pub inside : from ≤ length file
   pub counts : n ≤ from + 1
   pub short : length file ≤ most-bytes
 
 -- before the first line of cleared slices
-pub on-first : {file names refs rows recs out : List ℕ} → Cleared file names refs rows recs out → Standing file names refs rows recs out no-counts
+pub on-first : {file names refs rows recs lists : List ℕ} → Tables-cleared file names refs rows recs lists → Standing file names refs rows recs lists no-counts
     → (length file ≡ 0 → ⊥)
-    → Reading-on file names refs rows recs out no-counts 1 0
-on-first {file} {names} {refs} {rows} {recs} {out} m st h = record {
-  run = file-lines file h ∙ ap (λ s. read-lines excluded 1 s (lines file)) (start-state file names refs rows recs out);
+    → Reading-on file names refs rows recs lists no-counts 1 0
+on-first {file} {names} {refs} {rows} {recs} {lists} m st h = record {
+  run = file-lines file h ∙ ap (λ s. read-lines exclude-names 1 s (lines file)) (start-state file names refs rows recs lists);
   standing = st;
   inside = omega arith;
   counts = omega arith;
   short = m .short;
 }
 
-module _ {file names refs rows recs out : List ℕ} {k : Counts} {n from : ℕ} (o : Reading-on file names refs rows recs out k n from) where
+module _ {file names refs rows recs lists : List ℕ} {k : Counts} {n from : ℕ} (o : Reading-on file names refs rows recs lists k n from) where
   -- no line is left
-  pub on-last : length file ≤ from → read-file excluded file ≡ read (state-of file names refs rows recs out k)
+  pub on-last : length file ≤ from → read-file exclude-names file ≡ read (state-of file names refs rows recs lists k)
   unfolding read-lines
   on-last h = o .run ∙ rw (line-none file from h)
 
   -- a last line without its 0A
   pub on-open : {end : ℕ} → from < length file → end ≡ mark-at 0x0a file from (length file) → end ≡ length file
-      → Reads-file file names refs rows recs out (answer.Refused refusal.Form n)
+      → Reads-file file names refs rows recs lists (answer.Refused refusal.Form n)
   unfolding read-lines read-line go-on
   on-open {end} h e l = read-stops {x = refusal.Form} {n = n} (o .run ∙ rw (line-last file from end h e l))
 
   module _ {end : ℕ} (h : from < length file) (e : end ≡ mark-at 0x0a file from (length file)) (l : end < length file)
-      {names′ refs′ rows′ recs′ out′ : List ℕ} {f : Step}
-      (r : Reads file names′ refs′ rows′ recs′ out′ n (state-of file names refs rows recs out k) (parse n (k .many) (fields (part file from end))) f) where
+      {names′ refs′ rows′ recs′ lists′ : List ℕ} {f : Step}
+      (r : Reads file names′ refs′ rows′ recs′ lists′ n (state-of file names refs rows recs lists k) (parse (state-of file names refs rows recs lists k) (fields (part file from end))) f) where
     -- what the line comes to
-    line-is : read-line excluded n (state-of file names refs rows recs out k) (record { bytes = part file from end; ended = true })
-        ≡ judged n (state-of file names refs rows recs out k) (parse n (k .many) (fields (part file from end)))
-    unfolding state-of judged
-    line-is = line-judged n (state-of file names refs rows recs out k) (part file from end)
-        ∙ ap (λ m. parse n m (fields (part file from end)) >>= judge n (state-of file names refs rows recs out k))
-        (terms-length file names refs rows (k .used) (k .many))
+    line-is : read-line exclude-names n (state-of file names refs rows recs lists k) (record { bytes = part file from end; ended = true })
+        ≡ judged n (state-of file names refs rows recs lists k) (parse (state-of file names refs rows recs lists k) (fields (part file from end)))
+    unfolding judged
+    line-is = line-judged n (state-of file names refs rows recs lists k) (part file from end)
 
     -- on with the next line
-    pub on-next : {k′ : Counts} → f ≡ step.On k′ → Reading-on file names′ refs′ rows′ recs′ out′ k′ (n + 1) (end + 1)
+    pub on-next : {k′ : Counts} → f ≡ step.On k′ → Reading-on file names′ refs′ rows′ recs′ lists′ k′ (n + 1) (end + 1)
     on-next {k′} q = go (rw q at r)
       where
-        go : Reads file names′ refs′ rows′ recs′ out′ n (state-of file names refs rows recs out k) (parse n (k .many) (fields (part file from end)))
+        go : Reads file names′ refs′ rows′ recs′ lists′ n (state-of file names refs rows recs lists k) (parse (state-of file names refs rows recs lists k) (fields (part file from end)))
             (step.On k′)
-            → Reading-on file names′ refs′ rows′ recs′ out′ k′ (n + 1) (end + 1)
+            → Reading-on file names′ refs′ rows′ recs′ lists′ k′ (n + 1) (end + 1)
         go (goes-on d y) = record {
-          run = o .run ∙ one-line file from end n (state-of file names refs rows recs out k) (line-ended file from end h e l) (line-is ∙ d);
+          run = o .run ∙ one-line file from end n (state-of file names refs rows recs lists k) (line-ended file from end h e l) (line-is ∙ d);
           standing = y;
           inside = omega arith;
           counts = omega (arith, o .counts, mark-from end 0x0a file from (length file) e);
@@ -228,14 +251,14 @@ module _ {file names refs rows recs out : List ℕ} {k : Counts} {n from : ℕ} 
         }
 
     -- the line is refused
-    pub on-refused : {x : Refusal} → f ≡ step.Refused x → Reads-file file names′ refs′ rows′ recs′ out′ (answer.Refused x n)
+    pub on-refused : {x : Refusal} → f ≡ step.Refused x → Reads-file file names′ refs′ rows′ recs′ lists′ (answer.Refused x n)
     on-refused {x} q = go (rw q at r)
       where
-        go : Reads file names′ refs′ rows′ recs′ out′ n (state-of file names refs rows recs out k) (parse n (k .many) (fields (part file from end)))
+        go : Reads file names′ refs′ rows′ recs′ lists′ n (state-of file names refs rows recs lists k) (parse (state-of file names refs rows recs lists k) (fields (part file from end)))
             (step.Refused x)
-            → Reads-file file names′ refs′ rows′ recs′ out′ (answer.Refused x n)
+            → Reads-file file names′ refs′ rows′ recs′ lists′ (answer.Refused x n)
         go (stops d) = read-stops {x = x} {n = n}
-            (o .run ∙ one-refused file from end n (state-of file names refs rows recs out k) (line-ended file from end h e l) (line-is ∙ d))
+            (o .run ∙ one-refused file from end n (state-of file names refs rows recs lists k) (line-ended file from end h e l) (line-is ∙ d))
 
 -- one line after the others
 pub past-more : {a b c d e a′ b′ c′ d′ e′ a″ b″ c″ d″ e″ : List ℕ} → Past a b c d e a′ b′ c′ d′ e′ → Past a′ b′ c′ d′ e′ a″ b″ c″ d″ e″
@@ -253,19 +276,19 @@ pub lower : (m n : ℕ) → m ≤ n → (m ≡ n → ⊥) → m < n
 lower m n h e = omega arith
 
 -- cleared slices stand
-pub cleared-standing : {file names refs rows recs out : List ℕ} → Cleared file names refs rows recs out → Standing file names refs rows recs out no-counts
-cleared-standing {file} {names} {refs} {rows} {recs} {out} m =
-    standing-start file names refs rows recs out (m .short) (m .name-room) (m .reference-room) (m .row-room) (m .record-room) (m .list-room) (m .name-zero)
+pub cleared-standing : {file names refs rows recs lists : List ℕ} → Tables-cleared file names refs rows recs lists → Standing file names refs rows recs lists no-counts
+cleared-standing {file} {names} {refs} {rows} {recs} {lists} m =
+    standing-start file names refs rows recs lists (m .short) (m .name-room) (m .reference-room) (m .row-room) (m .record-room) (m .list-room) (m .name-zero)
     (m .row-zero)
 
 -- the macro column changes no state
-opened-state : {file names refs rows recs out names′ : List ℕ} {k : Counts} → Standing file names refs rows recs out k
-    → Opens names recs names′ (k .named) (k .named)
-    → state-of file names refs rows recs out k ≡ state-of file names′ refs rows recs out k
+opened-state : {file names refs rows recs lists names′ : List ℕ} {k : Counts} → Standing file names refs rows recs lists k
+    → Macros-opened names recs names′ (k .names) (k .names)
+    → state-of file names refs rows recs lists k ≡ state-of file names′ refs rows recs lists k
 unfolding state-of terms-in
-opened-state {file} {names} {refs} {rows} {recs} {out} {names′} {k} st o =
+opened-state {file} {names} {refs} {rows} {recs} {lists} {names′} {k} st o =
     let kept = table-kept (st .tables .name-table) (o .same .same-length) (λ i l. o .same .same-words i (λ a b. omega arith)) in
-    let beside : Beside file names names′ (k .named) = record {
+    let beside : Beside file names names′ (k .names) = record {
       same = kept .name;
       taken = λ n l. o .same .same-words (taken-column + n) (λ a b. omega arith);
       first = λ n l. o .same .same-words (first-column + n) (λ a b. omega arith);
@@ -278,10 +301,10 @@ opened-state {file} {names} {refs} {rows} {recs} {out} {names′} {k} st o =
     )
 
 -- all lines are read, and the macro column is filled
-pub opened-read : {file names refs rows recs out names₀ refs₀ rows₀ recs₀ out₀ names′ : List ℕ} {k : Counts} {n from : ℕ}
-    → Reading-on file names refs rows recs out k n from
-    → length file ≤ from → Past names₀ refs₀ rows₀ recs₀ out₀ names refs rows recs out → Opens names recs names′ (k .named) (k .named)
-    → File-read file names₀ refs₀ rows₀ recs₀ out₀ names′ refs rows recs out (answer.Read k)
+pub opened-read : {file names refs rows recs lists names₀ refs₀ rows₀ recs₀ lists₀ names′ : List ℕ} {k : Counts} {n from : ℕ}
+    → Reading-on file names refs rows recs lists k n from
+    → length file ≤ from → Past names₀ refs₀ rows₀ recs₀ lists₀ names refs rows recs lists → Macros-opened names recs names′ (k .names) (k .names)
+    → File-read file names₀ refs₀ rows₀ recs₀ lists₀ names′ refs rows recs lists (answer.Read k)
 opened-read {k = k} o h p x = record {
   reads = all-read {k = k} (on-last o h ∙ ap read (opened-state (o .standing) x)) (standing-filled (o .standing) x);
   past = record {

@@ -1,6 +1,6 @@
 -- What the fields of an `ask` say.
 use Prim.Native.Nat.{ℕ, _≤_, _<_}
-use mathlib.Core.Path.{_≡_}
+use mathlib.Core.Path.{_≡_, refl}
 use mathlib.Core.List.{List}
 use Rattle.model.specs.Lines.{Field}
 use Rattle.model.specs.Reading.{ok, refused, next, end, number-field, ask, content}
@@ -14,7 +14,7 @@ use Rattle.text.specs.declared.NumberStep.{NumberStep}
 use Rattle.text.specs.declared.NumberStep.the-variants as numbered
 use Rattle.text.specs.Parts.{Placed, fields-left, number-at}
 use Rattle.fields.proofs.Pushing.{number-read, number-not}
-use Rattle.records.specs.Writing.{with-ask}
+use Rattle.records.specs.Writing.{with-ask, Asked-at}
 use Rattle.filing.proofs.Saying.{end-none, end-more, number-placed}
 use Rattle.reader.specs.Lines.{Asks, asks, not-asked}
 
@@ -46,8 +46,8 @@ module _ (count : ℕ) (fs : List Field) where
 
 module _ {file : List ℕ} {c : Cursor} (k : Counts) (p : Placed file c) {r : NumberStep} (a : r ≡ number-at 255 file c) where
   -- the ask's query is refused
-  pub asks-not : {x : Refusal} → r ≡ numbered.Refused x → Asks k (content kind.Ask (k .many) (fields-left file c)) (step.Refused x)
-  asks-not {x} b = not-asked {x = x} (ask-not (k .many) (fields-left file c) (number-not p 255 a b))
+  pub asks-not : {recs : List ℕ} {x : Refusal} → r ≡ numbered.Refused x → Asks recs recs k (content kind.Ask (k .terms) (fields-left file c)) (step.Refused x)
+  asks-not {x = x} b = not-asked {x = x} (ask-not (k .terms) (fields-left file c) (number-not p 255 a b)) refl
 
   module _ {q : ℕ} {n : Cursor} (b : r ≡ numbered.Number q n) {s : NumberStep} (d : s ≡ number-at 7 file n) where
     -- the cursor after the query
@@ -55,17 +55,18 @@ module _ {file : List ℕ} {c : Cursor} (k : Counts) (p : Placed file c) {r : Nu
     after = number-placed 255 p a b
 
     -- its options are refused
-    pub asks-options-not : {x : Refusal} → s ≡ numbered.Refused x → Asks k (content kind.Ask (k .many) (fields-left file c)) (step.Refused x)
-    asks-options-not {x} e = not-asked {x = x} (ask-options-not (k .many) (fields-left file c) (number-read p 255 a b) (number-not after 7 d e))
+    pub asks-options-not : {recs : List ℕ} {x : Refusal} → s ≡ numbered.Refused x → Asks recs recs k (content kind.Ask (k .terms) (fields-left file c)) (step.Refused x)
+    asks-options-not {x = x} e = not-asked {x = x} (ask-options-not (k .terms) (fields-left file c) (number-read p 255 a b) (number-not after 7 d e)) refl
 
     -- a field is left over
-    pub asks-more : {options : ℕ} {l : Cursor} → s ≡ numbered.Number options l → l .at ≤ l .end
-        → Asks k (content kind.Ask (k .many) (fields-left file c)) (step.Refused refusal.Form)
-    asks-more {options} {l} e h = not-asked {x = refusal.Form}
-        (ask-more (k .many) (fields-left file c) (number-read p 255 a b) (number-read after 7 d e) (end-more (ask q options) file l h))
+    pub asks-more : {recs : List ℕ} {options : ℕ} {l : Cursor} → s ≡ numbered.Number options l → l .at ≤ l .end
+        → Asks recs recs k (content kind.Ask (k .terms) (fields-left file c)) (step.Refused refusal.Form)
+    asks-more {options = options} {l} e h = not-asked {x = refusal.Form}
+        (ask-more (k .terms) (fields-left file c) (number-read p 255 a b) (number-read after 7 d e) (end-more (ask q options) file l h)) refl
 
     -- it asks
-    pub asks-is : {options : ℕ} {l : Cursor} → s ≡ numbered.Number options l → l .end < l .at
-        → Asks k (content kind.Ask (k .many) (fields-left file c)) (step.On (with-ask k q options))
-    asks-is {options} {l} e h = asks {q = q} {options = options}
-        (ask-is (k .many) (fields-left file c) (number-read p 255 a b) (number-read after 7 d e) (end-none (ask q options) file l h))
+    pub asks-is : {recs recs′ : List ℕ} {options : ℕ} {l : Cursor} {f : Counts} → s ≡ numbered.Number options l → l .end < l .at
+        → f ≡ with-ask k → Asked-at recs recs′ k q options
+        → Asks recs recs′ k (content kind.Ask (k .terms) (fields-left file c)) (step.On f)
+    asks-is {options = options} {l} e h z w = rw z (asks {q = q} {options = options}
+        (ask-is (k .terms) (fields-left file c) (number-read p 255 a b) (number-read after 7 d e) (end-none (ask q options) file l h)) w)

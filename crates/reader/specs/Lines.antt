@@ -3,6 +3,7 @@ use Prim.Native.Nat.{ℕ, _≤_, _<_}
 use mathlib.Core.Path.{_≡_}
 use mathlib.Core.List.{List}
 use lib.ListN.{length, getD}
+use Rattle.model.specs.Summaries.{exclude-names}
 use Rattle.model.specs.Lines.{Field}
 use Rattle.model.specs.Reading.{Result, ok, refused, _>>=_, Content, ask, content, read-file, read, refused-at}
 use Rattle.model.specs.Outcome.{most-bytes, working-words}
@@ -14,8 +15,7 @@ use Rattle.fields.specs.declared.Kind.{Kind}
 use Rattle.fields.specs.Wording.{kind-result}
 use Rattle.records.specs.States.{state-of}
 use Rattle.macros.specs.Macros.{Filled}
-use Rattle.records.specs.Adding.{excluded}
-use Rattle.records.specs.Writing.{with-ask}
+use Rattle.records.specs.Writing.{with-ask, Asked-at}
 use Rattle.filing.specs.Lines.{Past}
 use Rattle.reader.specs.declared.Reading.{Reading}
 use Rattle.reader.specs.declared.Reading.the-variants as answer
@@ -24,31 +24,31 @@ use Rattle.reader.specs.declared.Reading.the-variants as answer
 unfoldable pub kind-content : Kind → ℕ → List Field → Result Content
 kind-content k count fs = kind-result k >>= λ l. content l count fs
 
--- what reading an `ask` comes to
-pub data Asks (k : Counts) (said : Result Content) : Step → Type 0 where
-  asks : {q options : ℕ} → said ≡ ok (ask q options) → Asks k said (step.On (with-ask k q options))
-  not-asked : {x : Refusal} → said ≡ refused x → Asks k said (step.Refused x)
+-- what reading an `ask` comes to: it stands behind the records, or its refusal
+pub data Asks (recs recs′ : List ℕ) (k : Counts) (said : Result Content) : Step → Type 0 where
+  asks : {q options : ℕ} → said ≡ ok (ask q options) → Asked-at recs recs′ k q options → Asks recs recs′ k said (step.On (with-ask k))
+  not-asked : {x : Refusal} → said ≡ refused x → recs′ ≡ recs → Asks recs recs′ k said (step.Refused x)
 
 -- what reading a file asks: the lengths that a call has checked, and cleared names and rows
-pub record Cleared (file names refs rows recs out : List ℕ) : Type 0 where
+pub record Tables-cleared (file names refs rows recs lists : List ℕ) : Type 0 where
   pub short : length file ≤ most-bytes
   pub name-room : working-words ≤ length names
   pub reference-room : working-words ≤ length refs
   pub row-room : working-words ≤ length rows
   pub record-room : working-words ≤ length recs
-  pub list-room : working-words ≤ length out
+  pub list-room : working-words ≤ length lists
   pub name-zero : (i : ℕ) → i < working-words → getD names i 0 ≡ 0
   pub row-zero : (i : ℕ) → i < working-words → getD rows i 0 ≡ 0
 
 -- what a file comes to: its state is in the tables, as a run asks; or its refusal and the line
-pub data Reads-file (file names′ refs′ rows′ recs′ out′ : List ℕ) : Reading → Type 0 where
-  all-read : {k : Counts} → read-file excluded file ≡ read (state-of file names′ refs′ rows′ recs′ out′ k)
-      → Filled file names′ recs′ out′ k
-      → Reads-file file names′ refs′ rows′ recs′ out′ (answer.Read k)
-  read-stops : {x : Refusal} {n : ℕ} → read-file excluded file ≡ refused-at x n
-      → Reads-file file names′ refs′ rows′ recs′ out′ (answer.Refused x n)
+pub data Reads-file (file names′ refs′ rows′ recs′ lists′ : List ℕ) : Reading → Type 0 where
+  all-read : {k : Counts} → read-file exclude-names file ≡ read (state-of file names′ refs′ rows′ recs′ lists′ k)
+      → Filled file names′ recs′ lists′ k
+      → Reads-file file names′ refs′ rows′ recs′ lists′ (answer.Read k)
+  read-stops : {x : Refusal} {n : ℕ} → read-file exclude-names file ≡ refused-at x n
+      → Reads-file file names′ refs′ rows′ recs′ lists′ (answer.Refused x n)
 
 -- what reading a file leaves in the slices and answers
-pub record File-read (file names refs rows recs out names′ refs′ rows′ recs′ out′ : List ℕ) (r : Reading) : Type 0 where
-  pub reads : Reads-file file names′ refs′ rows′ recs′ out′ r
-  pub past : Past names refs rows recs out names′ refs′ rows′ recs′ out′
+pub record File-read (file names refs rows recs lists names′ refs′ rows′ recs′ lists′ : List ℕ) (r : Reading) : Type 0 where
+  pub reads : Reads-file file names′ refs′ rows′ recs′ lists′ r
+  pub past : Past names refs rows recs lists names′ refs′ rows′ recs′ lists′

@@ -6,15 +6,19 @@ use text::Cursor;
 use text::FieldStep;
 use text::NumberStep;
 ghost use Prim.Native.Nat.{_≤_, _<_};
+ghost use mathlib.Core.Path.{_≡_};
 ghost use lib.ListN.{length};
 ghost use Rattle.model.specs.Lists.{part};
 ghost use Rattle.model.specs.Lines.{fields};
 ghost use Rattle.model.specs.Reading.{content, parse};
+ghost use Rattle.model.specs.Outcome.{working-words};
 ghost use Rattle.model.specs.declared.LineKind.the-variants as kind;
 ghost use Rattle.text.specs.Parts.{Placed, fields-left};
+ghost use Rattle.records.specs.Columns.{ask-room};
+ghost use Rattle.records.specs.States.{state-of};
 ghost use Rattle.records.specs.Adding.{Standing};
 ghost use Rattle.filing.specs.Lines.{Line-read};
-ghost use Rattle.reader.specs.Lines.{kind-content, Asks, Cleared, File-read};
+ghost use Rattle.reader.specs.Lines.{kind-content, Asks, Tables-cleared, File-read};
 
 // What reading a file comes to: the counts after the last line, or a refusal and its line.
 pub enum Reading {
@@ -22,31 +26,19 @@ pub enum Reading {
     Refused(Refusal, usize),
 }
 
-// The largest options number.
-const MOST_OPTIONS: u32 = 7;
-
 // Reads an `ask`, from its query on.
-fn read_ask(file: &[u8], k: Counts, c: Cursor) -> Step
-    requires { ⌜ Placed (now file) c ⌝ }
-    ensures { λ r. ⌜ Asks k (content kind.Ask (k .many) (fields-left (now (file .entry)) c)) r ⌝ }
+fn read_ask(file: &[u8], recs: &mut [u32], k: Counts, c: Cursor) -> Step
+    requires { ⌜ Placed (now file) c × (k .asks < ask-room) × (working-words ≤ length (now recs)) ⌝ }
+    ensures { λ r. ⌜ Asks (now (recs .entry)) (now (recs .exit)) k
+        (content kind.Ask (k .terms) (fields-left (now (file .entry)) c)) r ⌝ }
 {
-    match c.number(file, filing::MOST_QUERY) {
-        NumberStep::Number(q, next) => match next.number(file, MOST_OPTIONS) {
+    match c.number(file, model::MOST_QUERY) {
+        NumberStep::Number(q, next) => match next.number(file, model::MOST_OPTIONS) {
             NumberStep::Number(options, last) => {
                 if last.at <= last.end {
                     return Step::Refused(Refusal::Form);
                 }
-                Step::On(Counts {
-                    named: k.named,
-                    used: k.used,
-                    many: k.many,
-                    records: k.records,
-                    entries: k.entries,
-                    uses: k.uses,
-                    mark: k.mark,
-                    query: q as usize,
-                    options: options as usize,
-                })
+                Step::On(records::add_ask(recs, k, q, options))
             }
             NumberStep::Refused(r) => Step::Refused(r),
         },
@@ -61,22 +53,22 @@ fn read_kind(
     refs: &mut [u32],
     rows: &mut [u32],
     recs: &mut [u32],
-    out: &mut [u32],
+    lists: &mut [u32],
     k: Counts,
     n: usize,
     kind: Kind,
     c: Cursor,
 ) -> Step
-    requires { ⌜ Standing (now file) (now names) (now refs) (now rows) (now recs) (now out) k × Placed (now file) c
-        × (n < 4294967296) ⌝ }
+    requires { ⌜ Standing (now file) (now names) (now refs) (now rows) (now recs) (now lists) k × Placed (now file) c
+        × (n < 4294967296) × (kind ≡ Kind.Ask → k .asks < ask-room) ⌝ }
     ensures { λ r. ⌜ Line-read (now (file .entry)) (now (names .entry)) (now (refs .entry)) (now (rows .entry))
-        (now (recs .entry)) (now (out .entry)) (now (names .exit)) (now (refs .exit)) (now (rows .exit)) (now (recs .exit))
-        (now (out .exit)) k n (kind-content kind (k .many) (fields-left (now (file .entry)) c)) r ⌝ }
+        (now (recs .entry)) (now (lists .entry)) (now (names .exit)) (now (refs .exit)) (now (rows .exit)) (now (recs .exit))
+        (now (lists .exit)) k n (kind-content kind (k .terms) (fields-left (now (file .entry)) c)) r ⌝ }
 {
     match kind {
-        Kind::Ask => read_ask(file, k, c),
+        Kind::Ask => read_ask(file, recs, k, c),
         Kind::Term(t) => nodes::read_term(file, names, refs, rows, k, t, c),
-        Kind::Record(r) => filing::read_record(file, names, refs, rows, recs, out, k, n, r, c),
+        Kind::Record(r) => filing::read_record(file, names, refs, rows, recs, lists, k, n, r, c),
         Kind::No => Step::Refused(Refusal::Form),
     }
 }
@@ -88,26 +80,28 @@ fn read_line(
     refs: &mut [u32],
     rows: &mut [u32],
     recs: &mut [u32],
-    out: &mut [u32],
+    lists: &mut [u32],
     k: Counts,
     n: usize,
     a: usize,
     e: usize,
 ) -> Step
-    requires { ⌜ Standing (now file) (now names) (now refs) (now rows) (now recs) (now out) k × (a ≤ e)
+    requires { ⌜ Standing (now file) (now names) (now refs) (now rows) (now recs) (now lists) k × (a ≤ e)
         × (e ≤ length (now file)) × (n < 4294967296) ⌝ }
     ensures { λ r. ⌜ Line-read (now (file .entry)) (now (names .entry)) (now (refs .entry)) (now (rows .entry))
-        (now (recs .entry)) (now (out .entry)) (now (names .exit)) (now (refs .exit)) (now (rows .exit)) (now (recs .exit))
-        (now (out .exit)) k n (parse n (k .many) (fields (part (now (file .entry)) a e))) r ⌝ }
+        (now (recs .entry)) (now (lists .entry)) (now (names .exit)) (now (refs .exit)) (now (rows .exit)) (now (recs .exit))
+        (now (lists .exit)) k n
+        (parse (state-of (now (file .entry)) (now (names .entry)) (now (refs .entry)) (now (rows .entry)) (now (recs .entry))
+        (now (lists .entry)) k) (fields (part (now (file .entry)) a e))) r ⌝ }
 {
     let c = Cursor { at: a, end: e };
     match c.field(file) {
         FieldStep::Part { start, end, next } => {
-            let kind = fields::line_kind(file, n, start, end);
+            let kind = fields::line_kind(file, k, start, end);
             if !fields::counted(file, kind, a, e) {
                 return Step::Refused(Refusal::Form);
             }
-            read_kind(file, names, refs, rows, recs, out, k, n, kind, next)
+            read_kind(file, names, refs, rows, recs, lists, k, n, kind, next)
         }
         FieldStep::Refused(r) => Step::Refused(r),
     }
@@ -120,26 +114,25 @@ pub fn read_file(
     refs: &mut [u32],
     rows: &mut [u32],
     recs: &mut [u32],
-    out: &mut [u32],
+    lists: &mut [u32],
 ) -> Reading
-    requires { ⌜ Cleared (now file) (now names) (now refs) (now rows) (now recs) (now out) ⌝ }
+    requires { ⌜ Tables-cleared (now file) (now names) (now refs) (now rows) (now recs) (now lists) ⌝ }
     ensures { λ r. ⌜ File-read (now (file .entry)) (now (names .entry)) (now (refs .entry)) (now (rows .entry))
-        (now (recs .entry)) (now (out .entry)) (now (names .exit)) (now (refs .exit)) (now (rows .exit)) (now (recs .exit))
-        (now (out .exit)) r ⌝ }
+        (now (recs .entry)) (now (lists .entry)) (now (names .exit)) (now (refs .exit)) (now (rows .exit)) (now (recs .exit))
+        (now (lists .exit)) r ⌝ }
 {
     if file.len() == 0 {
         return Reading::Refused(Refusal::Form, 1);
     }
     let mut k = Counts {
-        named: 0,
-        used: 0,
-        many: 0,
+        asks: 0,
+        names: 0,
+        references: 0,
+        terms: 0,
         records: 0,
         entries: 0,
         uses: 0,
         mark: 1,
-        query: 0,
-        options: 0,
     };
     let mut n: usize = 1;
     let mut from: usize = 0;
@@ -148,7 +141,7 @@ pub fn read_file(
         if end == file.len() {
             return Reading::Refused(Refusal::Form, n);
         }
-        match read_line(file, names, refs, rows, recs, out, k, n, from, end) {
+        match read_line(file, names, refs, rows, recs, lists, k, n, from, end) {
             Step::On(next) => {
                 k = next;
             }
@@ -159,6 +152,6 @@ pub fn read_file(
         n += 1;
         from = end + 1;
     }
-    macros::open_macros(names, recs, k.named);
+    macros::open_macros(names, recs, k.names);
     Reading::Read(k)
 }

@@ -5,19 +5,19 @@ use native.Mathlib.Omega.{arith}
 use mathlib.Core.Path.{_≡_, refl, ap, _∙_}
 use mathlib.Core.Bool.{true, false}
 use mathlib.Core.Logic.{_⊎_, inl, inr, ⊎-elim}
-use mathlib.Core.List.{List, [], _∷_, _++_, map}
+use mathlib.Core.List.{List, [], _∷_, _++_, map, append-nil}
 use lib.ListN.{length, getD, length-append}
 use Rattle.model.specs.Lists.{sum, collect, fold-left, part}
 use Rattle.model.specs.Names.{Name}
-use Rattle.model.specs.Summaries.{entries}
+use Rattle.model.specs.Summaries.{exclude-names, entries}
 use Rattle.model.specs.Terms.{Node, Term, add-term, unlabeled, free-top-level-names}
-use Rattle.model.specs.Reading.{Content, asked, nodes, spelled, trimmed, spell, summarize-decl, root-of, entries-of, uses-of, add-line, repeats, most-names, most-records, most-entries, most-uses}
+use Rattle.model.specs.Reading.{Content, asked, nodes, spelled, trimmed, spell, summarize-decl, root-of, entries-of, uses-of, add-line, repeats, most-names, most-records, most-entries, most-uses, excluded}
 use Rattle.model.specs.declared.Counts.{Counts}
 use Rattle.model.specs.declared.Refusal.{Refusal}
 use Rattle.model.specs.declared.Refusal.the-variants as refusal
-use Rattle.demands.specs.Demand1.{Past-names, Past-terms, Past-triggers}
-use Rattle.demands.proofs.ReadingLaws.{Lowest, past-records, past-triggers}
-use Rattle.names.specs.Table.{Table, name-of, names-of}
+use Rattle.laws.specs.Limits.{Past-names, Past-terms, Past-triggers}
+use Rattle.laws.proofs.ReadingLaws.{Lowest, past-records, past-triggers}
+use Rattle.names.specs.Table.{Table, name-of, table-names}
 use Rattle.names.proofs.Laws.{names-length}
 use Rattle.terms.specs.Rows.{terms-of, nodes-below, node-of}
 use Rattle.terms.proofs.Table.{rows-named, terms-named}
@@ -29,11 +29,11 @@ use Rattle.rules.specs.Views.{terms-in}
 use Rattle.triggers.specs.Entries.{disjuncts-of, entries-base, last-flag, no-name}
 use Rattle.triggers.proofs.Marked.{terms-marked}
 use Rattle.model.specs.declared.Step.the-variants as step
-use Rattle.records.specs.Columns.{record-kind, assume-kind, retain-kind, root-kind, entry-word, entry-name, entry-fact}
-use Rattle.records.specs.States.{summary-at, root-at, decls-of, roots-of, ask-of, state-of}
+use Rattle.records.specs.Columns.{record-kind, assume-kind, retain-kind, root-kind, entry-word, entry-name, entry-fact, ask-query-column, ask-options-column, ask-query, ask-options}
+use Rattle.records.specs.States.{summary-at, root-at, decls-of, roots-of, asks-of, state-of}
 use Rattle.records.specs.Filing.{Records, Chained, Filing, Taken}
 use Rattle.records.specs.Writing.{with-record, Rowed}
-use Rattle.records.specs.Adding.{excluded, Standing, Adds, stops, added}
+use Rattle.records.specs.Adding.{Standing, Adds, stops, added}
 use Rattle.records.proofs.Recording.{Agree, decls-stay, roots-stay, records-length}
 use Rattle.records.proofs.Keeping.{filing-more}
 use Rattle.records.proofs.Judging.{Within, judged-repeated, judged-beyond, judged-within}
@@ -61,85 +61,101 @@ terms-length file names refs rows used many =
     omega (arith, folded-length [] ns, nodes-length (name-of file names) refs rows used many many)
 
 -- tables that stand are within the limits
-pub standing-within : {file names refs rows recs out : List ℕ} {k : Counts} → Standing file names refs rows recs out k
-    → Within (state-of file names refs rows recs out k)
+pub standing-within : {file names refs rows recs lists : List ℕ} {k : Counts} → Standing file names refs rows recs lists k
+    → Within (state-of file names refs rows recs lists k)
 unfolding state-of
-standing-within {file} {names} {refs} {rows} {recs} {out} {k} st = record {
-  names = omega (arith, names-length file names (k .named), st .tables .name-table .few);
-  terms = omega (arith, terms-length file names refs rows (k .used) (k .many), st .tables .term-table .few-rows);
+standing-within {file} {names} {refs} {rows} {recs} {lists} {k} st = record {
+  names = omega (arith, names-length file names (k .names), st .tables .name-table .few);
+  terms = omega (arith, terms-length file names refs rows (k .references) (k .terms), st .tables .term-table .few-rows);
   references = st .tables .term-table .few-references;
-  records = omega (arith, records-length (name-of file names) recs out (k .records), st .recorded .few);
+  records = omega (arith, records-length (name-of file names) recs lists (k .records), st .recorded .few);
   entries = st .recorded .few-entries;
   uses = st .recorded .few-uses;
 }
 
+-- the names that are not free names
+pub excluded-here : (file names refs rows recs lists : List ℕ) (k : Counts)
+    → excluded exclude-names (state-of file names refs rows recs lists k) ≡ exclude-names
+unfolding excluded state-of
+excluded-here file names refs rows recs lists k = append-nil exclude-names
+
+-- asks whose words stay
+pub asks-stay : (recs recs′ : List ℕ) (n : ℕ)
+    → ((i : ℕ) → i < n → (ask-query recs′ i ≡ ask-query recs i) × (ask-options recs′ i ≡ ask-options recs i))
+    → asks-of recs′ n ≡ asks-of recs n
+unfolding asks-of
+asks-stay recs recs′ zero same = refl
+asks-stay recs recs′ (suc n) same =
+    let (q, o) = same n (omega arith) in
+    rw (asks-stay recs recs′ n (λ i l. same i (omega arith)), q, o)
+
 -- ---- a record appended
 
 -- the tables with a record after those counted: more names, marks, its row, its free names, its entries, the name that it takes
-pub record Appends (file names rows recs out names′ rows′ recs′ out′ : List ℕ) (k : Counts)
+pub record Appends (file names rows recs lists names′ rows′ recs′ lists′ : List ℕ) (k : Counts)
     (named′ entries′ uses′ mark′ kind line name term flag code : ℕ) : Type 0 where
   pub table : Table file names′ named′
-  pub more : k .named ≤ named′
-  pub same : (n : ℕ) → n < k .named → name-of file names′ n ≡ name-of file names n
+  pub more : k .names ≤ named′
+  pub same : (n : ℕ) → n < k .names → name-of file names′ n ≡ name-of file names n
   pub row-words : Same-but 12288 4096 rows rows′
   pub fresh : Fresh names′ rows′ mark′
   pub few-marks : mark′ ≤ 2 * (k .records + 1) + entries′ + 1
   pub row : Rowed recs recs′ k (with-record k named′ entries′ uses′ mark′) kind line name term flag code
   pub small-kind : kind ≤ root-kind
   pub known : (kind ≡ retain-kind → ⊥) → name < named′
-  pub out-length : length out′ ≡ length out
+  pub lists-length : length lists′ ≡ length lists
   pub few-uses : uses′ ≤ most-uses
   pub more-uses : k .uses ≤ uses′
-  pub old-uses : (j : ℕ) → j < k .uses → getD out′ j 0 ≡ getD out j 0
-  pub new-uses : (j : ℕ) → k .uses ≤ j → j < uses′ → getD out′ j 0 < named′
+  pub old-uses : (j : ℕ) → j < k .uses → getD lists′ j 0 ≡ getD lists j 0
+  pub new-uses : (j : ℕ) → k .uses ≤ j → j < uses′ → getD lists′ j 0 < named′
   pub few-entries : entries′ ≤ most-entries
   pub more-entries : k .entries ≤ entries′
-  pub old-entries : (e : ℕ) → e < k .entries → entry-word out′ e ≡ entry-word out e
-  pub old-facts : (e : ℕ) → e < k .entries → entry-fact out′ e ≡ entry-fact out e
-  pub new-entries : (e : ℕ) → k .entries ≤ e → e < entries′ → (entry-name out′ e < named′) ⊎ (entry-name out′ e ≡ no-name)
-  pub new-facts : (e : ℕ) → k .entries ≤ e → e < entries′ → entry-fact out′ e ≡ k .records
-  pub flagged : (e : ℕ) → k .entries ≤ e → e < entries′ → entry-word out′ e < last-flag + last-flag
-  pub ended : k .entries < entries′ → last-flag ≤ entry-word out′ (entries′ - 1)
-  pub sized : entries′ ≡ k .entries + entries (disjuncts-of (name-of file names′) (part out′ (entries-base + k .entries) (entries-base + entries′)))
+  pub old-entries : (e : ℕ) → e < k .entries → entry-word lists′ e ≡ entry-word lists e
+  pub old-facts : (e : ℕ) → e < k .entries → entry-fact lists′ e ≡ entry-fact lists e
+  pub new-entries : (e : ℕ) → k .entries ≤ e → e < entries′ → (entry-name lists′ e < named′) ⊎ (entry-name lists′ e ≡ no-name)
+  pub new-facts : (e : ℕ) → k .entries ≤ e → e < entries′ → entry-fact lists′ e ≡ k .records
+  pub flagged : (e : ℕ) → k .entries ≤ e → e < entries′ → entry-word lists′ e < last-flag + last-flag
+  pub ended : k .entries < entries′ → last-flag ≤ entry-word lists′ (entries′ - 1)
+  pub sized : entries′ ≡ k .entries + entries (disjuncts-of (name-of file names′) (part lists′ (entries-base + k .entries) (entries-base + entries′)))
   pub only-facts : (kind ≡ assume-kind → ⊥) → entries′ ≡ k .entries
   pub taken : Taken names′ recs′ (k .records + 1)
-  pub chained : Chained names′ out′ entries′
+  pub chained : Chained names′ lists′ entries′
 
 -- a line says what the record after those counted is: the names that it spells, what it adds to the background, the roots, the counts
-pub record Says (file names names′ recs′ out′ : List ℕ) (terms : List Term) (k k′ : Counts) (kind line : ℕ) (c : Content) : Type 0 where
-  pub no-ask : asked c (ask-of k) ≡ ask-of k
+pub record Says (file names names′ recs′ lists′ : List ℕ) (terms : List Term) (k k′ : Counts) (kind line : ℕ) (c : Content) : Type 0 where
+  pub no-ask : asked c ≡ []
   pub no-term : nodes c ≡ []
-  pub spells : names-of file names′ (k′ .named) ≡ fold-left spell (names-of file names (k .named)) (spelled c ++ trimmed excluded terms c)
-  pub decls : summary-at (name-of file names′) recs′ out′ (k .records) kind ≡ summarize-decl excluded terms line c
-  pub roots : root-at (name-of file names′) recs′ out′ (k .records) kind ≡ root-of excluded terms line c
-  pub entries : k′ .entries ≡ k .entries + sum (map entries-of (summarize-decl excluded terms line c))
-  pub uses : k′ .uses ≡ k .uses + (sum (map uses-of (summarize-decl excluded terms line c))
-      + sum (map (λ r. length (r .free-names)) (root-of excluded terms line c)))
+  pub spells : table-names file names′ (k′ .names) ≡ fold-left spell (table-names file names (k .names)) (spelled c ++ trimmed exclude-names terms c)
+  pub decls : summary-at (name-of file names′) recs′ lists′ (k .records) kind ≡ summarize-decl exclude-names terms line c
+  pub roots : root-at (name-of file names′) recs′ lists′ (k .records) kind ≡ root-of exclude-names terms line c
+  pub entries : k′ .entries ≡ k .entries + sum (map entries-of (summarize-decl exclude-names terms line c))
+  pub uses : k′ .uses ≡ k .uses + (sum (map uses-of (summarize-decl exclude-names terms line c))
+      + sum (map (λ r. length (r .free-names)) (root-of exclude-names terms line c)))
 
-module _ {file names refs rows recs out names′ rows′ recs′ out′ : List ℕ} {k : Counts} {named′ entries′ uses′ mark′ kind line name term flag code : ℕ}
-    (st : Standing file names refs rows recs out k) (few : k .records < most-records)
-    (a : Appends file names rows recs out names′ rows′ recs′ out′ k named′ entries′ uses′ mark′ kind line name term flag code) where
+module _ {file names refs rows recs lists names′ rows′ recs′ lists′ : List ℕ} {k : Counts} {named′ entries′ uses′ mark′ kind line name term flag code : ℕ}
+    (st : Standing file names refs rows recs lists k) (few : k .records < most-records)
+    (a : Appends file names rows recs lists names′ rows′ recs′ lists′ k named′ entries′ uses′ mark′ kind line name term flag code) where
   -- the rows of the records before
   before : (c j : ℕ) → j < k .records → getD recs′ (c * most-records + j) 0 ≡ getD recs (c * most-records + j) 0
   before c j l = a .row .others c j (omega arith) (λ e. omega arith)
 
   -- what is there stays
-  pub agree : Agree (name-of file names) (name-of file names′) recs out recs′ out′ (k .named) (k .records) (k .entries) (k .uses)
-  agree = record { same = a .same; rows = before; out-length = a .out-length; use-words = a .old-uses; entry-words = a .old-entries }
+  pub agree : Agree (name-of file names) (name-of file names′) recs lists recs′ lists′ (k .names) (k .records) (k .entries) (k .uses)
+  agree = record { same = a .same; rows = λ c i l h. before c i h; lists-length = a .lists-length; use-words = a .old-uses; entry-words = a .old-entries }
 
   -- the terms are those before
-  pub terms-stay : terms-in file names′ refs rows′ (k .used) (k .many) ≡ terms-in file names refs rows (k .used) (k .many)
+  pub terms-stay : terms-in file names′ refs rows′ (k .references) (k .terms) ≡ terms-in file names refs rows (k .references) (k .terms)
   unfolding terms-in
   terms-stay = terms-marked (name-of file names′) (a .row-words) (st .tables .term-table)
       ∙ terms-named (name-of file names′) (name-of file names) (a .same) (st .tables .term-table)
 
-  filing-then : Filing (name-of file names′) recs′ out′ (k .records + 1) entries′
+  filing-then : Filing (name-of file names′) recs′ lists′ (k .records + 1) entries′
   filing-then = filing-more agree (st .recorded) (st .stocked .filing) (a .old-facts) (a .row .entries-from) (a .row .entries-to)
       (rw (a .row .entries-from, a .row .entries-to) (a .sized))
       (λ d. a .only-facts (λ e. d (a .row .kind-is ∙ e)))
       (a .new-facts) (a .flagged) (a .ended)
 
-  records-then : Records recs′ out′ named′ (k .records + 1) entries′ uses′
+  records-then : Records recs′ lists′ named′ (k .records + 1) entries′ uses′
   records-then =
       let r = st .recorded in
       let row = a .row in
@@ -147,7 +163,7 @@ module _ {file names refs rows recs out names′ rows′ recs′ out′ : List �
       let y = a .more-uses in
       record {
         room = rw (row .same-length) (r .room);
-        out-room = rw (a .out-length) (r .out-room);
+        lists-room = rw (a .lists-length) (r .lists-room);
         few = omega arith;
         few-entries = a .few-entries;
         few-uses = a .few-uses;
@@ -178,14 +194,14 @@ module _ {file names refs rows recs out names′ rows′ recs′ out′ : List �
             (λ (e : k .uses ≤ j). a .new-uses j e l)
             (below j (k .uses));
         entry-words = λ e l. ⊎-elim
-            (λ (b : e < k .entries). rw (a .old-entries e b) (⊎-elim (λ (q : entry-name out e < k .named). inl (omega arith)) (λ q. inr q)
+            (λ (b : e < k .entries). rw (a .old-entries e b) (⊎-elim (λ (q : entry-name lists e < k .names). inl (omega arith)) (λ q. inr q)
             (r .entry-words e b)))
             (λ (b : k .entries ≤ e). a .new-entries e b l)
             (below e (k .entries));
       }
 
   -- the tables stand
-  pub standing-then : Standing file names′ refs rows′ recs′ out′ (with-record k named′ entries′ uses′ mark′)
+  pub standing-then : Standing file names′ refs rows′ recs′ lists′ (with-record k named′ entries′ uses′ mark′)
   standing-then = record {
     tables = record { name-table = a .table; term-table = rows-named (a .more) (a .table .few) (rows-marked (a .row-words) (st .tables .term-table)) };
     recorded = records-then;
@@ -194,16 +210,22 @@ module _ {file names refs rows recs out names′ rows′ recs′ out′ : List �
     stocked = record { filing = filing-then; taken = a .taken; chained = a .chained };
   }
 
+  -- the asks are those before
+  asks-there : asks-of recs′ (k .asks) ≡ asks-of recs (k .asks)
+  asks-there = asks-stay recs recs′ (k .asks) (λ i l. (a .row .past (ask-query-column + i) (omega arith), a .row .past (ask-options-column + i) (omega arith)))
+
   -- the tables are the state with the line
-  state-then : {c : Content} → Says file names names′ recs′ out′ (terms-in file names refs rows (k .used) (k .many)) k
+  state-then : {c : Content} → Says file names names′ recs′ lists′ (terms-in file names refs rows (k .references) (k .terms)) k
       (with-record k named′ entries′ uses′ mark′) kind line c
-      → add-line excluded line (state-of file names refs rows recs out k) c
-      ≡ state-of file names′ refs rows′ recs′ out′ (with-record k named′ entries′ uses′ mark′)
-  unfolding add-line state-of decls-of roots-of fold-left collect
+      → add-line exclude-names line (state-of file names refs rows recs lists k) c
+      ≡ state-of file names′ refs rows′ recs′ lists′ (with-record k named′ entries′ uses′ mark′)
+  unfolding add-line excluded state-of decls-of roots-of fold-left collect
   state-then s =
-      let zero-more : k .used + 0 ≡ k .used = omega arith in
+      let zero-more : k .references + 0 ≡ k .references = omega arith in
       rw (
+        append-nil exclude-names,
         s .no-ask,
+        append-nil (asks-of recs (k .asks)),
         s .no-term,
         zero-more,
         add-one (k .records),
@@ -216,76 +238,78 @@ module _ {file names refs rows recs out names′ rows′ recs′ out′ : List �
         decls-stay agree (st .recorded) (k .records) (omega arith),
         roots-stay agree (st .recorded) (k .records) (omega arith),
         terms-stay,
+        asks-there,
       )
 
   -- what adding the record comes to
-  pub record-added : {c : Content} → repeats excluded line (state-of file names refs rows recs out k) c ≡ false
-      → Says file names names′ recs′ out′ (terms-in file names refs rows (k .used) (k .many)) k (with-record k named′ entries′ uses′ mark′) kind line c
-      → Adds file names refs rows recs out names′ rows′ recs′ out′ k line c (step.On (with-record k named′ entries′ uses′ mark′))
+  pub record-added : {c : Content} → repeats exclude-names line (state-of file names refs rows recs lists k) c ≡ false
+      → Says file names names′ recs′ lists′ (terms-in file names refs rows (k .references) (k .terms)) k (with-record k named′ entries′ uses′ mark′) kind line c
+      → Adds file names refs rows recs lists names′ rows′ recs′ lists′ k line c (step.On (with-record k named′ entries′ uses′ mark′))
   record-added {c} new s = added {k′ = with-record k named′ entries′ uses′ mark′}
-      (judged-within line (state-of file names refs rows recs out k) c new (state-then s) (standing-within standing-then)) standing-then
+      (judged-within line (state-of file names refs rows recs lists k) c new (state-then s) (standing-within standing-then)) standing-then
 
 -- ---- a record refused
 
 -- a line is one record, and the names that it spells have room
 pub record One-record (file names refs rows : List ℕ) (k : Counts) (line : ℕ) (c : Content) : Type 0 where
   pub no-term : nodes c ≡ []
-  pub one : length (summarize-decl excluded (terms-in file names refs rows (k .used) (k .many)) line c)
-      + length (root-of excluded (terms-in file names refs rows (k .used) (k .many)) line c) ≡ 1
-  pub few-names : length (fold-left spell (names-of file names (k .named))
-      (spelled c ++ trimmed excluded (terms-in file names refs rows (k .used) (k .many)) c)) ≤ most-names
+  pub one : length (summarize-decl exclude-names (terms-in file names refs rows (k .references) (k .terms)) line c)
+      + length (root-of exclude-names (terms-in file names refs rows (k .references) (k .terms)) line c) ≡ 1
+  pub few-names : length (fold-left spell (table-names file names (k .names))
+      (spelled c ++ trimmed exclude-names (terms-in file names refs rows (k .references) (k .terms)) c)) ≤ most-names
 
-module _ {file names refs rows recs out : List ℕ} {k : Counts} (st : Standing file names refs rows recs out k) {line : ℕ}
+module _ {file names refs rows recs lists : List ℕ} {k : Counts} (st : Standing file names refs rows recs lists k) {line : ℕ}
     {c : Content} (one : One-record file names refs rows k line c) where
   -- the names with the line are within their limit
-  names-fit : Past-names (add-line excluded line (state-of file names refs rows recs out k) c) → ⊥
+  names-fit : Past-names (add-line exclude-names line (state-of file names refs rows recs lists k) c) → ⊥
   unfolding add-line state-of
-  names-fit h = omega (arith, one .few-names)
+  names-fit = rw (excluded-here file names refs rows recs lists k) (λ h. omega (arith, one .few-names))
 
   -- the terms and their references are within theirs
-  terms-fit : Past-terms (add-line excluded line (state-of file names refs rows recs out k) c) → ⊥
+  terms-fit : Past-terms (add-line exclude-names line (state-of file names refs rows recs lists k) c) → ⊥
   unfolding add-line state-of fold-left collect
   terms-fit = rw (one .no-term) (⊎-elim
-      (λ h. omega (arith, terms-length file names refs rows (k .used) (k .many), st .tables .term-table .few-rows))
+      (λ h. omega (arith, terms-length file names refs rows (k .references) (k .terms), st .tables .term-table .few-rows))
       (λ h. omega (arith, st .tables .term-table .few-references)))
 
   -- with the line there is one record more
-  records-more : length (add-line excluded line (state-of file names refs rows recs out k) c .decls)
-      + length (add-line excluded line (state-of file names refs rows recs out k) c .roots) ≡ k .records + 1
+  records-more : length (add-line exclude-names line (state-of file names refs rows recs lists k) c .decls)
+      + length (add-line exclude-names line (state-of file names refs rows recs lists k) c .roots) ≡ k .records + 1
   unfolding add-line state-of
   records-more =
-      let terms = terms-in file names refs rows (k .used) (k .many) in
-      omega (
+      let terms = terms-in file names refs rows (k .references) (k .terms) in
+      rw (excluded-here file names refs rows recs lists k)
+      (omega (
         arith,
         one .one,
-        records-length (name-of file names) recs out (k .records),
-        length-append (decls-of (name-of file names) recs out (k .records)) (summarize-decl excluded terms line c),
-        length-append (roots-of (name-of file names) recs out (k .records)) (root-of excluded terms line c),
-      )
+        records-length (name-of file names) recs lists (k .records),
+        length-append (decls-of (name-of file names) recs lists (k .records)) (summarize-decl exclude-names terms line c),
+        length-append (roots-of (name-of file names) recs lists (k .records)) (root-of exclude-names terms line c),
+      ))
 
-module _ {file names refs rows recs out names′ rows′ recs′ out′ : List ℕ} {k : Counts} (st : Standing file names refs rows recs out k) (line : ℕ)
+module _ {file names refs rows recs lists names′ rows′ recs′ lists′ : List ℕ} {k : Counts} (st : Standing file names refs rows recs lists k) (line : ℕ)
     (c : Content) where
   -- its name is taken
-  pub record-repeated : repeats excluded line (state-of file names refs rows recs out k) c ≡ true
-      → Adds file names refs rows recs out names′ rows′ recs′ out′ k line c (step.Refused refusal.Repeated)
-  record-repeated e = stops {x = refusal.Repeated} (st .tables .name-table .few) (judged-repeated line (state-of file names refs rows recs out k) c e)
+  pub record-repeated : repeats exclude-names line (state-of file names refs rows recs lists k) c ≡ true
+      → Adds file names refs rows recs lists names′ rows′ recs′ lists′ k line c (step.Refused refusal.Repeated)
+  record-repeated e = stops {x = refusal.Repeated} (st .tables .name-table .few) (judged-repeated line (state-of file names refs rows recs lists k) c e)
 
-  module _ (new : repeats excluded line (state-of file names refs rows recs out k) c ≡ false) where
+  module _ (new : repeats exclude-names line (state-of file names refs rows recs lists k) c ≡ false) where
     -- a limit is passed
-    pub record-beyond : {x : Refusal} → Lowest (add-line excluded line (state-of file names refs rows recs out k) c) x
-        → Adds file names refs rows recs out names′ rows′ recs′ out′ k line c (step.Refused x)
+    pub record-beyond : {x : Refusal} → Lowest (add-line exclude-names line (state-of file names refs rows recs lists k) c) x
+        → Adds file names refs rows recs lists names′ rows′ recs′ lists′ k line c (step.Refused x)
     record-beyond {x} l =
-        stops {x = x} (st .tables .name-table .few) (judged-beyond line (state-of file names refs rows recs out k) c new l)
+        stops {x = x} (st .tables .name-table .few) (judged-beyond line (state-of file names refs rows recs lists k) c new l)
 
     module _ (one : One-record file names refs rows k line c) where
       -- there are as many records as may be
       pub record-crowded : most-records ≤ k .records
-          → Adds file names refs rows recs out names′ rows′ recs′ out′ k line c (step.Refused refusal.FullRecords)
+          → Adds file names refs rows recs lists names′ rows′ recs′ lists′ k line c (step.Refused refusal.FullRecords)
       record-crowded h = record-beyond (past-records (names-fit st one) (terms-fit st one) (omega (arith, records-more st one)))
 
       -- more entries or uses than may be, and room for a record
       pub record-over : k .records < most-records
-          → Past-triggers (add-line excluded line (state-of file names refs rows recs out k) c)
-          → Adds file names refs rows recs out names′ rows′ recs′ out′ k line c (step.Refused refusal.FullTriggers)
+          → Past-triggers (add-line exclude-names line (state-of file names refs rows recs lists k) c)
+          → Adds file names refs rows recs lists names′ rows′ recs′ lists′ k line c (step.Refused refusal.FullTriggers)
       record-over few h =
           record-beyond (past-triggers (names-fit st one) (terms-fit st one) (λ p. omega (arith, records-more st one)) h)

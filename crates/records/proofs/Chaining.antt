@@ -37,13 +37,13 @@ newest-low f n (suc e) = ⊎-elim
     (equal (f e) n)
 
 -- chains stay where the words of their entries and the first entries do
-pub chained-kept : {names out names′ out′ : List ℕ} {filed : ℕ} → Chained names out filed
+pub chained-kept : {names lists names′ lists′ : List ℕ} {filed : ℕ} → Chained names lists filed
     → ((n : ℕ) → n < most-names → first-entry names′ n ≡ first-entry names n)
-    → ((e : ℕ) → e < filed → entry-name out′ e ≡ entry-name out e) → ((e : ℕ) → e < filed → next-entry out′ e ≡ next-entry out e)
-    → Chained names′ out′ filed
-chained-kept {names} {out} {names′} {out′} {filed} c first same next = record {
-  first = λ n l. first n l ∙ c .first n l ∙ sym (newest-cong (entry-name out′) (entry-name out) n filed same);
+    → ((e : ℕ) → e < filed → entry-name lists′ e ≡ entry-name lists e) → ((e : ℕ) → e < filed → next-entry lists′ e ≡ next-entry lists e)
+    → Chained names′ lists′ filed
+chained-kept {names} {lists} {names′} {lists′} {filed} c first same next = record {
+  first = λ n l. first n l ∙ c .first n l ∙ sym (newest-cong (entry-name lists′) (entry-name lists) n filed same);
   next = λ e l h.
-      next e l ∙ c .next e l (rw (← (same e l)) h) ∙ ap (λ n. newest (entry-name out) n e) (sym (same e l))
-      ∙ sym (newest-cong (entry-name out′) (entry-name out) (entry-name out′ e) e (λ d k. same d (omega arith)));
+      next e l ∙ c .next e l (rw (← (same e l)) h) ∙ ap (λ n. newest (entry-name lists) n e) (sym (same e l))
+      ∙ sym (newest-cong (entry-name lists′) (entry-name lists) (entry-name lists′ e) e (λ d k. same d (omega arith)));
 }

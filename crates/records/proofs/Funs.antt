@@ -6,6 +6,7 @@ use mathlib.Core.Bool.{false}
 use mathlib.Core.List.{List, []}
 use lib.ListN.{set, length-set}
 use lib.Seq.{getD-set-same, getD-set-other}
+use Rattle.model.specs.Summaries.{exclude-names}
 use Rattle.model.specs.Lists.{sum, collect, fold-left}
 use Rattle.model.specs.Reading.{fun, retain, asked, nodes, spelled, trimmed, summarize-decl, root-of, taken-by, entries-of, uses-of, repeats, most-names, most-terms, most-records, most-entries, most-uses}
 use Rattle.model.specs.declared.Counts.{Counts}
@@ -19,7 +20,7 @@ use Rattle.model.specs.Outcome.{working-words}
 use Rattle.records.specs.Columns.{fun-kind, retain-kind, root-kind, taken-column, taken-at}
 use Rattle.records.specs.States.{summary-at, root-at, decl-at, state-of}
 use Rattle.records.specs.Writing.{with-record, Small, Rowed}
-use Rattle.records.specs.Adding.{excluded, Standing, Adds, Untouched}
+use Rattle.records.specs.Adding.{Standing, Adds, Untouched}
 use Rattle.records.proofs.Judging.{repeats-none, repeats-taken, repeats-free}
 use Rattle.records.proofs.Appending.{standing-within, record-added, record-repeated, record-crowded}
 use Rattle.records.proofs.Plain.{spelled-again, named-within, kept, not-taken, is-taken, plain}
@@ -27,7 +28,7 @@ use Rattle.records.proofs.Plain.{spelled-again, named-within, kept, not
 -- ---- what stays
 
 -- slices that stay
-pub untouched : {names rows recs out : List ℕ} → Untouched names rows recs out names rows recs out
+pub untouched : {names rows recs lists : List ℕ} → Untouched names rows recs lists names rows recs lists
 untouched = record {
   name-words = same-self 0 working-words _;
   row-words = same-self 0 working-words _;
@@ -55,8 +56,8 @@ pub fresh-taken : {names rows names′ : List ℕ} {mark : ℕ} → Same-but tak
 fresh-taken s f = record { row-marks = f .row-marks; name-marks = λ n l. rw (s .same-words (8192 + n) (λ a b. omega arith)) (f .name-marks n l) }
 
 -- a row's words fit
-pub small-row : {file names refs rows recs out : List ℕ} {k next : Counts} (named entries uses mark : ℕ) (kind line name term flag code : ℕ)
-    → Standing file names refs rows recs out k
+pub small-row : {file names refs rows recs lists : List ℕ} {k next : Counts} (named entries uses mark : ℕ) (kind line name term flag code : ℕ)
+    → Standing file names refs rows recs lists k
     → next ≡ with-record k named entries uses mark → entries ≤ most-entries → uses ≤ most-uses
     → kind ≤ root-kind → line < 4294967296 → name < most-names → term < most-terms → flag < 256 → code < 4294967296 → Small k next kind line name term flag code
 small-row {k = k} {next} named entries uses mark kind line name term flag code st e h₁ h₂ h₃ h₄ h₅ h₆ h₇ h₈ = rw e (record {
@@ -74,27 +75,27 @@ small-row {k = k} {next} named entries uses mark kind line name term flag code s
 
 -- ---- retain
 
-module _ {file names refs rows recs out : List ℕ} {k : Counts} (st : Standing file names refs rows recs out k) (line : ℕ) where
-  retain-new : repeats excluded line (state-of file names refs rows recs out k) (retain []) ≡ false
+module _ {file names refs rows recs lists : List ℕ} {k : Counts} (st : Standing file names refs rows recs lists k) (line : ℕ) where
+  retain-new : repeats exclude-names line (state-of file names refs rows recs lists k) (retain []) ≡ false
   unfolding state-of summarize-decl collect taken-by
-  retain-new = repeats-none line (state-of file names refs rows recs out k) (retain []) refl
+  retain-new = repeats-none line (state-of file names refs rows recs lists k) (retain []) refl
 
   -- as many records as may be
   pub retain-crowded : {recs′ : List ℕ} → most-records ≤ k .records
-      → Adds file names refs rows recs out names rows recs′ out k line (retain []) (step.Refused refusal.FullRecords)
+      → Adds file names refs rows recs lists names rows recs′ lists k line (retain []) (step.Refused refusal.FullRecords)
   unfolding state-of nodes spelled trimmed summarize-decl root-of fold-left
   retain-crowded h = record-crowded st line (retain []) retain-new
       (record { no-term = refl; one = refl; few-names = standing-within st .names }) h
 
   -- the record is there
-  pub retain-added : {recs′ : List ℕ} {next : Counts} → k .records < most-records → next ≡ with-record k (k .named) (k .entries) (k .uses) (k .mark)
-      → Rowed recs recs′ k next retain-kind line 0 0 0 0 → Adds file names refs rows recs out names rows recs′ out k line (retain []) (step.On next)
+  pub retain-added : {recs′ : List ℕ} {next : Counts} → k .records < most-records → next ≡ with-record k (k .names) (k .entries) (k .uses) (k .mark)
+      → Rowed recs recs′ k next retain-kind line 0 0 0 0 → Adds file names refs rows recs lists names rows recs′ lists k line (retain []) (step.On next)
   unfolding asked nodes spelled trimmed summarize-decl root-of entries-of uses-of sum fold-left summary-at root-at
   retain-added {recs′} {next} few e row =
       let same = same-self 8192 4096 names in
-      let row′ : Rowed recs recs′ k (with-record k (k .named) (k .entries) (k .uses) (k .mark)) retain-kind line 0 0 0 0 = rw e at row in
+      let row′ : Rowed recs recs′ k (with-record k (k .names) (k .entries) (k .uses) (k .mark)) retain-kind line 0 0 0 0 = rw e at row in
       let more = plain st same (same-self 12288 4096 rows) (st .fresh) (omega arith) row′ (λ z. omega arith) (omega arith) (λ z. absurd (z refl))
-      (same-self (k .uses) (k .uses - k .uses) out)
+      (same-self (k .uses) (k .uses - k .uses) lists)
       (omega arith) (st .recorded .few-uses) (λ j a b. absurd (omega arith)) (not-taken st few row′ (λ n l. refl) (omega arith)) in
       rw e (record-added st few more retain-new (record {
         no-ask = refl;
@@ -108,46 +109,46 @@ module _ {file names refs rows recs out : List ℕ} {k : Counts} (st : Standing 
 
 -- ---- fun
 
-module _ {file names refs rows recs out : List ℕ} {k : Counts} (st : Standing file names refs rows recs out k) (line : ℕ) {i : ℕ}
-    (known : i < k .named) {w : ℕ} (is : w ≡ taken-at names i) where
-  fun-new : w ≤ 0 → repeats excluded line (state-of file names refs rows recs out k) (fun (name-of file names i)) ≡ false
+module _ {file names refs rows recs lists : List ℕ} {k : Counts} (st : Standing file names refs rows recs lists k) (line : ℕ) {i : ℕ}
+    (known : i < k .names) {w : ℕ} (is : w ≡ taken-at names i) where
+  fun-new : w ≤ 0 → repeats exclude-names line (state-of file names refs rows recs lists k) (fun (name-of file names i)) ≡ false
   unfolding summarize-decl collect taken-by
   fun-new h = repeats-free st line (fun (name-of file names i)) known refl (omega arith)
 
   -- the name is taken
-  pub fun-repeated : {names′ recs′ : List ℕ} → 0 < w → Adds file names refs rows recs out names′ rows recs′ out k line (fun (name-of file names i))
+  pub fun-repeated : {names′ recs′ : List ℕ} → 0 < w → Adds file names refs rows recs lists names′ rows recs′ lists k line (fun (name-of file names i))
       (step.Refused refusal.Repeated)
   unfolding summarize-decl collect taken-by
   fun-repeated h = record-repeated st line (fun (name-of file names i)) (repeats-taken st line (fun (name-of file names i)) known refl (omega arith))
 
   -- as many records as may be
   pub fun-crowded : {names′ recs′ : List ℕ} → w ≤ 0 → most-records ≤ k .records
-      → Adds file names refs rows recs out names′ rows recs′ out k line (fun (name-of file names i))
+      → Adds file names refs rows recs lists names′ rows recs′ lists k line (fun (name-of file names i))
       (step.Refused refusal.FullRecords)
   unfolding nodes spelled trimmed summarize-decl root-of
   fun-crowded z h = record-crowded st line (fun (name-of file names i)) (fun-new z)
       (record { no-term = refl; one = refl; few-names = named-within st known }) h
 
   -- the record is there
-  pub fun-added : {recs′ : List ℕ} {next : Counts} → w ≤ 0 → k .records < most-records → next ≡ with-record k (k .named) (k .entries) (k .uses) (k .mark)
+  pub fun-added : {recs′ : List ℕ} {next : Counts} → w ≤ 0 → k .records < most-records → next ≡ with-record k (k .names) (k .entries) (k .uses) (k .mark)
       → Rowed recs recs′ k next fun-kind line i 0 0 0
-      → Adds file names refs rows recs out (set names (taken-column + i) (k .records + 1)) rows recs′ out k line (fun (name-of file names i)) (step.On next)
+      → Adds file names refs rows recs lists (set names (taken-column + i) (k .records + 1)) rows recs′ lists k line (fun (name-of file names i)) (step.On next)
   unfolding asked nodes spelled trimmed summarize-decl root-of entries-of uses-of sum fold-left summary-at root-at decl-at
   fun-added {recs′} {next} z few e row =
       let low : i < most-names = omega (arith, st .tables .name-table .few) in
       let put = taken-put {names = names} i (k .records + 1) low in
       let words = same-wider 8192 4096 (omega arith) (omega arith) put in
-      let row′ : Rowed recs recs′ k (with-record k (k .named) (k .entries) (k .uses) (k .mark)) fun-kind line i 0 0 0 = rw e at row in
+      let row′ : Rowed recs recs′ k (with-record k (k .names) (k .entries) (k .uses) (k .mark)) fun-kind line i 0 0 0 = rw e at row in
       let taken = is-taken st few row′ low (omega arith) (getD-set-same names (taken-column + i) (k .records + 1) 0
       (omega (arith, st .tables .name-table .room)))
       (λ n l d. getD-set-other names (taken-column + i) (taken-column + n) (k .records + 1) 0 (λ q. d (omega arith))) (omega arith) in
       let more = plain st words (same-self 12288 4096 rows) (fresh-taken put (st .fresh)) (omega arith) row′ (λ q. omega arith) (omega arith) (λ q. known)
-      (same-self (k .uses) (k .uses - k .uses) out)
+      (same-self (k .uses) (k .uses - k .uses) lists)
       (omega arith) (st .recorded .few-uses) (λ j a b. absurd (omega arith)) taken in
       rw e (record-added st few more (fun-new z) (record {
         no-ask = refl;
         no-term = refl;
-        spells = kept st words .names ∙ sym (spelled-again file names (k .named) i known);
+        spells = kept st words .names ∙ sym (spelled-again file names (k .names) i known);
         decls = rw (row′ .line-is, row′ .name-is, kept st words .name i known);
         roots = refl;
         entries = omega arith;
@@ -156,10 +157,10 @@ module _ {file names refs rows recs out : List ℕ} {k : Counts} (st : Standing 
 
   -- the words past the tables stay
   pub fun-past : {recs′ : List ℕ} {next : Counts} {kind term flag code : ℕ} (v : ℕ) → Rowed recs recs′ k next kind line i term flag code
-      → Untouched names rows recs out (set names (taken-column + i) v) rows recs′ out
+      → Untouched names rows recs lists (set names (taken-column + i) v) rows recs′ lists
   fun-past v row = record {
     name-words = same-wider 0 working-words (omega arith) (omega arith) (taken-put i v (omega (arith, st .tables .name-table .few)));
     row-words = same-self 0 working-words rows;
     record-words = row-past row;
-    list-words = same-self 0 working-words out;
+    list-words = same-self 0 working-words lists;
   }

@@ -4,6 +4,7 @@ pub mod Recording
 pub mod Keeping
 pub mod Judging
 pub mod Appending
+pub mod Asking
 pub mod Plain
 pub mod Funs
 pub mod Uses

@@ -11,7 +11,7 @@ use Rattle.model.specs.Reading.{spell, most-names, most-records, most-uses}
 use Rattle.model.specs.declared.Counts.{Counts}
 use Rattle.model.proofs.ListLaws.{cond-true}
 use Rattle.model.proofs.PartLaws.{part-nil}
-use Rattle.names.specs.Table.{name-of, names-of}
+use Rattle.names.specs.Table.{name-of, table-names}
 use Rattle.names.proofs.Laws.{names-intro, names-length}
 use Rattle.names.proofs.Coded.{Kept, table-kept}
 use Rattle.words.specs.Slices.{Same-but}
@@ -26,28 +26,28 @@ use Rattle.records.proofs.Keeping.{taken-none, taken-more}
 use Rattle.records.proofs.Appending.{Appends}
 
 -- spelling a name of the table again
-pub spelled-again : (file names : List ℕ) (named i : ℕ) → i < named → spell (names-of file names named) (name-of file names i) ≡ names-of file names named
+pub spelled-again : (file names : List ℕ) (named i : ℕ) → i < named → spell (table-names file names named) (name-of file names i) ≡ table-names file names named
 unfolding spell
 spelled-again file names named i h =
-    cond-true (mem (name-of file names i) (names-of file names named)) (names-of file names named) (names-of file names named ++ (name-of file names i ∷ []))
+    cond-true (mem (name-of file names i) (table-names file names named)) (table-names file names named) (table-names file names named ++ (name-of file names i ∷ []))
     (names-intro file names named i h)
 
 -- spelling it leaves the names within their limit
-pub named-within : {file names refs rows recs out : List ℕ} {k : Counts} → Standing file names refs rows recs out k → {i : ℕ}
-    → i < k .named → length (fold-left spell (names-of file names (k .named)) (name-of file names i ∷ [])) ≤ most-names
+pub named-within : {file names refs rows recs lists : List ℕ} {k : Counts} → Standing file names refs rows recs lists k → {i : ℕ}
+    → i < k .names → length (fold-left spell (table-names file names (k .names)) (name-of file names i ∷ [])) ≤ most-names
 unfolding fold-left
 named-within {file} {names} {k = k} st {i} known =
-    rw (spelled-again file names (k .named) i known)
-    (omega (arith, names-length file names (k .named), st .tables .name-table .few))
+    rw (spelled-again file names (k .names) i known)
+    (omega (arith, names-length file names (k .names), st .tables .name-table .few))
 
 -- no entries take none
-no-entries : (name : ℕ → Name) (out : List ℕ) (a : ℕ) → entries (disjuncts-of name (part out a a)) ≡ 0
+no-entries : (name : ℕ → Name) (lists : List ℕ) (a : ℕ) → entries (disjuncts-of name (part lists a a)) ≡ 0
 unfolding entries disjuncts-of disjuncts-of-words sum
-no-entries name out a = rw (part-nil out a a (omega arith))
+no-entries name lists a = rw (part-nil lists a a (omega arith))
 
 -- ---- the taken column with the record after those counted
 
-module _ {file names refs rows recs out recs′ : List ℕ} {k k′ : Counts} {kind line name term flag code : ℕ} (st : Standing file names refs rows recs out k)
+module _ {file names refs rows recs lists recs′ : List ℕ} {k k′ : Counts} {kind line name term flag code : ℕ} (st : Standing file names refs rows recs lists k)
     (few : k .records < most-records) (row : Rowed recs recs′ k k′ kind line name term flag code) where
   -- the rows before
   before : (c j : ℕ) → j < k .records → getD recs′ (c * most-records + j) 0 ≡ getD recs (c * most-records + j) 0
@@ -60,31 +60,31 @@ module _ {file names refs rows recs out recs′ : List ℕ} {k k′ : Counts} {k
   -- a record that takes no name
   pub not-taken : {names′ : List ℕ} → ((n : ℕ) → n < most-names → taken-at names′ n ≡ taken-at names n) → retain-kind ≤ kind
       → Taken names′ recs′ (k .records + 1)
-  not-taken same h = taken-none before (st .stocked .taken) small same (λ l. omega (arith, row .kind-is))
+  not-taken same h = taken-none (λ c i l h. before c i h) (st .stocked .taken) small same (λ l. omega (arith, row .kind-is))
 
   -- a record that takes its name, which was free
   pub is-taken : {names′ : List ℕ} → name < most-names → taken-at names name ≡ 0 → taken-at names′ name ≡ k .records + 1
       → ((n : ℕ) → n < most-names → (n ≡ name → ⊥) → taken-at names′ n ≡ taken-at names n) → kind < retain-kind → Taken names′ recs′ (k .records + 1)
-  is-taken low free new same h = taken-more before (st .stocked .taken) small name low free new same (rw (row .kind-is) h) (row .name-is)
+  is-taken low free new same h = taken-more (λ c i l h. before c i h) (st .stocked .taken) small name low free new same (rw (row .kind-is) h) (row .name-is)
 
 -- ---- the tables with the record
 
-module _ {file names refs rows recs out names′ : List ℕ} {k : Counts} (st : Standing file names refs rows recs out k)
+module _ {file names refs rows recs lists names′ : List ℕ} {k : Counts} (st : Standing file names refs rows recs lists k)
     (name-words : Same-but 8192 4096 names names′) where
   -- the names are those before
-  pub kept : Kept file names names′ (k .named)
+  pub kept : Kept file names names′ (k .names)
   kept = table-kept (st .tables .name-table) (name-words .same-length) (λ i l. name-words .same-words i (λ a b. omega arith))
 
   -- the record is appended
-  pub plain : {rows′ recs′ out′ : List ℕ} {uses′ mark′ kind line name term flag code : ℕ}
+  pub plain : {rows′ recs′ lists′ : List ℕ} {uses′ mark′ kind line name term flag code : ℕ}
       → Same-but 12288 4096 rows rows′ → Fresh names′ rows′ mark′ → mark′ ≤ k .mark + 1
-      → Rowed recs recs′ k (with-record k (k .named) (k .entries) uses′ mark′) kind line name term flag code
-      → (kind ≡ assume-kind → ⊥) → kind ≤ root-kind → ((kind ≡ retain-kind → ⊥) → name < k .named)
-      → Same-but (k .uses) (uses′ - k .uses) out out′ → k .uses ≤ uses′ → uses′ ≤ most-uses → ((j : ℕ) → k .uses ≤ j → j < uses′ → getD out′ j 0 < k .named)
+      → Rowed recs recs′ k (with-record k (k .names) (k .entries) uses′ mark′) kind line name term flag code
+      → (kind ≡ assume-kind → ⊥) → kind ≤ root-kind → ((kind ≡ retain-kind → ⊥) → name < k .names)
+      → Same-but (k .uses) (uses′ - k .uses) lists lists′ → k .uses ≤ uses′ → uses′ ≤ most-uses → ((j : ℕ) → k .uses ≤ j → j < uses′ → getD lists′ j 0 < k .names)
       → Taken names′ recs′ (k .records + 1)
-      → Appends file names rows recs out names′ rows′ recs′ out′ k (k .named) (k .entries) uses′ mark′ kind line name term flag code
-  plain {out′ = out′} row-words fresh mark row other small known out-words more few-uses new taken =
-      let out-same : (j : ℕ) → most-uses ≤ j → getD out′ j 0 ≡ getD out j 0 = λ j l. out-words .same-words j (λ a b. omega arith) in
+      → Appends file names rows recs lists names′ rows′ recs′ lists′ k (k .names) (k .entries) uses′ mark′ kind line name term flag code
+  plain {lists′ = lists′} row-words fresh mark row other small known lists-words more few-uses new taken =
+      let lists-same : (j : ℕ) → most-uses ≤ j → getD lists′ j 0 ≡ getD lists j 0 = λ j l. lists-words .same-words j (λ a b. omega arith) in
       record {
         table = kept .table;
         more = omega arith;
@@ -95,22 +95,22 @@ module _ {file names refs rows recs out names′ : List ℕ} {k : Counts} (st : 
         row = row;
         small-kind = small;
         known = known;
-        out-length = out-words .same-length;
+        lists-length = lists-words .same-length;
         few-uses = few-uses;
         more-uses = more;
-        old-uses = λ j l. out-words .same-words j (λ a b. omega arith);
+        old-uses = λ j l. lists-words .same-words j (λ a b. omega arith);
         new-uses = new;
         few-entries = st .recorded .few-entries;
         more-entries = omega arith;
-        old-entries = λ e l. out-same (entries-base + e) (omega arith);
-        old-facts = λ e l. out-same (fact-column + e) (omega arith);
+        old-entries = λ e l. lists-same (entries-base + e) (omega arith);
+        old-facts = λ e l. lists-same (fact-column + e) (omega arith);
         new-entries = λ e a b. absurd (omega arith);
         new-facts = λ e a b. absurd (omega arith);
         flagged = λ e a b. absurd (omega arith);
         ended = λ l. absurd (omega arith);
-        sized = omega (arith, no-entries (name-of file names′) out′ (entries-base + k .entries));
+        sized = omega (arith, no-entries (name-of file names′) lists′ (entries-base + k .entries));
         only-facts = λ d. refl;
         taken = taken;
         chained = chained-kept (st .stocked .chained) (λ n l. name-words .same-words (first-column + n) (λ a b. omega arith))
-            (λ e l. rw (out-same (entries-base + e) (omega arith))) (λ e l. out-same (next-column + e) (omega arith));
+            (λ e l. rw (lists-same (entries-base + e) (omega arith))) (λ e l. lists-same (next-column + e) (omega arith));
       }

@@ -12,6 +12,7 @@ use Rattle.model.specs.Names.{Name, from-list}
 use Rattle.model.specs.Reading.{most-records}
 use Rattle.model.proofs.PartLaws.{part-agree, part-elim}
 use Rattle.triggers.specs.Entries.{disjuncts-of, disjuncts-of-words, before-first, entry-number, entries-base, last-flag, no-name}
+use Rattle.records.specs.Writing.{row-columns}
 use Rattle.records.specs.Columns.{record-word, record-kind, record-name, uses-start, uses-end, entries-start, entries-end, retain-kind, entry-word}
 use Rattle.records.specs.States.{uses-at, entries-at, free-at, fact-at, decl-at, summary-at, root-at, decls-of, roots-of}
 use Rattle.records.specs.Filing.{Records}
@@ -69,95 +70,95 @@ module _ (f g : ℕ → Name) where
       split f (d ∷ ds) = ap (λ l. from-list (map f d) ∷ l) (split f ds)
 
 -- names, rows and words in use that are as before
-pub record Agree (name name′ : ℕ → Name) (recs out recs′ out′ : List ℕ) (named records filed uses : ℕ) : Type 0 where
+pub record Agree (name name′ : ℕ → Name) (recs lists recs′ lists′ : List ℕ) (named records filed uses : ℕ) : Type 0 where
   pub same : (n : ℕ) → n < named → name′ n ≡ name n
-  pub rows : (c i : ℕ) → i < records → record-word recs′ (c * most-records) i ≡ record-word recs (c * most-records) i
-  pub out-length : length out′ ≡ length out
-  pub use-words : (j : ℕ) → j < uses → getD out′ j 0 ≡ getD out j 0
-  pub entry-words : (e : ℕ) → e < filed → entry-word out′ e ≡ entry-word out e
+  pub rows : (c i : ℕ) → c < row-columns → i < records → record-word recs′ (c * most-records) i ≡ record-word recs (c * most-records) i
+  pub lists-length : length lists′ ≡ length lists
+  pub use-words : (j : ℕ) → j < uses → getD lists′ j 0 ≡ getD lists j 0
+  pub entry-words : (e : ℕ) → e < filed → entry-word lists′ e ≡ entry-word lists e
 
-module _ {name name′ : ℕ → Name} {recs out recs′ out′ : List ℕ} {named records filed uses : ℕ}
-    (a : Agree name name′ recs out recs′ out′ named records filed uses)
-    (r : Records recs out named records filed uses) where
+module _ {name name′ : ℕ → Name} {recs lists recs′ lists′ : List ℕ} {named records filed uses : ℕ}
+    (a : Agree name name′ recs lists recs′ lists′ named records filed uses)
+    (r : Records recs lists named records filed uses) where
   -- the name of a record
   name-stays : (i : ℕ) → i < records → (record-kind recs i ≡ retain-kind → ⊥) → name′ (record-name recs′ i) ≡ name (record-name recs i)
-  name-stays i h q = rw (a .rows 2 i h) (a .same (record-name recs i) (r .named-in i h q))
+  name-stays i h q = rw (a .rows 2 i (omega arith) h) (a .same (record-name recs i) (r .named-in i h q))
 
   -- the free names of a record
-  free-stays : (i : ℕ) → i < records → free-at name′ recs′ out′ i ≡ free-at name recs out i
+  free-stays : (i : ℕ) → i < records → free-at name′ recs′ lists′ i ≡ free-at name recs lists i
   unfolding free-at
   free-stays i h =
       let s = uses-start recs i in
       let e = uses-end recs i in
       let l : e ≤ uses = r .uses-in i h in
-      let room : e ≤ length out = omega (arith, r .out-room, r .few-uses) in
-      let room′ : e ≤ length out′ = omega (arith, a .out-length) in
-      let same : (n : ℕ) → List·Memᴰ n (uses-at recs out i) → name′ n ≡ name n =
+      let room : e ≤ length lists = omega (arith, r .lists-room, r .few-uses) in
+      let room′ : e ≤ length lists′ = omega (arith, a .lists-length) in
+      let same : (n : ℕ) → List·Memᴰ n (uses-at recs lists i) → name′ n ≡ name n =
       λ n m. let p = part-elim room m in a .same n (rw (← p .is) (r .use-words (p .place) (omega (arith, p .high)))) in
-      rw (a .rows 5 i h, a .rows 6 i h, part-agree out out′ (e - s) s e refl room room′ (λ j x y. a .use-words j (omega arith)))
-      (ap from-list (names-stay name′ name (uses-at recs out i) same))
+      rw (a .rows 5 i (omega arith) h, a .rows 6 i (omega arith) h, part-agree lists lists′ (e - s) s e refl room room′ (λ j x y. a .use-words j (omega arith)))
+      (ap from-list (names-stay name′ name (uses-at recs lists i) same))
 
   -- the disjuncts of a record
-  pub sets-stay : (i : ℕ) → i < records → disjuncts-of name′ (entries-at recs′ out′ i) ≡ disjuncts-of name (entries-at recs out i)
+  pub sets-stay : (i : ℕ) → i < records → disjuncts-of name′ (entries-at recs′ lists′ i) ≡ disjuncts-of name (entries-at recs lists i)
   sets-stay i h =
       let s = entries-base + entries-start recs i in
       let e = entries-base + entries-end recs i in
       let l : entries-end recs i ≤ filed = r .entries-in i h in
-      let room : e ≤ length out = omega (arith, r .out-room, r .few-entries) in
-      let room′ : e ≤ length out′ = omega (arith, a .out-length) in
-      let word : (j : ℕ) → s ≤ j → j < e → getD out′ j 0 ≡ getD out j 0 =
+      let room : e ≤ length lists = omega (arith, r .lists-room, r .few-entries) in
+      let room′ : e ≤ length lists′ = omega (arith, a .lists-length) in
+      let word : (j : ℕ) → s ≤ j → j < e → getD lists′ j 0 ≡ getD lists j 0 =
       λ j x y. let z : entries-base + (j - entries-base) ≡ j = omega arith in rw z at (a .entry-words (j - entries-base) (omega arith)) in
-      let same : (w : ℕ) → List·Memᴰ w (entries-at recs out i) → w % last-flag < no-name → name′ (w % last-flag) ≡ name (w % last-flag) =
+      let same : (w : ℕ) → List·Memᴰ w (entries-at recs lists i) → w % last-flag < no-name → name′ (w % last-flag) ≡ name (w % last-flag) =
       λ w m k.
       let p = part-elim room m in
       let x = p .low in
       let y = p .high in
       let z : entries-base + (p .place - entries-base) ≡ p .place = omega arith in
-      let is = ap (λ v. getD out v 0) z ∙ p .is in
+      let is = ap (λ v. getD lists v 0) z ∙ p .is in
       ⊎-elim
-      (λ (q : entry-word out (p .place - entries-base) % last-flag < named). a .same (w % last-flag) (rw is at q))
-      (λ (q : entry-word out (p .place - entries-base) % last-flag ≡ no-name). absurd (omega (arith, ap (λ v. v % last-flag) is)))
+      (λ (q : entry-word lists (p .place - entries-base) % last-flag < named). a .same (w % last-flag) (rw is at q))
+      (λ (q : entry-word lists (p .place - entries-base) % last-flag ≡ no-name). absurd (omega (arith, ap (λ v. v % last-flag) is)))
       (r .entry-words (p .place - entries-base) (omega arith)) in
-      rw (a .rows 7 i h, a .rows 8 i h, part-agree out out′ (e - s) s e refl room room′ word)
-      (disjuncts-stay name′ name (entries-at recs out i) same)
+      rw (a .rows 7 i (omega arith) h, a .rows 8 i (omega arith) h, part-agree lists lists′ (e - s) s e refl room room′ word)
+      (disjuncts-stay name′ name (entries-at recs lists i) same)
 
   -- what a record adds to the background
-  summary-stays : (i : ℕ) → i < records → (kind : ℕ) → record-kind recs i ≡ kind → summary-at name′ recs′ out′ i kind ≡ summary-at name recs out i kind
+  summary-stays : (i : ℕ) → i < records → (kind : ℕ) → record-kind recs i ≡ kind → summary-at name′ recs′ lists′ i kind ≡ summary-at name recs lists i kind
   unfolding summary-at decl-at fact-at
-  summary-stays i h zero e = rw (a .rows 1 i h, a .rows 4 i h, a .rows 9 i h, free-stays i h, sets-stay i h, name-stays i h (λ q. omega arith))
-  summary-stays i h (suc zero) e = rw (a .rows 1 i h, name-stays i h (λ q. omega arith))
-  summary-stays i h (suc (suc zero)) e = rw (a .rows 1 i h, free-stays i h, name-stays i h (λ q. omega arith))
+  summary-stays i h zero e = rw (a .rows 1 i (omega arith) h, a .rows 4 i (omega arith) h, a .rows 9 i (omega arith) h, free-stays i h, sets-stay i h, name-stays i h (λ q. omega arith))
+  summary-stays i h (suc zero) e = rw (a .rows 1 i (omega arith) h, name-stays i h (λ q. omega arith))
+  summary-stays i h (suc (suc zero)) e = rw (a .rows 1 i (omega arith) h, free-stays i h, name-stays i h (λ q. omega arith))
   summary-stays i h (suc (suc (suc zero))) e = refl
   summary-stays i h (suc (suc (suc (suc k)))) e = refl
 
   -- the root that a record is
-  root-stays : (i : ℕ) → i < records → (kind : ℕ) → record-kind recs i ≡ kind → root-at name′ recs′ out′ i kind ≡ root-at name recs out i kind
+  root-stays : (i : ℕ) → i < records → (kind : ℕ) → record-kind recs i ≡ kind → root-at name′ recs′ lists′ i kind ≡ root-at name recs lists i kind
   unfolding root-at
   root-stays i h zero e = refl
   root-stays i h (suc zero) e = refl
   root-stays i h (suc (suc zero)) e = refl
   root-stays i h (suc (suc (suc zero))) e = refl
-  root-stays i h (suc (suc (suc (suc k)))) e = rw (a .rows 1 i h, a .rows 4 i h, free-stays i h, name-stays i h (λ q. omega arith))
+  root-stays i h (suc (suc (suc (suc k)))) e = rw (a .rows 1 i (omega arith) h, a .rows 4 i (omega arith) h, free-stays i h, name-stays i h (λ q. omega arith))
 
   -- the background
-  pub decls-stay : (n : ℕ) → n ≤ records → decls-of name′ recs′ out′ n ≡ decls-of name recs out n
+  pub decls-stay : (n : ℕ) → n ≤ records → decls-of name′ recs′ lists′ n ≡ decls-of name recs lists n
   unfolding decls-of
   decls-stay zero h = refl
   decls-stay (suc n) h =
-      rw (a .rows 0 n (omega arith)) (ap₂ _++_ (decls-stay n (omega arith)) (summary-stays n (omega arith) (record-kind recs n) refl))
+      rw (a .rows 0 n (omega arith) (omega arith)) (ap₂ _++_ (decls-stay n (omega arith)) (summary-stays n (omega arith) (record-kind recs n) refl))
 
   -- the roots
-  pub roots-stay : (n : ℕ) → n ≤ records → roots-of name′ recs′ out′ n ≡ roots-of name recs out n
+  pub roots-stay : (n : ℕ) → n ≤ records → roots-of name′ recs′ lists′ n ≡ roots-of name recs lists n
   unfolding roots-of
   roots-stay zero h = refl
   roots-stay (suc n) h =
-      rw (a .rows 0 n (omega arith)) (ap₂ _++_ (roots-stay n (omega arith)) (root-stays n (omega arith) (record-kind recs n) refl))
+      rw (a .rows 0 n (omega arith) (omega arith)) (ap₂ _++_ (roots-stay n (omega arith)) (root-stays n (omega arith) (record-kind recs n) refl))
 
 -- ---- how many records there are
 
-module _ (name : ℕ → Name) (recs out : List ℕ) where
+module _ (name : ℕ → Name) (recs lists : List ℕ) where
   -- a record is one of the background or a root
-  one-each : (i kind : ℕ) → length (summary-at name recs out i kind) + length (root-at name recs out i kind) ≡ 1
+  one-each : (i kind : ℕ) → length (summary-at name recs lists i kind) + length (root-at name recs lists i kind) ≡ 1
   unfolding summary-at root-at
   one-each i zero = refl
   one-each i (suc zero) = refl
@@ -166,7 +167,7 @@ module _ (name : ℕ → Name) (recs out : List ℕ) where
   one-each i (suc (suc (suc (suc k)))) = refl
 
   -- the background and the roots are as many as the records
-  pub records-length : (n : ℕ) → length (decls-of name recs out n) + length (roots-of name recs out n) ≡ n
+  pub records-length : (n : ℕ) → length (decls-of name recs lists n) + length (roots-of name recs lists n) ≡ n
   unfolding decls-of roots-of
   records-length zero = refl
   records-length (suc n) =
@@ -174,6 +175,6 @@ module _ (name : ℕ → Name) (recs out : List ℕ) where
         arith,
         records-length n,
         one-each n (record-kind recs n),
-        length-append (decls-of name recs out n) (summary-at name recs out n (record-kind recs n)),
-        length-append (roots-of name recs out n) (root-at name recs out n (record-kind recs n)),
+        length-append (decls-of name recs lists n) (summary-at name recs lists n (record-kind recs n)),
+        length-append (roots-of name recs lists n) (root-at name recs lists n (record-kind recs n)),
       )

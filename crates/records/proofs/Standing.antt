@@ -21,11 +21,11 @@ use Rattle.records.proofs.Keeping.{filing-kept, taken-kept}
 
 -- ---- before the first line
 
-module _ (file names refs rows recs out : List ℕ) (short : length file ≤ 65535) (name-room : working-words ≤ length names)
+module _ (file names refs rows recs lists : List ℕ) (short : length file ≤ 65535) (name-room : working-words ≤ length names)
     (ref-room : working-words ≤ length refs) (row-room : working-words ≤ length rows)
-    (record-room : working-words ≤ length recs) (out-room : working-words ≤ length out) (names-zero : (i : ℕ) → i < working-words → getD names i 0 ≡ 0)
+    (record-room : working-words ≤ length recs) (lists-room : working-words ≤ length lists) (names-zero : (i : ℕ) → i < working-words → getD names i 0 ≡ 0)
     (rows-zero : (i : ℕ) → i < working-words → getD rows i 0 ≡ 0) where
-  stocked-start : Stocked file names recs out 0 0
+  stocked-start : Stocked file names recs lists 0 0
   unfolding entries-before newest
   stocked-start = record {
     filing = record {
@@ -46,12 +46,12 @@ module _ (file names refs rows recs out : List ℕ) (short : length file ≤ 655
   }
 
   -- cleared slices stand
-  pub standing-start : Standing file names refs rows recs out no-counts
+  pub standing-start : Standing file names refs rows recs lists no-counts
   standing-start = record {
     tables = record { name-table = empty-table file names name-room short; term-table = empty-rows refs rows 0 ref-room row-room (omega arith) };
     recorded = record {
       room = record-room;
-      out-room = out-room;
+      lists-room = lists-room;
       few = omega arith;
       few-entries = omega arith;
       few-uses = omega arith;
@@ -79,26 +79,26 @@ pub record Beside (file names names′ : List ℕ) (named : ℕ) : Type 0 where
   pub taken : (n : ℕ) → n < most-names → taken-at names′ n ≡ taken-at names n
   pub first : (n : ℕ) → n < most-names → first-entry names′ n ≡ first-entry names n
 
-module _ {file names refs rows recs out names′ : List ℕ} {k : Counts} (st : Standing file names refs rows recs out k)
-    (b : Beside file names names′ (k .named)) where
+module _ {file names refs rows recs lists names′ : List ℕ} {k : Counts} (st : Standing file names refs rows recs lists k)
+    (b : Beside file names names′ (k .names)) where
   -- the records stay
-  agree : Agree (name-of file names) (name-of file names′) recs out recs out (k .named) (k .records) (k .entries) (k .uses)
-  agree = record { same = b .same; rows = λ c i h. refl; out-length = refl; use-words = λ j h. refl; entry-words = λ e h. refl }
+  agree : Agree (name-of file names) (name-of file names′) recs lists recs lists (k .names) (k .records) (k .entries) (k .uses)
+  agree = record { same = b .same; rows = λ c i l h. refl; lists-length = refl; use-words = λ j h. refl; entry-words = λ e h. refl }
 
   -- so does what is filed
-  pub stocked-longer : Stocked file names′ recs out (k .records) (k .entries)
+  pub stocked-longer : Stocked file names′ recs lists (k .records) (k .entries)
   stocked-longer =
       let small : (i : ℕ) → i < k .records → record-kind recs i < retain-kind → record-name recs i < most-names =
       λ i l h. omega (arith, st .recorded .named-in i l (λ z. omega arith), st .tables .name-table .few) in
       record {
         filing = filing-kept agree (st .recorded) (st .stocked .filing) (λ e h. refl);
-        taken = taken-kept (λ c i h. refl) (st .stocked .taken) small (b .taken);
+        taken = taken-kept (λ c i l h. refl) (st .stocked .taken) small (b .taken);
         chained = chained-kept (st .stocked .chained) (b .first) (λ e l. refl) (λ e l. refl);
       }
 
   -- and the background and the roots
-  pub decls-longer : decls-of (name-of file names′) recs out (k .records) ≡ decls-of (name-of file names) recs out (k .records)
+  pub decls-longer : decls-of (name-of file names′) recs lists (k .records) ≡ decls-of (name-of file names) recs lists (k .records)
   decls-longer = decls-stay agree (st .recorded) (k .records) (omega arith)
 
-  pub roots-longer : roots-of (name-of file names′) recs out (k .records) ≡ roots-of (name-of file names) recs out (k .records)
+  pub roots-longer : roots-of (name-of file names′) recs lists (k .records) ≡ roots-of (name-of file names) recs lists (k .records)
   roots-longer = roots-stay agree (st .recorded) (k .records) (omega arith)

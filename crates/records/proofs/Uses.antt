@@ -10,7 +10,7 @@ use lib.Seq.{getD-set-same, getD-set-other}
 use Rattle.model.specs.Lists.{sum, collect, fold-left, part}
 use Rattle.model.specs.Names.{Name, from-list}
 use Rattle.model.specs.Reading.{def, root, asked, nodes, spelled, trimmed, summarize-decl, root-of, taken-by, entries-of, uses-of, add-line, repeats, most-names, most-records, most-uses}
-use Rattle.model.specs.Summaries.{free-top-level-names}
+use Rattle.model.specs.Summaries.{exclude-names, free-top-level-names}
 use Rattle.model.specs.declared.Counts.{Counts}
 use Rattle.model.specs.declared.Refusal.the-variants as refusal
 use Rattle.model.proofs.PartLaws.{part-elim}
@@ -30,42 +30,42 @@ use Rattle.model.specs.Outcome.{working-words}
 use Rattle.records.specs.Columns.{def-kind, root-kind, taken-column, taken-at}
 use Rattle.records.specs.States.{free-at, summary-at, root-at, decl-at, state-of}
 use Rattle.records.specs.Writing.{with-record, Rowed}
-use Rattle.records.specs.Adding.{excluded, Standing, Adds, Untouched}
+use Rattle.records.specs.Adding.{Standing, Adds, Untouched}
 use Rattle.records.proofs.Recording.{names-stay}
 use Rattle.records.proofs.Judging.{repeats-none, repeats-taken, repeats-free}
-use Rattle.records.proofs.Appending.{One-record, record-added, record-repeated, record-crowded, record-over}
+use Rattle.records.proofs.Appending.{excluded-here, One-record, record-added, record-repeated, record-crowded, record-over}
 use Rattle.records.proofs.Plain.{spelled-again, named-within, kept, not-taken, is-taken, plain}
 use Rattle.records.proofs.Funs.{taken-put, fresh-taken}
 
 -- the numbers of a set of names among the uses from those counted on up to n, and the slices then
-pub record Uses (file names rows out names′ rows′ out′ : List ℕ) (k : Counts) (set : List Name) (n : ℕ) : Type 0 where
-  pub is : from-list (map (name-of file names) (part out′ (k .uses) n)) ≡ set
+pub record Uses (file names rows lists names′ rows′ lists′ : List ℕ) (k : Counts) (set : List Name) (n : ℕ) : Type 0 where
+  pub is : from-list (map (name-of file names) (part lists′ (k .uses) n)) ≡ set
   pub size : n ≡ k .uses + length set
   pub fits : n ≤ most-uses
-  pub words : (j : ℕ) → k .uses ≤ j → j < n → getD out′ j 0 < k .named
+  pub words : (j : ℕ) → k .uses ≤ j → j < n → getD lists′ j 0 < k .names
   pub name-words : Same-but 8192 2048 names names′
   pub row-words : Same-but 12288 4096 rows rows′
-  pub out-words : Same-but (k .uses) (n - k .uses) out out′
+  pub lists-words : Same-but (k .uses) (n - k .uses) lists lists′
   pub fresh : Fresh names′ rows′ (k .mark + 1)
 
 -- the names of a table, and those that it says are excluded
-named-here : {file names : List ℕ} {named : ℕ} → Table file names named → Named excluded (name-of file names) names named
+named-here : {file names : List ℕ} {named : ℕ} → Table file names named → Named exclude-names (name-of file names) names named
 named-here table = record { distinct = distinct table; excluded = excluded-exact table }
 
-module _ {file names refs rows recs out names′ rows′ out′ : List ℕ} {k : Counts} (st : Standing file names refs rows recs out k) (t : ℕ) {r : Walked}
-    (gathers : (exclude : List Name) (name : ℕ → Name) → Named exclude name names (k .named) → Gathers name (k .named)
-    (free-top-level-names exclude (terms-of name refs rows (k .used) (k .many)) t) (k .uses) most-uses out′ r)
-    (slices : Gathered names rows out names′ rows′ out′ (k .mark) (k .uses) most-uses r) where
+module _ {file names refs rows recs lists names′ rows′ lists′ : List ℕ} {k : Counts} (st : Standing file names refs rows recs lists k) (t : ℕ) {r : Walked}
+    (gathers : (exclude : List Name) (name : ℕ → Name) → Named exclude name names (k .names) → Gathers name (k .names)
+    (free-top-level-names exclude (terms-of name refs rows (k .references) (k .terms)) t) (k .uses) most-uses lists′ r)
+    (slices : Gathered names rows lists names′ rows′ lists′ (k .mark) (k .uses) most-uses r) where
   -- all the names have room
-  pub gathered-uses : {n : ℕ} → r ≡ walks.Names n → Uses file names rows out names′ rows′ out′ k
-      (free-top-level-names excluded (terms-in file names refs rows (k .used) (k .many)) t) n
+  pub gathered-uses : {n : ℕ} → r ≡ walks.Names n → Uses file names rows lists names′ rows′ lists′ k
+      (free-top-level-names exclude-names (terms-in file names refs rows (k .references) (k .terms)) t) n
   unfolding terms-in ended
-  gathered-uses {n} e = go (rw e at (gathers excluded (name-of file names) (named-here (st .tables .name-table)))) (rw e at slices)
+  gathered-uses {n} e = go (rw e at (gathers exclude-names (name-of file names) (named-here (st .tables .name-table)))) (rw e at slices)
     where
-      go : Gathers (name-of file names) (k .named) (free-top-level-names excluded (terms-of (name-of file names) refs rows (k .used) (k .many)) t)
-          (k .uses) most-uses out′ (walks.Names n)
-          → Gathered names rows out names′ rows′ out′ (k .mark) (k .uses) most-uses (walks.Names n)
-          → Uses file names rows out names′ rows′ out′ k (free-top-level-names excluded (terms-of (name-of file names) refs rows (k .used) (k .many)) t) n
+      go : Gathers (name-of file names) (k .names) (free-top-level-names exclude-names (terms-of (name-of file names) refs rows (k .references) (k .terms)) t)
+          (k .uses) most-uses lists′ (walks.Names n)
+          → Gathered names rows lists names′ rows′ lists′ (k .mark) (k .uses) most-uses (walks.Names n)
+          → Uses file names rows lists names′ rows′ lists′ k (free-top-level-names exclude-names (terms-of (name-of file names) refs rows (k .references) (k .terms)) t) n
       go (all-names is count fits small) s = record {
         is = is;
         size = omega arith;
@@ -73,32 +73,32 @@ module _ {file names refs rows recs out names′ rows′ out′ : List ℕ} {k :
         words = small;
         name-words = s .names-same;
         row-words = s .rows-same;
-        out-words = s .out-same;
+        lists-words = s .lists-same;
         fresh = fresh-next (st .fresh) s;
       }
 
   -- some have none
-  pub gathered-over : r ≡ walks.Full → most-uses < k .uses + length (free-top-level-names excluded (terms-in file names refs rows (k .used) (k .many)) t)
+  pub gathered-over : r ≡ walks.Full → most-uses < k .uses + length (free-top-level-names exclude-names (terms-in file names refs rows (k .references) (k .terms)) t)
   unfolding terms-in
-  gathered-over e = go (rw e at (gathers excluded (name-of file names) (named-here (st .tables .name-table))))
+  gathered-over e = go (rw e at (gathers exclude-names (name-of file names) (named-here (st .tables .name-table))))
     where
-      go : Gathers (name-of file names) (k .named) (free-top-level-names excluded (terms-of (name-of file names) refs rows (k .used) (k .many)) t)
-          (k .uses) most-uses out′ walks.Full
-          → most-uses < k .uses + length (free-top-level-names excluded (terms-of (name-of file names) refs rows (k .used) (k .many)) t)
+      go : Gathers (name-of file names) (k .names) (free-top-level-names exclude-names (terms-of (name-of file names) refs rows (k .references) (k .terms)) t)
+          (k .uses) most-uses lists′ walks.Full
+          → most-uses < k .uses + length (free-top-level-names exclude-names (terms-of (name-of file names) refs rows (k .references) (k .terms)) t)
       go (no-room h small) = omega arith
 
   -- the words past the tables stay, also with a row written
-  pub gathered-past : {recs′ : List ℕ} → Same-but 0 working-words recs recs′ → Untouched names rows recs out names′ rows′ recs′ out′
+  pub gathered-past : {recs′ : List ℕ} → Same-but 0 working-words recs recs′ → Untouched names rows recs lists names′ rows′ recs′ lists′
   gathered-past same = record {
     name-words = same-wider 0 working-words (omega arith) (omega arith) (slices .names-same);
     row-words = same-wider 0 working-words (omega arith) (omega arith) (slices .rows-same);
     record-words = same;
-    list-words = same-wider 0 working-words (omega arith) (omega (arith, slices .grows, slices .fits)) (slices .out-same);
+    list-words = same-wider 0 working-words (omega arith) (omega (arith, slices .grows, slices .fits)) (slices .lists-same);
   }
 
 -- and with a name taken
-pub past-taken : {names rows recs out names′ rows′ recs′ out′ : List ℕ} (i v : ℕ) → i < most-names → Untouched names rows recs out names′ rows′ recs′ out′
-    → Untouched names rows recs out (set names′ (taken-column + i) v) rows′ recs′ out′
+pub past-taken : {names rows recs lists names′ rows′ recs′ lists′ : List ℕ} (i v : ℕ) → i < most-names → Untouched names rows recs lists names′ rows′ recs′ lists′
+    → Untouched names rows recs lists (set names′ (taken-column + i) v) rows′ recs′ lists′
 past-taken {names′ = names′} i v h p =
     let put = taken-put {names = names′} i v h in
     record {
@@ -112,22 +112,22 @@ past-taken {names′ = names′} i v h p =
     }
 
 -- the free names of the record after those counted
-module _ {file names refs rows recs out names′ rows′ recs′ out′ names″ : List ℕ} {k : Counts} {free : List Name} {n kind line name term flag code : ℕ}
-    (st : Standing file names refs rows recs out k) (u : Uses file names rows out names′ rows′ out′ k free n) (words : Same-but 8192 4096 names names″)
-    (row : Rowed recs recs′ k (with-record k (k .named) (k .entries) n (k .mark + 1)) kind line name term flag code) where
-  pub free-then : free-at (name-of file names″) recs′ out′ (k .records) ≡ free
+module _ {file names refs rows recs lists names′ rows′ recs′ lists′ names″ : List ℕ} {k : Counts} {free : List Name} {n kind line name term flag code : ℕ}
+    (st : Standing file names refs rows recs lists k) (u : Uses file names rows lists names′ rows′ lists′ k free n) (words : Same-but 8192 4096 names names″)
+    (row : Rowed recs recs′ k (with-record k (k .names) (k .entries) n (k .mark + 1)) kind line name term flag code) where
+  pub free-then : free-at (name-of file names″) recs′ lists′ (k .records) ≡ free
   unfolding free-at
   free-then =
-      let room : n ≤ length out′ = omega (arith, u .fits, u .out-words .same-length, st .recorded .out-room) in
-      let same : (m : ℕ) → List·Memᴰ m (part out′ (k .uses) n) → name-of file names″ m ≡ name-of file names m =
+      let room : n ≤ length lists′ = omega (arith, u .fits, u .lists-words .same-length, st .recorded .lists-room) in
+      let same : (m : ℕ) → List·Memᴰ m (part lists′ (k .uses) n) → name-of file names″ m ≡ name-of file names m =
       λ m q. let p = part-elim room q in kept st words .name m (rw (p .is) at (u .words (p .place) (p .low) (p .high))) in
-      rw (row .uses-from, row .uses-to) (ap from-list (names-stay (name-of file names″) (name-of file names) (part out′ (k .uses) n) same) ∙ u .is)
+      rw (row .uses-from, row .uses-to) (ap from-list (names-stay (name-of file names″) (name-of file names) (part lists′ (k .uses) n) same) ∙ u .is)
 
 -- ---- def
 
-module _ {file names refs rows recs out : List ℕ} {k : Counts} (st : Standing file names refs rows recs out k) (line : ℕ) {i : ℕ}
-    (known : i < k .named) {w : ℕ} (is : w ≡ taken-at names i) (t : ℕ) where
-  def-new : w ≤ 0 → repeats excluded line (state-of file names refs rows recs out k) (def (name-of file names i) t) ≡ false
+module _ {file names refs rows recs lists : List ℕ} {k : Counts} (st : Standing file names refs rows recs lists k) (line : ℕ) {i : ℕ}
+    (known : i < k .names) {w : ℕ} (is : w ≡ taken-at names i) (t : ℕ) where
+  def-new : w ≤ 0 → repeats exclude-names line (state-of file names refs rows recs lists k) (def (name-of file names i) t) ≡ false
   unfolding summarize-decl collect taken-by
   def-new h = repeats-free st line (def (name-of file names i) t) known refl (omega arith)
 
@@ -137,30 +137,31 @@ module _ {file names refs rows recs out : List ℕ} {k : Counts} (st : Standing 
   def-one = record { no-term = refl; one = refl; few-names = named-within st known }
 
   -- the name is taken
-  pub def-repeated : {names′ rows′ recs′ out′ : List ℕ} → 0 < w
-      → Adds file names refs rows recs out names′ rows′ recs′ out′ k line (def (name-of file names i) t) (step.Refused refusal.Repeated)
+  pub def-repeated : {names′ rows′ recs′ lists′ : List ℕ} → 0 < w
+      → Adds file names refs rows recs lists names′ rows′ recs′ lists′ k line (def (name-of file names i) t) (step.Refused refusal.Repeated)
   unfolding summarize-decl collect taken-by
   def-repeated h = record-repeated st line (def (name-of file names i) t) (repeats-taken st line (def (name-of file names i) t) known refl (omega arith))
 
-  module _ {names′ rows′ recs′ out′ : List ℕ} (free : w ≤ 0) where
+  module _ {names′ rows′ recs′ lists′ : List ℕ} (free : w ≤ 0) where
     -- as many records as may be
-    pub def-crowded : most-records ≤ k .records → Adds file names refs rows recs out names′ rows′ recs′ out′ k line (def (name-of file names i) t)
+    pub def-crowded : most-records ≤ k .records → Adds file names refs rows recs lists names′ rows′ recs′ lists′ k line (def (name-of file names i) t)
         (step.Refused refusal.FullRecords)
     def-crowded = record-crowded st line (def (name-of file names i) t) (def-new free) def-one
 
     -- more uses than may be
     pub def-over : k .records < most-records
-        → most-uses < k .uses + length (free-top-level-names excluded (terms-in file names refs rows (k .used) (k .many)) t)
-        → Adds file names refs rows recs out names′ rows′ recs′ out′ k line (def (name-of file names i) t)
+        → most-uses < k .uses + length (free-top-level-names exclude-names (terms-in file names refs rows (k .references) (k .terms)) t)
+        → Adds file names refs rows recs lists names′ rows′ recs′ lists′ k line (def (name-of file names i) t)
         (step.Refused refusal.FullTriggers)
     unfolding add-line state-of summarize-decl root-of uses-of sum
-    def-over few h = record-over st line (def (name-of file names i) t) (def-new free) def-one few (inr (omega arith))
+    def-over few h = record-over st line (def (name-of file names i) t) (def-new free) def-one few
+        (rw (excluded-here file names refs rows recs lists k) (inr (omega arith)))
 
     -- the record is there
-    pub def-added : {next : Counts} {n : ℕ} → k .records < most-records → next ≡ with-record k (k .named) (k .entries) n (k .mark + 1)
+    pub def-added : {next : Counts} {n : ℕ} → k .records < most-records → next ≡ with-record k (k .names) (k .entries) n (k .mark + 1)
         → Rowed recs recs′ k next def-kind line i t 0 0
-        → Uses file names rows out names′ rows′ out′ k (free-top-level-names excluded (terms-in file names refs rows (k .used) (k .many)) t) n
-        → Adds file names refs rows recs out (set names′ (taken-column + i) (k .records + 1)) rows′ recs′ out′ k line (def (name-of file names i) t)
+        → Uses file names rows lists names′ rows′ lists′ k (free-top-level-names exclude-names (terms-in file names refs rows (k .references) (k .terms)) t) n
+        → Adds file names refs rows recs lists (set names′ (taken-column + i) (k .records + 1)) rows′ recs′ lists′ k line (def (name-of file names i) t)
         (step.On next)
     unfolding asked nodes spelled trimmed summarize-decl root-of entries-of uses-of sum fold-left summary-at root-at decl-at
     def-added {next} {n} few e row u =
@@ -171,18 +172,18 @@ module _ {file names refs rows recs out : List ℕ} {k : Counts} (st : Standing 
           same-length = put .same-length ∙ marks .same-length;
           same-words = λ j h. put .same-words j (λ a b. h (omega arith) (omega arith)) ∙ marks .same-words j (λ a b. h (omega arith) (omega arith));
         } in
-        let row′ : Rowed recs recs′ k (with-record k (k .named) (k .entries) n (k .mark + 1)) def-kind line i t 0 0 = rw e at row in
+        let row′ : Rowed recs recs′ k (with-record k (k .names) (k .entries) n (k .mark + 1)) def-kind line i t 0 0 = rw e at row in
         let taken = is-taken st few row′ low (omega arith)
         (getD-set-same names′ (taken-column + i) (k .records + 1) 0 (omega (arith, st .tables .name-table .room, marks .same-length)))
         (λ m l d. getD-set-other names′ (taken-column + i) (taken-column + m) (k .records + 1) 0 (λ q. d (omega arith))
         ∙ marks .same-words (taken-column + m) (λ a b. omega arith))
         (omega arith) in
-        let more = plain st words (u .row-words) (fresh-taken put (u .fresh)) (omega arith) row′ (λ q. omega arith) (omega arith) (λ q. known) (u .out-words)
+        let more = plain st words (u .row-words) (fresh-taken put (u .fresh)) (omega arith) row′ (λ q. omega arith) (omega arith) (λ q. known) (u .lists-words)
         (omega (arith, u .size)) (u .fits) (u .words) taken in
         rw e (record-added st few more (def-new free) (record {
           no-ask = refl;
           no-term = refl;
-          spells = kept st words .names ∙ sym (spelled-again file names (k .named) i known);
+          spells = kept st words .names ∙ sym (spelled-again file names (k .names) i known);
           decls = rw (row′ .line-is, row′ .name-is, kept st words .name i known, free-then st u words row′);
           roots = refl;
           entries = omega arith;
@@ -191,11 +192,11 @@ module _ {file names refs rows recs out : List ℕ} {k : Counts} (st : Standing 
 
 -- ---- root
 
-module _ {file names refs rows recs out : List ℕ} {k : Counts} (st : Standing file names refs rows recs out k) (line query : ℕ) {i : ℕ} (known : i < k .named)
+module _ {file names refs rows recs lists : List ℕ} {k : Counts} (st : Standing file names refs rows recs lists k) (line query : ℕ) {i : ℕ} (known : i < k .names)
     (t : ℕ) where
-  root-new : repeats excluded line (state-of file names refs rows recs out k) (root query (name-of file names i) t) ≡ false
+  root-new : repeats exclude-names line (state-of file names refs rows recs lists k) (root query (name-of file names i) t) ≡ false
   unfolding state-of summarize-decl collect taken-by
-  root-new = repeats-none line (state-of file names refs rows recs out k) (root query (name-of file names i) t) refl
+  root-new = repeats-none line (state-of file names refs rows recs lists k) (root query (name-of file names i) t) refl
 
   -- the line is one record
   root-one : One-record file names refs rows k line (root query (name-of file names i) t)
@@ -203,36 +204,37 @@ module _ {file names refs rows recs out : List ℕ} {k : Counts} (st : Standing 
   root-one = record { no-term = refl; one = refl; few-names = named-within st known }
 
   -- as many records as may be
-  pub root-crowded : {names′ rows′ recs′ out′ : List ℕ} → most-records ≤ k .records
-      → Adds file names refs rows recs out names′ rows′ recs′ out′ k line (root query (name-of file names i) t)
+  pub root-crowded : {names′ rows′ recs′ lists′ : List ℕ} → most-records ≤ k .records
+      → Adds file names refs rows recs lists names′ rows′ recs′ lists′ k line (root query (name-of file names i) t)
       (step.Refused refusal.FullRecords)
   root-crowded = record-crowded st line (root query (name-of file names i) t) root-new root-one
 
   -- more uses than may be
-  pub root-over : {names′ rows′ recs′ out′ : List ℕ} → k .records < most-records → most-uses < k .uses
-      + length (free-top-level-names excluded (terms-in file names refs rows (k .used) (k .many)) t)
-      → Adds file names refs rows recs out names′ rows′ recs′ out′ k line (root query (name-of file names i) t)
+  pub root-over : {names′ rows′ recs′ lists′ : List ℕ} → k .records < most-records → most-uses < k .uses
+      + length (free-top-level-names exclude-names (terms-in file names refs rows (k .references) (k .terms)) t)
+      → Adds file names refs rows recs lists names′ rows′ recs′ lists′ k line (root query (name-of file names i) t)
       (step.Refused refusal.FullTriggers)
   unfolding add-line state-of summarize-decl root-of uses-of sum
-  root-over few h = record-over st line (root query (name-of file names i) t) root-new root-one few (inr (omega arith))
+  root-over few h = record-over st line (root query (name-of file names i) t) root-new root-one few
+      (rw (excluded-here file names refs rows recs lists k) (inr (omega arith)))
 
   -- the record is there
-  pub root-added : {names′ rows′ recs′ out′ : List ℕ} {next : Counts} {n : ℕ} → k .records < most-records
-      → next ≡ with-record k (k .named) (k .entries) n (k .mark + 1)
+  pub root-added : {names′ rows′ recs′ lists′ : List ℕ} {next : Counts} {n : ℕ} → k .records < most-records
+      → next ≡ with-record k (k .names) (k .entries) n (k .mark + 1)
       → Rowed recs recs′ k next root-kind line i t query 0
-      → Uses file names rows out names′ rows′ out′ k (free-top-level-names excluded (terms-in file names refs rows (k .used) (k .many)) t) n
-      → Adds file names refs rows recs out names′ rows′ recs′ out′ k line (root query (name-of file names i) t) (step.On next)
+      → Uses file names rows lists names′ rows′ lists′ k (free-top-level-names exclude-names (terms-in file names refs rows (k .references) (k .terms)) t) n
+      → Adds file names refs rows recs lists names′ rows′ recs′ lists′ k line (root query (name-of file names i) t) (step.On next)
   unfolding asked nodes spelled trimmed summarize-decl root-of entries-of uses-of sum fold-left summary-at root-at
   root-added {names′} {recs′ = recs′} {next = next} {n} few e row u =
       let words : Same-but 8192 4096 names names′ = same-wider 8192 4096 (omega arith) (omega arith) (u .name-words) in
-      let row′ : Rowed recs recs′ k (with-record k (k .named) (k .entries) n (k .mark + 1)) root-kind line i t query 0 = rw e at row in
+      let row′ : Rowed recs recs′ k (with-record k (k .names) (k .entries) n (k .mark + 1)) root-kind line i t query 0 = rw e at row in
       let taken = not-taken st few row′ (λ m l. u .name-words .same-words (taken-column + m) (λ a b. omega arith)) (omega arith) in
-      let more = plain st words (u .row-words) (u .fresh) (omega arith) row′ (λ q. omega arith) (omega arith) (λ q. known) (u .out-words)
+      let more = plain st words (u .row-words) (u .fresh) (omega arith) row′ (λ q. omega arith) (omega arith) (λ q. known) (u .lists-words)
       (omega (arith, u .size)) (u .fits) (u .words) taken in
       rw e (record-added st few more root-new (record {
         no-ask = refl;
         no-term = refl;
-        spells = kept st words .names ∙ sym (spelled-again file names (k .named) i known);
+        spells = kept st words .names ∙ sym (spelled-again file names (k .names) i known);
         decls = refl;
         roots = rw (row′ .line-is, row′ .name-is, row′ .flag-is, kept st words .name i known, free-then st u words row′);
         entries = omega arith;

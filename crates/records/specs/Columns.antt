@@ -7,7 +7,7 @@ use Rattle.model.specs.declared.AsumKind.{AsumKind}
 use Rattle.model.specs.declared.AsumKind.the-variants.{Drop, Ambient, Triggers}
 use Rattle.triggers.specs.Entries.{entries-base, last-flag}
 
--- ---- the records slice, 16 columns of 1,024 by the record's number
+-- ---- the records slice, columns of 1,024 by the record's number
 
 abbrev pub kind-column : ℕ
 kind-column = 0
@@ -83,6 +83,30 @@ entries-end recs i = record-word recs entries-end-column i
 abbrev pub summary-code : List ℕ → ℕ → ℕ
 summary-code recs i = record-word recs summary-column i
 
+-- ---- the same slice, behind the records: 16 words each by the position of an ask
+
+abbrev pub ask-query-column : ℕ
+ask-query-column = 11264
+
+abbrev pub ask-options-column : ℕ
+ask-options-column = 11280
+
+-- the positions that have room
+abbrev pub ask-room : ℕ
+ask-room = 16
+
+-- the words of the asks
+abbrev pub ask-columns : ℕ
+ask-columns = 32
+
+-- the query of an ask
+abbrev pub ask-query : List ℕ → ℕ → ℕ
+ask-query recs i = getD recs (ask-query-column + i) 0
+
+-- its options number
+abbrev pub ask-options : List ℕ → ℕ → ℕ
+ask-options recs i = getD recs (ask-options-column + i) 0
+
 -- the kinds of records
 abbrev pub assume-kind : ℕ
 assume-kind = 0
@@ -123,19 +147,19 @@ next-column = 10240
 
 -- the word of an entry
 abbrev pub entry-word : List ℕ → ℕ → ℕ
-entry-word out e = getD out (entries-base + e) 0
+entry-word lists e = getD lists (entries-base + e) 0
 
 -- the number of the name of an entry, or that of no name
 abbrev pub entry-name : List ℕ → ℕ → ℕ
-entry-name out e = entry-word out e % last-flag
+entry-name lists e = entry-word lists e % last-flag
 
 -- the record of the fact of an entry
 abbrev pub entry-fact : List ℕ → ℕ → ℕ
-entry-fact out e = getD out (fact-column + e) 0
+entry-fact lists e = getD lists (fact-column + e) 0
 
 -- the next older entry on the same name and one, or 0
 abbrev pub next-entry : List ℕ → ℕ → ℕ
-next-entry out e = getD out (next-column + e) 0
+next-entry lists e = getD lists (next-column + e) 0
 
 -- ---- the names slice, columns of 2,048 by the name's number
 

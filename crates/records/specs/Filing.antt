@@ -17,9 +17,9 @@ use Rattle.records.specs.States.{entries-at}
 
 -- the record table: each row has its kind, its name (a retain has none) and its two lists, and the words in use are numbers of
 -- names
-pub record Records (recs out : List ℕ) (named records filed uses : ℕ) : Type 0 where
+pub record Records (recs lists : List ℕ) (named records filed uses : ℕ) : Type 0 where
   pub room : working-words ≤ length recs
-  pub out-room : working-words ≤ length out
+  pub lists-room : working-words ≤ length lists
   pub few : records ≤ most-records
   pub few-entries : filed ≤ most-entries
   pub few-uses : uses ≤ most-uses
@@ -28,8 +28,8 @@ pub record Records (recs out : List ℕ) (named records filed uses : ℕ) : Type
   pub rising : (i : ℕ) → i < records → uses-start recs i ≤ uses-end recs i
   pub uses-in : (i : ℕ) → i < records → uses-end recs i ≤ uses
   pub entries-in : (i : ℕ) → i < records → entries-end recs i ≤ filed
-  pub use-words : (j : ℕ) → j < uses → getD out j 0 < named
-  pub entry-words : (e : ℕ) → e < filed → (entry-name out e < named) ⊎ (entry-name out e ≡ no-name)
+  pub use-words : (j : ℕ) → j < uses → getD lists j 0 < named
+  pub entry-words : (e : ℕ) → e < filed → (entry-name lists e < named) ⊎ (entry-name lists e ≡ no-name)
 
 -- one more than the last number below e of which f is n, 0 where there is none
 unfoldable pub newest : (ℕ → ℕ) → ℕ → ℕ → ℕ
@@ -37,9 +37,9 @@ newest f n zero = 0
 newest f n (suc e) = let older = newest f n e in cond (eqb (f e) n) (suc e) older
 
 -- the filed entries stand on the chains of their names, newest first; that of an empty disjunct on none
-pub record Chained (names out : List ℕ) (filed : ℕ) : Type 0 where
-  pub first : (n : ℕ) → n < most-names → first-entry names n ≡ newest (entry-name out) n filed
-  pub next : (e : ℕ) → e < filed → entry-name out e < no-name → next-entry out e ≡ newest (entry-name out) (entry-name out e) e
+pub record Chained (names lists : List ℕ) (filed : ℕ) : Type 0 where
+  pub first : (n : ℕ) → n < most-names → first-entry names n ≡ newest (entry-name lists) n filed
+  pub next : (e : ℕ) → e < filed → entry-name lists e < no-name → next-entry lists e ≡ newest (entry-name lists) (entry-name lists e) e
 
 -- where the entries of the records before the n-th end
 unfoldable pub entries-before : List ℕ → ℕ → ℕ
@@ -47,15 +47,15 @@ entries-before recs zero = 0
 entries-before recs (suc n) = entries-end recs n
 
 -- the entries of the records follow each other, as many as their disjuncts take; only facts have some, and each says its fact
-pub record Filing (name : ℕ → Name) (recs out : List ℕ) (records filed : ℕ) : Type 0 where
+pub record Filing (name : ℕ → Name) (recs lists : List ℕ) (records filed : ℕ) : Type 0 where
   pub starts : (i : ℕ) → i < records → entries-start recs i ≡ entries-before recs i
   pub whole : entries-before recs records ≡ filed
-  pub sized : (i : ℕ) → i < records → entries-end recs i ≡ entries-start recs i + entries (disjuncts-of name (entries-at recs out i))
+  pub sized : (i : ℕ) → i < records → entries-end recs i ≡ entries-start recs i + entries (disjuncts-of name (entries-at recs lists i))
   pub only-facts : (i : ℕ) → i < records → (record-kind recs i ≡ assume-kind → ⊥) → entries-end recs i ≡ entries-start recs i
-  pub facts : (i e : ℕ) → i < records → entries-start recs i ≤ e → e < entries-end recs i → entry-fact out e ≡ i
+  pub facts : (i e : ℕ) → i < records → entries-start recs i ≤ e → e < entries-end recs i → entry-fact lists e ≡ i
   -- an entry is a name's number or none, and the last of a record ends its disjunct
-  pub flagged : (e : ℕ) → e < filed → entry-word out e < last-flag + last-flag
-  pub ended : (i : ℕ) → i < records → entries-start recs i < entries-end recs i → last-flag ≤ entry-word out (entries-end recs i - 1)
+  pub flagged : (e : ℕ) → e < filed → entry-word lists e < last-flag + last-flag
+  pub ended : (i : ℕ) → i < records → entries-start recs i < entries-end recs i → last-flag ≤ entry-word lists (entries-end recs i - 1)
 
 -- the taken column says which assume, fun or def took a name
 pub record Taken (names recs : List ℕ) (records : ℕ) : Type 0 where
@@ -64,7 +64,7 @@ pub record Taken (names recs : List ℕ) (records : ℕ) : Type 0 where
   pub takes : (n i : ℕ) → n < most-names → taken-at names n ≡ i + 1 → (record-kind recs i < retain-kind) × (record-name recs i ≡ n)
 
 -- what filing keeps beside the record table
-pub record Stocked (file names recs out : List ℕ) (records filed : ℕ) : Type 0 where
-  pub filing : Filing (name-of file names) recs out records filed
+pub record Stocked (file names recs lists : List ℕ) (records filed : ℕ) : Type 0 where
+  pub filing : Filing (name-of file names) recs lists records filed
   pub taken : Taken names recs records
-  pub chained : Chained names out filed
+  pub chained : Chained names lists filed

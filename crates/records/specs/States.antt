@@ -1,4 +1,4 @@
--- The tables as the state of `model`: the background, the roots and the counts.
+-- The tables as the state of `model`: the asks, the background, the roots and the counts.
 use Prim.Native.Nat.{ℕ, zero, suc, _+_}
 use mathlib.Core.List.{List, [], _∷_, _++_, map}
 use lib.Dec.{eqb}
@@ -7,24 +7,24 @@ use Rattle.model.specs.Names.{Name, from-list}
 use Rattle.model.specs.Summaries.{Fact}
 use Rattle.model.specs.Reading.{Decl, Summary, Sum-assume, Sum-definefun, Sum-declfun, Sum-retain, Root, Ask, State}
 use Rattle.model.specs.declared.Counts.{Counts}
-use Rattle.names.specs.Table.{name-of, names-of}
+use Rattle.names.specs.Table.{name-of, table-names}
 use Rattle.rules.specs.Views.{terms-in}
 use Rattle.triggers.specs.Entries.{disjuncts-of, entries-base}
 use Rattle.options.specs.OptionsOf.{asks}
-use Rattle.records.specs.Columns.{record-kind, record-line, record-name, record-flag, uses-start, uses-end, entries-start, entries-end, summary-code, kind-of-code}
+use Rattle.records.specs.Columns.{record-kind, record-line, record-name, record-flag, uses-start, uses-end, entries-start, entries-end, summary-code, kind-of-code, ask-query, ask-options}
 
 -- the numbers of the free names of a record
 abbrev pub uses-at : List ℕ → List ℕ → ℕ → List ℕ
-uses-at recs out i = part out (uses-start recs i) (uses-end recs i)
+uses-at recs lists i = part lists (uses-start recs i) (uses-end recs i)
 
 -- the words of the trigger entries of a record
 abbrev pub entries-at : List ℕ → List ℕ → ℕ → List ℕ
-entries-at recs out i = part out (entries-base + entries-start recs i) (entries-base + entries-end recs i)
+entries-at recs lists i = part lists (entries-base + entries-start recs i) (entries-base + entries-end recs i)
 
-module _ (name : ℕ → Name) (recs out : List ℕ) (i : ℕ) where
+module _ (name : ℕ → Name) (recs lists : List ℕ) (i : ℕ) where
   -- the free names of a record
   unfoldable pub free-at : List Name
-  free-at = from-list (map name (uses-at recs out i))
+  free-at = from-list (map name (uses-at recs lists i))
 
   -- the fact that a record is
   unfoldable pub fact-at : Fact
@@ -34,7 +34,7 @@ module _ (name : ℕ → Name) (recs out : List ℕ) (i : ℕ) where
     free-names = free-at;
     pretyping = eqb (record-flag recs i) 1;
     kind = kind-of-code (summary-code recs i);
-    triggers = disjuncts-of name (entries-at recs out i);
+    triggers = disjuncts-of name (entries-at recs lists i);
   }
 
   -- the definition or declaration that a record is
@@ -58,31 +58,33 @@ module _ (name : ℕ → Name) (recs out : List ℕ) (i : ℕ) where
   root-at (suc (suc (suc (suc k)))) =
       record { line = record-line recs i; query = record-flag recs i; name = name (record-name recs i); free-names = free-at } ∷ []
 
-module _ (name : ℕ → Name) (recs out : List ℕ) where
+module _ (name : ℕ → Name) (recs lists : List ℕ) where
   -- the background of the records before the n-th
   unfoldable pub decls-of : ℕ → List Summary
   decls-of zero = []
-  decls-of (suc n) = decls-of n ++ summary-at name recs out n (record-kind recs n)
+  decls-of (suc n) = decls-of n ++ summary-at name recs lists n (record-kind recs n)
 
   -- the roots among them
   unfoldable pub roots-of : ℕ → List Root
   roots-of zero = []
-  roots-of (suc n) = roots-of n ++ root-at name recs out n (record-kind recs n)
+  roots-of (suc n) = roots-of n ++ root-at name recs lists n (record-kind recs n)
 
--- the ask that was read
-abbrev pub ask-of : Counts → Ask
-ask-of k = asks (k .query) (k .options)
+-- the asks before the n-th position
+unfoldable pub asks-of : List ℕ → ℕ → List Ask
+asks-of recs zero = []
+asks-of recs (suc n) = asks-of recs n ++ (asks (ask-query recs n) (ask-options recs n) ∷ [])
 
 -- the tables as the state of `model`
 unfoldable pub state-of : List ℕ → List ℕ → List ℕ → List ℕ → List ℕ → List ℕ → Counts → State
-state-of file names refs rows recs out k =
+state-of file names refs rows recs lists k =
     record {
-      goal = ask-of k;
-      terms = terms-in file names refs rows (k .used) (k .many);
-      names = names-of file names (k .named);
-      decls = decls-of (name-of file names) recs out (k .records);
-      roots = roots-of (name-of file names) recs out (k .records);
-      references = k .used;
+      asks = asks-of recs (k .asks);
+      hidden = [];
+      terms = terms-in file names refs rows (k .references) (k .terms);
+      names = table-names file names (k .names);
+      decls = decls-of (name-of file names) recs lists (k .records);
+      roots = roots-of (name-of file names) recs lists (k .records);
+      references = k .references;
       entries = k .entries;
       uses = k .uses;
     }

@@ -5,7 +5,8 @@ use mathlib.Core.List.{List, [], _∷_}
 use lib.ListN.{length, getD, set}
 use Rattle.model.specs.Reading.{most-records}
 use Rattle.model.specs.declared.Counts.{Counts}
-use Rattle.records.specs.Columns.{record-word, record-kind, record-line, record-name, record-term, record-flag, uses-start, uses-end, entries-start, entries-end, summary-code}
+use Rattle.records.specs.Columns.{record-word, record-kind, record-line, record-name, record-term, record-flag, uses-start, uses-end, entries-start, entries-end, summary-code, ask-query-column, ask-columns, ask-query, ask-options}
+use Rattle.words.specs.Slices.{Same-but}
 
 -- words into the columns of a record's row, from the c-th column on
 unfoldable pub put-row : List ℕ → ℕ → ℕ → List ℕ → List ℕ
@@ -15,34 +16,39 @@ put-row recs i c (v ∷ vs) = put-row (set recs (c * most-records + i) v) i (c +
 -- the counts with a record more: how many names, entries and uses there are then, and the next mark
 abbrev pub with-record : Counts → ℕ → ℕ → ℕ → ℕ → Counts
 with-record k named entries uses mark = record {
-  named = named;
-  used = k .used;
-  many = k .many;
+  asks = k .asks;
+  names = named;
+  references = k .references;
+  terms = k .terms;
   records = k .records + 1;
   entries = entries;
   uses = uses;
   mark = mark;
-  query = k .query;
-  options = k .options;
 }
 
 -- the counts before the first line; the first mark is 1, since a cleared slice has marks 0
 abbrev pub no-counts : Counts
-no-counts = record { named = 0; used = 0; many = 0; records = 0; entries = 0; uses = 0; mark = 1; query = 0; options = 0 }
+no-counts = record { asks = 0; names = 0; references = 0; terms = 0; records = 0; entries = 0; uses = 0; mark = 1 }
 
--- the counts with the ask
-abbrev pub with-ask : Counts → ℕ → ℕ → Counts
-with-ask k query options = record {
-  named = k .named;
-  used = k .used;
-  many = k .many;
+-- the counts with an ask more
+abbrev pub with-ask : Counts → Counts
+with-ask k = record {
+  asks = k .asks + 1;
+  names = k .names;
+  references = k .references;
+  terms = k .terms;
   records = k .records;
   entries = k .entries;
   uses = k .uses;
   mark = k .mark;
-  query = query;
-  options = options;
 }
+
+-- the ask after those counted written, and no other word
+pub record Asked-at (recs recs′ : List ℕ) (k : Counts) (query options : ℕ) : Type 0 where
+  pub same : Same-but ask-query-column ask-columns recs recs′
+  pub others : (i : ℕ) → i < k .asks → (ask-query recs′ i ≡ ask-query recs i) × (ask-options recs′ i ≡ ask-options recs i)
+  pub query-is : ask-query recs′ (k .asks) ≡ query
+  pub options-is : ask-options recs′ (k .asks) ≡ options
 
 -- numbers that fit a word
 pub record Small (k k′ : Counts) (kind line name term flag code : ℕ) : Type 0 where

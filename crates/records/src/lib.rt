@@ -1,4 +1,5 @@
 use gather::Walked;
+use model::Asked;
 use model::Counts;
 use model::Refusal;
 use model::Step;
@@ -9,7 +10,8 @@ ghost use lib.ListN.{length};
 ghost use Rattle.model.specs.Reading.{fun, def, retain, root, most-names, most-records};
 ghost use Rattle.model.specs.Outcome.{working-words};
 ghost use Rattle.names.specs.Table.{name-of};
-ghost use Rattle.records.specs.Writing.{put-row, with-record, Small, Rowed};
+ghost use Rattle.records.specs.Columns.{ask-room, ask-query, ask-options};
+ghost use Rattle.records.specs.Writing.{put-row, with-record, Small, Rowed, with-ask, Asked-at};
 ghost use Rattle.records.specs.Adding.{Standing, Adds, Untouched};
 
 // The columns of the records slice, by the record's number.
@@ -32,6 +34,11 @@ pub const ENTRIES_START: usize = 7168;
 pub const ENTRIES_END: usize = 8192;
 
 pub const SUMMARY: usize = 9216;
+
+// Behind the records, by the position of an ask: its query, its options.
+pub const ASK_QUERY: usize = 11264;
+
+pub const ASK_OPTIONS: usize = 11280;
 
 // The codes of a fact's kind; their number is added to that of triggers.
 pub const DROP: usize = 0;
@@ -82,17 +89,13 @@ pub fn with_record(k: Counts, named: usize, entries: usize, uses: usize, mark: u
     requires { ⌜ k .records < most-records ⌝ }
     ensures { λ r. ⌜ r ≡ with-record k named entries uses mark ⌝ }
 {
-    Counts {
-        named,
-        used: k.used,
-        many: k.many,
-        records: k.records + 1,
-        entries,
-        uses,
-        mark,
-        query: k.query,
-        options: k.options,
-    }
+    let mut next = k;
+    next.names = named;
+    next.records = k.records + 1;
+    next.entries = entries;
+    next.uses = uses;
+    next.mark = mark;
+    next
 }
 
 // Writes the row of the record after those counted: its free names and entries are those from the counts `k` on up to `next`.
@@ -126,6 +129,31 @@ pub fn put_record(
     put_row(recs, k.records, &row);
 }
 
+// Adds an ask, by its query and its options number.
+pub fn add_ask(recs: &mut [u32], k: Counts, query: u32, options: u32) -> Counts
+    requires { ⌜ (k .asks < ask-room) × (working-words ≤ length (now recs)) ⌝ }
+    ensures counts { λ r. ⌜ r ≡ with-ask k ⌝ }
+    ensures ask { λ r. ⌜ Asked-at (now (recs .entry)) (now (recs .exit)) k query options ⌝ }
+{
+    let i = k.asks;
+    recs[ASK_QUERY + i] = query;
+    recs[ASK_OPTIONS + i] = options;
+    let mut next = k;
+    next.asks = i + 1;
+    next
+}
+
+// The ask at a position.
+pub fn ask_at(recs: &[u32], i: usize) -> Asked
+    requires { ⌜ (i < ask-room) × (working-words ≤ length (now recs)) ⌝ }
+    ensures { λ r. ⌜ r ≡ record { query = ask-query (now (recs .entry)) i; options = ask-options (now (recs .entry)) i } ⌝ }
+{
+    Asked {
+        query: words::at(recs, ASK_QUERY + i),
+        options: words::at(recs, ASK_OPTIONS + i),
+    }
+}
+
 // Adds a `retain` record.
 pub fn add_retain(
     file: &[u8],
@@ -133,25 +161,25 @@ pub fn add_retain(
     refs: &[u32],
     rows: &[u32],
     recs: &mut [u32],
-    out: &[u32],
+    lists: &[u32],
     k: Counts,
     line: usize,
 ) -> Step
-    requires { ⌜ (k .named ≤ most-names → Standing (now file) (now names) (now refs) (now rows) (now recs) (now out) k)
+    requires { ⌜ (k .names ≤ most-names → Standing (now file) (now names) (now refs) (now rows) (now recs) (now lists) k)
         × (line < 4294967296) ⌝ }
     ensures record { λ r. ⌜ Adds (now (file .entry)) (now (names .entry)) (now (refs .entry)) (now (rows .entry))
-        (now (recs .entry)) (now (out .entry)) (now (names .entry)) (now (rows .entry)) (now (recs .exit)) (now (out .entry)) k
+        (now (recs .entry)) (now (lists .entry)) (now (names .entry)) (now (rows .entry)) (now (recs .exit)) (now (lists .entry)) k
         line (retain []) r ⌝ }
-    ensures past { λ r. ⌜ Untouched (now (names .entry)) (now (rows .entry)) (now (recs .entry)) (now (out .entry))
-        (now (names .entry)) (now (rows .entry)) (now (recs .exit)) (now (out .entry)) ⌝ }
+    ensures past { λ r. ⌜ Untouched (now (names .entry)) (now (rows .entry)) (now (recs .entry)) (now (lists .entry))
+        (now (names .entry)) (now (rows .entry)) (now (recs .exit)) (now (lists .entry)) ⌝ }
 {
-    if model::MOST_NAMES < k.named {
+    if model::MOST_NAMES < k.names {
         return Step::Refused(Refusal::FullNames);
     }
     if model::MOST_RECORDS <= k.records {
         return Step::Refused(Refusal::FullRecords);
     }
-    let next = with_record(k, k.named, k.entries, k.uses, k.mark);
+    let next = with_record(k, k.names, k.entries, k.uses, k.mark);
     put_record(recs, k, next, RETAIN, line, 0, 0, 0, 0);
     Step::On(next)
 }
@@ -163,20 +191,20 @@ pub fn add_fun(
     refs: &[u32],
     rows: &[u32],
     recs: &mut [u32],
-    out: &[u32],
+    lists: &[u32],
     k: Counts,
     line: usize,
     i: usize,
 ) -> Step
-    requires { ⌜ (k .named ≤ most-names → Standing (now file) (now names) (now refs) (now rows) (now recs) (now out) k
-        × (i < k .named)) × (line < 4294967296) ⌝ }
+    requires { ⌜ (k .names ≤ most-names → Standing (now file) (now names) (now refs) (now rows) (now recs) (now lists) k
+        × (i < k .names)) × (line < 4294967296) ⌝ }
     ensures record { λ r. ⌜ Adds (now (file .entry)) (now (names .entry)) (now (refs .entry)) (now (rows .entry))
-        (now (recs .entry)) (now (out .entry)) (now (names .exit)) (now (rows .entry)) (now (recs .exit)) (now (out .entry)) k
+        (now (recs .entry)) (now (lists .entry)) (now (names .exit)) (now (rows .entry)) (now (recs .exit)) (now (lists .entry)) k
         line (fun (name-of (now (file .entry)) (now (names .entry)) i)) r ⌝ }
-    ensures past { λ r. ⌜ Untouched (now (names .entry)) (now (rows .entry)) (now (recs .entry)) (now (out .entry))
-        (now (names .exit)) (now (rows .entry)) (now (recs .exit)) (now (out .entry)) ⌝ }
+    ensures past { λ r. ⌜ Untouched (now (names .entry)) (now (rows .entry)) (now (recs .entry)) (now (lists .entry))
+        (now (names .exit)) (now (rows .entry)) (now (recs .exit)) (now (lists .entry)) ⌝ }
 {
-    if model::MOST_NAMES < k.named {
+    if model::MOST_NAMES < k.names {
         return Step::Refused(Refusal::FullNames);
     }
     if 0 < words::at(names, TAKEN + i) {
@@ -186,7 +214,7 @@ pub fn add_fun(
         return Step::Refused(Refusal::FullRecords);
     }
     names[TAKEN + i] = (k.records + 1) as u32;
-    let next = with_record(k, k.named, k.entries, k.uses, k.mark);
+    let next = with_record(k, k.names, k.entries, k.uses, k.mark);
     put_record(recs, k, next, FUN, line, i, 0, 0, 0);
     Step::On(next)
 }
@@ -198,21 +226,21 @@ pub fn add_def(
     refs: &[u32],
     rows: &mut [u32],
     recs: &mut [u32],
-    out: &mut [u32],
+    lists: &mut [u32],
     k: Counts,
     line: usize,
     i: usize,
     t: usize,
 ) -> Step
-    requires { ⌜ (k .named ≤ most-names → Standing (now file) (now names) (now refs) (now rows) (now recs) (now out) k
-        × (i < k .named)) × (t < k .many) × (line < 4294967296) ⌝ }
+    requires { ⌜ (k .names ≤ most-names → Standing (now file) (now names) (now refs) (now rows) (now recs) (now lists) k
+        × (i < k .names)) × (t < k .terms) × (line < 4294967296) ⌝ }
     ensures record { λ r. ⌜ Adds (now (file .entry)) (now (names .entry)) (now (refs .entry)) (now (rows .entry))
-        (now (recs .entry)) (now (out .entry)) (now (names .exit)) (now (rows .exit)) (now (recs .exit)) (now (out .exit)) k
+        (now (recs .entry)) (now (lists .entry)) (now (names .exit)) (now (rows .exit)) (now (recs .exit)) (now (lists .exit)) k
         line (def (name-of (now (file .entry)) (now (names .entry)) i) t) r ⌝ }
-    ensures past { λ r. ⌜ Untouched (now (names .entry)) (now (rows .entry)) (now (recs .entry)) (now (out .entry))
-        (now (names .exit)) (now (rows .exit)) (now (recs .exit)) (now (out .exit)) ⌝ }
+    ensures past { λ r. ⌜ Untouched (now (names .entry)) (now (rows .entry)) (now (recs .entry)) (now (lists .entry))
+        (now (names .exit)) (now (rows .exit)) (now (recs .exit)) (now (lists .exit)) ⌝ }
 {
-    if model::MOST_NAMES < k.named {
+    if model::MOST_NAMES < k.names {
         return Step::Refused(Refusal::FullNames);
     }
     if 0 < words::at(names, TAKEN + i) {
@@ -226,10 +254,10 @@ pub fn add_def(
         names,
         refs,
         rows,
-        out,
-        k.named,
-        k.used,
-        k.many,
+        lists,
+        k.names,
+        k.references,
+        k.terms,
         t,
         mark,
         k.uses,
@@ -238,7 +266,7 @@ pub fn add_def(
         return Step::Refused(Refusal::FullTriggers);
     };
     names[TAKEN + i] = (k.records + 1) as u32;
-    let next = with_record(k, k.named, k.entries, uses, k.mark + 1);
+    let next = with_record(k, k.names, k.entries, uses, k.mark + 1);
     put_record(recs, k, next, DEF, line, i, t, 0, 0);
     Step::On(next)
 }
@@ -250,22 +278,22 @@ pub fn add_root(
     refs: &[u32],
     rows: &mut [u32],
     recs: &mut [u32],
-    out: &mut [u32],
+    lists: &mut [u32],
     k: Counts,
     line: usize,
     query: usize,
     i: usize,
     t: usize,
 ) -> Step
-    requires { ⌜ (k .named ≤ most-names → Standing (now file) (now names) (now refs) (now rows) (now recs) (now out) k
-        × (i < k .named)) × (t < k .many) × (line < 4294967296) × (query < 256) ⌝ }
+    requires { ⌜ (k .names ≤ most-names → Standing (now file) (now names) (now refs) (now rows) (now recs) (now lists) k
+        × (i < k .names)) × (t < k .terms) × (line < 4294967296) × (query < 256) ⌝ }
     ensures record { λ r. ⌜ Adds (now (file .entry)) (now (names .entry)) (now (refs .entry)) (now (rows .entry))
-        (now (recs .entry)) (now (out .entry)) (now (names .exit)) (now (rows .exit)) (now (recs .exit)) (now (out .exit)) k
+        (now (recs .entry)) (now (lists .entry)) (now (names .exit)) (now (rows .exit)) (now (recs .exit)) (now (lists .exit)) k
         line (root query (name-of (now (file .entry)) (now (names .entry)) i) t) r ⌝ }
-    ensures past { λ r. ⌜ Untouched (now (names .entry)) (now (rows .entry)) (now (recs .entry)) (now (out .entry))
-        (now (names .exit)) (now (rows .exit)) (now (recs .exit)) (now (out .exit)) ⌝ }
+    ensures past { λ r. ⌜ Untouched (now (names .entry)) (now (rows .entry)) (now (recs .entry)) (now (lists .entry))
+        (now (names .exit)) (now (rows .exit)) (now (recs .exit)) (now (lists .exit)) ⌝ }
 {
-    if model::MOST_NAMES < k.named {
+    if model::MOST_NAMES < k.names {
         return Step::Refused(Refusal::FullNames);
     }
     if model::MOST_RECORDS <= k.records {
@@ -276,10 +304,10 @@ pub fn add_root(
         names,
         refs,
         rows,
-        out,
-        k.named,
-        k.used,
-        k.many,
+        lists,
+        k.names,
+        k.references,
+        k.terms,
         t,
         mark,
         k.uses,
@@ -287,7 +315,7 @@ pub fn add_root(
     ) else {
         return Step::Refused(Refusal::FullTriggers);
     };
-    let next = with_record(k, k.named, k.entries, uses, k.mark + 1);
+    let next = with_record(k, k.names, k.entries, uses, k.mark + 1);
     put_record(recs, k, next, ROOT, line, i, t, query, 0);
     Step::On(next)
 }

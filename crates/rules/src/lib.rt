@@ -283,10 +283,10 @@ fn token(
     ensures within { λ r. ⌜ Within named many r ⌝ }
 {
     let kind = terms::kind(rows, t);
-    if kind == 0 {
+    if kind == terms::FREE {
         return Choice::Token(terms::head(rows, t));
     }
-    if kind != 2 {
+    if kind != terms::CALL {
         return Choice::Nothing;
     }
     if count(rows, used, many, t) != 0 {

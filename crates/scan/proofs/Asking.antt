@@ -5,34 +5,38 @@ use mathlib.Core.Path.{_≡_, refl, sym, ap, _∙_, subst}
 use mathlib.Core.Bool.{Bool, true, false, cond, not, _&&_}
 use mathlib.Core.Logic.{_⊎_, inl, inr, ⊎-elim}
 use mathlib.Core.List.{List, [], map, List·Memᴰ, List·Memᴰ·not-nil, List·Memᴰ·append-cases, Memᴰ·append-left, Memᴰ·append-right}
-use lib.ListN.{length}
-use lib.Dec.{T, eqb, eqb→eq, ltb→lt, lt→ltb}
+use lib.ListN.{length, getD}
+use lib.Dec.{T, eqb, eqb→eq, ltb→lt, nltb→le, lt→ltb}
 use borrow.Author.Tests.{eq-eqb, ne-eqb}
 use Rattle.model.specs.Lists.{any, collect, keep}
 use Rattle.model.specs.Names.{Name, mem}
 use Rattle.model.specs.Summaries.{Fact}
 use Rattle.model.specs.Reading.{Root, no-ambients}
-use Rattle.model.specs.Rounds.{facts, run, goal-roots, ambient-roots, is-ambient-root, first-scanned}
+use Rattle.model.specs.Rounds.{facts, first-run, run, round-met, round-of, goal-roots, ambient-roots, is-ambient-root, first-scanned}
 use Rattle.model.specs.declared.AsumKind.the-variants.{Ambient}
+use Rattle.model.specs.declared.Asked.{Asked}
 use Rattle.model.specs.declared.Counts.{Counts}
 use Rattle.model.proofs.ListLaws.{true-T, T-false, T-and, collect-intro, collect-elim, keep-intro, keep-elim, map-intro, map-elim}
 use Rattle.model.proofs.SetLaws.{mem-intro, mem-elim, mem-from-list}
-use Rattle.demands.proofs.FuelLaws.{run-ends}
+use Rattle.laws.proofs.FuelLaws.{history-follows, run-ends}
 use Rattle.names.specs.Table.{name-of}
 use Rattle.terms.proofs.Laws.{equal, below}
 use Rattle.words.specs.Slices.{Same-but}
 use Rattle.records.specs.Columns.{record-kind, record-flag, summary-code, assume-kind, retain-kind, root-kind, kind-of-code, code-of}
-use Rattle.records.specs.States.{uses-at, free-at, fact-at, decls-of, roots-of, ask-of}
+use Rattle.options.specs.OptionsOf.{ask-of}
+use Rattle.records.specs.States.{uses-at, free-at, fact-at, decls-of, roots-of}
 use Rattle.macros.specs.Macros.{Filled}
 use Rattle.scan.specs.Tables.{held-of}
-use Rattle.scan.specs.Steps.{Going, going, work-column, run-end, is-met, items, Ready, Rounds}
-use Rattle.scan.specs.Starts.{cleared, first-scan, starts-at, pushed}
-use Rattle.scan.specs.Runs.{run-of, Ran}
+use Rattle.scan.specs.Steps.{Going, going, reached-column, work-column, run-end, is-met, is-reached, items, Ready, Rounds}
+use Rattle.scan.specs.Starts.{zeroed-to, first-scan, starts-at, pushed}
+use Rattle.scan.specs.Runs.{tables-run, tables-history, Ran}
 use Rattle.scan.specs.declared.Scan.{Scan}
 use Rattle.scan.proofs.Numbers.{set-none}
+use Rattle.scan.proofs.Queries.{goal-one-elim, goal-one-intro}
 use Rattle.scan.proofs.Starting.{clear-length, clear-far, Pushed, pushed-is, Begun, begun}
 use Rattle.scan.proofs.Rounds.{At}
 use Rattle.scan.proofs.Running.{Over, rounds-over, rounds-length, rounds-far}
+use Rattle.scan.proofs.Timing.{met-round, reached-round}
 use Rattle.scan.proofs.Background.{facts-elim, facts-intro, root-of, roots-elim, roots-intro}
 use Rattle.scan.proofs.Joining.{laid, holds}
 
@@ -46,140 +50,138 @@ root-code (suc zero) = refl
 root-code (suc (suc zero)) = refl
 root-code (suc (suc (suc n))) = rw (ne-eqb (suc (suc (suc n))) 2 (λ e. omega arith))
 
-module _ (recs : List ℕ) (k : Counts) (i : ℕ) where
+module _ (recs : List ℕ) (a : Asked) (i : ℕ) where
   -- whether its code is that of an ambient root
   abbrev ambient : Bool
   ambient = eqb (summary-code recs i) (code-of (Ambient true))
 
-  root-starts : record-kind recs i ≡ root-kind → record-flag recs i ≡ k .query → T (starts-at recs k i)
+  root-starts : record-kind recs i ≡ root-kind → record-flag recs i ≡ a .query → T (starts-at recs a i)
   unfolding starts-at
-  root-starts e f = rw (eq-eqb (record-kind recs i) root-kind e) (true-T (eq-eqb (record-flag recs i) (k .query) f))
+  root-starts e f = rw (eq-eqb (record-kind recs i) root-kind e) (true-T (eq-eqb (record-flag recs i) (a .query) f))
 
-  fact-starts : record-kind recs i ≡ assume-kind → T ambient → T (not (no-ambients (ask-of k))) → T (starts-at recs k i)
+  fact-starts : record-kind recs i ≡ assume-kind → T ambient → T (not (no-ambients (ask-of a))) → T (starts-at recs a i)
   unfolding starts-at
-  fact-starts e f t = rw e (T-and ambient (not (no-ambients (ask-of k))) .1 (f, t))
+  fact-starts e f t = rw e (T-and ambient (not (no-ambients (ask-of a))) .1 (f, t))
 
-  starts-elim : T (starts-at recs k i)
-      → ((record-kind recs i ≡ root-kind) × (record-flag recs i ≡ k .query))
-      ⊎ ((record-kind recs i ≡ assume-kind) × T ambient × T (not (no-ambients (ask-of k))))
+  starts-elim : T (starts-at recs a i)
+      → ((record-kind recs i ≡ root-kind) × (record-flag recs i ≡ a .query))
+      ⊎ ((record-kind recs i ≡ assume-kind) × T ambient × T (not (no-ambients (ask-of a))))
   unfolding starts-at
   starts-elim t = go (equal (record-kind recs i) root-kind)
     where
       go : (record-kind recs i ≡ root-kind) ⊎ (record-kind recs i ≡ root-kind → ⊥)
-          → ((record-kind recs i ≡ root-kind) × (record-flag recs i ≡ k .query))
-          ⊎ ((record-kind recs i ≡ assume-kind) × T ambient × T (not (no-ambients (ask-of k))))
-      go (inl e) = inl (e, eqb→eq (record-flag recs i) (k .query) (rw (eq-eqb (record-kind recs i) root-kind e) at t))
+          → ((record-kind recs i ≡ root-kind) × (record-flag recs i ≡ a .query))
+          ⊎ ((record-kind recs i ≡ assume-kind) × T ambient × T (not (no-ambients (ask-of a))))
+      go (inl e) = inl (e, eqb→eq (record-flag recs i) (a .query) (rw (eq-eqb (record-kind recs i) root-kind e) at t))
       go (inr e) =
           let is-fact = eqb (record-kind recs i) assume-kind in
-          let (a, b) = T-and is-fact (ambient && not (no-ambients (ask-of k))) .0 (rw (ne-eqb (record-kind recs i) root-kind e) at t) in
-          let (c, d) = T-and ambient (not (no-ambients (ask-of k))) .0 b in
-          inr (eqb→eq (record-kind recs i) assume-kind a, c, d)
+          let (f, b) = T-and is-fact (ambient && not (no-ambients (ask-of a))) .0 (rw (ne-eqb (record-kind recs i) root-kind e) at t) in
+          let (c, d) = T-and ambient (not (no-ambients (ask-of a))) .0 b in
+          inr (eqb→eq (record-kind recs i) assume-kind f, c, d)
 
 -- ---- the names that round 1 scans
 
-module _ {file names recs out : List ℕ} {k : Counts} (x : Filled file names recs out k) where
+module _ {file names recs lists : List ℕ} {k : Counts} (x : Filled file names recs lists k) (a : Asked) where
   abbrev name : ℕ → Name
   name = name-of file names
 
   abbrev fs : List Fact
-  fs = facts (decls-of name recs out (k .records))
+  fs = facts (decls-of name recs lists (k .records))
 
   abbrev roots : List Root
-  roots = roots-of name recs out (k .records)
+  roots = roots-of name recs lists (k .records)
 
   -- a free name by number
-  free-in : (i : ℕ) {y : Name} → List·Memᴰ y (free-at name recs out i) → List·Memᴰ y (map name (uses-at recs out i))
+  free-in : (i : ℕ) {y : Name} → List·Memᴰ y (free-at name recs lists i) → List·Memᴰ y (map name (uses-at recs lists i))
   unfolding free-at
-  free-in i {y} m = mem-elim (mem-from-list y (map name (uses-at recs out i)) .0 (mem-intro m))
+  free-in i {y} m = mem-elim (mem-from-list y (map name (uses-at recs lists i)) .0 (mem-intro m))
 
-  free-out : (i : ℕ) {y : Name} → List·Memᴰ y (map name (uses-at recs out i)) → List·Memᴰ y (free-at name recs out i)
+  free-out : (i : ℕ) {y : Name} → List·Memᴰ y (map name (uses-at recs lists i)) → List·Memᴰ y (free-at name recs lists i)
   unfolding free-at
-  free-out i {y} m = mem-elim (mem-from-list y (map name (uses-at recs out i)) .1 (mem-intro m))
+  free-out i {y} m = mem-elim (mem-from-list y (map name (uses-at recs lists i)) .1 (mem-intro m))
 
-  ambient-in : {f : Fact} → List·Memᴰ f (ambient-roots (ask-of k) fs) → List·Memᴰ f fs × T (is-ambient-root (f .kind)) × T (not (no-ambients (ask-of k)))
+  ambient-in : {f : Fact} → List·Memᴰ f (ambient-roots (ask-of a) fs) → List·Memᴰ f fs × T (is-ambient-root (f .kind)) × T (not (no-ambients (ask-of a)))
   unfolding ambient-roots
-  ambient-in {f} m = go (no-ambients (ask-of k)) refl m
+  ambient-in {f} m = go (no-ambients (ask-of a)) refl m
     where
-      go : (b : Bool) → no-ambients (ask-of k) ≡ b → List·Memᴰ f (cond b [] (keep (λ f. is-ambient-root (f .kind)) fs))
-          → List·Memᴰ f fs × T (is-ambient-root (f .kind)) × T (not (no-ambients (ask-of k)))
+      go : (b : Bool) → no-ambients (ask-of a) ≡ b → List·Memᴰ f (cond b [] (keep (λ f. is-ambient-root (f .kind)) fs))
+          → List·Memᴰ f fs × T (is-ambient-root (f .kind)) × T (not (no-ambients (ask-of a)))
       go true e m = absurd (List·Memᴰ·not-nil m)
       go false e m = let (u, v) = keep-elim (λ (f : Fact). is-ambient-root (f .kind)) fs m in (u, v, rw e tt)
 
-  ambient-out : {f : Fact} → List·Memᴰ f fs → T (is-ambient-root (f .kind)) → T (not (no-ambients (ask-of k))) → List·Memᴰ f (ambient-roots (ask-of k) fs)
+  ambient-out : {f : Fact} → List·Memᴰ f fs → T (is-ambient-root (f .kind)) → T (not (no-ambients (ask-of a))) → List·Memᴰ f (ambient-roots (ask-of a) fs)
   unfolding ambient-roots
-  ambient-out {f} m t n = go (no-ambients (ask-of k)) n
+  ambient-out {f} m t n = go (no-ambients (ask-of a)) n
     where
       go : (b : Bool) → T (not b) → List·Memᴰ f (cond b [] (keep (λ f. is-ambient-root (f .kind)) fs))
       go false n = keep-intro (λ (f : Fact). is-ambient-root (f .kind)) m t
 
   -- a record that starts, with this free name
   abbrev Starts : Name → Type 0
-  Starts y = (i : ℕ) × (i < k .records) × T (starts-at recs k i) × List·Memᴰ y (map name (uses-at recs out i))
+  Starts y = (i : ℕ) × (i < k .records) × T (starts-at recs a i) × List·Memᴰ y (map name (uses-at recs lists i))
 
-  first-in : (y : Name) → List·Memᴰ y (first-scanned (ask-of k) fs roots) → Starts y
-  unfolding first-scanned goal-roots fact-at
+  first-in : (y : Name) → List·Memᴰ y (first-scanned (ask-of a) fs roots) → Starts y
+  unfolding first-scanned fact-at
   first-in y m =
       ⊎-elim
       (λ p.
-      let (z, u, v) = collect-elim (λ (r : Root). r .free-names) (goal-roots (ask-of k) roots) p in
-      let (s, t) = keep-elim (λ (r : Root). eqb (r .query) (k .query)) roots u in
-      let (i, l, c, e) = roots-elim name recs out (k .records) s in
-      root-in i z l (ltb→lt retain-kind (record-kind recs i) c) e (eqb→eq (z .query) (k .query) t) v)
+      let (z, u, v) = collect-elim (λ (r : Root). r .free-names) (goal-roots (ask-of a) roots) p in
+      let (s, q) = goal-one-elim a roots u in
+      let (i, l, c, e) = roots-elim name recs lists (k .records) s in
+      root-in i z l (ltb→lt retain-kind (record-kind recs i) c) e q v)
       (λ p.
-      let (f, u, v) = collect-elim (λ (f : Fact). f .free-names) (ambient-roots (ask-of k) fs) p in
+      let (f, u, v) = collect-elim (λ (f : Fact). f .free-names) (ambient-roots (ask-of a) fs) p in
       let (s, t, n) = ambient-in u in
-      let (i, l, c, e) = facts-elim name recs out (k .records) s in
+      let (i, l, c, e) = facts-elim name recs lists (k .records) s in
       fact-in i f l (eqb→eq (record-kind recs i) assume-kind c) e t n v)
-      (List·Memᴰ·append-cases (collect (λ (r : Root). r .free-names) (goal-roots (ask-of k) roots)) m)
+      (List·Memᴰ·append-cases (collect (λ (r : Root). r .free-names) (goal-roots (ask-of a) roots)) m)
     where
-      root-in : (i : ℕ) (z : Root) → i < k .records → retain-kind < record-kind recs i → z ≡ root-of name recs out i → z .query ≡ k .query
+      root-in : (i : ℕ) (z : Root) → i < k .records → retain-kind < record-kind recs i → z ≡ root-of name recs lists i → z .query ≡ a .query
           → List·Memᴰ y (z .free-names) → Starts y
       root-in i z l c e q v = (
         i,
         l,
-        root-starts recs k i (omega (arith, x .recorded .kinds i l)) (ap (λ (r : Root). r .query) (sym e) ∙ q),
+        root-starts recs a i (omega (arith, x .recorded .kinds i l)) (ap (λ (r : Root). r .query) (sym e) ∙ q),
         free-in i (subst (λ (r : Root). List·Memᴰ y (r .free-names)) e v),
       )
 
-      fact-in : (i : ℕ) (f : Fact) → i < k .records → record-kind recs i ≡ assume-kind → f ≡ fact-at name recs out i → T (is-ambient-root (f .kind))
-          → T (not (no-ambients (ask-of k))) → List·Memᴰ y (f .free-names) → Starts y
+      fact-in : (i : ℕ) (f : Fact) → i < k .records → record-kind recs i ≡ assume-kind → f ≡ fact-at name recs lists i → T (is-ambient-root (f .kind))
+          → T (not (no-ambients (ask-of a))) → List·Memᴰ y (f .free-names) → Starts y
       fact-in i f l c e t n v =
           let w = subst (λ b. T b) (root-code (summary-code recs i)) (subst (λ (f : Fact). T (is-ambient-root (f .kind))) e t) in
-          (i, l, fact-starts recs k i c w n, free-in i (subst (λ (f : Fact). List·Memᴰ y (f .free-names)) e v))
+          (i, l, fact-starts recs a i c w n, free-in i (subst (λ (f : Fact). List·Memᴰ y (f .free-names)) e v))
 
-  first-all : (i : ℕ) → i < k .records → T (starts-at recs k i) → (y : Name) → List·Memᴰ y (map name (uses-at recs out i))
-      → List·Memᴰ y (first-scanned (ask-of k) fs roots)
-  unfolding first-scanned goal-roots fact-at
+  first-all : (i : ℕ) → i < k .records → T (starts-at recs a i) → (y : Name) → List·Memᴰ y (map name (uses-at recs lists i))
+      → List·Memᴰ y (first-scanned (ask-of a) fs roots)
+  unfolding first-scanned fact-at
   first-all i l t y m =
       ⊎-elim
-      (λ (e, q). Memᴰ·append-left (collect (λ (f : Fact). f .free-names) (ambient-roots (ask-of k) fs))
+      (λ (e, q). Memᴰ·append-left (collect (λ (f : Fact). f .free-names) (ambient-roots (ask-of a) fs))
       (collect-intro (λ (r : Root). r .free-names)
-      (keep-intro (λ (r : Root). eqb (r .query) (k .query))
-      (roots-intro name recs out (k .records) i l (lt→ltb retain-kind (record-kind recs i) (omega arith)))
-      (true-T (eq-eqb (record-flag recs i) (k .query) q)))
+      (goal-one-intro a (roots-intro name recs lists (k .records) i l (lt→ltb retain-kind (record-kind recs i) (omega arith))) q)
       (free-out i m)))
-      (λ (e, q, n). Memᴰ·append-right (collect (λ (r : Root). r .free-names) (goal-roots (ask-of k) roots))
+      (λ (e, q, n). Memᴰ·append-right (collect (λ (r : Root). r .free-names) (goal-roots (ask-of a) roots))
       (collect-intro (λ (f : Fact). f .free-names)
-      (ambient-out (facts-intro name recs out (k .records) i l (true-T (eq-eqb (record-kind recs i) assume-kind e)))
+      (ambient-out (facts-intro name recs lists (k .records) i l (true-T (eq-eqb (record-kind recs i) assume-kind e)))
       (subst (λ b. T b) (sym (root-code (summary-code recs i))) q) n)
       (free-out i m)))
-      (starts-elim recs k i t)
+      (starts-elim recs a i t)
 
   -- ---- the run
 
   module _ (w : List ℕ) (long : run-end ≤ length w) {g : Going}
-      (is : g ≡ pushed (starts-at recs k) (k .records) (going first-scan (cleared work-column w))) where
+      (is : g ≡ pushed (starts-at recs a) (k .records) (going first-scan (zeroed-to work-column w))) where
     -- the state before round 1
-    first : Begun (held-of names recs out k) (starts-at recs k) g
+    first : Begun (held-of names recs lists k a) (starts-at recs a) g
     unfolding held-of
     first =
-        subst (λ g. Begun (held-of names recs out k) (starts-at recs k) g) (sym is)
-        (begun (held-of names recs out k) (laid x .fits) (starts-at recs k) w long)
+        subst (λ g. Begun (held-of names recs lists k a) (starts-at recs a) g) (sym is)
+        (begun (held-of names recs lists k a) (laid x .fits a) (starts-at recs a) w long)
 
-    pub first-ready : Ready (held-of names recs out k) g
+    pub first-ready : Ready (held-of names recs lists k a) g
     first-ready = first .ready
 
-    first-at : At (held-of names recs out k) name g (record { met = []; reached = []; rounds = 0 }) (first-scanned (ask-of k) fs roots)
+    first-at : At (held-of names recs lists k a) name g first-run (first-scanned (ask-of a) fs roots)
     unfolding held-of mem any
     first-at = record {
       met-is = λ n l. sym (T-false (is-met (g .run) n) (first .none-met n l));
@@ -188,39 +190,53 @@ module _ {file names recs out : List ℕ} {k : Counts} (x : Filled file names re
       scanned-is = λ y. (
         λ m.
             let (i, l, s, n) = first-in y m in
-            let (b, p, q) = map-elim name (uses-at recs out i) n in
-            subst (λ d. List·Memᴰ d (map name (collect (uses-at recs out) (items g)))) q
-            (map-intro name (collect-intro (uses-at recs out) (first .item-intro i l s) p)),
+            let (b, p, q) = map-elim name (uses-at recs lists i) n in
+            subst (λ d. List·Memᴰ d (map name (collect (uses-at recs lists) (items g)))) q
+            (map-intro name (collect-intro (uses-at recs lists) (first .item-intro i l s) p)),
         λ m.
-            let (n, p, q) = map-elim name (collect (uses-at recs out) (items g)) m in
-            let (i, j, d) = collect-elim (uses-at recs out) (items g) p in
+            let (n, p, q) = map-elim name (collect (uses-at recs lists) (items g)) m in
+            let (i, j, d) = collect-elim (uses-at recs lists) (items g) p in
             let (l, s) = first .item-elim i j in
-            first-all i l s y (subst (λ d. List·Memᴰ d (map name (uses-at recs out i))) q (map-intro name d)),
+            first-all i l s y (subst (λ d. List·Memᴰ d (map name (uses-at recs lists i))) q (map-intro name d)),
       );
     }
 
-    module _ {s : Scan} {v : List ℕ} (rounds : Rounds (held-of names recs out k) g (going s v)) where
-      over : Over (held-of names recs out k) name fs (run-of file names recs out k) (going s v)
-      unfolding run-of
-      over = rounds-over (laid x .fits) (holds x) rounds first-ready first-at (run-ends (ask-of k) (decls-of name recs out (k .records)) roots)
+    module _ {s : Scan} {v : List ℕ} (rounds : Rounds (held-of names recs lists k a) g (going s v)) where
+      over : Over (held-of names recs lists k a) name fs (tables-run file names recs lists k a) (going s v)
+      unfolding tables-run
+      over = rounds-over (laid x .fits a) (holds x a) rounds first-ready first-at (run-ends (ask-of a) (decls-of name recs lists (k .records)) roots)
 
       -- only the columns of the run change
       same : Same-but 0 run-end w v
       same =
-          let pushed-as = pushed-is (starts-at recs k) (k .records) (going first-scan (cleared work-column w)) (omega arith)
+          let pushed-as = pushed-is (starts-at recs a) (k .records) (going first-scan (zeroed-to work-column w)) (omega arith)
           (omega (arith, x .recorded .few)) (rw (clear-length work-column w) long) in
-          let p = subst (λ g. Pushed (starts-at recs k) (k .records) (going first-scan (cleared work-column w)) g) (sym is) pushed-as in
+          let p = subst (λ g. Pushed (starts-at recs a) (k .records) (going first-scan (zeroed-to work-column w)) g) (sym is) pushed-as in
           record {
-            same-length = rounds-length (laid x .fits) rounds first-ready ∙ p .same-length ∙ clear-length work-column w;
+            same-length = rounds-length (laid x .fits a) rounds first-ready ∙ p .same-length ∙ clear-length work-column w;
             same-words = λ i h.
                 let far = outside i h in
-                rounds-far (laid x .fits) rounds first-ready i far ∙ p .far i far ∙ clear-far work-column w i (omega arith);
+                rounds-far (laid x .fits a) rounds first-ready i far ∙ p .far i far ∙ clear-far work-column w i (omega arith);
           }
         where
           outside : (i : ℕ) → (0 ≤ i → i < 0 + run-end → ⊥) → run-end ≤ i
           outside i h = ⊎-elim (λ l. absurd (h (omega arith) (omega arith))) (λ l. l) (below i run-end)
 
-      pub ran : Ran file names recs out k w v s
+      -- the columns hold the rounds
+      times : ((n : ℕ) → n < k .names → T (is-met v n) → getD v n 0 ≡ round-met (tables-history file names recs lists k a) (name n))
+          × ((i : ℕ) → i < k .records → T (is-reached v i)
+          → getD v (reached-column + i) 0 ≡ round-of (tables-history file names recs lists k a) (fact-at name recs lists i))
+      unfolding tables-history round-met round-of held-of is-met is-reached
+      times =
+          let follows = history-follows (ask-of a) (decls-of name recs lists (k .records)) roots in
+          let few = x .recorded .few in (
+            λ n l t. met-round (laid x .fits a) (holds x a) rounds first-ready first-at follows refl n l
+                (let z = nltb→le 0 (getD (g .run) n 0) (first .none-met n l) in omega arith) t,
+            λ i l t. reached-round (laid x .fits a) (holds x a) rounds first-ready first-at follows refl i l (over .only-facts i (omega arith) t .1)
+                (let z = nltb→le 0 (getD (g .run) (reached-column + i) 0) (first .none-reached i l) in omega arith) t,
+          )
+
+      pub ran : Ran file names recs lists k a w v s
       unfolding held-of
       ran =
           let o = over in
@@ -229,7 +245,10 @@ module _ {file names recs out : List ℕ} {k : Counts} (x : Filled file names re
             met = λ n l. sym (o .met-is n l);
             reached = sym (o .reached-is);
             only-facts = λ i l t. eqb→eq (record-kind recs i) assume-kind (o .only-facts i (omega arith) t .1);
+            met-round = times .0;
+            reached-round = times .1;
             rounds = sym (o .rounds-are);
             visits = sym (o .visits-are);
             same = same;
+            words = subst (λ g. Rounds (held-of names recs lists k a) g (going s v)) is rounds;
           }

@@ -15,7 +15,7 @@ use Rattle.model.specs.Reading.{Decl, Root}
 use Rattle.model.specs.Rounds.{facts, definitions, listed, filed}
 use Rattle.model.proofs.ListLaws.{count-append, collect-append}
 use Rattle.model.proofs.PartLaws.{part-nil, part-length}
-use Rattle.demands.proofs.Records.{facts-append, definitions-append}
+use Rattle.laws.proofs.Records.{facts-append, definitions-append}
 use Rattle.terms.proofs.Laws.{equal}
 use Rattle.triggers.specs.Entries.{disjuncts-of, last-flag, no-name, entries-base}
 use Rattle.records.specs.Columns.{record-kind, record-line, record-name, record-flag, entries-start, entries-end, assume-kind, def-kind, retain-kind, entry-name, entry-fact}
@@ -69,18 +69,18 @@ is-definition recs i = eqb (record-kind recs i) def-kind
 abbrev pub is-root : List ℕ → ℕ → Bool
 is-root recs i = ltb retain-kind (record-kind recs i)
 
-module _ (name : ℕ → Name) (recs out : List ℕ) where
+module _ (name : ℕ → Name) (recs lists : List ℕ) where
   -- the definition, the root of a record
   abbrev pub def-at : ℕ → Decl
-  def-at i = decl-at name recs out i (free-at name recs out i)
+  def-at i = decl-at name recs lists i (free-at name recs lists i)
 
   abbrev pub root-of : ℕ → Root
   root-of i =
-      record { line = record-line recs i; query = record-flag recs i; name = name (record-name recs i); free-names = free-at name recs out i }
+      record { line = record-line recs i; query = record-flag recs i; name = name (record-name recs i); free-names = free-at name recs lists i }
 
   -- ---- facts
 
-  record-facts : (i kind : ℕ) → facts (summary-at name recs out i kind) ≡ cond (eqb kind assume-kind) (fact-at name recs out i ∷ []) []
+  record-facts : (i kind : ℕ) → facts (summary-at name recs lists i kind) ≡ cond (eqb kind assume-kind) (fact-at name recs lists i ∷ []) []
   unfolding summary-at facts
   record-facts i zero = refl
   record-facts i (suc zero) = refl
@@ -88,38 +88,38 @@ module _ (name : ℕ → Name) (recs out : List ℕ) where
   record-facts i (suc (suc (suc zero))) = refl
   record-facts i (suc (suc (suc (suc k)))) = rw (ne-eqb (suc (suc (suc (suc k)))) 0 (λ e. omega arith))
 
-  pub next-facts : (n : ℕ) → facts (decls-of name recs out (suc n)) ≡ facts (decls-of name recs out n) ++ cond (is-fact recs n) (fact-at name recs out n ∷ []) []
+  pub next-facts : (n : ℕ) → facts (decls-of name recs lists (suc n)) ≡ facts (decls-of name recs lists n) ++ cond (is-fact recs n) (fact-at name recs lists n ∷ []) []
   unfolding decls-of
   next-facts n =
-      facts-append (decls-of name recs out n) (summary-at name recs out n (record-kind recs n))
-      ∙ ap (facts (decls-of name recs out n) ++_) (record-facts n (record-kind recs n))
+      facts-append (decls-of name recs lists n) (summary-at name recs lists n (record-kind recs n))
+      ∙ ap (facts (decls-of name recs lists n) ++_) (record-facts n (record-kind recs n))
 
-  pub no-facts : facts (decls-of name recs out 0) ≡ []
+  pub no-facts : facts (decls-of name recs lists 0) ≡ []
   unfolding decls-of facts
   no-facts = refl
 
-  pub facts-elim : (n : ℕ) {f : Fact} → List·Memᴰ f (facts (decls-of name recs out n)) → (i : ℕ) × (i < n) × T (is-fact recs i) × (f ≡ fact-at name recs out i)
-  facts-elim = each-elim (λ n. facts (decls-of name recs out n)) (is-fact recs) (fact-at name recs out) no-facts next-facts
+  pub facts-elim : (n : ℕ) {f : Fact} → List·Memᴰ f (facts (decls-of name recs lists n)) → (i : ℕ) × (i < n) × T (is-fact recs i) × (f ≡ fact-at name recs lists i)
+  facts-elim = each-elim (λ n. facts (decls-of name recs lists n)) (is-fact recs) (fact-at name recs lists) no-facts next-facts
 
-  pub facts-intro : (n i : ℕ) → i < n → T (is-fact recs i) → List·Memᴰ (fact-at name recs out i) (facts (decls-of name recs out n))
-  facts-intro = each-intro (λ n. facts (decls-of name recs out n)) (is-fact recs) (fact-at name recs out) no-facts next-facts
+  pub facts-intro : (n i : ℕ) → i < n → T (is-fact recs i) → List·Memᴰ (fact-at name recs lists i) (facts (decls-of name recs lists n))
+  facts-intro = each-intro (λ n. facts (decls-of name recs lists n)) (is-fact recs) (fact-at name recs lists) no-facts next-facts
 
   next-filed : (n : ℕ)
-      → filed (facts (decls-of name recs out (suc n)))
-      ≡ filed (facts (decls-of name recs out n)) ++ cond (is-fact recs n) (concat (disjuncts-of name (entries-at recs out n))) []
+      → filed (facts (decls-of name recs lists (suc n)))
+      ≡ filed (facts (decls-of name recs lists n)) ++ cond (is-fact recs n) (concat (disjuncts-of name (entries-at recs lists n))) []
   unfolding filed collect listed fact-at
   next-filed n =
       ap (collect listed) (next-facts n)
-      ∙ collect-append listed (facts (decls-of name recs out n)) (cond (is-fact recs n) (fact-at name recs out n ∷ []) [])
-      ∙ ap (collect listed (facts (decls-of name recs out n)) ++_) (one (is-fact recs n))
+      ∙ collect-append listed (facts (decls-of name recs lists n)) (cond (is-fact recs n) (fact-at name recs lists n ∷ []) [])
+      ∙ ap (collect listed (facts (decls-of name recs lists n)) ++_) (one (is-fact recs n))
     where
-      one : (b : Bool) → collect listed (cond b (fact-at name recs out n ∷ []) []) ≡ cond b (concat (disjuncts-of name (entries-at recs out n))) []
-      one true = append-nil (concat (disjuncts-of name (entries-at recs out n)))
+      one : (b : Bool) → collect listed (cond b (fact-at name recs lists n ∷ []) []) ≡ cond b (concat (disjuncts-of name (entries-at recs lists n))) []
+      one true = append-nil (concat (disjuncts-of name (entries-at recs lists n)))
       one false = refl
 
   -- ---- definitions
 
-  record-defs : (i kind : ℕ) → definitions (summary-at name recs out i kind) ≡ cond (eqb kind def-kind) (def-at i ∷ []) []
+  record-defs : (i kind : ℕ) → definitions (summary-at name recs lists i kind) ≡ cond (eqb kind def-kind) (def-at i ∷ []) []
   unfolding summary-at definitions
   record-defs i zero = refl
   record-defs i (suc zero) = refl
@@ -127,25 +127,25 @@ module _ (name : ℕ → Name) (recs out : List ℕ) where
   record-defs i (suc (suc (suc zero))) = refl
   record-defs i (suc (suc (suc (suc k)))) = rw (ne-eqb (suc (suc (suc (suc k)))) 2 (λ e. omega arith))
 
-  pub next-defs : (n : ℕ) → definitions (decls-of name recs out (suc n)) ≡ definitions (decls-of name recs out n) ++ cond (is-definition recs n) (def-at n ∷ []) []
+  pub next-defs : (n : ℕ) → definitions (decls-of name recs lists (suc n)) ≡ definitions (decls-of name recs lists n) ++ cond (is-definition recs n) (def-at n ∷ []) []
   unfolding decls-of
   next-defs n =
-      definitions-append (decls-of name recs out n) (summary-at name recs out n (record-kind recs n))
-      ∙ ap (definitions (decls-of name recs out n) ++_) (record-defs n (record-kind recs n))
+      definitions-append (decls-of name recs lists n) (summary-at name recs lists n (record-kind recs n))
+      ∙ ap (definitions (decls-of name recs lists n) ++_) (record-defs n (record-kind recs n))
 
-  pub no-defs : definitions (decls-of name recs out 0) ≡ []
+  pub no-defs : definitions (decls-of name recs lists 0) ≡ []
   unfolding decls-of definitions
   no-defs = refl
 
-  pub defs-elim : (n : ℕ) {d : Decl} → List·Memᴰ d (definitions (decls-of name recs out n)) → (i : ℕ) × (i < n) × T (is-definition recs i) × (d ≡ def-at i)
-  defs-elim = each-elim (λ n. definitions (decls-of name recs out n)) (is-definition recs) def-at no-defs next-defs
+  pub defs-elim : (n : ℕ) {d : Decl} → List·Memᴰ d (definitions (decls-of name recs lists n)) → (i : ℕ) × (i < n) × T (is-definition recs i) × (d ≡ def-at i)
+  defs-elim = each-elim (λ n. definitions (decls-of name recs lists n)) (is-definition recs) def-at no-defs next-defs
 
-  pub defs-intro : (n i : ℕ) → i < n → T (is-definition recs i) → List·Memᴰ (def-at i) (definitions (decls-of name recs out n))
-  defs-intro = each-intro (λ n. definitions (decls-of name recs out n)) (is-definition recs) def-at no-defs next-defs
+  pub defs-intro : (n i : ℕ) → i < n → T (is-definition recs i) → List·Memᴰ (def-at i) (definitions (decls-of name recs lists n))
+  defs-intro = each-intro (λ n. definitions (decls-of name recs lists n)) (is-definition recs) def-at no-defs next-defs
 
   -- ---- roots
 
-  record-roots : (i kind : ℕ) → root-at name recs out i kind ≡ cond (ltb retain-kind kind) (root-of i ∷ []) []
+  record-roots : (i kind : ℕ) → root-at name recs lists i kind ≡ cond (ltb retain-kind kind) (root-of i ∷ []) []
   unfolding root-at
   record-roots i zero = refl
   record-roots i (suc zero) = refl
@@ -153,23 +153,23 @@ module _ (name : ℕ → Name) (recs out : List ℕ) where
   record-roots i (suc (suc (suc zero))) = refl
   record-roots i (suc (suc (suc (suc k)))) = rw (lt-ltb 3 (suc (suc (suc (suc k)))) (omega arith))
 
-  pub next-roots : (n : ℕ) → roots-of name recs out (suc n) ≡ roots-of name recs out n ++ cond (is-root recs n) (root-of n ∷ []) []
+  pub next-roots : (n : ℕ) → roots-of name recs lists (suc n) ≡ roots-of name recs lists n ++ cond (is-root recs n) (root-of n ∷ []) []
   unfolding roots-of
-  next-roots n = ap (roots-of name recs out n ++_) (record-roots n (record-kind recs n))
+  next-roots n = ap (roots-of name recs lists n ++_) (record-roots n (record-kind recs n))
 
-  pub no-roots : roots-of name recs out 0 ≡ []
+  pub no-roots : roots-of name recs lists 0 ≡ []
   unfolding roots-of
   no-roots = refl
 
-  pub roots-elim : (n : ℕ) {r : Root} → List·Memᴰ r (roots-of name recs out n) → (i : ℕ) × (i < n) × T (is-root recs i) × (r ≡ root-of i)
-  roots-elim = each-elim (roots-of name recs out) (is-root recs) root-of no-roots next-roots
+  pub roots-elim : (n : ℕ) {r : Root} → List·Memᴰ r (roots-of name recs lists n) → (i : ℕ) × (i < n) × T (is-root recs i) × (r ≡ root-of i)
+  roots-elim = each-elim (roots-of name recs lists) (is-root recs) root-of no-roots next-roots
 
-  pub roots-intro : (n i : ℕ) → i < n → T (is-root recs i) → List·Memᴰ (root-of i) (roots-of name recs out n)
-  roots-intro = each-intro (roots-of name recs out) (is-root recs) root-of no-roots next-roots
+  pub roots-intro : (n i : ℕ) → i < n → T (is-root recs i) → List·Memᴰ (root-of i) (roots-of name recs lists n)
+  roots-intro = each-intro (roots-of name recs lists) (is-root recs) root-of no-roots next-roots
 
 -- ---- the entries of the records
 
-module _ {name : ℕ → Name} {recs out : List ℕ} {records total : ℕ} (g : Filing name recs out records total) where
+module _ {name : ℕ → Name} {recs lists : List ℕ} {records total : ℕ} (g : Filing name recs lists records total) where
   -- an entry is in the part of a record
   owner : (n : ℕ) → n ≤ records → (e : ℕ) → e < entries-before recs n → (i : ℕ) × (i < n) × (entries-start recs i ≤ e) × (e < entries-end recs i)
   unfolding entries-before
@@ -184,53 +184,53 @@ module _ {name : ℕ → Name} {recs out : List ℕ} {records total : ℕ} (g : 
 
   -- the fact of an entry: a record that is one, and the entry is in its part
   pub entry-owner : (e : ℕ) → e < total
-      → (entry-fact out e < records) × (record-kind recs (entry-fact out e) ≡ assume-kind)
-      × (entries-start recs (entry-fact out e) ≤ e) × (e < entries-end recs (entry-fact out e))
+      → (entry-fact lists e < records) × (record-kind recs (entry-fact lists e) ≡ assume-kind)
+      × (entries-start recs (entry-fact lists e) ≤ e) × (e < entries-end recs (entry-fact lists e))
   entry-owner e h =
       let (i, l, a, b) = owner records (omega arith) e (omega (arith, g .whole)) in
       rw (g .facts i e l a b)
       (l, ⊎-elim (λ q. q) (λ q. absurd (omega (arith, g .only-facts i l q))) (equal (record-kind recs i) assume-kind), a, b)
 
-  module _ {named uses : ℕ} (r : Records recs out named records total uses) where
+  module _ {named uses : ℕ} (r : Records recs lists named records total uses) where
     -- the words of a record's entries are as many as its sets take
-    full : (i : ℕ) → i < records → length (entries-at recs out i) ≡ entries (disjuncts-of name (entries-at recs out i))
+    full : (i : ℕ) → i < records → length (entries-at recs lists i) ≡ entries (disjuncts-of name (entries-at recs lists i))
     full i h =
-        part-length out (entries-base + entries-start recs i) (entries-base + entries-end recs i)
-        (omega (arith, r .entries-in i h, r .few-entries, r .out-room))
+        part-length lists (entries-base + entries-start recs i) (entries-base + entries-end recs i)
+        (omega (arith, r .entries-in i h, r .few-entries, r .lists-room))
         ∙ omega (arith, g .sized i h)
 
     -- the count over the filed names is that over the entries
     pub upto-count : (p : Name → Bool) (n : ℕ) → n ≤ records
-        → count p (filed (facts (decls-of name recs out n)))
-        ≡ count (λ e. ltb (entry-name out e) no-name && p (name (entry-name out e))) (upto (entries-before recs n))
+        → count p (filed (facts (decls-of name recs lists n)))
+        ≡ count (λ e. ltb (entry-name lists e) no-name && p (name (entry-name lists e))) (upto (entries-before recs n))
     unfolding decls-of facts filed collect count entries-before upto
     upto-count p zero h = refl
     upto-count p (suc n) h =
         let s = g .starts n (omega arith) in
         let z = g .sized n (omega arith) in
         let end = entries-end recs n in
-        ap (count p) (next-filed name recs out n)
-        ∙ count-append p (filed (facts (decls-of name recs out n))) _
+        ap (count p) (next-filed name recs lists n)
+        ∙ count-append p (filed (facts (decls-of name recs lists n))) _
         ∙ ap₂ _+_ (upto-count p n (omega arith)) (one (equal (record-kind recs n) assume-kind))
         ∙ sym (joined (entries-before recs n) (end - entries-before recs n) end (omega arith)
-        (omega (arith, r .entries-in n (omega arith), r .few-entries, r .out-room)))
+        (omega (arith, r .entries-in n (omega arith), r .few-entries, r .lists-room)))
       where
         test : ℕ → Bool
         test w = ltb (w % last-flag) no-name && p (name (w % last-flag))
 
-        joined : (a d b : ℕ) → a + d ≡ b → entries-base + b ≤ length out
-            → count (λ e. test (getD out (entries-base + e) 0)) (upto b)
-            ≡ count (λ e. test (getD out (entries-base + e) 0)) (upto a) + count test (part out (entries-base + a) (entries-base + b))
-        joined a d b e k = rw (← e) (places-count test out entries-base a d (omega arith))
+        joined : (a d b : ℕ) → a + d ≡ b → entries-base + b ≤ length lists
+            → count (λ e. test (getD lists (entries-base + e) 0)) (upto b)
+            ≡ count (λ e. test (getD lists (entries-base + e) 0)) (upto a) + count test (part lists (entries-base + a) (entries-base + b))
+        joined a d b e k = rw (← e) (places-count test lists entries-base a d (omega arith))
 
         one : (record-kind recs n ≡ assume-kind) ⊎ (record-kind recs n ≡ assume-kind → ⊥)
-            → count p (cond (eqb (record-kind recs n) assume-kind) (concat (disjuncts-of name (entries-at recs out n))) [])
-            ≡ count test (part out (entries-base + entries-before recs n) (entries-base + entries-end recs n))
-        one (inl e) = rw (e, ← (g .starts n (omega arith))) (listed-count p name (entries-at recs out n) (full n (omega arith)))
+            → count p (cond (eqb (record-kind recs n) assume-kind) (concat (disjuncts-of name (entries-at recs lists n))) [])
+            ≡ count test (part lists (entries-base + entries-before recs n) (entries-base + entries-end recs n))
+        one (inl e) = rw (e, ← (g .starts n (omega arith))) (listed-count p name (entries-at recs lists n) (full n (omega arith)))
         one (inr e) =
             rw (
               ne-eqb (record-kind recs n) assume-kind e,
               g .only-facts n (omega arith) e,
               ← (g .starts n (omega arith)),
-              part-nil out (entries-base + entries-start recs n) (entries-base + entries-start recs n) (omega arith),
+              part-nil lists (entries-base + entries-start recs n) (entries-base + entries-start recs n) (omega arith),
             )

@@ -12,6 +12,7 @@ use borrow.Author.Tests.{eq-eqb, lt-ltb, le-ltb}
 use Rattle.model.specs.Lists.{count}
 use Rattle.model.specs.Names.{Name}
 use Rattle.model.specs.Rounds.{facts, macros, listed, filed, retainable}
+use Rattle.model.specs.declared.Asked.{Asked}
 use Rattle.model.specs.declared.Counts.{Counts}
 use Rattle.model.proofs.ListLaws.{true-T, count-cong}
 use Rattle.model.proofs.PartLaws.{part-elim, part-intro, part-length}
@@ -19,7 +20,8 @@ use Rattle.names.specs.Table.{name-of}
 use Rattle.names.proofs.Laws.{distinct}
 use Rattle.triggers.specs.Entries.{Entries, disjuncts-of, last-flag, no-name, entries-base}
 use Rattle.records.specs.Columns.{record-kind, uses-end, entries-start, entries-end, assume-kind, entry-word, entry-name, entry-fact, taken-at, macro-at}
-use Rattle.records.specs.States.{uses-at, entries-at, free-at, fact-at, decls-of, ask-of}
+use Rattle.options.specs.OptionsOf.{ask-of}
+use Rattle.records.specs.States.{uses-at, entries-at, free-at, fact-at, decls-of}
 use Rattle.records.specs.Filing.{Records, Filing}
 use Rattle.macros.specs.Macros.{opened-word, Filled}
 use Rattle.scan.specs.Held.{Fits, Holds, upto}
@@ -29,88 +31,89 @@ use Rattle.scan.proofs.Listing.{word-listed, listed-word, numbers-elim}
 use Rattle.scan.proofs.Background.{facts-elim, facts-intro, entry-owner, upto-count}
 use Rattle.scan.proofs.Opening.{opens-elim, macro-range, macro-exact}
 
-module _ {file names recs out : List ℕ} {k : Counts} (x : Filled file names recs out k) where
+module _ {file names recs lists : List ℕ} {k : Counts} (x : Filled file names recs lists k) where
   abbrev name : ℕ → Name
   name = name-of file names
 
-  abbrev g : Filing name recs out (k .records) (k .entries)
+  abbrev g : Filing name recs lists (k .records) (k .entries)
   g = x .stocked .filing
 
-  abbrev r : Records recs out (k .named) (k .records) (k .entries) (k .uses)
+  abbrev r : Records recs lists (k .names) (k .records) (k .entries) (k .uses)
   r = x .recorded
 
   -- ---- ranges
 
-  use-room : (i : ℕ) → i < k .records → uses-end recs i ≤ length out
-  use-room i h = omega (arith, r .uses-in i h, r .few-uses, r .out-room)
+  use-room : (i : ℕ) → i < k .records → uses-end recs i ≤ length lists
+  use-room i h = omega (arith, r .uses-in i h, r .few-uses, r .lists-room)
 
-  entry-room : (i : ℕ) → i < k .records → entries-base + entries-end recs i ≤ length out
-  entry-room i h = omega (arith, r .entries-in i h, r .few-entries, r .out-room)
+  entry-room : (i : ℕ) → i < k .records → entries-base + entries-end recs i ≤ length lists
+  entry-room i h = omega (arith, r .entries-in i h, r .few-entries, r .lists-room)
 
   -- an entry of a record, by its place
-  entry-at : {i w : ℕ} → i < k .records → List·Memᴰ w (entries-at recs out i)
-      → (e : ℕ) × (entries-start recs i ≤ e) × (e < entries-end recs i) × (e < k .entries) × (entry-word out e ≡ w)
+  entry-at : {i w : ℕ} → i < k .records → List·Memᴰ w (entries-at recs lists i)
+      → (e : ℕ) × (entries-start recs i ≤ e) × (e < entries-end recs i) × (e < k .entries) × (entry-word lists e ≡ w)
   entry-at {i} {w} h m =
       let p = part-elim (entry-room i h) m in
       let lo = p .low in
       let hi = p .high in
       let f = r .entries-in i h in
       let z : entries-base + (p .place - entries-base) ≡ p .place = omega arith in
-      (p .place - entries-base, omega arith, omega arith, omega arith, ap (λ j. getD out j 0) z ∙ p .is)
+      (p .place - entries-base, omega arith, omega arith, omega arith, ap (λ j. getD lists j 0) z ∙ p .is)
 
   -- the entries of a record
-  row-entries : (i : ℕ) → i < k .records → Entries (k .named) (entries-at recs out i)
+  row-entries : (i : ℕ) → i < k .records → Entries (k .names) (entries-at recs lists i)
   row-entries i h = record {
     small = λ w m.
         let (e, a, b, c, d) = entry-at h m in
-        ⊎-elim (λ q. inl (subst (λ w. w % last-flag < k .named) d q)) (λ q. inr (subst (λ w. w % last-flag ≡ no-name) d q)) (r .entry-words e c);
+        ⊎-elim (λ q. inl (subst (λ w. w % last-flag < k .names) d q)) (λ q. inr (subst (λ w. w % last-flag ≡ no-name) d q)) (r .entry-words e c);
     flagged = λ w m. let (e, a, b, c, d) = entry-at h m in subst (λ w. w < last-flag + last-flag) d (g .flagged e c);
     closed = λ j e.
-        let n = part-length out (entries-base + entries-start recs i) (entries-base + entries-end recs i) (entry-room i h) in
+        let n = part-length lists (entries-base + entries-start recs i) (entries-base + entries-end recs i) (entry-room i h) in
         let z : entries-base + entries-start recs i + j ≡ entries-base + (entries-end recs i - 1) = omega arith in
         let lt : j < entries-base + entries-end recs i - (entries-base + entries-start recs i) = omega arith in
         rw (getD-take, getD-drop, z) (g .ended i h (omega arith));
   }
 
-  uses-low : (i n : ℕ) → i < k .records → List·Memᴰ n (uses-at recs out i) → n < k .named
+  -- the free names of a record have numbers
+  pub uses-low : (i n : ℕ) → i < k .records → List·Memᴰ n (uses-at recs lists i) → n < k .names
   uses-low i n h m =
       let p = part-elim (use-room i h) m in
       let u = p .high in
       rw (p .is) at (r .use-words (p .place) (omega (arith, r .uses-in i h)))
 
-  macro-words : (n : ℕ) → n < k .named → (macro-at names n ≤ k .records) ⊎ ((opened-word ≤ macro-at names n) × (macro-at names n < opened-word + k .named))
+  macro-words : (n : ℕ) → n < k .names → (macro-at names n ≤ k .records) ⊎ ((opened-word ≤ macro-at names n) × (macro-at names n < opened-word + k .names))
   macro-words n h =
-      rw (x .macros n h) (macro-range names recs (k .named) (k .records) n (x .stocked .taken .low n (omega (arith, x .table .few))))
+      rw (x .macros n h) (macro-range names recs (k .names) (k .records) n (x .stocked .taken .low n (omega (arith, x .table .few))))
 
-  opens-low : (n m : ℕ) → n < k .named
-      → ((0 < macro-at names n) × (macro-at names n < opened-word) × List·Memᴰ m (uses-at recs out (macro-at names n - 1)))
-      ⊎ ((opened-word ≤ macro-at names n) × (m ≡ macro-at names n - opened-word)) → m < k .named
+  opens-low : (n m : ℕ) → n < k .names
+      → ((0 < macro-at names n) × (macro-at names n < opened-word) × List·Memᴰ m (uses-at recs lists (macro-at names n - 1)))
+      ⊎ ((opened-word ≤ macro-at names n) × (m ≡ macro-at names n - opened-word)) → m < k .names
   opens-low n m h (inl (a, b, c)) =
       ⊎-elim (λ q. uses-low (macro-at names n - 1) m (omega arith) c) (λ q. absurd (omega arith)) (macro-words n h)
   opens-low n m h (inr (a, b)) = ⊎-elim (λ q. absurd (omega (arith, r .few))) (λ q. omega arith) (macro-words n h)
 
-  fits : Fits (held-of names recs out k)
+  fits : (a : Asked) → Fits (held-of names recs lists k a)
   unfolding held-of
-  fits = record {
+  fits a = record {
     few-names = x .table .few;
     few-records = r .few;
     few-entries = r .few-entries;
     frees-small = uses-low;
-    opens-small = λ n m h q. opens-low n m h (opens-elim recs out (macro-at names n) m q);
+    opens-small = λ n m h q. opens-low n m h (opens-elim recs lists (macro-at names n) m q);
     disjuncts-small = λ i n d h p q.
-        let (w, a, b, c) = numbers-elim (entries-at recs out i) p q in
-        ⊎-elim (λ (y : w % last-flag < k .named). omega arith) (λ (y : w % last-flag ≡ no-name). absurd (omega arith)) (row-entries i h .small w a);
+        let (w, a, b, c) = numbers-elim (entries-at recs lists i) p q in
+        ⊎-elim (λ (y : w % last-flag < k .names). omega arith) (λ (y : w % last-flag ≡ no-name). absurd (omega arith)) (row-entries i h .small w a);
     fact-small = λ e h. entry-owner g e h .0;
-    fact-is = λ e h. true-T (eq-eqb (record-kind recs (entry-fact out e)) assume-kind (entry-owner g e h .1));
+    fact-is = λ e h. true-T (eq-eqb (record-kind recs (entry-fact lists e)) assume-kind (entry-owner g e h .1));
     row-small = λ i h q. r .named-in i h (λ z. omega (arith, eqb→eq (record-kind recs i) assume-kind q));
   }
 
-  pub laid : Laid names recs out k
+  pub laid : Laid names recs lists k
   laid = record {
     fits = fits;
     name-room = x .table .room;
     record-room = r .room;
-    list-room = r .out-room;
+    list-room = r .lists-room;
     few-names = x .table .few;
     few-records = r .few;
     few-entries = r .few-entries;
@@ -128,54 +131,55 @@ module _ {file names recs out : List ℕ} {k : Counts} (x : Filled file names re
   -- ---- the facts and the macros
 
   -- an entry has a name's number or none
-  word-small : (e : ℕ) → e < k .entries → ltb (entry-name out e) no-name ≡ ltb (entry-name out e) (k .named)
+  word-small : (e : ℕ) → e < k .entries → ltb (entry-name lists e) no-name ≡ ltb (entry-name lists e) (k .names)
   word-small e h =
       ⊎-elim
-      (λ (q : entry-name out e < k .named).
-      lt-ltb (entry-name out e) no-name (omega (arith, x .table .few)) ∙ sym (lt-ltb (entry-name out e) (k .named) q))
-      (λ (q : entry-name out e ≡ no-name).
-      le-ltb (entry-name out e) no-name (omega arith) ∙ sym (le-ltb (entry-name out e) (k .named) (omega (arith, x .table .few))))
+      (λ (q : entry-name lists e < k .names).
+      lt-ltb (entry-name lists e) no-name (omega (arith, x .table .few)) ∙ sym (lt-ltb (entry-name lists e) (k .names) q))
+      (λ (q : entry-name lists e ≡ no-name).
+      le-ltb (entry-name lists e) no-name (omega arith) ∙ sym (le-ltb (entry-name lists e) (k .names) (omega (arith, x .table .few))))
       (r .entry-words e h)
 
-  count-is : (p : Name → Bool)
-      → count p (filed (facts (decls-of name recs out (k .records))))
-      ≡ count (λ e. ltb (entry-name out e) (k .named) && p (name (entry-name out e))) (upto (k .entries))
+  -- the filed names of which a test holds, counted by entry
+  pub count-is : (p : Name → Bool)
+      → count p (filed (facts (decls-of name recs lists (k .records))))
+      ≡ count (λ e. ltb (entry-name lists e) (k .names) && p (name (entry-name lists e))) (upto (k .entries))
   count-is p =
       upto-count g r p (k .records) (omega arith)
       ∙ rw (g .whole)
-      (count-cong _ _ (upto (k .entries)) (λ e i. ap (λ b. b && p (name (entry-name out e))) (word-small e (upto-elim (k .entries) i))))
+      (count-cong _ _ (upto (k .entries)) (λ e i. ap (λ b. b && p (name (entry-name lists e))) (word-small e (upto-elim (k .entries) i))))
 
-  listed-at : (e : ℕ) → e < k .entries → entry-name out e < k .named
-      → List·Memᴰ (name (entry-name out e)) (listed (fact-at name recs out (entry-fact out e)))
+  listed-at : (e : ℕ) → e < k .entries → entry-name lists e < k .names
+      → List·Memᴰ (name (entry-name lists e)) (listed (fact-at name recs lists (entry-fact lists e)))
   unfolding listed fact-at
   listed-at e h l =
       let (a, b, c, d) = entry-owner g e h in
-      let i = entry-fact out e in
-      word-listed name (entries-at recs out i)
-      (part-intro out (entries-base + entries-start recs i) (entries-base + entries-end recs i) (entries-base + e) (entry-room i a) (omega arith) (omega arith))
+      let i = entry-fact lists e in
+      word-listed name (entries-at recs lists i)
+      (part-intro lists (entries-base + entries-start recs i) (entries-base + entries-end recs i) (entries-base + e) (entry-room i a) (omega arith) (omega arith))
       (omega (arith, x .table .few))
 
-  at-listed : (i : ℕ) (y : Name) → i < k .records → List·Memᴰ y (listed (fact-at name recs out i))
-      → (e : ℕ) × (e < k .entries) × (entry-fact out e ≡ i) × (entry-name out e < k .named) × (y ≡ name (entry-name out e))
+  at-listed : (i : ℕ) (y : Name) → i < k .records → List·Memᴰ y (listed (fact-at name recs lists i))
+      → (e : ℕ) × (e < k .entries) × (entry-fact lists e ≡ i) × (entry-name lists e < k .names) × (y ≡ name (entry-name lists e))
   unfolding listed fact-at
   at-listed i y h q =
-      let (w, a, b, c) = listed-word name (entries-at recs out i) q in
+      let (w, a, b, c) = listed-word name (entries-at recs lists i) q in
       let (e, lo, hi, m, s) = entry-at h a in
-      let v : entry-name out e ≡ w % last-flag = ap (λ o. o % last-flag) s in
+      let v : entry-name lists e ≡ w % last-flag = ap (λ o. o % last-flag) s in
       (e, m, g .facts i e h lo hi, ⊎-elim (λ o. o) (λ o. absurd (omega arith)) (r .entry-words e m), c ∙ ap name (sym v))
 
-  pub holds : Holds (held-of names recs out k) (name-of file names) (ask-of k) (macros (decls-of (name-of file names) recs out (k .records)))
-      (facts (decls-of (name-of file names) recs out (k .records))) (fact-at (name-of file names) recs out)
+  pub holds : (a : Asked) → Holds (held-of names recs lists k a) (name-of file names) (ask-of a) (macros (decls-of (name-of file names) recs lists (k .records)))
+      (facts (decls-of (name-of file names) recs lists (k .records))) (fact-at (name-of file names) recs lists)
   unfolding held-of retained retainable fact-at free-at disjuncts-of
-  holds = record {
+  holds a = record {
     injective = distinct (x .table);
     rows-apart = λ i j h l u v e.
         let a = x .stocked .taken .took i h (omega (arith, eqb→eq (record-kind recs i) assume-kind u)) in
         let b = x .stocked .taken .took j l (omega (arith, eqb→eq (record-kind recs j) assume-kind v)) in
         let c = ap (taken-at names) e in
         omega arith;
-    fact-in = λ i h u. facts-intro name recs out (k .records) i h u;
-    fact-of = λ f u. facts-elim name recs out (k .records) u;
+    fact-in = λ i h u. facts-intro name recs lists (k .records) i h u;
+    fact-of = λ f u. facts-elim name recs lists (k .records) u;
     fact-name = λ i h u. refl;
     fact-retained = λ i h u. refl;
     fact-frees = λ i h u. refl;

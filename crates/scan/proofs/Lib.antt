@@ -7,6 +7,7 @@ pub mod Round
 pub mod Meeting
 pub mod Rounds
 pub mod Running
+pub mod Timing
 pub mod Starting
 pub mod Meets
 pub mod Visiting
@@ -14,6 +15,7 @@ pub mod Chaining
 pub mod Phases
 pub mod Listing
 pub mod Background
+pub mod Queries
 pub mod Opening
 pub mod Joining
 pub mod Asking

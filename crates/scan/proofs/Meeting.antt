@@ -15,7 +15,7 @@ use Rattle.model.specs.Pruning.{Map}
 use Rattle.model.specs.Rounds.{Run, met-from, met-after, lies-within}
 use Rattle.model.proofs.ListLaws.{T-ext, any-cong, all-intro, all-elim, collect-intro, collect-elim, map-intro, map-elim}
 use Rattle.model.proofs.SetLaws.{mem-intro, mem-elim, mem-from-list, mem-union}
-use Rattle.demands.proofs.MetLaws.{opened, met-intro, met-elim}
+use Rattle.laws.proofs.MetLaws.{opened, met-intro, met-elim}
 use Rattle.scan.specs.Held.{Held, Fits, Holds}
 use Rattle.scan.specs.Steps.{is-met, marks, opened-all, scanned-by, fires-on}
 use Rattle.scan.proofs.Marks.{met-old, met-in, met-cases}

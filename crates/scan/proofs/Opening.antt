@@ -18,7 +18,7 @@ use Rattle.model.specs.Summaries.{common-names}
 use Rattle.model.proofs.ListLaws.{map-intro, map-elim, T-true, true-T, T-and}
 use Rattle.model.proofs.SetLaws.{mem-intro, mem-elim, mem-from-list}
 use Rattle.model.proofs.PartLaws.{part-elim}
-use Rattle.demands.proofs.MapLaws.{Found, bound, unbound, found, try-find-append}
+use Rattle.laws.proofs.MapLaws.{Found, bound, unbound, found, try-find-append}
 use Rattle.names.specs.Known.{known-names, head-code}
 use Rattle.names.specs.Table.{Table, name-of, name-code}
 use Rattle.names.proofs.Coded.{code-exact}
@@ -78,30 +78,30 @@ start-none x h = go (found init-macro-freenames x)
 
 -- ---- what a macro word opens to
 
-opens-none : (recs out : List ℕ) → opens-at recs out 0 ≡ []
+opens-none : (recs lists : List ℕ) → opens-at recs lists 0 ≡ []
 unfolding opens-at
-opens-none recs out = refl
+opens-none recs lists = refl
 
-opens-record : (recs out : List ℕ) (i : ℕ) → i < most-records → opens-at recs out (i + 1) ≡ uses-at recs out i
+opens-record : (recs lists : List ℕ) (i : ℕ) → i < most-records → opens-at recs lists (i + 1) ≡ uses-at recs lists i
 unfolding opens-at
-opens-record recs out i h =
+opens-record recs lists i h =
     let e : i + 1 - 1 ≡ i = omega arith in
     rw (ne-eqb (i + 1) 0 (λ q. omega arith), lt-ltb (i + 1) opened-word (omega arith), e)
 
-opens-name : (recs out : List ℕ) (m : ℕ) → opens-at recs out (opened-word + m) ≡ m ∷ []
+opens-name : (recs lists : List ℕ) (m : ℕ) → opens-at recs lists (opened-word + m) ≡ m ∷ []
 unfolding opens-at
-opens-name recs out m =
+opens-name recs lists m =
     let e : opened-word + m - opened-word ≡ m = omega arith in
     rw (ne-eqb (opened-word + m) 0 (λ q. omega arith), le-ltb (opened-word + m) opened-word (omega arith), e)
 
 -- a number that it opens to is one of a record's, or the word's own
-pub opens-elim : (recs out : List ℕ) (w m : ℕ) → List·Memᴰ m (opens-at recs out w)
-    → ((0 < w) × (w < opened-word) × List·Memᴰ m (uses-at recs out (w - 1))) ⊎ ((opened-word ≤ w) × (m ≡ w - opened-word))
+pub opens-elim : (recs lists : List ℕ) (w m : ℕ) → List·Memᴰ m (opens-at recs lists w)
+    → ((0 < w) × (w < opened-word) × List·Memᴰ m (uses-at recs lists (w - 1))) ⊎ ((opened-word ≤ w) × (m ≡ w - opened-word))
 unfolding opens-at
-opens-elim recs out w m q = go (equal w 0) (below w opened-word)
+opens-elim recs lists w m q = go (equal w 0) (below w opened-word)
   where
     go : (w ≡ 0) ⊎ (w ≡ 0 → ⊥) → (w < opened-word) ⊎ (opened-word ≤ w)
-        → ((0 < w) × (w < opened-word) × List·Memᴰ m (uses-at recs out (w - 1))) ⊎ ((opened-word ≤ w) × (m ≡ w - opened-word))
+        → ((0 < w) × (w < opened-word) × List·Memᴰ m (uses-at recs lists (w - 1))) ⊎ ((opened-word ≤ w) × (m ≡ w - opened-word))
     go (inl z) b = absurd (List·Memᴰ·not-nil (rw (eq-eqb w 0 z) at q))
     go (inr z) (inl l) = inl (omega arith, l, rw (ne-eqb w 0 z, lt-ltb w opened-word l) at q)
     go (inr z) (inr l) = inr (l, only (rw (ne-eqb w 0 z, le-ltb w opened-word l) at q))
@@ -150,25 +150,25 @@ def-elim recs w e =
     let (a, b) = T-and (ltb 0 w) (eqb (record-kind recs (w - 1)) def-kind) .0 (true-T e) in
     (ltb→lt 0 w a, eqb→eq (record-kind recs (w - 1)) def-kind b)
 
-module _ {file names recs out : List ℕ} {named records entries uses : ℕ} (table : Table file names named)
-    (r : Records recs out named records entries uses) (t : Taken names recs records) where
+module _ {file names recs lists : List ℕ} {named records entries uses : ℕ} (table : Table file names named)
+    (r : Records recs lists named records entries uses) (t : Taken names recs records) where
   abbrev name : ℕ → Name
   name = name-of file names
 
   -- the macros of the definitions
   abbrev defs : Map (List Name)
-  defs = map (λ d. (d .name, d .free-names)) (definitions (decls-of name recs out records))
+  defs = map (λ d. (d .name, d .free-names)) (definitions (decls-of name recs lists records))
 
   -- what a name is bound to
   abbrev Same-names : Option (List Name) → ℕ → List ℕ → Type 0
   Same-names o m ns = List·Memᴰ (name m) (Option·getD o []) ↔ List·Memᴰ m ns
 
   -- the free names of a record, by number
-  free-exact : (i m : ℕ) → i < records → m < named → List·Memᴰ (name m) (free-at name recs out i) ↔ List·Memᴰ m (uses-at recs out i)
+  free-exact : (i m : ℕ) → i < records → m < named → List·Memᴰ (name m) (free-at name recs lists i) ↔ List·Memᴰ m (uses-at recs lists i)
   unfolding free-at
   free-exact i m h l =
-      let ns = uses-at recs out i in
-      let room : uses-end recs i ≤ length out = omega (arith, r .uses-in i h, r .few-uses, r .out-room) in (
+      let ns = uses-at recs lists i in
+      let room : uses-end recs i ≤ length lists = omega (arith, r .uses-in i h, r .few-uses, r .lists-room) in (
         λ q.
             let (k, a, b) = map-elim name ns (mem-elim (mem-from-list (name m) (map name ns) .0 (mem-intro q))) in
             let p = part-elim room a in
@@ -180,7 +180,7 @@ module _ {file names recs out : List ℕ} {named records entries uses : ℕ} (ta
 
   -- a macro of the start, by number
   start-exact : (n m : ℕ) → n < named → m < named
-      → Same-names (try-find init-macro-freenames (name n)) m (opens-at recs out (start-word names named (name-code names n)))
+      → Same-names (try-find init-macro-freenames (name n)) m (opens-at recs lists (start-word names named (name-code names n)))
   unfolding start-word opens-at opened
   start-exact n m h l = go (below c first-macro) (below c (first-macro + macro-count))
     where
@@ -198,24 +198,24 @@ module _ {file names recs out : List ℕ} {named records entries uses : ℕ} (ta
           (λ q. table .codes k l ∙ x .1 (q ∙ ap known (sym e)), λ q. x .0 (sym (table .codes k l) ∙ q) ∙ ap known e)
 
       found-at : first-macro ≤ c → c < first-macro + macro-count → (w : ℕ) → newest (name-code names) (c + macro-count) named ≡ w
-          → List·Memᴰ (name m) (known (c + 4) ∷ []) ↔ List·Memᴰ m (opens-at recs out (opened w))
+          → List·Memᴰ (name m) (known (c + 4) ∷ []) ↔ List·Memᴰ m (opens-at recs lists (opened w))
       found-at a b zero e = (
         λ q. absurd (newest-none (name-code names) (c + macro-count) named e m l (is-known m l a b .0 (only q))),
-        λ q. absurd (List·Memᴰ·not-nil (rw (opens-none recs out) at q)),
+        λ q. absurd (List·Memᴰ·not-nil (rw (opens-none recs lists) at q)),
       )
       found-at a b (suc k) e =
           let (x, y) = newest-at (name-code names) (c + macro-count) named k e in (
-            λ q. rw (opens-name recs out k) (List·Memᴰ·head (distinct table m k l x (only q ∙ sym (is-known k x a b .1 y)))),
-            λ q. List·Memᴰ·head (ap name (only (rw (opens-name recs out k) at q)) ∙ is-known k x a b .1 y),
+            λ q. rw (opens-name recs lists k) (List·Memᴰ·head (distinct table m k l x (only q ∙ sym (is-known k x a b .1 y)))),
+            λ q. List·Memᴰ·head (ap name (only (rw (opens-name recs lists k) at q)) ∙ is-known k x a b .1 y),
           )
 
       word : Bool → ℕ
       word b = cond b (opened (newest (name-code names) (c + macro-count) named)) 0
 
       nothing : (first-macro ≤ c → c < first-macro + macro-count → ⊥) → (b : Bool) → b ≡ false
-          → Same-names (try-find init-macro-freenames (name n)) m (opens-at recs out (word b))
+          → Same-names (try-find init-macro-freenames (name n)) m (opens-at recs lists (word b))
       nothing q b e =
-          rw (start-none (name n) (λ x y. q (omega (arith, code)) (omega (arith, code))), e, opens-none recs out)
+          rw (start-none (name n) (λ x y. q (omega (arith, code)) (omega (arith, code))), e, opens-none recs lists)
           (λ z. absurd (List·Memᴰ·not-nil z), λ z. absurd (List·Memᴰ·not-nil z))
 
       tests : first-macro ≤ c → c < first-macro + macro-count → (leb first-macro c && ltb c (first-macro + macro-count)) ≡ true
@@ -232,14 +232,14 @@ module _ {file names recs out : List ℕ} {named records entries uses : ℕ} (ta
           q (leb→le first-macro c a) (ltb→lt c (first-macro + macro-count) b))
 
       go : (c < first-macro) ⊎ (first-macro ≤ c) → (c < first-macro + macro-count) ⊎ (first-macro + macro-count ≤ c)
-          → Same-names (try-find init-macro-freenames (name n)) m (opens-at recs out (word (leb first-macro c && ltb c (first-macro + macro-count))))
+          → Same-names (try-find init-macro-freenames (name n)) m (opens-at recs lists (word (leb first-macro c && ltb c (first-macro + macro-count))))
       go (inr a) (inl b) =
           rw (start-opens c a b (name n) code, tests a b) (found-at a b (newest (name-code names) (c + macro-count) named) refl)
       go (inr a) (inr b) = nothing (λ x y. omega arith) _ (outside (λ x y. omega arith))
       go (inl a) b = nothing (λ x y. omega arith) _ (outside (λ x y. omega arith))
 
   pub macro-exact : (n m : ℕ) → n < named → m < named
-      → Same-names (try-find (macros (decls-of name recs out records)) (name n)) m (opens-at recs out (macro-word names recs named n))
+      → Same-names (try-find (macros (decls-of name recs lists records)) (name n)) m (opens-at recs lists (macro-word names recs named n))
   unfolding macros macro-word is-def decl-at or-else
   macro-exact n m h l = rw (try-find-append defs init-macro-freenames (name n)) (go (found defs (name n)))
     where
@@ -258,22 +258,22 @@ module _ {file names recs out : List ℕ} {named records entries uses : ℕ} (ta
           let z : taken-at names n ≡ i + 1 = omega arith in
           let (u, v) = t .takes n i (omega (arith, table .few)) z in
           let p : name (record-name recs i) ≡ name n = ap name v in
-          let d = defs-intro name recs out records i (omega (arith, t .low n (omega (arith, table .few)))) (true-T (eq-eqb (record-kind recs i) def-kind y)) in
-          let k : List·Memᴰ (name (record-name recs i), free-at name recs out i) defs = map-intro (λ (d : Decl). (d .name, d .free-names)) d in
-          absurd (q (free-at name recs out i) (rw p at k))
+          let d = defs-intro name recs lists records i (omega (arith, t .low n (omega (arith, table .few)))) (true-T (eq-eqb (record-kind recs i) def-kind y)) in
+          let k : List·Memᴰ (name (record-name recs i), free-at name recs lists i) defs = map-intro (λ (d : Decl). (d .name, d .free-names)) d in
+          absurd (q (free-at name recs lists i) (rw p at k))
       lacking q false e = refl
 
-      by-record : (a : List Name) (i : ℕ) → i < records → record-kind recs i ≡ def-kind → record-name recs i ≡ n → free-at name recs out i ≡ a
-          → Same-names (some a) m (opens-at recs out (macro-word names recs named n))
-      by-record a i u v w e = rw (taken i u v w, opens-record recs out i (omega (arith, r .few)), ← e) (free-exact i m u l)
+      by-record : (a : List Name) (i : ℕ) → i < records → record-kind recs i ≡ def-kind → record-name recs i ≡ n → free-at name recs lists i ≡ a
+          → Same-names (some a) m (opens-at recs lists (macro-word names recs named n))
+      by-record a i u v w e = rw (taken i u v w, opens-record recs lists i (omega (arith, r .few)), ← e) (free-exact i m u l)
 
       go : {o : Option (List Name)} → Found defs (name n) o
-          → Same-names (or-else o (try-find init-macro-freenames (name n))) m (opens-at recs out (macro-word names recs named n))
+          → Same-names (or-else o (try-find init-macro-freenames (name n))) m (opens-at recs lists (macro-word names recs named n))
       go (bound {a} q) =
-          let (d, x, y) = map-elim (λ (d : Decl). (d .name, d .free-names)) (definitions (decls-of name recs out records)) q in
-          let (i, u, v, w) = defs-elim name recs out records x in
+          let (d, x, y) = map-elim (λ (d : Decl). (d .name, d .free-names)) (definitions (decls-of name recs lists records)) q in
+          let (i, u, v, w) = defs-elim name recs lists records x in
           let nm : name (record-name recs i) ≡ name n = ap (λ (d : Decl). d .name) (sym w) ∙ ap (λ (b : Name × List Name). b .0) y in
-          let fr : free-at name recs out i ≡ a = ap (λ (d : Decl). d .free-names) (sym w) ∙ ap (λ (b : Name × List Name). b .1) y in
+          let fr : free-at name recs lists i ≡ a = ap (λ (d : Decl). d .free-names) (sym w) ∙ ap (λ (b : Name × List Name). b .1) y in
           let kind = eqb→eq (record-kind recs i) def-kind v in
           by-record a i u kind (distinct table (record-name recs i) n (r .named-in i u (λ z. omega arith)) h nm) fr
       go (unbound q) = rw (lacking q (is-def recs (taken-at names n)) refl) (start-exact n m h l)

@@ -31,7 +31,7 @@ unfoldable pub visited-then : Held → Going → List ℕ
 visited-then h g = visited h (round-of g) (met-then h g) (h .named)
 
 -- what a record meets are names
-pub opened-small : (h : Held) → Fits h → (i n : ℕ) → i < h .records → List·Memᴰ n (opened-all h (h .frees i)) → n < h .named
+pub opened-small : (h : Held) → Fits h → (i n : ℕ) → i < h .records → List·Memᴰ n (opened-all (h .opens) (h .frees i)) → n < h .named
 unfolding opened-all
 opened-small h fits i n l m =
     let (b, z, s) = collect-elim (λ n. n ∷ h .opens n) (h .frees i) m in
@@ -46,7 +46,7 @@ module _ (h : Held) (fits : Fits h) (g : Going) (ready : Ready h g) where
   scanned-small : (n : ℕ) → List·Memᴰ n (scanned-by h (items g)) → n < h .named
   unfolding scanned-by
   scanned-small n m =
-      let (i, x, y) = collect-elim (λ i. opened-all h (h .frees i)) (items g) m in
+      let (i, x, y) = collect-elim (λ i. opened-all (h .opens) (h .frees i)) (items g) m in
       opened-small h fits i n (ready .items-small i x) y
 
   -- meeting writes no other column

@@ -14,7 +14,7 @@ use Rattle.model.specs.Pruning.{Map}
 use Rattle.model.specs.Rounds.{Run, met-after, lies-within, triggers-in, triggered, fresh, after-round, next-scanned, retainable, listed}
 use Rattle.model.proofs.ListLaws.{T-ext, T-and, any-intro, any-elim, keep-intro, keep-elim, collect-intro, collect-elim, map-intro, map-elim, not-nil-mem, mem-not-nil}
 use Rattle.model.proofs.SetLaws.{Ascending, ascending-ext, ascending-union, mem-intro, mem-elim, mem-from-list}
-use Rattle.demands.proofs.RoundsLaws.{reached-elim, reached-stays, reached-intro}
+use Rattle.laws.proofs.ReachedLaws.{reached-elim, reached-stays, reached-intro}
 use Rattle.scan.specs.Held.{Held, Fits, Holds, set-of}
 use Rattle.scan.specs.Steps.{Going, is-met, is-reached, scanned-by, fires-on, items, met-phase, round, Ready}
 use Rattle.scan.proofs.Numbers.{set-intro, set-elim, set-at, set-ascending}
@@ -115,7 +115,7 @@ module _ {h : Held} {name : ℕ → Name} {a : Ask} {ms : Map (List Name)} {fs :
   -- ---- the facts reached
 
   -- a fact's name is reached where its record is
-  reached-at : (i : ℕ) → i < h .records → T (h .is-fact i) → mem (fact i .name) (run .reached) ≡ is-reached (g .run) i
+  pub reached-at : (i : ℕ) → i < h .records → T (h .is-fact i) → mem (fact i .name) (run .reached) ≡ is-reached (g .run) i
   reached-at i l t =
       rw (at .reached-is, holds .fact-name i l t)
       (set-at (label h name) (is-reached (g .run)) (h .records) i l

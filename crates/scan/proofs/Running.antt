@@ -12,7 +12,7 @@ use Rattle.model.specs.Reading.{Ask, most-records}
 use Rattle.model.specs.Pruning.{Map}
 use Rattle.model.specs.Rounds.{Run, triggered, after-round, next-scanned, visits}
 use Rattle.model.proofs.ListLaws.{true-T, false-T, count-cong}
-use Rattle.demands.specs.Fuel.{Ends, last, more}
+use Rattle.laws.specs.Fuel.{Ends, last, more}
 use Rattle.scan.specs.Held.{Held, Fits, Holds, upto}
 use Rattle.scan.specs.Steps.{Going, run-end, is-met, is-reached, round, Ready, Rounds, last as last-round, more as more-rounds}
 use Rattle.scan.proofs.Round.{then-ready, then-length, then-far, then-visits, then-facts}

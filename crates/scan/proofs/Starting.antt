@@ -1,4 +1,4 @@
--- The start of a run: the columns cleared, the roots on the worklist.
+-- The start of a run: the columns set to zero, the roots on the worklist.
 use Prim.Native.Nat.{ℕ, zero, suc, _+_, _-_, _≤_, _<_}
 use native.Mathlib.Omega.{arith}
 use native.Mathlib.Numerals.{add-one}
@@ -12,69 +12,69 @@ use lib.Seq.{getD-set-same, getD-set-other}
 use borrow.Author.Tests.{eq-eqb, ne-eqb, le-ltb, ltb-true}
 use Rattle.model.specs.Lists.{count}
 use Rattle.model.specs.Reading.{most-records, no-ambients}
-use Rattle.model.specs.declared.Counts.{Counts}
+use Rattle.model.specs.declared.Asked.{Asked}
 use Rattle.model.proofs.ListLaws.{true-T, false-T}
 use Rattle.model.proofs.PartLaws.{part-nil, part-snoc, part-agree}
 use Rattle.terms.proofs.Laws.{equal}
 use Rattle.records.specs.Columns.{record-kind, record-flag, summary-code, assume-kind, root-kind, code-of}
-use Rattle.records.specs.States.{ask-of}
+use Rattle.options.specs.OptionsOf.{ask-of}
 use Rattle.scan.specs.Held.{Held, Fits, upto}
 use Rattle.scan.specs.Steps.{Going, going, reached-column, work-column, run-end, work-room, is-met, is-reached, items, unreached, unmet, Ready}
-use Rattle.scan.specs.Starts.{cleared, first-scan, starts-at, push, pushed}
+use Rattle.scan.specs.Starts.{zeroed-to, first-scan, starts-at, push, pushed}
 use Rattle.scan.specs.declared.Scan.{Scan}
 use Rattle.scan.proofs.Numbers.{count-upto, count-none}
 
 -- ---- clearing
 
-pub clear-start : (w : List ℕ) → w ≡ cleared 0 w
-unfolding cleared
+pub clear-start : (w : List ℕ) → w ≡ zeroed-to 0 w
+unfolding zeroed-to
 clear-start w = refl
 
-pub clear-next : (n : ℕ) (w v : List ℕ) → v ≡ cleared n w → set v n 0 ≡ cleared (n + 1) w
-unfolding cleared
+pub clear-next : (n : ℕ) (w v : List ℕ) → v ≡ zeroed-to n w → set v n 0 ≡ zeroed-to (n + 1) w
+unfolding zeroed-to
 clear-next n w v e = rw (add-one n, e)
 
-pub clear-end : {n m : ℕ} (w v : List ℕ) → v ≡ cleared n w → n ≤ m → m ≤ n → v ≡ cleared m w
-clear-end {n} {m} w v e a b = let z : n ≡ m = omega arith in subst (λ k. v ≡ cleared k w) z e
+pub clear-end : {n m : ℕ} (w v : List ℕ) → v ≡ zeroed-to n w → n ≤ m → m ≤ n → v ≡ zeroed-to m w
+clear-end {n} {m} w v e a b = let z : n ≡ m = omega arith in subst (λ k. v ≡ zeroed-to k w) z e
 
-pub clear-length : (n : ℕ) (w : List ℕ) → length (cleared n w) ≡ length w
-unfolding cleared
+pub clear-length : (n : ℕ) (w : List ℕ) → length (zeroed-to n w) ≡ length w
+unfolding zeroed-to
 clear-length zero w = refl
-clear-length (suc n) w = length-set (cleared n w) n 0 ∙ clear-length n w
+clear-length (suc n) w = length-set (zeroed-to n w) n 0 ∙ clear-length n w
 
-pub clear-zero : (n : ℕ) (w : List ℕ) → n ≤ length w → (i : ℕ) → i < n → _≡_ {A = ℕ} (getD (cleared n w) i 0) 0
-unfolding cleared
+pub clear-zero : (n : ℕ) (w : List ℕ) → n ≤ length w → (i : ℕ) → i < n → _≡_ {A = ℕ} (getD (zeroed-to n w) i 0) 0
+unfolding zeroed-to
 clear-zero zero w l i k = absurd (omega arith)
 clear-zero (suc n) w l i k =
     ⊎-elim
-    (λ (q : i ≡ n). rw q (getD-set-same (cleared n w) n 0 0 (let e = clear-length n w in omega arith)))
-    (λ d. getD-set-other (cleared n w) n i 0 0 d ∙ clear-zero n w (omega arith) i (omega (arith, d)))
+    (λ (q : i ≡ n). rw q (getD-set-same (zeroed-to n w) n 0 0 (let e = clear-length n w in omega arith)))
+    (λ d. getD-set-other (zeroed-to n w) n i 0 0 d ∙ clear-zero n w (omega arith) i (omega (arith, d)))
     (equal i n)
 
-pub clear-far : (n : ℕ) (w : List ℕ) (i : ℕ) → n ≤ i → getD (cleared n w) i 0 ≡ getD w i 0
-unfolding cleared
+pub clear-far : (n : ℕ) (w : List ℕ) (i : ℕ) → n ≤ i → getD (zeroed-to n w) i 0 ≡ getD w i 0
+unfolding zeroed-to
 clear-far zero w i k = refl
-clear-far (suc n) w i k = getD-set-other (cleared n w) n i 0 0 (λ e. omega arith) ∙ clear-far n w i (omega arith)
+clear-far (suc n) w i k = getD-set-other (zeroed-to n w) n i 0 0 (λ e. omega arith) ∙ clear-far n w i (omega arith)
 
 -- ---- which records round 1 scans
 
-module _ (recs : List ℕ) (k : Counts) (i x : ℕ) (e : x ≡ record-kind recs i) where
-  pub starts-root : (y : ℕ) → x ≡ root-kind → y ≡ record-flag recs i → eqb y (k .query) ≡ starts-at recs k i
+module _ (recs : List ℕ) (a : Asked) (i x : ℕ) (e : x ≡ record-kind recs i) where
+  pub starts-root : (y : ℕ) → x ≡ root-kind → y ≡ record-flag recs i → eqb y (a .query) ≡ starts-at recs a i
   unfolding starts-at
-  starts-root y a b = rw (← e, eq-eqb x root-kind a, b)
+  starts-root y p q = rw (← e, eq-eqb x root-kind p, q)
 
-  pub starts-other : (x ≡ root-kind → ⊥) → (x ≡ assume-kind → ⊥) → false ≡ starts-at recs k i
+  pub starts-other : (x ≡ root-kind → ⊥) → (x ≡ assume-kind → ⊥) → false ≡ starts-at recs a i
   unfolding starts-at
-  starts-other a b = rw (← e, ne-eqb x root-kind a, ne-eqb x assume-kind b)
+  starts-other p q = rw (← e, ne-eqb x root-kind p, ne-eqb x assume-kind q)
 
-  pub starts-no : (y : ℕ) → x ≡ assume-kind → y ≡ summary-code recs i → (y ≡ 2 → ⊥) → false ≡ starts-at recs k i
+  pub starts-no : (y : ℕ) → x ≡ assume-kind → y ≡ summary-code recs i → (y ≡ 2 → ⊥) → false ≡ starts-at recs a i
   unfolding starts-at code-of
-  starts-no y a b d = rw (← e, ne-eqb x root-kind (λ z. omega arith), eq-eqb x assume-kind a, ← b, ne-eqb y 2 d)
+  starts-no y p q d = rw (← e, ne-eqb x root-kind (λ z. omega arith), eq-eqb x assume-kind p, ← q, ne-eqb y 2 d)
 
-  pub starts-ambient : (y : ℕ) (off : Bool) → x ≡ assume-kind → y ≡ summary-code recs i → y ≡ 2 → off ≡ no-ambients (ask-of k)
-      → not off ≡ starts-at recs k i
+  pub starts-ambient : (y : ℕ) (off : Bool) → x ≡ assume-kind → y ≡ summary-code recs i → y ≡ 2 → off ≡ no-ambients (ask-of a)
+      → not off ≡ starts-at recs a i
   unfolding starts-at code-of
-  starts-ambient y off a b d o = rw (← e, ne-eqb x root-kind (λ z. omega arith), eq-eqb x assume-kind a, ← b, eq-eqb y 2 d, o)
+  starts-ambient y off p q d o = rw (← e, ne-eqb x root-kind (λ z. omega arith), eq-eqb x assume-kind p, ← q, eq-eqb y 2 d, o)
 
 -- ---- the worklist
 
@@ -249,13 +249,13 @@ pub record Begun (h : Held) (test : ℕ → Bool) (g : Going) : Type 0 where
   pub item-intro : (i : ℕ) → i < h .records → T (test i) → List·Memᴰ i (items g)
 
 pub begun : (h : Held) → Fits h → (test : ℕ → Bool) (w : List ℕ) → run-end ≤ length w
-    → Begun h test (pushed test (h .records) (going first-scan (cleared work-column w)))
+    → Begun h test (pushed test (h .records) (going first-scan (zeroed-to work-column w)))
 begun h fits test w long =
     go (pushed test (h .records) g₀)
     (pushed-is test (h .records) g₀ (omega arith) (omega (arith, fits .few-records)) (rw (clear-length work-column w) long))
   where
     g₀ : Going
-    g₀ = going first-scan (cleared work-column w)
+    g₀ = going first-scan (zeroed-to work-column w)
 
     go : (g : Going) → Pushed test (h .records) g₀ g → Begun h test g
     go g p =
@@ -268,7 +268,7 @@ begun h fits test w long =
         let no-reached : (i : ℕ) → i < most-records → T (not (is-reached (g .run) i)) =
         λ i l. none-reached (g .run) i (zeros (reached-column + i) (omega arith)) in
         let scans : (i : ℕ) → List·Memᴰ i (items g) → (i < h .records) × T (test i) =
-        λ i m. ⊎-elim (λ k. absurd (no-items (cleared work-column w) i k)) (λ q. q) (p .only i m) in
+        λ i m. ⊎-elim (λ k. absurd (no-items (zeroed-to work-column w) i k)) (λ q. q) (p .only i m) in
         record {
           ready = record {
             room = record { fits = let m = few-unreached (g .run) in omega arith; long = omega arith };

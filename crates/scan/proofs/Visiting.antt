@@ -9,26 +9,28 @@ use lib.ListN.{getD, set}
 use borrow.Author.Tests.{eq-eqb, ne-eqb, lt-ltb, le-ltb}
 use Rattle.model.specs.Lists.{part}
 use Rattle.model.specs.Reading.{most-records, most-entries, pretyping-axioms}
+use Rattle.model.specs.declared.Asked.{Asked}
 use Rattle.model.specs.declared.Counts.{Counts}
 use Rattle.model.proofs.ListLaws.{false-T}
 use Rattle.triggers.specs.Entries.{entries-base}
 use Rattle.records.specs.Columns.{record-flag, entries-start, entries-end, entry-fact}
-use Rattle.records.specs.States.{entries-at, ask-of}
+use Rattle.options.specs.OptionsOf.{ask-of}
+use Rattle.records.specs.States.{entries-at}
 use Rattle.scan.specs.Tables.{retained, held-of, Laid}
-use Rattle.scan.specs.Steps.{Going, going, reached-column, work-column, is-met, is-reached, fires-in, fires-on, counted, reach, visit, unreached, work-room, Room}
+use Rattle.scan.specs.Steps.{Going, going, reached-column, work-column, is-met, is-reached, fires-in, fires-on, counted, reach-record, visit, unreached, work-room, Room}
 use Rattle.scan.specs.declared.Scan.{Scan}
 use Rattle.scan.proofs.Numbers.{count-some}
 use Rattle.scan.proofs.Firing.{fires-exact}
 use Rattle.scan.proofs.Visits.{or-none}
 
 -- whether a record is retainable
-pub flag-off : (recs : List ℕ) (k : Counts) (i x : ℕ) → x ≡ record-flag recs i → (x ≡ 1 → ⊥) → true ≡ retained recs k i
+pub flag-off : (recs : List ℕ) (a : Asked) (i x : ℕ) → x ≡ record-flag recs i → (x ≡ 1 → ⊥) → true ≡ retained recs a i
 unfolding retained
-flag-off recs k i x e d = rw (← e, ne-eqb x 1 d)
+flag-off recs a i x e d = rw (← e, ne-eqb x 1 d)
 
-pub flag-on : (recs : List ℕ) (k : Counts) (i x : ℕ) (b : Bool) → x ≡ record-flag recs i → x ≡ 1 → b ≡ pretyping-axioms (ask-of k) → b ≡ retained recs k i
+pub flag-on : (recs : List ℕ) (a : Asked) (i x : ℕ) (b : Bool) → x ≡ record-flag recs i → x ≡ 1 → b ≡ pretyping-axioms (ask-of a) → b ≡ retained recs a i
 unfolding retained
-flag-on recs k i x b e d o = rw (← e, eq-eqb x 1 d, o)
+flag-on recs a i x b e d o = rw (← e, eq-eqb x 1 d, o)
 
 or-true : (b : Bool) → (b || true) ≡ true
 or-true true = refl
@@ -51,7 +53,7 @@ a-place {g} {i} {v} room l e z =
     let x = room .fits in
     omega arith
 
-module _ {names recs out : List ℕ} {k : Counts} (laid : Laid names recs out k) (e i : ℕ) (l : e < k .entries) (p : i ≡ entry-fact out e) where
+module _ {names recs lists : List ℕ} {k : Counts} (laid : Laid names recs lists k) (e i : ℕ) (l : e < k .entries) (p : i ≡ entry-fact lists e) where
   -- the record of the entry
   pub fact-low : i < k .records
   fact-low = let z = laid .entry-facts e l in omega arith
@@ -64,31 +66,31 @@ module _ {names recs out : List ℕ} {k : Counts} (laid : Laid names recs out k)
     pub entries-place : (x ≤ y) × (y ≤ most-entries)
     entries-place = let z = laid .entry-place i fact-low in (omega arith, omega arith)
 
-    module _ (w : List ℕ) (f : Bool) (u : f ≡ fires-in w true (part out (entries-base + x) (entries-base + y))) where
+    module _ (a : Asked) (w : List ℕ) (f : Bool) (u : f ≡ fires-in w true (part lists (entries-base + x) (entries-base + y))) where
       -- what the loops find of it
-      fires-so : fires-on (held-of names recs out k) (is-met w) (entry-fact out e) ≡ f
+      fires-so : fires-on (held-of names recs lists k a) (is-met w) (entry-fact lists e) ≡ f
       unfolding fires-on held-of
-      fires-so = rw (← p) (sym (u ∙ rw (q, t) (fires-exact w (entries-at recs out i) (laid .entry-words i fact-low .closed))))
+      fires-so = rw (← p) (sym (u ∙ rw (q, t) (fires-exact w (entries-at recs lists i) (laid .entry-words i fact-low .closed))))
 
       module _ (s : Scan) where
-        pub visit-quiet : f ≡ false → seen s (s .to) w (s .triggered) ≡ visit (held-of names recs out k) (going s w) e
+        pub visit-quiet : f ≡ false → seen s (s .to) w (s .triggered) ≡ visit (held-of names recs lists k a) (going s w) e
         unfolding visit counted held-of
         visit-quiet z = rw (fires-so, z) (ap (seen s (s .to) w) (sym (or-none (s .triggered))))
 
-        module _ (b : Bool) (z : f ≡ true) (a : b ≡ retained recs k i) where
-          pub visit-dropped : b ≡ false → seen s (s .to) w true ≡ visit (held-of names recs out k) (going s w) e
+        module _ (b : Bool) (z : f ≡ true) (r : b ≡ retained recs a i) where
+          pub visit-dropped : b ≡ false → seen s (s .to) w true ≡ visit (held-of names recs lists k a) (going s w) e
           unfolding visit counted held-of
-          visit-dropped d = rw (fires-so, z, ← p, ← a, d) (ap (seen s (s .to) w) (sym (or-true (s .triggered))))
+          visit-dropped d = rw (fires-so, z, ← p, ← r, d) (ap (seen s (s .to) w) (sym (or-true (s .triggered))))
 
           pub visit-again : (v : ℕ) → b ≡ true → v ≡ getD w (reached-column + i) 0 → (v ≡ 0 → ⊥)
-              → seen s (s .to) w true ≡ visit (held-of names recs out k) (going s w) e
+              → seen s (s .to) w true ≡ visit (held-of names recs lists k a) (going s w) e
           unfolding visit counted held-of is-reached
-          visit-again v d j g = rw (fires-so, z, ← p, ← a, d, ← j, positive v g) (ap (seen s (s .to) w) (sym (or-true (s .triggered))))
+          visit-again v d j g = rw (fires-so, z, ← p, ← r, d, ← j, positive v g) (ap (seen s (s .to) w) (sym (or-true (s .triggered))))
 
           pub visit-new : (v : ℕ) → b ≡ true → v ≡ getD w (reached-column + i) 0 → v ≡ 0
               → seen s (s .to + 1) (set (set w (reached-column + i) (s .rounds)) (work-column + s .to) i) true
-              ≡ visit (held-of names recs out k) (going s w) e
-          unfolding visit counted reach held-of is-reached
+              ≡ visit (held-of names recs lists k a) (going s w) e
+          unfolding visit counted reach-record held-of is-reached
           visit-new v d j g =
-              rw (fires-so, z, ← p, ← a, d, ← j, g)
+              rw (fires-so, z, ← p, ← r, d, ← j, g)
               (ap (seen s (s .to + 1) (set (set w (reached-column + i) (s .rounds)) (work-column + s .to) i)) (sym (or-true (s .triggered))))

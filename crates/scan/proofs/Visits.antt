@@ -13,7 +13,7 @@ use Rattle.model.specs.Reading.{most-names, most-records}
 use Rattle.model.proofs.ListLaws.{any-cong, any-append, all-intro, all-elim, T-ext, T-and, T-dec, branch}
 use Rattle.terms.proofs.Laws.{equal, below}
 use Rattle.scan.specs.Held.{Held, Fits}
-use Rattle.scan.specs.Steps.{Going, reached-column, work-column, run-end, work-room, is-met, is-reached, fires-on, reach, counted, visit, visits-of, unreached, Room}
+use Rattle.scan.specs.Steps.{Going, reached-column, work-column, run-end, work-room, is-met, is-reached, fires-on, reach-record, counted, visit, visits-of, unreached, Room}
 use Rattle.scan.proofs.Numbers.{count-less, count-some}
 
 all-cong : (p q : ℕ → Bool) (l : List ℕ) → ((n : ℕ) → List·Memᴰ n l → p n ≡ q n) → all p l ≡ all q l
@@ -44,6 +44,11 @@ pub record Fired (h : Held) (g₀ g : Going) (es : List ℕ) : Type 0 where
   pub reached-from : (i : ℕ) → i < most-records → T (is-reached (g .run) i)
       → T (is-reached (g₀ .run) i)
       ⊎ ((e : ℕ) × List·Memᴰ e es × (h .entry-fact e ≡ i) × T (fires-on h (is-met (g₀ .run)) i) × T (h .retains i))
+  -- the round in which a record is reached stands in its word
+  pub reached-kept : (i : ℕ) → i < most-records → T (is-reached (g₀ .run) i)
+      → getD (g .run) (reached-column + i) 0 ≡ getD (g₀ .run) (reached-column + i) 0
+  pub reached-now : (i : ℕ) → i < most-records → T (is-reached (g .run) i) → T (not (is-reached (g₀ .run) i))
+      → getD (g .run) (reached-column + i) 0 ≡ g₀ .scan .rounds
   pub to-up : g .scan .to + unreached (g .run) ≡ g₀ .scan .to + unreached (g₀ .run)
   pub to-le : g₀ .scan .to ≤ g .scan .to
   pub work-old : (k : ℕ) → k < g₀ .scan .to → getD (g .run) (work-column + k) 0 ≡ getD (g₀ .run) (work-column + k) 0
@@ -94,6 +99,8 @@ fired-none h g =
       reached-old = λ i l t. t;
       reached-in = λ d m t u. absurd (List·Memᴰ·not-nil m);
       reached-from = λ i l t. inl t;
+      reached-kept = λ i l t. refl;
+      reached-now = λ i l t u. absurd (T-not (is-reached (g .run) i) u t);
       to-up = refl;
       to-le = omega arith;
       work-old = λ k l. refl;
@@ -122,6 +129,11 @@ fired-then {h} {g₀} {g₁} {g₂} {es} {fs} fits within a b =
           (λ (e, m, k, f, v).
           inr (e, Memᴰ·append-right es m, k, rw (← k) (rw (same e (fits .fact-small e (small e m))) at (rw (← k) at f)), v))
           (b .reached-from i l t);
+      reached-kept = λ i l t. b .reached-kept i l (a .reached-old i l t) ∙ a .reached-kept i l t;
+      reached-now = λ i l t u. ⊎-elim
+          (λ v. b .reached-kept i l v ∙ a .reached-now i l v u)
+          (λ v. b .reached-now i l t v ∙ a .rounds-same)
+          (T-dec (is-reached (g₁ .run) i));
       to-up = b .to-up ∙ a .to-up;
       to-le = let x = a .to-le in let y = b .to-le in omega arith;
       work-old = λ k l. let x = a .to-le in b .work-old k (omega arith) ∙ a .work-old k l;
@@ -216,6 +228,8 @@ module _ (h : Held) (fits : Fits h) (g : Going) (p : 0 < g .scan .rounds) (room 
             (λ (q : d ≡ e). rw q (k (rw (q, s) at t) (rw q at u)))
             (λ n. absurd (List·Memᴰ·not-nil n)) (List·Memᴰ·cases-cons m);
         reached-from = λ i l t. inl t;
+        reached-kept = λ i l t. refl;
+        reached-now = λ i l t u. absurd (T-not (is-reached (g .run) i) u t);
         to-up = refl;
         to-le = omega arith;
         work-old = λ k l. refl;
@@ -233,8 +247,8 @@ module _ (h : Held) (fits : Fits h) (g : Going) (p : 0 < g .scan .rounds) (room 
 
   -- its fact is reached
   also-reached : T (fires-on h (is-met (g .run)) (h .entry-fact e)) → T (h .retains (h .entry-fact e)) → T (not (is-reached (g .run) (h .entry-fact e)))
-      → Fired h g (reach (counted (fires-on h (is-met (g .run)) (h .entry-fact e)) g) (h .entry-fact e)) (e ∷ [])
-  unfolding counted reach any
+      → Fired h g (reach-record (counted (fires-on h (is-met (g .run)) (h .entry-fact e)) g) (h .entry-fact e)) (e ∷ [])
+  unfolding counted reach-record any
   also-reached f t u =
       let i = h .entry-fact e in
       let v = set (set (g .run) (reached-column + i) (g .scan .rounds)) (work-column + g .scan .to) i in
@@ -253,6 +267,10 @@ module _ (h : Held) (fits : Fits h) (g : Going) (p : 0 < g .scan .rounds) (room 
         reached-in = λ d m s z. ⊎-elim (λ (q : d ≡ e). rw q own) (λ n. absurd (List·Memᴰ·not-nil n)) (List·Memᴰ·cases-cons m);
         reached-from = λ j k s. ⊎-elim
             (λ (q : j ≡ i). inr (e, List·Memᴰ·head refl, sym q, rw q f, rw q t)) (λ d. inl (rw (other j k d) at s)) (equal j i);
+        reached-kept = λ j k s. ⊎-elim
+            (λ (q : j ≡ i). absurd (T-not (is-reached (g .run) i) u (rw q at s))) (λ d. c .others j k d) (equal j i);
+        reached-now = λ j k s z. ⊎-elim
+            (λ (q : j ≡ i). rw q (c .own)) (λ d. absurd (T-not (is-reached (g .run) j) z (rw (other j k d) at s))) (equal j i);
         to-up = let x = fewer-unreached c p small u in omega arith;
         to-le = omega arith;
         work-old = c .before;

@@ -1,4 +1,4 @@
--- The start of a run on numbers: its columns cleared, the records that round 1 scans put on the worklist.
+-- The start of a run on numbers: its columns set to zero, the records that round 1 scans put on the worklist.
 use Prim.Native.Nat.{ℕ, zero, suc, _+_}
 use mathlib.Core.Bool.{Bool, true, false, cond, not, _&&_}
 use mathlib.Core.List.{List}
@@ -6,27 +6,27 @@ use lib.Dec.{eqb}
 use lib.ListN.{set}
 use Rattle.model.specs.Reading.{no-ambients}
 use Rattle.model.specs.declared.AsumKind.the-variants.{Ambient}
-use Rattle.model.specs.declared.Counts.{Counts}
+use Rattle.model.specs.declared.Asked.{Asked}
 use Rattle.records.specs.Columns.{record-kind, record-flag, summary-code, assume-kind, root-kind, code-of}
-use Rattle.records.specs.States.{ask-of}
+use Rattle.options.specs.OptionsOf.{ask-of}
 use Rattle.scan.specs.Steps.{Going, work-column}
 use Rattle.scan.specs.declared.Scan.{Scan}
 
 -- the first n words set to zero
-unfoldable pub cleared : ℕ → List ℕ → List ℕ
-cleared zero w = w
-cleared (suc n) w = set (cleared n w) n 0
+unfoldable pub zeroed-to : ℕ → List ℕ → List ℕ
+zeroed-to zero w = w
+zeroed-to (suc n) w = set (zeroed-to n w) n 0
 
 -- the state before round 1, nothing on the worklist
 abbrev pub first-scan : Scan
 first-scan = record { from = 0; to = 0; visits = 0; rounds = 0; triggered = false }
 
 -- whether round 1 scans a record: a root of the query or, without option 1, an ambient root
-unfoldable pub starts-at : List ℕ → Counts → ℕ → Bool
-starts-at recs k i =
+unfoldable pub starts-at : List ℕ → Asked → ℕ → Bool
+starts-at recs a i =
     cond (eqb (record-kind recs i) root-kind)
-    (eqb (record-flag recs i) (k .query))
-    (eqb (record-kind recs i) assume-kind && (eqb (summary-code recs i) (code-of (Ambient true)) && not (no-ambients (ask-of k))))
+    (eqb (record-flag recs i) (a .query))
+    (eqb (record-kind recs i) assume-kind && (eqb (summary-code recs i) (code-of (Ambient true)) && not (no-ambients (ask-of a))))
 
 -- a record put behind the worklist
 unfoldable pub push : Going → ℕ → Going

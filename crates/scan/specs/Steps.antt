@@ -81,8 +81,8 @@ counted fires g =
     }
 
 -- a record reached in this round, behind the worklist
-unfoldable pub reach : Going → ℕ → Going
-reach g i =
+unfoldable pub reach-record : Going → ℕ → Going
+reach-record g i =
     record {
       scan = record {
         from = g .scan .from;
@@ -94,14 +94,14 @@ reach g i =
       run = set (set (g .run) (reached-column + i) (g .scan .rounds)) (work-column + g .scan .to) i;
     }
 
-module _ (h : Held) where
-  -- what an item with these free names meets: each of them, and what it opens to
-  unfoldable pub opened-all : List ℕ → List ℕ
-  opened-all ns = collect (λ n. n ∷ h .opens n) ns
+-- what an item with these free names meets: each of them, and what it opens to
+unfoldable pub opened-all : (ℕ → List ℕ) → List ℕ → List ℕ
+opened-all opens ns = collect (λ n. n ∷ opens n) ns
 
+module _ (h : Held) where
   -- what items meet
   unfoldable pub scanned-by : List ℕ → List ℕ
-  scanned-by is = collect (λ i. opened-all (h .frees i)) is
+  scanned-by is = collect (λ i. opened-all (h .opens) (h .frees i)) is
 
   -- whether a disjunct of the record lies wholly within the met names
   unfoldable pub fires-on : (ℕ → Bool) → ℕ → Bool
@@ -112,7 +112,7 @@ module _ (h : Held) where
   visit g e =
       let i = h .entry-fact e in
       let fires = fires-on (is-met (g .run)) i in
-      cond (fires && (h .retains i && not (is-reached (g .run) i))) (reach (counted fires g) i) (counted fires g)
+      cond (fires && (h .retains i && not (is-reached (g .run) i))) (reach-record (counted fires g) i) (counted fires g)
 
   -- entries visited one after the other
   unfoldable pub visits-of : Going → List ℕ → Going

@@ -1,3 +1,4 @@
+use model::Asked;
 use model::Counts;
 ghost use Prim.Native.Nat.{ℕ, _+_, _*_, _≤_, _<_};
 ghost use mathlib.Core.Path.{_≡_};
@@ -10,9 +11,9 @@ ghost use Rattle.model.specs.Outcome.{working-words};
 ghost use Rattle.records.specs.Columns.{macro-at};
 ghost use Rattle.macros.specs.Macros.{opens-at, Filled};
 ghost use Rattle.scan.specs.Held.{waiting};
-ghost use Rattle.scan.specs.Tables.{retained, held-of, met-by, Goes, Laid};
+ghost use Rattle.scan.specs.Tables.{retained, held-of, record-meets, Goes, Laid};
 ghost use Rattle.scan.specs.Steps.{mark, marks, entry-met, fires-in, going, visit, visits-of, visit-phase, met-phase, round, Rounds, Steady, Ready, work-column, run-end, work-room};
-ghost use Rattle.scan.specs.Starts.{cleared, first-scan, starts-at, pushed};
+ghost use Rattle.scan.specs.Starts.{zeroed-to, first-scan, starts-at, pushed};
 ghost use Rattle.scan.specs.Runs.{Ran};
 
 // The columns of the run's slice: by name, from word 0 on, the round first met; by record the round reached; the worklist.
@@ -31,7 +32,7 @@ pub struct Scan {
 }
 
 // Meets a name in a round, unless it was met before.
-fn meet(run: &mut [u32], n: usize, round: usize)
+pub fn meet(run: &mut [u32], n: usize, round: usize)
     requires { ⌜ (n < length (now run)) × (round < 4294967296) ⌝ }
     ensures { λ r. ⌜ now (run .exit) ≡ mark round (now (run .entry)) n ⌝ }
 {
@@ -41,14 +42,14 @@ fn meet(run: &mut [u32], n: usize, round: usize)
 }
 
 // Meets the names of a part of the uses.
-pub fn meet_part(out: &[u32], run: &mut [u32], a: usize, e: usize, round: usize)
-    requires { ⌜ (a ≤ e) × (e ≤ length (now out)) × ((i : ℕ) → a ≤ i → i < e → getD (now out) i 0 < length (now run))
+fn meet_part(lists: &[u32], run: &mut [u32], a: usize, e: usize, round: usize)
+    requires { ⌜ (a ≤ e) × (e ≤ length (now lists)) × ((i : ℕ) → a ≤ i → i < e → getD (now lists) i 0 < length (now run))
         × (round < 4294967296) ⌝ }
-    ensures { λ r. ⌜ now (run .exit) ≡ marks round (now (run .entry)) (part (now (out .entry)) a e) ⌝ }
+    ensures { λ r. ⌜ now (run .exit) ≡ marks round (now (run .entry)) (part (now (lists .entry)) a e) ⌝ }
 {
     let mut i = a;
     while i < e {
-        meet(run, words::at(out, i), round);
+        meet(run, words::at(lists, i), round);
         i += 1;
     }
 }
@@ -57,16 +58,16 @@ pub fn meet_part(out: &[u32], run: &mut [u32], a: usize, e: usize, round: usize)
 fn open_macro(
     names: &[u32],
     recs: &[u32],
-    out: &[u32],
+    lists: &[u32],
     run: &mut [u32],
     k: Counts,
     n: usize,
     round: usize,
 )
-    requires { ⌜ Laid (now names) (now recs) (now out) k × (n < k .named) × (most-names ≤ length (now run))
+    requires { ⌜ Laid (now names) (now recs) (now lists) k × (n < k .names) × (most-names ≤ length (now run))
         × (round < 4294967296) ⌝ }
     ensures { λ r. ⌜ now (run .exit) ≡ marks round (now (run .entry))
-        (opens-at (now (recs .entry)) (now (out .entry)) (macro-at (now (names .entry)) n)) ⌝ }
+        (opens-at (now (recs .entry)) (now (lists .entry)) (macro-at (now (names .entry)) n)) ⌝ }
 {
     let word = words::at(names, records::MACRO + n);
     if word == 0 {
@@ -75,7 +76,7 @@ fn open_macro(
     if word < macros::OPENED {
         let a = words::at(recs, records::USES_START + (word - 1));
         let e = words::at(recs, records::USES_END + (word - 1));
-        meet_part(out, run, a, e, round);
+        meet_part(lists, run, a, e, round);
         return;
     }
     meet(run, word - macros::OPENED, round);
@@ -85,37 +86,37 @@ fn open_macro(
 fn meet_record(
     names: &[u32],
     recs: &[u32],
-    out: &[u32],
+    lists: &[u32],
     run: &mut [u32],
     k: Counts,
     i: usize,
     round: usize,
 )
-    requires { ⌜ Laid (now names) (now recs) (now out) k × (i < k .records) × (most-names ≤ length (now run))
+    requires { ⌜ Laid (now names) (now recs) (now lists) k × (i < k .records) × (most-names ≤ length (now run))
         × (round < 4294967296) ⌝ }
     ensures { λ r. ⌜ now (run .exit) ≡ marks round (now (run .entry))
-        (met-by (now (names .entry)) (now (recs .entry)) (now (out .entry)) k i) ⌝ }
+        (record-meets (now (names .entry)) (now (recs .entry)) (now (lists .entry)) i) ⌝ }
 {
     let a = words::at(recs, records::USES_START + i);
     let e = words::at(recs, records::USES_END + i);
     let mut j = a;
     while j < e {
-        let n = words::at(out, j);
+        let n = words::at(lists, j);
         meet(run, n, round);
-        open_macro(names, recs, out, run, k, n, round);
+        open_macro(names, recs, lists, run, k, n, round);
         j += 1;
     }
 }
 
 // The place after the disjunct that the entry at `i` is in.
-fn past(out: &[u32], i: usize, e: usize) -> usize
-    requires { ⌜ (i ≤ e) × (e ≤ length (now out)) ⌝ }
-    ensures { λ r. ⌜ (i ≤ r) × (r ≤ e) × ((w : List ℕ) → fires-in w false (part (now (out .entry)) i e)
-        ≡ fires-in w true (part (now (out .entry)) r e)) ⌝ }
+fn past(lists: &[u32], i: usize, e: usize) -> usize
+    requires { ⌜ (i ≤ e) × (e ≤ length (now lists)) ⌝ }
+    ensures { λ r. ⌜ (i ≤ r) × (r ≤ e) × ((w : List ℕ) → fires-in w false (part (now (lists .entry)) i e)
+        ≡ fires-in w true (part (now (lists .entry)) r e)) ⌝ }
 {
     let mut j = i;
     while j < e {
-        let x = words::at(out, j);
+        let x = words::at(lists, j);
         j += 1;
         if triggers::LAST <= x {
             return j;
@@ -137,18 +138,18 @@ fn entry_met(run: &[u32], x: usize) -> bool
 }
 
 // Whether a disjunct of the entries from `a` up to `e` is wholly met: each is given up at its first name that is not.
-fn fires(out: &[u32], run: &[u32], a: usize, e: usize) -> bool
-    requires { ⌜ (a ≤ e) × (e ≤ length (now out)) × (most-names ≤ length (now run)) ⌝ }
-    ensures { λ r. ⌜ r ≡ fires-in (now (run .entry)) true (part (now (out .entry)) a e) ⌝ }
+fn fires(lists: &[u32], run: &[u32], a: usize, e: usize) -> bool
+    requires { ⌜ (a ≤ e) × (e ≤ length (now lists)) × (most-names ≤ length (now run)) ⌝ }
+    ensures { λ r. ⌜ r ≡ fires-in (now (run .entry)) true (part (now (lists .entry)) a e) ⌝ }
 {
     let mut i = a;
     'disjuncts: loop {
         while i < e {
-            let x = words::at(out, i);
+            let x = words::at(lists, i);
             i += 1;
             if !entry_met(run, x) {
                 if x < triggers::LAST {
-                    i = past(out, i, e);
+                    i = past(lists, i, e);
                 }
                 continue 'disjuncts;
             }
@@ -161,25 +162,25 @@ fn fires(out: &[u32], run: &[u32], a: usize, e: usize) -> bool
 }
 
 // Whether a record is retainable: its flag is 0, or option 2 is on.
-fn retained(recs: &[u32], k: Counts, i: usize) -> bool
+fn retained(recs: &[u32], a: Asked, i: usize) -> bool
     requires { ⌜ (i < most-records) × (working-words ≤ length (now recs)) ⌝ }
-    ensures { λ r. ⌜ r ≡ retained (now (recs .entry)) k i ⌝ }
+    ensures { λ r. ⌜ r ≡ retained (now (recs .entry)) a i ⌝ }
 {
     if words::at(recs, records::FLAG + i) != 1 {
         return true;
     }
-    let options = options::options_of(k.options);
+    let options = options::options_of(a.options);
     options.pretyping_axioms
 }
 
 // Whether round 1 scans a record: a root of the query or, without option 1, an ambient root.
-fn starts(recs: &[u32], k: Counts, i: usize) -> bool
+fn starts(recs: &[u32], a: Asked, i: usize) -> bool
     requires { ⌜ (i < most-records) × (working-words ≤ length (now recs)) ⌝ }
-    ensures { λ r. ⌜ r ≡ starts-at (now (recs .entry)) k i ⌝ }
+    ensures { λ r. ⌜ r ≡ starts-at (now (recs .entry)) a i ⌝ }
 {
     let kind = words::at(recs, records::KIND + i);
     if kind == records::ROOT {
-        return words::at(recs, records::FLAG + i) == k.query;
+        return words::at(recs, records::FLAG + i) == a.query;
     }
     if kind != records::ASSUME {
         return false;
@@ -187,7 +188,7 @@ fn starts(recs: &[u32], k: Counts, i: usize) -> bool
     if words::at(recs, records::SUMMARY + i) != records::AMBIENT_ROOT {
         return false;
     }
-    let options = options::options_of(k.options);
+    let options = options::options_of(a.options);
     !options.no_ambients
 }
 
@@ -195,7 +196,7 @@ impl Scan {
     // Clears the columns of a run: nothing is met or reached.
     fn start(run: &mut [u32]) -> Scan
         requires { ⌜ run-end ≤ length (now run) ⌝ }
-        ensures { λ r. ⌜ going r (now (run .exit)) ≡ going first-scan (cleared work-column (now (run .entry))) ⌝ }
+        ensures { λ r. ⌜ going r (now (run .exit)) ≡ going first-scan (zeroed-to work-column (now (run .entry))) ⌝ }
     {
         let mut i = 0;
         while i < WORK {
@@ -212,10 +213,10 @@ impl Scan {
     }
 
     // Puts the records that round 1 scans behind the worklist.
-    fn add_roots(self, recs: &[u32], run: &mut [u32], k: Counts) -> Scan
+    fn add_roots(self, recs: &[u32], run: &mut [u32], k: Counts, a: Asked) -> Scan
         requires { ⌜ (k .records ≤ most-records) × (working-words ≤ length (now recs)) × (run-end ≤ length (now run))
             × (self .to + k .records ≤ work-room) ⌝ }
-        ensures { λ r. ⌜ going r (now (run .exit)) ≡ pushed (starts-at (now (recs .entry)) k) (k .records)
+        ensures { λ r. ⌜ going r (now (run .exit)) ≡ pushed (starts-at (now (recs .entry)) a) (k .records)
             (going self (now (run .entry))) ⌝ }
     {
         let count = k.records;
@@ -224,19 +225,15 @@ impl Scan {
         while i < count {
             let j = i;
             i += 1;
-            if !starts(recs, k, j) {
+            if !starts(recs, a, j) {
                 continue;
             }
             run[WORK + to] = j as u32;
             to += 1;
         }
-        Scan {
-            from: self.from,
-            to,
-            visits: self.visits,
-            rounds: self.rounds,
-            triggered: self.triggered,
-        }
+        let mut rooted = self;
+        rooted.to = to;
+        rooted
     }
 
     // Visits an entry: a fact that fires is triggered, and reached if it is retainable and was not reached.
@@ -244,37 +241,27 @@ impl Scan {
         self,
         names: &[u32],
         recs: &[u32],
-        out: &[u32],
+        lists: &[u32],
         run: &mut [u32],
         k: Counts,
+        a: Asked,
         e: usize,
     ) -> Scan
-        requires { ⌜ Laid (now names) (now recs) (now out) k × Steady (going self (now run)) × (e < k .entries) ⌝ }
-        ensures { λ r. ⌜ Goes (now (names .entry)) (now (recs .entry)) (now (out .entry)) k (λ h g. visit h g e) self
+        requires { ⌜ Laid (now names) (now recs) (now lists) k × Steady (going self (now run)) × (e < k .entries) ⌝ }
+        ensures { λ r. ⌜ Goes (now (names .entry)) (now (recs .entry)) (now (lists .entry)) k a (λ h g. visit h g e) self
             (now (run .entry)) r (now (run .exit)) ⌝ }
     {
-        let i = words::at(out, records::FACT + e);
-        let a = triggers::ENTRIES + words::at(recs, records::ENTRIES_START + i);
-        let z = triggers::ENTRIES + words::at(recs, records::ENTRIES_END + i);
+        let i = words::at(lists, records::FACT + e);
+        let start = triggers::ENTRIES + words::at(recs, records::ENTRIES_START + i);
+        let end = triggers::ENTRIES + words::at(recs, records::ENTRIES_END + i);
         let to = self.to;
-        let visits = self.visits + 1;
-        if !fires(out, run, a, z) {
-            return Scan {
-                from: self.from,
-                to,
-                visits,
-                rounds: self.rounds,
-                triggered: self.triggered,
-            };
+        let mut fired = self;
+        fired.visits = self.visits + 1;
+        if !fires(lists, run, start, end) {
+            return fired;
         }
-        let mut fired = Scan {
-            from: self.from,
-            to,
-            visits,
-            rounds: self.rounds,
-            triggered: true,
-        };
-        if !retained(recs, k, i) {
+        fired.triggered = true;
+        if !retained(recs, a, i) {
             return fired;
         }
         if words::at(run, REACHED + i) != 0 {
@@ -291,33 +278,42 @@ impl Scan {
         self,
         names: &[u32],
         recs: &[u32],
-        out: &[u32],
+        lists: &[u32],
         run: &mut [u32],
         k: Counts,
+        a: Asked,
         n: usize,
     ) -> Scan
-        requires { ⌜ Laid (now names) (now recs) (now out) k × Steady (going self (now run)) × (self .visits ≤ 2 * most-entries)
-            × (n < k .named) ⌝ }
-        ensures { λ r. ⌜ Goes (now (names .entry)) (now (recs .entry)) (now (out .entry)) k
+        requires { ⌜ Laid (now names) (now recs) (now lists) k × Steady (going self (now run)) × (self .visits ≤ 2 * most-entries)
+            × (n < k .names) ⌝ }
+        ensures { λ r. ⌜ Goes (now (names .entry)) (now (recs .entry)) (now (lists .entry)) k a
             (λ h g. visits-of h g (waiting h n (k .entries))) self (now (run .entry)) r (now (run .exit)) ⌝ }
     {
         let mut s = self;
         let mut next = words::at(names, records::FIRST + n);
         while next != 0 {
-            s = s.visit(names, recs, out, run, k, next - 1);
-            next = words::at(out, records::NEXT + (next - 1));
+            s = s.visit(names, recs, lists, run, k, a, next - 1);
+            next = words::at(lists, records::NEXT + (next - 1));
         }
         s
     }
 
     // Visits the entries of the names first met in this round.
-    fn visit_new(self, names: &[u32], recs: &[u32], out: &[u32], run: &mut [u32], k: Counts) -> Scan
-        requires { ⌜ Laid (now names) (now recs) (now out) k × Steady (going self (now run)) × (self .visits ≤ most-entries) ⌝ }
-        ensures { λ r. ⌜ Goes (now (names .entry)) (now (recs .entry)) (now (out .entry)) k visit-phase self (now (run .entry))
+    fn visit_new(
+        self,
+        names: &[u32],
+        recs: &[u32],
+        lists: &[u32],
+        run: &mut [u32],
+        k: Counts,
+        a: Asked,
+    ) -> Scan
+        requires { ⌜ Laid (now names) (now recs) (now lists) k × Steady (going self (now run)) × (self .visits ≤ most-entries) ⌝ }
+        ensures { λ r. ⌜ Goes (now (names .entry)) (now (recs .entry)) (now (lists .entry)) k a visit-phase self (now (run .entry))
             r (now (run .exit)) ⌝ }
     {
         let round = self.rounds;
-        let named = k.named;
+        let named = k.names;
         let mut s = self;
         let mut n = 0;
         while n < named {
@@ -326,24 +322,24 @@ impl Scan {
             if words::at(run, m) != round {
                 continue;
             }
-            s = s.visit_chain(names, recs, out, run, k, m);
+            s = s.visit_chain(names, recs, lists, run, k, a, m);
         }
         s
     }
 
-    // Meets all that the next round scans.
+    // Meets all that the next round scans, whatever the ask.
     fn meet_items(
         self,
         names: &[u32],
         recs: &[u32],
-        out: &[u32],
+        lists: &[u32],
         run: &mut [u32],
         k: Counts,
     ) -> Scan
-        requires { ⌜ Laid (now names) (now recs) (now out) k
-            × Ready (held-of (now names) (now recs) (now out) k) (going self (now run)) ⌝ }
-        ensures { λ r. ⌜ Goes (now (names .entry)) (now (recs .entry)) (now (out .entry)) k met-phase self (now (run .entry)) r
-            (now (run .exit)) ⌝ }
+        requires { ⌜ Laid (now names) (now recs) (now lists) k
+            × ((a : Asked) × Ready (held-of (now names) (now recs) (now lists) k a) (going self (now run))) ⌝ }
+        ensures { λ r. ⌜ ((a : Asked) → Goes (now (names .entry)) (now (recs .entry)) (now (lists .entry)) k a met-phase self
+            (now (run .entry)) r (now (run .exit))) ⌝ }
     {
         let from = self.from;
         let to = self.to;
@@ -351,7 +347,7 @@ impl Scan {
         let mut j = from;
         while j < to {
             let i = words::at(run, WORK + j);
-            meet_record(names, recs, out, run, k, i, round);
+            meet_record(names, recs, lists, run, k, i, round);
             j += 1;
         }
         Scan {
@@ -364,26 +360,42 @@ impl Scan {
     }
 
     // A round: all that it scans is met, then the entries of the names first met in it are visited.
-    fn round(self, names: &[u32], recs: &[u32], out: &[u32], run: &mut [u32], k: Counts) -> Scan
-        requires { ⌜ Laid (now names) (now recs) (now out) k
-            × Ready (held-of (now names) (now recs) (now out) k) (going self (now run)) ⌝ }
-        ensures { λ r. ⌜ Goes (now (names .entry)) (now (recs .entry)) (now (out .entry)) k round self (now (run .entry)) r
+    fn round(
+        self,
+        names: &[u32],
+        recs: &[u32],
+        lists: &[u32],
+        run: &mut [u32],
+        k: Counts,
+        a: Asked,
+    ) -> Scan
+        requires { ⌜ Laid (now names) (now recs) (now lists) k
+            × Ready (held-of (now names) (now recs) (now lists) k a) (going self (now run)) ⌝ }
+        ensures { λ r. ⌜ Goes (now (names .entry)) (now (recs .entry)) (now (lists .entry)) k a round self (now (run .entry)) r
             (now (run .exit)) ⌝ }
     {
-        let met = self.meet_items(names, recs, out, run, k);
-        met.visit_new(names, recs, out, run, k)
+        let met = self.meet_items(names, recs, lists, run, k);
+        met.visit_new(names, recs, lists, run, k, a)
     }
 
     // Round after round, to the one that triggers no fact.
-    fn go_on(self, names: &[u32], recs: &[u32], out: &[u32], run: &mut [u32], k: Counts) -> Scan
-        requires { ⌜ Laid (now names) (now recs) (now out) k
-            × Ready (held-of (now names) (now recs) (now out) k) (going self (now run)) ⌝ }
-        ensures { λ r. ⌜ Rounds (held-of (now (names .entry)) (now (recs .entry)) (now (out .entry)) k)
+    fn go_on(
+        self,
+        names: &[u32],
+        recs: &[u32],
+        lists: &[u32],
+        run: &mut [u32],
+        k: Counts,
+        a: Asked,
+    ) -> Scan
+        requires { ⌜ Laid (now names) (now recs) (now lists) k
+            × Ready (held-of (now names) (now recs) (now lists) k a) (going self (now run)) ⌝ }
+        ensures { λ r. ⌜ Rounds (held-of (now (names .entry)) (now (recs .entry)) (now (lists .entry)) k a)
             (going self (now (run .entry))) (going r (now (run .exit))) ⌝ }
     {
         let mut s = self;
         loop {
-            s = s.round(names, recs, out, run, k);
+            s = s.round(names, recs, lists, run, k, a);
             if !s.triggered {
                 return s;
             }
@@ -396,15 +408,16 @@ pub fn run_ask(
     file: &[u8],
     names: &[u32],
     recs: &[u32],
-    out: &[u32],
+    lists: &[u32],
     run: &mut [u32],
     k: Counts,
+    a: Asked,
 ) -> Scan
-    requires { ⌜ Filled (now file) (now names) (now recs) (now out) k × (run-end ≤ length (now run)) ⌝ }
-    ensures { λ r. ⌜ Ran (now (file .entry)) (now (names .entry)) (now (recs .entry)) (now (out .entry)) k (now (run .entry))
+    requires { ⌜ Filled (now file) (now names) (now recs) (now lists) k × (run-end ≤ length (now run)) ⌝ }
+    ensures { λ r. ⌜ Ran (now (file .entry)) (now (names .entry)) (now (recs .entry)) (now (lists .entry)) k a (now (run .entry))
         (now (run .exit)) r ⌝ }
 {
     let begun = Scan::start(run);
-    let rooted = begun.add_roots(recs, run, k);
-    rooted.go_on(names, recs, out, run, k)
+    let rooted = begun.add_roots(recs, run, k, a);
+    rooted.go_on(names, recs, lists, run, k, a)
 }

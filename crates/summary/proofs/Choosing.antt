@@ -17,8 +17,8 @@ use Rattle.words.specs.Slices.{Same-but}
 use Rattle.gather.specs.Sets.{Named}
 use Rattle.words.proofs.Slices.{same-self}
 use Rattle.gather.proofs.Walking.{excluded-same}
-use Rattle.triggers.specs.Entries.{Files, Filled}
-use Rattle.triggers.specs.Filings.{Filing, filing, file-list, file-groups, file-parts, Files-as}
+use Rattle.triggers.specs.Entries.{Files, Entries-filled}
+use Rattle.triggers.specs.Filings.{Filing-state, filing, file-list, file-groups, file-parts, Files-as}
 use Rattle.triggers.specs.declared.Filed.{Filed}
 use Rattle.gather.proofs.Fresh.{fresh-later}
 use Rattle.rules.specs.Views.{Tables, terms-in}
@@ -27,7 +27,7 @@ use Rattle.rules.specs.declared.Choice.{Choice}
 use Rattle.rules.specs.declared.Choice.the-variants as choice
 use Rattle.summary.specs.declared.Sorted.{Sorted}
 use Rattle.summary.specs.declared.Sorted.the-variants as sorted
-use Rattle.summary.specs.Steps.{Begun, trimmed-table, sorted-of, Kinds, kind-there, no-room, Sorts, Sorts-as, Comes-to, kind-filed, entries-over, Tokens, Chooses}
+use Rattle.summary.specs.Steps.{Filing-begun, trimmed-table, sorted-of, Kinds, kind-there, no-room, Sorts, Sorts-as, Comes-to, kind-filed, entries-over, Tokens, Chooses}
 use Rattle.summary.specs.Writing.{token-table, file-refinement, file-choice}
 use Rattle.summary.proofs.Token.{token-same}
 use Rattle.summary.proofs.Sorting.{named-of, table-marked, files-sorts, nothing-sorts}
@@ -35,9 +35,9 @@ use Rattle.summary.proofs.Writing.{files-sorts-as, nothing-as}
 
 -- what filing a choice comes to, with every word
 abbrev pub Choice-files : List ℕ → List ℕ → List ℕ → List ℕ → List ℕ → List ℕ → List ℕ → List ℕ → ℕ → ℕ → ℕ → ℕ → ℕ → Choice → Sorted → Type 0
-Choice-files file names refs rows out names′ rows′ out′ named used many mark at c r =
-    Chooses file names refs rows out names′ rows′ out′ named used many mark at c r
-    × Sorts-as (file-choice refs used many file named mark (filing names rows out (mark + 1) at) c) names′ rows′ out′ mark at r
+Choice-files file names refs rows lists names′ rows′ lists′ named used many mark at c r =
+    Chooses file names refs rows lists names′ rows′ lists′ named used many mark at c r
+    × Sorts-as (file-choice refs used many file named mark (filing names rows lists (mark + 1) at) c) names′ rows′ lists′ mark at r
 
 -- a choice changes no name word from 8,192 on
 pub trimmed-same : {file names : List ℕ} {named : ℕ} → Table file names named → (c : Choice) → Same-but 0 8192 names (trimmed-table file names named c)
@@ -58,13 +58,13 @@ unfolding Sum-ambient Sum-triggers
 refinement-trimmed true sets = refl
 refinement-trimmed false sets = refl
 
-module _ {file names refs rows out names′ rows′ out′ : List ℕ} {named used many mark at : ℕ} {r : Sorted}
+module _ {file names refs rows lists names′ rows′ lists′ : List ℕ} {named used many mark at : ℕ} {r : Sorted}
     (tables : Tables file names refs rows named used many) where
   -- a kind that holds names of the table is filed
   sorts-comes : (f : List Name → List Term → Kinded) → ((exclude : List Name) → f exclude (terms-in file names refs rows used many) .trimmed ≡ [])
-      → Sorts names rows out names′ rows′ out′ named mark at (λ exclude name. f exclude (terms-of name refs rows used many)) r
+      → Sorts names rows lists names′ rows′ lists′ named mark at (λ exclude name. f exclude (terms-of name refs rows used many)) r
       → (exclude : List Name) → Excludes exclude file names named
-      → Comes-to file names names′ out′ named at (f exclude (terms-in file names refs rows used many)) r
+      → Comes-to file names names′ lists′ named at (f exclude (terms-in file names refs rows used many)) r
   unfolding terms-in fold-left
   sorts-comes f e s exclude excludes =
       let kept = table-marked (tables .name-table) (s .marks .names-same) in
@@ -73,8 +73,8 @@ module _ {file names refs rows out names′ rows′ out′ : List ℕ} {named us
       terms-named (name-of file names′) (name-of file names) (kept .name) (tables .term-table) in
       go (rw q at (s .kinds exclude (name-of file names′) d))
     where
-      go : {x : Sorted} → Kinds (name-of file names′) named (f exclude (terms-of (name-of file names) refs rows used many)) at out′ x
-          → Comes-to file names names′ out′ named at (f exclude (terms-of (name-of file names) refs rows used many)) x
+      go : {x : Sorted} → Kinds (name-of file names′) named (f exclude (terms-of (name-of file names) refs rows used many)) at lists′ x
+          → Comes-to file names names′ lists′ named at (f exclude (terms-of (name-of file names) refs rows used many)) x
       go (kind-there a b c h k) =
           let kept = table-marked (tables .name-table) (s .marks .names-same) in
           let few = tables .name-table .few in
@@ -97,21 +97,21 @@ module _ {file names refs rows out names′ rows′ out′ : List ℕ} {named us
       → ((exclude : List Name) → kinded exclude (terms-in file names refs rows used many) (name-of file names) c
       ≡ f exclude (terms-in file names refs rows used many))
       → trimmed-table file names named c ≡ names → ((exclude : List Name) → f exclude (terms-in file names refs rows used many) .trimmed ≡ [])
-      → Sorts names rows out names′ rows′ out′ named mark at (λ exclude name. f exclude (terms-of name refs rows used many)) r
-      → Chooses file names refs rows out names′ rows′ out′ named used many mark at c r
+      → Sorts names rows lists names′ rows′ lists′ named mark at (λ exclude name. f exclude (terms-of name refs rows used many)) r
+      → Chooses file names refs rows lists names′ rows′ lists′ named used many mark at c r
   sorts-chooses f c e q t s = record {
     kinds = λ exclude excludes. rw (e exclude) (sorts-comes f t s exclude excludes);
     marks = rw q (s .marks);
   }
 
   -- filing sets files the choice that gathers them
-  sets-chooses : {g : Filing} {count : ℕ} {f : Filed} (s : List Name → List Term → List (List Name)) (c : Choice)
+  sets-chooses : {g : Filing-state} {count : ℕ} {f : Filed} (s : List Name → List Term → List (List Name)) (c : Choice)
       → ((exclude : List Name) → kinded exclude (terms-in file names refs rows used many) (name-of file names) c
       ≡ Sum-triggers (s exclude (terms-in file names refs rows used many)))
-      → trimmed-table file names named c ≡ names → file-choice refs used many file named mark (filing names rows out (mark + 1) at) c ≡ g
-      → ((exclude : List Name) (name : ℕ → Name) → Named exclude name names named → Files name named (s exclude (terms-of name refs rows used many)) at out′ f)
-      → Filled names rows out names′ rows′ out′ (mark + 1) at f → Files-as g count names′ rows′ out′ (mark + 1) at f → r ≡ sorted-of named f
-      → Choice-files file names refs rows out names′ rows′ out′ named used many mark at c r
+      → trimmed-table file names named c ≡ names → file-choice refs used many file named mark (filing names rows lists (mark + 1) at) c ≡ g
+      → ((exclude : List Name) (name : ℕ → Name) → Named exclude name names named → Files name named (s exclude (terms-of name refs rows used many)) at lists′ f)
+      → Entries-filled names rows lists names′ rows′ lists′ (mark + 1) at f → Files-as g count names′ rows′ lists′ (mark + 1) at f → r ≡ sorted-of named f
+      → Choice-files file names refs rows lists names′ rows′ lists′ named used many mark at c r
   unfolding Sum-triggers
   sets-chooses s c e q g k w x z = (
     sorts-chooses (λ exclude terms. Sum-triggers (s exclude terms)) c e q (λ exclude. refl)
@@ -123,11 +123,11 @@ module _ {file names refs rows out names′ rows′ out′ : List ℕ} {named us
     -- one set
     pub choose-one : {t count : ℕ} {f : Filed} → c ≡ choice.One t
         → ((exclude : List Name) (name : ℕ → Name) → Named exclude name names named → Files name named
-        (free-top-level-names exclude (terms-of name refs rows used many) t ∷ []) at out′ f)
-        → Filled names rows out names′ rows′ out′ (mark + 1) at f
-        → Files-as (file-list refs used many (filing names rows out (mark + 1) at) (t ∷ [])) count names′ rows′ out′ (mark + 1) at f
+        (free-top-level-names exclude (terms-of name refs rows used many) t ∷ []) at lists′ f)
+        → Entries-filled names rows lists names′ rows′ lists′ (mark + 1) at f
+        → Files-as (file-list refs used many (filing names rows lists (mark + 1) at) (t ∷ [])) count names′ rows′ lists′ (mark + 1) at f
         → r ≡ sorted-of named f
-        → Choice-files file names refs rows out names′ rows′ out′ named used many mark at c r
+        → Choice-files file names refs rows lists names′ rows′ lists′ named used many mark at c r
     unfolding kinded trimmed-table file-choice
     choose-one {t} e k w x q = rw e (sets-chooses (λ exclude terms. free-top-level-names exclude terms t ∷ []) (choice.One t)
         (λ exclude. refl) refl refl k w x q)
@@ -136,12 +136,12 @@ module _ {file names refs rows out names′ rows′ out′ : List ℕ} {named us
     pub choose-two : {t u count : ℕ} {f : Filed} → c ≡ choice.Two t u
         → ((exclude : List Name) (name : ℕ → Name) → Named exclude name names named → Files name named
         (free-top-level-names exclude (terms-of name refs rows used many) t ∷ free-top-level-names exclude
-        (terms-of name refs rows used many) u ∷ []) at out′ f)
-        → Filled names rows out names′ rows′ out′ (mark + 1) at f
-        → Files-as (file-list refs used many (file-list refs used many (filing names rows out (mark + 1) at) (t ∷ [])) (u ∷ [])) count names′ rows′ out′
+        (terms-of name refs rows used many) u ∷ []) at lists′ f)
+        → Entries-filled names rows lists names′ rows′ lists′ (mark + 1) at f
+        → Files-as (file-list refs used many (file-list refs used many (filing names rows lists (mark + 1) at) (t ∷ [])) (u ∷ [])) count names′ rows′ lists′
         (mark + 1) at f
         → r ≡ sorted-of named f
-        → Choice-files file names refs rows out names′ rows′ out′ named used many mark at c r
+        → Choice-files file names refs rows lists names′ rows′ lists′ named used many mark at c r
     unfolding kinded trimmed-table file-choice
     choose-two {t} {u} e k w x q = rw e (sets-chooses (λ exclude terms. free-top-level-names exclude terms t ∷ free-top-level-names exclude terms u ∷ [])
         (choice.Two t u) (λ exclude. refl) refl refl k w x q)
@@ -149,19 +149,19 @@ module _ {file names refs rows out names′ rows′ out′ : List ℕ} {named us
     -- the triggers of a term
     pub choose-groups : {t count : ℕ} {f : Filed} → c ≡ choice.Groups t
         → ((exclude : List Name) (name : ℕ → Name) → Named exclude name names named → Files name named
-        (triggers-of-term exclude (terms-of name refs rows used many) t) at out′ f)
-        → Filled names rows out names′ rows′ out′ (mark + 1) at f
-        → Files-as (file-groups refs used many (filing names rows out (mark + 1) at) t) count names′ rows′ out′ (mark + 1) at f
+        (triggers-of-term exclude (terms-of name refs rows used many) t) at lists′ f)
+        → Entries-filled names rows lists names′ rows′ lists′ (mark + 1) at f
+        → Files-as (file-groups refs used many (filing names rows lists (mark + 1) at) t) count names′ rows′ lists′ (mark + 1) at f
         → r ≡ sorted-of named f
-        → Choice-files file names refs rows out names′ rows′ out′ named used many mark at c r
+        → Choice-files file names refs rows lists names′ rows′ lists′ named used many mark at c r
     unfolding kinded trimmed-table file-choice
     choose-groups {t} e k w x q = rw e (sets-chooses (λ exclude terms. triggers-of-term exclude terms t) (choice.Groups t) (λ exclude. refl) refl refl k w x q)
 
     -- the payload of a refinement
     pub choose-refinement : {t : ℕ} → c ≡ choice.Refinement t
-        → Sorts names rows out names′ rows′ out′ named mark at (λ exclude name. refinement-kind exclude (terms-of name refs rows used many) t) r
-        → Sorts-as (file-refinement refs used many mark (filing names rows out (mark + 1) at) t) names′ rows′ out′ mark at r
-        → Choice-files file names refs rows out names′ rows′ out′ named used many mark at c r
+        → Sorts names rows lists names′ rows′ lists′ named mark at (λ exclude name. refinement-kind exclude (terms-of name refs rows used many) t) r
+        → Sorts-as (file-refinement refs used many mark (filing names rows lists (mark + 1) at) t) names′ rows′ lists′ mark at r
+        → Choice-files file names refs rows lists names′ rows′ lists′ named used many mark at c r
     unfolding kinded trimmed-table refinement-kind file-choice
     choose-refinement {t} e s w = rw e (
       sorts-chooses (λ exclude terms. refinement-kind exclude terms t) (choice.Refinement t) (λ exclude. refl) refl
@@ -171,23 +171,23 @@ module _ {file names refs rows out names′ rows′ out′ : List ℕ} {named us
 
     -- the parts of an `and`
     pub choose-parts : {t : ℕ} → c ≡ choice.Parts t
-        → Sorts names rows out names′ rows′ out′ named mark at (λ exclude name. parts-kind exclude (terms-of name refs rows used many) t) r
-        → Sorts-as (file-parts refs used many (filing names rows out (mark + 1) at)
-        (terms-of-words (part refs (row-start rows t) (row-end rows used many t)))) names′ rows′ out′ mark at r
-        → Choice-files file names refs rows out names′ rows′ out′ named used many mark at c r
+        → Sorts names rows lists names′ rows′ lists′ named mark at (λ exclude name. parts-kind exclude (terms-of name refs rows used many) t) r
+        → Sorts-as (file-parts refs used many (filing names rows lists (mark + 1) at)
+        (terms-of-words (part refs (row-start rows t) (row-end rows used many t)))) names′ rows′ lists′ mark at r
+        → Choice-files file names refs rows lists names′ rows′ lists′ named used many mark at c r
     unfolding kinded trimmed-table parts-kind Sum-triggers file-choice
     choose-parts {t} e s w = rw e (sorts-chooses (λ exclude terms. parts-kind exclude terms t) (choice.Parts t) (λ exclude. refl) refl (λ exclude. refl) s, w)
 
 -- a kind without triggers
-none-sorts : {names rows out : List ℕ} {mark at : ℕ} (named : ℕ) → Begun names rows out mark at → (k : Kinded) → k .triggers ≡ []
-    → Sorts names rows out names rows out named mark at (λ exclude name. k) (sorted.Kind (k .kind) at named)
+none-sorts : {names rows lists : List ℕ} {mark at : ℕ} (named : ℕ) → Filing-begun names rows lists mark at → (k : Kinded) → k .triggers ≡ []
+    → Sorts names rows lists names rows lists named mark at (λ exclude name. k) (sorted.Kind (k .kind) at named)
 none-sorts {names} {rows} {mark = mark} named b k e = nothing-sorts (k .kind) (λ exclude name. k) (λ exclude name d. (refl, e)) (b .low)
     (same-self 8192 2048 names) (same-self 12288 4096 rows) (fresh-later mark (mark + 1) (omega arith) (b .fresh))
 
-module _ {file names refs rows out : List ℕ} {named used many mark at : ℕ} {c : Choice} (tables : Tables file names refs rows named used many)
-    (b : Begun names rows out mark at) where
+module _ {file names refs rows lists : List ℕ} {named used many mark at : ℕ} {c : Choice} (tables : Tables file names refs rows named used many)
+    (b : Filing-begun names rows lists mark at) where
   -- no disjunct
-  pub choose-nothing : c ≡ choice.Nothing → Choice-files file names refs rows out names rows out named used many mark at c
+  pub choose-nothing : c ≡ choice.Nothing → Choice-files file names refs rows lists names rows lists named used many mark at c
       (sorted.Kind (asum.Triggers 0) at named)
   unfolding kinded trimmed-table Sum-triggers file-choice
   choose-nothing e = rw e (
@@ -197,7 +197,7 @@ module _ {file names refs rows out : List ℕ} {named used many mark at : ℕ} {
   )
 
   -- a fact that is dropped
-  pub choose-drop : c ≡ choice.Drop → Choice-files file names refs rows out names rows out named used many mark at c (sorted.Kind asum.Drop at named)
+  pub choose-drop : c ≡ choice.Drop → Choice-files file names refs rows lists names rows lists named used many mark at c (sorted.Kind asum.Drop at named)
   unfolding kinded trimmed-table Sum-drop file-choice
   choose-drop e = rw e (
     sorts-chooses tables (λ exclude terms. Sum-drop) choice.Drop (λ exclude. refl) refl (λ exclude. refl) (none-sorts named b Sum-drop refl),
@@ -205,7 +205,7 @@ module _ {file names refs rows out : List ℕ} {named used many mark at : ℕ} {
   )
 
   -- an ambient fact
-  pub choose-ambient : c ≡ choice.Ambient → Choice-files file names refs rows out names rows out named used many mark at c
+  pub choose-ambient : c ≡ choice.Ambient → Choice-files file names refs rows lists names rows lists named used many mark at c
       (sorted.Kind (asum.Ambient false) at named)
   unfolding kinded trimmed-table Sum-ambient file-choice
   choose-ambient e = rw e (
@@ -215,8 +215,8 @@ module _ {file names refs rows out : List ℕ} {named used many mark at : ℕ} {
   )
 
   -- a token
-  pub choose-token : {names′ out′ : List ℕ} {n : ℕ} {r : Sorted} → c ≡ choice.Token n → Tokens file names out names′ out′ named n at r
-      → Choice-files file names refs rows out names′ rows out′ named used many mark at c r
+  pub choose-token : {names′ lists′ : List ℕ} {n : ℕ} {r : Sorted} → c ≡ choice.Token n → Tokens file names lists names′ lists′ named n at r
+      → Choice-files file names refs rows lists names′ rows lists′ named used many mark at c r
   unfolding kinded trimmed-table file-choice
   choose-token {n = n} e s = rw e (
     record {
@@ -224,7 +224,7 @@ module _ {file names refs rows out : List ℕ} {named used many mark at : ℕ} {
       marks = record {
         names-same = rw (s .name-words) (same-self 8192 2048 (token-table file names named n));
         rows-same = same-self 12288 4096 rows;
-        out-same = s .out-same;
+        lists-same = s .lists-same;
         fresh = λ a e total q. fresh-later mark (mark + 1 + (e - at)) (omega arith) (rw (s .name-words) (record {
           row-marks = b .fresh .row-marks;
           name-marks = λ k l. rw (token-same (tables .name-table) n .same-words (8192 + k) (λ x y. omega arith)) (b .fresh .name-marks k l);

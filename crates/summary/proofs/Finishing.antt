@@ -28,7 +28,7 @@ use Rattle.gather.specs.declared.Walked.{Walked}
 use Rattle.gather.specs.declared.Walked.the-variants as walks
 use Rattle.words.proofs.Slices.{same-then, same-wider}
 use Rattle.gather.proofs.Walking.{rows-marked}
-use Rattle.triggers.specs.Entries.{entries-base, entries-end, entry-number, before-first, disjuncts-of-words, disjuncts-of}
+use Rattle.triggers.specs.Entries.{entries-base, entries-column-end, entry-number, before-first, disjuncts-of-words, disjuncts-of}
 use Rattle.triggers.proofs.Marked.{terms-marked}
 use Rattle.gather.proofs.Fresh.{fresh-next}
 use Rattle.triggers.proofs.Disjuncts.{entries-many}
@@ -44,7 +44,7 @@ use Rattle.summary.specs.declared.Summary.{Summary}
 use Rattle.summary.specs.declared.Summarized.{Summarized}
 use Rattle.summary.specs.declared.Summarized.the-variants as summarized
 use Rattle.summary.specs.Facts.{Asked, fact-kind, fact-choice, fact-names, names-then, fact-summary, limited, Lists, Slices}
-use Rattle.summary.specs.Steps.{Begun, trimmed-table, sorted-end, Marks, Filed-kind, Comes-to, kind-filed, names-over, entries-over, Sorts-as, Chooses, finished, Finishes}
+use Rattle.summary.specs.Steps.{Filing-begun, trimmed-table, sorted-end, Marks, Filed-kind, Comes-to, kind-filed, names-over, entries-over, Sorts-as, Chooses, finished, Finishes}
 use Rattle.summary.specs.Writing.{file-choice, file-fact, Written}
 use Rattle.summary.proofs.Sorting.{named-of, table-marked}
 use Rattle.summary.proofs.Choosing.{Choice-files, trimmed-same}
@@ -97,14 +97,14 @@ unfolding name-of
 name-marked file same n l = rw (same .same-words n (λ a b. omega arith), same .same-words (2048 + n) (λ a b. omega arith)) refl
 
 -- what a choice comes to, by its answer
-pub chooses-is : {file names refs rows out names′ rows′ out′ : List ℕ} {named used many mark at : ℕ} {chosen : Choice} {r r′ : Sorted} → r ≡ r′
-    → Choice-files file names refs rows out names′ rows′ out′ named used many mark at chosen r
-    → Choice-files file names refs rows out names′ rows′ out′ named used many mark at chosen r′
+pub chooses-is : {file names refs rows lists names′ rows′ lists′ : List ℕ} {named used many mark at : ℕ} {chosen : Choice} {r r′ : Sorted} → r ≡ r′
+    → Choice-files file names refs rows lists names′ rows′ lists′ named used many mark at chosen r
+    → Choice-files file names refs rows lists names′ rows′ lists′ named used many mark at chosen r′
 chooses-is e c = rw e at c
 
 -- what filing asks
-pub asked-begun : {file names refs rows out : List ℕ} {named used many name t mark filed uses : ℕ}
-    → Asked file names refs rows out named used many name t mark filed uses → Begun names rows out mark (entries-base + filed)
+pub asked-begun : {file names refs rows lists : List ℕ} {named used many name t mark filed uses : ℕ}
+    → Asked file names refs rows lists named used many name t mark filed uses → Filing-begun names rows lists mark (entries-base + filed)
 asked-begun a = record {
   name-room = a .tables .name-table .room;
   fresh = a .fresh;
@@ -162,20 +162,20 @@ Answer file names refs rows named used many name t mark filed uses r =
 
 -- the lists
 abbrev Listed : List ℕ → List ℕ → List ℕ → List ℕ → ℕ → ℕ → ℕ → ℕ → ℕ → List ℕ → List ℕ → List ℕ → ℕ → ℕ → Summarized → Type 0
-Listed file names refs rows named used many name t names′ rows′ out′ filed uses r =
+Listed file names refs rows named used many name t names′ rows′ lists′ filed uses r =
     (exclude : List Name) → Excludes exclude file names named → (s : Summary) → r ≡ summarized.Done s
-    → Lists exclude file names refs rows named used many name t names′ rows′ out′ filed uses s
+    → Lists exclude file names refs rows named used many name t names′ rows′ lists′ filed uses s
 
 -- all four
 abbrev pub Promised : List ℕ → List ℕ → List ℕ → List ℕ → List ℕ → ℕ → ℕ → ℕ → ℕ → ℕ → ℕ → ℕ → ℕ → List ℕ → List ℕ → List ℕ → Summarized → Type 0
-Promised file names refs rows out named used many name t mark filed uses names′ rows′ out′ r =
+Promised file names refs rows lists named used many name t mark filed uses names′ rows′ lists′ r =
     Answer file names refs rows named used many name t mark filed uses r
-    × (Listed file names refs rows named used many name t names′ rows′ out′ filed uses r
-    × (Slices names rows out names′ rows′ out′ filed uses
-    × Written (file-fact refs used many file names rows out named name t mark filed uses) names′ rows′ out′))
+    × (Listed file names refs rows named used many name t names′ rows′ lists′ filed uses r
+    × (Slices names rows lists names′ rows′ lists′ filed uses
+    × Written (file-fact refs used many file names rows lists named name t mark filed uses) names′ rows′ lists′))
 
-module _ {file names refs rows out : List ℕ} {named used many name t mark filed uses : ℕ} {chosen : Choice}
-    (asked : Asked file names refs rows out named used many name t mark filed uses)
+module _ {file names refs rows lists : List ℕ} {named used many name t mark filed uses : ℕ} {chosen : Choice}
+    (asked : Asked file names refs rows lists named used many name t mark filed uses)
     (choice : Chosen kind-choice summarize-kind file names refs rows named used many name t chosen) where
   -- some list of excluded names
   some-excluded : (exclude : List Name) × Excludes exclude file names named
@@ -192,19 +192,19 @@ module _ {file names refs rows out : List ℕ} {named used many name t mark file
   unfolding fact-kind
   made = choice .kind
 
-  module _ {names′ rows′ out′ : List ℕ} {r : Sorted} (chooses : Chooses file names refs rows out names′ rows′ out′ named used many mark
+  module _ {names′ rows′ lists′ : List ℕ} {r : Sorted} (chooses : Chooses file names refs rows lists names′ rows′ lists′ named used many mark
       (entries-base + filed) chosen r) where
     -- the fact's kind is filed, or a limit passed
     comes : (exclude : List Name) → Excludes exclude file names named
-        → Comes-to file names names′ out′ named (entries-base + filed) (fact-kind exclude file names refs rows named used many name t) r
+        → Comes-to file names names′ lists′ named (entries-base + filed) (fact-kind exclude file names refs rows named used many name t) r
     comes exclude excludes = rw (made exclude) at (chooses .kinds exclude excludes)
 
-  module _ {names′ rows′ out′ : List ℕ} {l : Limit} (chooses : Chooses file names refs rows out names′ rows′ out′ named used many mark
+  module _ {names′ rows′ lists′ : List ℕ} {l : Limit} (chooses : Chooses file names refs rows lists names′ rows′ lists′ named used many mark
       (entries-base + filed) chosen (sorted.Over l))
-      (filed-as : Sorts-as (file-choice refs used many file named mark (filing names rows out (mark + 1) (entries-base + filed)) chosen) names′ rows′ out′ mark
+      (filed-as : Sorts-as (file-choice refs used many file named mark (filing names rows lists (mark + 1) (entries-base + filed)) chosen) names′ rows′ lists′ mark
       (entries-base + filed) (sorted.Over l)) where
     -- a limit that filing passes
-    pub over-law : Promised file names refs rows out named used many name t mark filed uses names′ rows′ out′ (summarized.Over l)
+    pub over-law : Promised file names refs rows lists named used many name t mark filed uses names′ rows′ lists′ (summarized.Over l)
     unfolding names-then fact-summary sorted-end file-fact
     over-law = (
       λ exclude excludes. answer exclude (comes chooses exclude excludes),
@@ -218,52 +218,52 @@ module _ {file names refs rows out : List ℕ} {named used many name t mark file
     )
       where
         answer : {x : Limit} (exclude : List Name)
-            → Comes-to file names names′ out′ named (entries-base + filed) (fact-kind exclude file names refs rows named used many name t) (sorted.Over x)
+            → Comes-to file names names′ lists′ named (entries-base + filed) (fact-kind exclude file names refs rows named used many name t) (sorted.Over x)
             → summarized.Over x ≡ limited (fact-summary exclude file names refs rows named used many name t mark filed uses)
         answer exclude (names-over p) = over-names (fact-summary exclude file names refs rows named used many name t mark filed uses) p
         answer exclude (entries-over p q) = over-entries (fact-summary exclude file names refs rows named used many name t mark filed uses) p (omega arith)
 
         slices : {x : Limit} (exclude : List Name)
-            → Comes-to file names names′ out′ named (entries-base + filed) (fact-kind exclude file names refs rows named used many name t) (sorted.Over x)
-            → Marks (trimmed-table file names named chosen) rows out names′ rows′ out′ mark (entries-base + filed) (sorted.Over x)
-            → Slices names rows out names′ rows′ out′ filed uses
+            → Comes-to file names names′ lists′ named (entries-base + filed) (fact-kind exclude file names refs rows named used many name t) (sorted.Over x)
+            → Marks (trimmed-table file names named chosen) rows lists names′ rows′ lists′ mark (entries-base + filed) (sorted.Over x)
+            → Slices names rows lists names′ rows′ lists′ filed uses
         slices exclude (names-over p) m = record {
           name-words = names-past (asked .tables .name-table) chosen (m .names-same);
           row-words = m .rows-same;
-          out-length = m .out-same .same-length;
-          out-words = λ i f g. m .out-same .same-words i (λ a b. omega arith);
+          lists-length = m .lists-same .same-length;
+          lists-words = λ i f g. m .lists-same .same-words i (λ a b. omega arith);
         }
         slices exclude (entries-over p q) m = record {
           name-words = names-past (asked .tables .name-table) chosen (m .names-same);
           row-words = m .rows-same;
-          out-length = m .out-same .same-length;
-          out-words = λ i f g. m .out-same .same-words i (λ a b. g a (omega (arith, asked .few-entries)));
+          lists-length = m .lists-same .same-length;
+          lists-words = λ i f g. m .lists-same .same-words i (λ a b. g a (omega (arith, asked .few-entries)));
         }
 
-  module _ {names′ rows′ out′ : List ℕ} {a : AsumKind} {e total : ℕ}
-      (chooses : Chooses file names refs rows out names′ rows′ out′ named used many mark (entries-base + filed) chosen (sorted.Kind a e total)) where
+  module _ {names′ rows′ lists′ : List ℕ} {a : AsumKind} {e total : ℕ}
+      (chooses : Chooses file names refs rows lists names′ rows′ lists′ named used many mark (entries-base + filed) chosen (sorted.Kind a e total)) where
     -- the kind that was filed
     filed-there : (exclude : List Name) → Excludes exclude file names named
-        → Filed-kind file names names′ out′ named (entries-base + filed) (fact-kind exclude file names refs rows named used many name t) a e total
+        → Filed-kind file names names′ lists′ named (entries-base + filed) (fact-kind exclude file names refs rows named used many name t) a e total
     filed-there exclude excludes = go (comes chooses exclude excludes)
       where
-        go : {k : Kinded} → Comes-to file names names′ out′ named (entries-base + filed) k (sorted.Kind a e total)
-            → Filed-kind file names names′ out′ named (entries-base + filed) k a e total
+        go : {k : Kinded} → Comes-to file names names′ lists′ named (entries-base + filed) k (sorted.Kind a e total)
+            → Filed-kind file names names′ lists′ named (entries-base + filed) k a e total
         go (kind-filed k) = k
 
     -- for some list of excluded names
-    filed-some : Filed-kind file names names′ out′ named (entries-base + filed)
+    filed-some : Filed-kind file names names′ lists′ named (entries-base + filed)
         (fact-kind (some-excluded .0) file names refs rows named used many name t) a e total
     filed-some = filed-there (some-excluded .0) (some-excluded .1)
 
     -- where its entries end
-    pub filed-ends : (entries-base + filed ≤ e) × (e ≤ entries-end)
+    pub filed-ends : (entries-base + filed ≤ e) × (e ≤ entries-column-end)
     filed-ends = let q = filed-some .ends in (omega arith, filed-some .high)
 
     -- what gathering its free names asks
     pub finish-asks : {n : ℕ} → n ≡ mark + 1 + (e - (entries-base + filed))
         → Rows refs rows′ used many named × (working-words ≤ length names′) × (t < many) × Fresh names′ rows′ n × (n + 1 < word-limit) × (entries-base ≤ e)
-        × (uses ≤ most-uses) × (working-words ≤ length out′)
+        × (uses ≤ most-uses) × (working-words ≤ length lists′)
     finish-asks {n} q =
         let (lo, hi) = filed-ends in (
           rows-marked (chooses .marks .rows-same) (asked .tables .term-table),
@@ -273,11 +273,11 @@ module _ {file names refs rows out : List ℕ} {named used many name t mark file
           omega (arith, asked .few-marks),
           omega arith,
           asked .few-uses,
-          rw (chooses .marks .out-same .same-length) (asked .room),
+          rw (chooses .marks .lists-same .same-length) (asked .room),
         )
 
-    module _ {names″ rows″ out″ : List ℕ} {n : ℕ} {r : Summarized} (is : n ≡ mark + 1 + (e - (entries-base + filed)))
-        (finishes : Finishes names′ refs rows′ out′ names″ rows″ out″ named total used many t a e n uses r) where
+    module _ {names″ rows″ lists″ : List ℕ} {n : ℕ} {r : Summarized} (is : n ≡ mark + 1 + (e - (entries-base + filed)))
+        (finishes : Finishes names′ refs rows′ lists′ names″ rows″ lists″ named total used many t a e n uses r) where
       -- the name table then
       kept-table : Kept file names′ names″ total
       kept-table = table-marked (filed-some .table) (finishes .slices .names-same)
@@ -309,7 +309,7 @@ module _ {file names refs rows out : List ℕ} {named used many name t mark file
 
       -- the free names that were gathered
       gathered-names : (exclude : List Name) → Excludes exclude file names named
-          → Gathers (name-of file names″) named (fact-names exclude file names refs rows named used many name t) uses most-uses out″ (finishes .walked)
+          → Gathers (name-of file names″) named (fact-names exclude file names refs rows named used many name t) uses most-uses lists″ (finishes .walked)
       unfolding fact-names
       gathered-names exclude excludes =
           rw (terms-marked (name-of file names″) (chooses .marks .rows-same) (asked .tables .term-table) ∙ kept-named) at
@@ -317,35 +317,35 @@ module _ {file names refs rows out : List ℕ} {named used many name t mark file
           (named-of names (kept-table .table) (filed-some .more) excludes kept-names (filed-some .same-excluded)))
 
       -- the entries stay
-      kept-words : part out″ (entries-base + filed) e ≡ part out′ (entries-base + filed) e
+      kept-words : part lists″ (entries-base + filed) e ≡ part lists′ (entries-base + filed) e
       kept-words =
           let (lo, hi) = filed-ends in
           let s = finishes .slices in
           let fits = s .fits in
           let grows = s .grows in
           let room = asked .room in
-          let long : length out′ ≡ length out = chooses .marks .out-same .same-length in
-          part-agree out′ out″ (e - (entries-base + filed)) (entries-base + filed) e refl (omega arith) (omega (arith, s .out-same .same-length))
-          (λ i l k. s .out-same .same-words i (λ x y. omega arith))
+          let long : length lists′ ≡ length lists = chooses .marks .lists-same .same-length in
+          part-agree lists′ lists″ (e - (entries-base + filed)) (entries-base + filed) e refl (omega arith) (omega (arith, s .lists-same .same-length))
+          (λ i l k. s .lists-same .same-words i (λ x y. omega arith))
 
-      -- the words of `out` but the places of the free names and of the entries
-      kept-out : (x : Walked) → Same-but uses (ended most-uses x - uses) out′ out″ → ended most-uses x ≤ most-uses
-          → (i : ℕ) → (uses ≤ i → i < most-uses → ⊥) → (entries-base + filed ≤ i → i < entries-end → ⊥) → getD out″ i 0 ≡ getD out i 0
+      -- the words of `lists` but the places of the free names and of the entries
+      kept-out : (x : Walked) → Same-but uses (ended most-uses x - uses) lists′ lists″ → ended most-uses x ≤ most-uses
+          → (i : ℕ) → (uses ≤ i → i < most-uses → ⊥) → (entries-base + filed ≤ i → i < entries-column-end → ⊥) → getD lists″ i 0 ≡ getD lists i 0
       unfolding sorted-end
       kept-out x s up i f g =
           let (lo, hi) = filed-ends in
-          s .same-words i (λ p q. f p (omega arith)) ∙ chooses .marks .out-same .same-words i (λ p q. g p (omega arith))
+          s .same-words i (λ p q. f p (omega arith)) ∙ chooses .marks .lists-same .same-words i (λ p q. g p (omega arith))
 
       -- the slices then
-      kept-slices : Slices names rows out names″ rows″ out″ filed uses
+      kept-slices : Slices names rows lists names″ rows″ lists″ filed uses
       kept-slices =
           let m = chooses .marks in
           let s = finishes .slices in
           record {
             name-words = names-past (asked .tables .name-table) chosen (same-then (m .names-same) (s .names-same));
             row-words = kept-rows;
-            out-length = s .out-same .same-length ∙ m .out-same .same-length;
-            out-words = kept-out (finishes .walked) (s .out-same) (s .fits);
+            lists-length = s .lists-same .same-length ∙ m .lists-same .same-length;
+            lists-words = kept-out (finishes .walked) (s .lists-same) (s .fits);
           }
 
       module _ (exclude : List Name) (excludes : Excludes exclude file names named) where
@@ -366,9 +366,9 @@ module _ {file names refs rows out : List ℕ} {named used many name t mark file
             omega (arith, entries-many (kind .triggers))
 
         -- the summary's lists
-        kept-lists : {k : ℕ} → Gathers (name-of file names″) named (fact-names exclude file names refs rows named used many name t) uses most-uses out″
+        kept-lists : {k : ℕ} → Gathers (name-of file names″) named (fact-names exclude file names refs rows named used many name t) uses most-uses lists″
             (walks.Names k)
-            → Lists exclude file names refs rows named used many name t names″ rows″ out″ filed uses
+            → Lists exclude file names refs rows named used many name t names″ rows″ lists″ filed uses
             (record { kind = a; entries = e - entries-base; uses = k; named = total; mark = n + 1 })
         unfolding names-then
         kept-lists (all-names p q fits small) =
@@ -378,7 +378,7 @@ module _ {file names refs rows out : List ℕ} {named used many name t mark file
             record {
               disjuncts = rw (w, kept-words)
                   (disjuncts-named (name-of file names″) (name-of file names′) (name-marked file (finishes .slices .names-same))
-                  (part out′ (entries-base + filed) e) ∙ k .disjuncts);
+                  (part lists′ (entries-base + filed) e) ∙ k .disjuncts);
               entry-words = rw (w, kept-words) (k .entry-words);
               few-sets = kept-few;
               free-names = p;
@@ -392,9 +392,9 @@ module _ {file names refs rows out : List ℕ} {named used many name t mark file
             }
 
         -- the answer and the lists, by whether there is room for the free names
-        kept-answer : (x : Walked) → Gathers (name-of file names″) named (fact-names exclude file names refs rows named used many name t) uses most-uses out″ x
+        kept-answer : (x : Walked) → Gathers (name-of file names″) named (fact-names exclude file names refs rows named used many name t) uses most-uses lists″ x
             → (finished a e total n x ≡ limited (fact-summary exclude file names refs rows named used many name t mark filed uses))
-            × ((s : Summary) → finished a e total n x ≡ summarized.Done s → Lists exclude file names refs rows named used many name t names″ rows″ out″ filed uses s)
+            × ((s : Summary) → finished a e total n x ≡ summarized.Done s → Lists exclude file names refs rows named used many name t names″ rows″ lists″ filed uses s)
         unfolding fact-summary
         kept-answer (walks.Names k) (all-names p q fits small) =
             let (lo, hi) = filed-ends in
@@ -416,13 +416,13 @@ module _ {file names refs rows out : List ℕ} {named used many name t mark file
 
         -- by the answer
         kept-both : (r ≡ limited (fact-summary exclude file names refs rows named used many name t mark filed uses))
-            × ((s : Summary) → r ≡ summarized.Done s → Lists exclude file names refs rows named used many name t names″ rows″ out″ filed uses s)
+            × ((s : Summary) → r ≡ summarized.Done s → Lists exclude file names refs rows named used many name t names″ rows″ lists″ filed uses s)
         kept-both = rw (finishes .answer) (kept-answer (finishes .walked) (gathered-names exclude excludes))
 
       -- a fact whose kind was filed
       pub finish-law : Sorts-as (file-choice refs used many file named mark
-          (filing names rows out (mark + 1) (entries-base + filed)) chosen) names′ rows′ out′ mark (entries-base + filed) (sorted.Kind a e total)
-          → Promised file names refs rows out named used many name t mark filed uses names″ rows″ out″ r
+          (filing names rows lists (mark + 1) (entries-base + filed)) chosen) names′ rows′ lists′ mark (entries-base + filed) (sorted.Kind a e total)
+          → Promised file names refs rows lists named used many name t mark filed uses names″ rows″ lists″ r
       unfolding file-fact
       finish-law filed-as = (
         λ exclude excludes. kept-both exclude excludes .0,

@@ -8,7 +8,7 @@ use mathlib.Core.Option.{none, some}
 use lib.ListN.{length, getD, take, drop, set, length-take, length-drop, length-append}
 use lib.Dec.{ltb, not-T}
 use borrow.Author.Tests.{ltb-true, le-ltb, lt-ltb}
-use Rattle.names.specs.Table.{Table, is-excluded, name-of, names-of, look-up, spell-answer, spell-table, entered}
+use Rattle.names.specs.Table.{Table, is-excluded, name-of, table-names, look-up, spell-answer, spell-table, entered}
 use Rattle.names.specs.declared.Found.{Found}
 use Rattle.names.specs.declared.Found.the-variants as found
 use Rattle.names.specs.declared.Spelled.{Spelled}
@@ -42,11 +42,11 @@ use Rattle.summary.specs.Writing.{trimmed-end, trimmed-found, token-tabl
 
 -- spelling a name changes no word from 8,192 on
 spell-same : {file names : List ℕ} {named : ℕ} → Table file names named → (a e : ℕ)
-    → Same-but 0 8192 names (spell-table file names named a e (look-up (names-of file names named) (part file a e)))
+    → Same-but 0 8192 names (spell-table file names named a e (look-up (table-names file names named) (part file a e)))
 unfolding spell-table
-spell-same {file} {names} {named} table a e = go (look-up (names-of file names named) (part file a e)) refl
+spell-same {file} {names} {named} table a e = go (look-up (table-names file names named) (part file a e)) refl
   where
-    go : (f : Found) → look-up (names-of file names named) (part file a e) ≡ f → Same-but 0 8192 names (spell-table file names named a e f)
+    go : (f : Found) → look-up (table-names file names named) (part file a e) ≡ f → Same-but 0 8192 names (spell-table file names named a e f)
     go (found.At n) q = same-self 0 8192 names
     go (found.Missing rank) q = choose (ltb named 2048) refl
       where
@@ -151,10 +151,10 @@ module _ {file names : List ℕ} {named n x y : ℕ} (table : Table file names n
   token-length = ap length (sym token-part) ∙ (simp (length-take, length-drop) (omega (arith, token-inside)))
 
   -- a token that is not filed writes the words of `file-token`: at most the shorter name, in the name table
-  token-stops : {names′ out out′ : List ℕ} {at : ℕ} {w : Limit} (rows : List ℕ) (mark : ℕ) → names′ ≡ token-table file names named n → out′ ≡ out
-      → file-words (filing (token-table file names named n) rows out (mark + 1) at) (token-words file names named n)
-      ≡ stopped (filing (token-table file names named n) rows out (mark + 1) at)
-      → Sorts-as (file-token file named (filing names rows out (mark + 1) at) n) names′ rows out′ mark at (sorted.Over w)
+  token-stops : {names′ lists lists′ : List ℕ} {at : ℕ} {w : Limit} (rows : List ℕ) (mark : ℕ) → names′ ≡ token-table file names named n → lists′ ≡ lists
+      → file-words (filing (token-table file names named n) rows lists (mark + 1) at) (token-words file names named n)
+      ≡ stopped (filing (token-table file names named n) rows lists (mark + 1) at)
+      → Sorts-as (file-token file named (filing names rows lists (mark + 1) at) n) names′ rows lists′ mark at (sorted.Over w)
   unfolding file-token stopped
   token-stops rows mark e o s = as-over (rw s refl) (rw s e) (rw s refl) (rw s o)
 
@@ -173,27 +173,27 @@ module _ {file names : List ℕ} {named n x y : ℕ} (table : Table file names n
         sym (rw (token-length, ← token-part, w, z) (take-take (y - 4) y (drop x file) (omega arith)))
 
     -- the slice of names then
-    token-slice : {names′ : List ℕ} → names′ ≡ spell-table file names named x (x + y - 4) (look-up (names-of file names named) (part file x (x + y - 4)))
+    token-slice : {names′ : List ℕ} → names′ ≡ spell-table file names named x (x + y - 4) (look-up (table-names file names named) (part file x (x + y - 4)))
         → names′ ≡ token-table file names named n
     unfolding token-table
     token-slice e = rw (yes, ← p, ← q) e
 
     -- a token and the shorter name, filed
-    token-two : {names′ out out′ : List ℕ} {total m at : ℕ} {r : Sorted} → Table file names′ total
-        → names-of file names′ total ≡ spell (names-of file names named) (part file x (x + y - 4))
+    token-two : {names′ lists lists′ : List ℕ} {total m at : ℕ} {r : Sorted} → Table file names′ total
+        → table-names file names′ total ≡ spell (table-names file names named) (part file x (x + y - 4))
         → named ≤ total → ((k : ℕ) → k < named → name-of file names′ k ≡ name-of file names k)
         → ((k : ℕ) → k < named → is-excluded names′ k ≡ is-excluded names k) → name-of file names′ m ≡ part file x (x + y - 4) → m < total
-        → 16384 ≤ length out → Two out out′ total n m at r
-        → Comes-to file names names′ out′ named at (token-triggers (name-of file names n)) r
+        → 16384 ≤ length lists → Two lists lists′ total n m at r
+        → Comes-to file names names′ lists′ named at (token-triggers (name-of file names n)) r
     unfolding fold-left entries sum
-    token-two {names′} {out} {total = total} {m} {at} table′ spelled more same excluded is k room (both fits e) =
+    token-two {names′} {lists} {total = total} {m} {at} table′ spelled more same excluded is k room (both fits e) =
         let few = table′ .few in
         rw (token-yes (name-of file names n) yes)
         (kind-filed {e = at + 2} {total = total} (record {
           kind = refl;
           disjuncts = rw (
             e,
-            part-two out at (n + 4096) (m + 4096) (omega arith),
+            part-two lists at (n + 4096) (m + 4096) (omega arith),
             sets-two (name-of file names′) n m (omega arith) (omega arith),
             same n l,
             is,
@@ -201,7 +201,7 @@ module _ {file names : List ℕ} {named n x y : ℕ} (table : Table file names n
           ) refl;
           ends = refl;
           high = fits;
-          entry-words = rw (e, part-two out at (n + 4096) (m + 4096) (omega arith)) (entries-are-two total n m (omega arith) k few);
+          entry-words = rw (e, part-two lists at (n + 4096) (m + 4096) (omega arith)) (entries-are-two total n m (omega arith) k few);
           table = table′;
           spelled = rw (← token-short) spelled;
           more = more;
@@ -213,31 +213,31 @@ module _ {file names : List ℕ} {named n x y : ℕ} (table : Table file names n
         (entries-over (rw (← token-short, ← spelled, names-length file names′ total) (table′ .few)) past)
 
     -- what it does to the slice
-    token-out : {out out′ : List ℕ} {total m at : ℕ} {r : Sorted} → Two out out′ total n m at r → Same-but at (sorted-end at r - at) out out′
+    token-out : {lists lists′ : List ℕ} {total m at : ℕ} {r : Sorted} → Two lists lists′ total n m at r → Same-but at (sorted-end at r - at) lists lists′
     unfolding sorted-end
-    token-out {out} {m = m} {at} (both fits e) =
-        rw e (same-then (same-set at (at + 2 - at) out at (n + 4096) (omega arith) (omega arith))
-        (same-set at (at + 2 - at) (set out at (n + 4096)) (at + 1) (m + 4096) (omega arith) (omega arith)))
-    token-out {out} {at = at} (over past e) = rw e (same-self at (8192 - at) out)
+    token-out {lists} {m = m} {at} (both fits e) =
+        rw e (same-then (same-set at (at + 2 - at) lists at (n + 4096) (omega arith) (omega arith))
+        (same-set at (at + 2 - at) (set lists at (n + 4096)) (at + 1) (m + 4096) (omega arith) (omega arith)))
+    token-out {lists} {at = at} (over past e) = rw e (same-self at (8192 - at) lists)
 
     -- the entries of a token are its own and that of the number which spelling the shorter name answers
-    token-entries : {s : Spelled} → s ≡ spell-answer named (look-up (names-of file names named) (part file x (x + y - 4)))
+    token-entries : {s : Spelled} → s ≡ spell-answer named (look-up (table-names file names named) (part file x (x + y - 4)))
         → token-words file names named n ≡ (spelled-number s >>= λ m. some ((n + 4096) ∷ (m + 4096) ∷ []))
     unfolding token-words
     token-entries e = rw (yes, ← p, ← q, ← e) refl
 
     -- filing a token and the shorter name writes the words of `file-token`
-    token-two-as : {names′ out out′ : List ℕ} {total m at : ℕ} {r : Sorted} → names′ ≡ token-table file names named n
-        → token-words file names named n ≡ some ((n + 4096) ∷ (m + 4096) ∷ []) → Two out out′ total n m at r
-        → (rows : List ℕ) (mark : ℕ) → Sorts-as (file-token file named (filing names rows out (mark + 1) at) n) names′ rows out′ mark at r
+    token-two-as : {names′ lists lists′ : List ℕ} {total m at : ℕ} {r : Sorted} → names′ ≡ token-table file names named n
+        → token-words file names named n ≡ some ((n + 4096) ∷ (m + 4096) ∷ []) → Two lists lists′ total n m at r
+        → (rows : List ℕ) (mark : ℕ) → Sorts-as (file-token file named (filing names rows lists (mark + 1) at) n) names′ rows lists′ mark at r
     unfolding file-token file-words put
     token-two-as {m = m} {at} w ws (both fits e) rows mark =
         let z : mark + 1 + 2 ≡ mark + 1 + (at + 2 - at) = omega arith in
         as-kind {e = at + 2} (rw (ws, le-ltb 8192 (at + 2) fits, w, e, z) refl)
     token-two-as {at = at} w ws (over past e) rows mark = token-stops rows mark w e (rw (ws, lt-ltb 8192 (at + 2) past) refl)
 
-    module _ {names′ : List ℕ} {s : Spelled} (answer : s ≡ spell-answer named (look-up (names-of file names named) (part file x (x + y - 4))))
-        (slice : names′ ≡ spell-table file names named x (x + y - 4) (look-up (names-of file names named) (part file x (x + y - 4)))) where
+    module _ {names′ : List ℕ} {s : Spelled} (answer : s ≡ spell-answer named (look-up (table-names file names named) (part file x (x + y - 4))))
+        (slice : names′ ≡ spell-table file names named x (x + y - 4) (look-up (table-names file names named) (part file x (x + y - 4)))) where
       -- spelling the shorter name: what its answer says
       token-spelled : Spelling file names names′ named x (x + y - 4) s
       token-spelled = spell-law table x (x + y - 4) (token-asks .1) (token-asks .2) names′ s answer slice
@@ -251,21 +251,21 @@ module _ {file names : List ℕ} {named n x y : ℕ} (table : Table file names n
       token-new-small e = let k = spelled-new token-spelled e in omega (arith, k .number, k .few)
 
       -- the shorter name was known
-      pub token-known : {out out′ : List ℕ} {m at : ℕ} {r : Sorted} → s ≡ spelled.Known m → 16384 ≤ length out → Two out out′ named n m at r
-          → Tokens file names out names′ out′ named n at r
+      pub token-known : {lists lists′ : List ℕ} {m at : ℕ} {r : Sorted} → s ≡ spelled.Known m → 16384 ≤ length lists → Two lists lists′ named n m at r
+          → Tokens file names lists names′ lists′ named n at r
       unfolding spelled-number
       token-known e room two =
           let k = spelled-known token-spelled e in
           record {
             name-words = token-slice slice;
             kinds = rw (k .kept) (token-two table (k .names) (omega arith) (λ i h. refl) (λ i h. refl) (k .is) (k .number) room two);
-            out-same = token-out two;
+            lists-same = token-out two;
             words-as = token-two-as (token-slice slice) (token-entries answer ∙ rw e refl) two;
           }
 
       -- it is new
-      pub token-new : {out out′ : List ℕ} {m at : ℕ} {r : Sorted} → s ≡ spelled.New m → 16384 ≤ length out → Two out out′ (named + 1) n m at r
-          → Tokens file names out names′ out′ named n at r
+      pub token-new : {lists lists′ : List ℕ} {m at : ℕ} {r : Sorted} → s ≡ spelled.New m → 16384 ≤ length lists → Two lists lists′ (named + 1) n m at r
+          → Tokens file names lists names′ lists′ named n at r
       unfolding spelled-number
       token-new e room two =
           let k = spelled-new token-spelled e in
@@ -278,14 +278,14 @@ module _ {file names : List ℕ} {named n x y : ℕ} (table : Table file names n
                 (λ i h. rw slice (excluded-spelled table x (x + y - 4) i h))
                 (rw (k .number, k .slice) (entered-new file names named x (x + y - 4) (k .rank) within few (table .room) (token-asks .1)))
                 (omega (arith, k .number)) room two;
-            out-same = token-out two;
+            lists-same = token-out two;
             words-as = token-two-as (token-slice slice) (token-entries answer ∙ rw e refl) two;
           }
 
       -- there is no room for it
-      pub token-full : {out : List ℕ} {at : ℕ} → s ≡ spelled.Full → Tokens file names out names′ out named n at (sorted.Over limit.Names)
+      pub token-full : {lists : List ℕ} {at : ℕ} → s ≡ spelled.Full → Tokens file names lists names′ lists named n at (sorted.Over limit.Names)
       unfolding sorted-end fold-left spell spelled-number file-words
-      token-full {out} {at} e =
+      token-full {lists} {at} e =
           let k = spelled-full token-spelled e in
           let ws : token-words file names named n ≡ none = token-entries answer ∙ rw e refl in
           record {
@@ -293,13 +293,13 @@ module _ {file names : List ℕ} {named n x y : ℕ} (table : Table file names n
             kinds = rw (token-yes (name-of file names n) yes)
                 (names-over (rw (
                   ← token-short,
-                  cond-false (mem (part file x (x + y - 4)) (names-of file names named)) (names-of file names named)
-                      (names-of file names named ++ (part file x (x + y - 4) ∷ []))
-                      (not-T (mem (part file x (x + y - 4)) (names-of file names named)) (k .absent)),
+                  cond-false (mem (part file x (x + y - 4)) (table-names file names named)) (table-names file names named)
+                      (table-names file names named ++ (part file x (x + y - 4) ∷ []))
+                      (not-T (mem (part file x (x + y - 4)) (table-names file names named)) (k .absent)),
                   length-append,
                   names-length file names named,
                 ) (omega (arith, k .full))));
-            out-same = same-self at (at - at) out;
+            lists-same = same-self at (at - at) lists;
             words-as = λ rows mark. token-stops rows mark (token-slice slice) refl (rw ws refl);
           }
 
@@ -315,38 +315,38 @@ module _ {file names : List ℕ} {named n x y : ℕ} (table : Table file names n
     token-entry = rw no refl
 
     -- a token alone, filed
-    pub token-one : {out : List ℕ} {at : ℕ} → at < 8192 → 16384 ≤ length out
-        → Tokens file names out names (set out at (n + 4096)) named n at (sorted.Kind (asum.Triggers 1) (at + 1) named)
+    pub token-one : {lists : List ℕ} {at : ℕ} → at < 8192 → 16384 ≤ length lists
+        → Tokens file names lists names (set lists at (n + 4096)) named n at (sorted.Kind (asum.Triggers 1) (at + 1) named)
     unfolding sorted-end fold-left entries sum Sum-triggers file-token file-words put
-    token-one {out} {at} h room =
+    token-one {lists} {at} h room =
         let few = table .few in
         record {
           name-words = token-kept;
           kinds = rw (token-no (name-of file names n) no)
               (kind-filed {e = at + 1} {total = named} (record {
                 kind = refl;
-                disjuncts = rw (part-one out at (n + 4096) (omega arith), sets-one (name-of file names) n (omega arith)) refl;
+                disjuncts = rw (part-one lists at (n + 4096) (omega arith), sets-one (name-of file names) n (omega arith)) refl;
                 ends = refl;
                 high = omega arith;
-                entry-words = rw (part-one out at (n + 4096) (omega arith)) (entries-are-one named n l few);
+                entry-words = rw (part-one lists at (n + 4096) (omega arith)) (entries-are-one named n l few);
                 table = table;
                 spelled = refl;
                 more = omega arith;
                 same-names = λ k h. refl;
                 same-excluded = λ k h. refl;
               }));
-          out-same = same-set at (at + 1 - at) out at (n + 4096) (omega arith) (omega arith);
+          lists-same = same-set at (at + 1 - at) lists at (n + 4096) (omega arith) (omega arith);
           words-as = λ rows mark.
               let z : mark + 1 + 1 ≡ mark + 1 + (at + 1 - at) = omega arith in
               as-kind {e = at + 1} (rw (token-entry, le-ltb 8192 (at + 1) (omega arith), ← token-kept, z) refl);
         }
 
     -- there is no room for it
-    pub token-over : {out : List ℕ} {at : ℕ} → 8192 ≤ at → Tokens file names out names out named n at (sorted.Over limit.Entries)
+    pub token-over : {lists : List ℕ} {at : ℕ} → 8192 ≤ at → Tokens file names lists names lists named n at (sorted.Over limit.Entries)
     unfolding sorted-end fold-left entries sum Sum-triggers file-words
-    token-over {out} {at} h = record {
+    token-over {lists} {at} h = record {
       name-words = token-kept;
       kinds = rw (token-no (name-of file names n) no) (entries-over (rw (names-length file names named) (table .few)) (omega arith));
-      out-same = same-self at (8192 - at) out;
+      lists-same = same-self at (8192 - at) lists;
       words-as = λ rows mark. token-stops rows mark token-kept refl (rw (token-entry, lt-ltb 8192 (at + 1) (omega arith)) refl);
     }

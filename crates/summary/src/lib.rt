@@ -17,10 +17,10 @@ ghost use Rattle.words.specs.Slices.{word-limit};
 ghost use Rattle.gather.specs.Sets.{Fresh};
 ghost use Rattle.rules.specs.Views.{Tables};
 ghost use Rattle.rules.specs.Choices.{refinement-kind, parts-kind, Within};
-ghost use Rattle.triggers.specs.Entries.{entries-base, entries-end};
+ghost use Rattle.triggers.specs.Entries.{entries-base, entries-column-end};
 ghost use Rattle.triggers.specs.Filings.{filing, file-parts};
 ghost use Rattle.summary.specs.Facts.{Asked, fact-summary, limited, Lists, Slices};
-ghost use Rattle.summary.specs.Steps.{Begun, Sorts, Sorts-as, Two, Tokens, Chooses, Finishes, sorted-of};
+ghost use Rattle.summary.specs.Steps.{Filing-begun, Sorts, Sorts-as, Two, Tokens, Chooses, Finishes, sorted-of};
 ghost use Rattle.summary.specs.Writing.{file-refinement, file-choice, file-fact, Written};
 
 // The limits that a fact may pass, in the order in which they are tried: names, trigger entries, name uses.
@@ -53,15 +53,15 @@ pub enum Summarized {
 }
 
 // Files two names as two disjuncts.
-fn put_two(out: &mut [u32], named: usize, n: usize, m: usize, at: usize) -> Sorted
-    requires { ⌜ (n < most-names) × (m < most-names) × (at ≤ entries-end) × (working-words ≤ length (now out)) ⌝ }
-    ensures { λ r. ⌜ Two (now (out .entry)) (now (out .exit)) named n m at r ⌝ }
+fn put_two(lists: &mut [u32], named: usize, n: usize, m: usize, at: usize) -> Sorted
+    requires { ⌜ (n < most-names) × (m < most-names) × (at ≤ entries-column-end) × (working-words ≤ length (now lists)) ⌝ }
+    ensures { λ r. ⌜ Two (now (lists .entry)) (now (lists .exit)) named n m at r ⌝ }
 {
     if triggers::ENTRIES_END <= at + 1 {
         return Sorted::Over(Limit::Entries);
     }
-    out[at] = (n + triggers::LAST) as u32;
-    out[at + 1] = (m + triggers::LAST) as u32;
+    lists[at] = (n + triggers::LAST) as u32;
+    lists[at + 1] = (m + triggers::LAST) as u32;
     Sorted::Kind(AsumKind::Triggers(2), at + 2, named)
 }
 
@@ -69,13 +69,13 @@ fn put_two(out: &mut [u32], named: usize, n: usize, m: usize, at: usize) -> Sort
 fn file_token(
     file: &[u8],
     names: &mut [u32],
-    out: &mut [u32],
+    lists: &mut [u32],
     named: usize,
     n: usize,
     at: usize,
 ) -> Sorted
-    requires { ⌜ Table (now file) (now names) named × (n < named) × (at ≤ entries-end) × (working-words ≤ length (now out)) ⌝ }
-    ensures { λ r. ⌜ Tokens (now (file .entry)) (now (names .entry)) (now (out .entry)) (now (names .exit)) (now (out .exit))
+    requires { ⌜ Table (now file) (now names) named × (n < named) × (at ≤ entries-column-end) × (working-words ≤ length (now lists)) ⌝ }
+    ensures { λ r. ⌜ Tokens (now (file .entry)) (now (names .entry)) (now (lists .entry)) (now (names .exit)) (now (lists .exit))
         named n at r ⌝ }
 {
     let a = words::at(names, n);
@@ -84,12 +84,12 @@ fn file_token(
         if triggers::ENTRIES_END <= at {
             return Sorted::Over(Limit::Entries);
         }
-        out[at] = (n + triggers::LAST) as u32;
+        lists[at] = (n + triggers::LAST) as u32;
         return Sorted::Kind(AsumKind::Triggers(1), at + 1, named);
     }
     match names::spell(file, names, named, a, e - 4) {
-        Spelled::Known(m) => put_two(out, named, n, m, at),
-        Spelled::New(m) => put_two(out, named + 1, n, m, at),
+        Spelled::Known(m) => put_two(lists, named, n, m, at),
+        Spelled::New(m) => put_two(lists, named + 1, n, m, at),
         Spelled::Full => Sorted::Over(Limit::Names),
     }
 }
@@ -109,7 +109,7 @@ fn file_refinement(
     names: &mut [u32],
     refs: &[u32],
     rows: &mut [u32],
-    out: &mut [u32],
+    lists: &mut [u32],
     named: usize,
     used: usize,
     many: usize,
@@ -117,19 +117,19 @@ fn file_refinement(
     mark: usize,
     at: usize,
 ) -> Sorted
-    requires { ⌜ Rows (now refs) (now rows) used many named × Begun (now names) (now rows) (now out) mark at × (t < many) ⌝ }
-    ensures kinds { λ r. ⌜ Sorts (now (names .entry)) (now (rows .entry)) (now (out .entry)) (now (names .exit))
-        (now (rows .exit)) (now (out .exit)) named mark at
+    requires { ⌜ Rows (now refs) (now rows) used many named × Filing-begun (now names) (now rows) (now lists) mark at × (t < many) ⌝ }
+    ensures kinds { λ r. ⌜ Sorts (now (names .entry)) (now (rows .entry)) (now (lists .entry)) (now (names .exit))
+        (now (rows .exit)) (now (lists .exit)) named mark at
         (λ exclude name. refinement-kind exclude (terms-of name (now (refs .entry)) (now (rows .entry)) used many) t) r ⌝ }
     ensures words { λ r. ⌜ Sorts-as (file-refinement (now (refs .entry)) used many mark
-        (filing (now (names .entry)) (now (rows .entry)) (now (out .entry)) (mark + 1) at) t) (now (names .exit))
-        (now (rows .exit)) (now (out .exit)) mark at r ⌝ }
+        (filing (now (names .entry)) (now (rows .entry)) (now (lists .entry)) (mark + 1) at) t) (now (names .exit))
+        (now (rows .exit)) (now (lists .exit)) mark at r ⌝ }
 {
-    if triggers::is_empty(names, refs, rows, out, named, used, many, t, mark, at) {
+    if triggers::is_empty(names, refs, rows, lists, named, used, many, t, mark, at) {
         return Sorted::Kind(AsumKind::Ambient(true), at, named);
     }
     filed(
-        triggers::triggers_of_term(names, refs, rows, out, named, used, many, t, mark + 1, at),
+        triggers::triggers_of_term(names, refs, rows, lists, named, used, many, t, mark + 1, at),
         named,
     )
 }
@@ -139,7 +139,7 @@ fn file_parts(
     names: &mut [u32],
     refs: &[u32],
     rows: &mut [u32],
-    out: &mut [u32],
+    lists: &mut [u32],
     named: usize,
     used: usize,
     many: usize,
@@ -147,14 +147,14 @@ fn file_parts(
     mark: usize,
     at: usize,
 ) -> Sorted
-    requires { ⌜ Rows (now refs) (now rows) used many named × Begun (now names) (now rows) (now out) mark at × (t < many) ⌝ }
-    ensures kinds { λ r. ⌜ Sorts (now (names .entry)) (now (rows .entry)) (now (out .entry)) (now (names .exit))
-        (now (rows .exit)) (now (out .exit)) named mark at
+    requires { ⌜ Rows (now refs) (now rows) used many named × Filing-begun (now names) (now rows) (now lists) mark at × (t < many) ⌝ }
+    ensures kinds { λ r. ⌜ Sorts (now (names .entry)) (now (rows .entry)) (now (lists .entry)) (now (names .exit))
+        (now (rows .exit)) (now (lists .exit)) named mark at
         (λ exclude name. parts-kind exclude (terms-of name (now (refs .entry)) (now (rows .entry)) used many) t) r ⌝ }
     ensures words { λ r. ⌜ Sorts-as (file-parts (now (refs .entry)) used many
-        (filing (now (names .entry)) (now (rows .entry)) (now (out .entry)) (mark + 1) at)
+        (filing (now (names .entry)) (now (rows .entry)) (now (lists .entry)) (mark + 1) at)
         (terms-of-words (part (now (refs .entry)) (row-start (now (rows .entry)) t) (row-end (now (rows .entry)) used many t))))
-        (now (names .exit)) (now (rows .exit)) (now (out .exit)) mark at r ⌝ }
+        (now (names .exit)) (now (rows .exit)) (now (lists .exit)) mark at r ⌝ }
 {
     let a = terms::start(rows, t);
     let e = terms::end(rows, used, many, t);
@@ -163,7 +163,7 @@ fn file_parts(
             names,
             refs,
             rows,
-            out,
+            lists,
             named,
             used,
             many,
@@ -182,7 +182,7 @@ fn file_choice(
     names: &mut [u32],
     refs: &[u32],
     rows: &mut [u32],
-    out: &mut [u32],
+    lists: &mut [u32],
     named: usize,
     used: usize,
     many: usize,
@@ -191,16 +191,16 @@ fn file_choice(
     at: usize,
 ) -> Sorted
     requires { ⌜ Tables (now file) (now names) (now refs) (now rows) named used many × Within named many choice
-        × Begun (now names) (now rows) (now out) mark at ⌝ }
+        × Filing-begun (now names) (now rows) (now lists) mark at ⌝ }
     ensures kinds { λ r. ⌜ Chooses (now (file .entry)) (now (names .entry)) (now (refs .entry)) (now (rows .entry))
-        (now (out .entry)) (now (names .exit)) (now (rows .exit)) (now (out .exit)) named used many mark at choice r ⌝ }
+        (now (lists .entry)) (now (names .exit)) (now (rows .exit)) (now (lists .exit)) named used many mark at choice r ⌝ }
     ensures words { λ r. ⌜ Sorts-as (file-choice (now (refs .entry)) used many (now (file .entry)) named mark
-        (filing (now (names .entry)) (now (rows .entry)) (now (out .entry)) (mark + 1) at) choice) (now (names .exit))
-        (now (rows .exit)) (now (out .exit)) mark at r ⌝ }
+        (filing (now (names .entry)) (now (rows .entry)) (now (lists .entry)) (mark + 1) at) choice) (now (names .exit))
+        (now (rows .exit)) (now (lists .exit)) mark at r ⌝ }
 {
     match choice {
         Choice::One(t) => filed(
-            triggers::file_term(names, refs, rows, out, named, used, many, t, mark + 1, at),
+            triggers::file_term(names, refs, rows, lists, named, used, many, t, mark + 1, at),
             named,
         ),
         Choice::Two(t, u) => filed(
@@ -208,7 +208,7 @@ fn file_choice(
                 names,
                 refs,
                 rows,
-                out,
+                lists,
                 named,
                 used,
                 many,
@@ -220,15 +220,26 @@ fn file_choice(
             named,
         ),
         Choice::Groups(t) => filed(
-            triggers::triggers_of_term(names, refs, rows, out, named, used, many, t, mark + 1, at),
+            triggers::triggers_of_term(
+                names,
+                refs,
+                rows,
+                lists,
+                named,
+                used,
+                many,
+                t,
+                mark + 1,
+                at,
+            ),
             named,
         ),
         Choice::Refinement(t) => {
-            file_refinement(names, refs, rows, out, named, used, many, t, mark, at)
+            file_refinement(names, refs, rows, lists, named, used, many, t, mark, at)
         }
-        Choice::Token(n) => file_token(file, names, out, named, n, at),
+        Choice::Token(n) => file_token(file, names, lists, named, n, at),
         Choice::Nothing => Sorted::Kind(AsumKind::Triggers(0), at, named),
-        Choice::Parts(t) => file_parts(names, refs, rows, out, named, used, many, t, mark, at),
+        Choice::Parts(t) => file_parts(names, refs, rows, lists, named, used, many, t, mark, at),
         Choice::Drop => Sorted::Kind(AsumKind::Drop, at, named),
         Choice::Ambient => Sorted::Kind(AsumKind::Ambient(false), at, named),
     }
@@ -239,7 +250,7 @@ fn finish(
     names: &mut [u32],
     refs: &[u32],
     rows: &mut [u32],
-    out: &mut [u32],
+    lists: &mut [u32],
     named: usize,
     total: usize,
     used: usize,
@@ -252,15 +263,15 @@ fn finish(
 ) -> Summarized
     requires { ⌜ Rows (now refs) (now rows) used many named × (working-words ≤ length (now names)) × (t < many)
         × Fresh (now names) (now rows) mark × (mark + 1 < word-limit) × (entries-base ≤ end) × (uses ≤ most-uses)
-        × (working-words ≤ length (now out)) ⌝ }
-    ensures { λ r. ⌜ Finishes (now (names .entry)) (now (refs .entry)) (now (rows .entry)) (now (out .entry))
-        (now (names .exit)) (now (rows .exit)) (now (out .exit)) named total used many t kind end mark uses r ⌝ }
+        × (working-words ≤ length (now lists)) ⌝ }
+    ensures { λ r. ⌜ Finishes (now (names .entry)) (now (refs .entry)) (now (rows .entry)) (now (lists .entry))
+        (now (names .exit)) (now (rows .exit)) (now (lists .exit)) named total used many t kind end mark uses r ⌝ }
 {
     match gather::gather_term(
         names,
         refs,
         rows,
-        out,
+        lists,
         named,
         used,
         many,
@@ -286,7 +297,7 @@ pub fn summarize_assumption(
     names: &mut [u32],
     refs: &[u32],
     rows: &mut [u32],
-    out: &mut [u32],
+    lists: &mut [u32],
     named: usize,
     used: usize,
     many: usize,
@@ -296,18 +307,18 @@ pub fn summarize_assumption(
     entries: usize,
     uses: usize,
 ) -> Summarized
-    requires { ⌜ Asked (now file) (now names) (now refs) (now rows) (now out) named used many name t mark entries uses ⌝ }
+    requires { ⌜ Asked (now file) (now names) (now refs) (now rows) (now lists) named used many name t mark entries uses ⌝ }
     ensures answer { λ r. ⌜ ((exclude : List Name) → Excludes exclude (now (file .entry)) (now (names .entry)) named → r
         ≡ limited (fact-summary exclude (now (file .entry)) (now (names .entry)) (now (refs .entry)) (now (rows .entry)) named
         used many name t mark entries uses)) ⌝ }
-    ensures lists { λ r. ⌜ ((exclude : List Name) → Excludes exclude (now (file .entry)) (now (names .entry)) named
+    ensures sets { λ r. ⌜ ((exclude : List Name) → Excludes exclude (now (file .entry)) (now (names .entry)) named
         → (s : Summary) → r ≡ Summarized.Done s → Lists exclude (now (file .entry)) (now (names .entry)) (now (refs .entry))
-        (now (rows .entry)) named used many name t (now (names .exit)) (now (rows .exit)) (now (out .exit)) entries uses s) ⌝ }
-    ensures slices { λ r. ⌜ Slices (now (names .entry)) (now (rows .entry)) (now (out .entry)) (now (names .exit))
-        (now (rows .exit)) (now (out .exit)) entries uses ⌝ }
+        (now (rows .entry)) named used many name t (now (names .exit)) (now (rows .exit)) (now (lists .exit)) entries uses s) ⌝ }
+    ensures slices { λ r. ⌜ Slices (now (names .entry)) (now (rows .entry)) (now (lists .entry)) (now (names .exit))
+        (now (rows .exit)) (now (lists .exit)) entries uses ⌝ }
     ensures words { λ r. ⌜ Written (file-fact (now (refs .entry)) used many (now (file .entry)) (now (names .entry))
-        (now (rows .entry)) (now (out .entry)) named name t mark entries uses) (now (names .exit)) (now (rows .exit))
-        (now (out .exit)) ⌝ }
+        (now (rows .entry)) (now (lists .entry)) named name t mark entries uses) (now (names .exit)) (now (rows .exit))
+        (now (lists .exit)) ⌝ }
 {
     let choice = rules::summarize_kind(file, names, refs, rows, named, used, many, name, t);
     let at = triggers::ENTRIES + entries;
@@ -316,7 +327,7 @@ pub fn summarize_assumption(
         names,
         refs,
         rows,
-        out,
+        lists,
         named,
         used,
         many,
@@ -328,7 +339,7 @@ pub fn summarize_assumption(
             names,
             refs,
             rows,
-            out,
+            lists,
             named,
             total,
             used,

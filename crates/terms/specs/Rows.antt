@@ -1,6 +1,6 @@
--- The term table in two lent slices. References, slice 0: `term + 4096 * group`, the group counted from 0 within its `all`
--- or `some`, 0 elsewhere; a quantifier's body is its first reference. Rows, slice 1, 4 columns of 4,096: kind with op word
--- and head name, where the references start, groups or the term under a run of labels; the last is others' concern.
+-- The term table in two lent slices. The references: `term + 4096 * group`, the group counted from 0 within its `all` or
+-- `some`, 0 elsewhere; a quantifier's body is its first reference. The rows, 4 columns of 4,096: kind with op word and head
+-- name, where the references start, groups or the term under a run of labels; the last is others' concern.
 use Prim.Native.Nat.{ℕ, zero, suc, _+_, _/_, _%_, _≤_, _<_}
 use mathlib.Core.Path.{_≡_}
 use mathlib.Core.Bool.{Bool, cond, _||_}

@@ -82,38 +82,38 @@ block-words (n ∷ ns) l h s =
 
 -- ---- a disjunct in a slice
 
-module _ (out : List ℕ) (at end named : ℕ) (few : named ≤ 2048) (long : end ≤ length out) (small : (i : ℕ) → at ≤ i → i < end → getD out i 0 < named) where
+module _ (lists : List ℕ) (at end named : ℕ) (few : named ≤ 2048) (long : end ≤ length lists) (small : (i : ℕ) → at ≤ i → i < end → getD lists i 0 < named) where
   -- the slice with the last entry marked
   abbrev marked : List ℕ
-  marked = set out (end - 1) (getD out (end - 1) 0 + 4096)
+  marked = set lists (end - 1) (getD lists (end - 1) 0 + 4096)
 
   -- it is as long
   marked-long : end ≤ length marked
-  marked-long = rw (length-set out (end - 1) (getD out (end - 1) 0 + 4096)) long
+  marked-long = rw (length-set lists (end - 1) (getD lists (end - 1) 0 + 4096)) long
 
   module _ (some : at < end) where
     -- the last entry
-    marked-last : getD marked (end - 1) 0 ≡ getD out (end - 1) 0 + 4096
-    marked-last = getD-set-same out (end - 1) (getD out (end - 1) 0 + 4096) 0 (omega arith)
+    marked-last : getD marked (end - 1) 0 ≡ getD lists (end - 1) 0 + 4096
+    marked-last = getD-set-same lists (end - 1) (getD lists (end - 1) 0 + 4096) 0 (omega arith)
 
     -- the entries before it
-    marked-other : (i : ℕ) → (i ≡ end - 1 → ⊥) → getD marked i 0 ≡ getD out i 0
-    marked-other i n = getD-set-other out (end - 1) i (getD out (end - 1) 0 + 4096) 0 n
+    marked-other : (i : ℕ) → (i ≡ end - 1 → ⊥) → getD marked i 0 ≡ getD lists i 0
+    marked-other i n = getD-set-other lists (end - 1) i (getD lists (end - 1) 0 + 4096) 0 n
 
     -- the entries are one disjunct, of the names that stood there
-    pub block-sets : (name : ℕ → Name) → disjuncts-of name (part marked at end) ≡ from-list (map name (part out at end)) ∷ []
+    pub block-sets : (name : ℕ → Name) → disjuncts-of name (part marked at end) ≡ from-list (map name (part lists at end)) ∷ []
     unfolding disjuncts-of
     block-sets name =
-        let same : part marked at (end - 1) ≡ part out at (end - 1) = part-same out marked (end - 1 - at) at (end - 1) refl (omega arith)
+        let same : part marked at (end - 1) ≡ part lists at (end - 1) = part-same lists marked (end - 1 - at) at (end - 1) refl (omega arith)
         (omega (arith, marked-long)) (λ i l. marked-other i (λ e. omega arith)) in
         ap (map (λ ns. from-list (map name ns)))
         (ap disjuncts-of-words (part-last marked at end some marked-long ∙ ap₂ (λ ws w. ws ++ (w ∷ [])) same marked-last)
-        ∙ block-words (part out at (end - 1)) (getD out (end - 1) 0) (omega (arith, small (end - 1) (omega arith) (omega arith)))
+        ∙ block-words (part lists at (end - 1)) (getD lists (end - 1) 0) (omega (arith, small (end - 1) (omega arith) (omega arith)))
         (λ n m.
-        let p = part-elim {l = out} {a = at} {e = end - 1} (omega arith) m in
+        let p = part-elim {l = lists} {a = at} {e = end - 1} (omega arith) m in
         let hi = p .high in
         rw (← (p .is)) (omega (arith, small (p .place) (p .low) (omega arith))))
-        ∙ ap (_∷ []) (sym (part-last out at end some long)))
+        ∙ ap (_∷ []) (sym (part-last lists at end some long)))
 
     -- they are entries
     pub block-entries : Entries named (part marked at end)
@@ -129,31 +129,31 @@ module _ (out : List ℕ) (at end named : ℕ) (few : named ≤ 2048) (long : en
       where
         low : (w i : ℕ) → at ≤ i → i < end → getD marked i 0 ≡ w → (w % 4096 < named) ⊎ (w % 4096 ≡ 2048)
         low w i a b e = ⊎-elim
-            (λ q. inl (omega (arith, small i a b, sym e ∙ ap (λ j. getD marked j 0) q ∙ marked-last, ap (λ j. getD out j 0) q)))
+            (λ q. inl (omega (arith, small i a b, sym e ∙ ap (λ j. getD marked j 0) q ∙ marked-last, ap (λ j. getD lists j 0) q)))
             (λ n. inl (omega (arith, small i a b, sym e ∙ marked-other i n)))
             (equal i (end - 1))
 
         high : (w i : ℕ) → at ≤ i → i < end → getD marked i 0 ≡ w → w < 8192
         high w i a b e = ⊎-elim
-            (λ q. omega (arith, small i a b, sym e ∙ ap (λ j. getD marked j 0) q ∙ marked-last, ap (λ j. getD out j 0) q))
+            (λ q. omega (arith, small i a b, sym e ∙ ap (λ j. getD marked j 0) q ∙ marked-last, ap (λ j. getD lists j 0) q))
             (λ n. omega (arith, small i a b, sym e ∙ marked-other i n))
             (equal i (end - 1))
 
 -- the word of an empty disjunct
-empty-words : (out : List ℕ) (at : ℕ) → at < length out → part (set out at 6144) at (at + 1) ≡ 6144 ∷ []
-empty-words out at h =
-    part-snoc (set out at 6144) at at (omega arith) (rw (length-set out at 6144) h)
-    ∙ ap₂ (λ ws w. ws ++ (w ∷ [])) (part-nil (set out at 6144) at at (omega arith)) (getD-set-same out at 6144 0 h)
+empty-words : (lists : List ℕ) (at : ℕ) → at < length lists → part (set lists at 6144) at (at + 1) ≡ 6144 ∷ []
+empty-words lists at h =
+    part-snoc (set lists at 6144) at at (omega arith) (rw (length-set lists at 6144) h)
+    ∙ ap₂ (λ ws w. ws ++ (w ∷ [])) (part-nil (set lists at 6144) at at (omega arith)) (getD-set-same lists at 6144 0 h)
 
 -- is one disjunct without names
-pub empty-sets : (name : ℕ → Name) (out : List ℕ) (at : ℕ) → at < length out
-    → disjuncts-of name (part (set out at 6144) at (at + 1)) ≡ from-list (map name []) ∷ []
+pub empty-sets : (name : ℕ → Name) (lists : List ℕ) (at : ℕ) → at < length lists
+    → disjuncts-of name (part (set lists at 6144) at (at + 1)) ≡ from-list (map name []) ∷ []
 unfolding disjuncts-of disjuncts-of-words entry-number
-empty-sets name out at h = rw (empty-words out at h)
+empty-sets name lists at h = rw (empty-words lists at h)
 
 -- and an entry
-pub empty-entries : (named : ℕ) (out : List ℕ) (at : ℕ) → at < length out → Entries named (part (set out at 6144) at (at + 1))
-empty-entries named out at h = rw (empty-words out at h) (record {
+pub empty-entries : (named : ℕ) (lists : List ℕ) (at : ℕ) → at < length lists → Entries named (part (set lists at 6144) at (at + 1))
+empty-entries named lists at h = rw (empty-words lists at h) (record {
   small = λ w m. inr (one w m);
   flagged = λ w m. few w m;
   closed = λ i e. let z : i ≡ 0 = omega arith in rw z (omega arith);

@@ -24,7 +24,7 @@ use Rattle.gather.proofs.Rendering.{answer-names, answer-full}
 use Rattle.triggers.specs.declared.Filed.{Filed}
 use Rattle.triggers.specs.declared.Filed.the-variants as filed
 use Rattle.triggers.specs.Entries.{filed-end, Closes, last, empty, over, Opened}
-use Rattle.triggers.specs.Filings.{Filing, filing, set-words, file-set, file-list, groups-under, file-groups, file-parts, ask-empty, Asks-as, Files-as, as-sets, as-full}
+use Rattle.triggers.specs.Filings.{Filing-state, filing, set-words, file-set, file-list, groups-under, file-groups, file-parts, ask-empty, Asks-as, Files-as, as-sets, as-full}
 use Rattle.triggers.proofs.Marked.{All, patterns, groups-here}
 
 -- ---- one set
@@ -37,22 +37,22 @@ entry-length (n ∷ []) h = refl
 entry-length (n ∷ m ∷ ns) h = ap suc (entry-length (m ∷ ns) (omega arith))
 
 -- its entries are the numbers, with 4096 added to the last
-entry-put : (ns : List ℕ) (at i : ℕ) (out : List ℕ) → i + 1 ≡ at + length ns → at ≤ i → i < length out
-    → put at (set-words ns) out ≡ set (put at ns out) i (getD (put at ns out) i 0 + 4096)
+entry-put : (ns : List ℕ) (at i : ℕ) (lists : List ℕ) → i + 1 ≡ at + length ns → at ≤ i → i < length lists
+    → put at (set-words ns) lists ≡ set (put at ns lists) i (getD (put at ns lists) i 0 + 4096)
 unfolding set-words put
-entry-put [] at i out e h l = absurd (let z : ⊥ = omega arith in z)
-entry-put (n ∷ []) at i out e h l =
+entry-put [] at i lists e h l = absurd (let z : ⊥ = omega arith in z)
+entry-put (n ∷ []) at i lists e h l =
     let q : at ≡ i = omega arith in
-    rw (q, getD-set-same out i n 0 l, set-set out i n (n + 4096))
-entry-put (n ∷ m ∷ ns) at i out e h l = entry-put (m ∷ ns) (at + 1) i (set out at n) (omega arith) (omega arith) (rw (length-set out at n) l)
+    rw (q, getD-set-same lists i n 0 l, set-set lists i n (n + 4096))
+entry-put (n ∷ m ∷ ns) at i lists e h l = entry-put (m ∷ ns) (at + 1) i (set lists at n) (omega arith) (omega arith) (rw (length-set lists at n) l)
 
 -- a filed set, by whether it has room and by the words that it writes
-set-by : (f : Filing) (v : Visit) {b : Bool} {ws : List ℕ} → (v .full || ltb 8192 (f .end + length (set-words (v .found)))) ≡ b
+set-by : (f : Filing-state) (v : Visit) {b : Bool} {ws : List ℕ} → (v .full || ltb 8192 (f .end + length (set-words (v .found)))) ≡ b
     → cond b (v .found) (set-words (v .found)) ≡ ws
     → file-set f v ≡ record {
       names = marked-at 8192 (f .mark) (v .found) (f .names);
       rows = marked-at 12288 (f .mark) (v .walked) (f .rows);
-      out = put (f .end) ws (f .out);
+      lists = put (f .end) ws (f .lists);
       mark = f .mark + length ws;
       end = f .end + length ws;
       full = b;
@@ -64,41 +64,41 @@ set-by f v p q = rw (p, q)
 filing-as : {a a′ b b′ c c′ : List ℕ} {m m′ e e′ : ℕ} → a ≡ a′ → b ≡ b′ → c ≡ c′ → m ≡ m′ → e ≡ e′ → filing a b c m e ≡ filing a′ b′ c′ m′ e′
 filing-as p q s t u = rw (p, q, s, t, u)
 
-module _ {names rows out names₁ rows₁ out₁ : List ℕ} {mark at : ℕ} {v : Visit} {w : Walked} (h : Opened names rows out mark at)
-    (x : Walks-as v names rows out names₁ rows₁ out₁ mark at w) where
+module _ {names rows lists names₁ rows₁ lists₁ : List ℕ} {mark at : ℕ} {v : Visit} {w : Walked} (h : Opened names rows lists mark at)
+    (x : Walks-as v names rows lists names₁ rows₁ lists₁ mark at w) where
   -- a set whose names have no room
-  pub words-over : w ≡ gathered.Full → Files-as (file-set (filing names rows out mark at) v) 1 names₁ rows₁ out₁ mark at filed.Full
+  pub words-over : w ≡ gathered.Full → Files-as (file-set (filing names rows lists mark at) v) 1 names₁ rows₁ lists₁ mark at filed.Full
   words-over e =
       let q = answer-full at v (sym e ∙ x .answer) in
-      rw (set-by (filing names rows out mark at) v {b = true} (rw q) refl) (as-full refl (x .name-words) (x .row-words) (x .out-words))
+      rw (set-by (filing names rows lists mark at) v {b = true} (rw q) refl) (as-full refl (x .name-words) (x .row-words) (x .lists-words))
 
   -- a set that was ended
-  pub words-closed : {end : ℕ} {out₂ : List ℕ} {r : Filed} → w ≡ gathered.Names end → end ≤ 8192 → Closes out₁ out₂ at end r
-      → Files-as (file-set (filing names rows out mark at) v) 1 names₁ rows₁ out₂ mark at r
+  pub words-closed : {end : ℕ} {lists₂ : List ℕ} {r : Filed} → w ≡ gathered.Names end → end ≤ 8192 → Closes lists₁ lists₂ at end r
+      → Files-as (file-set (filing names rows lists mark at) v) 1 names₁ rows₁ lists₂ mark at r
   unfolding set-words put
-  words-closed {end} {out₂} e fits (last some q) =
+  words-closed {end} {lists₂} e fits (last some q) =
       let (going, ends) = answer-names at v (sym e ∙ x .answer) in
       let long : length (set-words (v .found)) ≡ length (v .found) = entry-length (v .found) (omega arith) in
-      let written : put at (set-words (v .found)) out ≡ out₂ = entry-put (v .found) at (end - 1) out (omega arith) (omega arith) (omega (arith, h .high))
-      ∙ sym (q ∙ ap (λ o. set o (end - 1) (getD o (end - 1) 0 + 4096)) (x .out-words)) in
+      let written : put at (set-words (v .found)) lists ≡ lists₂ = entry-put (v .found) at (end - 1) lists (omega arith) (omega arith) (omega (arith, h .high))
+      ∙ sym (q ∙ ap (λ o. set o (end - 1) (getD o (end - 1) 0 + 4096)) (x .lists-words)) in
       as-sets {e = end} refl
-      (set-by (filing names rows out mark at) v {b = false} (rw (going, le-ltb 8192 (at + length (set-words (v .found))) (omega arith))) refl
+      (set-by (filing names rows lists mark at) v {b = false} (rw (going, le-ltb 8192 (at + length (set-words (v .found))) (omega arith))) refl
       ∙ filing-as (sym (x .name-words)) (sym (x .row-words)) written (omega arith) (omega arith))
-  words-closed {end} {out₂} e fits (empty i l q) = none (v .found) refl
+  words-closed {end} {lists₂} e fits (empty i l q) = none (v .found) refl
     where
-      none : (ns : List ℕ) → v .found ≡ ns → Files-as (file-set (filing names rows out mark at) v) 1 names₁ rows₁ out₂ mark at (filed.Sets 1 (at + 1))
+      none : (ns : List ℕ) → v .found ≡ ns → Files-as (file-set (filing names rows lists mark at) v) 1 names₁ rows₁ lists₂ mark at (filed.Sets 1 (at + 1))
       none [] n = as-sets {e = at + 1} refl
-          (set-by (filing names rows out mark at) v {b = false} {ws = 6144 ∷ []}
+          (set-by (filing names rows lists mark at) v {b = false} {ws = 6144 ∷ []}
           (rw (answer-names at v (sym e ∙ x .answer) .0, n, le-ltb 8192 (at + 1) (omega arith))) (rw n)
-          ∙ filing-as (sym (x .name-words)) (sym (x .row-words)) (sym (q ∙ ap (λ o. set o at 6144) (x .out-words ∙ ap (λ ns. put at ns out) n)))
+          ∙ filing-as (sym (x .name-words)) (sym (x .row-words)) (sym (q ∙ ap (λ o. set o at 6144) (x .lists-words ∙ ap (λ ns. put at ns lists) n)))
           (omega arith) refl)
       none (m ∷ ns) n = absurd (let z : ⊥ = omega (arith, answer-names at v (sym e ∙ x .answer) .1, ap length n) in z)
-  words-closed {end} {out₂} e fits (over i l q) = none (v .found) refl
+  words-closed {end} {lists₂} e fits (over i l q) = none (v .found) refl
     where
-      none : (ns : List ℕ) → v .found ≡ ns → Files-as (file-set (filing names rows out mark at) v) 1 names₁ rows₁ out₂ mark at filed.Full
-      none [] n = rw (set-by (filing names rows out mark at) v {b = true} {ws = v .found}
+      none : (ns : List ℕ) → v .found ≡ ns → Files-as (file-set (filing names rows lists mark at) v) 1 names₁ rows₁ lists₂ mark at filed.Full
+      none [] n = rw (set-by (filing names rows lists mark at) v {b = true} {ws = v .found}
           (rw (answer-names at v (sym e ∙ x .answer) .0, n, lt-ltb 8192 (at + 1) (omega arith))) refl)
-          (as-full refl (x .name-words) (x .row-words) (q ∙ x .out-words))
+          (as-full refl (x .name-words) (x .row-words) (q ∙ x .lists-words))
       none (m ∷ ns) n = absurd (let z : ⊥ = omega (arith, answer-names at v (sym e ∙ x .answer) .1, ap length n) in z)
 
 -- ---- one after another
@@ -109,38 +109,38 @@ after n (filed.Sets m e) = filed.Sets (n + m) e
 after n filed.Full = filed.Full
 
 -- sets after sets
-pub words-then : {names₁ rows₁ out₁ names₂ rows₂ out₂ : List ℕ} {mark at n m i j : ℕ} {f : Filing} {r : Filed} (step : Filing → Filing) → at ≤ m
+pub words-then : {names₁ rows₁ lists₁ names₂ rows₂ lists₂ : List ℕ} {mark at n m i j : ℕ} {f : Filing-state} {r : Filed} (step : Filing-state → Filing-state) → at ≤ m
     → m ≤ filed-end r
-    → Files-as f i names₁ rows₁ out₁ mark at (filed.Sets n m)
-    → Files-as (step (filing names₁ rows₁ out₁ (mark + (m - at)) m)) j names₂ rows₂ out₂ (mark + (m - at)) m r
-    → Files-as (step f) (i + j) names₂ rows₂ out₂ mark at (after n r)
+    → Files-as f i names₁ rows₁ lists₁ mark at (filed.Sets n m)
+    → Files-as (step (filing names₁ rows₁ lists₁ (mark + (m - at)) m)) j names₂ rows₂ lists₂ (mark + (m - at)) m r
+    → Files-as (step f) (i + j) names₂ rows₂ lists₂ mark at (after n r)
 unfolding after filed-end
-words-then {names₂} {rows₂} {out₂} step l k (as-sets a p) (as-sets {e = e} b q) = as-sets {e = e} (ap₂ _+_ a b)
-    (ap step p ∙ q ∙ ap (λ k. filing names₂ rows₂ out₂ k e) (omega arith))
+words-then {names₂} {rows₂} {lists₂} step l k (as-sets a p) (as-sets {e = e} b q) = as-sets {e = e} (ap₂ _+_ a b)
+    (ap step p ∙ q ∙ ap (λ k. filing names₂ rows₂ lists₂ k e) (omega arith))
 words-then step l k (as-sets a p) (as-full x y z w) = rw p (as-full x y z w)
 
 -- the same filing, said in another way
-pub words-as : {names₁ rows₁ out₁ : List ℕ} {mark at i j : ℕ} {f g : Filing} {r : Filed} → f ≡ g → i ≡ j → Files-as f i names₁ rows₁ out₁ mark at r
-    → Files-as g j names₁ rows₁ out₁ mark at r
+pub words-as : {names₁ rows₁ lists₁ : List ℕ} {mark at i j : ℕ} {f g : Filing-state} {r : Filed} → f ≡ g → i ≡ j → Files-as f i names₁ rows₁ lists₁ mark at r
+    → Files-as g j names₁ rows₁ lists₁ mark at r
 words-as p q x = rw (← p, ← q) x
 
 -- where there is no room for sets there is none for more
-pub words-more : {names₁ rows₁ out₁ : List ℕ} {mark at i j : ℕ} {f g : Filing} → (f .full ≡ true → g ≡ f) → Files-as f i names₁ rows₁ out₁ mark at filed.Full
-    → Files-as g j names₁ rows₁ out₁ mark at filed.Full
+pub words-more : {names₁ rows₁ lists₁ : List ℕ} {mark at i j : ℕ} {f g : Filing-state} → (f .full ≡ true → g ≡ f) → Files-as f i names₁ rows₁ lists₁ mark at filed.Full
+    → Files-as g j names₁ rows₁ lists₁ mark at filed.Full
 words-more q (as-full x y z w) = rw (q x) (as-full x y z w)
 
 -- how many sets an answer has
-pub words-count : {names₁ rows₁ out₁ : List ℕ} {mark at i n e : ℕ} {f : Filing} {r : Filed} → r ≡ filed.Sets n e → Files-as f i names₁ rows₁ out₁ mark at r
+pub words-count : {names₁ rows₁ lists₁ : List ℕ} {mark at i n e : ℕ} {f : Filing-state} {r : Filed} → r ≡ filed.Sets n e → Files-as f i names₁ rows₁ lists₁ mark at r
     → n ≡ i
 words-count q (as-sets a p) = let z : _ ≡ _ = q in cc
 words-count q (as-full x y z w) = let z : _≡_ {A = ℕ} 0 1 = cc in let n : ⊥ = omega arith in absurd n
 
 -- no set
-pub words-none : {names rows out : List ℕ} {mark at : ℕ} → Files-as (filing names rows out mark at) 0 names rows out mark at (filed.Sets 0 at)
-words-none {names} {rows} {out} {mark} {at} = as-sets {e = at} refl (ap (λ k. filing names rows out k at) (omega arith))
+pub words-none : {names rows lists : List ℕ} {mark at : ℕ} → Files-as (filing names rows lists mark at) 0 names rows lists mark at (filed.Sets 0 at)
+words-none {names} {rows} {lists} {mark} {at} = as-sets {e = at} refl (ap (λ k. filing names rows lists k at) (omega arith))
 
 -- what stays as it is without room stays so over a list
-fold-stays : {A : Type 0} (g : Filing → A → Filing) → ((f : Filing) (x : A) → f .full ≡ true → g f x ≡ f) → (f : Filing) (l : List A) → f .full ≡ true
+fold-stays : {A : Type 0} (g : Filing-state → A → Filing-state) → ((f : Filing-state) (x : A) → f .full ≡ true → g f x ≡ f) → (f : Filing-state) (l : List A) → f .full ≡ true
     → fold-left g f l ≡ f
 unfolding fold-left
 fold-stays g s f [] h = refl
@@ -148,16 +148,16 @@ fold-stays g s f (x ∷ l) h = rw (s f x h) (fold-stays g s f l h)
 
 module _ (refs : List ℕ) (used many : ℕ) where
   -- after a set without room none is filed
-  pub list-stays : (f : Filing) (ts : List ℕ) → f .full ≡ true → file-list refs used many f ts ≡ f
+  pub list-stays : (f : Filing-state) (ts : List ℕ) → f .full ≡ true → file-list refs used many f ts ≡ f
   unfolding file-list
   list-stays f ts h = rw h
 
   -- nor those of a term
-  groups-stay : (f : Filing) (t : ℕ) → f .full ≡ true → file-groups refs used many f t ≡ f
+  groups-stay : (f : Filing-state) (t : ℕ) → f .full ≡ true → file-groups refs used many f t ≡ f
   unfolding file-groups
   groups-stay f t h = fold-stays (file-list refs used many) list-stays f (groups-under refs used many (f .rows) t) h
 
-  module _ (f : Filing) where
+  module _ (f : Filing-state) where
     -- one group more
     pub filed-group : (ws : List ℕ) (g : ℕ) → file-list refs used many (fold-left (file-list refs used many) f (groups-of-words ws g)) (group-of-words ws g)
         ≡ fold-left (file-list refs used many) f (groups-of-words ws (g + 1))
@@ -226,17 +226,17 @@ counted-more rows refs a i t low l is =
 
 -- ---- the walk that finds no name
 
-module _ (refs : List ℕ) (used many : ℕ) (names rows out : List ℕ) (t mark : ℕ) {groups : ℕ} (counts : groups ≡ groups-at rows t) where
+module _ (refs : List ℕ) (used many : ℕ) (names rows lists : List ℕ) (t mark : ℕ) {groups : ℕ} (counts : groups ≡ groups-at rows t) where
   -- without a group the answer is yes
-  pub asked-none : groups ≡ 0 → Asks-as (ask-empty refs used many names rows t) names rows out names rows out mark true
+  pub asked-none : groups ≡ 0 → Asks-as (ask-empty refs used many names rows t) names rows lists names rows lists mark true
   unfolding ask-empty marked-at fold-left
-  asked-none z = rw (sym counts ∙ z) (record { answer = refl; name-words = refl; row-words = refl; out-words = refl })
+  asked-none z = rw (sym counts ∙ z) (record { answer = refl; name-words = refl; row-words = refl; lists-words = refl })
 
   -- with two or more it is no
-  pub asked-more : (groups ≡ 0 → ⊥) → (groups ≡ 1 → ⊥) → Asks-as (ask-empty refs used many names rows t) names rows out names rows out mark false
+  pub asked-more : (groups ≡ 0 → ⊥) → (groups ≡ 1 → ⊥) → Asks-as (ask-empty refs used many names rows t) names rows lists names rows lists mark false
   unfolding ask-empty marked-at fold-left
   asked-more z n = rw (← counts, ne-eqb groups 1 n, lt-ltb 1 groups (omega arith))
-      (record { answer = refl; name-words = refl; row-words = refl; out-words = refl })
+      (record { answer = refl; name-words = refl; row-words = refl; lists-words = refl })
 
 -- the walk of one group, without room
 pub walked-one : {refs rows : List ℕ} {used many t groups u e : ℕ} (names : List ℕ) (a at : ℕ) → All refs rows used many t groups u e → groups ≡ 1
@@ -256,16 +256,16 @@ walked-one {refs} {rows} {used} {many} {t} {groups} {u} {e} names a at all one i
     )
 
 -- gathering without room leaves the names
-pub names-kept : {names rows out names′ rows′ out′ : List ℕ} {mark at : ℕ} {r : Walked} → Gathered names rows out names′ rows′ out′ mark at at r
+pub names-kept : {names rows lists names′ rows′ lists′ : List ℕ} {mark at : ℕ} {r : Walked} → Gathered names rows lists names′ rows′ lists′ mark at at r
     → names′ ≡ names
-names-kept {names} {names′ = names′} {out′ = out′} {at = at} {r = r} g =
+names-kept {names} {names′ = names′} {lists′ = lists′} {at = at} {r = r} g =
     ext-getD 0 names′ names (g .names-same .same-length) (λ i l. ⊎-elim
     (λ (h : i < 8192). g .names-same .same-words i (λ a b. omega arith))
     (λ (h : 8192 ≤ i). ⊎-elim
     (λ (k : i < 10240).
     let q : 8192 + (i - 8192) ≡ i = omega arith in
     rw (← q) (⊎-elim
-    (λ e. absurd (List·Memᴰ·not-nil (rw (part-nil out′ at (ended at r) (g .fits)) at (g .marks (i - 8192) (omega arith) .0 e))))
+    (λ e. absurd (List·Memᴰ·not-nil (rw (part-nil lists′ at (ended at r) (g .fits)) at (g .marks (i - 8192) (omega arith) .0 e))))
     (λ e. e)
     (g .name-marks (i - 8192) (omega arith))))
     (λ (k : 10240 ≤ i). g .names-same .same-words i (λ a b. omega arith))
@@ -273,7 +273,7 @@ names-kept {names} {names′ = names′} {out′ = out′} {at = at} {r = r} g =
     (below i 8192))
 
 -- and it leaves the slice
-pub out-kept : {names rows out names′ rows′ out′ : List ℕ} {mark at : ℕ} {r : Walked} → Gathered names rows out names′ rows′ out′ mark at at r → out′ ≡ out
-out-kept {out = out} {out′ = out′} g =
+pub lists-kept : {names rows lists names′ rows′ lists′ : List ℕ} {mark at : ℕ} {r : Walked} → Gathered names rows lists names′ rows′ lists′ mark at at r → lists′ ≡ lists
+lists-kept {lists = lists} {lists′ = lists′} g =
     let hi = g .fits in
-    ext-getD 0 out′ out (g .out-same .same-length) (λ i l. g .out-same .same-words i (λ a b. omega arith))
+    ext-getD 0 lists′ lists (g .lists-same .same-length) (λ i l. g .lists-same .same-words i (λ a b. omega arith))

@@ -21,8 +21,8 @@ use Rattle.triggers.specs.declared.Filed.the-variants as filed
 abbrev pub entries-base : ℕ
 entries-base = 6144
 
-abbrev pub entries-end : ℕ
-entries-end = 8192
+abbrev pub entries-column-end : ℕ
+entries-column-end = 8192
 
 -- the entry of a disjunct that has no name
 abbrev pub no-name : ℕ
@@ -61,38 +61,38 @@ pub record Entries (named : ℕ) (ws : List ℕ) : Type 0 where
 -- where the entries end: at 8,192 where there is no room for all
 unfoldable pub filed-end : Filed → ℕ
 filed-end (filed.Sets n e) = e
-filed-end filed.Full = entries-end
+filed-end filed.Full = entries-column-end
 
 -- what filing disjuncts from `at` on comes to: their entries in order, their number and where they end, or that there are
 -- more than fit
-pub data Files (name : ℕ → Name) (named : ℕ) (sets : List (List Name)) (at : ℕ) (out : List ℕ) : Filed → Type 0 where
+pub data Files (name : ℕ → Name) (named : ℕ) (sets : List (List Name)) (at : ℕ) (lists : List ℕ) : Filed → Type 0 where
   all-sets : {n e : ℕ}
-      → disjuncts-of name (part out at e) ≡ sets → n ≡ length sets → e ≡ at + entries sets → e ≤ entries-end
-      → Entries named (part out at e)
-      → Files name named sets at out (filed.Sets n e)
-  no-room : entries-end < at + entries sets → Files name named sets at out filed.Full
+      → disjuncts-of name (part lists at e) ≡ sets → n ≡ length sets → e ≡ at + entries sets → e ≤ entries-column-end
+      → Entries named (part lists at e)
+      → Files name named sets at lists (filed.Sets n e)
+  no-room : entries-column-end < at + entries sets → Files name named sets at lists filed.Full
 
--- the slices after filing: in the tables only marks change, all below the next one; in `out` only the entries, one or more
+-- the slices after filing: in the tables only marks change, all below the next one; in `lists` only the entries, one or more
 -- for each set
-pub record Filled (names rows out names′ rows′ out′ : List ℕ) (mark at : ℕ) (r : Filed) : Type 0 where
+pub record Entries-filled (names rows lists names′ rows′ lists′ : List ℕ) (mark at : ℕ) (r : Filed) : Type 0 where
   pub names-same : Same-but name-mark-column most-names names names′
   pub rows-same : Same-but row-mark-column most-terms rows rows′
-  pub out-same : Same-but at (filed-end r - at) out out′
+  pub lists-same : Same-but at (filed-end r - at) lists lists′
   pub low : at ≤ filed-end r
-  pub high : filed-end r ≤ entries-end
+  pub high : filed-end r ≤ entries-column-end
   pub few : (n e : ℕ) → r ≡ filed.Sets n e → n + at ≤ e
   pub fresh : (n e : ℕ) → r ≡ filed.Sets n e → Fresh names′ rows′ (mark + (e - at))
 
 -- what ending a disjunct comes to
-pub data Closes (out out′ : List ℕ) (at end : ℕ) : Filed → Type 0 where
-  last : at < end → out′ ≡ set out (end - 1) (getD out (end - 1) 0 + last-flag) → Closes out out′ at end (filed.Sets 1 end)
-  empty : at ≡ end → at < entries-end → out′ ≡ set out at (no-name + last-flag) → Closes out out′ at end (filed.Sets 1 (at + 1))
-  over : at ≡ end → entries-end ≤ at → out′ ≡ out → Closes out out′ at end filed.Full
+pub data Closes (lists lists′ : List ℕ) (at end : ℕ) : Filed → Type 0 where
+  last : at < end → lists′ ≡ set lists (end - 1) (getD lists (end - 1) 0 + last-flag) → Closes lists lists′ at end (filed.Sets 1 end)
+  empty : at ≡ end → at < entries-column-end → lists′ ≡ set lists at (no-name + last-flag) → Closes lists lists′ at end (filed.Sets 1 (at + 1))
+  over : at ≡ end → entries-column-end ≤ at → lists′ ≡ lists → Closes lists lists′ at end filed.Full
 
 -- what filing from `at` on asks: marks below the next one, and a mark for each entry that is left
-pub record Opened (names rows out : List ℕ) (mark at : ℕ) : Type 0 where
+pub record Opened (names rows lists : List ℕ) (mark at : ℕ) : Type 0 where
   pub name-room : working-words ≤ length names
   pub fresh : Fresh names rows mark
-  pub low : at ≤ entries-end
-  pub high : entries-end ≤ length out
-  pub few-marks : mark + (entries-end - at) < word-limit
+  pub low : at ≤ entries-column-end
+  pub high : entries-column-end ≤ length lists
+  pub few-marks : mark + (entries-column-end - at) < word-limit

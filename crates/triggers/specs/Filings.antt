@@ -11,21 +11,21 @@ use Rattle.gather.specs.Sets.{name-mark-column, row-mark-column}
 use Rattle.gather.specs.Visits.{Visit, visit-list, marked-at, put}
 use Rattle.triggers.specs.declared.Filed.{Filed}
 use Rattle.triggers.specs.declared.Filed.the-variants as filed
-use Rattle.triggers.specs.Entries.{entries-end, no-name, last-flag}
+use Rattle.triggers.specs.Entries.{entries-column-end, no-name, last-flag}
 
 -- how far filing is: the slices, the mark of the next set, the place of the next entry, and whether a set had no room; mark
 -- and place say nothing then
-pub record Filing : Type 0 where
+pub record Filing-state : Type 0 where
   pub names : List ℕ
   pub rows : List ℕ
-  pub out : List ℕ
+  pub lists : List ℕ
   pub mark : ℕ
   pub end : ℕ
   pub full : Bool
 
 -- filing that goes on with these slices, under this mark and from this place on
-abbrev pub filing : List ℕ → List ℕ → List ℕ → ℕ → ℕ → Filing
-filing names rows out mark end = record { names = names; rows = rows; out = out; mark = mark; end = end; full = false }
+abbrev pub filing : List ℕ → List ℕ → List ℕ → ℕ → ℕ → Filing-state
+filing names rows lists mark end = record { names = names; rows = rows; lists = lists; mark = mark; end = end; full = false }
 
 -- the entries of a set, by the numbers of its names: the last has the flag; an empty set takes one
 unfoldable pub set-words : List ℕ → List ℕ
@@ -35,15 +35,15 @@ set-words (n ∷ m ∷ ns) = n ∷ set-words (m ∷ ns)
 
 -- the set that a walk found: its marks and its entries; where these have no room, since the walk stopped or an empty set
 -- comes at the end, the numbers found stand without the flag on the last
-unfoldable pub file-set : Filing → Visit → Filing
+unfoldable pub file-set : Filing-state → Visit → Filing-state
 file-set f v =
     let ended = set-words (v .found) in
-    let full = v .full || ltb entries-end (f .end + length ended) in
+    let full = v .full || ltb entries-column-end (f .end + length ended) in
     let written = cond full (v .found) ended in
     record {
       names = marked-at name-mark-column (f .mark) (v .found) (f .names);
       rows = marked-at row-mark-column (f .mark) (v .walked) (f .rows);
-      out = put (f .end) written (f .out);
+      lists = put (f .end) written (f .lists);
       mark = f .mark + length written;
       end = f .end + length written;
       full = full;
@@ -52,9 +52,9 @@ file-set f v =
 -- the reference words of a table, and its counts
 module _ (refs : List ℕ) (used many : ℕ) where
   -- the free names of terms as one set; after a set without room none is filed
-  unfoldable pub file-list : Filing → List ℕ → Filing
+  unfoldable pub file-list : Filing-state → List ℕ → Filing-state
   file-list f ts =
-      let more = file-set f (visit-list (f .names) refs (f .rows) used many (entries-end - f .end) ts) in
+      let more = file-set f (visit-list (f .names) refs (f .rows) used many (entries-column-end - f .end) ts) in
       cond (f .full) f more
 
   -- the pattern groups of the `all` under a term's labels
@@ -64,11 +64,11 @@ module _ (refs : List ℕ) (used many : ℕ) where
       groups-of-words (part refs (row-start rows u + 1) (row-end rows used many u)) (groups-at rows t)
 
   -- the triggers of a term: a set for each group
-  unfoldable pub file-groups : Filing → ℕ → Filing
+  unfoldable pub file-groups : Filing-state → ℕ → Filing-state
   file-groups f t = fold-left file-list f (groups-under (f .rows) t)
 
   -- the triggers of terms
-  unfoldable pub file-parts : Filing → List ℕ → Filing
+  unfoldable pub file-parts : Filing-state → List ℕ → Filing-state
   file-parts f ts = fold-left file-groups f ts
 
   -- the walk that asks whether a term's triggers are empty: that of its one group, without room, so that it stops at the first
@@ -80,13 +80,13 @@ module _ (refs : List ℕ) (used many : ℕ) where
       cond (eqb (groups-at rows t) 1) walk unwalked
 
 -- the answer and every word of the slices after asking under a mark
-pub record Asks-as (v : Visit) (names rows out names′ rows′ out′ : List ℕ) (mark : ℕ) (r : Bool) : Type 0 where
+pub record Asks-as (v : Visit) (names rows lists names′ rows′ lists′ : List ℕ) (mark : ℕ) (r : Bool) : Type 0 where
   pub answer : r ≡ not (v .full)
   pub name-words : names′ ≡ names
   pub row-words : rows′ ≡ marked-at row-mark-column mark (v .walked) rows
-  pub out-words : out′ ≡ out
+  pub lists-words : lists′ ≡ lists
 
 -- the answer and every word of the slices after filing so many sets from `at` on, under marks from `mark` on
-pub data Files-as (f : Filing) (count : ℕ) (names′ rows′ out′ : List ℕ) (mark at : ℕ) : Filed → Type 0 where
-  as-sets : {n e : ℕ} → n ≡ count → f ≡ filing names′ rows′ out′ (mark + (e - at)) e → Files-as f count names′ rows′ out′ mark at (filed.Sets n e)
-  as-full : f .full ≡ true → names′ ≡ f .names → rows′ ≡ f .rows → out′ ≡ f .out → Files-as f count names′ rows′ out′ mark at filed.Full
+pub data Files-as (f : Filing-state) (count : ℕ) (names′ rows′ lists′ : List ℕ) (mark at : ℕ) : Filed → Type 0 where
+  as-sets : {n e : ℕ} → n ≡ count → f ≡ filing names′ rows′ lists′ (mark + (e - at)) e → Files-as f count names′ rows′ lists′ mark at (filed.Sets n e)
+  as-full : f .full ≡ true → names′ ≡ f .names → rows′ ≡ f .rows → lists′ ≡ f .lists → Files-as f count names′ rows′ lists′ mark at filed.Full

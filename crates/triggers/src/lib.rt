@@ -11,7 +11,7 @@ ghost use Rattle.model.specs.Summaries.{is-empty, free-top-level-names, group-n
 ghost use Rattle.terms.specs.Rows.{term-of, row-start, row-end, terms-of-words, terms-of, bare-of, groups-at, Rows};
 ghost use Rattle.words.specs.Slices.{Same-but};
 ghost use Rattle.gather.specs.Sets.{name-mark-column, row-mark-column, Named, Fresh};
-ghost use Rattle.triggers.specs.Entries.{entries-end, Opened, Files, Filled, Closes};
+ghost use Rattle.triggers.specs.Entries.{entries-column-end, Opened, Files, Entries-filled, Closes};
 ghost use Rattle.triggers.specs.Filings.{filing, file-list, file-groups, file-parts, ask-empty, Asks-as, Files-as};
 
 // Where the entries of the facts start in the slice, and where they end.
@@ -32,20 +32,20 @@ pub enum Filed {
 }
 
 // Ends the disjunct whose names stand from `at` up to `end`: its last entry is marked, an empty disjunct takes one.
-fn close(out: &mut [u32], at: usize, end: usize) -> Filed
-    requires { ⌜ (at ≤ end) × (end ≤ entries-end) × (entries-end ≤ length (now out))
-        × (at < end → getD (now out) (end - 1) 0 < most-names) ⌝ }
-    ensures { λ r. ⌜ Closes (now (out .entry)) (now (out .exit)) at end r ⌝ }
+fn close(lists: &mut [u32], at: usize, end: usize) -> Filed
+    requires { ⌜ (at ≤ end) × (end ≤ entries-column-end) × (entries-column-end ≤ length (now lists))
+        × (at < end → getD (now lists) (end - 1) 0 < most-names) ⌝ }
+    ensures { λ r. ⌜ Closes (now (lists .entry)) (now (lists .exit)) at end r ⌝ }
 {
     if at < end {
-        let last = words::at(out, end - 1);
-        out[end - 1] = (last + LAST) as u32;
+        let last = words::at(lists, end - 1);
+        lists[end - 1] = (last + LAST) as u32;
         return Filed::Sets(1, end);
     }
     if ENTRIES_END <= at {
         return Filed::Full;
     }
-    out[at] = (NO_NAME + LAST) as u32;
+    lists[at] = (NO_NAME + LAST) as u32;
     Filed::Sets(1, at + 1)
 }
 
@@ -54,7 +54,7 @@ fn file_list(
     names: &mut [u32],
     refs: &[u32],
     rows: &mut [u32],
-    out: &mut [u32],
+    lists: &mut [u32],
     named: usize,
     used: usize,
     many: usize,
@@ -63,23 +63,23 @@ fn file_list(
     mark: usize,
     at: usize,
 ) -> Filed
-    requires { ⌜ Rows (now refs) (now rows) used many named × Opened (now names) (now rows) (now out) mark at × (a ≤ e)
+    requires { ⌜ Rows (now refs) (now rows) used many named × Opened (now names) (now rows) (now lists) mark at × (a ≤ e)
         × (e ≤ used) × ((i : ℕ) → a ≤ i → i < e → term-of (getD (now refs) i 0) < many) ⌝ }
     ensures sets { λ r. ⌜ ((exclude : List Name) (name : ℕ → Name) → Named exclude name (now (names .entry)) named
         → Files name named (group-names exclude (terms-of name (now (refs .entry)) (now (rows .entry)) used many)
-        (terms-of-words (part (now (refs .entry)) a e)) ∷ []) at (now (out .exit)) r) ⌝ }
-    ensures slices { λ r. ⌜ Filled (now (names .entry)) (now (rows .entry)) (now (out .entry)) (now (names .exit))
-        (now (rows .exit)) (now (out .exit)) mark at r ⌝ }
+        (terms-of-words (part (now (refs .entry)) a e)) ∷ []) at (now (lists .exit)) r) ⌝ }
+    ensures slices { λ r. ⌜ Entries-filled (now (names .entry)) (now (rows .entry)) (now (lists .entry)) (now (names .exit))
+        (now (rows .exit)) (now (lists .exit)) mark at r ⌝ }
     ensures words { λ r. ⌜ Files-as (file-list (now (refs .entry)) used many
-        (filing (now (names .entry)) (now (rows .entry)) (now (out .entry)) mark at)
-        (terms-of-words (part (now (refs .entry)) a e))) 1 (now (names .exit)) (now (rows .exit)) (now (out .exit)) mark at
+        (filing (now (names .entry)) (now (rows .entry)) (now (lists .entry)) mark at)
+        (terms-of-words (part (now (refs .entry)) a e))) 1 (now (names .exit)) (now (rows .exit)) (now (lists .exit)) mark at
         r ⌝ }
 {
     let Walked::Names(end) = gather::gather_list(
         names,
         refs,
         rows,
-        out,
+        lists,
         named,
         used,
         many,
@@ -91,7 +91,7 @@ fn file_list(
     ) else {
         return Filed::Full;
     };
-    close(out, at, end)
+    close(lists, at, end)
 }
 
 // Files the free names of a term as one disjunct.
@@ -99,7 +99,7 @@ pub fn file_term(
     names: &mut [u32],
     refs: &[u32],
     rows: &mut [u32],
-    out: &mut [u32],
+    lists: &mut [u32],
     named: usize,
     used: usize,
     many: usize,
@@ -107,21 +107,21 @@ pub fn file_term(
     mark: usize,
     at: usize,
 ) -> Filed
-    requires { ⌜ Rows (now refs) (now rows) used many named × Opened (now names) (now rows) (now out) mark at × (t < many) ⌝ }
+    requires { ⌜ Rows (now refs) (now rows) used many named × Opened (now names) (now rows) (now lists) mark at × (t < many) ⌝ }
     ensures sets { λ r. ⌜ ((exclude : List Name) (name : ℕ → Name) → Named exclude name (now (names .entry)) named
         → Files name named (free-top-level-names exclude (terms-of name (now (refs .entry)) (now (rows .entry)) used many) t
-        ∷ []) at (now (out .exit)) r) ⌝ }
-    ensures slices { λ r. ⌜ Filled (now (names .entry)) (now (rows .entry)) (now (out .entry)) (now (names .exit))
-        (now (rows .exit)) (now (out .exit)) mark at r ⌝ }
+        ∷ []) at (now (lists .exit)) r) ⌝ }
+    ensures slices { λ r. ⌜ Entries-filled (now (names .entry)) (now (rows .entry)) (now (lists .entry)) (now (names .exit))
+        (now (rows .exit)) (now (lists .exit)) mark at r ⌝ }
     ensures words { λ r. ⌜ Files-as (file-list (now (refs .entry)) used many
-        (filing (now (names .entry)) (now (rows .entry)) (now (out .entry)) mark at) (t ∷ [])) 1 (now (names .exit))
-        (now (rows .exit)) (now (out .exit)) mark at r ⌝ }
+        (filing (now (names .entry)) (now (rows .entry)) (now (lists .entry)) mark at) (t ∷ [])) 1 (now (names .exit))
+        (now (rows .exit)) (now (lists .exit)) mark at r ⌝ }
 {
     let Walked::Names(end) = gather::gather_term(
         names,
         refs,
         rows,
-        out,
+        lists,
         named,
         used,
         many,
@@ -132,7 +132,7 @@ pub fn file_term(
     ) else {
         return Filed::Full;
     };
-    close(out, at, end)
+    close(lists, at, end)
 }
 
 // Files the free names of two terms as two disjuncts.
@@ -140,7 +140,7 @@ pub fn file_terms(
     names: &mut [u32],
     refs: &[u32],
     rows: &mut [u32],
-    out: &mut [u32],
+    lists: &mut [u32],
     named: usize,
     used: usize,
     many: usize,
@@ -149,19 +149,19 @@ pub fn file_terms(
     mark: usize,
     at: usize,
 ) -> Filed
-    requires { ⌜ Rows (now refs) (now rows) used many named × Opened (now names) (now rows) (now out) mark at × (t < many)
+    requires { ⌜ Rows (now refs) (now rows) used many named × Opened (now names) (now rows) (now lists) mark at × (t < many)
         × (u < many) ⌝ }
     ensures sets { λ r. ⌜ ((exclude : List Name) (name : ℕ → Name) → Named exclude name (now (names .entry)) named
         → Files name named (free-top-level-names exclude (terms-of name (now (refs .entry)) (now (rows .entry)) used many) t
         ∷ free-top-level-names exclude (terms-of name (now (refs .entry)) (now (rows .entry)) used many) u ∷ []) at
-        (now (out .exit)) r) ⌝ }
-    ensures slices { λ r. ⌜ Filled (now (names .entry)) (now (rows .entry)) (now (out .entry)) (now (names .exit))
-        (now (rows .exit)) (now (out .exit)) mark at r ⌝ }
+        (now (lists .exit)) r) ⌝ }
+    ensures slices { λ r. ⌜ Entries-filled (now (names .entry)) (now (rows .entry)) (now (lists .entry)) (now (names .exit))
+        (now (rows .exit)) (now (lists .exit)) mark at r ⌝ }
     ensures words { λ r. ⌜ Files-as (file-list (now (refs .entry)) used many
-        (file-list (now (refs .entry)) used many (filing (now (names .entry)) (now (rows .entry)) (now (out .entry)) mark at)
-        (t ∷ [])) (u ∷ [])) 2 (now (names .exit)) (now (rows .exit)) (now (out .exit)) mark at r ⌝ }
+        (file-list (now (refs .entry)) used many (filing (now (names .entry)) (now (rows .entry)) (now (lists .entry)) mark at)
+        (t ∷ [])) (u ∷ [])) 2 (now (names .exit)) (now (rows .exit)) (now (lists .exit)) mark at r ⌝ }
 {
-    let Filed::Sets(_, middle) = file_term(names, refs, rows, out, named, used, many, t, mark, at)
+    let Filed::Sets(_, middle) = file_term(names, refs, rows, lists, named, used, many, t, mark, at)
     else {
         return Filed::Full;
     };
@@ -169,7 +169,7 @@ pub fn file_terms(
         names,
         refs,
         rows,
-        out,
+        lists,
         named,
         used,
         many,
@@ -209,7 +209,7 @@ pub fn triggers_of_term(
     names: &mut [u32],
     refs: &[u32],
     rows: &mut [u32],
-    out: &mut [u32],
+    lists: &mut [u32],
     named: usize,
     used: usize,
     many: usize,
@@ -217,15 +217,15 @@ pub fn triggers_of_term(
     mark: usize,
     at: usize,
 ) -> Filed
-    requires { ⌜ Rows (now refs) (now rows) used many named × Opened (now names) (now rows) (now out) mark at × (t < many) ⌝ }
+    requires { ⌜ Rows (now refs) (now rows) used many named × Opened (now names) (now rows) (now lists) mark at × (t < many) ⌝ }
     ensures sets { λ r. ⌜ ((exclude : List Name) (name : ℕ → Name) → Named exclude name (now (names .entry)) named
         → Files name named (triggers-of-term exclude (terms-of name (now (refs .entry)) (now (rows .entry)) used many) t) at
-        (now (out .exit)) r) ⌝ }
-    ensures slices { λ r. ⌜ Filled (now (names .entry)) (now (rows .entry)) (now (out .entry)) (now (names .exit))
-        (now (rows .exit)) (now (out .exit)) mark at r ⌝ }
+        (now (lists .exit)) r) ⌝ }
+    ensures slices { λ r. ⌜ Entries-filled (now (names .entry)) (now (rows .entry)) (now (lists .entry)) (now (names .exit))
+        (now (rows .exit)) (now (lists .exit)) mark at r ⌝ }
     ensures words { λ r. ⌜ Files-as (file-groups (now (refs .entry)) used many
-        (filing (now (names .entry)) (now (rows .entry)) (now (out .entry)) mark at) t) (groups-at (now (rows .entry)) t)
-        (now (names .exit)) (now (rows .exit)) (now (out .exit)) mark at r ⌝ }
+        (filing (now (names .entry)) (now (rows .entry)) (now (lists .entry)) mark at) t) (groups-at (now (rows .entry)) t)
+        (now (names .exit)) (now (rows .exit)) (now (lists .exit)) mark at r ⌝ }
 {
     let p = pattern_groups(rows, used, many, t);
     let groups = p.count;
@@ -242,7 +242,7 @@ pub fn triggers_of_term(
             names,
             refs,
             rows,
-            out,
+            lists,
             named,
             used,
             many,
@@ -265,7 +265,7 @@ pub fn triggers_of_list(
     names: &mut [u32],
     refs: &[u32],
     rows: &mut [u32],
-    out: &mut [u32],
+    lists: &mut [u32],
     named: usize,
     used: usize,
     many: usize,
@@ -274,18 +274,18 @@ pub fn triggers_of_list(
     mark: usize,
     at: usize,
 ) -> Filed
-    requires { ⌜ Rows (now refs) (now rows) used many named × Opened (now names) (now rows) (now out) mark at × (a ≤ e)
+    requires { ⌜ Rows (now refs) (now rows) used many named × Opened (now names) (now rows) (now lists) mark at × (a ≤ e)
         × (e ≤ used) × ((i : ℕ) → a ≤ i → i < e → term-of (getD (now refs) i 0) < many) ⌝ }
     ensures sets { λ r. ⌜ ((exclude : List Name) (name : ℕ → Name) → Named exclude name (now (names .entry)) named
         → Files name named (collect (triggers-of-term exclude (terms-of name (now (refs .entry)) (now (rows .entry)) used many))
-        (terms-of-words (part (now (refs .entry)) a e))) at (now (out .exit)) r) ⌝ }
-    ensures slices { λ r. ⌜ Filled (now (names .entry)) (now (rows .entry)) (now (out .entry)) (now (names .exit))
-        (now (rows .exit)) (now (out .exit)) mark at r ⌝ }
+        (terms-of-words (part (now (refs .entry)) a e))) at (now (lists .exit)) r) ⌝ }
+    ensures slices { λ r. ⌜ Entries-filled (now (names .entry)) (now (rows .entry)) (now (lists .entry)) (now (names .exit))
+        (now (rows .exit)) (now (lists .exit)) mark at r ⌝ }
     ensures words { λ r. ⌜ Files-as (file-parts (now (refs .entry)) used many
-        (filing (now (names .entry)) (now (rows .entry)) (now (out .entry)) mark at)
+        (filing (now (names .entry)) (now (rows .entry)) (now (lists .entry)) mark at)
         (terms-of-words (part (now (refs .entry)) a e))) (sum
         (map (groups-at (now (rows .entry))) (terms-of-words (part (now (refs .entry)) a e)))) (now (names .exit))
-        (now (rows .exit)) (now (out .exit)) mark at r ⌝ }
+        (now (rows .exit)) (now (lists .exit)) mark at r ⌝ }
 {
     let mut end = at;
     let mut count = 0;
@@ -300,7 +300,7 @@ pub fn triggers_of_list(
             names,
             refs,
             rows,
-            out,
+            lists,
             named,
             used,
             many,
@@ -321,7 +321,7 @@ pub fn is_empty(
     names: &mut [u32],
     refs: &[u32],
     rows: &mut [u32],
-    out: &mut [u32],
+    lists: &mut [u32],
     named: usize,
     used: usize,
     many: usize,
@@ -329,14 +329,14 @@ pub fn is_empty(
     mark: usize,
     at: usize,
 ) -> bool
-    requires { ⌜ Rows (now refs) (now rows) used many named × Opened (now names) (now rows) (now out) mark at × (t < many) ⌝ }
+    requires { ⌜ Rows (now refs) (now rows) used many named × Opened (now names) (now rows) (now lists) mark at × (t < many) ⌝ }
     ensures answer { λ r. ⌜ ((exclude : List Name) (name : ℕ → Name) → Named exclude name (now (names .entry)) named → r
         ≡ is-empty (triggers-of-term exclude (terms-of name (now (refs .entry)) (now (rows .entry)) used many) t)) ⌝ }
     ensures tables { λ r. ⌜ Same-but name-mark-column most-names (now (names .entry)) (now (names .exit))
         × Same-but row-mark-column most-terms (now (rows .entry)) (now (rows .exit))
         × Fresh (now (names .exit)) (now (rows .exit)) (mark + 1) ⌝ }
     ensures words { λ r. ⌜ Asks-as (ask-empty (now (refs .entry)) used many (now (names .entry)) (now (rows .entry)) t)
-        (now (names .entry)) (now (rows .entry)) (now (out .entry)) (now (names .exit)) (now (rows .exit)) (now (out .exit))
+        (now (names .entry)) (now (rows .entry)) (now (lists .entry)) (now (names .exit)) (now (rows .exit)) (now (lists .exit))
         mark r ⌝ }
 {
     let p = pattern_groups(rows, used, many, t);
@@ -350,7 +350,7 @@ pub fn is_empty(
         names,
         refs,
         rows,
-        out,
+        lists,
         named,
         used,
         many,

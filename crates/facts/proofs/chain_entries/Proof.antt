@@ -10,10 +10,10 @@ use Rattle.facts.proofs.chain_entries.Statement.{statement}
 use Rattle.facts.proofs.chain_entries.Tie as tie
 
 abbrev Inv-loop : tie.InvT-loop
-Inv-loop names₀ out₀ from to fact e₀ names out e = (from ≤ e) × (e ≤ to) × Chains names₀ out₀ names out from e fact
+Inv-loop names₀ lists₀ from to fact e₀ names lists e = (from ≤ e) × (e ≤ to) × Chains names₀ lists₀ names lists from e fact
 
 abbrev μ-loop : tie.MeasureT-loop
-μ-loop names₀ out₀ from to fact e₀ names out e = to - e
+μ-loop names₀ lists₀ from to fact e₀ names lists e = to - e
 
 loop-holds : tie.Need-loop-holds Inv-loop μ-loop
 loop-holds c = (omega arith, omega arith, chain-start _ (c .before .before .pre .0))
@@ -27,17 +27,17 @@ at-requires c κs = omega arith
 add-e : tie.Need-add-e Inv-loop μ-loop
 add-e c = omega arith
 
-cast-out : tie.Need-cast-out Inv-loop μ-loop
-cast-out c = omega arith
+cast-lists : tie.Need-cast-lists Inv-loop μ-loop
+cast-lists c = omega arith
 
-add-out : tie.Need-add-out Inv-loop μ-loop
-add-out c = omega arith
+add-lists : tie.Need-add-lists Inv-loop μ-loop
+add-lists c = omega arith
 
-mul-out : tie.Need-mul-out Inv-loop μ-loop
-mul-out c = omega arith
+mul-lists : tie.Need-mul-lists Inv-loop μ-loop
+mul-lists c = omega arith
 
-slice-write-out : tie.Need-slice-write-out Inv-loop μ-loop
-slice-write-out c = omega arith
+slice-write-lists : tie.Need-slice-write-lists Inv-loop μ-loop
+slice-write-lists c = omega arith
 
 loop-less : tie.Need-loop-less Inv-loop μ-loop
 loop-less c = omega arith
@@ -53,23 +53,23 @@ loop-again c =
       chain-none done (at-loop .loop .inv .0) (omega arith) (entry .pre .5) _ (ap (λ w. w % last-flag) (at-at .at .ensures)) (c .if1 .taken),
     )
 
-add-out-2 : tie.Need-add-out-2 Inv-loop μ-loop
-add-out-2 c = omega arith
+add-lists-2 : tie.Need-add-lists-2 Inv-loop μ-loop
+add-lists-2 c = omega arith
 
-mul-out-2 : tie.Need-mul-out-2 Inv-loop μ-loop
-mul-out-2 c = omega arith
+mul-lists-2 : tie.Need-mul-lists-2 Inv-loop μ-loop
+mul-lists-2 c = omega arith
 
-slice-read-out : tie.Need-slice-read-out Inv-loop μ-loop
-slice-read-out c = omega arith
+slice-read-lists : tie.Need-slice-read-lists Inv-loop μ-loop
+slice-read-lists c = omega arith
 
-add-out-3 : tie.Need-add-out-3 Inv-loop μ-loop
-add-out-3 c = omega arith
+add-lists-3 : tie.Need-add-lists-3 Inv-loop μ-loop
+add-lists-3 c = omega arith
 
-mul-out-3 : tie.Need-mul-out-3 Inv-loop μ-loop
-mul-out-3 c = omega arith
+mul-lists-3 : tie.Need-mul-lists-3 Inv-loop μ-loop
+mul-lists-3 c = omega arith
 
-slice-write-out-2 : tie.Need-slice-write-out-2 Inv-loop μ-loop
-slice-write-out-2 c = simp length-set (omega arith)
+slice-write-lists-2 : tie.Need-slice-write-lists-2 Inv-loop μ-loop
+slice-write-lists-2 c = simp length-set (omega arith)
 
 cast-names : tie.Need-cast-names Inv-loop μ-loop
 cast-names c = omega arith
@@ -117,18 +117,18 @@ chain-entries-spec =
     add-at
     at-requires
     add-e
-    cast-out
-    add-out
-    mul-out
-    slice-write-out
+    cast-lists
+    add-lists
+    mul-lists
+    slice-write-lists
     loop-less
     loop-again
-    add-out-2
-    mul-out-2
-    slice-read-out
-    add-out-3
-    mul-out-3
-    slice-write-out-2
+    add-lists-2
+    mul-lists-2
+    slice-read-lists
+    add-lists-3
+    mul-lists-3
+    slice-write-lists-2
     cast-names
     add-names
     mul-names

@@ -53,7 +53,7 @@ chain-entries-requires c κs =
       entry .pre .few-entries,
       entry .pre .few,
       simp length-set (entry .pre .name-room),
-      entry .pre .out-room,
+      entry .pre .lists-room,
     )
 
 same-length : tie.Need-same-length

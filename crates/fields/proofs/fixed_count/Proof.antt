@@ -26,17 +26,17 @@ enum-told-2 c = c .match .keys4
 
 returns : tie.Need-returns
 unfolding count-of fixed-of fixed-count
-returns c = rw (c .enum-told .given .1)
+returns c = λ s. rw (c .enum-told .given .1)
 
 returns-2 : tie.Need-returns-2
-returns-2 c = c .term-count .ensures ∙ ap (λ k. count-of (fixed-of k)) (sym (c .before .before .kind .given .1))
+returns-2 c = λ s. c .term-count .ensures s ∙ ap (λ k. count-of (fixed-of s k)) (sym (c .before .before .kind .given .1))
 
 returns-3 : tie.Need-returns-3
-returns-3 c = c .record-count .ensures ∙ ap (λ k. count-of (fixed-of k)) (sym (c .before .before .kind2 .given .1))
+returns-3 c = λ s. c .record-count .ensures s ∙ ap (λ k. count-of (fixed-of s k)) (sym (c .before .before .kind2 .given .1))
 
 returns-4 : tie.Need-returns-4
 unfolding count-of fixed-of
-returns-4 c = rw (c .enum-told2 .given .1)
+returns-4 c = λ s. rw (c .enum-told2 .given .1)
 
 pub fixed-count-spec : {M : Type 1} → statement M
 fixed-count-spec =

@@ -1,6 +1,6 @@
 -- `fields::record_count` meets its contract.
 use Rattle.model.specs.Reading.{fixed-count}
-use Rattle.fields.specs.Wording.{record-kind, fixed-of, count-of}
+use Rattle.fields.specs.Wording.{record-line-kind, fixed-of, count-of}
 use Rattle.fields.proofs.record_count.Statement.{statement}
 use Rattle.fields.proofs.record_count.Tie as tie
 
@@ -20,24 +20,24 @@ enum-told-5 : tie.Need-enum-told-5
 enum-told-5 c = c .match .keys5
 
 returns : tie.Need-returns
-unfolding count-of fixed-of record-kind fixed-count
-returns c = rw (c .enum-told .given .1)
+unfolding count-of fixed-of record-line-kind fixed-count
+returns c = λ s. rw (c .enum-told .given .1)
 
 returns-2 : tie.Need-returns-2
-unfolding count-of fixed-of record-kind fixed-count
-returns-2 c = rw (c .enum-told2 .given .1)
+unfolding count-of fixed-of record-line-kind fixed-count
+returns-2 c = λ s. rw (c .enum-told2 .given .1)
 
 returns-3 : tie.Need-returns-3
-unfolding count-of fixed-of record-kind fixed-count
-returns-3 c = rw (c .enum-told3 .given .1)
+unfolding count-of fixed-of record-line-kind fixed-count
+returns-3 c = λ s. rw (c .enum-told3 .given .1)
 
 returns-4 : tie.Need-returns-4
-unfolding count-of fixed-of record-kind fixed-count
-returns-4 c = rw (c .enum-told4 .given .1)
+unfolding count-of fixed-of record-line-kind fixed-count
+returns-4 c = λ s. rw (c .enum-told4 .given .1)
 
 returns-5 : tie.Need-returns-5
-unfolding count-of fixed-of record-kind fixed-count
-returns-5 c = rw (c .enum-told5 .given .1)
+unfolding count-of fixed-of record-line-kind fixed-count
+returns-5 c = λ s. rw (c .enum-told5 .given .1)
 
 pub record-count-spec : {M : Type 1} → statement M
 record-count-spec =

@@ -30,35 +30,35 @@ enum-told-8 c = c .match .keys8
 
 returns : tie.Need-returns
 unfolding count-of fixed-of term-kind fixed-count
-returns c = rw (c .enum-told .given .1)
+returns c = λ s. rw (c .enum-told .given .1)
 
 returns-2 : tie.Need-returns-2
 unfolding count-of fixed-of term-kind fixed-count
-returns-2 c = rw (c .enum-told2 .given .1)
+returns-2 c = λ s. rw (c .enum-told2 .given .1)
 
 returns-3 : tie.Need-returns-3
 unfolding count-of fixed-of term-kind fixed-count
-returns-3 c = rw (c .enum-told3 .given .1)
+returns-3 c = λ s. rw (c .enum-told3 .given .1)
 
 returns-4 : tie.Need-returns-4
 unfolding count-of fixed-of term-kind fixed-count
-returns-4 c = rw (c .enum-told4 .given .1)
+returns-4 c = λ s. rw (c .enum-told4 .given .1)
 
 returns-5 : tie.Need-returns-5
 unfolding count-of fixed-of term-kind fixed-count
-returns-5 c = rw (c .enum-told5 .given .1)
+returns-5 c = λ s. rw (c .enum-told5 .given .1)
 
 returns-6 : tie.Need-returns-6
 unfolding count-of fixed-of term-kind fixed-count
-returns-6 c = rw (c .enum-told6 .given .1)
+returns-6 c = λ s. rw (c .enum-told6 .given .1)
 
 returns-7 : tie.Need-returns-7
 unfolding count-of fixed-of term-kind fixed-count
-returns-7 c = rw (c .enum-told7 .given .1)
+returns-7 c = λ s. rw (c .enum-told7 .given .1)
 
 returns-8 : tie.Need-returns-8
 unfolding count-of fixed-of term-kind fixed-count
-returns-8 c = rw (c .enum-told8 .given .1)
+returns-8 c = λ s. rw (c .enum-told8 .given .1)
 
 pub term-count-spec : {M : Type 1} → statement M
 term-count-spec =

@@ -1,5 +1,5 @@
 -- `filing::read_record` meets its contract: each kind by its own.
-use Rattle.fields.specs.Wording.{record-kind}
+use Rattle.fields.specs.Wording.{record-line-kind}
 use Rattle.filing.proofs.Recording.{record-line}
 use borrow.Author.Needs.{needs}
 use Rattle.filing.proofs.read_record.Statement.{statement}
@@ -58,7 +58,7 @@ same-length-4 : tie.Need-same-length-4
 same-length-4 c = search needs
 
 returns : tie.Need-returns
-unfolding record-kind
+unfolding record-line-kind
 returns c =
     let at-read-assume = c .before .before .before .before .before .before .before .before in
     let at-enum-told = at-read-assume .before .before .before .before .before in
@@ -77,7 +77,7 @@ same-length-8 : tie.Need-same-length-8
 same-length-8 c = search needs
 
 returns-2 : tie.Need-returns-2
-unfolding record-kind
+unfolding record-line-kind
 returns-2 c =
     let at-read-fun = c .before .before .before .before in
     let at-enum-told2 = at-read-fun .before .before .before .before .before in
@@ -96,7 +96,7 @@ same-length-12 : tie.Need-same-length-12
 same-length-12 c = search needs
 
 returns-3 : tie.Need-returns-3
-unfolding record-kind
+unfolding record-line-kind
 returns-3 c =
     let at-read-def = c .before .before .before .before .before .before .before .before in
     let at-enum-told3 = at-read-def .before .before .before .before .before in
@@ -115,7 +115,7 @@ same-length-16 : tie.Need-same-length-16
 same-length-16 c = search needs
 
 returns-4 : tie.Need-returns-4
-unfolding record-kind
+unfolding record-line-kind
 returns-4 c =
     let at-read-retain = c .before .before .before .before in
     let at-enum-told4 = at-read-retain .before .before .before .before .before in
@@ -134,7 +134,7 @@ same-length-20 : tie.Need-same-length-20
 same-length-20 c = search needs
 
 returns-5 : tie.Need-returns-5
-unfolding record-kind
+unfolding record-line-kind
 returns-5 c =
     let at-read-root = c .before .before .before .before .before .before .before .before in
     let at-enum-told5 = at-read-root .before .before .before .before .before in

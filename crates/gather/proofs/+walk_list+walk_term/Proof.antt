@@ -69,12 +69,12 @@ term-claims t = (
 )
 
 abbrev walk-list-Inv-loop : walk-list-lts.InvT-loop
-walk-list-Inv-loop names₀ refs rows₀ out₀ used many a e mark count room i₀ n₀ names rows out i n =
-    (a ≤ i) × (i ≤ e) × Walks (Among names₀ refs rows₀ used many a i) names₀ refs rows₀ out₀ names rows out used many mark count room (walks.Names n)
-    × Follows (list-part refs used many a i) names₀ rows₀ out₀ names rows out mark count room (walks.Names n)
+walk-list-Inv-loop names₀ refs rows₀ lists₀ used many a e mark count room i₀ n₀ names rows lists i n =
+    (a ≤ i) × (i ≤ e) × Walks (Among names₀ refs rows₀ used many a i) names₀ refs rows₀ lists₀ names rows lists used many mark count room (walks.Names n)
+    × Follows (list-part refs used many a i) names₀ rows₀ lists₀ names rows lists mark count room (walks.Names n)
 
 abbrev walk-list-μ-loop : walk-list-lts.MeasureT-loop
-walk-list-μ-loop names₀ refs rows₀ out₀ used many a e mark count room i₀ n₀ names rows out i n = e - i
+walk-list-μ-loop names₀ refs rows₀ lists₀ used many a e mark count room i₀ n₀ names rows lists i n = e - i
 
 walk-list-loop-holds : (t : ℕ) → walk-list-lts.Need-loop-holds (list-claims t)
     (walk-list-at t) walk-list.Post walk-list-Inv-loop walk-list-μ-loop
@@ -192,7 +192,7 @@ walk-list-same-length-2 t c = walk-list-returns t c .0 .rows-same .same-length
 
 walk-list-same-length-3 : (t : ℕ) → walk-list-lts.Need-same-length-3 (list-claims t)
     (walk-list-at t) walk-list.Post walk-list-Inv-loop walk-list-μ-loop
-walk-list-same-length-3 t c = walk-list-returns t c .0 .steps .out-same .same-length
+walk-list-same-length-3 t c = walk-list-returns t c .0 .steps .lists-same .same-length
 
 walk-list-loop-less-2 : (t : ℕ) → walk-list-lts.Need-loop-less-2 (list-claims t)
     (walk-list-at t) walk-list.Post walk-list-Inv-loop walk-list-μ-loop
@@ -235,7 +235,7 @@ walk-list-same-length-5 t c = walk-list-returns-2 t c .0 .rows-same .same-length
 
 walk-list-same-length-6 : (t : ℕ) → walk-list-lts.Need-same-length-6 (list-claims t)
     (walk-list-at t) walk-list.Post walk-list-Inv-loop walk-list-μ-loop
-walk-list-same-length-6 t c = walk-list-returns-2 t c .0 .steps .out-same .same-length
+walk-list-same-length-6 t c = walk-list-returns-2 t c .0 .steps .lists-same .same-length
 
 walk-term-gather-head-requires : (t : ℕ) → walk-term-lts.Need-gather-head-requires (term-claims t) (walk-term-at t) walk-term.Post
 walk-term-gather-head-requires t c κs =
@@ -264,7 +264,7 @@ walk-term-same-length-2 : (t : ℕ) → walk-term-lts.Need-same-length-2 (term-c
 walk-term-same-length-2 t c = walk-term-returns t c .0 .rows-same .same-length
 
 walk-term-same-length-3 : (t : ℕ) → walk-term-lts.Need-same-length-3 (term-claims t) (walk-term-at t) walk-term.Post
-walk-term-same-length-3 t c = walk-term-returns t c .0 .steps .out-same .same-length
+walk-term-same-length-3 t c = walk-term-returns t c .0 .steps .lists-same .same-length
 
 walk-term-start-requires : (t : ℕ) → walk-term-lts.Need-start-requires (term-claims t) (walk-term-at t) walk-term.Post
 walk-term-start-requires t c κs =
@@ -322,7 +322,7 @@ walk-term-same-length-5 : (t : ℕ) → walk-term-lts.Need-same-length-5 (term-c
 walk-term-same-length-5 t c = walk-term-returns-2 t c .0 .rows-same .same-length
 
 walk-term-same-length-6 : (t : ℕ) → walk-term-lts.Need-same-length-6 (term-claims t) (walk-term-at t) walk-term.Post
-walk-term-same-length-6 t c = walk-term-returns-2 t c .0 .steps .out-same .same-length
+walk-term-same-length-6 t c = walk-term-returns-2 t c .0 .steps .lists-same .same-length
 
 walk-term-add-rows : (t : ℕ) → walk-term-lts.Need-add-rows (term-claims t) (walk-term-at t) walk-term.Post
 walk-term-add-rows t c =
@@ -378,7 +378,7 @@ walk-term-same-length-8 : (t : ℕ) → walk-term-lts.Need-same-length-8 (term-c
 walk-term-same-length-8 t c = walk-term-returns-3 t c .0 .rows-same .same-length
 
 walk-term-same-length-9 : (t : ℕ) → walk-term-lts.Need-same-length-9 (term-claims t) (walk-term-at t) walk-term.Post
-walk-term-same-length-9 t c = walk-term-returns-3 t c .0 .steps .out-same .same-length
+walk-term-same-length-9 t c = walk-term-returns-3 t c .0 .steps .lists-same .same-length
 
 pub +walk-list+walk-term-spec : {M : Type 1} → statement M
 +walk-list+walk-term-spec = close μ-walk-list μ-walk-term (λ t. walk-list-lts.spec (list-claims t)

@@ -16,7 +16,7 @@ use Rattle.gather.proofs.gather_head.Statement.{statement}
 use Rattle.gather.proofs.gather_head.Tie as tie
 
 -- the head that was read is then the number of a name
-head-is-small : {names rows out : List ℕ} {t count room n : ℕ} → Heads names rows out t count room → has-head (row-kind rows t) ≡ true
+head-is-small : {names rows lists : List ℕ} {t count room n : ℕ} → Heads names rows lists t count room → has-head (row-kind rows t) ≡ true
     → n ≡ row-head rows t → n < 2048
 head-is-small h has n = rw n (h .head-small (true-T has))
 
@@ -48,8 +48,8 @@ returns-2 c =
     let after-has-head = c .before .before .before .before .before .has-head in
     let is = c .before .before .before .head .ensures in
     let has = sym (after-has-head .ensures) ∙ not-false _ (after-if1 .left) in
-    let out = sym (c .before .is-excluded .ensures) ∙ c .if2 .taken in
-    (head-excluded (start .pre) (start .args .mark) _ is out, follow-excluded (start .pre) (start .args .mark) _ is has out)
+    let lists = sym (c .before .is-excluded .ensures) ∙ c .if2 .taken in
+    (head-excluded (start .pre) (start .args .mark) _ is lists, follow-excluded (start .pre) (start .args .mark) _ is has lists)
 
 add-at : tie.Need-add-at
 add-at c =
@@ -111,8 +111,8 @@ returns-4 c =
       follow-over (start .pre) (start .args .mark) _ is has counted new (c .if4 .taken),
     )
 
-cast-out : tie.Need-cast-out
-cast-out c =
+cast-lists : tie.Need-cast-lists
+cast-lists c =
     let back = c .before .before .before .before .before .before .before .before in
     let start = back .before .before .before .before .before in
     let after-head = c .before .before .before .before .before .before .before .head in
@@ -121,11 +121,11 @@ cast-out c =
     let has = sym (after-has-head .ensures) ∙ not-false _ (after-if1 .left) in
     omega (arith, head-is-small (start .pre) has (after-head .ensures))
 
-mul-out : tie.Need-mul-out
-mul-out c = search needs
+mul-lists : tie.Need-mul-lists
+mul-lists c = search needs
 
-slice-write-out : tie.Need-slice-write-out
-slice-write-out c = search needs
+slice-write-lists : tie.Need-slice-write-lists
+slice-write-lists c = search needs
 
 add-names : tie.Need-add-names
 add-names c =
@@ -204,9 +204,9 @@ gather-head-spec =
     returns-3
     same-length-3
     returns-4
-    cast-out
-    mul-out
-    slice-write-out
+    cast-lists
+    mul-lists
+    slice-write-lists
     add-names
     mul-names
     slice-write-names

@@ -3,14 +3,14 @@ use native.Mathlib.Omega.{arith}
 use Prim.Native.Nat.{_-_, _≤_}
 use mathlib.Core.Path.{refl, sym}
 use Rattle.model.proofs.ListLaws.{zero-at}
-use Rattle.macros.specs.Macros.{macro-count, Found, Opens}
+use Rattle.macros.specs.Macros.{macro-count, Found, Macros-opened}
 use Rattle.macros.proofs.Opening.{found-low, opens-none, opens-more, taken-low, opens-end}
 use native.Mathlib.Omega.{arith}
 use Rattle.macros.proofs.open_macros.Statement.{statement}
 use Rattle.macros.proofs.open_macros.Tie as tie
 
 abbrev Inv-loop : tie.InvT-loop
-Inv-loop names₀ recs named found n₀ names n = Opens names₀ recs names named n × Found names₀ named found × (n ≤ named)
+Inv-loop names₀ recs named found n₀ names n = Macros-opened names₀ recs names named n × Found names₀ named found × (n ≤ named)
 
 abbrev μ-loop : tie.MeasureT-loop
 μ-loop names₀ recs named found n₀ names n = named - n

@@ -7,8 +7,8 @@ use Rattle.nodes.proofs.grown.Tie as tie
 enum-told : tie.Need-enum-told
 enum-told c = c .match .keys1
 
-add-t6 : tie.Need-add-t6
-add-t6 c = omega (arith, c .before .before .before .pre)
+add-next : tie.Need-add-next
+add-next c = omega (arith, c .before .before .before .pre)
 
 enum-told-2 : tie.Need-enum-told-2
 enum-told-2 c = c .match .keys2
@@ -26,7 +26,7 @@ grown-spec =
     tie.close
     (tie.spec
     enum-told
-    add-t6
+    add-next
     enum-told-2
     returns
     returns-2)

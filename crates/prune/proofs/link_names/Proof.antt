@@ -41,6 +41,14 @@ at-requires c κs =
     let entry = loop-test .before .before .before .before .before .before .before .before in
     omega (arith, entry .pre .0 .few, entry .pre .0 .room, loop-test .loop-test .taken)
 
+add-at-2 : tie.Need-add-at-2 Inv-loop μ-loop
+add-at-2 c =
+    let loop-test = c .before .before in
+    let loop = loop-test .before in
+    let entry = loop .before .before .before .before .before .before .before in
+    let small = number-in (entry .pre .0) (loop-test .loop-test .taken) (c .at .ensures) in
+    omega (arith, small, entry .pre .0 .few)
+
 at-requires-2 : tie.Need-at-requires-2 Inv-loop μ-loop
 at-requires-2 c κs =
     let loop-test = c .before .before in
@@ -208,6 +216,6 @@ returns c =
 pub link-names-spec : {M : Type 1} → statement M
 link-names-spec =
     tie.close
-    (tie.spec Inv-loop μ-loop clear-requires loop-holds add-r add-at at-requires at-requires-2 loop-less loop-again sub-run
+    (tie.spec Inv-loop μ-loop clear-requires loop-holds add-r add-at at-requires add-at-2 at-requires-2 loop-less loop-again sub-run
     add-run mul-run slice-read-run add-run-2 mul-run-2 slice-write-run cast-run sub-run-2 add-run-3 mul-run-3
     slice-write-run-2 loop-less-2 loop-again-2 same-length returns)

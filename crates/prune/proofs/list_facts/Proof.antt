@@ -11,14 +11,14 @@ list-reached-requires c κs =
     let entry = c .before .before .before .before in (
       entry .pre .0,
       entry .pre .2,
-      reached-fit (entry .args .names .now) (entry .args .recs .now) (entry .args .run .now) (entry .args .k) (entry .pre .4),
+      reached-fit (entry .args .names .now) (entry .args .recs .now) (entry .args .run .now) (entry .args .k) (entry .args .a) (entry .pre .4),
     )
 
 list-ambients-requires : tie.Need-list-ambients-requires
 list-ambients-requires c κs =
     let list-reached = c .before .before .before in
     let entry = list-reached .before .before .before .before .before in
-    let fits = ambients-after (entry .args .names .now) (entry .args .recs .now) (entry .args .run .now) (entry .args .k) (entry .pre .4)
+    let fits = ambients-after (entry .args .names .now) (entry .args .recs .now) (entry .args .run .now) (entry .args .k) (entry .args .a) (entry .pre .4)
     (list-reached .list-reached .ensures) in
     (entry .pre .1, omega (arith, entry .pre .2, lists-length (list-reached .list-reached .ensures)), entry .pre .3, fits)
 
@@ -33,7 +33,7 @@ returns c =
     let list-ambients = c .before .before in
     let list-reached = list-ambients .before .before .before .before in
     let entry = list-reached .before .before .before .before .before in
-    facts-listed (entry .args .names .now) (entry .args .recs .now) (entry .args .run .now) (entry .args .k) (list-reached .list-reached .ensures)
+    facts-listed (entry .args .names .now) (entry .args .recs .now) (entry .args .run .now) (entry .args .k) (entry .args .a) (list-reached .list-reached .ensures)
     (list-ambients .list-ambients .ensures)
 
 pub list-facts-spec : {M : Type 1} → statement M

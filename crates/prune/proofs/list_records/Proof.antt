@@ -25,7 +25,7 @@ returns c =
     let options-of = c .before .before in
     let list-facts = options-of .before .before .before in
     let entry = list-facts .before .before .before .before .before .before in
-    listed-facts (entry .pre) (list-facts .list-facts .ensures) (options-of .options-of .ensures .0 (entry .args .k .query) .prune-decls-is) (not-true _ (c .if1 .taken))
+    listed-facts (entry .pre) (list-facts .list-facts .ensures) (options-of .options-of .ensures .0 (entry .args .a .query) .prune-decls-is) (not-true _ (c .if1 .taken))
 
 clear-requires : tie.Need-clear-requires
 clear-requires c κs =
@@ -75,7 +75,7 @@ list-decls-requires c κs =
     let entry = list-facts .before .before .before .before .before .before in
     decls-ask (entry .pre) (list-facts .list-facts .ensures) (clear .clear .ensures) (note-facts .note-facts .ensures)
     (note-roots .note-roots .ensures .0) (note-roots .note-roots .ensures .1) (link-names .link-names .ensures)
-    (options-of .options-of .ensures .0 (entry .args .k .query) .prune-decls-is) (not-false _ (if1 .if1 .left))
+    (options-of .options-of .ensures .0 (entry .args .a .query) .prune-decls-is) (not-false _ (if1 .if1 .left))
 
 same-length-2 : tie.Need-same-length-2
 same-length-2 c =
@@ -90,7 +90,7 @@ same-length-2 c =
     let entry = list-facts .before .before .before .before .before .before in
     listed-all (entry .pre) (list-facts .list-facts .ensures) (clear .clear .ensures) (note-facts .note-facts .ensures)
     (note-roots .note-roots .ensures .0) (note-roots .note-roots .ensures .1) (link-names .link-names .ensures)
-    (options-of .options-of .ensures .0 (entry .args .k .query) .prune-decls-is) (not-false _ (if1 .if1 .left)) (list-decls .list-decls .ensures) .same .same-length
+    (options-of .options-of .ensures .0 (entry .args .a .query) .prune-decls-is) (not-false _ (if1 .if1 .left)) (list-decls .list-decls .ensures) .same .same-length
 
 returns-2 : tie.Need-returns-2
 returns-2 c =
@@ -105,7 +105,7 @@ returns-2 c =
     let entry = list-facts .before .before .before .before .before .before in
     listed-all (entry .pre) (list-facts .list-facts .ensures) (clear .clear .ensures) (note-facts .note-facts .ensures)
     (note-roots .note-roots .ensures .0) (note-roots .note-roots .ensures .1) (link-names .link-names .ensures)
-    (options-of .options-of .ensures .0 (entry .args .k .query) .prune-decls-is) (not-false _ (if1 .if1 .left)) (list-decls .list-decls .ensures)
+    (options-of .options-of .ensures .0 (entry .args .a .query) .prune-decls-is) (not-false _ (if1 .if1 .left)) (list-decls .list-decls .ensures)
 
 pub list-records-spec : {M : Type 1} → statement M
 list-records-spec =

@@ -6,13 +6,13 @@ use Rattle.prune.proofs.note_facts.Statement.{statement}
 use Rattle.prune.proofs.note_facts.Tie as tie
 
 abbrev Inv-loop : tie.InvT-loop
-Inv-loop recs out run₀ k count j₀ run j = Facts-to recs out (k .named) run₀ count run j
+Inv-loop recs lists run₀ k count j₀ run j = Facts-to recs lists run₀ count run j
 
 abbrev μ-loop : tie.MeasureT-loop
-μ-loop recs out run₀ k count j₀ run j = count - j
+μ-loop recs lists run₀ k count j₀ run j = count - j
 
 loop-holds : tie.Need-loop-holds Inv-loop μ-loop
-loop-holds c = facts-start _ _ _ _ _
+loop-holds c = facts-start _ _ _ _
 
 add-at : tie.Need-add-at Inv-loop μ-loop
 add-at c =

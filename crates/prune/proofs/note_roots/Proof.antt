@@ -7,13 +7,13 @@ use Rattle.prune.proofs.note_roots.Statement.{statement}
 use Rattle.prune.proofs.note_roots.Tie as tie
 
 abbrev Inv-loop : tie.InvT-loop
-Inv-loop recs out run₀ k m count stamp₀ i₀ run stamp i = Roots-to recs out k run₀ m run stamp i
+Inv-loop recs lists run₀ k a m count stamp₀ i₀ run stamp i = Roots-to recs lists k a run₀ m run stamp i
 
 abbrev μ-loop : tie.MeasureT-loop
-μ-loop recs out run₀ k m count stamp₀ i₀ run stamp i = count - i
+μ-loop recs lists run₀ k a m count stamp₀ i₀ run stamp i = count - i
 
 loop-holds : tie.Need-loop-holds Inv-loop μ-loop
-loop-holds c = roots-start _ _ _ _ _
+loop-holds c = roots-start _ _ _ _ _ _
 
 add-i : tie.Need-add-i Inv-loop μ-loop
 add-i c =

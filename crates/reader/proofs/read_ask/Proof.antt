@@ -9,53 +9,59 @@ number-requires : tie.Need-number-requires
 number-requires c κs = search needs
 
 enum-known-q : tie.Need-enum-known-q
-enum-known-q c = search needs
+enum-known-q c = c .match .keys1
 
 number-requires-2 : tie.Need-number-requires-2
 number-requires-2 c κs =
     let first = c .before in
-    number-placed 255 (first .before .before .before .before .pre) (first .before .before .number .ensures) (first .q .given .1)
+    number-placed 255 (first .before .before .before .before .before .pre .0) (first .before .before .number .ensures) (first .q .given .1)
 
 enum-known-options : tie.Need-enum-known-options
-enum-known-options c = search needs
+enum-known-options c = c .match2 .keys1
 
 returns : tie.Need-returns
 returns c =
     let second = c .before .before .before in
     let first = second .before .before .before .before in
-    asks-more _ (first .before .before .before .before .pre) (first .before .before .number .ensures) (first .q .given .1)
+    asks-more _ (first .before .before .before .before .before .pre .0) (first .before .before .number .ensures) (first .q .given .1)
     (second .before .before .number2 .ensures) (second .options .given .1) (c .if1 .taken)
 
-cast-t16 : tie.Need-cast-t16
-cast-t16 c = search needs
-
-cast-t17 : tie.Need-cast-t17
-cast-t17 c = search needs
+add-ask-requires : tie.Need-add-ask-requires
+add-ask-requires c κs =
+    let entry = c .before .before .before .before .before .before .before .before .before .before .before .before .before in
+    (entry .pre .1, entry .pre .2)
 
 enum-known-r : tie.Need-enum-known-r
-enum-known-r c = search needs
+enum-known-r c = c .match2 .keys2
 
 enum-known-r-2 : tie.Need-enum-known-r-2
-enum-known-r-2 c = search needs
+enum-known-r-2 c = c .match .keys2
+
+same-length : tie.Need-same-length
+same-length c =
+    let put = c .before .before in
+    put .add-ask .ensures .1 .same .same-length
 
 returns-2 : tie.Need-returns-2
 returns-2 c =
-    let second = c .before .before .before in
+    let put = c .before .before in
+    let last = put .before .before in
+    let second = last .before .before .before in
     let first = second .before .before .before .before in
-    asks-is _ (first .before .before .before .before .pre) (first .before .before .number .ensures) (first .q .given .1)
-    (second .before .before .number2 .ensures) (second .options .given .1) (c .if1 .left)
+    asks-is _ (first .before .before .before .before .before .pre .0) (first .before .before .number .ensures) (first .q .given .1)
+    (second .before .before .number2 .ensures) (second .options .given .1) (last .if1 .left) (put .add-ask .ensures .0) (put .add-ask .ensures .1)
 
 returns-3 : tie.Need-returns-3
 returns-3 c =
     let second = c .before in
     let first = second .before .before .before .before in
-    asks-options-not _ (first .before .before .before .before .pre) (first .before .before .number .ensures) (first .q .given .1)
+    asks-options-not _ (first .before .before .before .before .before .pre .0) (first .before .before .number .ensures) (first .q .given .1)
     (second .before .before .number2 .ensures) (second .r .given .1)
 
 returns-4 : tie.Need-returns-4
 returns-4 c =
     let first = c .before in
-    asks-not _ (first .before .before .before .before .pre) (first .before .before .number .ensures) (first .r2 .given .1)
+    asks-not _ (first .before .before .before .before .before .pre .0) (first .before .before .number .ensures) (first .r2 .given .1)
 
 pub read-ask-spec : {M : Type 1} → statement M
 read-ask-spec =
@@ -66,10 +72,10 @@ read-ask-spec =
     number-requires-2
     enum-known-options
     returns
-    cast-t16
-    cast-t17
+    add-ask-requires
     enum-known-r
     enum-known-r-2
+    same-length
     returns-2
     returns-3
     returns-4)

@@ -12,11 +12,11 @@ use Rattle.reader.proofs.read_file.Statement.{statement}
 use Rattle.reader.proofs.read_file.Tie as tie
 
 abbrev Inv-loop : tie.InvT-loop
-Inv-loop file names₀ refs₀ rows₀ recs₀ out₀ k₀ n₀ from₀ names refs rows recs out k n from =
-    Reading-on file names refs rows recs out k n from × Past names₀ refs₀ rows₀ recs₀ out₀ names refs rows recs out
+Inv-loop file names₀ refs₀ rows₀ recs₀ lists₀ k₀ n₀ from₀ names refs rows recs lists k n from =
+    Reading-on file names refs rows recs lists k n from × Past names₀ refs₀ rows₀ recs₀ lists₀ names refs rows recs lists
 
 abbrev μ-loop : tie.MeasureT-loop
-μ-loop file names₀ refs₀ rows₀ recs₀ out₀ k₀ n₀ from₀ names refs rows recs out k n from = length file - from
+μ-loop file names₀ refs₀ rows₀ recs₀ lists₀ k₀ n₀ from₀ names refs rows recs lists k n from = length file - from
 
 returns : tie.Need-returns Inv-loop μ-loop
 returns c = record { reads = read-stops (no-lines _ (c .if1 .taken)); past = past-none _ _ _ _ _ }

@@ -12,8 +12,8 @@ enum-told c = c .match .keys1
 
 read-ask-requires : tie.Need-read-ask-requires
 read-ask-requires c κs =
-    let entry = c .before .before .before .before .before .before .before .before in
-    entry .pre .1
+    let entry = c .before .before .before .before .before .before .before .before .before in
+    (entry .pre .1, entry .pre .3 (c .before .enum-told .given .1), entry .pre .0 .recorded .room)
 
 enum-known-kind : tie.Need-enum-known-kind
 enum-known-kind c = c .match .keys2
@@ -29,18 +29,22 @@ enum-known-kind-2 c = c .match .keys3
 read-record-requires : tie.Need-read-record-requires
 read-record-requires c κs =
     let entry = c .before .before .before .before .before .before .before .before .before .before .before .before .before .before in
-    entry .pre
+    (entry .pre .0, entry .pre .1, entry .pre .2)
 
 enum-told-2 : tie.Need-enum-told-2
 enum-told-2 c = c .match .keys4
 
+same-length : tie.Need-same-length
+same-length c =
+    let at-read-ask = c .before .before in
+    let entry = at-read-ask .before .before .before .before .before .before .before .before .before .before in
+    ask-read 0 (entry .pre .0) (at-read-ask .read-ask .ensures) .past .record-words .same-length
+
 returns : tie.Need-returns
 returns c =
-    let entry = c .before .before .before .before .before .before .before .before .before in
-    line-said (kind-ask _ _ (c .before .enum-told .given .1)) (ask-read _ (entry .pre .0) (c .read-ask .ensures))
-
-same-length : tie.Need-same-length
-same-length c = search needs
+    let at-read-ask = c .before .before in
+    let entry = at-read-ask .before .before .before .before .before .before .before .before .before .before in
+    line-said (kind-ask _ _ (at-read-ask .before .before .enum-told .given .1)) (ask-read _ (entry .pre .0) (at-read-ask .read-ask .ensures))
 
 same-length-2 : tie.Need-same-length-2
 same-length-2 c = search needs
@@ -48,15 +52,15 @@ same-length-2 c = search needs
 same-length-3 : tie.Need-same-length-3
 same-length-3 c = search needs
 
+same-length-4 : tie.Need-same-length-4
+same-length-4 c = search needs
+
 returns-2 : tie.Need-returns-2
 returns-2 c =
     let at-read-term = c .before .before .before .before .before .before in
     let at-kind = at-read-term .before .before .before .before .before in
     let entry = at-kind .before .before .before .before .before .before .before .before in
     line-said (kind-term _ _ (at-kind .kind .given .1)) (term-read _ (entry .pre .0) (at-read-term .read-term .ensures))
-
-same-length-4 : tie.Need-same-length-4
-same-length-4 c = search needs
 
 same-length-5 : tie.Need-same-length-5
 same-length-5 c = search needs
@@ -69,6 +73,9 @@ same-length-7 c = search needs
 
 same-length-8 : tie.Need-same-length-8
 same-length-8 c = search needs
+
+same-length-9 : tie.Need-same-length-9
+same-length-9 c = search needs
 
 returns-3 : tie.Need-returns-3
 returns-3 c =
@@ -90,15 +97,16 @@ read-kind-spec =
     enum-known-kind-2
     read-record-requires
     enum-told-2
-    returns
     same-length
+    returns
     same-length-2
     same-length-3
-    returns-2
     same-length-4
+    returns-2
     same-length-5
     same-length-6
     same-length-7
     same-length-8
+    same-length-9
     returns-3
     returns-4)

@@ -1,7 +1,7 @@
 -- `reader::read_line` meets its contract: by its first field, its kind, the number of its fields, and the fields after.
 use Rattle.model.specs.declared.Refusal.the-variants as refusal
 use Rattle.filing.proofs.Recording.{line-not, line-said}
-use Rattle.reader.proofs.Lines.{fields-first, field-there, field-placed, not-true, not-false, parse-on, parse-count}
+use Rattle.reader.proofs.Lines.{fields-first, field-there, field-placed, not-true, not-false, parse-on, parse-count, placing, terms-counted, ask-fits}
 use borrow.Author.Needs.{needs}
 use Rattle.reader.proofs.read_line.Statement.{statement}
 use Rattle.reader.proofs.read_line.Tie as tie
@@ -32,18 +32,22 @@ returns c =
     let at-start = c .before .before .before .before in
     let at-field = at-start .before .before in
     let entry = at-field .before .before .before .before .before .before .before in
-    line-not _ _ _ _ _ _ _ _ refusal.Form (parse-count _ _ (fields-first _ _ _ (entry .pre .1) (entry .pre .2) (entry .pre .0 .tables .name-table .short)
-    (at-field .field .ensures) (at-start .start .given .1)) _ (c .before .before .line-kind .ensures)
-    (not-true (c .before .counted .ensures) (c .if1 .taken)))
+    line-not _ _ _ _ _ _ _ _ refusal.Form (parse-count _ (terms-counted _ _ _ _ _ _ _) (fields-first _ _ _ (entry .pre .1) (entry .pre .2)
+    (entry .pre .0 .tables .name-table .short) (at-field .field .ensures) (at-start .start .given .1)) _
+    (c .before .before .line-kind .ensures _ (placing _ _ _ _ _ _ _)) (not-true (c .before .counted .ensures _) (c .if1 .taken)))
 
 read-kind-requires : tie.Need-read-kind-requires
 read-kind-requires c κs =
-    let at-start = c .before .before .before .before .before .before .before .before .before in
+    let at-line-kind = c .before .before .before .before .before .before .before in
+    let at-start = at-line-kind .before .before in
     let at-field = at-start .before .before in
-    let entry = at-field .before .before .before .before .before .before .before in (
+    let entry = at-field .before .before .before .before .before .before .before in
+    let a = entry .args in
+    let p = placing (a .file .now) (a .names .now) (a .refs .now) (a .rows .now) (a .recs .now) (a .lists .now) (a .k) in (
       entry .pre .0,
       (field-placed (entry .pre .1) (entry .pre .2) (entry .pre .0 .tables .name-table .short) (at-field .field .ensures) (at-start .start .given .1)) .0,
       entry .pre .3,
+      ask-fits _ _ p (at-line-kind .line-kind .ensures _ p),
     )
 
 enum-known-r : tie.Need-enum-known-r
@@ -73,8 +77,9 @@ returns-2 c =
     let at-start = at-line-kind .before .before in
     let at-field = at-start .before .before in
     let entry = at-field .before .before .before .before .before .before .before in
-    line-said (parse-on _ _ (fields-first _ _ _ (entry .pre .1) (entry .pre .2) (entry .pre .0 .tables .name-table .short) (at-field .field .ensures)
-    (at-start .start .given .1)) _ (at-line-kind .line-kind .ensures) (not-false (at-counted .counted .ensures) (at-if1 .if1 .left)))
+    line-said (parse-on _ (terms-counted _ _ _ _ _ _ _) (fields-first _ _ _ (entry .pre .1) (entry .pre .2) (entry .pre .0 .tables .name-table .short)
+    (at-field .field .ensures) (at-start .start .given .1)) _ (at-line-kind .line-kind .ensures _ (placing _ _ _ _ _ _ _))
+    (not-false (at-counted .counted .ensures _) (at-if1 .if1 .left)))
     (at-read-kind .read-kind .ensures)
 
 returns-3 : tie.Need-returns-3

@@ -12,16 +12,16 @@ use Rattle.scan.proofs.fires.Statement.{statement}
 use Rattle.scan.proofs.fires.Tie as tie
 
 abbrev Inv-loop : tie.InvT-loop
-Inv-loop out run a e i₀ i = (i₀ ≤ i) × (i ≤ e) × (fires-in run true (part out i₀ e) ≡ fires-in run true (part out i e))
+Inv-loop lists run a e i₀ i = (i₀ ≤ i) × (i ≤ e) × (fires-in run true (part lists i₀ e) ≡ fires-in run true (part lists i e))
 
 abbrev μ-loop : tie.MeasureT-loop
-μ-loop out run a e i₀ i = e - i
+μ-loop lists run a e i₀ i = e - i
 
 abbrev Inv-disjuncts : tie.InvT-disjuncts
-Inv-disjuncts out run a e i₀ i = (a ≤ i) × (i ≤ e) × (fires-in run true (part out a e) ≡ fires-in run true (part out i e))
+Inv-disjuncts lists run a e i₀ i = (a ≤ i) × (i ≤ e) × (fires-in run true (part lists a e) ≡ fires-in run true (part lists i e))
 
 abbrev μ-disjuncts : tie.MeasureT-disjuncts
-μ-disjuncts out run a e i₀ i = e - i
+μ-disjuncts lists run a e i₀ i = e - i
 
 disjuncts-holds : tie.Need-disjuncts-holds Inv-loop μ-loop Inv-disjuncts μ-disjuncts
 disjuncts-holds c = (omega arith, c .before .before .pre .0, refl)

@@ -6,10 +6,10 @@ use Rattle.scan.proofs.meet_part.Statement.{statement}
 use Rattle.scan.proofs.meet_part.Tie as tie
 
 abbrev Inv-loop : tie.InvT-loop
-Inv-loop out run₀ a e round i₀ run i = Met out run₀ a e round run i
+Inv-loop lists run₀ a e round i₀ run i = Met lists run₀ a e round run i
 
 abbrev μ-loop : tie.MeasureT-loop
-μ-loop out run₀ a e round i₀ run i = e - i
+μ-loop lists run₀ a e round i₀ run i = e - i
 
 loop-holds : tie.Need-loop-holds Inv-loop μ-loop
 loop-holds c = meet-start (c .before .before .pre .0)

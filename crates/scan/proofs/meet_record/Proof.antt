@@ -3,17 +3,18 @@ use Prim.Native.Nat.{_-_}
 use native.Mathlib.Omega.{arith}
 use mathlib.Core.Path.{ap, _∙_}
 use lib.ListN.{length}
-use Rattle.scan.specs.Tables.{held-of}
+use Rattle.records.specs.Columns.{macro-at}
+use Rattle.macros.specs.Macros.{opens-at}
 use Rattle.scan.proofs.Marks.{mark-length}
 use Rattle.scan.proofs.Meets.{Met-all, all-start, all-next, all-end, uses-met}
 use Rattle.scan.proofs.meet_record.Statement.{statement}
 use Rattle.scan.proofs.meet_record.Tie as tie
 
 abbrev Inv-loop : tie.InvT-loop
-Inv-loop names recs out run₀ k i round a e j₀ run j = Met-all (held-of names recs out k) out run₀ a e round run j
+Inv-loop names recs lists run₀ k i round a e j₀ run j = Met-all (λ n. opens-at recs lists (macro-at names n)) lists run₀ a e round run j
 
 abbrev μ-loop : tie.MeasureT-loop
-μ-loop names recs out run₀ k i round a e j₀ run j = e - j
+μ-loop names recs lists run₀ k i round a e j₀ run j = e - j
 
 add-at : tie.Need-add-at Inv-loop μ-loop
 add-at c =
@@ -100,7 +101,6 @@ loop-less : tie.Need-loop-less Inv-loop μ-loop
 loop-less c = omega arith
 
 loop-again : tie.Need-loop-again Inv-loop μ-loop
-unfolding held-of
 loop-again c =
     let open-macro = c .before .before in
     let meet = open-macro .before .before .before .before in

@@ -11,10 +11,10 @@ use Rattle.scan.proofs.past.Statement.{statement}
 use Rattle.scan.proofs.past.Tie as tie
 
 abbrev Inv-loop : tie.InvT-loop
-Inv-loop out i e j₀ j = (i ≤ j) × (j ≤ e) × ((w : List ℕ) → fires-in w false (part out i e) ≡ fires-in w false (part out j e))
+Inv-loop lists i e j₀ j = (i ≤ j) × (j ≤ e) × ((w : List ℕ) → fires-in w false (part lists i e) ≡ fires-in w false (part lists j e))
 
 abbrev μ-loop : tie.MeasureT-loop
-μ-loop out i e j₀ j = e - j
+μ-loop lists i e j₀ j = e - j
 
 loop-holds : tie.Need-loop-holds Inv-loop μ-loop
 loop-holds c = (omega arith, c .before .pre .0, λ w. refl)

@@ -27,7 +27,7 @@ go-on-requires c κs =
     let start = add-roots .before .before .before .before in
     let entry = start .before .before .before .before .before .before .before in
     let pre = entry .pre in
-    (laid (pre .0), first-ready (pre .0) _ (pre .1) (roots-on _ _ (start .start .ensures) (add-roots .add-roots .ensures)))
+    (laid (pre .0), first-ready (pre .0) (entry .args .a) _ (pre .1) (roots-on _ _ (start .start .ensures) (add-roots .add-roots .ensures)))
 
 returns : tie.Need-returns
 returns c =
@@ -36,7 +36,7 @@ returns c =
     let start = add-roots .before .before .before .before in
     let entry = start .before .before .before .before .before .before .before in
     let pre = entry .pre in
-    ran (pre .0) _ (pre .1) (roots-on _ _ (start .start .ensures) (add-roots .add-roots .ensures)) (go-on .go-on .ensures)
+    ran (pre .0) (entry .args .a) _ (pre .1) (roots-on _ _ (start .start .ensures) (add-roots .add-roots .ensures)) (go-on .go-on .ensures)
 
 same-length : tie.Need-same-length
 same-length c = returns c .same .same-length

@@ -46,7 +46,7 @@ returns-4 c =
     let if2 = at3 .before in
     let at = if2 .before .before in
     let entry = at .before .before in
-    starts-ambient _ _ _ _ (at .at .ensures) _ _ (if2 .if2 .left) (at3 .at3 .ensures) (if3 .if3 .left) (options-of .options-of .ensures .0 (entry .args .k .query) .no-ambients-is)
+    starts-ambient _ _ _ _ (at .at .ensures) _ _ (if2 .if2 .left) (at3 .at3 .ensures) (if3 .if3 .left) (options-of .options-of .ensures .0 (entry .args .a .query) .no-ambients-is)
 
 pub starts-spec : {M : Type 1} → statement M
 starts-spec =

@@ -44,7 +44,7 @@ same-length-2 : tie.Need-same-length-2
 same-length-2 c = returns c .0 .marks .rows-same .same-length
 
 same-length-3 : tie.Need-same-length-3
-same-length-3 c = returns c .0 .marks .out-same .same-length
+same-length-3 c = returns c .0 .marks .lists-same .same-length
 
 pub file-parts-spec : {M : Type 1} → statement M
 file-parts-spec =

@@ -30,7 +30,7 @@ triggers-of-term-requires c κs =
     let start = back2 .before .before in
     let after-is-empty = back .before .before .is-empty in (
       rows-marked (after-is-empty .ensures .1 .0 .1) (start .pre .0),
-      begun-then (start .pre .1) (after-is-empty .ensures .1 .0) (after-is-empty .ensures .1 .1 .out-words),
+      begun-then (start .pre .1) (after-is-empty .ensures .1 .0) (after-is-empty .ensures .1 .1 .lists-words),
       start .pre .2,
     )
 
@@ -58,7 +58,7 @@ same-length-2 : tie.Need-same-length-2
 same-length-2 c = returns c .0 .marks .rows-same .same-length
 
 same-length-3 : tie.Need-same-length-3
-same-length-3 c = returns c .0 .marks .out-same .same-length
+same-length-3 c = returns c .0 .marks .lists-same .same-length
 
 same-length-4 : tie.Need-same-length-4
 same-length-4 c = returns-2 c .0 .marks .names-same .same-length
@@ -67,7 +67,7 @@ same-length-5 : tie.Need-same-length-5
 same-length-5 c = returns-2 c .0 .marks .rows-same .same-length
 
 same-length-6 : tie.Need-same-length-6
-same-length-6 c = returns-2 c .0 .marks .out-same .same-length
+same-length-6 c = returns-2 c .0 .marks .lists-same .same-length
 
 pub file-refinement-spec : {M : Type 1} → statement M
 file-refinement-spec =

@@ -44,17 +44,17 @@ returns c =
     (not-true _ (at-if1 .if1 .taken)) in
     token-over (start .pre .0) (start .pre .1) (after-at .ensures) (after-at2 .ensures) no (c .if2 .taken)
 
-add-out : tie.Need-add-out
-add-out c = search needs
+add-lists : tie.Need-add-lists
+add-lists c = search needs
 
-cast-out : tie.Need-cast-out
-cast-out c = search needs
+cast-lists : tie.Need-cast-lists
+cast-lists c = search needs
 
-mul-out : tie.Need-mul-out
-mul-out c = search needs
+mul-lists : tie.Need-mul-lists
+mul-lists c = search needs
 
-slice-write-out : tie.Need-slice-write-out
-slice-write-out c = search needs
+slice-write-lists : tie.Need-slice-write-lists
+slice-write-lists c = search needs
 
 add-t24 : tie.Need-add-t24
 add-t24 c = search needs
@@ -250,10 +250,10 @@ file-token-spec =
     ends-with-requires
     same-length
     returns
-    add-out
-    cast-out
-    mul-out
-    slice-write-out
+    add-lists
+    cast-lists
+    mul-lists
+    slice-write-lists
     add-t24
     same-length-2
     same-length-3

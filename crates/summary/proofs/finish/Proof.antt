@@ -68,7 +68,7 @@ same-length-2 : tie.Need-same-length-2
 same-length-2 c = returns c .slices .rows-same .same-length
 
 same-length-3 : tie.Need-same-length-3
-same-length-3 c = returns c .slices .out-same .same-length
+same-length-3 c = returns c .slices .lists-same .same-length
 
 same-length-4 : tie.Need-same-length-4
 same-length-4 c = returns-2 c .slices .names-same .same-length
@@ -77,7 +77,7 @@ same-length-5 : tie.Need-same-length-5
 same-length-5 c = returns-2 c .slices .rows-same .same-length
 
 same-length-6 : tie.Need-same-length-6
-same-length-6 c = returns-2 c .slices .out-same .same-length
+same-length-6 c = returns-2 c .slices .lists-same .same-length
 
 pub finish-spec : {M : Type 1} → statement M
 finish-spec =

@@ -13,32 +13,32 @@ add-if1 c = omega arith
 returns : tie.Need-returns
 returns c = over (omega arith) refl
 
-add-out : tie.Need-add-out
-add-out c = search needs
+add-lists : tie.Need-add-lists
+add-lists c = search needs
 
-cast-out : tie.Need-cast-out
-cast-out c = search needs
+cast-lists : tie.Need-cast-lists
+cast-lists c = search needs
 
-mul-out : tie.Need-mul-out
-mul-out c = search needs
+mul-lists : tie.Need-mul-lists
+mul-lists c = search needs
 
-slice-write-out : tie.Need-slice-write-out
-slice-write-out c = search needs
+slice-write-lists : tie.Need-slice-write-lists
+slice-write-lists c = search needs
 
-add-out-2 : tie.Need-add-out-2
-add-out-2 c = search needs
+add-lists-2 : tie.Need-add-lists-2
+add-lists-2 c = search needs
 
-cast-out-2 : tie.Need-cast-out-2
-cast-out-2 c = search needs
+cast-lists-2 : tie.Need-cast-lists-2
+cast-lists-2 c = search needs
 
-add-out-3 : tie.Need-add-out-3
-add-out-3 c = search needs
+add-lists-3 : tie.Need-add-lists-3
+add-lists-3 c = search needs
 
-mul-out-2 : tie.Need-mul-out-2
-mul-out-2 c = search needs
+mul-lists-2 : tie.Need-mul-lists-2
+mul-lists-2 c = search needs
 
-slice-write-out-2 : tie.Need-slice-write-out-2
-slice-write-out-2 c = simp length-set (omega arith)
+slice-write-lists-2 : tie.Need-slice-write-lists-2
+slice-write-lists-2 c = simp length-set (omega arith)
 
 add-t6 : tie.Need-add-t6
 add-t6 c = search needs
@@ -55,15 +55,15 @@ put-two-spec =
     (tie.spec
     add-if1
     returns
-    add-out
-    cast-out
-    mul-out
-    slice-write-out
-    add-out-2
-    cast-out-2
-    add-out-3
-    mul-out-2
-    slice-write-out-2
+    add-lists
+    cast-lists
+    mul-lists
+    slice-write-lists
+    add-lists-2
+    cast-lists-2
+    add-lists-3
+    mul-lists-2
+    slice-write-lists-2
     add-t6
     same-length
     returns-2)

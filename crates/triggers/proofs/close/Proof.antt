@@ -11,20 +11,20 @@ sub-at c = omega arith
 at-requires : tie.Need-at-requires
 at-requires c κs = omega arith
 
-add-out : tie.Need-add-out
-add-out c = omega (arith, c .before .before .before .before .pre .3 (c .before .before .if1 .taken), c .at .ensures)
+add-lists : tie.Need-add-lists
+add-lists c = omega (arith, c .before .before .before .before .pre .3 (c .before .before .if1 .taken), c .at .ensures)
 
-cast-out : tie.Need-cast-out
-cast-out c = omega (arith, c .before .before .before .before .pre .3 (c .before .before .if1 .taken), c .at .ensures)
+cast-lists : tie.Need-cast-lists
+cast-lists c = omega (arith, c .before .before .before .before .pre .3 (c .before .before .if1 .taken), c .at .ensures)
 
-sub-out : tie.Need-sub-out
-sub-out c = omega arith
+sub-lists : tie.Need-sub-lists
+sub-lists c = omega arith
 
-mul-out : tie.Need-mul-out
-mul-out c = omega arith
+mul-lists : tie.Need-mul-lists
+mul-lists c = omega arith
 
-slice-write-out : tie.Need-slice-write-out
-slice-write-out c = omega arith
+slice-write-lists : tie.Need-slice-write-lists
+slice-write-lists c = omega arith
 
 returns : tie.Need-returns
 returns c = close-last (c .before .before .if1 .taken) (c .at .ensures)
@@ -35,17 +35,17 @@ same-length c = search needs
 returns-2 : tie.Need-returns-2
 returns-2 c = close-over (c .before .before .before .pre .0) (c .before .if1 .left) (c .if2 .taken)
 
-add-out-2 : tie.Need-add-out-2
-add-out-2 c = omega arith
+add-lists-2 : tie.Need-add-lists-2
+add-lists-2 c = omega arith
 
-cast-out-2 : tie.Need-cast-out-2
-cast-out-2 c = omega arith
+cast-lists-2 : tie.Need-cast-lists-2
+cast-lists-2 c = omega arith
 
-mul-out-2 : tie.Need-mul-out-2
-mul-out-2 c = omega arith
+mul-lists-2 : tie.Need-mul-lists-2
+mul-lists-2 c = omega arith
 
-slice-write-out-2 : tie.Need-slice-write-out-2
-slice-write-out-2 c = omega arith
+slice-write-lists-2 : tie.Need-slice-write-lists-2
+slice-write-lists-2 c = omega arith
 
 add-t13 : tie.Need-add-t13
 add-t13 c = omega arith
@@ -62,18 +62,18 @@ close-spec =
     (tie.spec
     sub-at
     at-requires
-    add-out
-    cast-out
-    sub-out
-    mul-out
-    slice-write-out
+    add-lists
+    cast-lists
+    sub-lists
+    mul-lists
+    slice-write-lists
     same-length
     returns
     returns-2
-    add-out-2
-    cast-out-2
-    mul-out-2
-    slice-write-out-2
+    add-lists-2
+    cast-lists-2
+    mul-lists-2
+    slice-write-lists-2
     add-t13
     same-length-2
     returns-3)

@@ -36,7 +36,7 @@ same-length-8 : tie.Need-same-length-8
 same-length-8 c = returns-3 c .1 .0 .rows-same .same-length
 
 same-length-9 : tie.Need-same-length-9
-same-length-9 c = returns-3 c .1 .0 .out-same .same-length
+same-length-9 c = returns-3 c .1 .0 .lists-same .same-length
 
 returns : tie.Need-returns
 returns c =
@@ -51,7 +51,7 @@ same-length-2 : tie.Need-same-length-2
 same-length-2 c = returns c .1 .0 .rows-same .same-length
 
 same-length-3 : tie.Need-same-length-3
-same-length-3 c = returns c .1 .0 .out-same .same-length
+same-length-3 c = returns c .1 .0 .lists-same .same-length
 
 sub-file-term : tie.Need-sub-file-term
 sub-file-term c =
@@ -108,7 +108,7 @@ same-length-5 : tie.Need-same-length-5
 same-length-5 c = returns-2 c .1 .0 .rows-same .same-length
 
 same-length-6 : tie.Need-same-length-6
-same-length-6 c = returns-2 c .1 .0 .out-same .same-length
+same-length-6 c = returns-2 c .1 .0 .lists-same .same-length
 
 pub file-terms-spec : {M : Type 1} → statement M
 file-terms-spec =

@@ -18,7 +18,7 @@ returns c =
     let start = c .before .before .before .before .before .before .before .before in
     let a = start .args in
     let groups = c .before .before .pattern-groups .ensures .0 in
-    let words = asked-none (a .refs .now) (a .used) (a .many) (a .names .now) (a .rows .now) (a .out .now) (a .t) (a .mark) groups (c .if1 .taken) in
+    let words = asked-none (a .refs .now) (a .used) (a .many) (a .names .now) (a .rows .now) (a .lists .now) (a .t) (a .mark) groups (c .if1 .taken) in
     (λ exclude name d. empty-none (start .pre .0) (start .pre .2) groups (c .if1 .taken) exclude name, (tables-kept _ _ _ (start .pre .1 .fresh), words))
 
 same-length : tie.Need-same-length
@@ -34,7 +34,7 @@ returns-2 c =
     let patterns = after-pattern-groups .ensures in
     let some = at-if1 .if1 .left in
     let all = all-there (start .pre .0) (start .pre .2) (patterns .0) some refl (patterns .2) in
-    let words = asked-more (a .refs .now) (a .used) (a .many) (a .names .now) (a .rows .now) (a .out .now) (a .t) (a .mark) (patterns .0) some
+    let words = asked-more (a .refs .now) (a .used) (a .many) (a .names .now) (a .rows .now) (a .lists .now) (a .t) (a .mark) (patterns .0) some
     (c .if2 .taken) in
     (λ exclude name d. empty-more (start .pre .0) (start .pre .2) all some (c .if2 .taken) exclude name, (tables-kept _ _ _ (start .pre .1 .fresh), words))
 
@@ -90,7 +90,7 @@ same-length-4 : tie.Need-same-length-4
 same-length-4 c = returns-3 c .1 .0 .1 .same-length
 
 same-length-5 : tie.Need-same-length-5
-same-length-5 c = ap length (returns-3 c .1 .1 .out-words)
+same-length-5 c = ap length (returns-3 c .1 .1 .lists-words)
 
 enum-told-2 : tie.Need-enum-told-2
 enum-told-2 c = c .match .keys2
@@ -123,7 +123,7 @@ same-length-7 : tie.Need-same-length-7
 same-length-7 c = returns-4 c .1 .0 .1 .same-length
 
 same-length-8 : tie.Need-same-length-8
-same-length-8 c = ap length (returns-4 c .1 .1 .out-words)
+same-length-8 c = ap length (returns-4 c .1 .1 .lists-words)
 
 pub is-empty-spec : {M : Type 1} → statement M
 is-empty-spec =

@@ -13,14 +13,14 @@ use Rattle.triggers.proofs.triggers_of_list.Statement.{statement}
 use Rattle.triggers.proofs.triggers_of_list.Tie as tie
 
 abbrev Inv-loop : tie.InvT-loop
-Inv-loop names₀ refs rows₀ out₀ named used many a e mark at end₀ count₀ i₀ names rows out end count i =
+Inv-loop names₀ refs rows₀ lists₀ named used many a e mark at end₀ count₀ i₀ names rows lists end count i =
     (a ≤ i)
     × (i ≤ e)
-    × Comes names₀ rows₀ out₀ names rows out named mark at (list-sets refs rows₀ used many a i)
-    (file-parts refs used many (filing names₀ rows₀ out₀ mark at) (terms-of-words (part refs a i))) (list-count refs rows₀ a i) (filed.Sets count end)
+    × Comes names₀ rows₀ lists₀ names rows lists named mark at (list-sets refs rows₀ used many a i)
+    (file-parts refs used many (filing names₀ rows₀ lists₀ mark at) (terms-of-words (part refs a i))) (list-count refs rows₀ a i) (filed.Sets count end)
 
 abbrev μ-loop : tie.MeasureT-loop
-μ-loop names₀ refs rows₀ out₀ named used many a e mark at end₀ count₀ i₀ names rows out end count i = e - i
+μ-loop names₀ refs rows₀ lists₀ named used many a e mark at end₀ count₀ i₀ names rows lists end count i = e - i
 
 loop-holds : tie.Need-loop-holds Inv-loop μ-loop
 loop-holds c =
@@ -115,7 +115,7 @@ same-length-2 : tie.Need-same-length-2 Inv-loop μ-loop
 same-length-2 c = returns c .1 .0 .rows-same .same-length
 
 same-length-3 : tie.Need-same-length-3 Inv-loop μ-loop
-same-length-3 c = returns c .1 .0 .out-same .same-length
+same-length-3 c = returns c .1 .0 .lists-same .same-length
 
 add-count : tie.Need-add-count Inv-loop μ-loop
 add-count c =
@@ -161,7 +161,7 @@ same-length-5 : tie.Need-same-length-5 Inv-loop μ-loop
 same-length-5 c = returns-2 c .1 .0 .rows-same .same-length
 
 same-length-6 : tie.Need-same-length-6 Inv-loop μ-loop
-same-length-6 c = returns-2 c .1 .0 .out-same .same-length
+same-length-6 c = returns-2 c .1 .0 .lists-same .same-length
 
 pub triggers-of-list-spec : {M : Type 1} → statement M
 triggers-of-list-spec =

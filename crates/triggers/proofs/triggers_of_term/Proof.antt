@@ -17,17 +17,17 @@ use Rattle.triggers.proofs.triggers_of_term.Statement.{statement}
 use Rattle.triggers.proofs.triggers_of_term.Tie as tie
 
 abbrev Inv-loop : tie.InvT-loop
-Inv-loop names₀ refs rows₀ out₀ named used many t mark at groups a₀ e end₀ g₀ names rows out a end g =
+Inv-loop names₀ refs rows₀ lists₀ named used many t mark at groups a₀ e end₀ g₀ names rows lists a end g =
     All refs rows₀ used many t groups (bare-of rows₀ t) e
     × (g ≤ groups)
     × Before refs (row-start rows₀ (bare-of rows₀ t) + 1) (row-end rows₀ used many (bare-of rows₀ t)) g a
-    × Comes names₀ rows₀ out₀ names rows out named mark at (λ exclude name. map (group-names exclude (terms-of name refs rows₀ used many))
+    × Comes names₀ rows₀ lists₀ names rows lists named mark at (λ exclude name. map (group-names exclude (terms-of name refs rows₀ used many))
     (groups-of-words (patterns refs rows₀ used many (bare-of rows₀ t)) g))
-    (fold-left (file-list refs used many) (filing names₀ rows₀ out₀ mark at) (groups-of-words (patterns refs rows₀ used many (bare-of rows₀ t)) g)) g
+    (fold-left (file-list refs used many) (filing names₀ rows₀ lists₀ mark at) (groups-of-words (patterns refs rows₀ used many (bare-of rows₀ t)) g)) g
     (filed.Sets g end)
 
 abbrev μ-loop : tie.MeasureT-loop
-μ-loop names₀ refs rows₀ out₀ named used many t mark at groups a₀ e end₀ g₀ names rows out a end g = groups - g
+μ-loop names₀ refs rows₀ lists₀ named used many t mark at groups a₀ e end₀ g₀ names rows lists a end g = groups - g
 
 pattern-groups-requires : tie.Need-pattern-groups-requires Inv-loop μ-loop
 pattern-groups-requires c κs =
@@ -96,7 +96,7 @@ same-length-3 : tie.Need-same-length-3 Inv-loop μ-loop
 same-length-3 c = returns-2 c .1 .0 .rows-same .same-length
 
 same-length-4 : tie.Need-same-length-4 Inv-loop μ-loop
-same-length-4 c = returns-2 c .1 .0 .out-same .same-length
+same-length-4 c = returns-2 c .1 .0 .lists-same .same-length
 
 add-g : tie.Need-add-g Inv-loop μ-loop
 add-g c = omega arith
@@ -131,7 +131,7 @@ same-length-6 : tie.Need-same-length-6 Inv-loop μ-loop
 same-length-6 c = returns-3 c .1 .0 .rows-same .same-length
 
 same-length-7 : tie.Need-same-length-7 Inv-loop μ-loop
-same-length-7 c = returns-3 c .1 .0 .out-same .same-length
+same-length-7 c = returns-3 c .1 .0 .lists-same .same-length
 
 pub triggers-of-term-spec : {M : Type 1} → statement M
 triggers-of-term-spec =

@@ -8,10 +8,10 @@ use Rattle.scan.proofs.Scan.add_roots.Statement.{statement}
 use Rattle.scan.proofs.Scan.add_roots.Tie as tie
 
 abbrev Inv-loop : tie.InvT-loop
-Inv-loop self recs run₀ k count to₀ i₀ run to i = Adding (starts-at recs k) self run₀ count i to run
+Inv-loop self recs run₀ a count to₀ i₀ run to i = Adding (starts-at recs a) self run₀ count i to run
 
 abbrev μ-loop : tie.MeasureT-loop
-μ-loop self recs run₀ k count to₀ i₀ run to i = count - i
+μ-loop self recs run₀ a count to₀ i₀ run to i = count - i
 
 loop-holds : tie.Need-loop-holds Inv-loop μ-loop
 loop-holds c = add-start

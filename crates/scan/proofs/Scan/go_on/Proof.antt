@@ -7,10 +7,10 @@ use Rattle.scan.proofs.Scan.go_on.Statement.{statement}
 use Rattle.scan.proofs.Scan.go_on.Tie as tie
 
 abbrev Inv-loop : tie.InvT-loop
-Inv-loop names recs out run₀ k s₀ run s = Going-on (held-of names recs out k) (going s₀ run₀) (going s run)
+Inv-loop names recs lists run₀ k a s₀ run s = Going-on (held-of names recs lists k a) (going s₀ run₀) (going s run)
 
 abbrev μ-loop : tie.MeasureT-loop
-μ-loop names recs out run₀ k s₀ run s = unmet (k .named) run
+μ-loop names recs lists run₀ k a s₀ run s = unmet (k .names) run
 
 loop-holds : tie.Need-loop-holds Inv-loop μ-loop
 loop-holds c = on-start (c .before .before .before .before .pre .1)
@@ -23,28 +23,28 @@ same-length c =
     let round = c .before .before .before .before in
     let loop = round .before .before in
     let entry = loop .before .before .before .before .before in
-    on-length (entry .pre .0) (loop .loop .inv) (round .round .ensures)
+    on-length (entry .pre .0) (entry .args .a) (loop .loop .inv) (round .round .ensures)
 
 returns : tie.Need-returns Inv-loop μ-loop
 returns c =
     let round = c .before .before .before .before in
     let loop = round .before .before in
     let entry = loop .before .before .before .before .before in
-    on-end (entry .pre .0) (loop .loop .inv) (round .round .ensures) (not-true _ (c .if1 .taken))
+    on-end (entry .pre .0) (entry .args .a) (loop .loop .inv) (round .round .ensures) (not-true _ (c .if1 .taken))
 
 loop-less : tie.Need-loop-less Inv-loop μ-loop
 loop-less c =
     let round = c .before .before .before .before in
     let loop = round .before .before in
     let entry = loop .before .before .before .before .before in
-    on-less (entry .pre .0) (loop .loop .inv) (round .round .ensures) (not-false _ (c .if1 .left))
+    on-less (entry .pre .0) (entry .args .a) (loop .loop .inv) (round .round .ensures) (not-false _ (c .if1 .left))
 
 loop-again : tie.Need-loop-again Inv-loop μ-loop
 loop-again c =
     let round = c .before .before .before .before in
     let loop = round .before .before in
     let entry = loop .before .before .before .before .before in
-    on-next (entry .pre .0) (loop .loop .inv) (round .round .ensures) (not-false _ (c .if1 .left))
+    on-next (entry .pre .0) (entry .args .a) (loop .loop .inv) (round .round .ensures) (not-false _ (c .if1 .left))
 
 pub go-on-spec : {M : Type 1} → statement M
 go-on-spec = tie.close (tie.spec Inv-loop μ-loop loop-holds round-requires same-length returns loop-less loop-again)

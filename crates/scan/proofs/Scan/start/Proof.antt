@@ -1,16 +1,16 @@
--- `scan::Scan::start` meets its contract. The loop's invariant: the words so far are cleared.
+-- `scan::Scan::start` meets its contract. The loop's invariant: the words so far are zero.
 use Prim.Native.Nat.{_-_, _≤_}
 use native.Mathlib.Omega.{arith}
 use mathlib.Core.Path.{_≡_, ap, _∙_}
 use lib.ListN.{length}
 use Rattle.scan.specs.Steps.{going, work-column}
-use Rattle.scan.specs.Starts.{cleared, first-scan}
+use Rattle.scan.specs.Starts.{zeroed-to, first-scan}
 use Rattle.scan.proofs.Starting.{clear-start, clear-next, clear-length, clear-end}
 use Rattle.scan.proofs.Scan.start.Statement.{statement}
 use Rattle.scan.proofs.Scan.start.Tie as tie
 
 abbrev Inv-loop : tie.InvT-loop
-Inv-loop run₀ i₀ run i = (i ≤ work-column) × (run ≡ cleared i run₀)
+Inv-loop run₀ i₀ run i = (i ≤ work-column) × (run ≡ zeroed-to i run₀)
 
 abbrev μ-loop : tie.MeasureT-loop
 μ-loop run₀ i₀ run i = work-column - i

@@ -34,8 +34,8 @@ at-requires-2 c κs =
     let room = pre .0 .record-room in
     omega arith
 
-add-a : tie.Need-add-a
-add-a c =
+add-start : tie.Need-add-start
+add-start c =
     let pre = c .before .before .before .before .before .before .pre in
     let start = c .at2 .ensures in
     let place = pre .0 .entry-place _ (fact-low (pre .0) _ _ (pre .2) (c .before .at .ensures)) in
@@ -54,14 +54,14 @@ at-requires-3 c κs =
     let room = pre .0 .record-room in
     omega arith
 
-add-z : tie.Need-add-z
-add-z c =
+add-end : tie.Need-add-end
+add-end c =
     let pre = c .before .before .before .before .before .before .before .pre in
     let place = entries-place (pre .0) _ _ (pre .2) (c .before .before .at .ensures) _ _ (c .before .at2 .ensures) (c .at3 .ensures) in
     omega arith
 
-add-visits : tie.Need-add-visits
-add-visits c = let few = c .before .before .before .before .before .before .before .before .pre .1 .few-visits in omega arith
+add-fired : tie.Need-add-fired
+add-fired c = let few = c .before .before .before .before .before .before .before .before .pre .1 .few-visits in omega arith
 
 fires-requires : tie.Need-fires-requires
 fires-requires c κs =
@@ -86,7 +86,7 @@ returns c =
     let at = at2 .before in
     let entry = at .before .before .before .before .before in
     let pre = entry .pre in
-    visit-quiet (pre .0) _ _ (pre .2) (at .at .ensures) _ _ (at2 .at2 .ensures) (at3 .at3 .ensures) _ _ (fires .fires .ensures) _ (not-true _ (c .if1 .taken))
+    visit-quiet (pre .0) _ _ (pre .2) (at .at .ensures) _ _ (at2 .at2 .ensures) (at3 .at3 .ensures) (entry .args .a) _ _ (fires .fires .ensures) _ (not-true _ (c .if1 .taken))
 
 retained-requires : tie.Need-retained-requires
 retained-requires c κs =
@@ -106,7 +106,7 @@ returns-2 c =
     let at = at2 .before in
     let entry = at .before .before .before .before .before in
     let pre = entry .pre in
-    visit-dropped (pre .0) _ _ (pre .2) (at .at .ensures) _ _ (at2 .at2 .ensures) (at3 .at3 .ensures) _ _ (fires .fires .ensures) _ _
+    visit-dropped (pre .0) _ _ (pre .2) (at .at .ensures) _ _ (at2 .at2 .ensures) (at3 .at3 .ensures) (entry .args .a) _ _ (fires .fires .ensures) _ _
     (not-false _ (if1 .if1 .left))
     (retained .retained .ensures) (not-true _ (c .if2 .taken))
 
@@ -138,7 +138,7 @@ returns-3 c =
     let at = at2 .before in
     let entry = at .before .before .before .before .before in
     let pre = entry .pre in
-    visit-again (pre .0) _ _ (pre .2) (at .at .ensures) _ _ (at2 .at2 .ensures) (at3 .at3 .ensures) _ _ (fires .fires .ensures) _ _
+    visit-again (pre .0) _ _ (pre .2) (at .at .ensures) _ _ (at2 .at2 .ensures) (at3 .at3 .ensures) (entry .args .a) _ _ (fires .fires .ensures) _ _
     (not-false _ (if1 .if1 .left))
     (retained .retained .ensures) _ (not-false _ (if2 .if2 .left)) (at4 .at4 .ensures) (c .if3 .taken)
 
@@ -201,8 +201,8 @@ slice-write-run-2 c =
     let long = room .long in
     rw length-set (omega arith)
 
-add-fired : tie.Need-add-fired
-add-fired c =
+add-fired-2 : tie.Need-add-fired-2
+add-fired-2 c =
     let entry = c .before .before .before .before .before .before .before .before .before .before .before .before .before .before .before .before .before in
     let fits = entry .pre .1 .room .fits in omega arith
 
@@ -222,13 +222,13 @@ returns-4 c =
     let at = at2 .before in
     let entry = at .before .before .before .before .before in
     let pre = entry .pre in
-    visit-new (pre .0) _ _ (pre .2) (at .at .ensures) _ _ (at2 .at2 .ensures) (at3 .at3 .ensures) _ _ (fires .fires .ensures) _ _
+    visit-new (pre .0) _ _ (pre .2) (at .at .ensures) _ _ (at2 .at2 .ensures) (at3 .at3 .ensures) (entry .args .a) _ _ (fires .fires .ensures) _ _
     (not-false _ (if1 .if1 .left))
     (retained .retained .ensures) _ (not-false _ (if2 .if2 .left)) (at4 .at4 .ensures) (if3 .if3 .left)
 
 pub visit-spec : {M : Type 1} → statement M
 visit-spec =
     tie.close
-    (tie.spec add-at at-requires add-at-2 at-requires-2 add-a add-at-3 at-requires-3 add-z add-visits fires-requires same-length
+    (tie.spec add-at at-requires add-at-2 at-requires-2 add-start add-at-3 at-requires-3 add-end add-fired fires-requires same-length
     returns retained-requires same-length-2 returns-2 add-at-4 at-requires-4 same-length-3 returns-3 cast-run add-run
-    mul-run slice-write-run cast-run-2 add-run-2 mul-run-2 slice-write-run-2 add-fired same-length-4 returns-4)
+    mul-run slice-write-run cast-run-2 add-run-2 mul-run-2 slice-write-run-2 add-fired-2 same-length-4 returns-4)

@@ -6,10 +6,10 @@ use Rattle.scan.proofs.Scan.visit_chain.Statement.{statement}
 use Rattle.scan.proofs.Scan.visit_chain.Tie as tie
 
 abbrev Inv-loop : tie.InvT-loop
-Inv-loop names recs out run₀ k n s₀ next₀ run s next = Visited-to names recs out k (going s₀ run₀) n (going s run) next
+Inv-loop names recs lists run₀ k a n s₀ next₀ run s next = Visited-to names recs lists k a (going s₀ run₀) n (going s run) next
 
 abbrev μ-loop : tie.MeasureT-loop
-μ-loop names recs out run₀ k n s₀ next₀ run s next = next
+μ-loop names recs lists run₀ k a n s₀ next₀ run s next = next
 
 add-at : tie.Need-add-at Inv-loop μ-loop
 add-at c =
@@ -25,7 +25,7 @@ at-requires c κs =
     omega arith
 
 loop-holds : tie.Need-loop-holds Inv-loop μ-loop
-loop-holds c = let pre = c .before .before .before .before .before .pre in chain-start (pre .0) _ _ _ (pre .1) (pre .3) (c .at .ensures)
+loop-holds c = let pre = c .before .before .before .before .before .pre in chain-start (pre .0) _ _ _ _ (pre .1) (pre .3) (c .at .ensures)
 
 sub-visit : tie.Need-sub-visit Inv-loop μ-loop
 sub-visit c = omega (arith, c .before .loop-test .taken)
@@ -35,7 +35,7 @@ visit-requires c κs =
     let pre = c .before .before .before .before .before .before .before .before .pre in
     let inv = c .before .before .loop .inv in
     let small = inv .small in
-    (pre .0, chain-steady (pre .0) (pre .1) inv (pre .2), omega (arith, c .before .loop-test .taken))
+    (pre .0, chain-steady (pre .0) _ (pre .1) inv (pre .2), omega (arith, c .before .loop-test .taken))
 
 sub-at : tie.Need-sub-at Inv-loop μ-loop
 sub-at c = omega (arith, c .before .before .before .before .loop-test .taken)
@@ -60,7 +60,7 @@ loop-less c =
     let loop = test .before in
     let entry = loop .before .before .before .before .before .before in
     let pre = entry .pre in
-    chain-less (pre .0) (pre .1) (loop .loop .inv) (omega (arith, test .loop-test .taken)) (c .at2 .ensures)
+    chain-less (pre .0) _ (pre .1) (loop .loop .inv) (omega (arith, test .loop-test .taken)) (c .at2 .ensures)
 
 loop-again : tie.Need-loop-again Inv-loop μ-loop
 loop-again c =
@@ -69,7 +69,7 @@ loop-again c =
     let loop = test .before in
     let entry = loop .before .before .before .before .before .before in
     let pre = entry .pre in
-    chain-next (pre .0) (pre .1) (loop .loop .inv) (omega (arith, test .loop-test .taken)) (visit .visit .ensures) (c .at2 .ensures)
+    chain-next (pre .0) _ (pre .1) (loop .loop .inv) (omega (arith, test .loop-test .taken)) (visit .visit .ensures) (c .at2 .ensures)
 
 same-length : tie.Need-same-length Inv-loop μ-loop
 same-length c = c .before .loop .inv .same-length
@@ -78,7 +78,7 @@ returns : tie.Need-returns Inv-loop μ-loop
 returns c =
     let loop = c .before in
     let entry = loop .before .before .before .before .before .before in
-    let pre = entry .pre in chain-end (pre .0) (pre .1) (loop .loop .inv) (c .loop-test .left)
+    let pre = entry .pre in chain-end (pre .0) _ (pre .1) (loop .loop .inv) (c .loop-test .left)
 
 pub visit-chain-spec : {M : Type 1} → statement M
 visit-chain-spec =

@@ -7,13 +7,13 @@ use Rattle.scan.proofs.Scan.visit_new.Statement.{statement}
 use Rattle.scan.proofs.Scan.visit_new.Tie as tie
 
 abbrev Inv-loop : tie.InvT-loop
-Inv-loop names recs out run₀ k round named s₀ n₀ run s n = Swept names recs out k (going s₀ run₀) n (going s run)
+Inv-loop names recs lists run₀ k a round named s₀ n₀ run s n = Swept names recs lists k a (going s₀ run₀) n (going s run)
 
 abbrev μ-loop : tie.MeasureT-loop
-μ-loop names recs out run₀ k round named s₀ n₀ run s n = named - n
+μ-loop names recs lists run₀ k a round named s₀ n₀ run s n = named - n
 
 loop-holds : tie.Need-loop-holds Inv-loop μ-loop
-loop-holds c = sweep-start (c .before .before .before .before .pre .0) _
+loop-holds c = sweep-start (c .before .before .before .before .pre .0) _ _
 
 add-n : tie.Need-add-n Inv-loop μ-loop
 add-n c = let few = c .before .before .before .before .before .before .pre .0 .few-names in omega arith
@@ -23,7 +23,7 @@ at-requires c κs =
     let pre = c .before .before .before .before .before .before .before .pre in
     let few = pre .0 .few-names in
     let long = pre .1 .room .long in
-    let same = sweep-fired (pre .0) (pre .1) (c .before .before .loop .inv) .same-length in
+    let same = sweep-fired (pre .0) _ (pre .1) (c .before .before .loop .inv) .same-length in
     omega (arith, c .before .loop-test .taken)
 
 loop-less : tie.Need-loop-less Inv-loop μ-loop
@@ -35,7 +35,7 @@ loop-again c =
     let test = at .before .before in
     let loop = test .before in
     let entry = loop .before .before .before .before .before in
-    let pre = entry .pre in sweep-skip (pre .0) (pre .1) (loop .loop .inv) (test .loop-test .taken) _ (at .at .ensures) (c .if1 .taken)
+    let pre = entry .pre in sweep-skip (pre .0) _ (pre .1) (loop .loop .inv) (test .loop-test .taken) _ (at .at .ensures) (c .if1 .taken)
 
 visit-chain-requires : tie.Need-visit-chain-requires Inv-loop μ-loop
 visit-chain-requires c κs =
@@ -44,8 +44,8 @@ visit-chain-requires c κs =
     let entry = loop .before .before .before .before .before in
     let pre = entry .pre in
     let inv = loop .loop .inv in
-    let visits = sweep-visits (pre .0) (pre .1) inv in
-    (pre .0, sweep-steady (pre .0) (pre .1) inv (pre .2), omega (arith, pre .2), test .loop-test .taken)
+    let visits = sweep-visits (pre .0) _ (pre .1) inv in
+    (pre .0, sweep-steady (pre .0) _ (pre .1) inv (pre .2), omega (arith, pre .2), test .loop-test .taken)
 
 loop-less-2 : tie.Need-loop-less-2 Inv-loop μ-loop
 loop-less-2 c = omega arith
@@ -59,13 +59,13 @@ loop-again-2 c =
     let loop = test .before in
     let entry = loop .before .before .before .before .before in
     let pre = entry .pre in
-    sweep-next (pre .0) (pre .1) (loop .loop .inv) (test .loop-test .taken) _ (at .at .ensures) (if1 .if1 .left) (visit-chain .visit-chain .ensures)
+    sweep-next (pre .0) _ (pre .1) (loop .loop .inv) (test .loop-test .taken) _ (at .at .ensures) (if1 .if1 .left) (visit-chain .visit-chain .ensures)
 
 same-length : tie.Need-same-length Inv-loop μ-loop
-same-length c = let pre = c .before .before .before .before .before .before .pre in sweep-fired (pre .0) (pre .1) (c .before .loop .inv) .same-length
+same-length c = let pre = c .before .before .before .before .before .before .pre in sweep-fired (pre .0) _ (pre .1) (c .before .loop .inv) .same-length
 
 returns : tie.Need-returns Inv-loop μ-loop
-returns c = sweep-end (c .before .before .before .before .before .before .pre .0) (c .before .loop .inv) (c .loop-test .left)
+returns c = sweep-end (c .before .before .before .before .before .before .pre .0) _ (c .before .loop .inv) (c .loop-test .left)
 
 pub visit-new-spec : {M : Type 1} → statement M
 visit-new-spec =

@@ -1,0 +1,35 @@
+-- `fields::may_stand` meets its contract.
+use mathlib.Core.Path.{sym, ap, _∙_}
+use Rattle.fields.specs.Wording.{stands}
+use Rattle.fields.proofs.Words.{stands-ask, stands-term, stands-record, stands-none}
+use Rattle.fields.proofs.may_stand.Statement.{statement}
+use Rattle.fields.proofs.may_stand.Tie as tie
+
+enum-told : tie.Need-enum-told
+enum-told c = c .match .keys1
+
+enum-told-2 : tie.Need-enum-told-2
+enum-told-2 c = c .match .keys2
+
+enum-told-3 : tie.Need-enum-told-3
+enum-told-3 c = c .match .keys3
+
+enum-told-4 : tie.Need-enum-told-4
+enum-told-4 c = c .match .keys4
+
+returns : tie.Need-returns
+returns c = λ s p. stands-ask p ∙ ap (stands s) (sym (c .before .enum-told .given .1))
+
+returns-2 : tie.Need-returns-2
+returns-2 c = λ s p. stands-term p _ ∙ ap (stands s) (sym (c .before .enum-told2 .given .1))
+
+returns-3 : tie.Need-returns-3
+returns-3 c = λ s p. stands-record p _ ∙ ap (stands s) (sym (c .before .enum-told3 .given .1))
+
+returns-4 : tie.Need-returns-4
+returns-4 c = λ s p. stands-none s ∙ ap (stands s) (sym (c .enum-told4 .given .1))
+
+pub may-stand-spec : {M : Type 1} → statement M
+may-stand-spec =
+    tie.close
+    (tie.spec enum-told enum-told-2 enum-told-3 enum-told-4 returns returns-2 returns-3 returns-4)

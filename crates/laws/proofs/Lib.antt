@@ -1,0 +1,9 @@
+pub mod Records
+pub mod MapLaws
+pub mod MetLaws
+pub mod FiringLaws
+pub mod FuelLaws
+pub mod HistoryLaws
+pub mod ReachedLaws
+pub mod ReadingLaws
+pub mod OptionLaws

@@ -1,0 +1,54 @@
+-- The options that are on sum to the options number.
+use Prim.Native.Nat.{ℕ, zero, suc, _+_, _*_, _/_, _%_, _^_, _≤_, _<_}
+use native.Mathlib.Omega.{arith}
+use mathlib.Core.Path.{_≡_, refl, sym, ap}
+use mathlib.Core.Bool.{Bool, true, false, cond}
+use lib.Dec.{eqb}
+use borrow.Author.Tests.{eqb-true, eqb-false}
+use Rattle.model.specs.Reading.{Ask, no-ambients, pretyping-axioms, prune-decls}
+use Rattle.laws.specs.Places.{option-at, values-on}
+
+-- the option at place 0 counts what remains by 2
+last-digit : (n : ℕ) → cond (option-at 0 n) 1 0 ≡ n % 2
+unfolding option-at
+last-digit n = go (eqb (n % 2) 1) refl
+  where
+    go : (b : Bool) → eqb (n % 2) 1 ≡ b → cond b 1 0 ≡ n % 2
+    go true e = sym (eqb-true (n % 2) 1 e)
+    go false e = let other = eqb-false (n % 2) 1 e in omega arith
+
+-- the values of k options that are on sum to the number
+pub places-sum : (k n : ℕ) → n < 2 ^ k → values-on k n ≡ n
+unfolding values-on
+places-sum zero n h = omega arith
+places-sum (suc k) n h = omega (arith, last-digit n, places-sum k (n / 2) (omega arith))
+
+-- each option of an ask is at its place
+pub options-at-places : (a : Ask)
+    → (no-ambients a ≡ option-at 0 (a .options)) × (pretyping-axioms a ≡ option-at 1 (a .options)) × (prune-decls a ≡ option-at 2 (a .options))
+unfolding no-ambients pretyping-axioms prune-decls option-at
+options-at-places a = (refl, refl, ap (λ (n : ℕ). eqb (n % 2) 1) (let e : a .options / 4 ≡ a .options / 2 / 2 = omega arith in e))
+
+-- an option that is on counts its value
+counts : (b : Bool) (v : ℕ) → cond b v 0 ≡ v * cond b 1 0
+counts true v = omega arith
+counts false v = omega arith
+
+-- three options, by the places
+three-places : (n : ℕ) → values-on 3 n ≡ cond (option-at 0 n) 1 0 + 2 * (cond (option-at 1 n) 1 0 + 2 * (cond (option-at 2 n) 1 0 + 2 * 0))
+unfolding values-on option-at
+three-places n = refl
+
+-- the options of an ask that are on, each at its value, sum to its number
+pub options-sum : (a : Ask) → a .options ≤ 7
+    → cond (no-ambients a) 1 0 + cond (pretyping-axioms a) 2 0 + cond (prune-decls a) 4 0 ≡ a .options
+options-sum a h =
+    let (first, second, third) = options-at-places a in
+    rw (first, second, third)
+    (omega (
+      arith,
+      counts (option-at 1 (a .options)) 2,
+      counts (option-at 2 (a .options)) 4,
+      three-places (a .options),
+      places-sum 3 (a .options) (omega arith),
+    ))

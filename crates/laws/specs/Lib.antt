@@ -1,0 +1,4 @@
+pub mod Limits
+pub mod Fuel
+pub mod History
+pub mod Places

@@ -1,0 +1,146 @@
+-- `test_cases::run` is safe and ends.
+use mathlib.Core.Path.{refl}
+use borrow.Author.Needs.{needs}
+use native.Mathlib.Omega.{arith}
+use Rattle.test_cases.proofs.run.Statement.{statement}
+use Rattle.test_cases.proofs.run.Tie as tie
+
+slice-aggregate-soil : tie.Need-slice-aggregate-soil
+slice-aggregate-soil c = refl
+
+soil-requires : tie.Need-soil-requires
+soil-requires c κs = tt
+
+slice-aggregate-soil-2 : tie.Need-slice-aggregate-soil-2
+slice-aggregate-soil-2 c = refl
+
+soil-requires-2 : tie.Need-soil-requires-2
+soil-requires-2 c κs = tt
+
+slice-aggregate-soil-3 : tie.Need-slice-aggregate-soil-3
+slice-aggregate-soil-3 c = refl
+
+soil-requires-3 : tie.Need-soil-requires-3
+soil-requires-3 c κs = tt
+
+slice-aggregate-soil-4 : tie.Need-slice-aggregate-soil-4
+slice-aggregate-soil-4 c = refl
+
+soil-requires-4 : tie.Need-soil-requires-4
+soil-requires-4 c κs = tt
+
+slice-aggregate-soil-5 : tie.Need-slice-aggregate-soil-5
+slice-aggregate-soil-5 c = refl
+
+soil-requires-5 : tie.Need-soil-requires-5
+soil-requires-5 c κs = tt
+
+slice-aggregate-soil-6 : tie.Need-slice-aggregate-soil-6
+slice-aggregate-soil-6 c = refl
+
+soil-requires-6 : tie.Need-soil-requires-6
+soil-requires-6 c κs = tt
+
+slice-aggregate-soil-7 : tie.Need-slice-aggregate-soil-7
+slice-aggregate-soil-7 c = refl
+
+soil-requires-7 : tie.Need-soil-requires-7
+soil-requires-7 c κs = tt
+
+slice-aggregate-call : tie.Need-slice-aggregate-call
+slice-aggregate-call c = search needs
+
+slice-aggregate-call-2 : tie.Need-slice-aggregate-call-2
+slice-aggregate-call-2 c = search needs
+
+slice-aggregate-call-3 : tie.Need-slice-aggregate-call-3
+slice-aggregate-call-3 c = search needs
+
+slice-aggregate-call-4 : tie.Need-slice-aggregate-call-4
+slice-aggregate-call-4 c = search needs
+
+slice-aggregate-call-5 : tie.Need-slice-aggregate-call-5
+slice-aggregate-call-5 c = search needs
+
+slice-aggregate-call-6 : tie.Need-slice-aggregate-call-6
+slice-aggregate-call-6 c = search needs
+
+slice-aggregate-call-7 : tie.Need-slice-aggregate-call-7
+slice-aggregate-call-7 c = search needs
+
+call-requires : tie.Need-call-requires
+call-requires c κs = search needs
+
+slice-aggregate-print : tie.Need-slice-aggregate-print
+slice-aggregate-print c = search needs
+
+print-requires : tie.Need-print-requires
+print-requires c κs =
+    let at-call = c .before .before .before .before .before .before .before .before in
+    let at-pre = at-call .before .before .before .before .before .before .before .before .before .before .before .before .before .before .before .before .before .before .before .before .before .before .before .before .before .before .before .before .before .before in
+    (at-pre .pre .0, omega (arith, at-call .call .ensures))
+
+slice-aggregate-put-slices : tie.Need-slice-aggregate-put-slices
+slice-aggregate-put-slices c = search needs
+
+slice-aggregate-put-slices-2 : tie.Need-slice-aggregate-put-slices-2
+slice-aggregate-put-slices-2 c = search needs
+
+slice-aggregate-put-slices-3 : tie.Need-slice-aggregate-put-slices-3
+slice-aggregate-put-slices-3 c = search needs
+
+slice-aggregate-put-slices-4 : tie.Need-slice-aggregate-put-slices-4
+slice-aggregate-put-slices-4 c = search needs
+
+slice-aggregate-put-slices-5 : tie.Need-slice-aggregate-put-slices-5
+slice-aggregate-put-slices-5 c = search needs
+
+slice-aggregate-put-slices-6 : tie.Need-slice-aggregate-put-slices-6
+slice-aggregate-put-slices-6 c = search needs
+
+slice-aggregate-put-slices-7 : tie.Need-slice-aggregate-put-slices-7
+slice-aggregate-put-slices-7 c = search needs
+
+put-slices-requires : tie.Need-put-slices-requires
+put-slices-requires c κs = tt
+
+returns : tie.Need-returns
+returns c = tt
+
+pub run-spec : {M : Type 1} → statement M
+run-spec =
+    tie.close
+    (tie.spec
+    slice-aggregate-soil
+    soil-requires
+    slice-aggregate-soil-2
+    soil-requires-2
+    slice-aggregate-soil-3
+    soil-requires-3
+    slice-aggregate-soil-4
+    soil-requires-4
+    slice-aggregate-soil-5
+    soil-requires-5
+    slice-aggregate-soil-6
+    soil-requires-6
+    slice-aggregate-soil-7
+    soil-requires-7
+    slice-aggregate-call
+    slice-aggregate-call-2
+    slice-aggregate-call-3
+    slice-aggregate-call-4
+    slice-aggregate-call-5
+    slice-aggregate-call-6
+    slice-aggregate-call-7
+    call-requires
+    slice-aggregate-print
+    print-requires
+    slice-aggregate-put-slices
+    slice-aggregate-put-slices-2
+    slice-aggregate-put-slices-3
+    slice-aggregate-put-slices-4
+    slice-aggregate-put-slices-5
+    slice-aggregate-put-slices-6
+    slice-aggregate-put-slices-7
+    put-slices-requires
+    returns)

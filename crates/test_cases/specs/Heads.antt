@@ -1,0 +1,56 @@
+-- Head lines and the sizes that they give.
+use Prim.Native.Nat.{ℕ, _≤_}
+use mathlib.Core.Path.{_≡_}
+use mathlib.Core.List.{List}
+use lib.ListN.{length}
+use Rattle.test_cases.specs.declared.Sizes.{Sizes}
+use Rattle.test_cases.specs.declared.Size.{Size}
+use Rattle.test_cases.specs.declared.Size.the-variants as size
+use Rattle.test_cases.specs.declared.Head.{Head}
+use Rattle.test_cases.specs.declared.Head.the-variants as head
+
+-- the longest file, working slice and result slice of a case
+abbrev pub most-file : ℕ
+most-file = 131072
+
+abbrev pub most-work : ℕ
+most-work = 16400
+
+abbrev pub most-room : ℕ
+most-room = 1040
+
+-- sizes that a case may have
+pub record Sized (s : Sizes) : Type 0 where
+  pub file : s .length ≤ most-file
+  pub work-0 : s .n0 ≤ most-work
+  pub work-1 : s .n1 ≤ most-work
+  pub work-2 : s .n2 ≤ most-work
+  pub work-3 : s .n3 ≤ most-work
+  pub work-4 : s .n4 ≤ most-work
+  pub work-5 : s .n5 ≤ most-work
+  pub result : s .room ≤ most-room
+
+-- slices that are long enough to lend these sizes of them
+pub record Lends (w0 w1 w2 w3 w4 w5 out : List ℕ) (s : Sizes) : Type 0 where
+  pub lent-0 : s .n0 ≤ length w0
+  pub lent-1 : s .n1 ≤ length w1
+  pub lent-2 : s .n2 ≤ length w2
+  pub lent-3 : s .n3 ≤ length w3
+  pub lent-4 : s .n4 ≤ length w4
+  pub lent-5 : s .n5 ≤ length w5
+  pub lent-out : s .room ≤ length out
+
+-- a number that is at most so large
+abbrev pub At-most : ℕ → Size → Type 0
+At-most most (size.Words n next) = n ≤ most
+At-most most size.Nothing = Unit {0}
+
+-- a head with this name and good sizes
+abbrev pub Head-fits : ℕ → ℕ → Head → Type 0
+Head-fits start end (head.Case a e s) = (a ≡ start) × (e ≡ end) × Sized s
+Head-fits start end head.Bad = Unit {0}
+
+-- a head whose name lies in its line
+abbrev pub Name-placed : ℕ → Head → Type 0
+Name-placed room (head.Case a e s) = (a ≤ e) × (e ≤ room) × Sized s
+Name-placed room head.Bad = Unit {0}

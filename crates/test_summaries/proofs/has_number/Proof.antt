@@ -1,0 +1,37 @@
+-- `test_summaries::has_number` is safe and ends. The loop's invariant: the place is not before the first.
+use Prim.Native.Nat.{_-_, _≤_}
+use borrow.Author.Needs.{needs}
+use Rattle.test_summaries.proofs.has_number.Statement.{statement}
+use Rattle.test_summaries.proofs.has_number.Tie as tie
+
+abbrev Inv-loop : tie.InvT-loop
+Inv-loop lists a e n i₀ i = a ≤ i
+
+abbrev μ-loop : tie.MeasureT-loop
+μ-loop lists a e n i₀ i = e - i
+
+loop-holds : tie.Need-loop-holds Inv-loop μ-loop
+loop-holds c = search needs
+
+at-requires : tie.Need-at-requires Inv-loop μ-loop
+at-requires c κs = search needs
+
+returns : tie.Need-returns Inv-loop μ-loop
+returns c = search needs
+
+add-i : tie.Need-add-i Inv-loop μ-loop
+add-i c = search needs
+
+loop-less : tie.Need-loop-less Inv-loop μ-loop
+loop-less c = search needs
+
+loop-again : tie.Need-loop-again Inv-loop μ-loop
+loop-again c = search needs
+
+returns-2 : tie.Need-returns-2 Inv-loop μ-loop
+returns-2 c = search needs
+
+pub has-number-spec : {M : Type 1} → statement M
+has-number-spec =
+    tie.close
+    (tie.spec Inv-loop μ-loop loop-holds at-requires returns add-i loop-less loop-again returns-2)
