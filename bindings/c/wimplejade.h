@@ -24,7 +24,8 @@ extern "C" {
 /* The words that each working slice must have at least. */
 #define WIMPLEJADE_WORKING_WORDS 16384
 
-/* No accepted file keeps more lines: a result slice of so many words is never too short. */
+/* The most lines that an accepted file can keep. It is proved that a call over a result slice of so many words, or more, is
+ * never refused with WIMPLEJADE_ROOM. */
 #define WIMPLEJADE_MOST_KEPT 1024
 
 /* The bytes that a file may have. */

@@ -19,6 +19,7 @@ mod rules;
 mod several;
 #[cfg(test)]
 mod source;
+pub mod tables;
 mod terms;
 pub mod text;
 

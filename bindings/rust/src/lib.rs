@@ -45,7 +45,8 @@ use std::fmt;
 /// Words that each working slice must have.
 pub const WORKING_WORDS: usize = 16_384;
 
-/// The most lines that an accepted file can keep.
+/// The most lines that an accepted file can keep. It is proved that a call over a result slice of so many words, or more,
+/// is never refused with [`Refusal::Room`].
 pub const MOST_KEPT: usize = 1_024;
 
 /// The bytes that a file may have.

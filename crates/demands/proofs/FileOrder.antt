@@ -18,14 +18,14 @@ use Rattle.demands.proofs.SaidLines.{reached, Said-from, said-first, sa
 use Rattle.demands.proofs.RecordLines.{records-rise, roots-rise}
 
 -- every line of those that are read, and what it says
-unfoldable told : (ls : List Line) (n : ℕ) (s t : State) → read-lines exclude-names n s ls ≡ read t → List (Said-from n s ls)
+unfoldable pub told : (ls : List Line) (n : ℕ) (s t : State) → read-lines exclude-names n s ls ≡ read t → List (Said-from n s ls)
 told [] n s t e = []
 told (line ∷ ls) n s t e =
     let (u, r, others) = lines-read exclude-names n s line ls t e in
     said-first n s u line ls (line-read exclude-names n s line u r) ∷ map (said-later n s u line r) (told ls (n + 1) u t others)
 
 -- they stand on the lines from the n-th on
-told-places : (ls : List Line) (n : ℕ) (s t : State) (e : read-lines exclude-names n s ls ≡ read t)
+pub told-places : (ls : List Line) (n : ℕ) (s t : State) (e : read-lines exclude-names n s ls ≡ read t)
     → map (λ (w : Said-from n s ls). w .place) (told ls n s t e) ≡ numbers-from n (length ls)
 unfolding told numbers-from said-first said-later
 told-places [] n s t e = refl
@@ -90,12 +90,12 @@ record-said exclude terms n (retain names) = (refl, refl, refl, refl)
 record-said exclude terms n (root q name t) = (refl, refl, refl, refl)
 
 -- a line of a file, in the words of the statement
-unfoldable as-said : {file : List ℕ} → Said-from 1 start (lines file) → Said file
+unfoldable pub as-said : {file : List ℕ} → Said-from 1 start (lines file) → Said file
 unfolding reached
 as-said w = record { place = w .place; line = reached (w .at); content = w .content; says = record { ended = w .ended; parsed = w .parsed } }
 
 -- such a part of the state that is empty at first is what all lines say
-said-part : {X : Type 0} (file : List ℕ) (part : State → List X) (said : Says-by X) → part start ≡ [] → Adds-said part said
+pub said-part : {X : Type 0} (file : List ℕ) (part : State → List X) (said : Says-by X) → part start ≡ [] → Adds-said part said
     → (s : State) (e : read-lines exclude-names 1 start (lines file) ≡ read s)
     → part s ≡ collect (from-line (excluded exclude-names s) said) (map as-said (told (lines file) 1 start s e))
 unfolding as-said reached

@@ -33,3 +33,7 @@ pub mod Order
 pub mod OrderCases
 pub mod Options
 pub mod History
+pub mod FreeNames
+pub mod Decimal
+pub mod Bytes
+pub mod Printed

@@ -71,7 +71,7 @@ module _ {A : Type 0} where
         go no-value = no-value
 
     -- the law holds of the value where no field is left over
-    gives-end : (a : A) → law a → (fs : List Field) → Gives law (end a fs)
+    pub gives-end : (a : A) → law a → (fs : List Field) → Gives law (end a fs)
     unfolding end
     gives-end a h [] = value h
     gives-end a h (f ∷ fs) = no-value

@@ -53,7 +53,7 @@ pub record Term-sets (terms : List Term) : Type 0 where
   pub of-term : (t : Term) → List·Memᴰ t terms → Ascending (t .names)
 
 -- a set is what unions and parts of sets are
-set-law : Name-law Ascending
+pub set-law : Name-law Ascending
 set-law = record { of-none = empty; of-union = λ l m a b. ascending-union l b; of-diff = λ l m a. ascending-diff m a }
 
 module _ {terms : List Term} (sets : Term-sets terms) where
@@ -64,7 +64,7 @@ module _ {terms : List Term} (sets : Term-sets terms) where
 
   module _ (exclude : List Name) where
     -- the counted free names of a term are a set
-    free-set : (t : ℕ) → Ascending (free-top-level-names exclude terms t)
+    pub free-set : (t : ℕ) → Ascending (free-top-level-names exclude terms t)
     free-set = free-law set-law terms (sets .of-term) exclude
 
     -- what disjuncts are made of is a set each
@@ -108,7 +108,7 @@ module _ {terms : List Term} (sets : Term-sets terms) where
         }
 
 -- the names of the table after a line are sets
-sets-after : {terms : List Term} → Term-sets terms → (c : Content) → Term-sets (fold-left add-term terms (nodes c))
+pub sets-after : {terms : List Term} → Term-sets terms → (c : Content) → Term-sets (fold-left add-term terms (nodes c))
 sets-after sets c = fold-left-case Term-sets add-term (nodes c) (λ terms node i s. more-terms s node) sets
 
 -- a line that does not repeat takes no name that is taken

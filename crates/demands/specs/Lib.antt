@@ -8,8 +8,12 @@ pub mod Queries
 pub mod LineForm
 pub mod Demand1
 pub mod Slices
+pub mod Room
 pub mod FileOrder
 pub mod Counts
 pub mod Asks
 pub mod Order
 pub mod Options
+pub mod FreeNames
+pub mod Bytes
+pub mod Printed

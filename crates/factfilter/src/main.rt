@@ -7,7 +7,9 @@ use model::Answer;
 use model::Verdict;
 ghost use Prim.Native.Nat.{_≤_};
 ghost use lib.ListN.{length};
+ghost use Rattle.model.specs.Outcome.{most-kept};
 ghost use Rattle.factfilter.specs.Input.{bytes-read};
+ghost use Rattle.factfilter.specs.Filters.{Filters};
 
 // What reading standard input comes to: so many bytes to its end or up to a full buffer, or a read that failed.
 enum Input {
@@ -63,9 +65,10 @@ fn explain(a: Answer) {
     }
 }
 
-// Filters a file over slices that are long enough for every accepted one, and prints the answer.
-fn run(file: &[u8])
-    requires { ⌜ length (now file) ≤ 65536 ⌝ }
+// Filters a file over working slices of its own and a result slice that is long enough for every accepted file.
+fn filter_file(file: &[u8], out: &mut [u32]) -> Answer
+    requires { ⌜ most-kept ≤ length (now out) ⌝ }
+    ensures { λ a. ⌜ Filters (now (file .entry)) (now (out .entry)) a (now (out .exit)) ⌝ }
 {
     let mut w0 = [0u32; model::WORKING_WORDS];
     let mut w1 = [0u32; model::WORKING_WORDS];
@@ -73,8 +76,7 @@ fn run(file: &[u8])
     let mut w3 = [0u32; model::WORKING_WORDS];
     let mut w4 = [0u32; model::WORKING_WORDS];
     let mut w5 = [0u32; model::WORKING_WORDS];
-    let mut out = [0u32; model::MOST_RECORDS];
-    let a = filter::filter(
+    filter::filter(
         file,
         &mut w0,
         &mut w1,
@@ -82,8 +84,16 @@ fn run(file: &[u8])
         &mut w3,
         &mut w4,
         &mut w5,
-        &mut out,
-    );
+        out,
+    )
+}
+
+// Filters a file and prints the answer.
+fn run(file: &[u8])
+    requires { ⌜ length (now file) ≤ 65536 ⌝ }
+{
+    let mut out = [0u32; model::MOST_KEPT];
+    let a = filter_file(file, &mut out);
     if !print(file, a, &out) {
         io::write_all(STDERR_FILENO, b"standard output cannot be written\n");
         return;

@@ -17,7 +17,7 @@ use Rattle.records.proofs.Standing.{Beside, stocked-longer}
 use Rattle.macros.specs.Macros.{macro-count, start-word, macro-word, Macros-opened, Filled}
 
 -- the words of macros do not depend on the column
-macro-same : {names names′ : List ℕ} (recs : List ℕ) (named n : ℕ) → named ≤ most-names → n < most-names → Same-but macro-column most-names names names′
+macro-same : {names names′ : List ℕ} (recs : List ℕ) (named n : ℕ) → named ≤ most-names → n < most-names → Same-but macro-column named names names′
     → macro-word names′ recs named n ≡ macro-word names recs named n
 unfolding macro-word start-word
 macro-same {names} {names′} recs named n few low s =

@@ -66,9 +66,9 @@ found-word found code = cond (leb first-macro code && ltb code first-opened) (op
 unfoldable pub word-from : List ℕ → List ℕ → List ℕ → ℕ → ℕ
 word-from names recs found n = cond (is-def recs (taken-at names n)) (taken-at names n) (found-word found (name-code names n))
 
--- the macro column filled up to the n-th name, and nothing else changed
+-- the macro column filled up to the n-th name; every other word, those of the column past the names too, is as it was
 pub record Macros-opened (names recs names′ : List ℕ) (named n : ℕ) : Type 0 where
-  pub same : Same-but macro-column most-names names names′
+  pub same : Same-but macro-column named names names′
   pub macros : (m : ℕ) → m < n → macro-at names′ m ≡ macro-word names recs named m
 
 -- the tables after the last line, with the macro column filled: all that a run asks

@@ -90,6 +90,9 @@ pub const MOST_QUERY: u32 = 255;
 
 pub const MOST_OPTIONS: u32 = 7;
 
+// The lines that a call can keep: every record line of a file.
+pub const MOST_KEPT: usize = MOST_RECORDS;
+
 // The words of a working slice that a call uses.
 pub const WORKING_WORDS: usize = 16384;
 

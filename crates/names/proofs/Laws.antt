@@ -294,11 +294,16 @@ names-intro file w named n h = rw (names-listed file w named) (listed-intro (nam
 pub names-elim : (file w : List ℕ) (named : ℕ) (name : Name) → T (mem name (table-names file w named)) → (n : ℕ) × (n < named) × (name ≡ name-of file w n)
 names-elim file w named name t = listed-elim (name-of file w) named name (rw (names-listed file w named) at t)
 
--- the part of the file that a row says is the name of its number
+-- the part of the file from a start on is that of the row which says so
+pub part-row : (file w : List ℕ) (n start size : ℕ) → start ≡ getD w n 0 → size ≡ getD w (2048 + n) 0
+    → part file start (start + size) ≡ part file (getD w n 0) (getD w n 0 + getD w (2048 + n) 0)
+part-row file w n start size p q = rw (p, q)
+
+-- which is its name
 pub name-row : (file w : List ℕ) (n start size : ℕ) → start ≡ getD w n 0 → size ≡ getD w (2048 + n) 0
     → part file start (start + size) ≡ name-of file w n
 unfolding name-of
-name-row file w n start size p q = rw (p, q)
+name-row file w n start size p q = part-row file w n start size p q
 
 -- what is shared with the name of a number is shared with that part
 pub shared-row : (file w : List ℕ) (n start size : ℕ) (name : Name) (k : ℕ) → start ≡ getD w n 0 → size ≡ getD w (2048 + n) 0

@@ -5,7 +5,7 @@ ghost use lib.ListN.{length};
 ghost use Rattle.model.specs.Lists.{part};
 ghost use Rattle.model.specs.Reading.{most-names};
 ghost use Rattle.model.specs.Outcome.{working-words};
-ghost use Rattle.text.specs.Parts.{shared, comparison};
+ghost use Rattle.text.specs.Parts.{Is-part, shared, comparison};
 ghost use Rattle.names.specs.Known.{head-code, known-text};
 ghost use Rattle.names.specs.Table.{length-column, name-start, name-length, Table, is-excluded, name-of, table-names, look-up, index-with, spell-answer, spell-table};
 
@@ -168,10 +168,12 @@ fn put_index(w: &mut [u32], named: usize, rank: usize)
     w[INDEX + rank] = named as u32;
 }
 
-// The part of the file that holds a name's bytes.
+// The part of the file that holds a name's bytes, in its place.
 pub fn name_part<'a>(file: &'a [u8], w: &[u32], named: usize, n: usize) -> &'a [u8]
     requires { ⌜ Table (now file) (now w) named × (n < named) ⌝ }
-    ensures { λ r. ⌜ now r ≡ name-of (now (file .entry)) (now (w .entry)) n ⌝ }
+    ensures bytes { λ r. ⌜ now r ≡ name-of (now (file .entry)) (now (w .entry)) n ⌝ }
+    ensures place { λ r. ⌜ Is-part (file .entry) (name-start (now (w .entry)) n)
+        (name-start (now (w .entry)) n + name-length (now (w .entry)) n) r ⌝ }
 {
     let start = words::at(w, n);
     let len = words::at(w, LENGTH + n);

@@ -12,10 +12,11 @@ use borrow.Author.Count.{below-more}
 use borrow.Author.Tests.{leb-true, leb-false}
 use Rattle.model.specs.Lists.{part}
 use Rattle.model.specs.Lines.{lines, Field, fields, field-cons}
+use Rattle.model.specs.Text.{first-bytes, second, name-on}
 use Rattle.model.proofs.PartLaws.{part-cons, part-drop, part-length, part-nil, part-take}
 use Rattle.text.specs.Parts.{before, mark-at}
 use Rattle.text.proofs.Laws.{mark-from, mark-to, line-ended, line-last, line-none}
-use Rattle.printing.specs.Printed.{Starts, first-bytes, second, name-on}
+use Rattle.printing.specs.Printed.{Starts}
 
 -- ---- where lines start
 

@@ -13,8 +13,9 @@ use borrow.Author.Tests.{lt-ltb, le-ltb, leb-true, leb-false}
 use Rattle.io.specs.Digits as io
 use Rattle.model.specs.Names.{bytes}
 use Rattle.model.specs.Outcome.{refusal-number}
+use Rattle.model.specs.Text.{digits, show, comma, name-on, line, kept-line, sum-line, refused-line}
 use Rattle.model.specs.declared.Refusal.{Refusal}
-use Rattle.printing.specs.Printed.{digits, show, comma, Bytes-put, Text-begins, name-on, line, kept-line, sum-line, refused-line, reason, has-line, reason-line}
+use Rattle.printing.specs.Printed.{Bytes-put, Text-begins, reason, has-line, reason-line}
 
 -- ---- bytes
 

@@ -4,10 +4,11 @@ use model::Refusal;
 use model::Verdict;
 ghost use Prim.Native.Nat.{_+_, _≤_, _<_};
 ghost use mathlib.Core.Path.{_≡_};
-ghost use lib.ListN.{length, getD};
+ghost use lib.ListN.{length};
 ghost use Rattle.model.specs.Lists.{part};
 ghost use Rattle.model.specs.Lines.{fields};
-ghost use Rattle.printing.specs.Printed.{show, Bytes-put, Text-begins, Starts, second, name-on, kept-line, sum-line, refused-line, reason, has-line, reason-line, Answered, outcome-line};
+ghost use Rattle.model.specs.Text.{show, second, name-on, kept-line, sum-line, refused-line};
+ghost use Rattle.printing.specs.Printed.{Bytes-put, Text-begins, Starts, Same-from, Lies-in, reason, has-line, reason-line, Answered};
 
 // Writes bytes from a place on; where they end.
 fn put(text: &mut [u8], at: usize, bytes: &[u8]) -> usize
@@ -35,7 +36,8 @@ fn put_number(text: &mut [u8], at: usize, n: u32) -> usize
 // Where each line of a file starts; how many lines there are.
 pub fn line_starts(file: &[u8], starts: &mut [u32]) -> usize
     requires { ⌜ (length (now file) ≤ length (now starts)) × (length (now file) < 4294967296) ⌝ }
-    ensures { λ r. ⌜ Starts (now (file .entry)) (now (starts .exit)) r ⌝ }
+    ensures starts { λ r. ⌜ Starts (now (file .entry)) (now (starts .exit)) r ⌝ }
+    ensures rest { λ r. ⌜ Same-from r (now (starts .entry)) (now (starts .exit)) ⌝ }
 {
     let mut many: usize = 0;
     let mut from: usize = 0;
@@ -47,11 +49,11 @@ pub fn line_starts(file: &[u8], starts: &mut [u32]) -> usize
     many
 }
 
-// The second field of a part of the file.
+// The second field of a part of the file, in its place.
 fn second_field(file: &[u8], start: usize, end: usize) -> &[u8]
     requires { ⌜ (start ≤ end) × (end ≤ length (now file)) ⌝ }
     ensures { λ r. ⌜ (now r ≡ second (fields (part (now (file .entry)) start end)))
-        × (length (now r) ≤ length (now (file .entry))) ⌝ }
+        × (length (now r) ≤ length (now (file .entry))) × Lies-in (file .entry) r ⌝ }
 {
     let comma = text::find(file, b',', start, end);
     if comma == end {
@@ -62,10 +64,11 @@ fn second_field(file: &[u8], start: usize, end: usize) -> &[u8]
     &file[from..upto]
 }
 
-// The name on a line, its second field.
+// The name on a line, its second field, in its place in the file.
 fn name_on<'a>(file: &'a [u8], starts: &[u32], many: usize, line: u32) -> &'a [u8]
     requires { ⌜ Starts (now file) (now starts) many ⌝ }
-    ensures { λ r. ⌜ (now r ≡ name-on (now (file .entry)) line) × (length (now r) ≤ length (now (file .entry))) ⌝ }
+    ensures { λ r. ⌜ (now r ≡ name-on (now (file .entry)) line) × (length (now r) ≤ length (now (file .entry)))
+        × Lies-in (file .entry) r ⌝ }
 {
     let n = line as usize;
     if n == 0 {

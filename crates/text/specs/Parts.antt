@@ -1,10 +1,12 @@
 -- Positions in a file: lines, fields and what stands in them, over the definitions of `model`.
 use Prim.Native.Nat.{ℕ, _+_, _-_, _≤_}
+use mathlib.Core.Path.{_≡_}
 use mathlib.Core.Bool.{cond, _&&_}
 use mathlib.Core.List.{List, [], _∷_}
 use mathlib.Core.Option.{Option, none, some}
 use lib.ListN.{length}
 use lib.Dec.{leb, ltb, eqb}
+use denote.Ref.{RefT, ptr, now}
 use Rattle.model.specs.Lists.{when, _>>=_, part}
 use Rattle.model.specs.Names.{order}
 use Rattle.model.specs.Lines.{Field, fields, is-name, decimal, number}
@@ -16,6 +18,12 @@ use Rattle.text.specs.declared.FieldStep.{FieldStep}
 use Rattle.text.specs.declared.FieldStep.the-variants as field
 use Rattle.text.specs.declared.NumberStep.{NumberStep}
 use Rattle.text.specs.declared.NumberStep.the-variants as numbered
+
+-- a slice is the part of another from `a` up to `e`, in its place: in the same block, `a` bytes on
+pub record Is-part (s : RefT (List ℕ)) (a e : ℕ) (r : RefT (List ℕ)) : Type 0 where
+  pub bytes : now r ≡ part (now s) a e
+  pub block : ptr r .0 ≡ ptr s .0
+  pub offset : ptr r .1 ≡ ptr s .1 + a
 
 -- how many bytes stand before the first mark, or in all
 unfoldable pub before : ℕ → List ℕ → ℕ

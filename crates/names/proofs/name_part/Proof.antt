@@ -1,5 +1,6 @@
 -- `names::name_part` meets its contract.
-use Rattle.names.proofs.Laws.{name-row}
+use mathlib.Core.Path.{refl}
+use Rattle.names.proofs.Laws.{name-row, part-row}
 use native.Mathlib.Omega.{arith}
 use borrow.Author.Needs.{needs}
 use Rattle.names.proofs.name_part.Statement.{statement}
@@ -27,7 +28,13 @@ part-result-end : tie.Need-part-result-end
 part-result-end c = omega (arith, c .before .before .before .before .pre .0 .inside (c .before .before .before .before .args .n) (omega arith))
 
 returns : tie.Need-returns
-returns c = name-row _ _ _ _ _ (c .before .before .at .ensures) (c .before .at2 .ensures)
+returns c =
+    let args = c .before .before .before .before .before .args in
+    let start = c .before .before .at .ensures in
+    let size = c .before .at2 .ensures in (
+      name-row _ _ _ _ _ start size,
+      record { bytes = part-row _ (args .w .now) (args .n) _ _ start size; block = refl; offset = omega (arith, start) },
+    )
 
 pub name-part-spec : {M : Type 1} → statement M
 name-part-spec =

@@ -2,7 +2,9 @@
 use Prim.Native.Nat.{_-_}
 use mathlib.Core.Path.{_≡_, refl, _∙_}
 use lib.ListN.{length, length-set}
+use lib.Seq.{getD-set-other}
 use Rattle.text.proofs.Laws.{mark-from, mark-to}
+use Rattle.printing.specs.Printed.{Same-from}
 use Rattle.printing.proofs.Lines.{Starting, starting-start, starting-next, starting-end}
 use borrow.Author.Needs.{needs}
 use native.Mathlib.Omega.{arith}
@@ -10,13 +12,13 @@ use Rattle.printing.proofs.line_starts.Statement.{statement}
 use Rattle.printing.proofs.line_starts.Tie as tie
 
 abbrev Inv-loop : tie.InvT-loop
-Inv-loop file starts₀ many₀ from₀ starts many from = (length starts ≡ length starts₀) × Starting file starts many from
+Inv-loop file starts₀ many₀ from₀ starts many from = (length starts ≡ length starts₀) × Starting file starts many from × Same-from many starts₀ starts
 
 abbrev μ-loop : tie.MeasureT-loop
 μ-loop file starts₀ many₀ from₀ starts many from = length file - from
 
 loop-holds : tie.Need-loop-holds Inv-loop μ-loop
-loop-holds c = (refl, starting-start _ _)
+loop-holds c = (refl, starting-start _ _, λ k h. refl)
 
 cast-starts : tie.Need-cast-starts Inv-loop μ-loop
 cast-starts c = omega (arith, c .before .before .before .before .pre .1)
@@ -50,7 +52,7 @@ loop-again c =
     let at-pre = at-loop .before .before .before in
     let loop = at-loop .loop in
     let room = at-pre .pre .0 in
-    (length-set (loop .starts) (loop .many) (loop .from) ∙ loop .inv .0, starting-next _ _ _ _ _ (loop .inv .1) (omega arith) (omega (arith, loop .inv .1 .few, loop .inv .0)) (c .find .ensures))
+    (length-set (loop .starts) (loop .many) (loop .from) ∙ loop .inv .0, starting-next _ _ _ _ _ (loop .inv .1) (omega arith) (omega (arith, loop .inv .1 .few, loop .inv .0)) (c .find .ensures), λ k h. getD-set-other (loop .starts) (loop .many) k (loop .from) 0 (λ q. absurd (omega arith)) ∙ loop .inv .2 k (omega arith))
 
 same-length : tie.Need-same-length Inv-loop μ-loop
 same-length c = c .before .loop .inv .0
@@ -58,7 +60,7 @@ same-length c = c .before .loop .inv .0
 returns : tie.Need-returns Inv-loop μ-loop
 returns c =
     let loop = c .before .loop in
-    starting-end _ _ _ _ (loop .inv .1) (c .loop-test .left) (omega (arith, loop .inv .1 .bounded, loop .inv .0, c .before .before .before .before .pre .0))
+    (starting-end _ _ _ _ (loop .inv .1) (c .loop-test .left) (omega (arith, loop .inv .1 .bounded, loop .inv .0, c .before .before .before .before .pre .0)), loop .inv .2)
 
 pub line-starts-spec : {M : Type 1} → statement M
 line-starts-spec =

@@ -1,5 +1,6 @@
 -- `printing::second_field` meets its contract.
 use Prim.Native.Nat.{_+_}
+use mathlib.Core.Path.{refl}
 use Rattle.text.proofs.Laws.{mark-from, mark-to}
 use Rattle.printing.proofs.Lines.{part-short, second-none, second-some}
 use borrow.Author.Needs.{needs}
@@ -21,8 +22,11 @@ part-result-end c = search needs
 
 returns : tie.Need-returns
 returns c =
-    let args = c .before .before .before .before in
-    (second-none _ _ _ _ (c .before .before .find .ensures) (omega arith), part-short _ (args .args .end) (args .args .end) (args .pre .1))
+    let args = c .before .before .before .before in (
+      second-none _ _ _ _ (c .before .before .find .ensures) (omega arith),
+      part-short _ (args .args .end) (args .args .end) (args .pre .1),
+      (args .args .end, args .args .end, record { bytes = refl; block = refl; offset = omega arith }),
+    )
 
 add-from : tie.Need-add-from
 add-from c =
@@ -52,8 +56,11 @@ returns-2 c =
     let at-before = at-find .before in
     let args = at-before .before in
     let first = mark-to _ _ _ _ _ (at-find .find .ensures) (args .pre .0) (args .pre .1) in
-    let last = mark-to _ _ _ _ _ (at-find2 .find2 .ensures) (omega arith) (args .pre .1) in
-    (second-some _ _ _ _ _ (args .pre .1) (at-find .find .ensures) (omega arith) (at-find2 .find2 .ensures) last, part-short _ (at-find .find .result + 1) (at-find2 .find2 .result) (omega arith))
+    let last = mark-to _ _ _ _ _ (at-find2 .find2 .ensures) (omega arith) (args .pre .1) in (
+      second-some _ _ _ _ _ (args .pre .1) (at-find .find .ensures) (omega arith) (at-find2 .find2 .ensures) last,
+      part-short _ (at-find .find .result + 1) (at-find2 .find2 .result) (omega arith),
+      (at-find .find .result + 1, at-find2 .find2 .result, record { bytes = refl; block = refl; offset = omega arith }),
+    )
 
 pub second-field-spec : {M : Type 1} → statement M
 second-field-spec =

@@ -1,0 +1,1226 @@
+-- The small files of compare/cases with their summaries and answers, shown by computation as F1 to F10 are.
+-- Written by `tables` of compare/: compare/README.md says how.
+use mathlib.Core.Path.{refl}
+use mathlib.Core.List.{List, [], _∷_}
+use Rattle.model.proofs.Printing.{Small, prints, All-print}
+
+-- ambient-not-scanned to contract-13-l-quant-interp-both
+files-1 : List Small
+files-1 =
+    record {
+      name = "ambient-not-scanned";
+      file = "ask,0,0\nfree,p\nassume,amb,0,0\nall,0,1,1,0\nassume,z,0,1\n" ∷ [];
+      printed = "fact,3,ambient,0 free={p}\nfact,5,triggers,{p} free={p}\nkept,3,amb\nsum,1,0,1\n" ∷ [];
+    }
+    ∷ record {
+      name = "ambient-root-macro";
+      file = "ask,0,0\nfree,x\nfree,Tm_refine_1\ncall,HasType,0,1\nassume,h,0,2\nfree,y\ndef,x,3\nall,3,1,1,3\n"
+          ∷ "assume,a,0,4\n"
+          ∷ [];
+      printed = "fact,5,ambient,1 free={Tm_refine_1 x}\nfact,9,triggers,{y} free={y}\nkept,9,a\nkept,5,h\nsum,2,1,2\n" ∷ [];
+    }
+    ∷ record {
+      name = "ambient-root-pretyping-scanned";
+      file = "ask,0,0\nfree,x\ncall,Tm_refine_1,0\ncall,HasType,0,1\nassume,h,1,2\nall,0,1,1,0\nassume,a,0,3\n" ∷ [];
+      printed = "fact,5,ambient,1 free={Tm_refine_1 x}\nfact,7,triggers,{x} free={x}\nkept,7,a\nkept,5,h\nsum,2,1,2\n" ∷ [];
+    }
+    ∷ record {
+      name = "ambient-root-scanned";
+      file = "ask,0,0\nfree,x\ncall,Tm_refine_1,0\ncall,HasType,0,1\nassume,h,0,2\nall,0,1,1,0\nassume,a,0,3\n" ∷ [];
+      printed = "fact,5,ambient,1 free={Tm_refine_1 x}\nfact,7,triggers,{x} free={x}\nkept,7,a\nkept,5,h\nsum,2,1,2\n" ∷ [];
+    }
+    ∷ record {
+      name = "ambients-last-filed-first";
+      file = "ask,0,0\nfree,p\nop,other,0\nall,0,1,1,0\nassume,b,0,1\nassume,ab,0,2\nassume,c,1,1\nassume,a,0,2\n"
+          ∷ "assume,B,0,2\nassume,a-,0,1\nassume,~,0,2\nassume,a!,0,2\nroot,0,r,0\n"
+          ∷ [];
+      printed = "fact,5,ambient,0 free={p}\nfact,6,triggers,{p} free={p}\nfact,7,ambient,0 free={p}\n"
+          ∷ "fact,8,triggers,{p} free={p}\nfact,9,triggers,{p} free={p}\nfact,10,ambient,0 free={p}\n"
+          ∷ "fact,11,triggers,{p} free={p}\nfact,12,triggers,{p} free={p}\nkept,9,B\nkept,8,a\nkept,12,a!\n"
+          ∷ "kept,6,ab\nkept,11,~\nkept,10,a-\nkept,7,c\nkept,5,b\nsum,8,5,2\n"
+          ∷ [];
+    }
+    ∷ record {
+      name = "ambients-opt1-q1";
+      file = "ask,1,1\nfree,p\nfree,Tm_refine_1\ncall,HasType,0,1\nleaf\nassume,m1,1,2\nassume,m2,0,3\nassume,m0,0,2\n"
+          ∷ "all,3,1,1,0\nassume,z,0,4\nroot,1,r,0\n"
+          ∷ [];
+      printed = "fact,6,ambient,1 free={Tm_refine_1 p}\nfact,7,ambient,0 free={}\nfact,8,ambient,1 free={Tm_refine_1 p}\n"
+          ∷ "fact,10,triggers,{p} free={p}\nkept,10,z\nsum,1,1,2\n"
+          ∷ [];
+    }
+    ∷ record {
+      name = "contract-01-equation-without-pattern";
+      file = "ask,0,1\nfree,p\nfree,q\nop,eq,0,1\nassume,e,0,2\nroot,0,r,0\n" ∷ [];
+      printed = "fact,5,triggers,{p},{q} free={p q}\nkept,5,e\nsum,1,2,3\n" ∷ [];
+    }
+    ∷ record {
+      name = "contract-02-no-ambients-root-lost";
+      file = "ask,0,1\nfree,x\nfree,Tm_refine_1\ncall,HasType,0,1\nassume,h,0,2\nall,0,1,1,0\nassume,a,0,3\n" ∷ [];
+      printed = "fact,5,ambient,1 free={Tm_refine_1 x}\nfact,7,triggers,{x} free={x}\nsum,0,0,1\n" ∷ [];
+    }
+    ∷ record {
+      name = "contract-03-box-int-opens";
+      file = "ask,0,0\ncall,is-BoxInt\ncall,BoxInt\nall,0,1,1,1\nassume,a,0,2\nroot,0,r,0\n" ∷ [];
+      printed = "fact,5,triggers,{BoxInt} free={BoxInt is-BoxInt}\nkept,5,a\nsum,1,1,2\n" ∷ [];
+    }
+    ∷ record {
+      name = "contract-04-filed-twice";
+      file = "ask,0,0\nfree,p\nfree,q\nall,0,2,1,0,2,0,1\nassume,a,0,2\nroot,0,r,0\n" ∷ [];
+      printed = "fact,5,triggers,{p},{p q} free={p q}\nkept,5,a\nsum,1,3,3\n" ∷ [];
+    }
+    ∷ record {
+      name = "contract-05-pretyping-ambient";
+      file = "ask,0,0\nleaf\nassume,a,1,0\n" ∷ [];
+      printed = "fact,3,ambient,0 free={}\nkept,3,a\nsum,1,0,1\n" ∷ [];
+    }
+    ∷ record {
+      name = "contract-06-excluded-group";
+      file = "ask,0,0\nleaf\ncall,HasType,0,0\nfree,p\nall,2,1,1,1\nassume,a,0,3\ncall,HasType,2,2\nroot,0,r,4\n" ∷ [];
+      printed = "fact,6,triggers,{} free={p}\nsum,0,0,1\n" ∷ [];
+    }
+    ∷ record {
+      name = "contract-07-repeated-name";
+      file = "ask,0,0\nleaf\nassume,a,0,0\nfun,a\n" ∷ [];
+      printed = "refused,5,4\n" ∷ [];
+    }
+    ∷ record {
+      name = "contract-08-and-without-groups";
+      file = "ask,0,0\nfree,p\nop,and,0,0\nassume,a,0,1\nroot,0,r,0\n" ∷ [];
+      printed = "fact,4,triggers free={p}\nsum,0,0,1\n" ∷ [];
+    }
+    ∷ record {
+      name = "contract-09-token-excluded";
+      file = "ask,0,0\nfree,__uu__PartialApp\nfree,HasType\ncall,ApplyTT,0,1\ncall,Valid,2\nassume,a,0,3\ndef,g,1\n"
+          ∷ "call,g,1\nroot,0,r,4\n"
+          ∷ [];
+      printed = "fact,6,triggers,{HasType} free={__uu__PartialApp}\nsum,0,0,1\n" ∷ [];
+    }
+    ∷ record {
+      name = "contract-10-empty-disjunct-fires";
+      file = "ask,0,0\nfree,p\nfree,q\nall,0,2,0,2,0,1\nassume,a,0,2\nroot,0,r,0\n" ∷ [];
+      printed = "fact,5,triggers,{},{p q} free={p q}\nkept,5,a\nsum,1,2,3\n" ∷ [];
+    }
+    ∷ record {
+      name = "contract-11-waits-on";
+      file = "ask,0,0\nfree,p\nfree,q\nall,0,1,2,0,1\nassume,a,0,2\nroot,0,r,0\n" ∷ [];
+      printed = "fact,5,triggers,{p q} free={p q}\nsum,0,1,1\n" ∷ [];
+    }
+    ∷ record {
+      name = "contract-12-fun-excluded";
+      file = "ask,0,4\nleaf\nfun,Valid\ncall,Valid,0\nroot,0,r,1\n" ∷ [];
+      printed = "sum,0,0,1\n" ∷ [];
+    }
+    ∷ record {
+      name = "contract-13-l-quant-interp-both";
+      file = "ask,0,0\nfree,p\nfree,q\nall,1,1,1,0\nop,iff,2,1\nassume,l_quant_interp_1,0,3\nroot,0,r,0\n" ∷ [];
+      printed = "fact,6,triggers,{p q} free={p q}\nsum,0,1,1\n" ∷ [];
+    }
+    ∷ []
+
+-- a wrong one is named in the error
+pass-1 : All-print files-1
+unfolding prints files-1
+pass-1 = (refl, (refl, (refl, (refl, (refl, (refl, (refl, (refl, (refl, (refl, (refl, (refl, (refl, (refl, (refl, (refl, (refl, (refl, (refl, tt)))))))))))))))))))
+
+-- contract-14-assumption-waits to contract-31-pattern-name-met
+files-2 : List Small
+files-2 =
+    record {
+      name = "contract-14-assumption-waits";
+      file = "ask,0,0\nfree,p\ncall,Tm_refine_1\ncall,HasType,0,1\nassume,assumption_A,0,2\nroot,0,r,0\n" ∷ [];
+      printed = "fact,5,triggers,{Tm_refine_1 p} free={Tm_refine_1 p}\nsum,0,1,1\n" ∷ [];
+    }
+    ∷ record {
+      name = "contract-15-squash-with-pattern";
+      file = "ask,0,0\nfree,t\nfree,p\nall,1,1,1,1\ncall,Prims.squash,0,2\ncall,HasType,0,3\nassume,h,0,4\n"
+          ∷ "root,0,r,0\n"
+          ∷ [];
+      printed = "fact,7,triggers,{p} free={Prims.squash p t}\nsum,0,0,1\n" ∷ [];
+    }
+    ∷ record {
+      name = "contract-16-token-without-tok";
+      file = "ask,0,0\nfree,__uu__PartialApp\nfree,f\ncall,ApplyTT,0,1\ncall,Valid,2\nassume,a,0,3\ncall,f@tok\n"
+          ∷ "call,ApplyTT,0,4\nroot,0,r,5\n"
+          ∷ [];
+      printed = "fact,6,triggers,{f} free={__uu__PartialApp f}\nsum,0,0,1\n" ∷ [];
+    }
+    ∷ record {
+      name = "contract-17-token-with-argument";
+      file = "ask,0,0\nfree,__uu__PartialApp\nleaf\ncall,f,1\ncall,ApplyTT,0,2\ncall,Valid,3\nassume,a,0,4\n"
+          ∷ "root,0,r,2\n"
+          ∷ [];
+      printed = "fact,7,triggers free={__uu__PartialApp f}\nsum,0,0,1\n" ∷ [];
+    }
+    ∷ record {
+      name = "contract-18-is-tot-fun-trigger";
+      file = "ask,0,0\nleaf\ncall,IsTotFun,0\nall,1,1,1,1\nassume,a,0,2\nfree,y\ncall,IsTotFun,3\nroot,0,r,4\n" ∷ [];
+      printed = "fact,5,triggers,{IsTotFun} free={IsTotFun}\nkept,5,a\nsum,1,1,2\n" ∷ [];
+    }
+    ∷ record {
+      name = "contract-19-constr-id-left";
+      file = "ask,0,0\nfree,x\ncall,Term_constr_id,0\nfree,n\nop,eq,1,2\nassume,a,0,3\nroot,0,r,2\n" ∷ [];
+      printed = "fact,6,triggers,{Term_constr_id x},{n} free={Term_constr_id n x}\nkept,6,a\nsum,1,3,3\n" ∷ [];
+    }
+    ∷ record {
+      name = "contract-20-nested-and";
+      file = "ask,0,0\nfree,p\nfree,q\nop,eq,0,1\nall,0,1,1,0\nop,and,3,3\nop,and,2,4\nassume,c,0,5\nassume,e,0,2\n"
+          ∷ "root,0,r,0\n"
+          ∷ [];
+      printed = "fact,8,triggers free={p q}\nfact,9,triggers,{p},{q} free={p q}\nkept,9,e\nsum,1,2,3\n" ∷ [];
+    }
+    ∷ record {
+      name = "contract-21-and-empty-group";
+      file = "ask,0,0\nfree,p\nfree,q\nall,0,1,0\nall,0,1,2,0,1\nop,and,2,3\nassume,c,0,4\nroot,0,r,0\n" ∷ [];
+      printed = "fact,7,triggers,{},{p q} free={p q}\nkept,7,c\nsum,1,2,3\n" ∷ [];
+    }
+    ∷ record {
+      name = "contract-22-parts-alone";
+      file = "ask,0,0\nfree,p\nfree,q\nall,0,1,0\nall,0,1,2,0,1\nassume,a,0,2\nassume,b,0,3\nroot,0,r,0\n" ∷ [];
+      printed = "fact,6,triggers,{} free={p}\nfact,7,triggers,{p q} free={p q}\nsum,0,1,1\n" ∷ [];
+    }
+    ∷ record {
+      name = "contract-23-rule-6-before-8";
+      file = "ask,0,0\nfree,f\nfree,x\ncall,Term_constr_id,1\nop,eq,0,2\nassume,equation_f,0,3\nroot,0,r,0\n" ∷ [];
+      printed = "fact,6,triggers,{x} free={Term_constr_id f x}\nsum,0,0,1\n" ∷ [];
+    }
+    ∷ record {
+      name = "contract-24-iff-empty-side";
+      file = "ask,0,0\nleaf\nfree,q\ncall,p,1\nop,iff,0,2\nassume,a,0,3\ncall,p,0\nroot,0,r,4\n" ∷ [];
+      printed = "fact,6,triggers,{},{p q} free={p q}\nkept,6,a\nsum,1,2,3\n" ∷ [];
+    }
+    ∷ record {
+      name = "contract-25-labelled-true";
+      file = "ask,0,0\nop,true\nlabel,0\nassume,y,0,1\n" ∷ [];
+      printed = "fact,4,ambient,0 free={}\nkept,4,y\nsum,1,0,1\n" ∷ [];
+    }
+    ∷ record {
+      name = "contract-26-ambient-no-root";
+      file = "ask,0,0\nfree,p\nop,other,0\nassume,y,0,1\nall,0,1,1,0\nassume,a,0,2\n" ∷ [];
+      printed = "fact,4,ambient,0 free={p}\nfact,6,triggers,{p} free={p}\nkept,4,y\nsum,1,0,1\n" ∷ [];
+    }
+    ∷ record {
+      name = "contract-27-retained-name";
+      file = "ask,0,0\nfree,p\nall,0,1,1,0\nassume,a,0,1\nretain,a\n" ∷ [];
+      printed = "fact,4,triggers,{p} free={p}\nsum,0,0,1\n" ∷ [];
+    }
+    ∷ record {
+      name = "contract-28-triggered-again";
+      file = "ask,0,0\nfree,p\nfree,q\nop,eq,0,1\nassume,e,0,2\nroot,0,r,0\n" ∷ [];
+      printed = "fact,5,triggers,{p},{q} free={p q}\nkept,5,e\nsum,1,2,3\n" ∷ [];
+    }
+    ∷ record {
+      name = "contract-29-pretyping-triggered";
+      file = "ask,0,0\nfree,p\nall,0,1,1,0\nassume,z,1,1\nroot,0,r,0\n" ∷ [];
+      printed = "fact,4,triggers,{p} free={p}\nsum,0,1,2\n" ∷ [];
+    }
+    ∷ record {
+      name = "contract-30-macros-one-level";
+      file = "ask,0,0\nfree,h\nfree,k\ndef,g,0\ndef,h,1\nall,0,1,1,1\nassume,a,0,2\nfree,g\nroot,0,r,3\n" ∷ [];
+      printed = "fact,7,triggers,{k} free={h k}\nsum,0,0,1\n" ∷ [];
+    }
+    ∷ record {
+      name = "contract-31-pattern-name-met";
+      file = "ask,0,0\nfree,p\nfree,q\nleaf\nall,2,2,1,0,1,1\nall,2,1,1,1\nassume,a,0,3\nassume,b,0,4\nroot,0,r,0\n" ∷ [];
+      printed = "fact,7,triggers,{p},{q} free={p q}\nfact,8,triggers,{q} free={q}\nkept,7,a\nkept,8,b\nsum,2,3,3\n" ∷ [];
+    }
+    ∷ []
+
+-- a wrong one is named in the error
+pass-2 : All-print files-2
+unfolding prints files-2
+pass-2 = (refl, (refl, (refl, (refl, (refl, (refl, (refl, (refl, (refl, (refl, (refl, (refl, (refl, (refl, (refl, (refl, (refl, (refl, tt))))))))))))))))))
+
+-- contract-32-def-replaces-box to dropped-facts
+files-3 : List Small
+files-3 =
+    record {
+      name = "contract-32-def-replaces-box";
+      file = "ask,0,0\ncall,is-BoxInt\ncall,BoxInt\nall,0,1,1,1\nassume,a,0,2\nleaf\ndef,is-BoxInt,3\nroot,0,r,0\n" ∷ [];
+      printed = "fact,5,triggers,{BoxInt} free={BoxInt is-BoxInt}\nsum,0,0,1\n" ∷ [];
+    }
+    ∷ record {
+      name = "contract-33-body-not-followed";
+      file = "ask,0,4\nfree,f\nfun,f\ndef,g,0\ncall,g\nroot,0,r,1\n" ∷ [];
+      printed = "kept,4,g\nsum,1,0,1\n" ∷ [];
+    }
+    ∷ record {
+      name = "decls-by-ambient-and-root";
+      file = "ask,0,4\nfree,a\nfree,b\nfree,c\nfree,d\ndef,d,0\nfun,c\ndef,b,0\nfun,a\nop,other,1,2\nassume,amb,0,4\n"
+          ∷ "op,other,0,3\nroot,0,r,5\nroot,1,r,2\n"
+          ∷ [];
+      printed = "fact,11,ambient,0 free={b c}\nkept,11,amb\nkept,6,d\nkept,8,b\nkept,9,a\nkept,7,c\nsum,5,0,1\n" ∷ [];
+    }
+    ∷ record {
+      name = "decls-last-met-first";
+      file = "ask,0,4\nfree,f1\nfree,f2\nfree,f3\nfree,f4\nfree,f5\nfun,f2\nfun,f1\ndef,f5,0\nfun,f3\ndef,f4,0\n"
+          ∷ "call,f2,0,4\nall,5,1,1,3\nassume,z,0,6\nall,2,1,1,0\nassume,a,0,7\nop,other,3,0\nroot,0,r,8\n"
+          ∷ [];
+      printed = "fact,14,triggers,{f4} free={f1 f2 f4 f5}\nfact,16,triggers,{f1} free={f1 f3}\nkept,16,a\nkept,14,z\n"
+          ∷ "kept,9,f5\nkept,11,f4\nkept,7,f2\nkept,10,f3\nkept,8,f1\nsum,7,2,2\n"
+          ∷ [];
+    }
+    ∷ record {
+      name = "decls-no-follow";
+      file = "ask,0,4\nfree,a\nfree,b\nfun,a\ndef,b,0\nroot,0,r,1\n" ∷ [];
+      printed = "kept,5,b\nsum,1,0,1\n" ∷ [];
+    }
+    ∷ record {
+      name = "decls-not-by-opening";
+      file = "ask,0,4\nfree,g\nfree,h\nfun,h\ndef,g,1\nroot,0,r,0\n" ∷ [];
+      printed = "kept,5,g\nsum,1,0,1\n" ∷ [];
+    }
+    ∷ record {
+      name = "decls-of-unreached-fact";
+      file = "ask,0,4\nfree,p\nfree,q\nfun,q\nall,1,1,1,1\nassume,a,0,2\nfun,p\nroot,0,r,0\n" ∷ [];
+      printed = "fact,6,triggers,{q} free={q}\nkept,7,p\nsum,1,0,1\n" ∷ [];
+    }
+    ∷ record {
+      name = "decls-other-query";
+      file = "ask,0,4\nfree,g\nfun,g\nroot,1,r,0\n" ∷ [];
+      printed = "sum,0,0,1\n" ∷ [];
+    }
+    ∷ record {
+      name = "decls-same-name-as-root";
+      file = "ask,0,4\nfree,g\nfun,g\nroot,0,g,0\nroot,0,g,0\n" ∷ [];
+      printed = "kept,3,g\nsum,1,0,1\n" ∷ [];
+    }
+    ∷ record {
+      name = "dropped-facts";
+      file = "ask,0,0\nfree,p\nop,true,0\nassume,a,0,1\nassume,equation_a,0,1\nassume,l_quant_interp_a,0,1\n"
+          ∷ "assume,assumption_a,0,1\nroot,0,r,0\n"
+          ∷ [];
+      printed = "fact,4,drop free={p}\nfact,5,drop free={p}\nfact,6,drop free={p}\nfact,7,triggers,{p} free={p}\n"
+          ∷ "kept,7,assumption_a\nsum,1,1,2\n"
+          ∷ [];
+    }
+    ∷ []
+
+-- a wrong one is named in the error
+pass-3 : All-print files-3
+unfolding prints files-3
+pass-3 = (refl, (refl, (refl, (refl, (refl, (refl, (refl, (refl, (refl, (refl, tt))))))))))
+
+-- every-kind
+files-4 : List Small
+files-4 =
+    record {
+      name = "every-kind";
+      file = "ask,0,4\nfree,SFuel\nfree,ZFuel\nfree,HasType\nfree,HasTypeZ\nfree,HasTypeFuel\nfree,Valid\n"
+          ∷ "free,ApplyTT\nfree,ApplyTF\nfree,Prims.lex_t\nleaf\nfree,a\nfree,b\nfree,c\nfree,d\n"
+          ∷ "op,other,0,1,2,3,4,5,6,7,8,9\nall,9,9,1,0,1,1,1,2,1,3,1,4,1,5,1,6,1,7,1,8\nassume,nine,0,15\n"
+          ∷ "all,14,1,10,0,1,2,3,4,5,6,7,8,10\nassume,nine-and-a,0,16\ncall,BoxBool,9\ncall,BoxInt\nfree,BoxString\n"
+          ∷ "free,BoxReal\nfree,BoxProp\nall,9,1,1,17\nassume,box-bool,0,22\nall,9,1,1,18\nassume,box-int,0,23\n"
+          ∷ "all,9,1,1,19\nassume,box-string,0,24\nall,9,1,1,20\nassume,box-real,1,25\nall,9,1,1,21\n"
+          ∷ "assume,box-prop,0,26\nop,iff,10,11\nassume,l_quant_interp_1,0,27\nsome,11,1,1,12\n"
+          ∷ "assume,assumption_2,0,28\ncall,Tm_refine_3,10\ncall,HasType,11,29\nassume,rule-3-root,0,30\n"
+          ∷ "all,10,1,1,12\nlabel,31\ncall,Prims.squash,9,32\ncall,HasType,11,33\nassume,rule-3-payload,0,34\n"
+          ∷ "free,__uu__PartialApp\ncall,f@tok\ncall,ApplyTT,35,36\ncall,Valid,37\nassume,rule-4,0,38\n"
+          ∷ "call,Valid,10\nassume,rule-5-valid,0,39\ncall,HasType,11,10\nassume,rule-5-has-type,0,40\n"
+          ∷ "call,IsTotFun,12\nassume,rule-5-is-tot-fun,0,41\ncall,is-Tm_arrow,13\nassume,rule-5-is-tm-arrow,0,42\n"
+          ∷ "call,Term_constr_id,12\nop,eq,10,43\nassume,rule-6,0,44\nop,and,31,32,28\nassume,rule-7,0,45\n"
+          ∷ "op,eq,13,10\nassume,equation_8,0,46\ncall,Prims.hasEq,9,10\ncall,Valid,47\ncall,Prims.hasEq,9,11\n"
+          ∷ "call,Valid,49\nop,iff,48,50\nassume,rule-9-has-eq,0,51\nassume,rule-9,0,27\nassume,rule-10,0,46\n"
+          ∷ "op,true,10\nassume,rule-11,0,52\nlet,10,11,12\nassume,rule-12,0,53\ncall,is-BoxBool,9\ncall,is-BoxInt\n"
+          ∷ "free,is-BoxString\nfree,is-BoxReal\nfree,is-BoxProp\nop,and,14,54,55,56,57,58\ndef,d,9\ndef,g,53\n"
+          ∷ "fun,a\nfun,c\nfun,f\nretain,a,b\nroot,0,goal,59\ncall,g\nroot,1,other,60\n"
+          ∷ [];
+      printed = "fact,18,triggers,{},{},{},{},{},{},{},{},{} free={}\nfact,20,triggers,{a} free={a}\n"
+          ∷ "fact,27,triggers,{BoxBool} free={BoxBool}\nfact,29,triggers,{BoxInt} free={BoxInt}\n"
+          ∷ "fact,31,triggers,{BoxString} free={BoxString}\nfact,33,triggers,{BoxReal} free={BoxReal}\n"
+          ∷ "fact,35,triggers,{BoxProp} free={BoxProp}\nfact,37,triggers,{a} free={a b}\n"
+          ∷ "fact,39,triggers,{b c} free={b c}\nfact,42,ambient,1 free={Tm_refine_3 a b}\n"
+          ∷ "fact,47,triggers,{c} free={Prims.squash a b c}\n"
+          ∷ "fact,52,triggers,{f@tok},{f} free={__uu__PartialApp f@tok}\nfact,54,triggers,{a} free={a}\n"
+          ∷ "fact,56,triggers,{b} free={a b}\nfact,58,triggers,{c} free={IsTotFun c}\n"
+          ∷ "fact,60,triggers,{d} free={d is-Tm_arrow}\nfact,63,triggers,{c} free={Term_constr_id a c}\n"
+          ∷ "fact,65,triggers,{c},{c} free={a b c}\nfact,67,triggers,{d} free={a d}\n"
+          ∷ "fact,73,triggers,{a} free={Prims.hasEq a b}\nfact,74,triggers,{a},{b} free={a b}\n"
+          ∷ "fact,75,triggers,{d},{a} free={a d}\nfact,77,drop free={a}\nfact,79,ambient,0 free={a b c}\n"
+          ∷ "kept,27,box-bool\nkept,29,box-int\nkept,35,box-prop\nkept,31,box-string\nkept,67,equation_8\n"
+          ∷ "kept,37,l_quant_interp_1\nkept,20,nine-and-a\nkept,75,rule-10\nkept,56,rule-5-has-type\n"
+          ∷ "kept,60,rule-5-is-tm-arrow\nkept,54,rule-5-valid\nkept,74,rule-9\nkept,73,rule-9-has-eq\n"
+          ∷ "kept,79,rule-12\nkept,42,rule-3-root\nkept,86,d\nkept,89,c\nkept,88,a\nsum,18,17,3\n"
+          ∷ [];
+    }
+    ∷ []
+
+-- a wrong one is named in the error
+pass-4 : All-print files-4
+unfolding prints files-4
+pass-4 = (refl, tt)
+
+-- free-names-everywhere to macro-second-level-by-fact
+files-5 : List Small
+files-5 =
+    record {
+      name = "free-names-everywhere";
+      file = "ask,0,0\nfree,a\nfree,b\nfree,c\nfree,d\nfree,e\nfree,f\nfree,g\nfree,h\ncall,i,0\nop,other,1,8\n"
+          ∷ "all,2,2,1,3,1,9\nsome,4,1,1,10\nlet,5,6,11\nlabel,12\nop,eq,7,13\nassume,x,0,14\n"
+          ∷ "assume,equation_y,0,14\n"
+          ∷ [];
+      printed = "fact,17,triggers,{h},{a b c d e f g i} free={a b c d e f g h i}\n"
+          ∷ "fact,18,triggers,{h} free={a b c d e f g h i}\nsum,0,0,1\n"
+          ∷ [];
+    }
+    ∷ record {
+      name = "macro-box-each";
+      file = "ask,0,0\nfree,is-BoxBool\nfree,is-BoxInt\nfree,is-BoxString\nfree,is-BoxReal\nfree,is-BoxProp\n"
+          ∷ "free,BoxBool\nfree,BoxInt\nfree,BoxString\nfree,BoxReal\nfree,BoxProp\nleaf\nall,10,1,1,5\n"
+          ∷ "assume,a1,0,11\nall,10,1,1,6\nassume,a2,0,12\nall,10,1,1,7\nassume,a3,0,13\nall,10,1,1,8\n"
+          ∷ "assume,a4,0,14\nall,10,1,1,9\nassume,a5,0,15\nop,and,0,1,2,3,4\nroot,0,r,16\n"
+          ∷ [];
+      printed = "fact,14,triggers,{BoxBool} free={BoxBool}\nfact,16,triggers,{BoxInt} free={BoxInt}\n"
+          ∷ "fact,18,triggers,{BoxString} free={BoxString}\nfact,20,triggers,{BoxReal} free={BoxReal}\n"
+          ∷ "fact,22,triggers,{BoxProp} free={BoxProp}\nkept,14,a1\nkept,16,a2\nkept,18,a3\nkept,20,a4\nkept,22,a5\n"
+          ∷ "sum,5,5,2\n"
+          ∷ [];
+    }
+    ∷ record {
+      name = "macro-box-fun-does-not-replace";
+      file = "ask,0,4\ncall,is-BoxInt\ncall,BoxInt\nfun,is-BoxInt\nfun,BoxInt\nleaf\nall,2,1,1,1\nassume,a,0,3\n"
+          ∷ "root,0,r,0\n"
+          ∷ [];
+      printed = "fact,8,triggers,{BoxInt} free={BoxInt}\nkept,8,a\nkept,4,is-BoxInt\nkept,5,BoxInt\nsum,3,1,2\n" ∷ [];
+    }
+    ∷ record {
+      name = "macro-box-not-spelled";
+      file = "ask,0,4\ncall,is-BoxInt\nfun,is-BoxInt\nroot,0,r,0\n" ∷ [];
+      printed = "kept,3,is-BoxInt\nsum,1,0,1\n" ∷ [];
+    }
+    ∷ record {
+      name = "macro-box-other-way";
+      file = "ask,0,0\nfree,BoxInt\nfree,is-BoxInt\nall,0,1,1,1\nassume,a,0,2\nroot,0,r,0\n" ∷ [];
+      printed = "fact,5,triggers,{is-BoxInt} free={BoxInt is-BoxInt}\nsum,0,0,1\n" ∷ [];
+    }
+    ∷ record {
+      name = "macro-box-replaced-by-other";
+      file = "ask,0,0\ncall,is-BoxReal\nfree,BoxReal\nfree,p\nall,1,1,1,1\nassume,a,0,3\nall,2,1,1,2\nassume,b,0,4\n"
+          ∷ "root,0,r,0\ndef,is-BoxReal,2\n"
+          ∷ [];
+      printed = "fact,6,triggers,{BoxReal} free={BoxReal}\nfact,8,triggers,{p} free={p}\nkept,8,b\nsum,1,1,2\n" ∷ [];
+    }
+    ∷ record {
+      name = "macro-box-trimmed-token";
+      file = "ask,0,0\nfree,__uu__PartialApp\nfree,BoxInt@tok\ncall,ApplyTT,0,1\ncall,Valid,2\nassume,a,0,3\n"
+          ∷ "call,is-BoxInt\nroot,0,r,4\n"
+          ∷ [];
+      printed = "fact,6,triggers,{BoxInt@tok},{BoxInt} free={BoxInt@tok __uu__PartialApp}\nkept,6,a\nsum,1,2,3\n" ∷ [];
+    }
+    ∷ record {
+      name = "macro-def-after-root";
+      file = "ask,0,0\nfree,g\nfree,h\nall,1,1,1,1\nassume,a,0,2\nroot,0,r,0\ndef,g,1\n" ∷ [];
+      printed = "fact,5,triggers,{h} free={h}\nkept,5,a\nsum,1,1,2\n" ∷ [];
+    }
+    ∷ record {
+      name = "macro-of-excluded-name";
+      file = "ask,0,4\nfree,h\ndef,Valid,0\nall,0,1,1,0\nassume,a,0,1\ncall,Valid\nroot,0,r,2\n" ∷ [];
+      printed = "fact,5,triggers,{h} free={h}\nsum,0,0,1\n" ∷ [];
+    }
+    ∷ record {
+      name = "macro-of-itself";
+      file = "ask,0,4\nfree,g\ndef,g,0\nall,0,1,1,0\nassume,a,0,1\nroot,0,r,0\n" ∷ [];
+      printed = "fact,5,triggers,{g} free={g}\nkept,5,a\nkept,3,g\nsum,2,1,2\n" ∷ [];
+    }
+    ∷ record {
+      name = "macro-opens-to-excluded-name";
+      file = "ask,0,0\nfree,__uu__PartialApp\nfree,HasType@tok\ncall,ApplyTT,0,1\ncall,Valid,2\nassume,a,0,3\n"
+          ∷ "call,HasType\ndef,g,4\ncall,g\nroot,0,r,5\n"
+          ∷ [];
+      printed = "fact,6,triggers,{HasType@tok},{HasType} free={HasType@tok __uu__PartialApp}\nsum,0,0,1\n" ∷ [];
+    }
+    ∷ record {
+      name = "macro-second-level-by-fact";
+      file = "ask,0,0\nfree,h\nfree,k\nfree,g\ndef,g,0\ndef,h,1\nall,0,1,1,0\nassume,a,0,3\nall,1,1,1,1\n"
+          ∷ "assume,b,0,4\nroot,0,r,2\n"
+          ∷ [];
+      printed = "fact,8,triggers,{h} free={h}\nfact,10,triggers,{k} free={k}\nkept,8,a\nkept,10,b\nsum,2,2,3\n" ∷ [];
+    }
+    ∷ []
+
+-- a wrong one is named in the error
+pass-5 : All-print files-5
+unfolding prints files-5
+pass-5 = (refl, (refl, (refl, (refl, (refl, (refl, (refl, (refl, (refl, (refl, (refl, (refl, tt))))))))))))
+
+-- macro-second-level-not-by-trimmed-token to r-all-alone
+files-6 : List Small
+files-6 =
+    record {
+      name = "macro-second-level-not-by-trimmed-token";
+      file = "ask,0,0\nfree,h\nfree,k\nfree,g\ndef,g,0\ndef,h,1\nfree,__uu__PartialApp\nfree,h@tok\ncall,ApplyTT,3,4\n"
+          ∷ "call,Valid,5\nassume,a,0,6\nall,1,1,1,1\nassume,b,0,7\nroot,0,r,2\n"
+          ∷ [];
+      printed = "fact,11,triggers,{h@tok},{h} free={__uu__PartialApp h@tok}\nfact,13,triggers,{k} free={k}\nkept,11,a\n"
+          ∷ "sum,1,2,3\n"
+          ∷ [];
+    }
+    ∷ record {
+      name = "name-bytes";
+      file = "ask,0,4\nfree,!\nfree,~\nfree,\"\nfree,ask\nfree,65535\ncall,leaf,0,1,2,3,4\nfun,~\nfun,!\nfun,\"\n"
+          ∷ "fun,ask\nfun,65535\ndef,leaf,0\nroot,0,root,5\n"
+          ∷ [];
+      printed = "kept,13,leaf\nkept,8,~\nkept,11,ask\nkept,12,65535\nkept,10,\"\nkept,9,!\nsum,6,0,1\n" ∷ [];
+    }
+    ∷ record {
+      name = "not-retained-round";
+      file = "ask,0,0\nfree,p\nall,0,1,1,0\nassume,z,1,1\nroot,0,r,0\n" ∷ [];
+      printed = "fact,4,triggers,{p} free={p}\nsum,0,1,2\n" ∷ [];
+    }
+    ∷ record {
+      name = "ok-free-255";
+      file = "ask,0,0\n"
+          ∷ "free,xxxxxxxxxxxxxxxxxxxxxxxxxxxxxxxxxxxxxxxxxxxxxxxxxxxxxxxxxxxxxxxxxxxxxxxxxxxxxxxxxxxxxxxxxxxxxxxxxxxxxxxxxxxxxxxxxxxxxxxxxxxxxxxxxxxxxxxxxxxxxxxxxxxxxxxxxxxxxxxxxxxxxxxxxxxxxxxxxxxxxxxxxxxxxxxxxxxxxxxxxxxxxxxxxxxxxxxxxxxxxxxxxxxxxxxxxxxxxxxxxxxxxxxxxxxxxxx\n"
+          ∷ [];
+      printed = "sum,0,0,1\n" ∷ [];
+    }
+    ∷ record {
+      name = "ok-free-edge";
+      file = "ask,0,0\nfree,!\nfree,~\n" ∷ [];
+      printed = "sum,0,0,1\n" ∷ [];
+    }
+    ∷ record {
+      name = "ok-let";
+      file = "ask,0,0\nleaf\nlet,0\n" ∷ [];
+      printed = "sum,0,0,1\n" ∷ [];
+    }
+    ∷ record {
+      name = "ok-term5-4";
+      file = "ask,0,0\nleaf\nleaf\nleaf\nleaf\nleaf\nlabel,4\n" ∷ [];
+      printed = "sum,0,0,1\n" ∷ [];
+    }
+    ∷ record {
+      name = "option-1-with-option-4";
+      file = "ask,0,5\nfree,x\nfree,Tm_refine_1\ncall,HasType,0,1\nassume,h,0,2\nfun,x\ndef,Tm_refine_1,0\n" ∷ [];
+      printed = "fact,5,ambient,1 free={Tm_refine_1 x}\nsum,0,0,1\n" ∷ [];
+    }
+    ∷ record {
+      name = "order-fact-and-roots";
+      file = "ask,0,4\nfree,d\nfree,e\nfree,f\nfree,g\nfree,h\nop,other,3,4\nop,and,2,3\nop,and,0,2\nfun,h\nfun,d\n"
+          ∷ "fun,e\nfun,g\nfun,f\nassume,a,0,5\nroot,0,r,6\nroot,1,o,1\nroot,0,s,7\n"
+          ∷ [];
+      printed = "fact,15,ambient,0 free={g h}\nkept,15,a\nkept,11,d\nkept,14,f\nkept,10,h\nkept,13,g\nsum,5,0,1\n" ∷ [];
+    }
+    ∷ record {
+      name = "order-no-option-4";
+      file = "ask,0,0\nfree,n1\nfree,n2\nleaf\nop,and,0,1\nfun,n1\ndef,n2,2\nroot,0,r,3\n" ∷ [];
+      printed = "sum,0,0,1\n" ∷ [];
+    }
+    ∷ record {
+      name = "order-of-facts";
+      file = "ask,0,4\nfree,p\nfree,v\nfree,w\nfree,x\nfree,y\nall,2,1,1,0\nall,4,1,1,0\nfun,w\nfun,v\nfun,y\nfun,x\n"
+          ∷ "assume,z,0,5\nassume,a,0,6\nassume,m,0,1\nassume,n,0,3\nroot,0,r,0\n"
+          ∷ [];
+      printed = "fact,13,triggers,{p} free={p w}\nfact,14,triggers,{p} free={p y}\nfact,15,ambient,0 free={v}\n"
+          ∷ "fact,16,ambient,0 free={x}\nkept,14,a\nkept,13,z\nkept,16,n\nkept,15,m\nkept,10,v\nkept,12,x\nkept,9,w\n"
+          ∷ "kept,11,y\nsum,8,2,2\n"
+          ∷ [];
+    }
+    ∷ record {
+      name = "order-three-orders";
+      file = "ask,0,4\nfree,n1\nfree,n2\nfree,n3\nfree,n4\nfree,n5\nfree,n6\nleaf\nop,and,0,1,2,3,4,5\nfun,n3\n"
+          ∷ "def,n4,6\ndef,n2,6\nfun,n1\nfun,n5\ndef,n6,6\nroot,0,r,7\n"
+          ∷ [];
+      printed = "kept,15,n6\nkept,11,n4\nkept,12,n2\nkept,14,n5\nkept,10,n3\nkept,13,n1\nsum,6,0,1\n" ∷ [];
+    }
+    ∷ record {
+      name = "order-two-facts";
+      file = "ask,0,4\nfree,f\nfree,g\nfree,k\nop,other,0,1\nop,other,1,2\nfun,g\nfun,f\nfun,k\nassume,a,0,3\n"
+          ∷ "assume,b,0,4\n"
+          ∷ [];
+      printed = "fact,10,ambient,0 free={f g}\nfact,11,ambient,0 free={g k}\nkept,11,b\nkept,10,a\nkept,8,f\nkept,9,k\n"
+          ∷ "kept,7,g\nsum,5,0,1\n"
+          ∷ [];
+    }
+    ∷ record {
+      name = "r-3-beats-later-no-0a";
+      file = "ask,0,0\nlabel,x\nleaf" ∷ [];
+      printed = "refused,3,2\n" ∷ [];
+    }
+    ∷ record {
+      name = "r-5-def-fun";
+      file = "ask,0,0\nleaf\ndef,a,0\nfun,a\n" ∷ [];
+      printed = "refused,5,4\n" ∷ [];
+    }
+    ∷ record {
+      name = "r-5-fun-assume";
+      file = "ask,0,0\nleaf\nfun,a\nassume,a,0,0\n" ∷ [];
+      printed = "refused,5,4\n" ∷ [];
+    }
+    ∷ record {
+      name = "r-all-alone";
+      file = "ask,0,0\nleaf\nall\n" ∷ [];
+      printed = "refused,1,3\n" ∷ [];
+    }
+    ∷ []
+
+-- a wrong one is named in the error
+pass-6 : All-print files-6
+unfolding prints files-6
+pass-6 = (refl, (refl, (refl, (refl, (refl, (refl, (refl, (refl, (refl, (refl, (refl, (refl, (refl, (refl, (refl, (refl, (refl, tt)))))))))))))))))
+
+-- r-all-g-65536 to r-free-80
+files-7 : List Small
+files-7 =
+    record {
+      name = "r-all-g-65536";
+      file = "ask,0,0\nleaf\nall,0,65536\n" ∷ [];
+      printed = "refused,3,3\n" ∷ [];
+    }
+    ∷ record {
+      name = "r-all-g-huge-lacking";
+      file = "ask,0,0\nleaf\nall,0,65535\n" ∷ [];
+      printed = "refused,1,3\n" ∷ [];
+    }
+    ∷ record {
+      name = "r-all-lacking-count";
+      file = "ask,0,0\nleaf\nall,0,1\n" ∷ [];
+      printed = "refused,1,3\n" ∷ [];
+    }
+    ∷ record {
+      name = "r-ask-2";
+      file = "ask,0\n" ∷ [];
+      printed = "refused,1,1\n" ∷ [];
+    }
+    ∷ record {
+      name = "r-ask-comma";
+      file = "ask,0,0,\n" ∷ [];
+      printed = "refused,1,1\n" ∷ [];
+    }
+    ∷ record {
+      name = "r-ask-huge";
+      file = "ask,18446744073709551616,0\n" ∷ [];
+      printed = "refused,3,1\n" ∷ [];
+    }
+    ∷ record {
+      name = "r-assume-3";
+      file = "ask,0,0\nleaf\nassume,,2\n" ∷ [];
+      printed = "refused,1,3\n" ∷ [];
+    }
+    ∷ record {
+      name = "r-assume-4";
+      file = "ask,0,0\nleaf\nassume,a,1,1\n" ∷ [];
+      printed = "refused,4,3\n" ∷ [];
+    }
+    ∷ record {
+      name = "r-assume-4-before-5";
+      file = "ask,0,0\nleaf\nfun,a\nassume,a,0,1\n" ∷ [];
+      printed = "refused,4,4\n" ∷ [];
+    }
+    ∷ record {
+      name = "r-call-65535";
+      file = "ask,0,0\ncall,f,65535\n" ∷ [];
+      printed = "refused,4,2\n" ∷ [];
+    }
+    ∷ record {
+      name = "r-call-alone";
+      file = "ask,0,0\ncall\n" ∷ [];
+      printed = "refused,1,2\n" ∷ [];
+    }
+    ∷ record {
+      name = "r-call-comma";
+      file = "ask,0,0\nleaf\ncall,f,\n" ∷ [];
+      printed = "refused,3,3\n" ∷ [];
+    }
+    ∷ record {
+      name = "r-call-own";
+      file = "ask,0,0\nleaf\ncall,f,1\n" ∷ [];
+      printed = "refused,4,3\n" ∷ [];
+    }
+    ∷ record {
+      name = "r-cr-op";
+      file = "ask,0,0\nop,true\r\n" ∷ [];
+      printed = "refused,1,2\n" ∷ [];
+    }
+    ∷ record {
+      name = "r-def-2";
+      file = "ask,0,0\ndef,a\n" ∷ [];
+      printed = "refused,1,2\n" ∷ [];
+    }
+    ∷ record {
+      name = "r-empty";
+      file = [];
+      printed = "refused,1,1\n" ∷ [];
+    }
+    ∷ record {
+      name = "r-empty-line";
+      file = "ask,0,0\n\n" ∷ [];
+      printed = "refused,1,2\n" ∷ [];
+    }
+    ∷ record {
+      name = "r-free-00";
+      file = "ask,0,0\nfree,\0\n" ∷ [];
+      printed = "refused,2,2\n" ∷ [];
+    }
+    ∷ record {
+      name = "r-free-256";
+      file = "ask,0,0\n"
+          ∷ "free,xxxxxxxxxxxxxxxxxxxxxxxxxxxxxxxxxxxxxxxxxxxxxxxxxxxxxxxxxxxxxxxxxxxxxxxxxxxxxxxxxxxxxxxxxxxxxxxxxxxxxxxxxxxxxxxxxxxxxxxxxxxxxxxxxxxxxxxxxxxxxxxxxxxxxxxxxxxxxxxxxxxxxxxxxxxxxxxxxxxxxxxxxxxxxxxxxxxxxxxxxxxxxxxxxxxxxxxxxxxxxxxxxxxxxxxxxxxxxxxxxxxxxxxxxxxxxxxx\n"
+          ∷ [];
+      printed = "refused,2,2\n" ∷ [];
+    }
+    ∷ record {
+      name = "r-free-80";
+      file = "ask,0,0\nfree,\u{80}\n" ∷ [];
+      printed = "refused,2,2\n" ∷ [];
+    }
+    ∷ []
+
+-- a wrong one is named in the error
+pass-7 : All-print files-7
+unfolding prints files-7
+pass-7 = (refl, (refl, (refl, (refl, (refl, (refl, (refl, (refl, (refl, (refl, (refl, (refl, (refl, (refl, (refl, (refl, (refl, (refl, (refl, (refl, tt))))))))))))))))))))
+
+-- r-leaf-comma to rounds-empty-disjunct-late
+files-8 : List Small
+files-8 =
+    record {
+      name = "r-leaf-comma";
+      file = "ask,0,0\nleaf,\n" ∷ [];
+      printed = "refused,1,2\n" ∷ [];
+    }
+    ∷ record {
+      name = "r-let-alone";
+      file = "ask,0,0\nlet\n" ∷ [];
+      printed = "refused,1,2\n" ∷ [];
+    }
+    ∷ record {
+      name = "r-no-0a-1";
+      file = "ask,0,0" ∷ [];
+      printed = "refused,1,1\n" ∷ [];
+    }
+    ∷ record {
+      name = "r-no-0a-2";
+      file = "ask,0,0\nleaf" ∷ [];
+      printed = "refused,1,2\n" ∷ [];
+    }
+    ∷ record {
+      name = "r-op-word";
+      file = "ask,0,0\nop,false\n" ∷ [];
+      printed = "refused,1,2\n" ∷ [];
+    }
+    ∷ record {
+      name = "r-op-word-first";
+      file = "ask,0,0\nop,false,99\n" ∷ [];
+      printed = "refused,1,2\n" ∷ [];
+    }
+    ∷ record {
+      name = "r-retain-comma";
+      file = "ask,0,0\nretain,\n" ∷ [];
+      printed = "refused,2,2\n" ∷ [];
+    }
+    ∷ record {
+      name = "r-root-3";
+      file = "ask,0,0\nleaf\nroot,0,r\n" ∷ [];
+      printed = "refused,1,3\n" ∷ [];
+    }
+    ∷ record {
+      name = "r-root-q-256";
+      file = "ask,0,0\nleaf\nroot,256,,9\n" ∷ [];
+      printed = "refused,3,3\n" ∷ [];
+    }
+    ∷ record {
+      name = "r-some-3-before-lacking";
+      file = "ask,0,0\nleaf\nsome,0,1,2,x\n" ∷ [];
+      printed = "refused,3,3\n" ∷ [];
+    }
+    ∷ record {
+      name = "r-some-bad-body-first";
+      file = "ask,0,0\nleaf\nsome,x\n" ∷ [];
+      printed = "refused,3,3\n" ∷ [];
+    }
+    ∷ record {
+      name = "r-some-count-01";
+      file = "ask,0,0\nleaf\nsome,0,1,01,0\n" ∷ [];
+      printed = "refused,3,3\n" ∷ [];
+    }
+    ∷ record {
+      name = "r-some-lacking-second-count";
+      file = "ask,0,0\nleaf\nsome,0,2,0\n" ∷ [];
+      printed = "refused,1,3\n" ∷ [];
+    }
+    ∷ record {
+      name = "r-some-lacking-t";
+      file = "ask,0,0\nleaf\nsome,0,1,2,0\n" ∷ [];
+      printed = "refused,1,3\n" ∷ [];
+    }
+    ∷ record {
+      name = "r-term5-5";
+      file = "ask,0,0\nleaf\nleaf\nleaf\nleaf\nleaf\nlabel,5\n" ∷ [];
+      printed = "refused,4,7\n" ∷ [];
+    }
+    ∷ record {
+      name = "r-upper";
+      file = "ask,0,0\nLeaf\n" ∷ [];
+      printed = "refused,1,2\n" ∷ [];
+    }
+    ∷ record {
+      name = "repeated-roots-and-retained";
+      file = "ask,0,0\nfree,a\nfun,a\nretain,a,a,b\nretain\nroot,0,a,0\nroot,0,a,0\nroot,1,b,0\ndef,b,0\n" ∷ [];
+      printed = "sum,0,0,1\n" ∷ [];
+    }
+    ∷ record {
+      name = "retain-no-effect";
+      file = "ask,0,0\nretain\nretain,a,b,a\nleaf\nassume,a,0,0\n" ∷ [];
+      printed = "fact,5,ambient,0 free={}\nkept,5,a\nsum,1,0,1\n" ∷ [];
+    }
+    ∷ record {
+      name = "rounds-disjunct-in-two-rounds";
+      file = "ask,0,0\nfree,p\nfree,q\nleaf\nall,1,1,1,0\nassume,a,0,3\nall,2,1,2,0,1\nassume,b,0,4\nroot,0,r,0\n" ∷ [];
+      printed = "fact,6,triggers,{p} free={p q}\nfact,8,triggers,{p q} free={p q}\nkept,6,a\nkept,8,b\nsum,2,3,3\n" ∷ [];
+    }
+    ∷ record {
+      name = "rounds-empty-disjunct-late";
+      file = "ask,0,0\nfree,p\nfree,q\nleaf\nall,1,1,1,0\nassume,a,0,3\nall,2,2,0,1,1\nassume,b,0,4\nroot,0,r,0\n" ∷ [];
+      printed = "fact,6,triggers,{p} free={p q}\nfact,8,triggers,{},{q} free={q}\nkept,6,a\nkept,8,b\nsum,2,2,3\n" ∷ [];
+    }
+    ∷ []
+
+-- a wrong one is named in the error
+pass-8 : All-print files-8
+unfolding prints files-8
+pass-8 = (refl, (refl, (refl, (refl, (refl, (refl, (refl, (refl, (refl, (refl, (refl, (refl, (refl, (refl, (refl, (refl, (refl, (refl, (refl, (refl, tt))))))))))))))))))))
+
+-- rounds-empty-disjuncts-only to rule-0-two-groups
+files-9 : List Small
+files-9 =
+    record {
+      name = "rounds-empty-disjuncts-only";
+      file = "ask,0,0\nfree,p\nall,0,3,0,0,0\nassume,a,0,1\nroot,0,r,0\n" ∷ [];
+      printed = "fact,4,triggers,{},{},{} free={p}\nsum,0,0,1\n" ∷ [];
+    }
+    ∷ record {
+      name = "rounds-equal-disjuncts-count-apart";
+      file = "ask,0,0\nfree,p\nleaf\nall,1,3,1,0,1,0,1,0\nassume,a,0,2\nroot,0,r,0\n" ∷ [];
+      printed = "fact,5,triggers,{p},{p},{p} free={p}\nkept,5,a\nsum,1,3,2\n" ∷ [];
+    }
+    ∷ record {
+      name = "rounds-name-met-twice";
+      file = "ask,0,0\nfree,p\nall,0,1,1,0\nassume,a,0,1\nassume,b,0,1\nroot,0,r,0\nroot,0,s,0\n" ∷ [];
+      printed = "fact,4,triggers,{p} free={p}\nfact,5,triggers,{p} free={p}\nkept,4,a\nkept,5,b\nsum,2,2,2\n" ∷ [];
+    }
+    ∷ record {
+      name = "rounds-no-root";
+      file = "ask,1,0\nfree,p\nall,0,1,1,0\nassume,a,0,1\nroot,0,r,0\n" ∷ [];
+      printed = "fact,4,triggers,{p} free={p}\nsum,0,0,1\n" ∷ [];
+    }
+    ∷ record {
+      name = "rounds-not-retained-brings-nothing";
+      file = "ask,0,0\nfree,p\nfree,q\nall,1,1,1,0\nassume,z,1,2\nleaf\nall,3,1,1,1\nassume,f,0,4\nroot,0,r,0\n" ∷ [];
+      printed = "fact,5,triggers,{p} free={p q}\nfact,8,triggers,{q} free={q}\nsum,0,1,2\n" ∷ [];
+    }
+    ∷ record {
+      name = "rounds-not-retained-each-round";
+      file = "ask,0,0\nfree,p\nfree,q\nfree,s\nall,0,3,1,0,1,1,1,2\nassume,z,1,3\nall,1,1,1,0\nassume,a,0,4\n"
+          ∷ "all,2,1,1,1\nassume,b,0,5\nroot,0,r,0\n"
+          ∷ [];
+      printed = "fact,6,triggers,{p},{q},{s} free={p q s}\nfact,8,triggers,{p} free={p q}\n"
+          ∷ "fact,10,triggers,{q} free={q s}\nkept,8,a\nkept,10,b\nsum,2,5,4\n"
+          ∷ [];
+    }
+    ∷ record {
+      name = "rounds-not-retained-each-round-option-2";
+      file = "ask,0,2\nfree,p\nfree,q\nfree,s\nall,0,3,1,0,1,1,1,2\nassume,z,1,3\nall,1,1,1,0\nassume,a,0,4\n"
+          ∷ "all,2,1,1,1\nassume,b,0,5\nroot,0,r,0\n"
+          ∷ [];
+      printed = "fact,6,triggers,{p},{q},{s} free={p q s}\nfact,8,triggers,{p} free={p q}\n"
+          ∷ "fact,10,triggers,{q} free={q s}\nkept,8,a\nkept,10,b\nkept,6,z\nsum,3,5,3\n"
+          ∷ [];
+    }
+    ∷ record {
+      name = "rounds-reached-again-with-another";
+      file = "ask,0,0\nfree,p\nfree,q\nop,eq,0,1\nassume,e,0,2\nleaf\nall,3,1,1,1\nassume,f,0,4\nroot,0,r,0\n" ∷ [];
+      printed = "fact,5,triggers,{p},{q} free={p q}\nfact,8,triggers,{q} free={q}\nkept,5,e\nkept,8,f\nsum,2,3,3\n" ∷ [];
+    }
+    ∷ record {
+      name = "rounds-root-of-other-query";
+      file = "ask,3,0\nfree,p\nfree,q\nleaf\nall,2,1,2,0,1\nassume,a,0,3\nroot,3,r,0\nroot,2,r,1\n" ∷ [];
+      printed = "fact,6,triggers,{p q} free={p q}\nsum,0,1,1\n" ∷ [];
+    }
+    ∷ record {
+      name = "rounds-term-shared-by-roots";
+      file = "ask,0,0\nfree,p\nop,other,0,0\nop,other,1,1\nop,other,2,2\nall,3,1,1,3\nassume,a,0,4\nroot,0,r,3\n"
+          ∷ "root,0,r,4\n"
+          ∷ [];
+      printed = "fact,7,triggers,{p} free={p}\nkept,7,a\nsum,1,1,2\n" ∷ [];
+    }
+    ∷ record {
+      name = "rounds-two-halves";
+      file = "ask,0,0\nfree,p\nfree,q\nfree,s\nfree,t\nall,0,2,2,0,2,2,1,3\nassume,a,0,4\nop,other,0,1\nroot,0,r,5\n" ∷ [];
+      printed = "fact,7,triggers,{p s},{q t} free={p q s t}\nsum,0,2,1\n" ∷ [];
+    }
+    ∷ record {
+      name = "rounds-two-roots-complete";
+      file = "ask,3,0\nfree,p\nfree,q\nleaf\nall,2,1,2,0,1\nassume,a,0,3\nroot,3,r,0\nroot,2,r,2\nroot,3,r,1\n" ∷ [];
+      printed = "fact,6,triggers,{p q} free={p q}\nkept,6,a\nsum,1,2,2\n" ∷ [];
+    }
+    ∷ record {
+      name = "rounds-visit-without-firing";
+      file = "ask,0,0\nfree,p\nfree,q\nfree,s\nall,0,2,2,0,1,2,0,2\nassume,a,0,3\nall,0,1,2,0,1\nassume,b,1,4\n"
+          ∷ "root,0,r,0\n"
+          ∷ [];
+      printed = "fact,6,triggers,{p q},{p s} free={p q s}\nfact,8,triggers,{p q} free={p q}\nsum,0,3,1\n" ∷ [];
+    }
+    ∷ record {
+      name = "rule-0-body-all";
+      file = "ask,0,0\nfree,p\nall,0,1,1,0\nall,1,0\nassume,a,0,2\n" ∷ [];
+      printed = "fact,5,ambient,0 free={p}\nkept,5,a\nsum,1,0,1\n" ∷ [];
+    }
+    ∷ record {
+      name = "rule-0-excluded-in-group";
+      file = "ask,0,0\nfree,p\ncall,HasType,0,0\ncall,Valid\nall,0,3,1,1,1,2,2,0,2\nassume,a,0,3\n" ∷ [];
+      printed = "fact,6,triggers,{p},{},{p} free={p}\nsum,0,0,1\n" ∷ [];
+    }
+    ∷ record {
+      name = "rule-0-no-group-assumption";
+      file = "ask,0,0\nfree,p\nfree,q\nall,0,0\nassume,assumption_1,0,2\n" ∷ [];
+      printed = "fact,5,triggers,{p} free={p}\nsum,0,0,1\n" ∷ [];
+    }
+    ∷ record {
+      name = "rule-0-some";
+      file = "ask,0,0\nfree,p\nsome,0,1,1,0\nassume,a,0,1\nassume,assumption_a,0,1\n" ∷ [];
+      printed = "fact,4,ambient,0 free={p}\nfact,5,triggers,{p} free={p}\nkept,4,a\nsum,1,0,1\n" ∷ [];
+    }
+    ∷ record {
+      name = "rule-0-two-groups";
+      file = "ask,0,0\nfree,p\nfree,q\nall,0,2,1,0,2,0,1\nassume,x,0,2\n" ∷ [];
+      printed = "fact,5,triggers,{p},{p q} free={p q}\nsum,0,0,1\n" ∷ [];
+    }
+    ∷ []
+
+-- a wrong one is named in the error
+pass-9 : All-print files-9
+unfolding prints files-9
+pass-9 = (refl, (refl, (refl, (refl, (refl, (refl, (refl, (refl, (refl, (refl, (refl, (refl, (refl, (refl, (refl, (refl, (refl, (refl, tt))))))))))))))))))
+
+-- rule-0-under-names to rule-3-hastype-3
+files-10 : List Small
+files-10 =
+    record {
+      name = "rule-0-under-names";
+      file = "ask,0,0\nfree,p\nfree,q\nall,1,1,1,0\nassume,assumption_1,0,2\nassume,equation_1,0,2\n"
+          ∷ "assume,l_quant_interp_1,0,2\nlabel,2\nlabel,3\nassume,a,0,4\n"
+          ∷ [];
+      printed = "fact,5,triggers,{p} free={p q}\nfact,6,triggers,{p} free={p q}\nfact,7,triggers,{p} free={p q}\n"
+          ∷ "fact,10,triggers,{p} free={p q}\nsum,0,0,1\n"
+          ∷ [];
+    }
+    ∷ record {
+      name = "rule-1";
+      file = "ask,0,0\nfree,p\nfree,q\nop,iff,0,1\nassume,l_quant_interp,0,2\n" ∷ [];
+      printed = "fact,5,triggers,{p} free={p q}\nsum,0,0,1\n" ∷ [];
+    }
+    ∷ record {
+      name = "rule-1-before-2";
+      file = "ask,0,0\nfree,p\nfree,q\nop,iff,0,1\nassume,l_quant_interp,0,2\nassume,l_quant_inter,0,2\n"
+          ∷ "assume,assumption_l,0,2\n"
+          ∷ [];
+      printed = "fact,5,triggers,{p} free={p q}\nfact,6,triggers,{p},{q} free={p q}\nfact,7,triggers,{p q} free={p q}\n"
+          ∷ "sum,0,0,1\n"
+          ∷ [];
+    }
+    ∷ record {
+      name = "rule-1-eq";
+      file = "ask,0,0\nfree,p\nfree,q\nop,eq,0,1\nassume,l_quant_interp_1,0,2\n" ∷ [];
+      printed = "fact,5,triggers,{p},{q} free={p q}\nsum,0,0,1\n" ∷ [];
+    }
+    ∷ record {
+      name = "rule-1-labelled";
+      file = "ask,0,0\nfree,p\nfree,q\nop,iff,0,1\nlabel,2\nassume,l_quant_interp_a,0,3\n" ∷ [];
+      printed = "fact,6,ambient,0 free={p q}\nkept,6,l_quant_interp_a\nsum,1,0,1\n" ∷ [];
+    }
+    ∷ record {
+      name = "rule-1-three";
+      file = "ask,0,0\nfree,p\nfree,q\nop,iff,0,1,1\nassume,l_quant_interp_1,0,2\n" ∷ [];
+      printed = "fact,5,ambient,0 free={p q}\nkept,5,l_quant_interp_1\nsum,1,0,1\n" ∷ [];
+    }
+    ∷ record {
+      name = "rule-10";
+      file = "ask,0,0\nfree,p\nfree,q\nop,eq,1,0\nassume,x,0,2\n" ∷ [];
+      printed = "fact,5,triggers,{q},{p} free={p q}\nsum,0,0,1\n" ∷ [];
+    }
+    ∷ record {
+      name = "rule-11";
+      file = "ask,0,0\nfree,p\nfree,q\nop,true,0\nassume,x,0,2\n" ∷ [];
+      printed = "fact,5,drop free={p}\nsum,0,0,1\n" ∷ [];
+    }
+    ∷ record {
+      name = "rule-11-words";
+      file = "ask,0,0\nfree,p\nop,true\nassume,a,0,1\nop,true,0,0,0\nassume,b,0,2\nop,and\nassume,c,0,3\nop,other\n"
+          ∷ "assume,d,0,4\nop,iff\nassume,e,0,5\nop,eq\nassume,f,0,6\nlabel,1\nassume,g,0,7\n"
+          ∷ [];
+      printed = "fact,4,drop free={}\nfact,6,drop free={p}\nfact,8,triggers free={}\nfact,10,ambient,0 free={}\n"
+          ∷ "fact,12,ambient,0 free={}\nfact,14,ambient,0 free={}\nfact,16,ambient,0 free={}\nkept,16,g\nkept,14,f\n"
+          ∷ "kept,12,e\nkept,10,d\nsum,4,0,1\n"
+          ∷ [];
+    }
+    ∷ record {
+      name = "rule-12-free";
+      file = "ask,0,0\nfree,p\nfree,q\nfree,HasType\nassume,x,0,2\n" ∷ [];
+      printed = "fact,5,ambient,0 free={}\nkept,5,x\nsum,1,0,1\n" ∷ [];
+    }
+    ∷ record {
+      name = "rule-12-kinds";
+      file = "ask,0,0\nfree,p\nassume,a,0,0\nleaf\nassume,b,0,1\ncall,g,0\nassume,c,0,2\nop,other,0\nassume,d,0,3\n"
+          ∷ "some,0,1,1,0\nassume,e,0,4\nlet,0,1\nassume,f,0,5\nlabel,3\nassume,g,0,6\nall,0,0\nassume,h,0,7\n"
+          ∷ [];
+      printed = "fact,3,ambient,0 free={p}\nfact,5,ambient,0 free={}\nfact,7,ambient,0 free={g p}\n"
+          ∷ "fact,9,ambient,0 free={p}\nfact,11,ambient,0 free={p}\nfact,13,ambient,0 free={p}\n"
+          ∷ "fact,15,ambient,0 free={p}\nfact,17,ambient,0 free={p}\nkept,17,h\nkept,15,g\nkept,13,f\nkept,11,e\n"
+          ∷ "kept,9,d\nkept,7,c\nkept,5,b\nkept,3,a\nsum,8,0,1\n"
+          ∷ [];
+    }
+    ∷ record {
+      name = "rule-2-before-3";
+      file = "ask,0,0\nfree,x\ncall,Prims.squash,0\ncall,HasType,0,1\nassume,assumption_,0,2\nassume,assumption,0,2\n" ∷ [];
+      printed = "fact,5,triggers,{Prims.squash x} free={Prims.squash x}\nfact,6,ambient,1 free={Prims.squash x}\n"
+          ∷ "kept,5,assumption_\nkept,6,assumption\nsum,2,2,2\n"
+          ∷ [];
+    }
+    ∷ record {
+      name = "rule-3-arities";
+      file = "ask,0,0\nfree,x\nfree,y\nall,0,1,1,1\ncall,Prims.squash,2\ncall,HasType,0,3\nassume,a1,0,4\n"
+          ∷ "call,Prims.squash,0,2\ncall,HasType,0,5\nassume,a2,0,6\ncall,Prims.squash,0,0,2\ncall,HasType,0,7\n"
+          ∷ "assume,a3,0,8\ncall,Prims.squash\ncall,HasType,0,9\nassume,a0,0,10\n"
+          ∷ [];
+      printed = "fact,7,ambient,1 free={Prims.squash x y}\nfact,10,triggers,{y} free={Prims.squash x y}\n"
+          ∷ "fact,13,ambient,1 free={Prims.squash x y}\nfact,16,ambient,1 free={Prims.squash x}\nkept,10,a2\n"
+          ∷ "kept,16,a0\nkept,13,a3\nkept,7,a1\nsum,4,1,2\n"
+          ∷ [];
+    }
+    ∷ record {
+      name = "rule-3-free-squash";
+      file = "ask,0,0\nfree,p\nfree,q\nfree,Prims.squash\ncall,HasType,0,2\nassume,x,0,3\n" ∷ [];
+      printed = "fact,6,triggers,{p} free={Prims.squash p}\nsum,0,0,1\n" ∷ [];
+    }
+    ∷ record {
+      name = "rule-3-hastype-3";
+      file = "ask,0,0\nfree,p\nfree,q\ncall,Tm_refine_1,0\ncall,HasType,0,2,2\nassume,x,0,3\n" ∷ [];
+      printed = "fact,6,ambient,0 free={Tm_refine_1 p}\nkept,6,x\nsum,1,0,1\n" ∷ [];
+    }
+    ∷ []
+
+-- a wrong one is named in the error
+pass-10 : All-print files-10
+unfolding prints files-10
+pass-10 = (refl, (refl, (refl, (refl, (refl, (refl, (refl, (refl, (refl, (refl, (refl, (refl, (refl, (refl, (refl, tt)))))))))))))))
+
+-- rule-3-refinements to rule-4-tok-tok
+files-11 : List Small
+files-11 =
+    record {
+      name = "rule-3-refinements";
+      file = "ask,0,0\nfree,x\nfree,Tm_refine_\ncall,HasType,0,1\nassume,a,0,2\ncall,Tm_refine_0,0,0,0\n"
+          ∷ "call,HasType,0,3\nassume,b,0,4\nfree,Tm_refine\ncall,HasType,0,5\nassume,c,0,6\nlabel,1\n"
+          ∷ "call,HasType,0,7\nassume,d,0,8\n"
+          ∷ [];
+      printed = "fact,5,ambient,1 free={Tm_refine_ x}\nfact,8,ambient,1 free={Tm_refine_0 x}\n"
+          ∷ "fact,11,triggers,{x} free={Tm_refine x}\nfact,14,triggers,{x} free={Tm_refine_ x}\nkept,11,c\n"
+          ∷ "kept,14,d\nkept,8,b\nkept,5,a\nsum,4,2,2\n"
+          ∷ [];
+    }
+    ∷ record {
+      name = "rule-3-squash-0";
+      file = "ask,0,0\nfree,p\nfree,q\ncall,Prims.squash\ncall,HasType,0,2\nassume,x,0,3\n" ∷ [];
+      printed = "fact,6,ambient,1 free={Prims.squash p}\nkept,6,x\nsum,1,0,1\n" ∷ [];
+    }
+    ∷ record {
+      name = "rule-3-squash-all-empty";
+      file = "ask,0,0\nfree,p\nfree,q\nall,0,1,0\ncall,Prims.squash,0,2\ncall,HasType,0,3\nassume,x,0,4\n" ∷ [];
+      printed = "fact,7,ambient,1 free={Prims.squash p}\nkept,7,x\nsum,1,0,1\n" ∷ [];
+    }
+    ∷ record {
+      name = "rule-3-squash-label-all";
+      file = "ask,0,0\nfree,p\nfree,q\nall,0,1,1,1\nlabel,2\ncall,Prims.squash,0,3\ncall,HasType,0,4\nassume,x,0,5\n" ∷ [];
+      printed = "fact,8,triggers,{q} free={Prims.squash p q}\nsum,0,0,1\n" ∷ [];
+    }
+    ∷ record {
+      name = "rule-3-two-empty-groups";
+      file = "ask,0,0\nfree,x\nall,0,2,0,0\ncall,Prims.squash,0,1\ncall,HasType,0,2\nassume,a,0,3\nroot,0,r,0\n" ∷ [];
+      printed = "fact,6,triggers,{},{} free={Prims.squash x}\nsum,0,0,1\n" ∷ [];
+    }
+    ∷ record {
+      name = "rule-3-type-is-all";
+      file = "ask,0,0\nfree,x\nall,0,1,1,0\ncall,HasType,0,1\nassume,a,0,2\n" ∷ [];
+      printed = "fact,5,triggers,{x} free={x}\nsum,0,0,1\n" ∷ [];
+    }
+    ∷ record {
+      name = "rule-4-markers";
+      file = "ask,0,0\nfree,__uu__PartialApp\ncall,__uu__PartialApp\nfree,x\ncall,__uu__PartialApp,2\ncall,f@tok\n"
+          ∷ "call,ApplyTT,0,4\ncall,Valid,5\nassume,a,0,6\ncall,ApplyTT,1,4\ncall,Valid,7\nassume,b,0,8\n"
+          ∷ "call,ApplyTT,3,4\ncall,Valid,9\nassume,c,0,10\ncall,ApplyTT,4,0\ncall,Valid,11\nassume,d,0,12\n"
+          ∷ "call,ApplyTF,0,4\ncall,Valid,13\nassume,e,0,14\ncall,ApplyTT,0,4,4\ncall,Valid,15\nassume,f,0,16\n"
+          ∷ "call,Valid,5,5\nassume,g,0,17\nlabel,0\ncall,ApplyTT,18,4\ncall,Valid,19\nassume,h,0,20\n"
+          ∷ [];
+      printed = "fact,9,triggers,{f@tok},{f} free={__uu__PartialApp f@tok}\n"
+          ∷ "fact,12,triggers,{f@tok},{f} free={__uu__PartialApp f@tok}\n"
+          ∷ "fact,15,triggers,{f@tok},{f} free={__uu__PartialApp f@tok x}\n"
+          ∷ "fact,18,triggers,{__uu__PartialApp f@tok} free={__uu__PartialApp f@tok}\n"
+          ∷ "fact,21,triggers,{__uu__PartialApp f@tok} free={__uu__PartialApp f@tok}\n"
+          ∷ "fact,24,triggers,{__uu__PartialApp f@tok} free={__uu__PartialApp f@tok}\n"
+          ∷ "fact,26,ambient,0 free={__uu__PartialApp f@tok}\n"
+          ∷ "fact,30,triggers,{__uu__PartialApp f@tok} free={__uu__PartialApp f@tok}\nkept,26,g\nsum,1,0,1\n"
+          ∷ [];
+    }
+    ∷ record {
+      name = "rule-4-tok-tok";
+      file = "ask,0,0\nfree,p\nfree,q\ncall,__uu__PartialApp\nfree,a@tok@tok\ncall,ApplyTT,2,3\ncall,Valid,4\n"
+          ∷ "assume,x,0,5\n"
+          ∷ [];
+      printed = "fact,8,triggers,{a@tok@tok},{a@tok} free={__uu__PartialApp a@tok@tok}\nsum,0,0,1\n" ∷ [];
+    }
+    ∷ []
+
+-- a wrong one is named in the error
+pass-11 : All-print files-11
+unfolding prints files-11
+pass-11 = (refl, (refl, (refl, (refl, (refl, (refl, (refl, (refl, tt))))))))
+
+-- rule-4-tokens to rule-7
+files-12 : List Small
+files-12 =
+    record {
+      name = "rule-4-tokens";
+      file = "ask,0,0\nfree,__uu__PartialApp\nfree,x\nfree,f@to\ncall,ApplyTT,0,2\ncall,Valid,3\nassume,a,0,4\nleaf\n"
+          ∷ "call,ApplyTT,0,5\ncall,Valid,6\nassume,b,0,7\ncall,g@tok,1\ncall,ApplyTT,0,8\ncall,Valid,9\n"
+          ∷ "assume,c,0,10\nfree,@tok\ncall,ApplyTT,0,11\ncall,Valid,12\nassume,d,0,13\nfree,tok@tok\nlabel,14\n"
+          ∷ "call,ApplyTT,0,15\ncall,Valid,16\nassume,e,0,17\nfree,__uu__PartialApp@tok\ncall,ApplyTT,0,18\n"
+          ∷ "call,Valid,19\nassume,f,0,20\nroot,0,r,0\n"
+          ∷ [];
+      printed = "fact,7,triggers,{f@to} free={__uu__PartialApp f@to}\nfact,11,triggers free={__uu__PartialApp}\n"
+          ∷ "fact,15,triggers free={__uu__PartialApp g@tok x}\n"
+          ∷ "fact,19,triggers,{@tok},{} free={@tok __uu__PartialApp}\n"
+          ∷ "fact,24,triggers free={__uu__PartialApp tok@tok}\n"
+          ∷ "fact,28,triggers,{__uu__PartialApp@tok},{__uu__PartialApp} free={__uu__PartialApp __uu__PartialApp@tok}\n"
+          ∷ "kept,28,f\nsum,1,2,3\n"
+          ∷ [];
+    }
+    ∷ record {
+      name = "rule-5-arities";
+      file = "ask,0,0\nfree,x\nfree,y\ncall,Valid,0\nassume,a,0,2\ncall,Valid,0,1\nassume,b,0,3\ncall,Valid\n"
+          ∷ "assume,c,0,4\ncall,HasType,0\nassume,d,0,5\ncall,HasType,0,1\nassume,e,0,6\ncall,HasType,0,1,1\n"
+          ∷ "assume,f,0,7\ncall,IsTotFun,1\nassume,g,0,8\ncall,IsTotFun,1,1\nassume,h,0,9\ncall,is-Tm_arrow,1\n"
+          ∷ "assume,i,0,10\ncall,is-Tm_arrow\nassume,j,0,11\ncall,HasTypeZ,0,1\nassume,k,0,12\n"
+          ∷ "call,HasTypeFuel,0,0,1\nassume,l,0,13\nfree,Valid\nassume,m,0,14\n"
+          ∷ [];
+      printed = "fact,5,triggers,{x} free={x}\nfact,7,ambient,0 free={x y}\nfact,9,ambient,0 free={}\n"
+          ∷ "fact,11,ambient,0 free={x}\nfact,13,triggers,{x} free={x y}\nfact,15,ambient,0 free={x y}\n"
+          ∷ "fact,17,triggers,{y} free={IsTotFun y}\nfact,19,ambient,0 free={IsTotFun y}\n"
+          ∷ "fact,21,triggers,{y} free={is-Tm_arrow y}\nfact,23,ambient,0 free={is-Tm_arrow}\n"
+          ∷ "fact,25,ambient,0 free={x y}\nfact,27,ambient,0 free={x y}\nfact,29,ambient,0 free={}\nkept,29,m\n"
+          ∷ "kept,27,l\nkept,25,k\nkept,23,j\nkept,19,h\nkept,15,f\nkept,11,d\nkept,9,c\nkept,7,b\nsum,9,0,1\n"
+          ∷ [];
+    }
+    ∷ record {
+      name = "rule-5-arrow";
+      file = "ask,0,0\nfree,p\nfree,q\ncall,is-Tm_arrow,1\nassume,x,0,2\n" ∷ [];
+      printed = "fact,5,triggers,{q} free={is-Tm_arrow q}\nsum,0,0,1\n" ∷ [];
+    }
+    ∷ record {
+      name = "rule-5-hastype";
+      file = "ask,0,0\nfree,p\nfree,q\ncall,HasType,1,0\nassume,x,0,2\n" ∷ [];
+      printed = "fact,5,triggers,{q} free={p q}\nsum,0,0,1\n" ∷ [];
+    }
+    ∷ record {
+      name = "rule-6";
+      file = "ask,0,0\nfree,p\nfree,q\ncall,Term_constr_id,1\nop,eq,0,2\nassume,equation_x,0,3\n" ∷ [];
+      printed = "fact,6,triggers,{q} free={Term_constr_id p q}\nsum,0,0,1\n" ∷ [];
+    }
+    ∷ record {
+      name = "rule-6-arities";
+      file = "ask,0,0\nfree,x\nfree,y\ncall,Term_constr_id\nop,eq,0,2\nassume,a,0,3\ncall,Term_constr_id,1\n"
+          ∷ "op,eq,0,4\nassume,b,0,5\ncall,Term_constr_id,1,1\nop,eq,0,6\nassume,c,0,7\nop,eq,4,0\nassume,d,0,8\n"
+          ∷ "op,iff,0,4\nassume,e,0,9\nfree,Term_constr_id\nop,eq,0,10\nassume,f,0,11\nop,eq,0,4,4\nassume,g,0,12\n"
+          ∷ "op,eq,4,4\nassume,equation_h,0,13\n"
+          ∷ [];
+      printed = "fact,6,triggers,{x},{Term_constr_id} free={Term_constr_id x}\n"
+          ∷ "fact,9,triggers,{y} free={Term_constr_id x y}\n"
+          ∷ "fact,12,triggers,{x},{Term_constr_id y} free={Term_constr_id x y}\n"
+          ∷ "fact,14,triggers,{Term_constr_id y},{x} free={Term_constr_id x y}\n"
+          ∷ "fact,16,triggers,{x},{Term_constr_id y} free={Term_constr_id x y}\n"
+          ∷ "fact,19,triggers,{x},{Term_constr_id} free={Term_constr_id x}\n"
+          ∷ "fact,21,ambient,0 free={Term_constr_id x y}\nfact,23,triggers,{y} free={Term_constr_id y}\nkept,21,g\n"
+          ∷ "sum,1,0,1\n"
+          ∷ [];
+    }
+    ∷ record {
+      name = "rule-6-two";
+      file = "ask,0,0\nfree,p\nfree,q\ncall,Term_constr_id,1,1\nop,eq,0,2\nassume,x,0,3\n" ∷ [];
+      printed = "fact,6,triggers,{p},{Term_constr_id q} free={Term_constr_id p q}\nsum,0,0,1\n" ∷ [];
+    }
+    ∷ record {
+      name = "rule-7";
+      file = "ask,0,0\nfree,p\nfree,q\nall,0,1,1,1\nlabel,2\nall,0,2,1,0,0\nop,and,0,3,4,2\nassume,x,0,5\n" ∷ [];
+      printed = "fact,8,triggers,{q},{p},{},{q} free={p q}\nsum,0,0,1\n" ∷ [];
+    }
+    ∷ []
+
+-- a wrong one is named in the error
+pass-12 : All-print files-12
+unfolding prints files-12
+pass-12 = (refl, (refl, (refl, (refl, (refl, (refl, (refl, (refl, tt))))))))
+
+-- rule-7-nested to rule-9-has-eq
+files-13 : List Small
+files-13 =
+    record {
+      name = "rule-7-nested";
+      file = "ask,0,0\nfree,p\nfree,q\nall,0,1,1,1\nop,and,2\nop,and,3\nassume,x,0,4\n" ∷ [];
+      printed = "fact,7,triggers free={p q}\nsum,0,0,1\n" ∷ [];
+    }
+    ∷ record {
+      name = "rule-7-parts";
+      file = "ask,0,0\nfree,p\nfree,q\nall,0,2,1,0,0\nlabel,2\nsome,0,1,1,1\nop,and,2,3,4,0,2\nassume,a,0,5\n"
+          ∷ "all,0,1,1,1\nop,and,5,6\nassume,b,0,7\nall,0,0\nop,and,8,8\nassume,c,0,9\nassume,equation_d,0,5\n"
+          ∷ "assume,assumption_e,0,5\n"
+          ∷ [];
+      printed = "fact,8,triggers,{p},{},{p},{},{p},{} free={p q}\nfact,11,triggers,{q} free={p q}\n"
+          ∷ "fact,14,triggers free={p}\nfact,15,triggers,{p},{},{p},{},{p},{} free={p q}\n"
+          ∷ "fact,16,triggers,{p q} free={p q}\nsum,0,0,1\n"
+          ∷ [];
+    }
+    ∷ record {
+      name = "rule-8-arities";
+      file = "ask,0,0\nfree,p\nfree,q\nop,eq,0,1\nassume,equation_,0,2\nassume,equation,0,2\nop,eq,0\n"
+          ∷ "assume,equation_one,0,3\nop,eq,0,1,1\nassume,equation_three,0,4\nop,iff,0,1\nassume,equation_iff,0,5\n"
+          ∷ "op,eq\nassume,equation_none,0,6\n"
+          ∷ [];
+      printed = "fact,5,triggers,{p} free={p q}\nfact,6,triggers,{p},{q} free={p q}\nfact,8,ambient,0 free={p}\n"
+          ∷ "fact,10,ambient,0 free={p q}\nfact,12,triggers,{p},{q} free={p q}\nfact,14,ambient,0 free={}\n"
+          ∷ "kept,14,equation_none\nkept,10,equation_three\nkept,8,equation_one\nsum,3,0,1\n"
+          ∷ [];
+    }
+    ∷ record {
+      name = "rule-9-half";
+      file = "ask,0,0\nfree,p\nfree,q\ncall,Prims.hasEq,0,1\ncall,Valid,2\nop,iff,3,0\nassume,x,0,4\n" ∷ [];
+      printed = "fact,7,triggers,{Prims.hasEq p q},{p} free={Prims.hasEq p q}\nsum,0,0,1\n" ∷ [];
+    }
+    ∷ record {
+      name = "rule-9-half-right";
+      file = "ask,0,0\nfree,p\nfree,q\ncall,Prims.hasEq,0,1\ncall,Valid,2\nop,iff,0,3\nassume,x,0,4\n" ∷ [];
+      printed = "fact,7,triggers,{p},{Prims.hasEq p q} free={Prims.hasEq p q}\nsum,0,0,1\n" ∷ [];
+    }
+    ∷ record {
+      name = "rule-9-has-eq";
+      file = "ask,0,0\nfree,u\nfree,s\nfree,t\ncall,Prims.hasEq,0,1\ncall,Valid,3\ncall,Prims.hasEq,0,2\n"
+          ∷ "call,Valid,5\nop,iff,4,6\nassume,a,0,7\nop,iff,6,4\nassume,b,0,8\nop,iff,4,0\nassume,c,0,9\nop,iff,3,5\n"
+          ∷ "assume,d,0,10\ncall,Prims.hasEq,1\ncall,Valid,11\nop,iff,4,12\nassume,e,0,13\ncall,Prims.hasEq,0,1,2\n"
+          ∷ "call,Valid,14\nop,iff,15,4\nassume,f,0,16\ncall,Valid,3,3\nop,iff,4,17\nassume,g,0,18\nop,iff,4,4\n"
+          ∷ "assume,l_quant_interp,0,19\nop,eq,4,6\nassume,h,0,20\n"
+          ∷ [];
+      printed = "fact,10,triggers,{s} free={Prims.hasEq s t u}\nfact,12,triggers,{t} free={Prims.hasEq s t u}\n"
+          ∷ "fact,14,triggers,{Prims.hasEq s u},{u} free={Prims.hasEq s u}\n"
+          ∷ "fact,16,triggers,{Prims.hasEq s u},{Prims.hasEq t u} free={Prims.hasEq s t u}\n"
+          ∷ "fact,20,triggers,{Prims.hasEq s u},{Prims.hasEq s} free={Prims.hasEq s u}\n"
+          ∷ "fact,24,triggers,{Prims.hasEq s t u},{Prims.hasEq s u} free={Prims.hasEq s t u}\n"
+          ∷ "fact,27,triggers,{Prims.hasEq s u},{Prims.hasEq s u} free={Prims.hasEq s u}\n"
+          ∷ "fact,29,triggers,{Prims.hasEq s u} free={Prims.hasEq s u}\n"
+          ∷ "fact,31,triggers,{Prims.hasEq s u},{Prims.hasEq t u} free={Prims.hasEq s t u}\nsum,0,0,1\n"
+          ∷ [];
+    }
+    ∷ []
+
+-- a wrong one is named in the error
+pass-13 : All-print files-13
+unfolding prints files-13
+pass-13 = (refl, (refl, (refl, (refl, (refl, (refl, tt))))))

@@ -1,0 +1,64 @@
+-- Texts: a number in decimal, fields parted by commas, and the printed form of an answer: document 01, F10.
+use Prim.Native.Nat.{ℕ, zero, suc, _+_, _/_, _%_}
+use mathlib.Core.Bool.{cond}
+use mathlib.Core.List.{List, [], _∷_, _++_, map}
+use lib.ListN.{length, drop}
+use lib.Dec.{ltb}
+use Rattle.model.specs.Names.{Name, bytes}
+use Rattle.model.specs.Lines.{Line, lines, Field, fields}
+use Rattle.model.specs.Outcome.{Outcome, refusal-at, list, refusal-number}
+use Rattle.model.specs.declared.Refusal.{Refusal}
+
+-- the decimal digits of a number below ten to the fuel
+unfoldable pub digits : ℕ → ℕ → Field
+digits zero n = []
+digits (suc fuel) n =
+    let front = digits fuel (n / 10) in
+    cond (ltb n 10) ((n + 0x30) ∷ []) (front ++ ((n % 10 + 0x30) ∷ []))
+
+-- a number in decimal
+unfoldable pub show : ℕ → Field
+show n = digits 20 n
+
+-- fields with commas between them
+unfoldable pub comma : List Field → List ℕ
+comma [] = []
+comma (f ∷ []) = f
+comma (f ∷ g ∷ fs) = f ++ 0x2c ∷ comma (g ∷ fs)
+
+-- a line of text: fields parted by commas, and its end
+unfoldable pub line : List Field → List ℕ
+line fs = comma fs ++ (0x0a ∷ [])
+
+-- the bytes of the first of some lines
+unfoldable pub first-bytes : List Line → List ℕ
+first-bytes [] = []
+first-bytes (l ∷ ls) = l .bytes
+
+-- the second of some fields, empty where there is none
+unfoldable pub second : List Field → Field
+second [] = []
+second (f ∷ []) = []
+second (f ∷ g ∷ gs) = g
+
+-- the name on a line of a file, its second field, by the line's number from 1
+unfoldable pub name-on : List ℕ → ℕ → Name
+name-on file zero = []
+name-on file (suc n) = second (fields (first-bytes (drop n (lines file))))
+
+-- the line of a kept record
+unfoldable pub kept-line : List ℕ → ℕ → List ℕ
+kept-line file n = line (bytes "kept" ∷ show n ∷ name-on file n ∷ [])
+
+-- the line after a list
+unfoldable pub sum-line : ℕ → ℕ → ℕ → List ℕ
+sum-line kept visits rounds = line (bytes "sum" ∷ show kept ∷ show visits ∷ show rounds ∷ [])
+
+-- the line of a refusal
+unfoldable pub refused-line : Refusal → ℕ → List ℕ
+refused-line r place = line (bytes "refused" ∷ show (refusal-number r) ∷ show place ∷ [])
+
+-- the lines printed of what a call of a file comes to: one for each kept record, then their sum; or the refusal
+unfoldable pub printed : List ℕ → Outcome → List (List ℕ)
+printed file (refusal-at r place) = refused-line r place ∷ []
+printed file (list kept visits rounds) = map (kept-line file) kept ++ (sum-line (length kept) visits rounds ∷ [])
