@@ -1,0 +1,246 @@
+//! What documents 01 and 02 say of every file, tried on random ones: each test changes a file and says how the answer moves.
+
+use std::collections::BTreeSet;
+
+use compare::random::Random;
+use compare::{filter, filter_file, generate, limits, summaries, Outcome, Trigger, LONG_ENOUGH};
+
+type Line = Vec<u8>;
+
+/// The lines of a file, each with its final 0A where it has one.
+fn lines(file: &[u8]) -> Vec<Line> {
+    file.split_inclusive(|&byte| byte == b'\n').map(<[u8]>::to_vec).collect()
+}
+
+/// The fields of a line.
+fn fields(line: &[u8]) -> Vec<String> {
+    let text = String::from_utf8_lossy(line.strip_suffix(b"\n").unwrap_or(line)).into_owned();
+    text.split(',').map(str::to_owned).collect()
+}
+
+/// The line of some fields.
+fn line(fields: &[String]) -> Line {
+    format!("{}\n", fields.join(",")).into_bytes()
+}
+
+/// The first field of a line.
+fn kind(line: &[u8]) -> String {
+    fields(line)[0].clone()
+}
+
+/// Whether a line is a term line.
+fn is_term(line: &[u8]) -> bool {
+    ["free", "leaf", "call", "op", "all", "some", "let", "label"].contains(&kind(line).as_str())
+}
+
+/// A file with each line exchanged for what is given for it, by line number from 1.
+fn each_line(file: &[u8], mut change: impl FnMut(usize, &Line) -> Line) -> Vec<u8> {
+    lines(file).iter().enumerate().flat_map(|(index, line)| change(index + 1, line)).collect()
+}
+
+/// The query and the options of a file.
+fn asked(file: &[u8]) -> (u32, u32) {
+    let ask = fields(&lines(file)[0]);
+    (ask[1].parse().unwrap(), ask[2].parse().unwrap())
+}
+
+/// A file with other options.
+fn with_options(file: &[u8], options: u32) -> Vec<u8> {
+    let query = asked(file).0;
+    each_line(
+        file,
+        |number, line| if number == 1 { format!("ask,{query},{options}\n").into_bytes() } else { line.clone() },
+    )
+}
+
+/// A list as it is kept, with its counts.
+#[derive(Clone, Debug, PartialEq)]
+struct List {
+    lines: Vec<u32>,
+    names: Vec<Vec<u8>>,
+    visits: u32,
+    rounds: u32,
+}
+
+/// The list that an accepted file gives.
+fn list(file: &[u8]) -> Option<List> {
+    match filter_file(file) {
+        Outcome::Kept { lines, names, visits, rounds } => {
+            Some(List { lines, names: names.into_iter().map(<[u8]>::to_vec).collect(), visits, rounds })
+        }
+        Outcome::Refused { .. } => None,
+    }
+}
+
+/// Accepted random files of a seed.
+fn accepted(seed: u64, count: usize) -> Vec<Vec<u8>> {
+    let mut random = Random::new(seed);
+    (0..count).map(|_| generate::formed(&mut random)).filter(|file| list(file).is_some()).collect()
+}
+
+/// The lines of the ambient facts.
+fn ambient_lines(file: &[u8]) -> Vec<u32> {
+    let summaries = summaries(file).expect("an accepted file");
+    summaries.iter().filter(|fact| matches!(fact.trigger, Trigger::Ambient { .. })).map(|fact| fact.line).collect()
+}
+
+/// The kept lines that are assume lines, and of these those that are not ambient.
+fn facts_and_reached(file: &[u8], list: &List) -> (Vec<u32>, Vec<u32>) {
+    let (text, ambients) = (lines(file), ambient_lines(file));
+    let is_fact = |line: &&u32| kind(&text[**line as usize - 1]) == "assume";
+    let facts: Vec<u32> = list.lines.iter().filter(is_fact).copied().collect();
+    let reached = facts.iter().filter(|line| !ambients.contains(line)).copied().collect();
+    (facts, reached)
+}
+
+/// Document 01: lines from the first.
+#[test]
+fn a_line_is_refused_for_itself_and_the_lines_before() {
+    let mut refused = 0;
+    for case in generate::cases(21, 1_500) {
+        let Outcome::Refused { number, place } = filter_file(&case.file) else { continue };
+        if number == 9 {
+            continue;
+        }
+        refused += 1;
+        let lines = lines(&case.file);
+        let place_of_line = place as usize;
+        // A file that ends before the place has no line there: it is empty.
+        let until = lines[..place_of_line.min(lines.len())].concat();
+        assert_eq!(filter_file(&until), Outcome::Refused { number, place }, "{}", case.name);
+        if place > 1 {
+            assert!(list(&lines[..place_of_line - 1].concat()).is_some(), "{}", case.name);
+        }
+        if until.ends_with(b"\n") && until.len() + 10 < limits::BYTES {
+            let more = [&until[..], b"\x00,nothing"].concat();
+            assert_eq!(filter_file(&more), Outcome::Refused { number, place }, "{}", case.name);
+        }
+    }
+    assert!(refused > 400, "{refused}");
+}
+
+/// Document 01: 8 exactly where the result slice is shorter than the kept count, which is its place.
+#[test]
+fn the_result_slice_holds_the_list() {
+    for file in accepted(22, 200) {
+        let kept = list(&file).unwrap().lines.len();
+        for room in [0, kept.saturating_sub(1), kept, kept + 1] {
+            match filter(&file, LONG_ENOUGH, room) {
+                Outcome::Kept { lines, .. } => assert!(lines.len() == kept && room >= kept),
+                refused => {
+                    assert_eq!(refused, Outcome::Refused { number: 8, place: kept as u32 });
+                    assert!(room < kept);
+                }
+            }
+        }
+    }
+}
+
+/// Document 01: root lines of other queries do not matter.
+#[test]
+fn root_lines_of_other_queries_do_not_matter() {
+    let (mut random, mut changed) = (Random::new(23), 0);
+    for file in accepted(23, 400) {
+        let query = asked(&file).0;
+        let mut terms = 0;
+        let other = each_line(&file, |_, old| {
+            terms += usize::from(is_term(old));
+            let mut fields = fields(old);
+            if fields[0] != "root" || fields[1] == query.to_string() {
+                return old.clone();
+            }
+            changed += 1;
+            fields[1] = (0..=255).find(|other| *other != query && random.chance(30)).unwrap_or(query ^ 1).to_string();
+            fields[3] = random.below(terms).to_string();
+            line(&fields)
+        });
+        if let Some(other) = list(&other) {
+            assert_eq!(Some(other), list(&file));
+        }
+    }
+    assert!(changed > 300, "{changed}");
+}
+
+/// Document 01: a retain line has no effect.
+#[test]
+fn retain_lines_have_no_effect() {
+    for file in accepted(24, 300) {
+        let without = each_line(&file, |_, old| if kind(old) == "retain" { b"retain\n".to_vec() } else { old.clone() });
+        assert_eq!(list(&without), list(&file));
+    }
+}
+
+/// Document 01, misreadings: the flag of an ambient fact is not asked.
+#[test]
+fn the_flag_of_an_ambient_fact_does_not_matter() {
+    for file in accepted(25, 300) {
+        let ambients = ambient_lines(&file);
+        let flipped = each_line(&file, |number, old| {
+            let mut fields = fields(old);
+            if ambients.contains(&(number as u32)) {
+                fields[2] = if fields[2] == "0" { "1" } else { "0" }.to_owned();
+            }
+            line(&fields)
+        });
+        assert_eq!(list(&flipped), list(&file));
+    }
+}
+
+/// Document 01: reached facts by name, then the ambients, last filed first; option 1 leaves the ambients out, option 2
+/// lets more facts be reached, option 4 adds definitions and declarations at the end.
+#[test]
+fn options_and_the_order_of_a_list() {
+    let (mut more, mut declared) = (0, 0);
+    for file in accepted(26, 300) {
+        let text = lines(&file);
+        let name = |line: &u32| fields(&text[*line as usize - 1])[1].clone().into_bytes();
+        let [without, no_ambients, pretyping, decls] =
+            [0, 1, 2, 4].map(|options| list(&with_options(&file, options)).expect("options do not refuse a file"));
+
+        let (facts, reached) = facts_and_reached(&file, &without);
+        assert_eq!(facts, without.lines);
+        assert!(reached.windows(2).all(|pair| name(&pair[0]) < name(&pair[1])));
+        let ambients: Vec<u32> = ambient_lines(&file).into_iter().rev().collect();
+        assert_eq!(facts, [&reached[..], &ambients].concat());
+
+        let reached_set = |list: &List| BTreeSet::from_iter(facts_and_reached(&file, list).1);
+        assert!(reached_set(&no_ambients).is_subset(&reached_set(&without)));
+        assert_eq!(facts_and_reached(&file, &no_ambients).1, no_ambients.lines);
+        assert!(reached_set(&without).is_subset(&reached_set(&pretyping)));
+        more += usize::from(reached_set(&without) != reached_set(&pretyping));
+
+        let (facts_kept, others) = decls.lines.split_at(without.lines.len());
+        assert_eq!((facts_kept, decls.visits, decls.rounds), (&without.lines[..], without.visits, without.rounds));
+        let kinds: Vec<String> = others.iter().map(|&line| kind(&text[line as usize - 1])).collect();
+        assert!(kinds.iter().all(|kind| kind == "def" || kind == "fun") && kinds.is_sorted(), "{kinds:?}");
+        assert_eq!(BTreeSet::from_iter(&decls.lines).len(), decls.lines.len());
+        declared += usize::from(!others.is_empty());
+    }
+    assert!(more > 20 && declared > 50, "{more} {declared}");
+}
+
+/// Change 14: record lines in another sequence, among the term lines too, keep the same names, visits and rounds; two
+/// reached facts never trade places.
+#[test]
+fn the_sequence_of_the_record_lines_is_no_matter() {
+    let (mut random, mut moved) = (Random::new(27), 0);
+    for file in accepted(27, 400) {
+        let (ask, rest) = (lines(&file)[0].clone(), lines(&file)[1..].to_vec());
+        let (terms, mut records): (Vec<Line>, Vec<Line>) = rest.into_iter().partition(|line| is_term(line));
+        for index in (1..records.len()).rev() {
+            records.swap(index, random.below(index + 1));
+        }
+        let other = [vec![ask], terms, records].concat().concat();
+        let Some(after) = list(&other) else { continue };
+        let before = list(&file).unwrap();
+        assert_eq!((after.visits, after.rounds), (before.visits, before.rounds));
+        assert_eq!(BTreeSet::from_iter(&after.names), BTreeSet::from_iter(&before.names));
+        let names = |file: &[u8], list: &List| -> Vec<Vec<u8>> {
+            let reached = facts_and_reached(file, list).1;
+            list.names[..reached.len()].to_vec()
+        };
+        assert_eq!(names(&other, &after), names(&file, &before));
+        moved += usize::from(after != before);
+    }
+    assert!(moved > 100, "{moved}");
+}
