@@ -1,8 +1,8 @@
 -- Reading a file, line after line: document 01, "The file" and "Who can cause a refusal", the refusals 1 to 6;
--- document 02, Change 1: 10 to 12.
+-- document 02, Change 1: 10 to 12, Change 6: hide lines.
 use Prim.Native.Nat.{ℕ, zero, suc, _+_, _/_, _%_}
 use Prim.Native.String.{String}
-use mathlib.Core.Bool.{Bool, cond, not}
+use mathlib.Core.Bool.{Bool, cond, not, _&&_}
 use mathlib.Core.List.{List, [], _∷_, _++_, map}
 use mathlib.Core.Option.{Option, none, some}
 use lib.ListN.{length}
@@ -56,6 +56,7 @@ op-words = ("true", TrueOp) ∷ ("iff", Iff) ∷ ("eq", Eq) ∷ ("and", And) ∷
 unfoldable pub kinds : List (String × LineKind)
 kinds =
     ("ask", kind.Ask)
+    ∷ ("hide", kind.Hide)
     ∷ ("free", kind.Free)
     ∷ ("leaf", kind.Leaf)
     ∷ ("call", kind.Call)
@@ -112,9 +113,14 @@ groups count (suc g) fs = do
   (gs, fs₃) ← groups count g fs₂
   ok (ts ∷ gs, fs₃)
 
+-- what a line of the head of a file says, in the order of its fields
+pub data Head : Type 0 where
+  ask : ℕ → ℕ → Head
+  hide : Name → Head
+
 -- what a line says, in the order of its fields
 pub data Content : Type 0 where
-  ask : ℕ → ℕ → Content
+  head : Head → Content
   term : Node → Content
   assume : Name → Bool → ℕ → Content
   fun : Name → Content
@@ -142,7 +148,10 @@ unfoldable pub content : LineKind → ℕ → List Field → Result Content
 content kind.Ask count fs = do
   (q, fs₁) ← next (number-field most-query) fs
   (options, fs₂) ← next (number-field most-options) fs₁
-  end (ask q options) fs₂
+  end (head (ask q options)) fs₂
+content kind.Hide count fs = do
+  (name, fs₁) ← next name-field fs
+  end (head (hide name)) fs₁
 content kind.Free count fs = do
   (name, fs₁) ← next name-field fs
   end (term (FreeV name)) fs₁
@@ -222,8 +231,8 @@ pretyping-axioms a = eqb (a .options / 2 % 2) 1
 unfoldable pub prune-decls : Ask → Bool
 prune-decls a = eqb (a .options / 4 % 2) 1
 
--- what reading carries from line to line. `hidden`: the names that join `exclude_names`. `names`: in order of first spelling.
--- `decls` and `roots`: in file order
+-- what reading carries from line to line. `hidden`: a name for each hide line. `names`: in order of first spelling. `decls` and
+-- `roots`: in file order
 pub record State : Type 0 where
   pub asks : List Ask
   pub hidden : List Name
@@ -250,13 +259,19 @@ start =
       uses = 0;
     }
 
--- what decides where a line of a kind may stand: an ask, or any other
+-- whether nothing but ask and hide lines was read so far
+unfoldable pub in-head : State → Bool
+in-head s = is-nil (s .terms) && is-nil (s .decls) && is-nil (s .roots)
+
+-- what decides where a line of a kind may stand: an ask, a hide, or any other
 pub data Place : Type 0 where
   an-ask : Place
+  a-hide : Place
   another : Place
 
 unfoldable pub place : LineKind → Place
 place kind.Ask = an-ask
+place kind.Hide = a-hide
 place kind.Free = another
 place kind.Leaf = another
 place kind.Call = another
@@ -271,9 +286,10 @@ place kind.Def = another
 place kind.Retain = another
 place kind.Root = another
 
--- whether such a line may stand next: the first is an ask, and no other is
+-- whether such a line may stand next: the first is an ask, and no other is; hide lines follow it
 unfoldable pub may-stand : State → Place → Bool
 may-stand s an-ask = is-nil (s .asks)
+may-stand s a-hide = in-head s && not (is-nil (s .asks))
 may-stand s another = not (is-nil (s .asks))
 
 -- the kind of the next line: 1 where it is unknown or may not stand
@@ -285,6 +301,7 @@ kind-field s f = do
 -- the fields of the next line, the kind counted, where their count is fixed
 unfoldable pub fixed-count : State → LineKind → Option ℕ
 fixed-count s kind.Ask = some 3
+fixed-count s kind.Hide = some 2
 fixed-count s kind.Free = some 2
 fixed-count s kind.Leaf = some 1
 fixed-count s kind.Call = none
@@ -305,19 +322,29 @@ parse s all = do
   (k, fs) ← next (kind-field s) all
   cond (holds (λ c. not (eqb (length all) c)) (fixed-count s k)) (refused refusal.Form) (content k (length (s .terms)) fs)
 
--- the ask that a line states
-unfoldable pub asked : Content → List Ask
-asked (ask q options) = record { queries = q ∷ []; options = options } ∷ []
-asked (term node) = []
-asked (assume name flag t) = []
-asked (fun name) = []
-asked (def name t) = []
-asked (retain names) = []
-asked (root q name t) = []
+-- the ask that a line of the head states
+unfoldable pub head-asks : Head → List Ask
+head-asks (ask q options) = record { queries = q ∷ []; options = options } ∷ []
+head-asks (hide name) = []
+
+-- the name that a line of the head hides, and spells
+unfoldable pub hidden-by : Head → List Name
+hidden-by (ask q options) = []
+hidden-by (hide name) = name ∷ []
+
+-- the line of the head that a line is
+unfoldable pub heads : Content → List Head
+heads (head h) = h ∷ []
+heads (term node) = []
+heads (assume name flag t) = []
+heads (fun name) = []
+heads (def name t) = []
+heads (retain names) = []
+heads (root q name t) = []
 
 -- the term line that a line is
 unfoldable pub nodes : Content → List Node
-nodes (ask q options) = []
+nodes (head h) = []
 nodes (term node) = node ∷ []
 nodes (assume name flag t) = []
 nodes (fun name) = []
@@ -338,7 +365,7 @@ spelled-by (Labeled t) = []
 
 -- the names that a line spells, in order
 unfoldable pub spelled : Content → List Name
-spelled (ask q options) = []
+spelled (head h) = hidden-by h
 spelled (term node) = spelled-by node
 spelled (assume name flag t) = name ∷ []
 spelled (fun name) = name ∷ []
@@ -396,7 +423,7 @@ limits s =
     (length (s .names), most-names, refusal.FullNames)
     ∷ (length (s .terms), most-terms, refusal.FullTerms)
     ∷ (s .references, most-references, refusal.FullTerms)
-    ∷ (length (s .decls) + length (s .roots), most-records, refusal.FullRecords)
+    ∷ (length (s .hidden) + (length (s .decls) + length (s .roots)), most-records, refusal.FullRecords)
     ∷ (s .entries, most-entries, refusal.FullTriggers)
     ∷ (s .uses, most-uses, refusal.FullTriggers)
     ∷ []
@@ -419,7 +446,7 @@ go-on (refused r) n on = refused-at r n
 module _ (exclude : List Name) where
   -- `summarize_decl` of the n-th line
   unfoldable pub summarize-decl : List Term → ℕ → Content → List Summary
-  summarize-decl terms n (ask q options) = []
+  summarize-decl terms n (head h) = []
   summarize-decl terms n (term node) = []
   summarize-decl terms n (assume name flag t) = Sum-assume (summarize-assumption exclude terms n name flag t) ∷ []
   summarize-decl terms n (fun name) = Sum-declfun (record { line = n; name = name; free-names = [] }) ∷ []
@@ -430,7 +457,7 @@ module _ (exclude : List Name) where
 
   -- the name that rule 4 trims off the token of a fact
   unfoldable pub trimmed : List Term → Content → List Name
-  trimmed terms (ask q options) = []
+  trimmed terms (head h) = []
   trimmed terms (term node) = []
   trimmed terms (assume name flag t) = summarize-kind exclude terms name t .trimmed
   trimmed terms (fun name) = []
@@ -440,7 +467,7 @@ module _ (exclude : List Name) where
 
   -- the root that the n-th line is
   unfoldable pub root-of : List Term → ℕ → Content → List Root
-  root-of terms n (ask q options) = []
+  root-of terms n (head h) = []
   root-of terms n (term node) = []
   root-of terms n (assume name flag t) = []
   root-of terms n (fun name) = []
@@ -461,8 +488,8 @@ module _ (exclude : List Name) where
       let decls = summarize-decl out (s .terms) n c in
       let roots = root-of out (s .terms) n c in
       record {
-        asks = s .asks ++ asked c;
-        hidden = s .hidden;
+        asks = s .asks ++ collect head-asks (heads c);
+        hidden = s .hidden ++ collect hidden-by (heads c);
         terms = fold-left add-term (s .terms) (nodes c);
         names = fold-left spell (s .names) (spelled c ++ trimmed out (s .terms) c);
         decls = s .decls ++ decls;

@@ -48,6 +48,7 @@ pub enum Op {
 // The kind of a line.
 pub enum LineKind {
     Ask,
+    Hide,
     Free,
     Leaf,
     Call,
@@ -96,10 +97,11 @@ pub const MOST_KEPT: usize = MOST_RECORDS;
 // The words of a working slice that a call uses.
 pub const WORKING_WORDS: usize = 16384;
 
-// How much of the tables the lines read so far fill: asks, names, references, terms, records, trigger entries, name uses; and
-// the next mark.
+// How much of the tables the lines read so far fill: asks, hidden names, names, references, terms, other records, trigger
+// entries, name uses; and the next mark.
 pub struct Counts {
     pub asks: usize,
+    pub hides: usize,
     pub names: usize,
     pub references: usize,
     pub terms: usize,
