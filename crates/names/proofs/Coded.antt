@@ -1,20 +1,21 @@
--- Laws of the known names and their head codes, and of a table whose first four columns stay.
-use Prim.Native.Nat.{ℕ, zero, suc, _+_, _-_, _≤_, _<_}
+-- Laws of the known names and their head codes, and of a table whose names and head codes stay.
+use Prim.Native.Nat.{ℕ, zero, suc, _+_, _-_, _%_, _≤_, _<_}
+use native.Mathlib.Nat.{mod-eq-of-lt, add-mod-right}
 use native.Mathlib.Omega.{arith}
 use mathlib.Core.Path.{_≡_, refl, sym, ap, _∙_}
 use mathlib.Core.Logic.{_⊎_, inl, inr, ⊎-elim, _↔_}
 use mathlib.Core.Bool.{Bool, true, false, cond, not, _&&_, _||_, and-false}
 use mathlib.Core.List.{List, [], _∷_, _++_, map}
 use lib.ListN.{length, take, drop, getD}
-use lib.Dec.{T, T-not, not-T, ltb}
-use borrow.Author.Tests.{lt-ltb, le-ltb}
+use lib.Dec.{T, T-not, not-T, leb, ltb}
+use borrow.Author.Tests.{lt-ltb, le-ltb, le-leb, lt-leb}
 use Rattle.model.specs.Lists.{any}
 use Rattle.model.specs.Names.{Name, bytes, order, is-same, by-byte, same, mem}
 use Rattle.model.specs.Summaries.{common-names, exclude-names}
 use Rattle.model.proofs.ListLaws.{T-true, T-false, true-T}
 use Rattle.model.proofs.SetLaws.{same-refl, same-eq, mem-first, mem-later, from-list-mem}
-use Rattle.names.specs.Known.{known-names, code-from, head-code}
-use Rattle.names.specs.Table.{name-of, table-names, Table}
+use Rattle.names.specs.Known.{known-names, code-from, head-code, excluded-mark, marked-code, head-word}
+use Rattle.names.specs.Table.{name-code, name-of, table-names, Table}
 use Rattle.names.proofs.Codes.{known-length}
 
 -- ---- codes
@@ -110,21 +111,60 @@ code-exact n c p h =
     )
 
 -- a name is one of `exclude_names` where its head code is one of 1 to 9
-pub code-excluded : (n : Name) → mem n exclude-names ≡ (ltb 0 (head-code n) && ltb (head-code n) 10)
+code-excluded : (n : Name) → mem n exclude-names ≡ (ltb 0 (head-code n) && ltb (head-code n) 10)
 unfolding exclude-names head-code known-names common-names
 code-excluded n =
     let names = map bytes known-names in
     from-list-mem n (take 9 names) ∙ code-first 1 (take 9 names) (drop 9 names) n (omega arith)
 
--- ---- a table whose first four columns stay
+-- the head code of a name is below the mark
+head-small : (n : Name) → head-code n < excluded-mark
+unfolding head-code known
+head-small n = ⊎-elim (λ z. omega arith) (λ (l, h). omega (arith, known-length)) (code-ranged 1 known n)
 
--- a slice with the same words below 8192: its table, its names, and the name of each number are those of the first
+-- a marked code has the code, and the mark tells whether it is that of one of `exclude_names`
+marked-exact : (c : ℕ) → c < excluded-mark → (marked-code c % excluded-mark ≡ c) × (leb excluded-mark (marked-code c) ≡ (ltb 0 c && ltb c 10))
+unfolding marked-code
+marked-exact c h = go (ltb 0 c && ltb c 10)
+  where
+    go : (t : Bool) → (cond t (c + 32) c % 32 ≡ c) × (leb 32 (cond t (c + 32) c) ≡ t)
+    go true = (add-mod-right c 32 ∙ mod-eq-of-lt h, le-leb 32 (c + 32) (omega arith))
+    go false = (mod-eq-of-lt h, lt-leb 32 c h)
+
+-- the word of a new name has its head code
+pub word-code : (n : Name) → head-word n % excluded-mark ≡ head-code n
+unfolding head-word
+word-code n = marked-exact (head-code n) (head-small n) .0
+
+-- it is marked where the name is one of `exclude_names`
+pub word-excluded : (n : Name) → leb excluded-mark (head-word n) ≡ mem n exclude-names
+unfolding head-word
+word-excluded n = marked-exact (head-code n) (head-small n) .1 ∙ sym (code-excluded n)
+
+-- the word of no head code is none
+pub word-none : (n : Name) {c : ℕ} → c ≡ head-code n → c ≡ 0 → 0 ≡ head-word n
+unfolding head-word marked-code
+word-none n e z = sym (rw (sym e ∙ z))
+
+-- that of a code below 10 is marked
+pub word-marked : (n : Name) {c : ℕ} → c ≡ head-code n → (c ≡ 0 → ⊥) → c < 10 → c + excluded-mark ≡ head-word n
+unfolding head-word marked-code
+word-marked n {c} e z h = sym (rw (← e, lt-ltb 0 c (omega arith), lt-ltb c 10 h))
+
+-- any other is the code
+pub word-other : (n : Name) {c : ℕ} → c ≡ head-code n → 10 ≤ c → c ≡ head-word n
+unfolding head-word marked-code
+word-other n {c} e h = sym (rw (← e, le-ltb c 10 h, and-false (ltb 0 c)))
+
+-- ---- a table whose names and head codes stay
+
+-- a slice whose table, its names, and the name of each number are those of the first
 pub record Kept (file w w′ : List ℕ) (named : ℕ) : Type 0 where
   pub table : Table file w′ named
   pub names : table-names file w′ named ≡ table-names file w named
   pub name : (n : ℕ) → n < named → name-of file w′ n ≡ name-of file w n
 
-module _ (file w w′ : List ℕ) (words : (i : ℕ) → i < 8192 → getD w′ i 0 ≡ getD w i 0) where
+module _ (file w w′ : List ℕ) (words : (i : ℕ) → i < 6144 → getD w′ i 0 ≡ getD w i 0) where
   -- the name of a number stays
   name-stays : (n : ℕ) → n < 2048 → name-of file w′ n ≡ name-of file w n
   unfolding name-of
@@ -136,10 +176,10 @@ module _ (file w w′ : List ℕ) (words : (i : ℕ) → i < 8192 → getD w′ 
   names-stay zero h = refl
   names-stay (suc k) h = rw (names-stay k (omega arith), name-stays k (omega arith))
 
--- a slice as long, with the same words below 8192, is a table of the same names
-pub table-kept : {file w w′ : List ℕ} {named : ℕ} → Table file w named → length w′ ≡ length w → ((i : ℕ) → i < 8192 → getD w′ i 0 ≡ getD w i 0)
-    → Kept file w w′ named
-table-kept {file} {w} {w′} {named} table size words =
+-- a slice as long, with the same words below 6144 and the same head codes, is a table of the same names
+pub table-coded : {file w w′ : List ℕ} {named : ℕ} → Table file w named → length w′ ≡ length w → ((i : ℕ) → i < 6144 → getD w′ i 0 ≡ getD w i 0)
+    → ((n : ℕ) → n < named → name-code w′ n ≡ name-code w n) → Kept file w w′ named
+table-coded {file} {w} {w′} {named} table size words codes =
     let few = table .few in
     let rank : (r : ℕ) → r < named → getD w′ (4096 + r) 0 ≡ getD w (4096 + r) 0 = λ r h. words (4096 + r) (omega arith) in
     let name : (n : ℕ) → n < named → name-of file w′ n ≡ name-of file w n = λ n h. name-stays file w w′ words n (omega arith) in
@@ -154,8 +194,15 @@ table-kept {file} {w} {w′} {named} table size words =
         ascending = λ r q h l.
             rw (rank r (omega arith), rank q l, name (getD w (4096 + r) 0) (table .numbers r (omega arith)), name (getD w (4096 + q) 0) (table .numbers q l))
             (table .ascending r q h l);
-        codes = λ n h. rw (words (6144 + n) (omega arith), name n h) (table .codes n h);
+        codes = λ n h. codes n h ∙ rw (name n h) (table .codes n h);
       };
       names = names-stay file w w′ words named few;
       name = name;
     }
+
+-- so is one as long with the same words below 8192
+pub table-kept : {file w w′ : List ℕ} {named : ℕ} → Table file w named → length w′ ≡ length w → ((i : ℕ) → i < 8192 → getD w′ i 0 ≡ getD w i 0)
+    → Kept file w w′ named
+table-kept table size words =
+    let few = table .few in
+    table-coded table size (λ i h. words i (omega arith)) (λ n h. ap (_% excluded-mark) (words (6144 + n) (omega arith)))

@@ -1,5 +1,5 @@
 -- Laws of entering a name into a table: the index with one number more, and the table with one name more.
-use Prim.Native.Nat.{ℕ, zero, suc, _+_, _-_, _≤_, _<_}
+use Prim.Native.Nat.{ℕ, zero, suc, _+_, _-_, _%_, _≤_, _<_}
 use native.Mathlib.Numerals.{add-one}
 use native.Mathlib.Nat.{eq-or-lt-of-le}
 use native.Mathlib.Omega.{arith}
@@ -13,9 +13,10 @@ use Rattle.model.specs.Names.{order}
 use Rattle.model.specs.declared.Order.the-variants.{Before}
 use Rattle.model.proofs.SetLaws.{order-flip}
 use Rattle.names.specs.declared.Found.the-variants as found
-use Rattle.names.specs.Known.{head-code}
-use Rattle.names.specs.Table.{name-of, ranked, table-names, Table, look-up, index-with, entered}
+use Rattle.names.specs.Known.{head-code, excluded-mark, head-word}
+use Rattle.names.specs.Table.{name-code, name-of, ranked, table-names, Table, look-up, index-with, entered}
 use Rattle.names.proofs.Laws.{Stands, under, level, over, stands, last-or, below-or, name-at, Lacks, found-missing}
+use Rattle.names.proofs.Coded.{word-code}
 
 -- ---- the index with one number more
 
@@ -152,7 +153,7 @@ shift-end old new named i rank q h room s =
 -- ---- the slice with one name more
 
 -- the index with one number more, and then the new row, is the slice with one name more
-pub entered-row : (file w l : List ℕ) (named a e rank code : ℕ) → l ≡ index-with w named rank → code ≡ head-code (part file a e)
+pub entered-row : (file w l : List ℕ) (named a e rank code : ℕ) → l ≡ index-with w named rank → code ≡ head-word (part file a e)
     → set (set (set l named a) (2048 + named) (e - a)) (6144 + named) code ≡ entered file w named a e rank
 unfolding entered
 entered-row file w l named a e rank code p q = rw (p, q)
@@ -185,7 +186,7 @@ module _ (file w : List ℕ) (named a e rank : ℕ) (h : rank ≤ named) (few : 
   pub entered-length : length (entered file w named a e rank) ≡ length w
   unfolding entered
   entered-length =
-      length-set (set (set (index-with w named rank) named a) (2048 + named) (e - a)) (6144 + named) (head-code (part file a e))
+      length-set (set (set (index-with w named rank) named a) (2048 + named) (e - a)) (6144 + named) (head-word (part file a e))
       ∙ length-set (set (index-with w named rank) named a) (2048 + named) (e - a)
       ∙ length-set (index-with w named rank) named a
       ∙ index-length w named rank h within
@@ -195,7 +196,7 @@ module _ (file w : List ℕ) (named a e rank : ℕ) (h : rank ≤ named) (few : 
       → getD (entered file w named a e rank) i 0 ≡ getD (index-with w named rank) i 0
   unfolding entered
   entered-index i x y z =
-      getD-set-other (set (set (index-with w named rank) named a) (2048 + named) (e - a)) (6144 + named) i (head-code (part file a e)) 0 z
+      getD-set-other (set (set (index-with w named rank) named a) (2048 + named) (e - a)) (6144 + named) i (head-word (part file a e)) 0 z
       ∙ getD-set-other (set (index-with w named rank) named a) (2048 + named) i (e - a) 0 y
       ∙ getD-set-other (index-with w named rank) named i a 0 x
 
@@ -203,7 +204,7 @@ module _ (file w : List ℕ) (named a e rank : ℕ) (h : rank ≤ named) (few : 
   entered-start : getD (entered file w named a e rank) named 0 ≡ a
   unfolding entered
   entered-start =
-      getD-set-other (set (set (index-with w named rank) named a) (2048 + named) (e - a)) (6144 + named) named (head-code (part file a e)) 0 (λ x. omega arith)
+      getD-set-other (set (set (index-with w named rank) named a) (2048 + named) (e - a)) (6144 + named) named (head-word (part file a e)) 0 (λ x. omega arith)
       ∙ getD-set-other (set (index-with w named rank) named a) (2048 + named) named (e - a) 0 (λ x. omega arith)
       ∙ getD-set-same (index-with w named rank) named a 0 (omega (arith, index-length w named rank h within))
 
@@ -211,15 +212,15 @@ module _ (file w : List ℕ) (named a e rank : ℕ) (h : rank ≤ named) (few : 
   entered-size : getD (entered file w named a e rank) (2048 + named) 0 ≡ e - a
   unfolding entered
   entered-size =
-      getD-set-other (set (set (index-with w named rank) named a) (2048 + named) (e - a)) (6144 + named) (2048 + named) (head-code (part file a e)) 0 (λ x. omega arith)
+      getD-set-other (set (set (index-with w named rank) named a) (2048 + named) (e - a)) (6144 + named) (2048 + named) (head-word (part file a e)) 0 (λ x. omega arith)
       ∙ getD-set-same (set (index-with w named rank) named a) (2048 + named) (e - a) 0
       (omega (arith, index-length w named rank h within, length-set (index-with w named rank) named a))
 
-  -- its head code
-  entered-code : getD (entered file w named a e rank) (6144 + named) 0 ≡ head-code (part file a e)
+  -- the word of its head code
+  pub entered-code : getD (entered file w named a e rank) (6144 + named) 0 ≡ head-word (part file a e)
   unfolding entered
   entered-code =
-      getD-set-same (set (set (index-with w named rank) named a) (2048 + named) (e - a)) (6144 + named) (head-code (part file a e)) 0
+      getD-set-same (set (set (index-with w named rank) named a) (2048 + named) (e - a)) (6144 + named) (head-word (part file a e)) 0
       (omega (
         arith,
         index-length w named rank h within,
@@ -303,10 +304,10 @@ module _ (file w : List ℕ) (named a e rank : ℕ) (h : rank ≤ named) (few : 
         (table .inside n l)
 
     -- each head code is that of the name
-    codes-still : (n : ℕ) → (n ≡ named) ⊎ (n < named) → getD slice (6144 + n) 0 ≡ head-code (name-of file slice n)
-    codes-still n (inl d) = rw (d, entered-new o) entered-code
+    codes-still : (n : ℕ) → (n ≡ named) ⊎ (n < named) → name-code slice n ≡ head-code (name-of file slice n)
+    codes-still n (inl d) = rw (d, entered-new o, entered-code) (word-code (part file a e))
     codes-still n (inr l) =
-        entered-keeps (6144 + n) (λ x. omega arith) (λ x. omega arith) (λ x. omega arith) (inr (omega arith))
+        ap (_% excluded-mark) (entered-keeps (6144 + n) (λ x. omega arith) (λ x. omega arith) (λ x. omega arith) (inr (omega arith)))
         ∙ table .codes n l
         ∙ ap head-code (sym (entered-old n l))
 

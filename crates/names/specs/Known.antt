@@ -1,9 +1,10 @@
 -- The names that the twelve rules, `exclude_names` and the five starting macros know, and a code for each.
 use Prim.Native.Nat.{ℕ, _+_}
 use Prim.Native.String.{String}
-use mathlib.Core.Bool.{cond}
+use mathlib.Core.Bool.{cond, _&&_}
 use mathlib.Core.List.{List, [], _∷_, _++_, map}
 use lib.ListN.{length}
+use lib.Dec.{ltb}
 use Rattle.model.specs.Names.{Name, bytes, same}
 use Rattle.model.specs.Summaries.{common-names}
 
@@ -46,3 +47,15 @@ code-from n (k ∷ ks) name = let other = code-from (n + 1) ks name in cond (sam
 -- the head code of a name: its place among the known names from 1, or 0
 unfoldable pub head-code : Name → ℕ
 head-code name = code-from 1 (map bytes known-names) name
+
+-- what is added to the head code of an excluded name
+abbrev pub excluded-mark : ℕ
+excluded-mark = 32
+
+-- a head code, marked where it is that of one of `exclude_names`, 1 to 9
+unfoldable pub marked-code : ℕ → ℕ
+marked-code code = cond (ltb 0 code && ltb code 10) (code + excluded-mark) code
+
+-- the word of a new name: its head code, marked where the name is one of `exclude_names`, codes 1 to 9
+unfoldable pub head-word : Name → ℕ
+head-word name = marked-code (head-code name)

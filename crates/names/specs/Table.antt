@@ -1,8 +1,9 @@
 -- The name table in a lent slice: 8 columns of 2,048 words. By name number: where the name starts in the file (from word 0),
--- its length, its head code; by rank in byte order: the number. The other columns are others' concern.
-use Prim.Native.Nat.{ℕ, zero, suc, _+_, _-_, _≤_, _<_}
+-- its length, its head code with the mark of an excluded name; by rank in byte order: the number. The other columns are others'
+-- concern.
+use Prim.Native.Nat.{ℕ, zero, suc, _+_, _-_, _%_, _≤_, _<_}
 use mathlib.Core.Path.{_≡_}
-use mathlib.Core.Bool.{Bool, true, false, cond, _&&_}
+use mathlib.Core.Bool.{Bool, true, false, cond}
 use mathlib.Core.List.{List, [], _∷_, _++_}
 use mathlib.Core.Option.{Option, none, some}
 use lib.ListN.{length, take, drop, getD, set}
@@ -12,8 +13,9 @@ use Rattle.model.specs.declared.Order.{Order}
 use Rattle.model.specs.declared.Order.the-variants.{Before, Same, After}
 use Rattle.model.specs.Reading.{most-names}
 use Rattle.model.specs.Outcome.{most-bytes, working-words}
-use Rattle.names.specs.Known.{head-code}
-use lib.Dec.{ltb}
+use Rattle.model.specs.Summaries.{exclude-names}
+use Rattle.names.specs.Known.{head-code, excluded-mark, head-word}
+use lib.Dec.{leb, ltb}
 use Rattle.names.specs.declared.Found.{Found}
 use Rattle.names.specs.declared.Found.the-variants as found
 use Rattle.names.specs.declared.Spelled.{Spelled}
@@ -37,9 +39,13 @@ name-start w n = getD w n 0
 abbrev pub name-length : List ℕ → ℕ → ℕ
 name-length w n = getD w (length-column + n) 0
 
+-- the word of its head code
+abbrev pub code-word : List ℕ → ℕ → ℕ
+code-word w n = getD w (code-column + n) 0
+
 -- its head code
 abbrev pub name-code : List ℕ → ℕ → ℕ
-name-code w n = getD w (code-column + n) 0
+name-code w n = code-word w n % excluded-mark
 
 -- the number that stands at a rank of the byte-order index
 abbrev pub ranked : List ℕ → ℕ → ℕ
@@ -74,13 +80,22 @@ unfoldable pub place-from : ℕ → List Name → Name → Option ℕ
 place-from n [] name = none
 place-from n (m ∷ ms) name = let other = place-from (n + 1) ms name in cond (same m name) (some n) other
 
--- whether a name is excluded: its head code is one of those of `exclude_names`, 1 to 9
+-- whether a name is excluded: its word is marked
 unfoldable pub is-excluded : List ℕ → ℕ → Bool
-is-excluded w n = ltb 0 (name-code w n) && ltb (name-code w n) 10
+is-excluded w n = leb excluded-mark (code-word w n)
 
 -- the excluded names of a table are those of a list
 abbrev pub Excludes : List Name → List ℕ → List ℕ → ℕ → Type 0
 Excludes exclude file w named = (n : ℕ) → n < named → is-excluded w n ≡ mem (name-of file w n) exclude
+
+-- the slice with a name excluded; nothing else changes
+unfoldable pub excluded-at : List ℕ → ℕ → List ℕ
+excluded-at w n = set w (code-column + n) (name-code w n + excluded-mark)
+
+-- a table with no fewer names: those before are excluded as before, of the others those of `exclude_names` are
+pub record Tells (file w w′ : List ℕ) (named named′ : ℕ) : Type 0 where
+  pub old : (n : ℕ) → n < named → is-excluded w′ n ≡ is-excluded w n
+  pub new : (n : ℕ) → named ≤ n → n < named′ → named′ ≤ most-names → is-excluded w′ n ≡ mem (name-of file w′ n) exclude-names
 
 -- whether the order is that of a name before another
 unfoldable pub is-before : Order → Bool
@@ -108,10 +123,10 @@ index-with w named rank =
     ++ (named ∷ take (named - rank) (drop (index-column + rank) w))
     ++ drop (index-column + named + 1) w
 
--- the slice with one name more: its row, its head code, its place in the index; nothing else changes
+-- the slice with one name more: its row, the word of its head code, its place in the index; nothing else changes
 unfoldable pub entered : List ℕ → List ℕ → ℕ → ℕ → ℕ → ℕ → List ℕ
 entered file w named a e rank =
-    set (set (set (index-with w named rank) named a) (length-column + named) (e - a)) (code-column + named) (head-code (part file a e))
+    set (set (set (index-with w named rank) named a) (length-column + named) (e - a)) (code-column + named) (head-word (part file a e))
 
 -- what spelling a name comes to, by what the look-up found: at 2,048 names the table is full
 unfoldable pub spell-answer : ℕ → Found → Spelled

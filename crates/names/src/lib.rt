@@ -6,8 +6,8 @@ ghost use Rattle.model.specs.Lists.{part};
 ghost use Rattle.model.specs.Reading.{most-names};
 ghost use Rattle.model.specs.Outcome.{working-words};
 ghost use Rattle.text.specs.Parts.{Is-part, shared, comparison};
-ghost use Rattle.names.specs.Known.{head-code, known-text};
-ghost use Rattle.names.specs.Table.{length-column, name-start, name-length, Table, is-excluded, name-of, table-names, look-up, index-with, spell-answer, spell-table};
+ghost use Rattle.names.specs.Known.{head-code, head-word, known-text};
+ghost use Rattle.names.specs.Table.{length-column, name-start, name-length, name-code, Table, is-excluded, excluded-at, name-of, table-names, look-up, index-with, spell-answer, spell-table};
 
 // What a look-up finds: the name's number, or the rank where the name belongs in byte order.
 pub enum Found {
@@ -23,12 +23,15 @@ pub enum Spelled {
 }
 
 // The columns of the name table, by their first word. By number: where the name starts in the file (from word 0), its length,
-// its head code. By rank in byte order: the number.
+// its head code, with `EXCLUDED_MARK` added where it is excluded. By rank in byte order: the number.
 pub const LENGTH: usize = 2048;
 
 pub const INDEX: usize = 4096;
 
 pub const CODE: usize = 6144;
+
+// What is added to the head code of an excluded name.
+pub const EXCLUDED_MARK: usize = 32;
 
 // The known names in the order of their codes, each behind its length.
 const KNOWN: [u8; 250] =
@@ -72,6 +75,21 @@ fn code_in(file: &[u8], a: usize, e: usize, known: &[u8]) -> u32
         i = stop;
     }
     0
+}
+
+// The word of the part from `a` up to `e`: its head code, marked where it is one of `exclude_names`, codes 1 to 9.
+fn head_word(file: &[u8], a: usize, e: usize) -> u32
+    requires { ⌜ (a ≤ e) × (e ≤ length (now file)) ⌝ }
+    ensures { λ r. ⌜ r ≡ head-word (part (now (file .entry)) a e) ⌝ }
+{
+    let code = head_code(file, a, e);
+    if code == 0 {
+        return 0;
+    }
+    if code < 10 {
+        return code + EXCLUDED_MARK as u32;
+    }
+    code
 }
 
 // A byte as a number.
@@ -151,7 +169,7 @@ fn enter(file: &[u8], w: &mut [u32], named: usize, a: usize, e: usize, rank: usi
     put_index(w, named, rank);
     w[named] = a as u32;
     w[LENGTH + named] = (e - a) as u32;
-    w[CODE + named] = head_code(file, a, e);
+    w[CODE + named] = head_word(file, a, e);
     Spelled::New(named)
 }
 
@@ -180,14 +198,27 @@ pub fn name_part<'a>(file: &'a [u8], w: &[u32], named: usize, n: usize) -> &'a [
     &file[start..start + len]
 }
 
+// The head code of a name.
+pub fn code_at(w: &[u32], n: usize) -> usize
+    requires { ⌜ (n < most-names) × (working-words ≤ length (now w)) ⌝ }
+    ensures { λ r. ⌜ r ≡ name-code (now (w .entry)) n ⌝ }
+{
+    words::at(w, CODE + n) % EXCLUDED_MARK
+}
+
 // Whether a name is excluded: nothing else reads what says so.
 pub fn is_excluded(w: &[u32], n: usize) -> bool
     requires { ⌜ (n < most-names) × (working-words ≤ length (now w)) ⌝ }
     ensures { λ r. ⌜ r ≡ is-excluded (now (w .entry)) n ⌝ }
 {
-    let code = words::at(w, CODE + n);
-    if code == 0 {
-        return false;
-    }
-    code < 10
+    EXCLUDED_MARK <= words::at(w, CODE + n)
+}
+
+// Excludes a name.
+pub fn exclude(w: &mut [u32], n: usize)
+    requires { ⌜ (n < most-names) × (working-words ≤ length (now w)) ⌝ }
+    ensures { λ r. ⌜ now (w .exit) ≡ excluded-at (now (w .entry)) n ⌝ }
+{
+    let code = code_at(w, n);
+    w[CODE + n] = (code + EXCLUDED_MARK) as u32;
 }

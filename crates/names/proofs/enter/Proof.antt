@@ -41,8 +41,8 @@ mul-w-2 c = search needs
 slice-write-w-2 : tie.Need-slice-write-w-2
 slice-write-w-2 c = simp length-set (omega arith)
 
-head-code-requires : tie.Need-head-code-requires
-head-code-requires c κs = search needs
+head-word-requires : tie.Need-head-word-requires
+head-word-requires c κs = search needs
 
 add-w-2 : tie.Need-add-w-2
 add-w-2 c = search needs
@@ -60,7 +60,7 @@ returns-2 : tie.Need-returns-2
 returns-2 c =
     let a = c .before .before .before .before .before .before .before .before .args in
     let new = missing-new (a .file .now) (a .w .now) (a .named) (a .a) (a .e) (a .rank) (omega arith) in
-    (sym (new .0), entered-row _ _ _ _ _ _ _ _ (c .before .before .before .put-index .ensures) (c .head-code .ensures) ∙ sym (new .1))
+    (sym (new .0), entered-row _ _ _ _ _ _ _ _ (c .before .before .before .put-index .ensures) (c .head-word .ensures) ∙ sym (new .1))
 
 pub enter-spec : {M : Type 1} → statement M
 enter-spec =
@@ -76,7 +76,7 @@ enter-spec =
     add-w
     mul-w-2
     slice-write-w-2
-    head-code-requires
+    head-word-requires
     add-w-2
     mul-w-3
     slice-write-w-3
