@@ -22,6 +22,7 @@ use Rattle.names.specs.Table.{Table, table-names}
 use Rattle.names.proofs.Laws.{names-length}
 use Rattle.names.proofs.Entering.{entered-length, entered-keeps, entered-old, entered-new}
 use Rattle.names.proofs.Spelling.{Was-known, Is-new, Is-full}
+use Rattle.names.proofs.Excluded.{tells-same, tells-then, tells-new, tells-full}
 use Rattle.terms.proofs.Laws.{below}
 use Rattle.words.specs.Slices.{Same-but}
 use Rattle.words.proofs.Slices.{same-self, same-then}
@@ -47,15 +48,16 @@ spell-one : (ns : List Name) (m : Name) → (T (mem m ns) → ⊥) → length (s
 unfolding spell
 spell-one ns m h = rw (cond-false (mem m ns) ns (ns ++ (m ∷ [])) (not-T (mem m ns) h)) (omega (arith, length-append ns (m ∷ [])))
 
--- the same table, of no smaller a count
-pub longer-to : {file names : List ℕ} {named named′ : ℕ} → named ≤ named′ → Longer file names names named named′
-longer-to {names = names} h = record { more = h; same = λ n l. refl; kept = same-self 0 name-columns names }
+-- the same table
+pub longer-same : {file names : List ℕ} {named : ℕ} → Longer file names names named named
+longer-same {names = names} = record { more = omega arith; same = λ n l. refl; told = tells-same; kept = same-self 0 name-columns names }
 
 -- longer than longer
 pub longer-then : {file a b c : List ℕ} {k l m : ℕ} → Longer file a b k l → Longer file b c l m → Longer file a c k m
 longer-then p q = record {
   more = omega (arith, p .more, q .more);
   same = λ n h. q .same n (omega (arith, p .more)) ∙ p .same n h;
+  told = tells-then (p .more) (q .more) (q .same) (p .told) (q .told);
   kept = same-then (p .kept) (q .kept);
 }
 
@@ -90,7 +92,7 @@ pub spelled-past : {file names : List ℕ} {named : ℕ} (m : Name) → Begun fi
 spelled-past {file} {names} {named} m b h = record {
   naming = λ ns g. go ns g;
   number = λ l. absurd (omega arith);
-  longer = longer-to (omega arith);
+  longer = longer-same;
   begun = b;
 }
   where
@@ -109,7 +111,7 @@ module _ {file names names′ : List ℕ} {named a e : ℕ} (t : Table file name
   as-known {n} w = rw (w .kept) (record {
     naming = λ ns g. in-table t (w .names ∙ spell-names (part file a e) t g);
     number = λ l. (w .number, w .is);
-    longer = longer-to (omega arith);
+    longer = longer-same;
     begun = table-there t;
   })
 
@@ -124,6 +126,7 @@ module _ {file names names′ : List ℕ} {named a e : ℕ} (t : Table file name
         longer = record {
           more = omega arith;
           same = λ m l. rw (w .slice) (entered-old file names named a e (w .rank) inside few (t .room) m l);
+          told = tells-new t o w;
           kept = record {
             same-length = rw (w .slice) (entered-length file names named a e (w .rank) inside few (t .room));
             same-words = λ i h.
@@ -142,7 +145,7 @@ module _ {file names names′ : List ℕ} {named a e : ℕ} (t : Table file name
         let d = naming-table g (t .few) .1 in
         past refl (omega (arith, spell-one ns (part file a e) (rw d at (w .absent)), names-length file names named, ap length d, w .full));
     number = λ l. absurd (omega arith);
-    longer = longer-to (omega (arith, w .full));
+    longer = record { more = omega (arith, w .full); same = λ n l. refl; told = rw (w .kept) at (tells-full {named′ = past-names} w); kept = same-self 0 name-columns names };
     begun = none-left refl;
   })
 
@@ -227,7 +230,7 @@ on-first {file} {names} {named} t p = record {
   ns = table-names file names named;
   run = refl;
   naming = in-table t refl;
-  longer = longer-to (omega arith);
+  longer = longer-same;
   begun = table-there t;
   placed = p;
 }

@@ -3,7 +3,7 @@ use Prim.Native.Nat.{ℕ, zero, suc, _+_, _-_, _*_, _≤_, _<_}
 use Prim.Native.String.{String}
 use native.Mathlib.Omega.{arith}
 use mathlib.Core.Path.{_≡_, refl, sym, ap, ap₂, _∙_}
-use mathlib.Core.Bool.{Bool, true, false, cond, not, _&&_, and-eq-true-iff}
+use mathlib.Core.Bool.{Bool, true, false, cond, not, _&&_, and-true, and-false, and-eq-true-iff}
 use mathlib.Core.List.{List, [], _∷_}
 use mathlib.Core.Option.{Option, none, some}
 use lib.ListN.{length, getD}
@@ -12,7 +12,7 @@ use borrow.Author.Tests.{eq-eqb, ne-eqb, ltb-true, leb-true}
 use Rattle.model.specs.Lists.{all, holds, part}
 use Rattle.model.specs.Names.{bytes, same}
 use Rattle.model.specs.Lines.{Field}
-use Rattle.model.specs.Reading.{Result, ok, refused, _>>=_, need, next, word, op-words, kinds, State, another, place, may-stand, kind-field, fixed-count, content, parse}
+use Rattle.model.specs.Reading.{Result, ok, refused, _>>=_, need, next, word, op-words, kinds, State, another, in-head, place, may-stand, kind-field, fixed-count, content, parse}
 use Rattle.model.specs.declared.Counts.{Counts}
 use Rattle.model.specs.declared.LineKind.{LineKind}
 use Rattle.model.specs.declared.LineKind.the-variants as kind
@@ -160,6 +160,26 @@ module _ {s : State} {k : Counts} (p : Placing s k) where
   unfolding stands place may-stand
   stands-ask = sym (p .no-asks)
 
+  -- a hide line: none before the first ask
+  pub stands-hide-first : k .asks ≡ 0 → false ≡ stands s kinded.Hide
+  unfolding stands place may-stand
+  stands-hide-first h = rw (p .no-asks, eq-eqb (k .asks) 0 h) (sym (and-false (in-head s)))
+
+  -- behind it, where nothing else stands
+  pub stands-hide : (k .asks ≡ 0 → ⊥) → {b : Bool} → b ≡ in-head s → b ≡ stands s kinded.Hide
+  unfolding stands place may-stand
+  stands-hide h e = rw (p .no-asks, ne-eqb (k .asks) 0 h) (e ∙ sym (and-true (in-head s)))
+
+  -- there is a term line
+  pub head-past : (k .terms ≡ 0 → ⊥) → false ≡ in-head s
+  unfolding in-head
+  head-past h = rw (p .no-terms, ne-eqb (k .terms) 0 h)
+
+  -- there is none
+  pub head-there : k .terms ≡ 0 → eqb (k .records) (k .hides) ≡ in-head s
+  unfolding in-head
+  head-there h = rw (p .no-terms, eq-eqb (k .terms) 0 h) (sym (p .no-records))
+
   -- a line behind an ask
   later : not (eqb (k .asks) 0) ≡ may-stand s another
   unfolding may-stand
@@ -194,6 +214,7 @@ kind-tested : (s : State) (r : Kind) → (kind-result r >>= λ k. cond (may-stan
     ≡ cond (stands s r) (kind-result r) (refused refusal.Form)
 unfolding kind-result stands
 kind-tested s kinded.Ask = refl
+kind-tested s kinded.Hide = refl
 kind-tested s (kinded.Term t) = refl
 kind-tested s (kinded.Record r) = refl
 kind-tested s kinded.No = refl
@@ -234,6 +255,7 @@ op-none {key} f k h = ap as-op (look-none (Unit {0}) key op-words h) ∙ op-key 
 fixed-some : (s : State) (k : LineKind) → count-of (fixed-count s k) ≡ 0 → fixed-count s k ≡ none
 unfolding fixed-count count-of
 fixed-some s kind.Ask e = absurd (omega arith)
+fixed-some s kind.Hide e = absurd (omega arith)
 fixed-some s kind.Free e = absurd (omega arith)
 fixed-some s kind.Leaf e = absurd (omega arith)
 fixed-some s kind.Call e = refl
@@ -252,6 +274,7 @@ fixed-some s kind.Root e = absurd (omega arith)
 fixed-none : (s : State) (k : Kind) → count-of (fixed-of s k) ≡ 0 → fixed-of s k ≡ none
 unfolding fixed-of
 fixed-none s kinded.Ask e = fixed-some s kind.Ask e
+fixed-none s kinded.Hide e = fixed-some s kind.Hide e
 fixed-none s (kinded.Term t) e = fixed-some s (term-kind t) e
 fixed-none s (kinded.Record r) e = fixed-some s (record-line-kind r) e
 fixed-none s kinded.No e = refl
@@ -300,6 +323,7 @@ parse-law s {count} f fs r d e = rw (← e, ← d) (go r)
     go : (r : Kind) → (kind-result r >>= (λ k. and-after fs k) >>= λ (k, gs). cond (wrong s (f ∷ fs) k) (refused refusal.Form) (content k terms gs))
         ≡ (kind-result r >>= λ k. cond (well-counted s r (f ∷ fs)) (content k terms fs) (refused refusal.Form))
     go kinded.Ask = turned (wrong s (f ∷ fs) kind.Ask) (refused refusal.Form) (content kind.Ask terms fs)
+    go kinded.Hide = turned (wrong s (f ∷ fs) kind.Hide) (refused refusal.Form) (content kind.Hide terms fs)
     go (kinded.Term t) = turned (wrong s (f ∷ fs) (term-kind t)) (refused refusal.Form) (content (term-kind t) terms fs)
     go (kinded.Record r) = turned (wrong s (f ∷ fs) (record-line-kind r)) (refused refusal.Form) (content (record-line-kind r) terms fs)
     go kinded.No = refl

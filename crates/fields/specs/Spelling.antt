@@ -11,7 +11,7 @@ use Rattle.model.specs.declared.Refusal.{Refusal}
 use Rattle.text.specs.declared.Cursor.{Cursor}
 use Rattle.text.specs.Parts.{fields-left}
 use Rattle.text.proofs.Laws.{Onward}
-use Rattle.names.specs.Table.{Table, name-of, table-names}
+use Rattle.names.specs.Table.{Table, Tells, name-of, table-names}
 use Rattle.words.specs.Slices.{Same-but}
 use Rattle.fields.specs.declared.Spelt.{Spelt}
 use Rattle.fields.specs.declared.Word.{Word}
@@ -37,10 +37,12 @@ pub data Begun (file names : List ℕ) (named : ℕ) : Type 0 where
   table-there : Table file names named → Begun file names named
   none-left : named ≡ past-names → Begun file names named
 
--- a table with no fewer names: those before have their numbers, and the columns of others are as before
+-- a table with no fewer names: those before have their numbers, the excluded names are told, and the columns of others are as
+-- before
 pub record Longer (file names names′ : List ℕ) (named named′ : ℕ) : Type 0 where
   pub more : named ≤ named′
   pub same : (n : ℕ) → n < named → name-of file names′ n ≡ name-of file names n
+  pub told : Tells file names names′ named named′
   pub kept : Same-but 0 name-columns names names′
 
 -- what spelling a name comes to: the names with it, and its number

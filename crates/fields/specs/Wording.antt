@@ -83,6 +83,7 @@ record-line-kind recorded.Root = kind.Root
 -- the kind of a line; none is 1
 unfoldable pub kind-result : Kind → Result LineKind
 kind-result kinded.Ask = ok kind.Ask
+kind-result kinded.Hide = ok kind.Hide
 kind-result (kinded.Term t) = ok (term-kind t)
 kind-result (kinded.Record r) = ok (record-line-kind r)
 kind-result kinded.No = refused refusal.Form
@@ -90,6 +91,7 @@ kind-result kinded.No = refused refusal.Form
 -- whether a line of the kind may stand next
 unfoldable pub stands : State → Kind → Bool
 stands s kinded.Ask = may-stand s (place kind.Ask)
+stands s kinded.Hide = may-stand s (place kind.Hide)
 stands s (kinded.Term t) = may-stand s (place (term-kind t))
 stands s (kinded.Record r) = may-stand s (place (record-line-kind r))
 stands s kinded.No = false
@@ -97,10 +99,13 @@ stands s kinded.No = false
 -- the counts say what of a state decides where a line may stand
 pub record Placing (s : State) (k : Counts) : Type 0 where
   pub no-asks : is-nil (s .asks) ≡ eqb (k .asks) 0
+  pub no-terms : is-nil (s .terms) ≡ eqb (k .terms) 0
+  pub no-records : (is-nil (s .decls) && is-nil (s .roots)) ≡ eqb (k .records) (k .hides)
 
 -- the fields of the next line, the kind counted, where their count is fixed
 unfoldable pub fixed-of : State → Kind → Option ℕ
 fixed-of s kinded.Ask = fixed-count s kind.Ask
+fixed-of s kinded.Hide = fixed-count s kind.Hide
 fixed-of s (kinded.Term t) = fixed-count s (term-kind t)
 fixed-of s (kinded.Record r) = fixed-count s (record-line-kind r)
 fixed-of s kinded.No = none

@@ -10,7 +10,7 @@ ghost use mathlib.Core.Path.{_≡_};
 ghost use lib.ListN.{length};
 ghost use Rattle.model.specs.Lists.{part};
 ghost use Rattle.model.specs.Lines.{fields};
-ghost use Rattle.model.specs.Reading.{need, word, op-words, kinds, State, kind-field};
+ghost use Rattle.model.specs.Reading.{need, word, op-words, kinds, State, in-head, kind-field};
 ghost use Rattle.model.specs.declared.Refusal.the-variants as refusal;
 ghost use Rattle.text.specs.Parts.{Placed, fields-left};
 ghost use Rattle.names.specs.Table.{Table};
@@ -42,6 +42,7 @@ pub enum RecordKind {
 // The kind of a line, or that there is none.
 pub enum Kind {
     Ask,
+    Hide,
     Term(TermKind),
     Record(RecordKind),
     No,
@@ -55,6 +56,8 @@ enum OpWord {
 
 // The keys of the kinds and of the op words: a 1, then the bytes of the word.
 const ASK: u64 = 0x1_61_73_6b;
+
+const HIDE: u64 = 0x1_68_69_64_65;
 
 const FREE: u64 = 0x1_66_72_65_65;
 
@@ -118,6 +121,7 @@ fn kind_of(key: u64) -> Kind
 {
     match key {
         ASK => Kind::Ask,
+        HIDE => Kind::Hide,
         FREE => Kind::Term(TermKind::Free),
         LEAF => Kind::Term(TermKind::Leaf),
         CALL => Kind::Term(TermKind::Call),
@@ -135,12 +139,28 @@ fn kind_of(key: u64) -> Kind
     }
 }
 
-// Whether a line of a kind may stand after the lines counted: the first is an ask, and no other is.
+// Whether the lines counted are asks and hide lines alone.
+fn in_head(k: Counts) -> bool
+    ensures { λ r. ⌜ ((s : State) → Placing s k → r ≡ in-head s) ⌝ }
+{
+    if k.terms != 0 {
+        return false;
+    }
+    k.records == k.hides
+}
+
+// Whether a line of a kind may stand after the lines counted: the first is an ask, and no other is; hide lines follow it.
 fn may_stand(k: Counts, kind: Kind) -> bool
     ensures { λ r. ⌜ ((s : State) → Placing s k → r ≡ stands s kind) ⌝ }
 {
     match kind {
         Kind::Ask => k.asks == 0,
+        Kind::Hide => {
+            if k.asks == 0 {
+                return false;
+            }
+            in_head(k)
+        }
         Kind::Term(_) => k.asks != 0,
         Kind::Record(_) => k.asks != 0,
         Kind::No => false,
@@ -209,6 +229,7 @@ fn fixed_count(kind: Kind) -> usize
 {
     match kind {
         Kind::Ask => 3,
+        Kind::Hide => 2,
         Kind::Term(t) => term_count(t),
         Kind::Record(r) => record_count(r),
         Kind::No => 0,

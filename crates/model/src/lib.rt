@@ -97,8 +97,8 @@ pub const MOST_KEPT: usize = MOST_RECORDS;
 // The words of a working slice that a call uses.
 pub const WORKING_WORDS: usize = 16384;
 
-// How much of the tables the lines read so far fill: asks, hidden names, names, references, terms, other records, trigger
-// entries, name uses; and the next mark.
+// How much of the tables the lines read so far fill: asks, hide lines, names, references, terms, records (the hide lines among
+// them), trigger entries, name uses; and the next mark.
 pub struct Counts {
     pub asks: usize,
     pub hides: usize,

@@ -30,7 +30,7 @@ use Rattle.fields.specs.Pushing.{reference}
 use Rattle.fields.specs.Spelling.{in-table, Spelled-as}
 use Rattle.nodes.specs.Growing.{First-passed, Stands}
 use Rattle.fields.proofs.Pushing.{left-cons}
-use Rattle.fields.proofs.Spelling.{Name-read, longer-to}
+use Rattle.fields.proofs.Spelling.{Name-read, longer-same}
 use Rattle.fields.proofs.Runs.{in-group, Ran, ran-none, ran-then, Term-ran, Rest-ran}
 use Rattle.nodes.proofs.Terms.{Line-read, line-words, line-long}
 
@@ -139,7 +139,7 @@ module _ {file names refs rows refs′ : List ℕ} {k : Counts} {end : ℕ} {wor
   -- a line that spells no name
   pub plain-line : spelled-by node ≡ [] → Line-read file names refs names refs′ k kind c (k .names) end node words
   unfolding fold-left
-  plain-line e = record { says = says; naming = in-table (t .name-table) (rw e); longer = longer-to (omega arith); ran = ran; count = count }
+  plain-line e = record { says = says; naming = in-table (t .name-table) (rw e); longer = longer-same; ran = ran; count = count }
 
   -- a line that spells a name
   pub named-line : {names′ : List ℕ} {named′ n : ℕ} {m : Name} → Spelled-as file names names′ (k .names) named′ n m → spelled-by node ≡ m ∷ []

@@ -5,20 +5,21 @@ use native.Mathlib.Omega.{arith}
 use mathlib.Core.Path.{_≡_, refl, ap, _∙_}
 use mathlib.Core.Bool.{true, false}
 use mathlib.Core.Logic.{_⊎_, inl, inr, ⊎-elim}
-use mathlib.Core.List.{List, [], _∷_, _++_, map, append-nil}
-use lib.ListN.{length, getD, length-append}
+use mathlib.Core.List.{List, [], _∷_, _++_, map, map-append, append-nil}
+use lib.ListN.{length, getD, length-append, length-map}
 use Rattle.model.specs.Lists.{sum, collect, fold-left, part}
 use Rattle.model.specs.Names.{Name}
 use Rattle.model.specs.Summaries.{exclude-names, entries}
 use Rattle.model.specs.Terms.{Node, Term, add-term, unlabeled, free-top-level-names}
-use Rattle.model.specs.Reading.{Content, asked, nodes, spelled, trimmed, spell, summarize-decl, root-of, entries-of, uses-of, add-line, repeats, most-names, most-records, most-entries, most-uses, excluded}
+use Rattle.model.specs.Reading.{Content, heads, head-asks, hidden-by, nodes, spelled, trimmed, spell, summarize-decl, root-of, entries-of, uses-of, add-line, repeats, most-names, most-records, most-entries, most-uses, excluded}
 use Rattle.model.specs.declared.Counts.{Counts}
 use Rattle.model.specs.declared.Refusal.{Refusal}
 use Rattle.model.specs.declared.Refusal.the-variants as refusal
 use Rattle.laws.specs.Limits.{Past-names, Past-terms, Past-triggers}
 use Rattle.laws.proofs.ReadingLaws.{Lowest, past-records, past-triggers}
-use Rattle.names.specs.Table.{Table, name-of, table-names}
+use Rattle.names.specs.Table.{Table, name-of, table-names, Excludes, Tells}
 use Rattle.names.proofs.Laws.{names-length}
+use Rattle.names.proofs.Excluded.{excludes-more}
 use Rattle.terms.specs.Rows.{terms-of, nodes-below, node-of}
 use Rattle.terms.proofs.Table.{rows-named, terms-named}
 use Rattle.terms.proofs.Laws.{equal, below}
@@ -29,12 +30,12 @@ use Rattle.rules.specs.Views.{terms-in}
 use Rattle.triggers.specs.Entries.{disjuncts-of, entries-base, last-flag, no-name}
 use Rattle.triggers.proofs.Marked.{terms-marked}
 use Rattle.model.specs.declared.Step.the-variants as step
-use Rattle.records.specs.Columns.{record-kind, assume-kind, retain-kind, root-kind, entry-word, entry-name, entry-fact, ask-query-column, ask-options-column, ask-query, ask-options}
-use Rattle.records.specs.States.{summary-at, root-at, decls-of, roots-of, asks-of, state-of}
+use Rattle.records.specs.Columns.{record-kind, assume-kind, retain-kind, root-kind, hide-kind, entry-word, entry-name, entry-fact, ask-query-column, ask-options-column, ask-query, ask-options}
+use Rattle.records.specs.States.{summary-at, root-at, hides-at, decls-of, roots-of, hides-of, hidden-of, excluded-of, asks-of, state-of}
 use Rattle.records.specs.Filing.{Records, Chained, Filing, Taken}
-use Rattle.records.specs.Writing.{with-record, Rowed}
+use Rattle.records.specs.Writing.{with-row, Rowed}
 use Rattle.records.specs.Adding.{Standing, Adds, stops, added}
-use Rattle.records.proofs.Recording.{Agree, decls-stay, roots-stay, records-length}
+use Rattle.records.proofs.Recording.{Agree, names-stay, hides-known, hides-stay, decls-stay, roots-stay, records-length}
 use Rattle.records.proofs.Keeping.{filing-more}
 use Rattle.records.proofs.Judging.{Within, judged-repeated, judged-beyond, judged-within}
 
@@ -68,16 +69,15 @@ standing-within {file} {names} {refs} {rows} {recs} {lists} {k} st = record {
   names = omega (arith, names-length file names (k .names), st .tables .name-table .few);
   terms = omega (arith, terms-length file names refs rows (k .references) (k .terms), st .tables .term-table .few-rows);
   references = st .tables .term-table .few-references;
-  records = omega (arith, records-length (name-of file names) recs lists (k .records), st .recorded .few);
+  records = omega (
+    arith,
+    records-length (name-of file names) recs lists (k .records),
+    length-map (hides-of recs (k .records)) (name-of file names),
+    st .recorded .few,
+  );
   entries = st .recorded .few-entries;
   uses = st .recorded .few-uses;
 }
-
--- the names that are not free names
-pub excluded-here : (file names refs rows recs lists : List ℕ) (k : Counts)
-    → excluded exclude-names (state-of file names refs rows recs lists k) ≡ exclude-names
-unfolding excluded state-of
-excluded-here file names refs rows recs lists k = append-nil exclude-names
 
 -- asks whose words stay
 pub asks-stay : (recs recs′ : List ℕ) (n : ℕ)
@@ -89,19 +89,43 @@ asks-stay recs recs′ (suc n) same =
     let (q, o) = same n (omega arith) in
     rw (asks-stay recs recs′ n (λ i l. same i (omega arith)), q, o)
 
+-- ---- the excluded names with a record that is no hide line
+
+-- a record of another kind hides no name
+hides-none : (recs : List ℕ) (i kind : ℕ) → kind ≤ root-kind → hides-at recs i kind ≡ []
+unfolding hides-at
+hides-none recs i zero h = refl
+hides-none recs i (suc zero) h = refl
+hides-none recs i (suc (suc zero)) h = refl
+hides-none recs i (suc (suc (suc zero))) h = refl
+hides-none recs i (suc (suc (suc (suc zero)))) h = refl
+hides-none recs i (suc (suc (suc (suc (suc k))))) h = absurd (omega arith)
+
+-- with such a record they are as the table with more names tells
+pub no-hide : {file names refs rows recs lists names′ : List ℕ} {k : Counts} {named′ : ℕ} → Standing file names refs rows recs lists k
+    → Table file names′ named′ → k .names ≤ named′ → ((n : ℕ) → n < k .names → name-of file names′ n ≡ name-of file names n)
+    → Tells file names names′ (k .names) named′ → (recs′ : List ℕ) (kind : ℕ) → kind ≤ root-kind
+    → (k .hides ≡ k .hides + length (hides-at recs′ (k .records) kind))
+    × Excludes (exclude-names ++ map (name-of file names′) (hides-of recs (k .records) ++ hides-at recs′ (k .records) kind)) file names′ named′
+no-hide {recs = recs} {k = k} st table more same told recs′ kind low =
+    rw (hides-none recs′ (k .records) kind low, append-nil (hides-of recs (k .records))) (
+      omega arith,
+      excludes-more table more same told (hides-of recs (k .records)) (hides-known (st .recorded) (k .records) (omega arith)) (st .hiding .excludes),
+    )
+
 -- ---- a record appended
 
 -- the tables with a record after those counted: more names, marks, its row, its free names, its entries, the name that it takes
 pub record Appends (file names rows recs lists names′ rows′ recs′ lists′ : List ℕ) (k : Counts)
-    (named′ entries′ uses′ mark′ kind line name term flag code : ℕ) : Type 0 where
+    (hides′ named′ entries′ uses′ mark′ kind line name term flag code : ℕ) : Type 0 where
   pub table : Table file names′ named′
   pub more : k .names ≤ named′
   pub same : (n : ℕ) → n < k .names → name-of file names′ n ≡ name-of file names n
   pub row-words : Same-but 12288 4096 rows rows′
   pub fresh : Fresh names′ rows′ mark′
   pub few-marks : mark′ ≤ 2 * (k .records + 1) + entries′ + 1
-  pub row : Rowed recs recs′ k (with-record k named′ entries′ uses′ mark′) kind line name term flag code
-  pub small-kind : kind ≤ root-kind
+  pub row : Rowed recs recs′ k (with-row k hides′ named′ entries′ uses′ mark′) kind line name term flag code
+  pub small-kind : kind ≤ hide-kind
   pub known : (kind ≡ retain-kind → ⊥) → name < named′
   pub lists-length : length lists′ ≡ length lists
   pub few-uses : uses′ ≤ most-uses
@@ -120,21 +144,25 @@ pub record Appends (file names rows recs lists names′ rows′ recs′ lists′
   pub only-facts : (kind ≡ assume-kind → ⊥) → entries′ ≡ k .entries
   pub taken : Taken names′ recs′ (k .records + 1)
   pub chained : Chained names′ lists′ entries′
+  pub hides : hides′ ≡ k .hides + length (hides-at recs′ (k .records) kind)
+  pub excludes : Excludes (exclude-names ++ map (name-of file names′) (hides-of recs (k .records) ++ hides-at recs′ (k .records) kind)) file names′ named′
 
--- a line says what the record after those counted is: the names that it spells, what it adds to the background, the roots, the counts
-pub record Says (file names names′ recs′ lists′ : List ℕ) (terms : List Term) (k k′ : Counts) (kind line : ℕ) (c : Content) : Type 0 where
-  pub no-ask : asked c ≡ []
+-- a line says what the record after those counted is: the names that it hides and spells, what it adds to the background by the
+-- excluded names, the roots, the counts
+pub record Says (file names names′ recs′ lists′ : List ℕ) (out : List Name) (terms : List Term) (k k′ : Counts) (kind line : ℕ) (c : Content) : Type 0 where
+  pub no-ask : collect head-asks (heads c) ≡ []
+  pub hidden : map (name-of file names′) (hides-at recs′ (k .records) kind) ≡ collect hidden-by (heads c)
   pub no-term : nodes c ≡ []
-  pub spells : table-names file names′ (k′ .names) ≡ fold-left spell (table-names file names (k .names)) (spelled c ++ trimmed exclude-names terms c)
-  pub decls : summary-at (name-of file names′) recs′ lists′ (k .records) kind ≡ summarize-decl exclude-names terms line c
-  pub roots : root-at (name-of file names′) recs′ lists′ (k .records) kind ≡ root-of exclude-names terms line c
-  pub entries : k′ .entries ≡ k .entries + sum (map entries-of (summarize-decl exclude-names terms line c))
-  pub uses : k′ .uses ≡ k .uses + (sum (map uses-of (summarize-decl exclude-names terms line c))
-      + sum (map (λ r. length (r .free-names)) (root-of exclude-names terms line c)))
+  pub spells : table-names file names′ (k′ .names) ≡ fold-left spell (table-names file names (k .names)) (spelled c ++ trimmed out terms c)
+  pub decls : summary-at (name-of file names′) recs′ lists′ (k .records) kind ≡ summarize-decl out terms line c
+  pub roots : root-at (name-of file names′) recs′ lists′ (k .records) kind ≡ root-of out terms line c
+  pub entries : k′ .entries ≡ k .entries + sum (map entries-of (summarize-decl out terms line c))
+  pub uses : k′ .uses ≡ k .uses + (sum (map uses-of (summarize-decl out terms line c))
+      + sum (map (λ r. length (r .free-names)) (root-of out terms line c)))
 
-module _ {file names refs rows recs lists names′ rows′ recs′ lists′ : List ℕ} {k : Counts} {named′ entries′ uses′ mark′ kind line name term flag code : ℕ}
+module _ {file names refs rows recs lists names′ rows′ recs′ lists′ : List ℕ} {k : Counts} {hides′ named′ entries′ uses′ mark′ kind line name term flag code : ℕ}
     (st : Standing file names refs rows recs lists k) (few : k .records < most-records)
-    (a : Appends file names rows recs lists names′ rows′ recs′ lists′ k named′ entries′ uses′ mark′ kind line name term flag code) where
+    (a : Appends file names rows recs lists names′ rows′ recs′ lists′ k hides′ named′ entries′ uses′ mark′ kind line name term flag code) where
   -- the rows of the records before
   before : (c j : ℕ) → j < k .records → getD recs′ (c * most-records + j) 0 ≡ getD recs (c * most-records + j) 0
   before c j l = a .row .others c j (omega arith) (λ e. omega arith)
@@ -200,30 +228,48 @@ module _ {file names refs rows recs lists names′ rows′ recs′ lists′ : Li
             (below e (k .entries));
       }
 
+  -- the hide lines are those before, and the record if it is one
+  hides-then : hides-of recs′ (k .records + 1) ≡ hides-of recs (k .records) ++ hides-at recs′ (k .records) kind
+  unfolding hides-of
+  hides-then = rw (add-one (k .records), a .row .kind-is, hides-stay agree (st .recorded) (k .records) (omega arith))
+
   -- the tables stand
-  pub standing-then : Standing file names′ refs rows′ recs′ lists′ (with-record k named′ entries′ uses′ mark′)
+  pub standing-then : Standing file names′ refs rows′ recs′ lists′ (with-row k hides′ named′ entries′ uses′ mark′)
   standing-then = record {
     tables = record { name-table = a .table; term-table = rows-named (a .more) (a .table .few) (rows-marked (a .row-words) (st .tables .term-table)) };
     recorded = records-then;
     fresh = a .fresh;
     few-marks = a .few-marks;
     stocked = record { filing = filing-then; taken = a .taken; chained = a .chained };
+    hiding = record {
+      counted = rw hides-then (omega (
+        arith,
+        length-append (hides-of recs (k .records)) (hides-at recs′ (k .records) kind),
+        st .hiding .counted,
+        a .hides,
+      ));
+      excludes = rw hides-then (a .excludes);
+    };
   }
+
+  -- the names hidden before
+  names-known : map (name-of file names′) (hides-of recs (k .records)) ≡ map (name-of file names) (hides-of recs (k .records))
+  names-known = names-stay (name-of file names′) (name-of file names) (hides-of recs (k .records))
+      (λ m h. a .same m (hides-known (st .recorded) (k .records) (omega arith) m h))
 
   -- the asks are those before
   asks-there : asks-of recs′ (k .asks) ≡ asks-of recs (k .asks)
   asks-there = asks-stay recs recs′ (k .asks) (λ i l. (a .row .past (ask-query-column + i) (omega arith), a .row .past (ask-options-column + i) (omega arith)))
 
   -- the tables are the state with the line
-  state-then : {c : Content} → Says file names names′ recs′ lists′ (terms-in file names refs rows (k .references) (k .terms)) k
-      (with-record k named′ entries′ uses′ mark′) kind line c
+  state-then : {c : Content} → Says file names names′ recs′ lists′ (excluded-of (name-of file names) recs (k .records)) (terms-in file names refs rows (k .references) (k .terms)) k
+      (with-row k hides′ named′ entries′ uses′ mark′) kind line c
       → add-line exclude-names line (state-of file names refs rows recs lists k) c
-      ≡ state-of file names′ refs rows′ recs′ lists′ (with-record k named′ entries′ uses′ mark′)
-  unfolding add-line excluded state-of decls-of roots-of fold-left collect
+      ≡ state-of file names′ refs rows′ recs′ lists′ (with-row k hides′ named′ entries′ uses′ mark′)
+  unfolding add-line excluded state-of hides-of decls-of roots-of fold-left collect
   state-then s =
       let zero-more : k .references + 0 ≡ k .references = omega arith in
       rw (
-        append-nil exclude-names,
         s .no-ask,
         append-nil (asks-of recs (k .asks)),
         s .no-term,
@@ -234,7 +280,11 @@ module _ {file names refs rows recs lists names′ rows′ recs′ lists′ : Li
         ← s .uses,
         ← s .decls,
         ← s .roots,
+        ← s .hidden,
         a .row .kind-is,
+        hides-stay agree (st .recorded) (k .records) (omega arith),
+        map-append (name-of file names′) (hides-of recs (k .records)) (hides-at recs′ (k .records) kind),
+        names-known,
         decls-stay agree (st .recorded) (k .records) (omega arith),
         roots-stay agree (st .recorded) (k .records) (omega arith),
         terms-stay,
@@ -243,49 +293,52 @@ module _ {file names refs rows recs lists names′ rows′ recs′ lists′ : Li
 
   -- what adding the record comes to
   pub record-added : {c : Content} → repeats exclude-names line (state-of file names refs rows recs lists k) c ≡ false
-      → Says file names names′ recs′ lists′ (terms-in file names refs rows (k .references) (k .terms)) k (with-record k named′ entries′ uses′ mark′) kind line c
-      → Adds file names refs rows recs lists names′ rows′ recs′ lists′ k line c (step.On (with-record k named′ entries′ uses′ mark′))
-  record-added {c} new s = added {k′ = with-record k named′ entries′ uses′ mark′}
+      → Says file names names′ recs′ lists′ (excluded-of (name-of file names) recs (k .records)) (terms-in file names refs rows (k .references) (k .terms)) k (with-row k hides′ named′ entries′ uses′ mark′) kind line c
+      → Adds file names refs rows recs lists names′ rows′ recs′ lists′ k line c (step.On (with-row k hides′ named′ entries′ uses′ mark′))
+  record-added {c} new s = added {k′ = with-row k hides′ named′ entries′ uses′ mark′}
       (judged-within line (state-of file names refs rows recs lists k) c new (state-then s) (standing-within standing-then)) standing-then
 
 -- ---- a record refused
 
 -- a line is one record, and the names that it spells have room
-pub record One-record (file names refs rows : List ℕ) (k : Counts) (line : ℕ) (c : Content) : Type 0 where
+pub record One-record (file names refs rows : List ℕ) (out : List Name) (k : Counts) (line : ℕ) (c : Content) : Type 0 where
   pub no-term : nodes c ≡ []
-  pub one : length (summarize-decl exclude-names (terms-in file names refs rows (k .references) (k .terms)) line c)
-      + length (root-of exclude-names (terms-in file names refs rows (k .references) (k .terms)) line c) ≡ 1
+  pub one : length (collect hidden-by (heads c)) + (length (summarize-decl out (terms-in file names refs rows (k .references) (k .terms)) line c)
+      + length (root-of out (terms-in file names refs rows (k .references) (k .terms)) line c)) ≡ 1
   pub few-names : length (fold-left spell (table-names file names (k .names))
-      (spelled c ++ trimmed exclude-names (terms-in file names refs rows (k .references) (k .terms)) c)) ≤ most-names
+      (spelled c ++ trimmed out (terms-in file names refs rows (k .references) (k .terms)) c)) ≤ most-names
 
 module _ {file names refs rows recs lists : List ℕ} {k : Counts} (st : Standing file names refs rows recs lists k) {line : ℕ}
-    {c : Content} (one : One-record file names refs rows k line c) where
+    {c : Content} (one : One-record file names refs rows (excluded-of (name-of file names) recs (k .records)) k line c) where
   -- the names with the line are within their limit
   names-fit : Past-names (add-line exclude-names line (state-of file names refs rows recs lists k) c) → ⊥
-  unfolding add-line state-of
-  names-fit = rw (excluded-here file names refs rows recs lists k) (λ h. omega (arith, one .few-names))
+  unfolding add-line excluded state-of
+  names-fit h = omega (arith, one .few-names)
 
   -- the terms and their references are within theirs
   terms-fit : Past-terms (add-line exclude-names line (state-of file names refs rows recs lists k) c) → ⊥
-  unfolding add-line state-of fold-left collect
+  unfolding add-line excluded state-of fold-left collect
   terms-fit = rw (one .no-term) (⊎-elim
       (λ h. omega (arith, terms-length file names refs rows (k .references) (k .terms), st .tables .term-table .few-rows))
       (λ h. omega (arith, st .tables .term-table .few-references)))
 
   -- with the line there is one record more
-  records-more : length (add-line exclude-names line (state-of file names refs rows recs lists k) c .decls)
-      + length (add-line exclude-names line (state-of file names refs rows recs lists k) c .roots) ≡ k .records + 1
-  unfolding add-line state-of
+  records-more : length (add-line exclude-names line (state-of file names refs rows recs lists k) c .hidden)
+      + (length (add-line exclude-names line (state-of file names refs rows recs lists k) c .decls)
+      + length (add-line exclude-names line (state-of file names refs rows recs lists k) c .roots)) ≡ k .records + 1
+  unfolding add-line excluded state-of
   records-more =
       let terms = terms-in file names refs rows (k .references) (k .terms) in
-      rw (excluded-here file names refs rows recs lists k)
-      (omega (
+      let out = excluded-of (name-of file names) recs (k .records) in
+      omega (
         arith,
         one .one,
         records-length (name-of file names) recs lists (k .records),
-        length-append (decls-of (name-of file names) recs lists (k .records)) (summarize-decl exclude-names terms line c),
-        length-append (roots-of (name-of file names) recs lists (k .records)) (root-of exclude-names terms line c),
-      ))
+        length-map (hides-of recs (k .records)) (name-of file names),
+        length-append (hidden-of (name-of file names) recs (k .records)) (collect hidden-by (heads c)),
+        length-append (decls-of (name-of file names) recs lists (k .records)) (summarize-decl out terms line c),
+        length-append (roots-of (name-of file names) recs lists (k .records)) (root-of out terms line c),
+      )
 
 module _ {file names refs rows recs lists names′ rows′ recs′ lists′ : List ℕ} {k : Counts} (st : Standing file names refs rows recs lists k) (line : ℕ)
     (c : Content) where
@@ -301,7 +354,7 @@ module _ {file names refs rows recs lists names′ rows′ recs′ lists′ : Li
     record-beyond {x} l =
         stops {x = x} (st .tables .name-table .few) (judged-beyond line (state-of file names refs rows recs lists k) c new l)
 
-    module _ (one : One-record file names refs rows k line c) where
+    module _ (one : One-record file names refs rows (excluded-of (name-of file names) recs (k .records)) k line c) where
       -- there are as many records as may be
       pub record-crowded : most-records ≤ k .records
           → Adds file names refs rows recs lists names′ rows′ recs′ lists′ k line c (step.Refused refusal.FullRecords)

@@ -12,7 +12,7 @@ use borrow.Author.Tests.{ne-eqb}
 use Rattle.model.specs.Lists.{sum, collect, fold-left, is-nil}
 use Rattle.model.specs.Names.{Name}
 use Rattle.model.specs.Summaries.{exclude-names}
-use Rattle.model.specs.Reading.{Ask, ask, asked, nodes, spelled, trimmed, summarize-decl, root-of, add-line, State, most-records}
+use Rattle.model.specs.Reading.{Ask, head, ask, heads, head-asks, hidden-by, nodes, spelled, trimmed, summarize-decl, root-of, add-line, State, most-records}
 use Rattle.model.specs.Outcome.{working-words}
 use Rattle.model.specs.declared.Counts.{Counts}
 use Rattle.names.specs.Table.{name-of}
@@ -23,7 +23,7 @@ use Rattle.records.specs.States.{asks-of, state-of}
 use Rattle.records.specs.Filing.{Records}
 use Rattle.records.specs.Writing.{row-columns, with-ask, Asked-at}
 use Rattle.records.specs.Adding.{Standing}
-use Rattle.records.proofs.Recording.{Agree, decls-stay, roots-stay}
+use Rattle.records.proofs.Recording.{Agree, hides-stay, hidden-stay, decls-stay, roots-stay}
 use Rattle.records.proofs.Keeping.{filing-kept, taken-kept}
 use Rattle.records.proofs.Appending.{asks-stay}
 
@@ -65,7 +65,7 @@ asks-none recs zero = refl
 asks-none recs (suc n) = not-nil (asks-of recs n) _ ∙ sym (ne-eqb (suc n) 0 (λ e. omega arith))
 
 -- the state with an ask more
-ask-line : (n : ℕ) (s : State) (q options : ℕ) → add-line exclude-names n s (ask q options) ≡ record {
+ask-line : (n : ℕ) (s : State) (q options : ℕ) → add-line exclude-names n s (head (ask q options)) ≡ record {
   asks = s .asks ++ (asks q options ∷ []);
   hidden = s .hidden;
   terms = s .terms;
@@ -76,12 +76,12 @@ ask-line : (n : ℕ) (s : State) (q options : ℕ) → add-line exclude-names n 
   entries = s .entries;
   uses = s .uses;
 }
-unfolding add-line asked nodes spelled trimmed summarize-decl root-of fold-left collect sum
+unfolding add-line heads head-asks hidden-by nodes spelled trimmed summarize-decl root-of fold-left collect sum
 ask-line n s q options =
     let a : s .entries + 0 ≡ s .entries = omega arith in
     let b : s .uses + (0 + 0) ≡ s .uses = omega arith in
     let c : s .references + 0 ≡ s .references = omega arith in
-    rw (append-nil (s .decls), append-nil (s .roots), a, b, c)
+    rw (append-nil (s .hidden), append-nil (s .decls), append-nil (s .roots), a, b, c)
 
 module _ {file names refs rows recs lists recs′ : List ℕ} {k : Counts} {q options : ℕ} (st : Standing file names refs rows recs lists k)
     (a : Asked-at recs recs′ k q options) where
@@ -123,10 +123,14 @@ module _ {file names refs rows recs lists recs′ : List ℕ} {k : Counts} {q op
           (λ i h l. omega (arith, st .recorded .named-in i h (λ z. omega arith), st .tables .name-table .few)) (λ n h. refl);
       chained = st .stocked .chained;
     };
+    hiding = record {
+      counted = rw (hides-stay agree (st .recorded) (k .records) (omega arith)) (st .hiding .counted);
+      excludes = rw (hides-stay agree (st .recorded) (k .records) (omega arith)) (st .hiding .excludes);
+    };
   }
 
   -- they are the state with the line
-  pub ask-state : (n : ℕ) → add-line exclude-names n (state-of file names refs rows recs lists k) (ask q options)
+  pub ask-state : (n : ℕ) → add-line exclude-names n (state-of file names refs rows recs lists k) (head (ask q options))
       ≡ state-of file names refs rows recs′ lists (with-ask k)
   unfolding state-of asks-of
   ask-state n =
@@ -136,6 +140,7 @@ module _ {file names refs rows recs lists recs′ : List ℕ} {k : Counts} {q op
         asks-stay recs recs′ (k .asks) (a .others),
         a .query-is,
         a .options-is,
+        hidden-stay agree (st .recorded) (k .records) (omega arith),
         decls-stay agree (st .recorded) (k .records) (omega arith),
         roots-stay agree (st .recorded) (k .records) (omega arith),
       )

@@ -8,7 +8,7 @@ use lib.ListN.{set, length-set}
 use lib.Seq.{getD-set-same, getD-set-other}
 use Rattle.model.specs.Summaries.{exclude-names}
 use Rattle.model.specs.Lists.{sum, collect, fold-left}
-use Rattle.model.specs.Reading.{fun, retain, asked, nodes, spelled, trimmed, summarize-decl, root-of, taken-by, entries-of, uses-of, repeats, most-names, most-terms, most-records, most-entries, most-uses}
+use Rattle.model.specs.Reading.{fun, retain, heads, head-asks, hidden-by, nodes, spelled, trimmed, summarize-decl, root-of, taken-by, entries-of, uses-of, repeats, most-names, most-terms, most-records, most-entries, most-uses}
 use Rattle.model.specs.declared.Counts.{Counts}
 use Rattle.model.specs.declared.Refusal.the-variants as refusal
 use Rattle.names.specs.Table.{name-of}
@@ -17,8 +17,8 @@ use Rattle.words.proofs.Slices.{same-self, same-wider}
 use Rattle.gather.specs.Sets.{Fresh}
 use Rattle.model.specs.declared.Step.the-variants as step
 use Rattle.model.specs.Outcome.{working-words}
-use Rattle.records.specs.Columns.{fun-kind, retain-kind, root-kind, taken-column, taken-at}
-use Rattle.records.specs.States.{summary-at, root-at, decl-at, state-of}
+use Rattle.records.specs.Columns.{fun-kind, retain-kind, hide-kind, taken-column, taken-at}
+use Rattle.records.specs.States.{summary-at, root-at, hides-at, decl-at, state-of}
 use Rattle.records.specs.Writing.{with-record, Small, Rowed}
 use Rattle.records.specs.Adding.{Standing, Adds, Untouched}
 use Rattle.records.proofs.Judging.{repeats-none, repeats-taken, repeats-free}
@@ -59,7 +59,7 @@ fresh-taken s f = record { row-marks = f .row-marks; name-marks = λ n l. rw (s 
 pub small-row : {file names refs rows recs lists : List ℕ} {k next : Counts} (named entries uses mark : ℕ) (kind line name term flag code : ℕ)
     → Standing file names refs rows recs lists k
     → next ≡ with-record k named entries uses mark → entries ≤ most-entries → uses ≤ most-uses
-    → kind ≤ root-kind → line < 4294967296 → name < most-names → term < most-terms → flag < 256 → code < 4294967296 → Small k next kind line name term flag code
+    → kind ≤ hide-kind → line < 4294967296 → name < most-names → term < most-terms → flag < 256 → code < 4294967296 → Small k next kind line name term flag code
 small-row {k = k} {next} named entries uses mark kind line name term flag code st e h₁ h₂ h₃ h₄ h₅ h₆ h₇ h₈ = rw e (record {
   small-kind = omega arith;
   small-line = omega arith;
@@ -83,14 +83,14 @@ module _ {file names refs rows recs lists : List ℕ} {k : Counts} (st : Standin
   -- as many records as may be
   pub retain-crowded : {recs′ : List ℕ} → most-records ≤ k .records
       → Adds file names refs rows recs lists names rows recs′ lists k line (retain []) (step.Refused refusal.FullRecords)
-  unfolding state-of nodes spelled trimmed summarize-decl root-of fold-left
+  unfolding state-of heads hidden-by nodes spelled trimmed summarize-decl root-of fold-left collect
   retain-crowded h = record-crowded st line (retain []) retain-new
       (record { no-term = refl; one = refl; few-names = standing-within st .names }) h
 
   -- the record is there
   pub retain-added : {recs′ : List ℕ} {next : Counts} → k .records < most-records → next ≡ with-record k (k .names) (k .entries) (k .uses) (k .mark)
       → Rowed recs recs′ k next retain-kind line 0 0 0 0 → Adds file names refs rows recs lists names rows recs′ lists k line (retain []) (step.On next)
-  unfolding asked nodes spelled trimmed summarize-decl root-of entries-of uses-of sum fold-left summary-at root-at
+  unfolding heads head-asks hidden-by hides-at nodes spelled trimmed summarize-decl root-of entries-of uses-of sum fold-left collect summary-at root-at
   retain-added {recs′} {next} few e row =
       let same = same-self 8192 4096 names in
       let row′ : Rowed recs recs′ k (with-record k (k .names) (k .entries) (k .uses) (k .mark)) retain-kind line 0 0 0 0 = rw e at row in
@@ -99,6 +99,7 @@ module _ {file names refs rows recs lists : List ℕ} {k : Counts} (st : Standin
       (omega arith) (st .recorded .few-uses) (λ j a b. absurd (omega arith)) (not-taken st few row′ (λ n l. refl) (omega arith)) in
       rw e (record-added st few more retain-new (record {
         no-ask = refl;
+        hidden = refl;
         no-term = refl;
         spells = refl;
         decls = refl;
@@ -125,7 +126,7 @@ module _ {file names refs rows recs lists : List ℕ} {k : Counts} (st : Standin
   pub fun-crowded : {names′ recs′ : List ℕ} → w ≤ 0 → most-records ≤ k .records
       → Adds file names refs rows recs lists names′ rows recs′ lists k line (fun (name-of file names i))
       (step.Refused refusal.FullRecords)
-  unfolding nodes spelled trimmed summarize-decl root-of
+  unfolding heads hidden-by nodes spelled trimmed summarize-decl root-of collect
   fun-crowded z h = record-crowded st line (fun (name-of file names i)) (fun-new z)
       (record { no-term = refl; one = refl; few-names = named-within st known }) h
 
@@ -133,7 +134,7 @@ module _ {file names refs rows recs lists : List ℕ} {k : Counts} (st : Standin
   pub fun-added : {recs′ : List ℕ} {next : Counts} → w ≤ 0 → k .records < most-records → next ≡ with-record k (k .names) (k .entries) (k .uses) (k .mark)
       → Rowed recs recs′ k next fun-kind line i 0 0 0
       → Adds file names refs rows recs lists (set names (taken-column + i) (k .records + 1)) rows recs′ lists k line (fun (name-of file names i)) (step.On next)
-  unfolding asked nodes spelled trimmed summarize-decl root-of entries-of uses-of sum fold-left summary-at root-at decl-at
+  unfolding heads head-asks hidden-by hides-at nodes spelled trimmed summarize-decl root-of entries-of uses-of sum fold-left collect summary-at root-at decl-at
   fun-added {recs′} {next} z few e row =
       let low : i < most-names = omega (arith, st .tables .name-table .few) in
       let put = taken-put {names = names} i (k .records + 1) low in
@@ -147,6 +148,7 @@ module _ {file names refs rows recs lists : List ℕ} {k : Counts} (st : Standin
       (omega arith) (st .recorded .few-uses) (λ j a b. absurd (omega arith)) taken in
       rw e (record-added st few more (fun-new z) (record {
         no-ask = refl;
+        hidden = refl;
         no-term = refl;
         spells = kept st words .names ∙ sym (spelled-again file names (k .names) i known);
         decls = rw (row′ .line-is, row′ .name-is, kept st words .name i known);

@@ -35,7 +35,7 @@ pub record Within (s : State) : Type 0 where
   pub names : length (s .names) ≤ most-names
   pub terms : length (s .terms) ≤ most-terms
   pub references : s .references ≤ most-references
-  pub records : length (s .decls) + length (s .roots) ≤ most-records
+  pub records : length (s .hidden) + (length (s .decls) + length (s .roots)) ≤ most-records
   pub entries : s .entries ≤ most-entries
   pub uses : s .uses ≤ most-uses
 

@@ -14,6 +14,7 @@ use Rattle.model.proofs.PartLaws.{part-nil}
 use Rattle.names.specs.Table.{name-of, table-names}
 use Rattle.names.proofs.Laws.{names-intro, names-length}
 use Rattle.names.proofs.Coded.{Kept, table-kept}
+use Rattle.names.proofs.Excluded.{tells-kept}
 use Rattle.words.specs.Slices.{Same-but}
 use Rattle.gather.specs.Sets.{Fresh}
 use Rattle.triggers.specs.Entries.{disjuncts-of, disjuncts-of-words, entries-base}
@@ -23,7 +24,7 @@ use Rattle.records.specs.Writing.{with-record, Rowed}
 use Rattle.records.specs.Adding.{Standing}
 use Rattle.records.proofs.Chaining.{chained-kept}
 use Rattle.records.proofs.Keeping.{taken-none, taken-more}
-use Rattle.records.proofs.Appending.{Appends}
+use Rattle.records.proofs.Appending.{Appends, no-hide}
 
 -- spelling a name of the table again
 pub spelled-again : (file names : List ℕ) (named i : ℕ) → i < named → spell (table-names file names named) (name-of file names i) ≡ table-names file names named
@@ -75,16 +76,18 @@ module _ {file names refs rows recs lists names′ : List ℕ} {k : Counts} (st 
   pub kept : Kept file names names′ (k .names)
   kept = table-kept (st .tables .name-table) (name-words .same-length) (λ i l. name-words .same-words i (λ a b. omega arith))
 
-  -- the record is appended
+  -- the record, which is no hide line, is appended
   pub plain : {rows′ recs′ lists′ : List ℕ} {uses′ mark′ kind line name term flag code : ℕ}
       → Same-but 12288 4096 rows rows′ → Fresh names′ rows′ mark′ → mark′ ≤ k .mark + 1
       → Rowed recs recs′ k (with-record k (k .names) (k .entries) uses′ mark′) kind line name term flag code
       → (kind ≡ assume-kind → ⊥) → kind ≤ root-kind → ((kind ≡ retain-kind → ⊥) → name < k .names)
       → Same-but (k .uses) (uses′ - k .uses) lists lists′ → k .uses ≤ uses′ → uses′ ≤ most-uses → ((j : ℕ) → k .uses ≤ j → j < uses′ → getD lists′ j 0 < k .names)
       → Taken names′ recs′ (k .records + 1)
-      → Appends file names rows recs lists names′ rows′ recs′ lists′ k (k .names) (k .entries) uses′ mark′ kind line name term flag code
-  plain {lists′ = lists′} row-words fresh mark row other small known lists-words more few-uses new taken =
+      → Appends file names rows recs lists names′ rows′ recs′ lists′ k (k .hides) (k .names) (k .entries) uses′ mark′ kind line name term flag code
+  plain {recs′ = recs′} {lists′} {kind = kind} row-words fresh mark row other small known lists-words more few-uses new taken =
       let lists-same : (j : ℕ) → most-uses ≤ j → getD lists′ j 0 ≡ getD lists j 0 = λ j l. lists-words .same-words j (λ a b. omega arith) in
+      let told = tells-kept (st .tables .name-table .few) (λ i l. name-words .same-words i (λ a b. omega arith)) in
+      let (hides, excludes) = no-hide st (kept .table) (omega arith) (kept .name) told recs′ kind small in
       record {
         table = kept .table;
         more = omega arith;
@@ -93,7 +96,7 @@ module _ {file names refs rows recs lists names′ : List ℕ} {k : Counts} (st 
         fresh = fresh;
         few-marks = omega (arith, st .few-marks);
         row = row;
-        small-kind = small;
+        small-kind = omega arith;
         known = known;
         lists-length = lists-words .same-length;
         few-uses = few-uses;
@@ -113,4 +116,6 @@ module _ {file names refs rows recs lists names′ : List ℕ} {k : Counts} (st 
         taken = taken;
         chained = chained-kept (st .stocked .chained) (λ n l. name-words .same-words (first-column + n) (λ a b. omega arith))
             (λ e l. rw (lists-same (entries-base + e) (omega arith))) (λ e l. lists-same (next-column + e) (omega arith));
+        hides = hides;
+        excludes = excludes;
       }

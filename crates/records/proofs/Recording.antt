@@ -4,7 +4,7 @@ use native.Mathlib.Omega.{arith}
 use mathlib.Core.Path.{_≡_, refl, sym, ap, ap₂, _∙_}
 use mathlib.Core.Bool.{Bool, true, false, cond}
 use mathlib.Core.Logic.{⊎-elim}
-use mathlib.Core.List.{List, [], _∷_, _++_, map, map-append, List·Memᴰ, List·Memᴰ·head, List·Memᴰ·tail}
+use mathlib.Core.List.{List, [], _∷_, _++_, map, map-append, List·Memᴰ, List·Memᴰ·head, List·Memᴰ·tail, List·Memᴰ·append-cases, List·Memᴰ·eq-of-singleton, List·Memᴰ·not-nil}
 use lib.ListN.{length, getD, length-append}
 use lib.Dec.{ltb}
 use borrow.Author.Tests.{ltb-true}
@@ -14,7 +14,7 @@ use Rattle.model.proofs.PartLaws.{part-agree, part-elim}
 use Rattle.triggers.specs.Entries.{disjuncts-of, disjuncts-of-words, before-first, entry-number, entries-base, last-flag, no-name}
 use Rattle.records.specs.Writing.{row-columns}
 use Rattle.records.specs.Columns.{record-word, record-kind, record-name, uses-start, uses-end, entries-start, entries-end, retain-kind, entry-word}
-use Rattle.records.specs.States.{uses-at, entries-at, free-at, fact-at, decl-at, summary-at, root-at, decls-of, roots-of}
+use Rattle.records.specs.States.{uses-at, entries-at, free-at, fact-at, decl-at, summary-at, root-at, decls-of, roots-of, hides-at, hides-of, hidden-of}
 use Rattle.records.specs.Filing.{Records}
 
 -- the names of numbers stay where each of them does
@@ -68,6 +68,30 @@ module _ (f g : ℕ → Name) where
       split : (f : ℕ → Name) (ds : List (List ℕ)) → map (λ ns. from-list (map f ns)) ds ≡ map from-list (map (map f) ds)
       split f [] = refl
       split f (d ∷ ds) = ap (λ l. from-list (map f d) ∷ l) (split f ds)
+
+-- ---- the names that are hidden
+
+-- the number that a record hides is that of its name, and it is no retain
+hide-named : (recs : List ℕ) (i kind m : ℕ) → List·Memᴰ m (hides-at recs i kind) → (retain-kind < kind) × (m ≡ record-name recs i)
+unfolding hides-at
+hide-named recs i zero m k = absurd (List·Memᴰ·not-nil k)
+hide-named recs i (suc zero) m k = absurd (List·Memᴰ·not-nil k)
+hide-named recs i (suc (suc zero)) m k = absurd (List·Memᴰ·not-nil k)
+hide-named recs i (suc (suc (suc zero))) m k = absurd (List·Memᴰ·not-nil k)
+hide-named recs i (suc (suc (suc (suc zero)))) m k = absurd (List·Memᴰ·not-nil k)
+hide-named recs i (suc (suc (suc (suc (suc j))))) m k = (omega arith, List·Memᴰ·eq-of-singleton k)
+
+-- hidden names are names of the table
+pub hides-known : {recs lists : List ℕ} {named records filed uses : ℕ} → Records recs lists named records filed uses → (n : ℕ) → n ≤ records
+    → (m : ℕ) → List·Memᴰ m (hides-of recs n) → m < named
+unfolding hides-of
+hides-known r zero h m k = absurd (List·Memᴰ·not-nil k)
+hides-known {recs} r (suc n) h m k = ⊎-elim
+    (λ q. hides-known r n (omega arith) m q)
+    (λ q.
+    let (l, e) = hide-named recs n (record-kind recs n) m q in
+    omega (arith, r .named-in n (omega arith) (λ z. omega arith)))
+    (List·Memᴰ·append-cases (hides-of recs n) k)
 
 -- names, rows and words in use that are as before
 pub record Agree (name name′ : ℕ → Name) (recs lists recs′ lists′ : List ℕ) (named records filed uses : ℕ) : Type 0 where
@@ -138,7 +162,8 @@ module _ {name name′ : ℕ → Name} {recs lists recs′ lists′ : List ℕ} 
   root-stays i h (suc zero) e = refl
   root-stays i h (suc (suc zero)) e = refl
   root-stays i h (suc (suc (suc zero))) e = refl
-  root-stays i h (suc (suc (suc (suc k)))) e = rw (a .rows 1 i (omega arith) h, a .rows 4 i (omega arith) h, free-stays i h, name-stays i h (λ q. omega arith))
+  root-stays i h (suc (suc (suc (suc zero)))) e = rw (a .rows 1 i (omega arith) h, a .rows 4 i (omega arith) h, free-stays i h, name-stays i h (λ q. omega arith))
+  root-stays i h (suc (suc (suc (suc (suc k))))) e = refl
 
   -- the background
   pub decls-stay : (n : ℕ) → n ≤ records → decls-of name′ recs′ lists′ n ≡ decls-of name recs lists n
@@ -154,27 +179,51 @@ module _ {name name′ : ℕ → Name} {recs lists recs′ lists′ : List ℕ} 
   roots-stay (suc n) h =
       rw (a .rows 0 n (omega arith) (omega arith)) (ap₂ _++_ (roots-stay n (omega arith)) (root-stays n (omega arith) (record-kind recs n) refl))
 
+  -- the number that a record hides
+  hide-stays : (i : ℕ) → i < records → (kind : ℕ) → hides-at recs′ i kind ≡ hides-at recs i kind
+  unfolding hides-at
+  hide-stays i h zero = refl
+  hide-stays i h (suc zero) = refl
+  hide-stays i h (suc (suc zero)) = refl
+  hide-stays i h (suc (suc (suc zero))) = refl
+  hide-stays i h (suc (suc (suc (suc zero)))) = refl
+  hide-stays i h (suc (suc (suc (suc (suc k))))) = ap (_∷ []) (a .rows 2 i (omega arith) h)
+
+  -- those that the records hide
+  pub hides-stay : (n : ℕ) → n ≤ records → hides-of recs′ n ≡ hides-of recs n
+  unfolding hides-of
+  hides-stay zero h = refl
+  hides-stay (suc n) h =
+      rw (a .rows 0 n (omega arith) (omega arith)) (ap₂ _++_ (hides-stay n (omega arith)) (hide-stays n (omega arith) (record-kind recs n)))
+
+  -- the hidden names
+  pub hidden-stay : (n : ℕ) → n ≤ records → hidden-of name′ recs′ n ≡ hidden-of name recs n
+  hidden-stay n h =
+      rw (hides-stay n h) (names-stay name′ name (hides-of recs n) (λ m k. a .same m (hides-known r n h m k)))
+
 -- ---- how many records there are
 
 module _ (name : ℕ → Name) (recs lists : List ℕ) where
-  -- a record is one of the background or a root
-  one-each : (i kind : ℕ) → length (summary-at name recs lists i kind) + length (root-at name recs lists i kind) ≡ 1
-  unfolding summary-at root-at
+  -- a record is a hide line, one of the background or a root
+  one-each : (i kind : ℕ) → length (hides-at recs i kind) + (length (summary-at name recs lists i kind) + length (root-at name recs lists i kind)) ≡ 1
+  unfolding hides-at summary-at root-at
   one-each i zero = refl
   one-each i (suc zero) = refl
   one-each i (suc (suc zero)) = refl
   one-each i (suc (suc (suc zero))) = refl
-  one-each i (suc (suc (suc (suc k)))) = refl
+  one-each i (suc (suc (suc (suc zero)))) = refl
+  one-each i (suc (suc (suc (suc (suc k))))) = refl
 
-  -- the background and the roots are as many as the records
-  pub records-length : (n : ℕ) → length (decls-of name recs lists n) + length (roots-of name recs lists n) ≡ n
-  unfolding decls-of roots-of
+  -- the hide lines, the background and the roots are as many as the records
+  pub records-length : (n : ℕ) → length (hides-of recs n) + (length (decls-of name recs lists n) + length (roots-of name recs lists n)) ≡ n
+  unfolding hides-of decls-of roots-of
   records-length zero = refl
   records-length (suc n) =
       omega (
         arith,
         records-length n,
         one-each n (record-kind recs n),
+        length-append (hides-of recs n) (hides-at recs n (record-kind recs n)),
         length-append (decls-of name recs lists n) (summary-at name recs lists n (record-kind recs n)),
         length-append (roots-of name recs lists n) (root-at name recs lists n (record-kind recs n)),
       )

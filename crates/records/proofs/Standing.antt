@@ -11,12 +11,12 @@ use Rattle.names.specs.Table.{name-of}
 use Rattle.names.proofs.Laws.{empty-table}
 use Rattle.terms.proofs.Table.{empty-rows}
 use Rattle.records.specs.Columns.{record-kind, record-name, retain-kind, taken-column, first-column, taken-at, first-entry}
-use Rattle.records.specs.States.{decls-of, roots-of}
+use Rattle.records.specs.States.{decls-of, roots-of, hides-of, hidden-of}
 use Rattle.records.specs.Filing.{newest, entries-before, Stocked}
 use Rattle.records.specs.Writing.{no-counts}
 use Rattle.records.specs.Adding.{Standing}
 use Rattle.records.proofs.Chaining.{chained-kept}
-use Rattle.records.proofs.Recording.{Agree, decls-stay, roots-stay}
+use Rattle.records.proofs.Recording.{Agree, hidden-stay, decls-stay, roots-stay}
 use Rattle.records.proofs.Keeping.{filing-kept, taken-kept}
 
 -- ---- before the first line
@@ -47,6 +47,7 @@ module _ (file names refs rows recs lists : List ℕ) (short : length file ≤ 6
 
   -- cleared slices stand
   pub standing-start : Standing file names refs rows recs lists no-counts
+  unfolding hides-of
   standing-start = record {
     tables = record { name-table = empty-table file names name-room short; term-table = empty-rows refs rows 0 ref-room row-room (omega arith) };
     recorded = record {
@@ -69,6 +70,7 @@ module _ (file names refs rows recs lists : List ℕ) (short : length file ≤ 6
     };
     few-marks = omega arith;
     stocked = stocked-start;
+    hiding = record { counted = refl; excludes = λ n h. absurd (omega arith) };
   }
 
 -- ---- with more names and terms
@@ -102,3 +104,6 @@ module _ {file names refs rows recs lists names′ : List ℕ} {k : Counts} (st 
 
   pub roots-longer : roots-of (name-of file names′) recs lists (k .records) ≡ roots-of (name-of file names) recs lists (k .records)
   roots-longer = roots-stay agree (st .recorded) (k .records) (omega arith)
+
+  pub hidden-longer : hidden-of (name-of file names′) recs (k .records) ≡ hidden-of (name-of file names) recs (k .records)
+  hidden-longer = hidden-stay agree (st .recorded) (k .records) (omega arith)

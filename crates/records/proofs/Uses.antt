@@ -9,14 +9,13 @@ use lib.ListN.{length, getD, set}
 use lib.Seq.{getD-set-same, getD-set-other}
 use Rattle.model.specs.Lists.{sum, collect, fold-left, part}
 use Rattle.model.specs.Names.{Name, from-list}
-use Rattle.model.specs.Reading.{def, root, asked, nodes, spelled, trimmed, summarize-decl, root-of, taken-by, entries-of, uses-of, add-line, repeats, most-names, most-records, most-uses}
+use Rattle.model.specs.Reading.{def, root, heads, head-asks, hidden-by, nodes, spelled, trimmed, summarize-decl, root-of, taken-by, entries-of, uses-of, excluded, add-line, repeats, most-names, most-records, most-uses}
 use Rattle.model.specs.Summaries.{exclude-names, free-top-level-names}
 use Rattle.model.specs.declared.Counts.{Counts}
 use Rattle.model.specs.declared.Refusal.the-variants as refusal
 use Rattle.model.proofs.PartLaws.{part-elim}
-use Rattle.names.specs.Table.{Table, name-of}
+use Rattle.names.specs.Table.{name-of}
 use Rattle.names.proofs.Laws.{distinct}
-use Rattle.names.proofs.Excluded.{excluded-exact}
 use Rattle.terms.specs.Rows.{terms-of}
 use Rattle.words.specs.Slices.{Same-but}
 use Rattle.words.proofs.Slices.{same-wider}
@@ -28,12 +27,12 @@ use Rattle.gather.proofs.Fresh.{fresh-next}
 use Rattle.model.specs.declared.Step.the-variants as step
 use Rattle.model.specs.Outcome.{working-words}
 use Rattle.records.specs.Columns.{def-kind, root-kind, taken-column, taken-at}
-use Rattle.records.specs.States.{free-at, summary-at, root-at, decl-at, state-of}
+use Rattle.records.specs.States.{free-at, summary-at, root-at, hides-at, decl-at, excluded-of, state-of}
 use Rattle.records.specs.Writing.{with-record, Rowed}
 use Rattle.records.specs.Adding.{Standing, Adds, Untouched}
 use Rattle.records.proofs.Recording.{names-stay}
 use Rattle.records.proofs.Judging.{repeats-none, repeats-taken, repeats-free}
-use Rattle.records.proofs.Appending.{excluded-here, One-record, record-added, record-repeated, record-crowded, record-over}
+use Rattle.records.proofs.Appending.{One-record, record-added, record-repeated, record-crowded, record-over}
 use Rattle.records.proofs.Plain.{spelled-again, named-within, kept, not-taken, is-taken, plain}
 use Rattle.records.proofs.Funs.{taken-put, fresh-taken}
 
@@ -48,9 +47,10 @@ pub record Uses (file names rows lists names′ rows′ lists′ : List ℕ) (k 
   pub lists-words : Same-but (k .uses) (n - k .uses) lists lists′
   pub fresh : Fresh names′ rows′ (k .mark + 1)
 
--- the names of a table, and those that it says are excluded
-named-here : {file names : List ℕ} {named : ℕ} → Table file names named → Named exclude-names (name-of file names) names named
-named-here table = record { distinct = distinct table; excluded = excluded-exact table }
+-- the names of the table, and those that it says are excluded
+named-here : {file names refs rows recs lists : List ℕ} {k : Counts} → Standing file names refs rows recs lists k
+    → Named (excluded-of (name-of file names) recs (k .records)) (name-of file names) names (k .names)
+named-here st = record { distinct = distinct (st .tables .name-table); excluded = st .hiding .excludes }
 
 module _ {file names refs rows recs lists names′ rows′ lists′ : List ℕ} {k : Counts} (st : Standing file names refs rows recs lists k) (t : ℕ) {r : Walked}
     (gathers : (exclude : List Name) (name : ℕ → Name) → Named exclude name names (k .names) → Gathers name (k .names)
@@ -58,14 +58,14 @@ module _ {file names refs rows recs lists names′ rows′ lists′ : List ℕ} 
     (slices : Gathered names rows lists names′ rows′ lists′ (k .mark) (k .uses) most-uses r) where
   -- all the names have room
   pub gathered-uses : {n : ℕ} → r ≡ walks.Names n → Uses file names rows lists names′ rows′ lists′ k
-      (free-top-level-names exclude-names (terms-in file names refs rows (k .references) (k .terms)) t) n
+      (free-top-level-names (excluded-of (name-of file names) recs (k .records)) (terms-in file names refs rows (k .references) (k .terms)) t) n
   unfolding terms-in ended
-  gathered-uses {n} e = go (rw e at (gathers exclude-names (name-of file names) (named-here (st .tables .name-table)))) (rw e at slices)
+  gathered-uses {n} e = go (rw e at (gathers (excluded-of (name-of file names) recs (k .records)) (name-of file names) (named-here st))) (rw e at slices)
     where
-      go : Gathers (name-of file names) (k .names) (free-top-level-names exclude-names (terms-of (name-of file names) refs rows (k .references) (k .terms)) t)
+      go : Gathers (name-of file names) (k .names) (free-top-level-names (excluded-of (name-of file names) recs (k .records)) (terms-of (name-of file names) refs rows (k .references) (k .terms)) t)
           (k .uses) most-uses lists′ (walks.Names n)
           → Gathered names rows lists names′ rows′ lists′ (k .mark) (k .uses) most-uses (walks.Names n)
-          → Uses file names rows lists names′ rows′ lists′ k (free-top-level-names exclude-names (terms-of (name-of file names) refs rows (k .references) (k .terms)) t) n
+          → Uses file names rows lists names′ rows′ lists′ k (free-top-level-names (excluded-of (name-of file names) recs (k .records)) (terms-of (name-of file names) refs rows (k .references) (k .terms)) t) n
       go (all-names is count fits small) s = record {
         is = is;
         size = omega arith;
@@ -78,13 +78,13 @@ module _ {file names refs rows recs lists names′ rows′ lists′ : List ℕ} 
       }
 
   -- some have none
-  pub gathered-over : r ≡ walks.Full → most-uses < k .uses + length (free-top-level-names exclude-names (terms-in file names refs rows (k .references) (k .terms)) t)
+  pub gathered-over : r ≡ walks.Full → most-uses < k .uses + length (free-top-level-names (excluded-of (name-of file names) recs (k .records)) (terms-in file names refs rows (k .references) (k .terms)) t)
   unfolding terms-in
-  gathered-over e = go (rw e at (gathers exclude-names (name-of file names) (named-here (st .tables .name-table))))
+  gathered-over e = go (rw e at (gathers (excluded-of (name-of file names) recs (k .records)) (name-of file names) (named-here st)))
     where
-      go : Gathers (name-of file names) (k .names) (free-top-level-names exclude-names (terms-of (name-of file names) refs rows (k .references) (k .terms)) t)
+      go : Gathers (name-of file names) (k .names) (free-top-level-names (excluded-of (name-of file names) recs (k .records)) (terms-of (name-of file names) refs rows (k .references) (k .terms)) t)
           (k .uses) most-uses lists′ walks.Full
-          → most-uses < k .uses + length (free-top-level-names exclude-names (terms-of (name-of file names) refs rows (k .references) (k .terms)) t)
+          → most-uses < k .uses + length (free-top-level-names (excluded-of (name-of file names) recs (k .records)) (terms-of (name-of file names) refs rows (k .references) (k .terms)) t)
       go (no-room h small) = omega arith
 
   -- the words past the tables stay, also with a row written
@@ -132,8 +132,8 @@ module _ {file names refs rows recs lists : List ℕ} {k : Counts} (st : Standin
   def-new h = repeats-free st line (def (name-of file names i) t) known refl (omega arith)
 
   -- the line is one record
-  def-one : One-record file names refs rows k line (def (name-of file names i) t)
-  unfolding nodes spelled trimmed summarize-decl root-of
+  def-one : One-record file names refs rows (excluded-of (name-of file names) recs (k .records)) k line (def (name-of file names i) t)
+  unfolding heads hidden-by nodes spelled trimmed summarize-decl root-of collect
   def-one = record { no-term = refl; one = refl; few-names = named-within st known }
 
   -- the name is taken
@@ -150,20 +150,20 @@ module _ {file names refs rows recs lists : List ℕ} {k : Counts} (st : Standin
 
     -- more uses than may be
     pub def-over : k .records < most-records
-        → most-uses < k .uses + length (free-top-level-names exclude-names (terms-in file names refs rows (k .references) (k .terms)) t)
+        → most-uses < k .uses + length (free-top-level-names (excluded-of (name-of file names) recs (k .records)) (terms-in file names refs rows (k .references) (k .terms)) t)
         → Adds file names refs rows recs lists names′ rows′ recs′ lists′ k line (def (name-of file names i) t)
         (step.Refused refusal.FullTriggers)
-    unfolding add-line state-of summarize-decl root-of uses-of sum
+    unfolding add-line excluded state-of summarize-decl root-of uses-of sum
     def-over few h = record-over st line (def (name-of file names i) t) (def-new free) def-one few
-        (rw (excluded-here file names refs rows recs lists k) (inr (omega arith)))
+        (inr (omega arith))
 
     -- the record is there
     pub def-added : {next : Counts} {n : ℕ} → k .records < most-records → next ≡ with-record k (k .names) (k .entries) n (k .mark + 1)
         → Rowed recs recs′ k next def-kind line i t 0 0
-        → Uses file names rows lists names′ rows′ lists′ k (free-top-level-names exclude-names (terms-in file names refs rows (k .references) (k .terms)) t) n
+        → Uses file names rows lists names′ rows′ lists′ k (free-top-level-names (excluded-of (name-of file names) recs (k .records)) (terms-in file names refs rows (k .references) (k .terms)) t) n
         → Adds file names refs rows recs lists (set names′ (taken-column + i) (k .records + 1)) rows′ recs′ lists′ k line (def (name-of file names i) t)
         (step.On next)
-    unfolding asked nodes spelled trimmed summarize-decl root-of entries-of uses-of sum fold-left summary-at root-at decl-at
+    unfolding heads head-asks hidden-by hides-at nodes spelled trimmed summarize-decl root-of entries-of uses-of sum fold-left collect summary-at root-at decl-at
     def-added {next} {n} few e row u =
         let low : i < most-names = omega (arith, st .tables .name-table .few) in
         let put = taken-put {names = names′} i (k .records + 1) low in
@@ -182,6 +182,8 @@ module _ {file names refs rows recs lists : List ℕ} {k : Counts} (st : Standin
         (omega (arith, u .size)) (u .fits) (u .words) taken in
         rw e (record-added st few more (def-new free) (record {
           no-ask = refl;
+          hidden = refl;
+        hidden = refl;
           no-term = refl;
           spells = kept st words .names ∙ sym (spelled-again file names (k .names) i known);
           decls = rw (row′ .line-is, row′ .name-is, kept st words .name i known, free-then st u words row′);
@@ -199,8 +201,8 @@ module _ {file names refs rows recs lists : List ℕ} {k : Counts} (st : Standin
   root-new = repeats-none line (state-of file names refs rows recs lists k) (root query (name-of file names i) t) refl
 
   -- the line is one record
-  root-one : One-record file names refs rows k line (root query (name-of file names i) t)
-  unfolding nodes spelled trimmed summarize-decl root-of
+  root-one : One-record file names refs rows (excluded-of (name-of file names) recs (k .records)) k line (root query (name-of file names i) t)
+  unfolding heads hidden-by nodes spelled trimmed summarize-decl root-of collect
   root-one = record { no-term = refl; one = refl; few-names = named-within st known }
 
   -- as many records as may be
@@ -211,20 +213,20 @@ module _ {file names refs rows recs lists : List ℕ} {k : Counts} (st : Standin
 
   -- more uses than may be
   pub root-over : {names′ rows′ recs′ lists′ : List ℕ} → k .records < most-records → most-uses < k .uses
-      + length (free-top-level-names exclude-names (terms-in file names refs rows (k .references) (k .terms)) t)
+      + length (free-top-level-names (excluded-of (name-of file names) recs (k .records)) (terms-in file names refs rows (k .references) (k .terms)) t)
       → Adds file names refs rows recs lists names′ rows′ recs′ lists′ k line (root query (name-of file names i) t)
       (step.Refused refusal.FullTriggers)
-  unfolding add-line state-of summarize-decl root-of uses-of sum
+  unfolding add-line excluded state-of summarize-decl root-of uses-of sum
   root-over few h = record-over st line (root query (name-of file names i) t) root-new root-one few
-      (rw (excluded-here file names refs rows recs lists k) (inr (omega arith)))
+      (inr (omega arith))
 
   -- the record is there
   pub root-added : {names′ rows′ recs′ lists′ : List ℕ} {next : Counts} {n : ℕ} → k .records < most-records
       → next ≡ with-record k (k .names) (k .entries) n (k .mark + 1)
       → Rowed recs recs′ k next root-kind line i t query 0
-      → Uses file names rows lists names′ rows′ lists′ k (free-top-level-names exclude-names (terms-in file names refs rows (k .references) (k .terms)) t) n
+      → Uses file names rows lists names′ rows′ lists′ k (free-top-level-names (excluded-of (name-of file names) recs (k .records)) (terms-in file names refs rows (k .references) (k .terms)) t) n
       → Adds file names refs rows recs lists names′ rows′ recs′ lists′ k line (root query (name-of file names i) t) (step.On next)
-  unfolding asked nodes spelled trimmed summarize-decl root-of entries-of uses-of sum fold-left summary-at root-at
+  unfolding heads head-asks hidden-by hides-at nodes spelled trimmed summarize-decl root-of entries-of uses-of sum fold-left collect summary-at root-at
   root-added {names′} {recs′ = recs′} {next = next} {n} few e row u =
       let words : Same-but 8192 4096 names names′ = same-wider 8192 4096 (omega arith) (omega arith) (u .name-words) in
       let row′ : Rowed recs recs′ k (with-record k (k .names) (k .entries) n (k .mark + 1)) root-kind line i t query 0 = rw e at row in
@@ -233,6 +235,7 @@ module _ {file names refs rows recs lists : List ℕ} {k : Counts} (st : Standin
       (omega (arith, u .size)) (u .fits) (u .words) taken in
       rw e (record-added st few more root-new (record {
         no-ask = refl;
+        hidden = refl;
         no-term = refl;
         spells = kept st words .names ∙ sym (spelled-again file names (k .names) i known);
         decls = refl;

@@ -16,7 +16,7 @@ use Rattle.rules.specs.Views.{Tables}
 use Rattle.model.specs.declared.Step.{Step}
 use Rattle.model.specs.declared.Step.the-variants as step
 use Rattle.records.specs.States.{state-of}
-use Rattle.records.specs.Filing.{Records, Stocked}
+use Rattle.records.specs.Filing.{Records, Stocked, Hiding}
 
 -- the tables between two lines; a record takes at most two marks beside one for each of its entries
 pub record Standing (file names refs rows recs lists : List ℕ) (k : Counts) : Type 0 where
@@ -25,6 +25,7 @@ pub record Standing (file names refs rows recs lists : List ℕ) (k : Counts) : 
   pub fresh : Fresh names rows (k .mark)
   pub few-marks : k .mark ≤ 2 * k .records + k .entries + 1
   pub stocked : Stocked file names recs lists (k .records) (k .entries)
+  pub hiding : Hiding file names recs (k .names) (k .records) (k .hides)
 
 -- what the n-th line comes to, once its fields are read: 5, then the limits
 unfoldable pub judge : ℕ → State → Content → Result State

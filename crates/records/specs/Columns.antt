@@ -123,6 +123,9 @@ retain-kind = 3
 abbrev pub root-kind : ℕ
 root-kind = 4
 
+abbrev pub hide-kind : ℕ
+hide-kind = 5
+
 -- the kind of a fact by its code
 unfoldable pub kind-of-code : ℕ → AsumKind
 kind-of-code zero = Drop

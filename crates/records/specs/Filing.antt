@@ -10,10 +10,10 @@ use Rattle.model.specs.Names.{Name}
 use Rattle.model.specs.Summaries.{entries}
 use Rattle.model.specs.Reading.{most-names, most-records, most-entries, most-uses}
 use Rattle.model.specs.Outcome.{working-words}
-use Rattle.names.specs.Table.{name-of}
+use Rattle.names.specs.Table.{name-of, Excludes}
 use Rattle.triggers.specs.Entries.{disjuncts-of, last-flag, no-name}
-use Rattle.records.specs.Columns.{record-kind, record-name, uses-start, uses-end, entries-start, entries-end, assume-kind, retain-kind, root-kind, entry-word, entry-name, entry-fact, next-entry, taken-at, first-entry}
-use Rattle.records.specs.States.{entries-at}
+use Rattle.records.specs.Columns.{record-kind, record-name, uses-start, uses-end, entries-start, entries-end, assume-kind, retain-kind, hide-kind, entry-word, entry-name, entry-fact, next-entry, taken-at, first-entry}
+use Rattle.records.specs.States.{entries-at, hides-of, excluded-of}
 
 -- the record table: each row has its kind, its name (a retain has none) and its two lists, and the words in use are numbers of
 -- names
@@ -23,7 +23,7 @@ pub record Records (recs lists : List ℕ) (named records filed uses : ℕ) : Ty
   pub few : records ≤ most-records
   pub few-entries : filed ≤ most-entries
   pub few-uses : uses ≤ most-uses
-  pub kinds : (i : ℕ) → i < records → record-kind recs i ≤ root-kind
+  pub kinds : (i : ℕ) → i < records → record-kind recs i ≤ hide-kind
   pub named-in : (i : ℕ) → i < records → (record-kind recs i ≡ retain-kind → ⊥) → record-name recs i < named
   pub rising : (i : ℕ) → i < records → uses-start recs i ≤ uses-end recs i
   pub uses-in : (i : ℕ) → i < records → uses-end recs i ≤ uses
@@ -68,3 +68,8 @@ pub record Stocked (file names recs lists : List ℕ) (records filed : ℕ) : Ty
   pub filing : Filing (name-of file names) recs lists records filed
   pub taken : Taken names recs records
   pub chained : Chained names lists filed
+
+-- the hide lines are as many as are counted, and the name table tells the excluded names
+pub record Hiding (file names recs : List ℕ) (named records hides : ℕ) : Type 0 where
+  pub counted : length (hides-of recs records) ≡ hides
+  pub excludes : Excludes (excluded-of (name-of file names) recs records) file names named

@@ -1,10 +1,10 @@
--- The tables as the state of `model`: the asks, the background, the roots and the counts.
+-- The tables as the state of `model`: the asks, the hidden names, the background, the roots and the counts.
 use Prim.Native.Nat.{ℕ, zero, suc, _+_}
 use mathlib.Core.List.{List, [], _∷_, _++_, map}
 use lib.Dec.{eqb}
 use Rattle.model.specs.Lists.{part}
 use Rattle.model.specs.Names.{Name, from-list}
-use Rattle.model.specs.Summaries.{Fact}
+use Rattle.model.specs.Summaries.{Fact, exclude-names}
 use Rattle.model.specs.Reading.{Decl, Summary, Sum-assume, Sum-definefun, Sum-declfun, Sum-retain, Root, Ask, State}
 use Rattle.model.specs.declared.Counts.{Counts}
 use Rattle.names.specs.Table.{name-of, table-names}
@@ -55,8 +55,31 @@ module _ (name : ℕ → Name) (recs lists : List ℕ) (i : ℕ) where
   root-at (suc zero) = []
   root-at (suc (suc zero)) = []
   root-at (suc (suc (suc zero))) = []
-  root-at (suc (suc (suc (suc k)))) =
+  root-at (suc (suc (suc (suc zero)))) =
       record { line = record-line recs i; query = record-flag recs i; name = name (record-name recs i); free-names = free-at } ∷ []
+  root-at (suc (suc (suc (suc (suc k))))) = []
+
+-- the number of the name that a record of a kind hides
+unfoldable pub hides-at : List ℕ → ℕ → ℕ → List ℕ
+hides-at recs i zero = []
+hides-at recs i (suc zero) = []
+hides-at recs i (suc (suc zero)) = []
+hides-at recs i (suc (suc (suc zero))) = []
+hides-at recs i (suc (suc (suc (suc zero)))) = []
+hides-at recs i (suc (suc (suc (suc (suc k))))) = record-name recs i ∷ []
+
+-- the numbers of the names that the records before the n-th hide
+unfoldable pub hides-of : List ℕ → ℕ → List ℕ
+hides-of recs zero = []
+hides-of recs (suc n) = hides-of recs n ++ hides-at recs n (record-kind recs n)
+
+-- these names
+abbrev pub hidden-of : (ℕ → Name) → List ℕ → ℕ → List Name
+hidden-of name recs n = map name (hides-of recs n)
+
+-- the names that are not free names then
+abbrev pub excluded-of : (ℕ → Name) → List ℕ → ℕ → List Name
+excluded-of name recs n = exclude-names ++ hidden-of name recs n
 
 module _ (name : ℕ → Name) (recs lists : List ℕ) where
   -- the background of the records before the n-th
@@ -79,7 +102,7 @@ unfoldable pub state-of : List ℕ → List ℕ → List ℕ → List ℕ → Li
 state-of file names refs rows recs lists k =
     record {
       asks = asks-of recs (k .asks);
-      hidden = [];
+      hidden = hidden-of (name-of file names) recs (k .records);
       terms = terms-in file names refs rows (k .references) (k .terms);
       names = table-names file names (k .names);
       decls = decls-of (name-of file names) recs lists (k .records);

@@ -13,10 +13,11 @@ unfoldable pub put-row : List ℕ → ℕ → ℕ → List ℕ → List ℕ
 put-row recs i c [] = recs
 put-row recs i c (v ∷ vs) = put-row (set recs (c * most-records + i) v) i (c + 1) vs
 
--- the counts with a record more: how many names, entries and uses there are then, and the next mark
-abbrev pub with-record : Counts → ℕ → ℕ → ℕ → ℕ → Counts
-with-record k named entries uses mark = record {
+-- the counts with a record more: how many hide lines, names, entries and uses there are then, and the next mark
+abbrev pub with-row : Counts → ℕ → ℕ → ℕ → ℕ → ℕ → Counts
+with-row k hides named entries uses mark = record {
   asks = k .asks;
+  hides = hides;
   names = named;
   references = k .references;
   terms = k .terms;
@@ -26,14 +27,19 @@ with-record k named entries uses mark = record {
   mark = mark;
 }
 
+-- the same of a record that is no hide line
+abbrev pub with-record : Counts → ℕ → ℕ → ℕ → ℕ → Counts
+with-record k named entries uses mark = with-row k (k .hides) named entries uses mark
+
 -- the counts before the first line; the first mark is 1, since a cleared slice has marks 0
 abbrev pub no-counts : Counts
-no-counts = record { asks = 0; names = 0; references = 0; terms = 0; records = 0; entries = 0; uses = 0; mark = 1 }
+no-counts = record { asks = 0; hides = 0; names = 0; references = 0; terms = 0; records = 0; entries = 0; uses = 0; mark = 1 }
 
 -- the counts with an ask more
 abbrev pub with-ask : Counts → Counts
 with-ask k = record {
   asks = k .asks + 1;
+  hides = k .hides;
   names = k .names;
   references = k .references;
   terms = k .terms;

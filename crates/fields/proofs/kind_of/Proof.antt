@@ -65,8 +65,12 @@ unfolding kind-result term-kind record-line-kind need look kinds key-of key-from
 returns-14 c = rw (c .match .keys14)
 
 returns-15 : tie.Need-returns-15
+unfolding kind-result term-kind record-line-kind need look kinds key-of key-from bytes
+returns-15 c = rw (c .match .keys15)
+
+returns-16 : tie.Need-returns-16
 unfolding kind-result need kinds Apart key-of key-from bytes
-returns-15 c = ap (need Form) (look-none (Unit {0}) _ kinds (c .match .rest))
+returns-16 c = ap (need Form) (look-none (Unit {0}) _ kinds (c .match .rest))
 
 pub kind-of-spec : {M : Type 1} → statement M
 kind-of-spec =
@@ -86,4 +90,5 @@ kind-of-spec =
     returns-12
     returns-13
     returns-14
-    returns-15)
+    returns-15
+    returns-16)
