@@ -12,9 +12,9 @@ Past-names s = 2048 < length (s .names)
 abbrev pub Past-terms : State → Type 0
 Past-terms s = (4096 < length (s .terms)) ⊎ (16384 < s .references)
 
--- "record lines 1,024"
+-- "record lines 1,024"; document 02, Change 6: "A hide line is a record line"
 abbrev pub Past-records : State → Type 0
-Past-records s = 1024 < length (s .decls) + length (s .roots)
+Past-records s = 1024 < length (s .hidden) + (length (s .decls) + length (s .roots))
 
 -- "trigger entries .. 2,048 ..; name uses .. 6,144"
 abbrev pub Past-triggers : State → Type 0
