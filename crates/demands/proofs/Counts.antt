@@ -5,12 +5,12 @@ use mathlib.Core.Path.{_≡_, refl, _∙_}
 use mathlib.Core.Bool.{Bool, true, false, cond}
 use mathlib.Core.List.{List, [], _∷_, _++_, map}
 use lib.ListN.{length, length-append}
-use Rattle.model.specs.Lists.{keep, count, sum, fold-left}
+use Rattle.model.specs.Lists.{keep, count, sum, collect, fold-left}
 use Rattle.model.specs.Names.{Name}
 use Rattle.model.specs.Lines.{Line, fields}
 use Rattle.model.specs.Terms.{Node, Term, add-term, references}
 use Rattle.model.specs.Summaries.{exclude-names, Fact, entries}
-use Rattle.model.specs.Reading.{Content, ask, term, assume, fun, def, retain, root, ok, Decl, Summary, Sum-assume, Sum-definefun, Sum-declfun, Sum-retain, State, start, read, entries-of, uses-of, nodes, spelled, trimmed, summarize-decl, root-of, excluded, parse, add-line, read-lines}
+use Rattle.model.specs.Reading.{Content, head, term, assume, fun, def, retain, root, ok, Decl, Summary, Sum-assume, Sum-definefun, Sum-declfun, Sum-retain, State, start, read, entries-of, uses-of, hidden-by, heads, nodes, spelled, trimmed, summarize-decl, root-of, excluded, parse, add-line, read-lines}
 use Rattle.model.specs.Rounds.{facts, definitions}
 use Rattle.model.proofs.ListLaws.{keep-append, count-append, sum-map-append}
 use Rattle.demands.specs.Demand1.{Reached-line, Says}
@@ -47,7 +47,8 @@ references-in ls = sum (map (λ line. length (term-fields line)) (keep (begins t
 record Adds (ls : List Line) (s t : State) : Type 0 where
   term-lines : length (t .terms) ≡ length (s .terms) + count (begins term-words) ls
   term-references : t .references ≡ s .references + references-in ls
-  record-lines : length (t .decls) + length (t .roots) ≡ length (s .decls) + length (s .roots) + count (begins record-words) ls
+  record-lines : length (t .hidden) + (length (t .decls) + length (t .roots))
+      ≡ length (s .hidden) + (length (s .decls) + length (s .roots)) + count (begins record-words) ls
 
 -- lines one after the other add what each of the two parts adds
 adds-append : {ls ms : List Line} {s t u : State} → Adds ls s t → Adds ms t u → Adds (ls ++ ms) s u
@@ -105,6 +106,7 @@ adds-line exclude n s line c e =
       record-lines = rw (one-counted (begins record-words) line) (omega (
         arith,
         l .record-lines out (s .terms) n,
+        length-append (s .hidden) (collect hidden-by (heads c)),
         length-append (s .decls) (summarize-decl out (s .terms) n c),
         length-append (s .roots) (root-of out (s .terms) n c),
       ));
@@ -154,7 +156,7 @@ module _ {ls : List Line} {n : ℕ} (l : Reached-line ls n) where
         ∙ rw (line-fields (l .state) (fields (l .line .bytes)) (says .parsed) .names, token c)
       where
         token : (c : Content) → trimmed (excluded exclude-names (l .state)) (l .state .terms) c ≡ token-trimmed l c
-        token (ask q options) = refl
+        token (head h) = refl
         token (term node) = refl
         token (assume name flag t) = refl
         token (fun name) = refl

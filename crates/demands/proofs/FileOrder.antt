@@ -1,6 +1,7 @@
 -- The order of the file: the records of an accepted file are those that its lines say, in the order of the lines.
 use Prim.Native.Nat.{ℕ, _+_}
 use mathlib.Core.Path.{_≡_, refl, sym, _∙_, ap, ap₂}
+use mathlib.Core.Logic.{_⊎_, ⊎-elim}
 use mathlib.Core.List.{List, [], _∷_, _++_, map, map-map, append-nil, append-assoc}
 use lib.ListN.{length}
 use Rattle.model.specs.Lists.{collect}
@@ -8,13 +9,14 @@ use Rattle.model.specs.Names.{Name}
 use Rattle.model.specs.Lines.{Line, lines}
 use Rattle.model.specs.Terms.{Term}
 use Rattle.model.specs.Summaries.{exclude-names}
-use Rattle.model.specs.Reading.{Content, ask, term, assume, fun, def, retain, root, State, start, read, summarize-decl, root-of, excluded, add-line, read-lines}
+use Rattle.model.specs.Reading.{Head, Content, head, term, assume, fun, def, retain, root, State, start, read, summarize-decl, root-of, excluded, add-line, read-lines}
 use Rattle.model.specs.Rounds.{facts, definitions, declarations}
 use Rattle.model.proofs.ListLaws.{collect-map}
-use Rattle.demands.specs.FileOrder.{Said, numbers-from, fact-said, definition-said, declaration-said, root-said, from-line, File-order, Excluded-exact}
+use Rattle.demands.specs.FileOrder.{Said, numbers-from, fact-said, definition-said, declaration-said, root-said, from-line, File-order}
 use Rattle.laws.proofs.Records.{facts-append, definitions-append, declarations-append}
-use Rattle.laws.proofs.ReadingLaws.{line-read, lines-read, none-read, kept-by-lines, file-read}
+use Rattle.laws.proofs.ReadingLaws.{line-read, lines-read, none-read, file-read}
 use Rattle.demands.proofs.SaidLines.{reached, Said-from, said-first, said-later}
+use Rattle.demands.proofs.Heads.{excluded-at}
 use Rattle.demands.proofs.RecordLines.{records-rise, roots-rise}
 
 -- every line of those that are read, and what it says
@@ -34,18 +36,6 @@ told-places (line ∷ ls) n s t e =
     ap (n ∷_) (map-map (λ (w : Said-from n s (line ∷ ls)). w .place) (said-later n s u line r) (told ls (n + 1) u t others)
     ∙ told-places ls (n + 1) u t others)
 
--- the names excluded before some lines that are read are those excluded after them
-excluded-at : (exclude : List Name) (ls : List Line) (n : ℕ) (s t : State) → read-lines exclude n s ls ≡ read t → excluded exclude s ≡ excluded exclude t
-unfolding excluded add-line
-excluded-at exclude ls n s t e =
-    kept-by-lines exclude (λ n u. excluded exclude s ≡ excluded exclude u)
-    (λ n u v line r same. same ∙ ap (excluded exclude) (sym (line-read exclude n u line v r .after))) ls n s t e refl
-
--- they are those at the start
-pub excluded-exact : Excluded-exact
-unfolding excluded start
-excluded-exact ls s e = sym (excluded-at exclude-names ls 1 start s e) ∙ append-nil exclude-names
-
 -- what a line says by these excluded names
 abbrev Says-by : Type 0 → Type 0
 Says-by X = List Name → List Term → ℕ → Content → List X
@@ -54,10 +44,18 @@ Says-by X = List Name → List Term → ℕ → Content → List X
 abbrev from-said : {X : Type 0} {n : ℕ} {s : State} {ls : List Line} → List Name → Says-by X → Said-from n s ls → List X
 from-said exclude said w = said exclude (w .at .state .terms) (w .place) (w .content)
 
--- a part of the state to which each line adds what it says
-abbrev Adds-said : {X : Type 0} → (State → List X) → Says-by X → Type 0
-Adds-said part said =
-    (n : ℕ) (s : State) (c : Content) → part (add-line exclude-names n s c) ≡ part s ++ said (excluded exclude-names s) (s .terms) n c
+-- a part of the state to which each line adds what it says, a line of the head nothing
+pub record Adds-said {X : Type 0} (part : State → List X) (said : Says-by X) : Type 0 where
+  pub adds : (n : ℕ) (s : State) (c : Content) → part (add-line exclude-names n s c) ≡ part s ++ said (excluded exclude-names s) (s .terms) n c
+  pub none : (exclude : List Name) (terms : List Term) (n : ℕ) (h : Head) → said exclude terms n (head h) ≡ []
+
+-- what a line says by the names excluded at it, it says by those excluded at the end of the file
+said-late : {X : Type 0} {part : State → List X} {said : Says-by X} → Adds-said part said → (n : ℕ) (s t : State) (c : Content)
+    → ((h : Head) × (c ≡ head h)) ⊎ (excluded exclude-names s ≡ excluded exclude-names t)
+    → said (excluded exclude-names s) (s .terms) n c ≡ said (excluded exclude-names t) (s .terms) n c
+said-late {said} a n s t c w =
+    ⊎-elim (λ p. rw (p .1) (a .none (excluded exclude-names s) (s .terms) n (p .0) ∙ sym (a .none (excluded exclude-names t) (s .terms) n (p .0))))
+    (λ e. ap (λ x. said x (s .terms) n c) e) w
 
 -- after some lines it is what it was and what they say, by the names excluded after them
 told-part : {X : Type 0} (part : State → List X) (said : Says-by X) → Adds-said part said
@@ -69,9 +67,9 @@ told-part part said h (line ∷ ls) n s t e =
     let (u, r, others) = lines-read exclude-names n s line ls t e in
     let l = line-read exclude-names n s line u r in
     let out = excluded exclude-names t in
-    let late = ap (λ x. part s ++ said x (s .terms) n (l .content)) (excluded-at exclude-names (line ∷ ls) n s t e) in
+    let late = said-late h n s t (l .content) (excluded-at exclude-names line ls n s t e) in
     told-part part said h ls (n + 1) u t others
-    ∙ ap₂ _++_ (ap part (l .after) ∙ h n s (l .content) ∙ late) (sym (collect-map (from-said out said) (said-later n s u line r) (told ls (n + 1) u t others)))
+    ∙ ap₂ _++_ (ap part (l .after) ∙ h .adds n s (l .content) ∙ ap (part s ++_) late) (sym (collect-map (from-said out said) (said-later n s u line r) (told ls (n + 1) u t others)))
     ∙ append-assoc (part s) (said out (s .terms) n (l .content)) _
 
 -- a line adds to the facts, the definitions, the declarations and the roots what it says
@@ -81,7 +79,7 @@ record-said : (exclude : List Name) (terms : List Term) (n : ℕ) (c : Content)
     × (declarations (summarize-decl exclude terms n c) ≡ declaration-said exclude terms n c)
     × (root-of exclude terms n c ≡ root-said exclude terms n c)
 unfolding facts definitions declarations summarize-decl root-of
-record-said exclude terms n (ask q options) = (refl, refl, refl, refl)
+record-said exclude terms n (head h) = (refl, refl, refl, refl)
 record-said exclude terms n (term node) = (refl, refl, refl, refl)
 record-said exclude terms n (assume name flag t) = (refl, refl, refl, refl)
 record-said exclude terms n (fun name) = (refl, refl, refl, refl)
@@ -111,12 +109,22 @@ file-order file s e =
       said = map as-said (told (lines file) 1 start s reading);
       every-line = map-map (λ (l : Said file). l .place) as-said (told (lines file) 1 start s reading) ∙ told-places (lines file) 1 start s reading;
       facts-said = said-part file (λ s. facts (s .decls)) fact-said refl
-          (λ n s c. facts-append (s .decls) _ ∙ ap (facts (s .decls) ++_) (record-said (excluded exclude-names s) (s .terms) n c .0)) s reading;
+          (record {
+            adds = λ n s c. facts-append (s .decls) _ ∙ ap (facts (s .decls) ++_) (record-said (excluded exclude-names s) (s .terms) n c .0);
+            none = λ exclude terms n h. refl;
+          }) s reading;
       definitions-said = said-part file (λ s. definitions (s .decls)) definition-said refl
-          (λ n s c. definitions-append (s .decls) _ ∙ ap (definitions (s .decls) ++_) (record-said (excluded exclude-names s) (s .terms) n c .1)) s reading;
+          (record {
+            adds = λ n s c. definitions-append (s .decls) _ ∙ ap (definitions (s .decls) ++_) (record-said (excluded exclude-names s) (s .terms) n c .1);
+            none = λ exclude terms n h. refl;
+          }) s reading;
       declarations-said = said-part file (λ s. declarations (s .decls)) declaration-said refl
-          (λ n s c. declarations-append (s .decls) _ ∙ ap (declarations (s .decls) ++_) (record-said (excluded exclude-names s) (s .terms) n c .2)) s reading;
-      roots-said = said-part file (λ s. s .roots) root-said refl (λ n s c. ap (s .roots ++_) (record-said (excluded exclude-names s) (s .terms) n c .3)) s reading;
+          (record {
+            adds = λ n s c. declarations-append (s .decls) _ ∙ ap (declarations (s .decls) ++_) (record-said (excluded exclude-names s) (s .terms) n c .2);
+            none = λ exclude terms n h. refl;
+          }) s reading;
+      roots-said = said-part file (λ s. s .roots) root-said refl
+          (record { adds = λ n s c. ap (s .roots ++_) (record-said (excluded exclude-names s) (s .terms) n c .3); none = λ exclude terms n h. refl }) s reading;
       decls-rise = records-rise exclude-names file s e;
       roots-rise = roots-rise exclude-names file s e;
     }

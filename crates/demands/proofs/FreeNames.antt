@@ -13,7 +13,7 @@ use Rattle.model.specs.Names.{Name, bytes, mem, union}
 use Rattle.model.specs.Lines.{Line, lines}
 use Rattle.model.specs.Terms.{Node, FreeV, Leaf, Call, App, Forall, Exists, Let, Labeled, Term, term as term-of, names-of, free-top-level-names as node-names, unlabeled, add-term, references}
 use Rattle.model.specs.Summaries.{common-names, exclude-names, free-top-level-names, group-names}
-use Rattle.model.specs.Reading.{Content, ask, term, assume, fun, def, retain, root, ok, State, start, nodes, excluded, add-line, read-line}
+use Rattle.model.specs.Reading.{Content, head, term, assume, fun, def, retain, root, ok, State, start, nodes, excluded, add-line, read-line}
 use Rattle.model.proofs.ListLaws.{getD-one-more, concat-intro, concat-elim}
 use Rattle.model.proofs.SetLaws.{mem-intro, mem-elim, mem-add, mem-union, mem-diff, mem-from-list, mem-append}
 use Rattle.demands.specs.FileOrder.{Said}
@@ -32,7 +32,7 @@ use Rattle.demands.proofs.WellFormed.{Term-sets, set-law, free-set, set
 terms-added : (terms : List Term) (c : Content)
     → map (λ (t : Term). t .node) (fold-left add-term terms (nodes c)) ≡ map (λ (t : Term). t .node) terms ++ nodes c
 unfolding nodes fold-left add-term
-terms-added terms (ask q options) = sym (append-nil _)
+terms-added terms (head h) = sym (append-nil _)
 terms-added terms (term node) = map-append (λ (t : Term). t .node) terms _
 terms-added terms (assume name flag t) = sym (append-nil _)
 terms-added terms (fun name) = sym (append-nil _)
@@ -52,7 +52,7 @@ term-lines file s e =
           ∙ told-places (lines file) 1 start s reading;
       terms-said =
           said-part file (λ s. map (λ (t : Term). t .node) (s .terms)) (λ exclude terms n c. nodes c) refl
-          (λ n s c. terms-added (s .terms) c) s reading;
+          (record { adds = λ n s c. terms-added (s .terms) c; none = λ exclude terms n h. unfold nodes in refl }) s reading;
     }
 
 -- ---- what a line names
@@ -105,9 +105,9 @@ module _ (terms : List Term) (name : Name) where
   unfolding node-names
   node-has (FreeV own-name) t = ⊎-elim (λ e. inl (rw e of-free)) (λ h. absurd (none-in h)) (mem-add name own-name [] .0 t)
   node-has Leaf t = absurd (none-in t)
-  node-has (Call head ts) t =
+  node-has (Call symbol ts) t =
       ⊎-elim (λ e. inl (rw e of-call)) (λ h. let (u, i, k) = names-of-exact ts .0 h in inr (u, call-argument i, k))
-      (mem-add name head (names-of terms ts) .0 t)
+      (mem-add name symbol (names-of terms ts) .0 t)
   node-has (App word ts) t = let (u, i, k) = names-of-exact ts .0 t in inr (u, op-argument i, k)
   node-has (Forall body groups) t =
       quantified body groups (Forall body groups) all-body (λ g u i j. all-pattern i j)
@@ -129,7 +129,7 @@ module _ (terms : List Term) (name : Name) where
   -- a name of a term that it names is gathered
   named-gathered : {u : ℕ} {node : Node} → Named-term u node → T (mem name (term-of terms u .names)) → T (mem name (node-names terms node))
   unfolding node-names
-  named-gathered {u} (call-argument {name = head} {ts} i) h = mem-add name head (names-of terms ts) .1 (inr (names-of-exact ts .1 (u, i, h)))
+  named-gathered {u} (call-argument {name = symbol} {ts} i) h = mem-add name symbol (names-of terms ts) .1 (inr (names-of-exact ts .1 (u, i, h)))
   named-gathered {u} (op-argument {ts = ts} i) h = names-of-exact ts .1 (u, i, h)
   named-gathered {u} (all-body {groups}) h = mem-union name (names-of terms (concat groups)) (term-of terms u .names) .1 (inr h)
   named-gathered {u} (all-pattern {body} {groups} i j) h =
@@ -224,7 +224,7 @@ solved-more terms node below lower s =
 solved-line : (terms : List Term) (c : Content) → Below (length terms) (terms-named c) → Lower terms → Solved terms
     → Solved (fold-left add-term terms (nodes c))
 unfolding nodes fold-left terms-named
-solved-line terms (ask q options) w lower s = s
+solved-line terms (head h) w lower s = s
 solved-line terms (term node) w lower s = solved-more terms node w lower s
 solved-line terms (assume name flag t) w lower s = s
 solved-line terms (fun name) w lower s = s

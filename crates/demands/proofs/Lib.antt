@@ -10,11 +10,13 @@ pub mod TermNames
 pub mod Disjuncts
 pub mod TermNumbers
 pub mod LineFields
+pub mod Heads
 pub mod WellFormed
 pub mod StateLaws
 pub mod Counts
 pub mod Queries
 pub mod Asks
+pub mod Hidden
 pub mod Refusals
 pub mod SaidLines
 pub mod Demand1

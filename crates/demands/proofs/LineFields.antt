@@ -1,5 +1,5 @@
--- The fields of an accepted line by their sorts: the names that it spells, the terms that it names, and which lines count
--- as term lines, as record lines and as the ask.
+-- The fields of an accepted line by their sorts: the names that it spells, the terms that it names, which lines count as term
+-- lines and as record lines, and what a line of the head says.
 use Prim.Native.Nat.{ℕ, zero, suc, _+_, _≤_}
 use Prim.Native.String.{String}
 use native.Mathlib.Nat.{zero-add}
@@ -14,7 +14,7 @@ use Rattle.model.specs.Lists.{any, concat, collect, holds}
 use Rattle.model.specs.Names.{Name, bytes, by-byte, order, is-same, same}
 use Rattle.model.specs.Lines.{Field, is-name}
 use Rattle.model.specs.Terms.{Node, FreeV, Leaf, Forall, Exists, Labeled, Term, references}
-use Rattle.model.specs.Reading.{Result, ok, refused, _>>=_, need, name-field, number-field, term-field, op-words, word, kinds, next, many, rest, end, groups, Content, ask, term, assume, fun, def, root, quantifier, most-query, most-options, content, Ask, State, an-ask, another, place, may-stand, parse, asked, nodes, spelled-by, spelled, summarize-decl, root-of}
+use Rattle.model.specs.Reading.{Result, ok, refused, _>>=_, need, name-field, number-field, term-field, op-words, word, kinds, next, many, rest, end, groups, Head, ask, hide, Content, head, term, assume, fun, def, root, quantifier, most-query, most-options, content, State, Place, an-ask, a-hide, another, place, may-stand, parse, hidden-by, heads, nodes, spelled-by, spelled, summarize-decl, root-of}
 use Rattle.model.specs.declared.LineKind.{LineKind}
 use Rattle.model.specs.declared.LineKind.the-variants as kind
 use Rattle.model.specs.declared.Refusal.the-variants as refusal
@@ -22,7 +22,7 @@ use Rattle.model.proofs.ListLaws.{true-T}
 use Rattle.model.proofs.SetLaws.{same-eq}
 use Rattle.model.proofs.ResultLaws.{cond-ok, ok-eq}
 use Rattle.demands.specs.LineForm.{Sort, a-name, a-term, nothing, may, value, group-due, quantifier-due, in-order, then-terms, due, sort-due, is-a-name, is-a-term, fields-due, fields-of}
-use Rattle.demands.specs.Counts.{term-words, record-words, ask-words, is-word}
+use Rattle.demands.specs.Counts.{term-words, record-words, ask-words, hide-words, is-word}
 use Rattle.laws.proofs.ReadingLaws.{number-ok, parse-ok}
 use Rattle.demands.proofs.TermNumbers.{Gives, value as gives-value, no-value, any-value, given, gives-bind}
 use Rattle.demands.proofs.LineWalk.{number-value}
@@ -150,6 +150,7 @@ word-case P ((w, b) ∷ ws) h f {a} e = go (same f (bytes w)) refl (word-case P 
 -- the word of a kind
 kind-word : LineKind → String
 kind-word kind.Ask = "ask"
+kind-word kind.Hide = "hide"
 kind-word kind.Free = "free"
 kind-word kind.Leaf = "leaf"
 kind-word kind.Call = "call"
@@ -169,12 +170,19 @@ word-exact : (f : Field) {k : LineKind} → word kinds f ≡ some k → f ≡ by
 unfolding kinds kind-word
 word-exact f e =
     word-case (λ f k. f ≡ bytes (kind-word k)) kinds
-    (refl, (refl, (refl, (refl, (refl, (refl, (refl, (refl, (refl, (refl, (refl, (refl, (refl, (refl, tt)))))))))))))) f e
+    (refl, (refl, (refl, (refl, (refl, (refl, (refl, (refl, (refl, (refl, (refl, (refl, (refl, (refl, (refl, tt))))))))))))))) f e
 
--- a line of a kind may stand where an ask may or where any other may, by its word
-kind-place : (k : LineKind) → place k ≡ cond (is-word ask-words (bytes (kind-word k))) an-ask another
-unfolding place kind-word is-word ask-words any same order by-byte is-same bytes
+-- where a line may stand, by whether it is an ask or a hide
+unfoldable pub place-by : Bool → Bool → Place
+place-by true is-hide = an-ask
+place-by false true = a-hide
+place-by false false = another
+
+-- a line of a kind may stand where its word says
+kind-place : (k : LineKind) → place k ≡ place-by (is-word ask-words (bytes (kind-word k))) (is-word hide-words (bytes (kind-word k)))
+unfolding place place-by kind-word is-word ask-words hide-words any same order by-byte is-same bytes
 kind-place kind.Ask = refl
+kind-place kind.Hide = refl
 kind-place kind.Free = refl
 kind-place kind.Leaf = refl
 kind-place kind.Call = refl
@@ -190,48 +198,52 @@ kind-place kind.Retain = refl
 kind-place kind.Root = refl
 
 -- so it does by its first field
-pub known-place : (f : Field) {k : LineKind} → word kinds f ≡ some k → place k ≡ cond (is-word ask-words f) an-ask another
-known-place f {k} known = kind-place k ∙ ap (λ g. cond (is-word ask-words g) an-ask another) (sym (word-exact f known))
+pub known-place : (f : Field) {k : LineKind} → word kinds f ≡ some k → place k ≡ place-by (is-word ask-words f) (is-word hide-words f)
+known-place f {k} known = kind-place k ∙ ap (λ g. place-by (is-word ask-words g) (is-word hide-words g)) (sym (word-exact f known))
 
--- what a line asks, by whether it is an ask: one query and options in their ranges, or nothing
-pub data Asks-by : Bool → List Ask → Type 0 where
-  one-ask : {q options : ℕ} → q ≤ most-query → options ≤ most-options → Asks-by true (record { queries = q ∷ []; options = options } ∷ [])
-  no-ask : Asks-by false []
+-- the line of the head that a line is, by whether it is an ask or a hide: a query and options in their ranges, or the field that
+-- is its name; any other is none
+pub data Head-by (name : Field) : Bool → Bool → List Head → Type 0 where
+  one-ask : {q options : ℕ} → q ≤ most-query → options ≤ most-options → Head-by name true false (ask q options ∷ [])
+  one-hide : Head-by name false true (hide name ∷ [])
+  no-head : Head-by name false false []
 
--- what a line says, by whether it counts as an ask, as a term line or as a record line, by its names and by the terms that it
--- names
-pub record Formed (is-ask is-term is-record : Bool) (named terms : List Field) (c : Content) : Type 0 where
-  pub asks : Asks-by is-ask (asked c)
+-- what a line says, by whether it counts as an ask, as a hide, as a term line or as a record line, by the field after its kind, by
+-- its names and by the terms that it names
+pub record Formed (is-ask is-hide is-term is-record : Bool) (first : Field) (named terms : List Field) (c : Content) : Type 0 where
+  pub headed : Head-by first is-ask is-hide (heads c)
   pub names : named ≡ spelled c
   pub term-lines : length (nodes c) ≡ cond is-term 1 0
   pub term-references : length (collect references (nodes c)) ≡ cond is-term (length terms) 0
   pub record-lines : (exclude : List Name) (terms : List Term) (n : ℕ)
-      → length (summarize-decl exclude terms n c) + length (root-of exclude terms n c) ≡ cond is-record 1 0
+      → length (collect hidden-by (heads c)) + (length (summarize-decl exclude terms n c) + length (root-of exclude terms n c)) ≡ cond is-record 1 0
 
 -- the same of the fields of a line of a kind
-abbrev Formed-as : Bool → Bool → Bool → LineKind → List Field → Content → Type 0
-Formed-as is-ask is-term is-record k fs c = Formed is-ask is-term is-record (fields-due is-a-name (due k) fs) (fields-due is-a-term (due k) fs) c
+abbrev Formed-as : Bool → Bool → Bool → Bool → LineKind → List Field → Content → Type 0
+Formed-as is-ask is-hide is-term is-record k fs c =
+    Formed is-ask is-hide is-term is-record (getD fs 0 []) (fields-due is-a-name (due k) fs) (fields-due is-a-term (due k) fs) c
 
 -- a term line
-term-formed : {named terms : List Field} {node : Node} → named ≡ spelled-by node → length terms ≡ length (references node)
-    → Formed false true false named terms (term node)
-unfolding asked spelled nodes collect summarize-decl root-of
+term-formed : {first : Field} {named terms : List Field} {node : Node} → named ≡ spelled-by node → length terms ≡ length (references node)
+    → Formed false false true false first named terms (term node)
+unfolding heads hidden-by spelled nodes collect summarize-decl root-of
 term-formed {node} e h =
-    record { asks = no-ask; names = e; term-lines = refl; term-references = rw append-nil (sym h); record-lines = λ exclude terms n. refl }
+    record { headed = no-head; names = e; term-lines = refl; term-references = rw append-nil (sym h); record-lines = λ exclude terms n. refl }
 
 -- a line that is no term line
-other-formed : {is-ask is-record : Bool} {named terms : List Field} {c : Content} → Asks-by is-ask (asked c) → nodes c ≡ []
+other-formed : {is-ask is-hide is-record : Bool} {first : Field} {named terms : List Field} {c : Content} → Head-by first is-ask is-hide (heads c)
+    → nodes c ≡ []
     → ((exclude : List Name) (terms : List Term) (n : ℕ)
-    → length (summarize-decl exclude terms n c) + length (root-of exclude terms n c) ≡ cond is-record 1 0)
-    → named ≡ spelled c → Formed is-ask false is-record named terms c
+    → length (collect hidden-by (heads c)) + (length (summarize-decl exclude terms n c) + length (root-of exclude terms n c)) ≡ cond is-record 1 0)
+    → named ≡ spelled c → Formed is-ask is-hide false is-record first named terms c
 unfolding collect
-other-formed a e h names = record { asks = a; names = names; term-lines = rw e; term-references = rw e; record-lines = h }
+other-formed a e h names = record { headed = a; names = names; term-lines = rw e; term-references = rw e; record-lines = h }
 
 -- an `all` or a `some`, by its fields
 quantifier-made : (k : LineKind) → due k ≡ quantifier-due
     → (node : Node) (body g : ℕ) (gs : List (List ℕ)) → spelled-by node ≡ [] → references node ≡ body ∷ concat gs
     → (f f₁ : Field) (fs after : List Field) → value f₁ ≡ g → terms-due 0 g fs ≡ length (concat gs) + terms-due 0 0 after → after ≡ []
-    → Formed-as false true false k (f ∷ f₁ ∷ fs) (term node)
+    → Formed-as false false true false k (f ∷ f₁ ∷ fs) (term node)
 unfolding quantifier-due fields-due sort-due holds is-a-name is-a-term group-due
 quantifier-made k e node body g gs spells names f f₁ fs after v w left =
     term-formed (rw (e, spells) (no-name-due fs 0 (value f₁))) (rw (e, v, names) (ap suc (w ∙ rw left (omega arith))))
@@ -240,7 +252,7 @@ module _ (count : ℕ) where
   -- an `all` or a `some`
   quantifier-formed : (k : LineKind) → due k ≡ quantifier-due → (make : ℕ → List (List ℕ) → Node)
       → ((body : ℕ) (gs : List (List ℕ)) → (spelled-by (make body gs) ≡ []) × (references (make body gs) ≡ body ∷ concat gs))
-      → (fs : List Field) → Gives (Formed-as false true false k fs) (quantifier make count fs)
+      → (fs : List Field) → Gives (Formed-as false false true false k fs) (quantifier make count fs)
   unfolding quantifier
   quantifier-formed k e make h =
       gives-field _ (λ f. any-value (term-field count f)) _ (λ f body u.
@@ -250,14 +262,17 @@ module _ (count : ℕ) where
 
   -- a line of each kind
   kind-formed : (k : LineKind) (fs : List Field)
-      → Gives (Formed-as (is-word ask-words (bytes (kind-word k))) (is-word term-words (bytes (kind-word k))) (is-word record-words (bytes (kind-word k))) k fs)
+      → Gives (Formed-as (is-word ask-words (bytes (kind-word k))) (is-word hide-words (bytes (kind-word k)))
+      (is-word term-words (bytes (kind-word k))) (is-word record-words (bytes (kind-word k))) k fs)
       (content k count fs)
-  unfolding kind-word is-word ask-words term-words record-words any same order by-byte is-same bytes
+  unfolding kind-word is-word ask-words hide-words term-words record-words any same order by-byte is-same bytes
       content due in-order then-terms fields-due sort-due holds is-a-name is-a-term
-      asked spelled spelled-by references nodes collect summarize-decl root-of
+      heads hidden-by spelled spelled-by references nodes collect summarize-decl root-of
   kind-formed kind.Ask =
       gives-field _ (gives-at-most most-query) _ (λ f q u. gives-field _ (gives-at-most most-options) _ (λ g o v.
-      gives-ended _ (ask q o) (other-formed (one-ask u v) refl (λ exclude terms n. refl) refl)))
+      gives-ended _ (head (ask q o)) (other-formed (one-ask u v) refl (λ exclude terms n. refl) refl)))
+  kind-formed kind.Hide =
+      gives-field _ gives-name _ (λ f name e. gives-ended _ (head (hide name)) (other-formed (rw e one-hide) refl (λ exclude terms n. refl) (rw e)))
   kind-formed kind.Free = gives-field _ gives-name _ (λ f name e. gives-ended _ (term (FreeV name)) (term-formed (rw e) refl))
   kind-formed kind.Leaf = gives-ended _ (term Leaf) (term-formed refl refl)
   kind-formed kind.Call =
@@ -275,17 +290,17 @@ module _ (count : ℕ) where
   kind-formed kind.Assume =
       gives-field _ gives-name _ (λ f name e. gives-field _ (λ g. any-value (number-field 1 g)) _ (λ g flag u.
       gives-field _ (λ h. any-value (term-field count h)) _ (λ h t v.
-      gives-ended _ (assume name (eqb flag 1) t) (other-formed no-ask refl (λ exclude terms n. refl) (rw e)))))
-  kind-formed kind.Fun = gives-field _ gives-name _ (λ f name e. gives-ended _ (fun name) (other-formed no-ask refl (λ exclude terms n. refl) (rw e)))
+      gives-ended _ (assume name (eqb flag 1) t) (other-formed no-head refl (λ exclude terms n. refl) (rw e)))))
+  kind-formed kind.Fun = gives-field _ gives-name _ (λ f name e. gives-ended _ (fun name) (other-formed no-head refl (λ exclude terms n. refl) (rw e)))
   kind-formed kind.Def =
       gives-field _ gives-name _ (λ f name e. gives-field _ (λ g. any-value (term-field count g)) _ (λ g t u.
-      gives-ended _ (def name t) (other-formed no-ask refl (λ exclude terms n. refl) (rw e))))
+      gives-ended _ (def name t) (other-formed no-head refl (λ exclude terms n. refl) (rw e))))
   kind-formed kind.Retain = λ fs.
-      gives-bind (gives-names fs) (λ names e. gives-value (other-formed no-ask refl (λ exclude terms n. refl) (all-due is-a-name a-name fs ∙ e)))
+      gives-bind (gives-names fs) (λ names e. gives-value (other-formed no-head refl (λ exclude terms n. refl) (all-due is-a-name a-name fs ∙ e)))
   kind-formed kind.Root =
       gives-field _ (λ f. any-value (number-field most-query f)) _ (λ f q u. gives-field _ gives-name _ (λ g name e.
       gives-field _ (λ h. any-value (term-field count h)) _ (λ h t v.
-      gives-ended _ (root q name t) (other-formed no-ask refl (λ exclude terms n. refl) (rw e)))))
+      gives-ended _ (root q name t) (other-formed no-head refl (λ exclude terms n. refl) (rw e)))))
 
 -- the fields of a line of a known kind
 fields-known : (of-sort : Sort → Bool) (f : Field) (fs : List Field) {k : LineKind} → word kinds f ≡ some k
@@ -295,8 +310,8 @@ fields-known of-sort f fs e = rw (e, fields-of)
 
 -- an accepted line says what its fields are
 pub line-fields : (s : State) (fs : List Field) {c : Content} → parse s fs ≡ ok c
-    → Formed (is-word ask-words (getD fs 0 [])) (is-word term-words (getD fs 0 [])) (is-word record-words (getD fs 0 []))
-    (fields-of is-a-name fs) (fields-of is-a-term fs) c
+    → Formed (is-word ask-words (getD fs 0 [])) (is-word hide-words (getD fs 0 [])) (is-word term-words (getD fs 0 [])) (is-word record-words (getD fs 0 []))
+    (getD fs 1 []) (fields-of is-a-name fs) (fields-of is-a-term fs) c
 line-fields s fs e =
     let p = parse-ok s fs e in
     let is = word-exact (p .kind-word) (p .known) in
@@ -305,7 +320,7 @@ line-fields s fs e =
 
 -- and it may stand where its first field says
 pub line-stands : (s : State) (fs : List Field) {c : Content} → parse s fs ≡ ok c
-    → T (may-stand s (cond (is-word ask-words (getD fs 0 [])) an-ask another))
+    → T (may-stand s (place-by (is-word ask-words (getD fs 0 [])) (is-word hide-words (getD fs 0 []))))
 line-stands s fs e =
     let p = parse-ok s fs e in
     rw (p .split, ← (known-place (p .kind-word) (p .known))) (p .stands)

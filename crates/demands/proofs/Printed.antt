@@ -11,7 +11,7 @@ use Rattle.model.specs.Names.{Name}
 use Rattle.model.specs.Lines.{lines, Field, fields, is-name}
 use Rattle.model.specs.Terms.{Term}
 use Rattle.model.specs.Summaries.{exclude-names, Fact, summarize-assumption}
-use Rattle.model.specs.Reading.{ok, refused, name-field, number-field, term-field, op-words, word, need, next, rest, groups, Content, ask, term, assume, fun, def, retain, root, quantifier, content, Decl, excluded}
+use Rattle.model.specs.Reading.{ok, refused, name-field, number-field, term-field, op-words, word, need, next, rest, groups, Content, head, term, assume, fun, def, retain, root, quantifier, content, Decl, excluded}
 use Rattle.model.specs.Text.{first-bytes, second, name-on}
 use Rattle.model.specs.declared.LineKind.{LineKind}
 use Rattle.model.specs.declared.LineKind.the-variants as kind
@@ -64,6 +64,7 @@ unfolding content
 name-first kind.Ask count fs =
     gives-bind (any-value (next (number-field 255) fs)) (λ q u.
     gives-bind (any-value (next (number-field 7) (q .1))) (λ o v. gives-end _ no-name (o .1)))
+name-first kind.Hide count fs = gives-bind (any-value (next name-field fs)) (λ n u. gives-end _ no-name (n .1))
 name-first kind.Free count fs = gives-bind (any-value (next name-field fs)) (λ n u. gives-end _ no-name (n .1))
 name-first kind.Leaf count fs = gives-end _ no-name fs
 name-first kind.Call count fs =
@@ -124,7 +125,7 @@ module _ {X : Type 0} (line-of : X → ℕ) (name-of : X → Name) (said : List 
 fact-named : (exclude : List Name) (terms : List Term) (n : ℕ) (c : Content) (f : Fact) → List·Memᴰ f (fact-said exclude terms n c)
     → (f .line ≡ n) × List·Memᴰ (f .name) (named c)
 unfolding summarize-assumption
-fact-named exclude terms n (ask q options) f i = absurd (List·Memᴰ·not-nil i)
+fact-named exclude terms n (head h) f i = absurd (List·Memᴰ·not-nil i)
 fact-named exclude terms n (term node) f i = absurd (List·Memᴰ·not-nil i)
 fact-named exclude terms n (assume name flag t) f i =
     (ap (λ x. x .line) (List·Memᴰ·eq-of-singleton i), List·Memᴰ·head (ap (λ x. x .name) (List·Memᴰ·eq-of-singleton i)))
@@ -136,7 +137,7 @@ fact-named exclude terms n (root q name t) f i = absurd (List·Memᴰ·not-nil i
 -- the definition of a def line
 definition-named : (exclude : List Name) (terms : List Term) (n : ℕ) (c : Content) (d : Decl) → List·Memᴰ d (definition-said exclude terms n c)
     → (d .line ≡ n) × List·Memᴰ (d .name) (named c)
-definition-named exclude terms n (ask q options) d i = absurd (List·Memᴰ·not-nil i)
+definition-named exclude terms n (head h) d i = absurd (List·Memᴰ·not-nil i)
 definition-named exclude terms n (term node) d i = absurd (List·Memᴰ·not-nil i)
 definition-named exclude terms n (assume name flag t) d i = absurd (List·Memᴰ·not-nil i)
 definition-named exclude terms n (fun name) d i = absurd (List·Memᴰ·not-nil i)
@@ -148,7 +149,7 @@ definition-named exclude terms n (root q name t) d i = absurd (List·Memᴰ·not
 -- the declaration of a fun line
 declaration-named : (exclude : List Name) (terms : List Term) (n : ℕ) (c : Content) (d : Decl) → List·Memᴰ d (declaration-said exclude terms n c)
     → (d .line ≡ n) × List·Memᴰ (d .name) (named c)
-declaration-named exclude terms n (ask q options) d i = absurd (List·Memᴰ·not-nil i)
+declaration-named exclude terms n (head h) d i = absurd (List·Memᴰ·not-nil i)
 declaration-named exclude terms n (term node) d i = absurd (List·Memᴰ·not-nil i)
 declaration-named exclude terms n (assume name flag t) d i = absurd (List·Memᴰ·not-nil i)
 declaration-named exclude terms n (fun name) d i =

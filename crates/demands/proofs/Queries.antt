@@ -6,11 +6,11 @@ use mathlib.Core.List.{List, [], _∷_, _++_, append-nil, List·Memᴰ}
 use mathlib.Core.Option.{some, Option·some-injective}
 use lib.Dec.{T, not-T, eqb, eqb→eq, eqb-refl}
 use lib.ListN.{length}
-use Rattle.model.specs.Lists.{keep, fold-left}
+use Rattle.model.specs.Lists.{keep, collect, fold-left}
 use Rattle.model.specs.Names.{Name, bytes, by-byte, order, is-same, same}
 use Rattle.model.specs.Lines.{Line, Field, fields, number}
 use Rattle.model.specs.Summaries.{exclude-names, free-top-level-names}
-use Rattle.model.specs.Reading.{ok, next, name-field, number-field, term-field, kinds, word, most-query, content, parse, Content, root, Ask, Summary, Root, State, start, asked, nodes, summarize-decl, root-of, excluded, add-line, read, read-line, read-lines}
+use Rattle.model.specs.Reading.{ok, next, name-field, number-field, term-field, kinds, word, most-query, content, parse, Content, root, Ask, Summary, Root, State, start, heads, nodes, summarize-decl, root-of, excluded, add-line, read, read-line, read-lines}
 use Rattle.model.specs.Rounds.{asks-for, goal-roots, first-scanned, run}
 use Rattle.model.specs.Kept.{kept, kept-names}
 use Rattle.model.specs.Outcome.{first-ask, goal, listing, filtered}
@@ -48,7 +48,7 @@ unfolding add-line excluded
 agree-line exclude a n s s′ c h =
     record {
       asks = rw (h .asks);
-      hides = h .hides;
+      hides = rw (h .hides);
       tables = rw (h .tables);
       records = rw (h .tables, h .hides, h .records);
       queried = simp (goal-append, h .tables, h .hides, h .queried);
@@ -62,12 +62,12 @@ other-root a r other = cond-false (asks-for a (r .query)) (r ∷ []) [] (not-T (
 -- a root line of another query leaves what is read of the state
 agree-root : (exclude : List Name) (a : Ask) (n : ℕ) (s s′ : State) (p : ℕ) (name : Name) (t : ℕ) → (List·Memᴰ p (a .queries) → ⊥) → Agree a s s′
     → Agree a (add-line exclude n s (root p name t)) s′
-unfolding add-line asked nodes fold-left summarize-decl root-of
+unfolding add-line heads nodes collect fold-left summarize-decl root-of
 agree-root exclude a n s s′ p name t other h =
     let r : Root = record { line = n; query = p; name = name; free-names = free-top-level-names (excluded exclude s) (s .terms) t } in
     record {
       asks = rw append-nil (h .asks);
-      hides = h .hides;
+      hides = rw append-nil (h .hides);
       tables = h .tables;
       records = rw append-nil (h .records);
       queried = rw (goal-append, other-root a r other, append-nil) (h .queried);

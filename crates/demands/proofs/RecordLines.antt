@@ -10,7 +10,7 @@ use Rattle.model.specs.Names.{Name}
 use Rattle.model.specs.Lines.{lines}
 use Rattle.model.specs.Terms.{Term}
 use Rattle.model.specs.Summaries.{Fact, summarize-assumption}
-use Rattle.model.specs.Reading.{Content, ask, term, assume, fun, def, retain, root, Decl, Summary, Sum-assume, Sum-definefun, Sum-declfun, Root, State, start, read, summarize-decl, root-of, excluded, add-line, read-file}
+use Rattle.model.specs.Reading.{Content, head, term, assume, fun, def, retain, root, Decl, Summary, Sum-assume, Sum-definefun, Sum-declfun, Root, State, start, read, summarize-decl, root-of, excluded, add-line, read-file}
 use Rattle.model.specs.Rounds.{facts, definitions, declarations}
 use Rattle.model.proofs.ListLaws.{collect-append}
 use Rattle.demands.specs.LinesRead.{Distinct, none as no-more, one-more}
@@ -22,7 +22,7 @@ use Rattle.laws.proofs.ReadingLaws.{line-read, kept-by-file}
 -- the records of the n-th line stand on it
 line-n : (exclude : List Name) (terms : List Term) (n : ℕ) (c : Content) → (collect line-of (summarize-decl exclude terms n c) ≡ []) ⊎ (collect line-of (summarize-decl exclude terms n c) ≡ n ∷ [])
 unfolding collect line-of summarize-decl summarize-assumption
-line-n exclude terms n (ask q options) = inl refl
+line-n exclude terms n (head h) = inl refl
 line-n exclude terms n (term node) = inl refl
 line-n exclude terms n (assume name flag t) = inr refl
 line-n exclude terms n (fun name) = inr refl
@@ -34,7 +34,7 @@ line-n exclude terms n (root q name t) = inl refl
 root-n : (exclude : List Name) (terms : List Term) (n : ℕ) (c : Content)
     → (map (λ (r : Root). r .line) (root-of exclude terms n c) ≡ []) ⊎ (map (λ (r : Root). r .line) (root-of exclude terms n c) ≡ n ∷ [])
 unfolding root-of
-root-n exclude terms n (ask q options) = inl refl
+root-n exclude terms n (head h) = inl refl
 root-n exclude terms n (term node) = inl refl
 root-n exclude terms n (assume name flag t) = inl refl
 root-n exclude terms n (fun name) = inl refl

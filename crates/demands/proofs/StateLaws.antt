@@ -13,7 +13,7 @@ use Rattle.model.specs.Names.{Name, same, mem}
 use Rattle.model.specs.Lines.{Line}
 use Rattle.model.specs.Terms.{Node, FreeV, Leaf, Call, App, Forall, Exists, Let, Labeled, Term, add-term, references, unlabeled, free-top-level-names as node-names, term as term-of}
 use Rattle.model.specs.Summaries.{Fact, free-of, call-of, free-top-level-names, group-names, at, token, summarize-kind, summarize-assumption}
-use Rattle.model.specs.Reading.{ok, Content, ask, term, assume, fun, def, retain, root, Summary, Sum-assume, Sum-definefun, Sum-declfun, Sum-retain, Decl, Root, State, start, nodes, spelled-by, spelled, spell, entries-of, uses-of, summarize-decl, trimmed, root-of, excluded, add-line, read-line}
+use Rattle.model.specs.Reading.{ok, Content, head, term, assume, fun, def, retain, root, Summary, Sum-assume, Sum-definefun, Sum-declfun, Sum-retain, Decl, Root, State, start, nodes, spelled-by, spelled, spell, entries-of, uses-of, summarize-decl, trimmed, root-of, excluded, add-line, read-line}
 use Rattle.model.proofs.ListLaws.{T-dec, T-ext, any-append, cond-true, cond-false, getD-case, getD-one-more, fold-left-case, sum-map-append}
 use Rattle.model.proofs.SetLaws.{Within, within-nil, within-left, within-right, within-add, within-union, mem-intro, mem-cons, mem-first, mem-append, mem-diff}
 use Rattle.demands.specs.LinesRead.{Distinct, none, one-more}
@@ -166,7 +166,7 @@ module _ {names : List Name} {terms : List Term} (numbered : (t : Term) → List
       records-line : (c : Content) → Within names names′ → Within (spelled c) names′ → Within (trimmed exclude terms c) names′
           → (x : Summary) → List·Memᴰ x (summarize-decl exclude terms n c) → Summary-numbered names′ x
       unfolding spelled trimmed summarize-decl summarize-assumption
-      records-line (ask q options) old new short x i = absurd (List·Memᴰ·not-nil i)
+      records-line (head h) old new short x i = absurd (List·Memᴰ·not-nil i)
       records-line (term node) old new short x i = absurd (List·Memᴰ·not-nil i)
       records-line (assume name flag t) old new short x i =
           subst (Summary-numbered names′) (sym (List·Memᴰ·eq-of-singleton i))
@@ -188,7 +188,7 @@ module _ {names : List Name} {terms : List Term} (numbered : (t : Term) → List
       roots-line : (c : Content) → Within names names′ → Within (spelled c) names′
           → (r : Root) → List·Memᴰ r (root-of exclude terms n c) → Root-numbered names′ r
       unfolding spelled root-of
-      roots-line (ask q options) old new r i = absurd (List·Memᴰ·not-nil i)
+      roots-line (head h) old new r i = absurd (List·Memᴰ·not-nil i)
       roots-line (term node) old new r i = absurd (List·Memᴰ·not-nil i)
       roots-line (assume name flag t) old new r i = absurd (List·Memᴰ·not-nil i)
       roots-line (fun name) old new r i = absurd (List·Memᴰ·not-nil i)
@@ -201,7 +201,7 @@ module _ {names : List Name} {terms : List Term} (numbered : (t : Term) → List
 -- the name that a term line spells is spelled by the line
 node-spelled : (c : Content) (node : Node) → List·Memᴰ node (nodes c) → spelled-by node ≡ spelled c
 unfolding nodes spelled
-node-spelled (ask q options) node i = absurd (List·Memᴰ·not-nil i)
+node-spelled (head h) node i = absurd (List·Memᴰ·not-nil i)
 node-spelled (term node) m i = ap spelled-by (List·Memᴰ·eq-of-singleton i)
 node-spelled (assume name flag t) node i = absurd (List·Memᴰ·not-nil i)
 node-spelled (fun name) node i = absurd (List·Memᴰ·not-nil i)
@@ -270,7 +270,7 @@ lower-more terms node w h =
 -- where each term names lower ones it does so after a line that names terms of the table
 lower-line : (terms : List Term) (c : Content) → Below (length terms) (terms-named c) → Lower terms → Lower (fold-left add-term terms (nodes c))
 unfolding nodes fold-left terms-named
-lower-line terms (ask q options) w h = h
+lower-line terms (head line) w h = h
 lower-line terms (term node) w h = lower-more terms node w h
 lower-line terms (assume name flag t) w h = h
 lower-line terms (fun name) w h = h

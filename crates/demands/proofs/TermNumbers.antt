@@ -9,7 +9,7 @@ use lib.ListN.{length}
 use Rattle.model.specs.Lists.{concat}
 use Rattle.model.specs.Lines.{Field}
 use Rattle.model.specs.Terms.{Node, references}
-use Rattle.model.specs.Reading.{Result, ok, refused, _>>=_, name-field, number-field, term-field, op-words, word, need, next, many, rest, end, groups, Content, ask, term, assume, fun, def, retain, root, quantifier, most-query, most-options, content, State, parse}
+use Rattle.model.specs.Reading.{Result, ok, refused, _>>=_, name-field, number-field, term-field, op-words, word, need, next, many, rest, end, groups, Content, head, term, assume, fun, def, retain, root, quantifier, most-query, most-options, content, State, parse}
 use Rattle.model.specs.declared.LineKind.{LineKind}
 use Rattle.model.specs.declared.LineKind.the-variants as kind
 use Rattle.model.specs.declared.Refusal.{Refusal}
@@ -23,7 +23,7 @@ Below count ts = (t : ℕ) → List·Memᴰ t ts → t < count
 
 -- the terms that a line names
 unfoldable pub terms-named : Content → List ℕ
-terms-named (ask q options) = []
+terms-named (head h) = []
 terms-named (term node) = references node
 terms-named (assume name flag t) = t ∷ []
 terms-named (fun name) = []
@@ -129,6 +129,7 @@ module _ (count : ℕ) where
   unfolding content terms-named references
   gives-content kind.Ask fs =
       gives-bind (any-value (next (number-field most-query) fs)) (λ q u. gives-bind (any-value (next (number-field most-options) (q .1))) (λ o v. gives-end _ none-below (o .1)))
+  gives-content kind.Hide fs = gives-bind (any-value (next name-field fs)) (λ n u. gives-end _ none-below (n .1))
   gives-content kind.Free fs = gives-bind (any-value (next name-field fs)) (λ n u. gives-end _ none-below (n .1))
   gives-content kind.Leaf fs = gives-end _ none-below fs
   gives-content kind.Call fs = gives-bind (any-value (next name-field fs)) (λ n u. gives-bind (gives-rest (n .1)) (λ ts h. value h))

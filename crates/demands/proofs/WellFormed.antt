@@ -9,7 +9,7 @@ use Rattle.model.specs.Lists.{collect, fold-left}
 use Rattle.model.specs.Names.{Name, mem}
 use Rattle.model.specs.Terms.{Node, Term, add-term}
 use Rattle.model.specs.Summaries.{exclude-names, free-top-level-names, at, summarize-assumption}
-use Rattle.model.specs.Reading.{Content, ask, term, assume, fun, def, retain, root, Summary, Root, State, start, nodes, taken-by, summarize-decl, root-of, excluded, add-line, repeats, read, read-file}
+use Rattle.model.specs.Reading.{Content, head, term, assume, fun, def, retain, root, Summary, Root, State, start, nodes, taken-by, summarize-decl, root-of, excluded, add-line, repeats, read, read-file}
 use Rattle.model.specs.Rounds.{facts, definitions}
 use Rattle.model.proofs.ListLaws.{any-intro, collect-append, fold-left-case}
 use Rattle.model.proofs.SetLaws.{Ascending, empty, one, ascending-add, ascending-union, ascending-diff, mem-intro}
@@ -81,7 +81,7 @@ module _ {terms : List Term} (sets : Term-sets terms) where
     -- what a line adds is well formed
     well-line : (n : ℕ) (c : Content) → Well-formed (summarize-decl exclude terms n c) (root-of exclude terms n c)
     unfolding summarize-decl root-of collect taken-by facts definitions
-    well-line n (ask q options) = no-records
+    well-line n (head h) = no-records
     well-line n (term node) = no-records
     well-line n (assume name flag t) =
         record {

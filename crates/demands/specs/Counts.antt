@@ -29,13 +29,17 @@ lines-to l = l .before ++ (l .line ∷ [])
 unfoldable pub term-words : List String
 term-words = "free" ∷ "leaf" ∷ "call" ∷ "op" ∷ "all" ∷ "some" ∷ "let" ∷ "label" ∷ []
 
--- "Record lines"
+-- "Record lines"; document 02, Change 6: "A hide line is a record line"
 unfoldable pub record-words : List String
-record-words = "assume" ∷ "fun" ∷ "def" ∷ "retain" ∷ "root" ∷ []
+record-words = "hide" ∷ "assume" ∷ "fun" ∷ "def" ∷ "retain" ∷ "root" ∷ []
 
 -- the ask line
 unfoldable pub ask-words : List String
 ask-words = "ask" ∷ []
+
+-- hide lines
+unfoldable pub hide-words : List String
+hide-words = "hide" ∷ []
 
 -- whether a field is one of the words
 unfoldable pub is-word : List String → Field → Bool
@@ -60,7 +64,7 @@ pub record Counted (read-so-far : List Line) (s : State) : Type 0 where
   pub term-lines : length (s .terms) ≡ count (begins term-words) read-so-far
   pub term-references : s .references
       ≡ sum (map (λ line. length (term-fields line)) (keep (begins term-words) read-so-far))
-  pub record-lines : length (s .decls) + length (s .roots) ≡ count (begins record-words) read-so-far
+  pub record-lines : length (s .hidden) + (length (s .decls) + length (s .roots)) ≡ count (begins record-words) read-so-far
   pub trigger-entries : s .entries
       ≡ sum (map (λ (f : Fact). sum (map (λ (d : List Name). max 1 (length d)) (f .triggers))) (facts (s .decls)))
   pub name-uses : s .uses

@@ -7,10 +7,10 @@ use mathlib.Core.List.{List, [], _∷_, map}
 use lib.ListN.{length}
 use Rattle.model.specs.Lists.{collect}
 use Rattle.model.specs.Names.{Name}
-use Rattle.model.specs.Lines.{Line, lines}
+use Rattle.model.specs.Lines.{lines}
 use Rattle.model.specs.Terms.{Term}
 use Rattle.model.specs.Summaries.{exclude-names, Fact, free-top-level-names, summarize-assumption}
-use Rattle.model.specs.Reading.{Content, ask, term, assume, fun, def, retain, root, Decl, Summary, Sum-assume, Sum-definefun, Sum-declfun, Sum-retain, Root, State, start, read, excluded, read-lines}
+use Rattle.model.specs.Reading.{Content, head, term, assume, fun, def, retain, root, Decl, Summary, Sum-assume, Sum-definefun, Sum-declfun, Sum-retain, Root, State, excluded}
 use Rattle.model.specs.Rounds.{facts, definitions, declarations}
 use Rattle.demands.specs.LinesRead.{Lines-read}
 use Rattle.demands.specs.Demand1.{Reached-line, Says}
@@ -30,7 +30,7 @@ numbers-from n (suc count) = n ∷ numbers-from (n + 1) count
 -- what a record line gives, by its kind
 abbrev pub of-record : {X : Type 0} → (Name → Bool → ℕ → List X) → (Name → List X) → (Name → ℕ → List X) → (ℕ → Name → ℕ → List X)
     → Content → List X
-of-record assumed declared defined rooted (ask q options) = []
+of-record assumed declared defined rooted (head h) = []
 of-record assumed declared defined rooted (term node) = []
 of-record assumed declared defined rooted (assume name flag t) = assumed name flag t
 of-record assumed declared defined rooted (fun name) = declared name
@@ -83,7 +83,7 @@ pub record In-order (file : List ℕ) (s : State) : Type 0 where
   -- every line once, from the first to the last
   pub said : List (Said file)
   pub every-line : map (λ (l : Said file). l .place) said ≡ numbers-from 1 (length (lines file))
-  -- what they say is what the state holds, by the names excluded at the end of the file
+  -- what they say is what the state holds, by the names excluded at the end of the file (`Hidden` says which these are)
   pub facts-said : facts (s .decls) ≡ collect (from-line (excluded exclude-names s) fact-said) said
   pub definitions-said : definitions (s .decls) ≡ collect (from-line (excluded exclude-names s) definition-said) said
   pub declarations-said : declarations (s .decls) ≡ collect (from-line (excluded exclude-names s) declaration-said) said
@@ -94,8 +94,3 @@ pub record In-order (file : List ℕ) (s : State) : Type 0 where
 
 abbrev pub File-order : Type 0
 File-order = (file : List ℕ) (s : State) → Lines-read file s → In-order file s
-
--- no line adds to the excluded names, wherever a file is read up to
-abbrev pub Excluded-exact : Type 0
-Excluded-exact =
-    (ls : List Line) (s : State) → read-lines exclude-names 1 start ls ≡ read s → excluded exclude-names s ≡ exclude-names

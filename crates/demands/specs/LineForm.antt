@@ -1,4 +1,4 @@
--- Demand 1, the refusals 1 to 4: what document 01 says that each field of a line must be, and which refusal a line gets.
+-- Demand 1, the refusals 1 to 4: what documents 01 and 02 say that each field of a line must be, and which refusal a line gets.
 use Prim.Native.Nat.{ℕ, zero, suc, _+_, _≤_}
 use mathlib.Core.Path.{_≡_}
 use mathlib.Core.Bool.{Bool, true, false, cond, not}
@@ -62,6 +62,7 @@ then-terms s (f ∷ fs) = may a-term
 -- what stands next in a line of this kind, after these fields
 unfoldable pub due : LineKind → List Field → Due
 due kind.Ask fs = in-order (a-number 255 ∷ a-number 7 ∷ []) fs
+due kind.Hide fs = in-order (a-name ∷ []) fs
 due kind.Free fs = in-order (a-name ∷ []) fs
 due kind.Leaf fs = in-order [] fs
 due kind.Call fs = then-terms a-name fs
@@ -158,7 +159,7 @@ Field-counted s k fs = (fixed : ℕ) → fixed-count s k ≡ some fixed → leng
 pub data Faulty-line (s : State) : List Field → Refusal → Type 0 where
   -- an unknown kind
   unknown : {f : Field} {fs : List Field} → word kinds f ≡ none → Faulty-line s (f ∷ fs) refusal.Form
-  -- one that may not stand here
+  -- one that may not stand here: document 02, Change 6, "a line where it may not stand is 1 as an unknown kind"
   misplaced : {f : Field} {fs : List Field} {k : LineKind} → word kinds f ≡ some k → T (not (may-stand s (place k)))
       → Faulty-line s (f ∷ fs) refusal.Form
   -- a field count other than the fixed one
