@@ -10,7 +10,7 @@ use borrow.Author.Tests.{eq-eqb, ne-eqb}
 use Rattle.model.specs.Lists.{part}
 use Rattle.model.specs.Names.{Name, starts-with}
 use Rattle.model.proofs.ListLaws.{true-T}
-use Rattle.names.specs.Table.{name-of}
+use Rattle.names.specs.Table.{name-code, name-of}
 use Rattle.terms.specs.Rows.{row-kind, row-op, row-head, row-start, row-end, has-head, Rows}
 use Rattle.rules.specs.declared.Argument.the-variants as argument
 use Rattle.rules.specs.declared.Arguments.the-variants as arguments
@@ -36,7 +36,7 @@ module _ (names rows : List ℕ) (t : ℕ) where
   call-other code k h = rw (ne-eqb (row-kind rows t) 2 (λ e. h (k ∙ e)))
 
   -- a call, by its head's code
-  pub call-coded : (code : ℕ) {k n w : ℕ} → k ≡ row-kind rows t → k ≡ 2 → n ≡ row-head rows t → w ≡ getD names (6144 + n) 0
+  pub call-coded : (code : ℕ) {k n w : ℕ} → k ≡ row-kind rows t → k ≡ 2 → n ≡ row-head rows t → w ≡ name-code names n
       → eqb w code ≡ is-call-at names rows t code
   unfolding is-call-at
   call-coded code k h n w = rw (eq-eqb (row-kind rows t) 2 (sym k ∙ h), ← n, ← w)
@@ -47,7 +47,7 @@ module _ (names rows : List ℕ) (t : ℕ) where
   head-other code b e = rw (sym b ∙ e)
 
   -- a head, by its code
-  pub head-coded : (code : ℕ) {b : Bool} {n w : ℕ} → b ≡ has-head (row-kind rows t) → b ≡ true → n ≡ row-head rows t → w ≡ getD names (6144 + n) 0
+  pub head-coded : (code : ℕ) {b : Bool} {n w : ℕ} → b ≡ has-head (row-kind rows t) → b ≡ true → n ≡ row-head rows t → w ≡ name-code names n
       → eqb w code ≡ is-head-at names rows t code
   unfolding is-head-at
   head-coded code b e n w = rw (sym b ∙ e, ← n, ← w)

@@ -20,7 +20,7 @@ use Rattle.model.proofs.ListLaws.{T-ext, true-T}
 use Rattle.model.proofs.SetLaws.{same-refl, same-eq, same-sym}
 use Rattle.model.proofs.PartLaws.{part-cons, part-nil}
 use Rattle.names.specs.Known.{known-names, head-code}
-use Rattle.names.specs.Table.{name-of}
+use Rattle.names.specs.Table.{name-code, name-of}
 use Rattle.names.proofs.Coded.{code-exact}
 use Rattle.terms.specs.Rows.{row-kind, row-op, row-head, row-start, row-end, terms-of-words, op-of-code, make-node, node-of, has-head, Rows}
 use Rattle.terms.proofs.Laws.{equal}
@@ -334,7 +334,7 @@ module _ {file names refs rows : List ℕ} {named used many t : ℕ} (tables : T
   line = term-node (name-of file names) refs rows used many t l
 
   -- the code of a head is that of its name
-  code-of : T (has-head (row-kind rows t)) → getD names (6144 + row-head rows t) 0 ≡ head-code (name-of file names (row-head rows t))
+  code-of : T (has-head (row-kind rows t)) → name-code names (row-head rows t) ≡ head-code (name-of file names (row-head rows t))
   code-of h = tables .name-table .codes (row-head rows t) (tables .term-table .headed t l h)
 
   -- the head of a term

@@ -108,7 +108,7 @@ fn is_call(names: &[u32], rows: &[u32], t: usize, code: usize) -> bool
         return false;
     }
     let n = terms::head(rows, t);
-    words::at(names, names::CODE + n) == code
+    names::code_at(names, n) == code
 }
 
 // Whether a row is a `free` or a call of the name with this head code.
@@ -121,7 +121,7 @@ fn is_head(names: &[u32], rows: &[u32], t: usize, code: usize) -> bool
         return false;
     }
     let n = terms::head(rows, t);
-    words::at(names, names::CODE + n) == code
+    names::code_at(names, n) == code
 }
 
 // Whether a row is an `op` of the word with this number.

@@ -1,6 +1,5 @@
 -- `rules::is_call` meets its contract: by the kind, then by the head's code.
 use Rattle.rules.proofs.Looking.{call-coded, call-other, call-small}
-use native.Mathlib.Omega.{arith}
 use Rattle.rules.proofs.is_call.Statement.{statement}
 use Rattle.rules.proofs.is_call.Tie as tie
 
@@ -17,19 +16,12 @@ head-requires c κs =
     let start = c .before .before .before .before in
     (start .pre .1, start .pre .2)
 
-add-at : tie.Need-add-at
-add-at c =
+code-at-requires : tie.Need-code-at-requires
+code-at-requires c κs =
     let at-if1 = c .before in
     let at-kind = at-if1 .before in
     let start = at-kind .before .before .before in
-    omega (arith, call-small (start .args .rows .now) (start .args .t) (start .pre .3) (at-kind .kind .ensures) (at-if1 .if1 .left) (c .head .ensures))
-
-at-requires : tie.Need-at-requires
-at-requires c κs =
-    let at-if1 = c .before in
-    let at-kind = at-if1 .before in
-    let start = at-kind .before .before .before in
-    omega (arith, call-small (start .args .rows .now) (start .args .t) (start .pre .3) (at-kind .kind .ensures) (at-if1 .if1 .left) (c .head .ensures))
+    (call-small (start .args .rows .now) (start .args .t) (start .pre .3) (at-kind .kind .ensures) (at-if1 .if1 .left) (c .head .ensures), start .pre .0)
 
 returns-2 : tie.Need-returns-2
 returns-2 c =
@@ -38,7 +30,7 @@ returns-2 c =
     let at-kind = at-if1 .before in
     let start = at-kind .before .before .before in
     call-coded (start .args .names .now) (start .args .rows .now) (start .args .t) (start .args .code) (at-kind .kind .ensures) (at-if1 .if1 .left)
-    (at-head .head .ensures) (c .at .ensures)
+    (at-head .head .ensures) (c .code-at .ensures)
 
 pub is-call-spec : {M : Type 1} → statement M
-is-call-spec = tie.close (tie.spec kind-requires returns head-requires add-at at-requires returns-2)
+is-call-spec = tie.close (tie.spec kind-requires returns head-requires code-at-requires returns-2)
