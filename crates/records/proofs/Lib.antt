@@ -9,3 +9,4 @@ pub mod Plain
 pub mod Funs
 pub mod Uses
 pub mod Standing
+pub mod Hiding

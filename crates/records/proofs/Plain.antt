@@ -1,26 +1,27 @@
--- A record without entries: fun, def, retain and root.
+-- A record without entries: hide, fun, def, retain and root.
 use Prim.Native.Nat.{ℕ, _+_, _-_, _*_, _≤_, _<_}
 use native.Mathlib.Omega.{arith}
 use mathlib.Core.Path.{_≡_, refl}
-use mathlib.Core.List.{List, [], _∷_, _++_}
+use mathlib.Core.List.{List, [], _∷_, _++_, map}
 use lib.ListN.{length, getD}
 use Rattle.model.specs.Lists.{sum, fold-left, part}
 use Rattle.model.specs.Names.{Name, mem}
-use Rattle.model.specs.Summaries.{entries}
+use Rattle.model.specs.Summaries.{exclude-names, entries}
 use Rattle.model.specs.Reading.{spell, most-names, most-records, most-uses}
 use Rattle.model.specs.declared.Counts.{Counts}
 use Rattle.model.proofs.ListLaws.{cond-true}
 use Rattle.model.proofs.PartLaws.{part-nil}
-use Rattle.names.specs.Table.{name-of, table-names}
+use Rattle.names.specs.Table.{name-of, table-names, Excludes}
 use Rattle.names.proofs.Laws.{names-intro, names-length}
 use Rattle.names.proofs.Coded.{Kept, table-kept}
 use Rattle.names.proofs.Excluded.{tells-kept}
 use Rattle.words.specs.Slices.{Same-but}
 use Rattle.gather.specs.Sets.{Fresh}
 use Rattle.triggers.specs.Entries.{disjuncts-of, disjuncts-of-words, entries-base}
-use Rattle.records.specs.Columns.{record-kind, record-name, assume-kind, retain-kind, root-kind, fact-column, next-column, first-column, taken-at}
+use Rattle.records.specs.Columns.{record-kind, record-name, assume-kind, retain-kind, root-kind, hide-kind, fact-column, next-column, first-column, taken-at, first-entry}
+use Rattle.records.specs.States.{hides-at, hides-of}
 use Rattle.records.specs.Filing.{Taken}
-use Rattle.records.specs.Writing.{with-record, Rowed}
+use Rattle.records.specs.Writing.{with-row, with-record, Rowed}
 use Rattle.records.specs.Adding.{Standing}
 use Rattle.records.proofs.Chaining.{chained-kept}
 use Rattle.records.proofs.Keeping.{taken-none, taken-more}
@@ -71,32 +72,28 @@ module _ {file names refs rows recs lists recs′ : List ℕ} {k k′ : Counts} 
 -- ---- the tables with the record
 
 module _ {file names refs rows recs lists names′ : List ℕ} {k : Counts} (st : Standing file names refs rows recs lists k)
-    (name-words : Same-but 8192 4096 names names′) where
-  -- the names are those before
-  pub kept : Kept file names names′ (k .names)
-  kept = table-kept (st .tables .name-table) (name-words .same-length) (λ i l. name-words .same-words i (λ a b. omega arith))
-
-  -- the record, which is no hide line, is appended
-  pub plain : {rows′ recs′ lists′ : List ℕ} {uses′ mark′ kind line name term flag code : ℕ}
+    (same : Kept file names names′ (k .names)) (first : (n : ℕ) → n < most-names → first-entry names′ n ≡ first-entry names n) where
+  -- the record is appended
+  pub appended : {rows′ recs′ lists′ : List ℕ} {hides′ uses′ mark′ kind line name term flag code : ℕ}
       → Same-but 12288 4096 rows rows′ → Fresh names′ rows′ mark′ → mark′ ≤ k .mark + 1
-      → Rowed recs recs′ k (with-record k (k .names) (k .entries) uses′ mark′) kind line name term flag code
-      → (kind ≡ assume-kind → ⊥) → kind ≤ root-kind → ((kind ≡ retain-kind → ⊥) → name < k .names)
+      → Rowed recs recs′ k (with-row k hides′ (k .names) (k .entries) uses′ mark′) kind line name term flag code
+      → (kind ≡ assume-kind → ⊥) → kind ≤ hide-kind → ((kind ≡ retain-kind → ⊥) → name < k .names)
       → Same-but (k .uses) (uses′ - k .uses) lists lists′ → k .uses ≤ uses′ → uses′ ≤ most-uses → ((j : ℕ) → k .uses ≤ j → j < uses′ → getD lists′ j 0 < k .names)
       → Taken names′ recs′ (k .records + 1)
-      → Appends file names rows recs lists names′ rows′ recs′ lists′ k (k .hides) (k .names) (k .entries) uses′ mark′ kind line name term flag code
-  plain {recs′ = recs′} {lists′} {kind = kind} row-words fresh mark row other small known lists-words more few-uses new taken =
+      → (hides′ ≡ k .hides + length (hides-at recs′ (k .records) kind))
+      × Excludes (exclude-names ++ map (name-of file names′) (hides-of recs (k .records) ++ hides-at recs′ (k .records) kind)) file names′ (k .names)
+      → Appends file names rows recs lists names′ rows′ recs′ lists′ k hides′ (k .names) (k .entries) uses′ mark′ kind line name term flag code
+  appended {lists′ = lists′} row-words fresh mark row other small known lists-words more few-uses new taken (hides, excludes) =
       let lists-same : (j : ℕ) → most-uses ≤ j → getD lists′ j 0 ≡ getD lists j 0 = λ j l. lists-words .same-words j (λ a b. omega arith) in
-      let told = tells-kept (st .tables .name-table .few) (λ i l. name-words .same-words i (λ a b. omega arith)) in
-      let (hides, excludes) = no-hide st (kept .table) (omega arith) (kept .name) told recs′ kind small in
       record {
-        table = kept .table;
+        table = same .table;
         more = omega arith;
-        same = kept .name;
+        same = same .name;
         row-words = row-words;
         fresh = fresh;
         few-marks = omega (arith, st .few-marks);
         row = row;
-        small-kind = omega arith;
+        small-kind = small;
         known = known;
         lists-length = lists-words .same-length;
         few-uses = few-uses;
@@ -114,8 +111,27 @@ module _ {file names refs rows recs lists names′ : List ℕ} {k : Counts} (st 
         sized = omega (arith, no-entries (name-of file names′) lists′ (entries-base + k .entries));
         only-facts = λ d. refl;
         taken = taken;
-        chained = chained-kept (st .stocked .chained) (λ n l. name-words .same-words (first-column + n) (λ a b. omega arith))
+        chained = chained-kept (st .stocked .chained) first
             (λ e l. rw (lists-same (entries-base + e) (omega arith))) (λ e l. lists-same (next-column + e) (omega arith));
         hides = hides;
         excludes = excludes;
       }
+
+module _ {file names refs rows recs lists names′ : List ℕ} {k : Counts} (st : Standing file names refs rows recs lists k)
+    (name-words : Same-but 8192 4096 names names′) where
+  -- the names are those before
+  pub kept : Kept file names names′ (k .names)
+  kept = table-kept (st .tables .name-table) (name-words .same-length) (λ i l. name-words .same-words i (λ a b. omega arith))
+
+  -- a record that is no hide line is appended
+  pub plain : {rows′ recs′ lists′ : List ℕ} {uses′ mark′ kind line name term flag code : ℕ}
+      → Same-but 12288 4096 rows rows′ → Fresh names′ rows′ mark′ → mark′ ≤ k .mark + 1
+      → Rowed recs recs′ k (with-record k (k .names) (k .entries) uses′ mark′) kind line name term flag code
+      → (kind ≡ assume-kind → ⊥) → kind ≤ root-kind → ((kind ≡ retain-kind → ⊥) → name < k .names)
+      → Same-but (k .uses) (uses′ - k .uses) lists lists′ → k .uses ≤ uses′ → uses′ ≤ most-uses → ((j : ℕ) → k .uses ≤ j → j < uses′ → getD lists′ j 0 < k .names)
+      → Taken names′ recs′ (k .records + 1)
+      → Appends file names rows recs lists names′ rows′ recs′ lists′ k (k .hides) (k .names) (k .entries) uses′ mark′ kind line name term flag code
+  plain {recs′ = recs′} {kind = kind} row-words fresh mark row other small known lists-words more few-uses new taken =
+      let told = tells-kept (st .tables .name-table .few) (λ i l. name-words .same-words i (λ a b. omega arith)) in
+      appended st kept (λ n l. name-words .same-words (first-column + n) (λ a b. omega arith)) row-words fresh mark row other (omega arith) known lists-words
+      more few-uses new taken (no-hide st (kept .table) (omega arith) (kept .name) told recs′ kind small)

@@ -183,7 +183,6 @@ module _ {file names refs rows recs lists : List ℕ} {k : Counts} (st : Standin
         rw e (record-added st few more (def-new free) (record {
           no-ask = refl;
           hidden = refl;
-        hidden = refl;
           no-term = refl;
           spells = kept st words .names ∙ sym (spelled-again file names (k .names) i known);
           decls = rw (row′ .line-is, row′ .name-is, kept st words .name i known, free-then st u words row′);

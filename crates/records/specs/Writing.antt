@@ -31,6 +31,10 @@ with-row k hides named entries uses mark = record {
 abbrev pub with-record : Counts → ℕ → ℕ → ℕ → ℕ → Counts
 with-record k named entries uses mark = with-row k (k .hides) named entries uses mark
 
+-- the counts with a hide line more
+abbrev pub with-hide : Counts → Counts
+with-hide k = with-row k (k .hides + 1) (k .names) (k .entries) (k .uses) (k .mark)
+
 -- the counts before the first line; the first mark is 1, since a cleared slice has marks 0
 abbrev pub no-counts : Counts
 no-counts = record { asks = 0; hides = 0; names = 0; references = 0; terms = 0; records = 0; entries = 0; uses = 0; mark = 1 }

@@ -7,11 +7,11 @@ ghost use Prim.Native.Nat.{_≤_, _<_};
 ghost use mathlib.Core.Path.{_≡_};
 ghost use mathlib.Core.List.{[]};
 ghost use lib.ListN.{length};
-ghost use Rattle.model.specs.Reading.{fun, def, retain, root, most-names, most-records};
+ghost use Rattle.model.specs.Reading.{head, hide, fun, def, retain, root, most-names, most-records};
 ghost use Rattle.model.specs.Outcome.{working-words};
 ghost use Rattle.names.specs.Table.{name-of};
 ghost use Rattle.records.specs.Columns.{ask-room, ask-query, ask-options};
-ghost use Rattle.records.specs.Writing.{put-row, with-record, Small, Rowed, with-ask, Asked-at};
+ghost use Rattle.records.specs.Writing.{put-row, with-record, with-hide, Small, Rowed, with-ask, Asked-at};
 ghost use Rattle.records.specs.Adding.{Standing, Adds, Untouched};
 
 // The columns of the records slice, by the record's number.
@@ -60,6 +60,8 @@ pub const RETAIN: usize = 3;
 
 pub const ROOT: usize = 4;
 
+pub const HIDE: usize = 5;
+
 // The columns of the lists slice, by the entry's number: the record of its fact, the next older entry on its name and one.
 pub const FACT: usize = 8192;
 
@@ -95,6 +97,16 @@ pub fn with_record(k: Counts, named: usize, entries: usize, uses: usize, mark: u
     next.entries = entries;
     next.uses = uses;
     next.mark = mark;
+    next
+}
+
+// The counts with a hide line more.
+fn with_hide(k: Counts) -> Counts
+    requires { ⌜ (k .records < most-records) × (k .hides ≤ k .records) ⌝ }
+    ensures { λ r. ⌜ r ≡ with-hide k ⌝ }
+{
+    let mut next = with_record(k, k.names, k.entries, k.uses, k.mark);
+    next.hides = k.hides + 1;
     next
 }
 
@@ -152,6 +164,38 @@ pub fn ask_at(recs: &[u32], i: usize) -> Asked
         query: words::at(recs, ASK_QUERY + i),
         options: words::at(recs, ASK_OPTIONS + i),
     }
+}
+
+// Adds a `hide` record, its name by number: the name is excluded from now on.
+pub fn add_hide(
+    file: &[u8],
+    names: &mut [u32],
+    refs: &[u32],
+    rows: &[u32],
+    recs: &mut [u32],
+    lists: &[u32],
+    k: Counts,
+    line: usize,
+    i: usize,
+) -> Step
+    requires { ⌜ (k .names ≤ most-names → Standing (now file) (now names) (now refs) (now rows) (now recs) (now lists) k
+        × (i < k .names)) × (line < 4294967296) ⌝ }
+    ensures record { λ r. ⌜ Adds (now (file .entry)) (now (names .entry)) (now (refs .entry)) (now (rows .entry))
+        (now (recs .entry)) (now (lists .entry)) (now (names .exit)) (now (rows .entry)) (now (recs .exit)) (now (lists .entry)) k
+        line (head (hide (name-of (now (file .entry)) (now (names .entry)) i))) r ⌝ }
+    ensures past { λ r. ⌜ Untouched (now (names .entry)) (now (rows .entry)) (now (recs .entry)) (now (lists .entry))
+        (now (names .exit)) (now (rows .entry)) (now (recs .exit)) (now (lists .entry)) ⌝ }
+{
+    if model::MOST_NAMES < k.names {
+        return Step::Refused(Refusal::FullNames);
+    }
+    if model::MOST_RECORDS <= k.records {
+        return Step::Refused(Refusal::FullRecords);
+    }
+    names::exclude(names, i);
+    let next = with_hide(k);
+    put_record(recs, k, next, HIDE, line, i, 0, 0, 0);
+    Step::On(next)
 }
 
 // Adds a `retain` record.
