@@ -16,7 +16,6 @@ use Rattle.terms.proofs.Table.{terms-named}
 use Rattle.words.specs.Slices.{Same-but}
 use Rattle.gather.specs.Sets.{Named}
 use Rattle.words.proofs.Slices.{same-self}
-use Rattle.gather.proofs.Walking.{excluded-same}
 use Rattle.triggers.specs.Entries.{Files, Entries-filled}
 use Rattle.triggers.specs.Filings.{Filing-state, filing, file-list, file-groups, file-parts, Files-as}
 use Rattle.triggers.specs.declared.Filed.{Filed}
@@ -30,7 +29,7 @@ use Rattle.summary.specs.declared.Sorted.the-variants as sorted
 use Rattle.summary.specs.Steps.{Filing-begun, trimmed-table, sorted-of, Kinds, kind-there, no-room, Sorts, Sorts-as, Comes-to, kind-filed, entries-over, Tokens, Chooses}
 use Rattle.summary.specs.Writing.{token-table, file-refinement, file-choice}
 use Rattle.summary.proofs.Token.{token-same}
-use Rattle.summary.proofs.Sorting.{named-of, table-marked, files-sorts, nothing-sorts}
+use Rattle.summary.proofs.Sorting.{named-of, table-marked, tells-marked, files-sorts, nothing-sorts}
 use Rattle.summary.proofs.Writing.{files-sorts-as, nothing-as}
 
 -- what filing a choice comes to, with every word
@@ -77,7 +76,6 @@ module _ {file names refs rows lists names′ rows′ lists′ : List ℕ} {name
           → Comes-to file names names′ lists′ named at (f exclude (terms-of (name-of file names) refs rows used many)) x
       go (kind-there a b c h k) =
           let kept = table-marked (tables .name-table) (s .marks .names-same) in
-          let few = tables .name-table .few in
           kind-filed (record {
             kind = a;
             disjuncts = b;
@@ -88,7 +86,7 @@ module _ {file names refs rows lists names′ rows′ lists′ : List ℕ} {name
             spelled = rw (e exclude) (kept .names);
             more = omega arith;
             same-names = kept .name;
-            same-excluded = λ n l. excluded-same (s .marks .names-same) n (omega arith);
+            told = tells-marked (tables .name-table) (s .marks .names-same);
           })
       go (no-room p) = entries-over (rw (e exclude) (omega (arith, names-length file names named, tables .name-table .few))) p
 

@@ -19,7 +19,7 @@ use Rattle.model.proofs.PartLaws.{part-agree}
 use Rattle.names.specs.Table.{Table, Excludes, name-of}
 use Rattle.names.proofs.Laws.{names-length}
 use Rattle.names.proofs.Coded.{Kept}
-use Rattle.names.proofs.Excluded.{excludes-some}
+use Rattle.names.proofs.Excluded.{excludes-some, tells-then}
 use Rattle.terms.specs.Rows.{terms-of, Rows}
 use Rattle.terms.proofs.Table.{rows-named, terms-named}
 use Rattle.words.specs.Slices.{word-limit, Same-but}
@@ -46,7 +46,7 @@ use Rattle.summary.specs.declared.Summarized.the-variants as summarized
 use Rattle.summary.specs.Facts.{Asked, fact-kind, fact-choice, fact-names, names-then, fact-summary, limited, Lists, Slices}
 use Rattle.summary.specs.Steps.{Filing-begun, trimmed-table, sorted-end, Marks, Filed-kind, Comes-to, kind-filed, names-over, entries-over, Sorts-as, Chooses, finished, Finishes}
 use Rattle.summary.specs.Writing.{file-choice, file-fact, Written}
-use Rattle.summary.proofs.Sorting.{named-of, table-marked}
+use Rattle.summary.proofs.Sorting.{named-of, table-marked, tells-marked}
 use Rattle.summary.proofs.Choosing.{Choice-files, trimmed-same}
 use Rattle.summary.proofs.Answering.{over-none, done-one, over-names, over-entries, over-uses, within-limits, summary-is}
 use Rattle.summary.proofs.Writing.{kind-written, over-written}
@@ -314,7 +314,7 @@ module _ {file names refs rows lists : List ℕ} {named used many name t mark fi
       gathered-names exclude excludes =
           rw (terms-marked (name-of file names″) (chooses .marks .rows-same) (asked .tables .term-table) ∙ kept-named) at
           (finishes .free-names exclude (name-of file names″)
-          (named-of names (kept-table .table) (filed-some .more) excludes kept-names (filed-some .same-excluded)))
+          (named-of names (kept-table .table) (filed-some .more) excludes kept-names (filed-some .told .old)))
 
       -- the entries stay
       kept-words : part lists″ (entries-base + filed) e ≡ part lists′ (entries-base + filed) e
@@ -387,6 +387,7 @@ module _ {file names refs rows lists : List ℕ} {named used many name t mark fi
               spelled = kept-table .names ∙ k .spelled;
               more = k .more;
               same-names = kept-names;
+              told = tells-then (k .more) (omega arith) (kept-table .name) (k .told) (tells-marked (k .table) (finishes .slices .names-same));
               same-terms = kept-terms;
               fresh = fresh-next (rw is (chooses .marks .fresh a e total refl)) (finishes .slices);
             }

@@ -12,9 +12,10 @@ use Rattle.model.specs.Summaries.{Kinded, Sum-ambient, Sum-triggers, is-empty, 
 use Rattle.model.specs.declared.AsumKind.{AsumKind}
 use Rattle.model.specs.declared.AsumKind.the-variants as asum
 use Rattle.model.proofs.PartLaws.{part-nil}
-use Rattle.names.specs.Table.{Table, is-excluded, Excludes, name-of}
+use Rattle.names.specs.Table.{Table, is-excluded, Excludes, Tells, name-of}
 use Rattle.names.proofs.Laws.{distinct}
 use Rattle.names.proofs.Coded.{Kept, table-kept}
+use Rattle.names.proofs.Excluded.{tells-kept}
 use Rattle.terms.specs.Rows.{row-start, row-end, terms-of-words, terms-of, Rows}
 use Rattle.terms.proofs.References.{row-references}
 use Rattle.words.specs.Slices.{Same-but}
@@ -49,6 +50,10 @@ named-of {exclude} names table less excludes same excluded = record {
 -- with other marks a table has the same names
 pub table-marked : {file names names′ : List ℕ} {named : ℕ} → Table file names named → Same-but 8192 2048 names names′ → Kept file names names′ named
 table-marked table same = table-kept table (same .same-length) (λ i l. same .same-words i (λ a b. omega arith))
+
+-- and tells the same of them
+pub tells-marked : {file names names′ : List ℕ} {named : ℕ} → Table file names named → Same-but 8192 2048 names names′ → Tells file names names′ named named
+tells-marked table same = tells-kept (table .few) (λ i l. same .same-words i (λ a b. omega arith))
 
 -- ---- what filing asks
 

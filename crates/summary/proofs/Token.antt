@@ -8,7 +8,7 @@ use mathlib.Core.Option.{none, some}
 use lib.ListN.{length, getD, take, drop, set, length-take, length-drop, length-append}
 use lib.Dec.{ltb, not-T}
 use borrow.Author.Tests.{ltb-true, le-ltb, lt-ltb}
-use Rattle.names.specs.Table.{Table, is-excluded, name-of, table-names, look-up, spell-answer, spell-table, entered}
+use Rattle.names.specs.Table.{Table, Tells, name-of, table-names, look-up, spell-answer, spell-table, entered}
 use Rattle.names.specs.declared.Found.{Found}
 use Rattle.names.specs.declared.Found.the-variants as found
 use Rattle.names.specs.declared.Spelled.{Spelled}
@@ -25,7 +25,7 @@ use Rattle.model.specs.Summaries.{Sum-triggers, token-triggers, entries}
 use Rattle.model.specs.declared.AsumKind.the-variants as asum
 use Rattle.model.proofs.SetLaws.{same-eq}
 use Rattle.model.proofs.PartLaws.{part-one, part-two}
-use Rattle.names.proofs.Excluded.{excluded-spelled}
+use Rattle.names.proofs.Excluded.{tells-same, tells-new}
 use Rattle.names.proofs.Spelling.{Spelling, spell-law, spelled-known, spelled-new, spelled-full}
 use Rattle.terms.proofs.Laws.{below}
 use Rattle.words.specs.Slices.{Same-but}
@@ -182,11 +182,11 @@ module _ {file names : List ℕ} {named n x y : ℕ} (table : Table file names n
     token-two : {names′ lists lists′ : List ℕ} {total m at : ℕ} {r : Sorted} → Table file names′ total
         → table-names file names′ total ≡ spell (table-names file names named) (part file x (x + y - 4))
         → named ≤ total → ((k : ℕ) → k < named → name-of file names′ k ≡ name-of file names k)
-        → ((k : ℕ) → k < named → is-excluded names′ k ≡ is-excluded names k) → name-of file names′ m ≡ part file x (x + y - 4) → m < total
+        → Tells file names names′ named total → name-of file names′ m ≡ part file x (x + y - 4) → m < total
         → 16384 ≤ length lists → Two lists lists′ total n m at r
         → Comes-to file names names′ lists′ named at (token-triggers (name-of file names n)) r
     unfolding fold-left entries sum
-    token-two {names′} {lists} {total = total} {m} {at} table′ spelled more same excluded is k room (both fits e) =
+    token-two {names′} {lists} {total = total} {m} {at} table′ spelled more same told is k room (both fits e) =
         let few = table′ .few in
         rw (token-yes (name-of file names n) yes)
         (kind-filed {e = at + 2} {total = total} (record {
@@ -206,9 +206,9 @@ module _ {file names : List ℕ} {named n x y : ℕ} (table : Table file names n
           spelled = rw (← token-short) spelled;
           more = more;
           same-names = same;
-          same-excluded = excluded;
+          told = told;
         }))
-    token-two {names′} {total = total} table′ spelled more same excluded is k room (over past e) =
+    token-two {names′} {total = total} table′ spelled more same told is k room (over past e) =
         rw (token-yes (name-of file names n) yes)
         (entries-over (rw (← token-short, ← spelled, names-length file names′ total) (table′ .few)) past)
 
@@ -258,7 +258,7 @@ module _ {file names : List ℕ} {named n x y : ℕ} (table : Table file names n
           let k = spelled-known token-spelled e in
           record {
             name-words = token-slice slice;
-            kinds = rw (k .kept) (token-two table (k .names) (omega arith) (λ i h. refl) (λ i h. refl) (k .is) (k .number) room two);
+            kinds = rw (k .kept) (token-two table (k .names) (omega arith) (λ i h. refl) tells-same (k .is) (k .number) room two);
             lists-same = token-out two;
             words-as = token-two-as (token-slice slice) (token-entries answer ∙ rw e refl) two;
           }
@@ -275,7 +275,7 @@ module _ {file names : List ℕ} {named n x y : ℕ} (table : Table file names n
             name-words = token-slice slice;
             kinds = token-two (k .table) (k .names) (omega arith)
                 (λ i h. rw (k .slice) (entered-old file names named x (x + y - 4) (k .rank) within few (table .room) i h))
-                (λ i h. rw slice (excluded-spelled table x (x + y - 4) i h))
+                (tells-new table (token-asks .1) k)
                 (rw (k .number, k .slice) (entered-new file names named x (x + y - 4) (k .rank) within few (table .room) (token-asks .1)))
                 (omega (arith, k .number)) room two;
             lists-same = token-out two;
@@ -333,7 +333,7 @@ module _ {file names : List ℕ} {named n x y : ℕ} (table : Table file names n
                 spelled = refl;
                 more = omega arith;
                 same-names = λ k h. refl;
-                same-excluded = λ k h. refl;
+                told = tells-same;
               }));
           lists-same = same-set at (at + 1 - at) lists at (n + 4096) (omega arith) (omega arith);
           words-as = λ rows mark.

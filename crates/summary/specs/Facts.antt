@@ -12,7 +12,7 @@ use Rattle.model.specs.Reading.{most-names, most-terms, most-entries, most-uses
 use Rattle.model.specs.Outcome.{working-words}
 use Rattle.model.specs.Summaries.{Kinded, entries, free-top-level-names, summarize-kind}
 use Rattle.model.specs.declared.AsumKind.the-variants.{Triggers}
-use Rattle.names.specs.Table.{name-of, table-names}
+use Rattle.names.specs.Table.{Tells, name-of, table-names}
 use Rattle.words.specs.Slices.{word-limit, Same-but}
 use Rattle.gather.specs.Sets.{name-mark-column, row-mark-column, Fresh}
 use Rattle.rules.specs.Views.{Tables, terms-in}
@@ -67,8 +67,8 @@ module _ (exclude : List Name) (file names refs rows : List ℕ) (named used man
       }
 
   -- the lists of a summary in the slices, behind `filed` entries and `uses` uses: its disjuncts, one entry or more for each, and
-  -- its free names; the tables then: the names, of which those before keep theirs, and the same terms; all marks are below the
-  -- next one
+  -- its free names; the tables then: the names, of which those before keep theirs and are excluded as before, and the same terms;
+  -- all marks are below the next one
   pub record Lists (names′ rows′ lists′ : List ℕ) (filed uses : ℕ) (s : Summary) : Type 0 where
     pub disjuncts : disjuncts-of (name-of file names′) (part lists′ (entries-base + filed) (entries-base + s .entries)) ≡ fact-kind .triggers
     pub entry-words : Entries (s .named) (part lists′ (entries-base + filed) (entries-base + s .entries))
@@ -79,6 +79,7 @@ module _ (exclude : List Name) (file names refs rows : List ℕ) (named used man
     pub spelled : table-names file names′ (s .named) ≡ names-then
     pub more : named ≤ s .named
     pub same-names : (n : ℕ) → n < named → name-of file names′ n ≡ name-of file names n
+    pub told : Tells file names names′ named (s .named)
     pub same-terms : terms-in file names′ refs rows′ used many ≡ terms-in file names refs rows used many
     pub fresh : Fresh names′ rows′ (s .mark)
 

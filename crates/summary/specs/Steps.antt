@@ -11,7 +11,7 @@ use Rattle.model.specs.Outcome.{working-words}
 use Rattle.model.specs.Summaries.{Kinded, entries, token-triggers, free-top-level-names}
 use Rattle.model.specs.declared.AsumKind.{AsumKind}
 use Rattle.model.specs.declared.AsumKind.the-variants.{Triggers}
-use Rattle.names.specs.Table.{Table, is-excluded, Excludes, name-of, table-names}
+use Rattle.names.specs.Table.{Table, Excludes, Tells, name-of, table-names}
 use Rattle.terms.specs.Rows.{terms-of}
 use Rattle.words.specs.Slices.{word-limit, Same-but}
 use Rattle.gather.specs.Sets.{name-mark-column, row-mark-column, Fresh, Named, Gathers, Gathered}
@@ -90,7 +90,7 @@ pub record Filed-kind (file names names′ lists′ : List ℕ) (named at : ℕ)
   pub spelled : table-names file names′ total ≡ fold-left spell (table-names file names named) (k .trimmed)
   pub more : named ≤ total
   pub same-names : (n : ℕ) → n < named → name-of file names′ n ≡ name-of file names n
-  pub same-excluded : (n : ℕ) → n < named → is-excluded names′ n ≡ is-excluded names n
+  pub told : Tells file names names′ named total
 
 -- what filing a kind comes to: it is filed, or the first limit that it passes
 pub data Comes-to (file names names′ lists′ : List ℕ) (named at : ℕ) (k : Kinded) : Sorted → Type 0 where
