@@ -1,12 +1,13 @@
 -- Tables that stand, with the macro column filled.
-use Prim.Native.Nat.{ℕ, _+_, _≤_, _<_}
+use Prim.Native.Nat.{ℕ, _+_, _%_, _≤_, _<_}
 use native.Mathlib.Omega.{arith}
-use mathlib.Core.Path.{_≡_, sym, _∙_}
+use mathlib.Core.Path.{_≡_, sym, ap, _∙_}
 use mathlib.Core.List.{List}
 use lib.ListN.{length}
 use Rattle.model.specs.Reading.{most-names, most-records}
 use Rattle.model.specs.declared.Counts.{Counts}
 use Rattle.model.specs.Outcome.{working-words}
+use Rattle.names.specs.Known.{excluded-mark}
 use Rattle.names.specs.Table.{name-code}
 use Rattle.names.proofs.Coded.{table-kept}
 use Rattle.words.specs.Slices.{Same-but}
@@ -21,7 +22,7 @@ macro-same : {names names′ : List ℕ} (recs : List ℕ) (named n : ℕ) → n
     → macro-word names′ recs named n ≡ macro-word names recs named n
 unfolding macro-word start-word
 macro-same {names} {names′} recs named n few low s =
-    let code : (m : ℕ) → m < most-names → name-code names′ m ≡ name-code names m = λ m l. s .same-words (6144 + m) (λ a b. omega arith) in
+    let code : (m : ℕ) → m < most-names → name-code names′ m ≡ name-code names m = λ m l. ap (_% excluded-mark) (s .same-words (6144 + m) (λ a b. omega arith)) in
     rw (
       s .same-words (taken-column + n) (λ a b. omega arith),
       code n low,

@@ -29,7 +29,7 @@ fn find_opened(names: &[u32], named: usize, found: &mut [u32])
     while n < named {
         let k = n;
         n += 1;
-        let c = words::at(names, names::CODE + k);
+        let c = names::code_at(names, k);
         if c < FIRST_OPENED {
             continue;
         }
@@ -80,7 +80,7 @@ fn macro_word(names: &[u32], recs: &[u32], found: &[u32], n: usize) -> usize
     if is_def(recs, taken) {
         return taken;
     }
-    let c = words::at(names, names::CODE + n);
+    let c = names::code_at(names, n);
     found_word(found, c)
 }
 

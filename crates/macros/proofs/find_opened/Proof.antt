@@ -21,29 +21,26 @@ loop-holds c = (finding-none _ (c .before .before .pre .2) (c .before .before .p
 add-n : tie.Need-add-n Inv-loop μ-loop
 add-n c = omega arith
 
-add-at : tie.Need-add-at Inv-loop μ-loop
-add-at c = omega arith
-
-at-requires : tie.Need-at-requires Inv-loop μ-loop
-at-requires c κs = omega arith
+code-at-requires : tie.Need-code-at-requires Inv-loop μ-loop
+code-at-requires c κs = (omega arith, omega arith)
 
 loop-less : tie.Need-loop-less Inv-loop μ-loop
 loop-less c = omega arith
 
 loop-again : tie.Need-loop-again Inv-loop μ-loop
 loop-again c =
-    let at-at = c .before in
-    let at-loop = at-at .before .before in
-    (finding-other (at-loop .loop .inv .0) (at-at .at .ensures) (inl (c .if1 .taken)), omega arith, at-loop .loop .inv .2)
+    let at-code = c .before in
+    let at-loop = at-code .before .before in
+    (finding-other (at-loop .loop .inv .0) (at-code .code-at .ensures) (inl (c .if1 .taken)), omega arith, at-loop .loop .inv .2)
 
 loop-less-2 : tie.Need-loop-less-2 Inv-loop μ-loop
 loop-less-2 c = omega arith
 
 loop-again-2 : tie.Need-loop-again-2 Inv-loop μ-loop
 loop-again-2 c =
-    let at-at = c .before .before in
-    let at-loop = at-at .before .before in
-    (finding-other (at-loop .loop .inv .0) (at-at .at .ensures) (inr (c .if2 .taken)), omega arith, at-loop .loop .inv .2)
+    let at-code = c .before .before in
+    let at-loop = at-code .before .before in
+    (finding-other (at-loop .loop .inv .0) (at-code .code-at .ensures) (inr (c .if2 .taken)), omega arith, at-loop .loop .inv .2)
 
 cast-found : tie.Need-cast-found Inv-loop μ-loop
 cast-found c = omega arith
@@ -63,9 +60,9 @@ loop-less-3 c = omega arith
 loop-again-3 : tie.Need-loop-again-3 Inv-loop μ-loop
 loop-again-3 c =
     let at-if1 = c .before in
-    let at-at = at-if1 .before in
-    let at-loop = at-at .before .before in
-    (finding-one (at-loop .loop .inv .0) (at-at .at .ensures) (at-if1 .if1 .left) (c .if2 .left), omega arith, simp length-set (at-loop .loop .inv .2))
+    let at-code = at-if1 .before in
+    let at-loop = at-code .before .before in
+    (finding-one (at-loop .loop .inv .0) (at-code .code-at .ensures) (at-if1 .if1 .left) (c .if2 .left), omega arith, simp length-set (at-loop .loop .inv .2))
 
 same-length : tie.Need-same-length Inv-loop μ-loop
 same-length c = c .before .loop .inv .2
@@ -81,8 +78,7 @@ find-opened-spec =
     μ-loop
     loop-holds
     add-n
-    add-at
-    at-requires
+    code-at-requires
     loop-less
     loop-again
     loop-less-2

@@ -22,11 +22,8 @@ returns c =
     let entry = at-at .before .before .before .before in
     word-def _ _ _ _ (at-at .at .ensures) (at-is-def .is-def .ensures) (c .if1 .taken) (omega (arith, at-at .at .ensures, entry .pre .3))
 
-add-at-2 : tie.Need-add-at-2
-add-at-2 c = omega arith
-
-at-requires-2 : tie.Need-at-requires-2
-at-requires-2 c κs = omega arith
+code-at-requires : tie.Need-code-at-requires
+code-at-requires c κs = (omega arith, omega arith)
 
 found-word-requires : tie.Need-found-word-requires
 found-word-requires c κs =
@@ -35,11 +32,11 @@ found-word-requires c κs =
 
 returns-2 : tie.Need-returns-2
 returns-2 c =
-    let at-at2 = c .before in
-    let at-if1 = at-at2 .before in
+    let at-code = c .before in
+    let at-if1 = at-code .before in
     let at-is-def = at-if1 .before in
     let at-at = at-is-def .before in
-    word-other _ _ _ _ (at-at .at .ensures) (at-is-def .is-def .ensures) (at-if1 .if1 .left) (at-at2 .at2 .ensures) (c .found-word .ensures)
+    word-other _ _ _ _ (at-at .at .ensures) (at-is-def .is-def .ensures) (at-if1 .if1 .left) (at-code .code-at .ensures) (c .found-word .ensures)
 
 pub macro-word-spec : {M : Type 1} → statement M
 macro-word-spec =
@@ -49,7 +46,6 @@ macro-word-spec =
     at-requires
     is-def-requires
     returns
-    add-at-2
-    at-requires-2
+    code-at-requires
     found-word-requires
     returns-2)
