@@ -11,15 +11,15 @@ use lib.Dec.{eqb, ltb}
 use borrow.Author.Tests.{le-leb, lt-leb, ltb-true, ltb-false}
 use Rattle.model.specs.Lists.{sum, collect, fold-left, part}
 use Rattle.model.specs.Names.{Name, from-list}
-use Rattle.model.specs.Reading.{Content, assume, asked, nodes, spelled, trimmed, spell, summarize-decl, root-of, taken-by, entries-of, uses-of, add-line, repeats, most-names, most-records, most-entries, most-uses}
+use Rattle.model.specs.Reading.{Content, assume, heads, head-asks, hidden-by, nodes, spelled, trimmed, spell, summarize-decl, root-of, taken-by, entries-of, uses-of, excluded, add-line, repeats, most-names, most-records, most-entries, most-uses}
 use Rattle.model.specs.Summaries.{exclude-names, entries, summarize-assumption}
 use Rattle.model.specs.declared.Counts.{Counts}
 use Rattle.model.specs.declared.Refusal.{Refusal}
 use Rattle.model.specs.declared.Refusal.the-variants as refusal
 use Rattle.model.proofs.PartLaws.{part-agree, part-elim, part-intro, part-length, part-at}
 use Rattle.laws.proofs.ReadingLaws.{past-names}
-use Rattle.names.specs.Table.{Excludes, name-of, table-names}
-use Rattle.names.proofs.Excluded.{excluded-exact}
+use Rattle.names.specs.Table.{name-of, table-names}
+use Rattle.names.proofs.Excluded.{tells-kept, tells-then}
 use Rattle.names.proofs.Coded.{Kept, table-kept}
 use Rattle.terms.proofs.Laws.{below}
 use Rattle.words.proofs.Slices.{same-wider}
@@ -34,13 +34,13 @@ use Rattle.summary.proofs.Answering.{over-none, limited-done}
 use Rattle.model.specs.declared.Step.the-variants as step
 use Rattle.model.specs.Outcome.{working-words}
 use Rattle.records.specs.Columns.{assume-kind, code-of, fact-column, next-column, first-column, taken-column, entry-word, taken-at}
-use Rattle.records.specs.States.{free-at, fact-at, summary-at, root-at, state-of}
+use Rattle.records.specs.States.{free-at, fact-at, summary-at, root-at, hides-at, excluded-of, state-of}
 use Rattle.records.specs.Writing.{with-record, Rowed}
 use Rattle.records.specs.Adding.{Standing, Adds, Untouched}
 use Rattle.records.proofs.Chaining.{chained-kept}
 use Rattle.records.proofs.Recording.{names-stay, disjuncts-stay}
 use Rattle.records.proofs.Judging.{repeats-taken, repeats-free}
-use Rattle.records.proofs.Appending.{excluded-here, Appends, One-record, record-added, record-repeated, record-crowded, record-over, record-beyond}
+use Rattle.records.proofs.Appending.{no-hide, Appends, One-record, record-added, record-repeated, record-crowded, record-over, record-beyond}
 use Rattle.records.proofs.Plain.{spelled-again, is-taken}
 use Rattle.records.proofs.Funs.{row-past, taken-put, small-row}
 use Rattle.facts.specs.Putting.{Puttable, Puts}
@@ -66,9 +66,9 @@ module _ {named : ℕ} (lists : List ℕ) (a e : ℕ) (room : entries-base + e �
 -- ---- the summary's limits
 
 -- the summary of a fact by its name and its term, were there no limits
-abbrev summed : List ℕ → List ℕ → List ℕ → List ℕ → Counts → ℕ → ℕ → Summary
-summed file names refs rows k i t =
-    fact-summary exclude-names file names refs rows (k .names) (k .references) (k .terms) i t (k .mark) (k .entries) (k .uses)
+abbrev summed : List ℕ → List ℕ → List ℕ → List ℕ → List ℕ → Counts → ℕ → ℕ → Summary
+summed file names refs rows recs k i t =
+    fact-summary (excluded-of (name-of file names) recs (k .records)) file names refs rows (k .names) (k .references) (k .terms) i t (k .mark) (k .entries) (k .uses)
 
 -- what its line says
 abbrev said : List ℕ → List ℕ → ℕ → ℕ → ℕ → Content
@@ -122,21 +122,21 @@ module _ {file names refs rows recs lists : List ℕ} {k : Counts} (st : Standin
 
   -- the names with the line are those of the summary
   fact-named : length (fold-left spell (table-names file names (k .names)) (spelled (said file names i flag t)
-      ++ trimmed exclude-names (terms-in file names refs rows (k .references) (k .terms)) (said file names i flag t)))
-      ≡ summed file names refs rows k i t .named
+      ++ trimmed (excluded-of (name-of file names) recs (k .records)) (terms-in file names refs rows (k .references) (k .terms)) (said file names i flag t)))
+      ≡ summed file names refs rows recs k i t .named
   unfolding spelled trimmed fact-summary names-then fact-kind
   fact-named =
-      let ns = fact-kind exclude-names file names refs rows (k .names) (k .references) (k .terms) i t .trimmed in
+      let ns = fact-kind (excluded-of (name-of file names) recs (k .records)) file names refs rows (k .names) (k .references) (k .terms) i t .trimmed in
       ap length (spelled-before file names (k .names) i ns known)
 
   -- the line is one record
-  fact-one : summed file names refs rows k i t .named ≤ most-names → One-record file names refs rows k line (said file names i flag t)
-  unfolding nodes summarize-decl root-of
+  fact-one : summed file names refs rows recs k i t .named ≤ most-names → One-record file names refs rows (excluded-of (name-of file names) recs (k .records)) k line (said file names i flag t)
+  unfolding heads hidden-by nodes summarize-decl root-of collect
   fact-one h = record { no-term = refl; one = refl; few-names = omega (arith, fact-named) }
 
   module _ {names′ rows′ recs′ lists′ : List ℕ} (free : w ≤ 0) where
     -- as many records as may be
-    pub fact-crowded : {x : Summary} → summarized.Done x ≡ limited (summed file names refs rows k i t) → most-records ≤ k .records
+    pub fact-crowded : {x : Summary} → summarized.Done x ≡ limited (summed file names refs rows recs k i t) → most-records ≤ k .records
         → Adds file names refs rows recs lists names′ rows′ recs′ lists′ k line (said file names i flag t) (step.Refused refusal.FullRecords)
     fact-crowded done =
         let within = limited-done _ done in
@@ -144,22 +144,22 @@ module _ {file names refs rows recs lists : List ℕ} {k : Counts} (st : Standin
         (fact-one (omega (arith, within .1, ap (λ y. y .named) (within .0))))
 
     -- more names than may be
-    fact-unnamed : most-names < summed file names refs rows k i t .named
+    fact-unnamed : most-names < summed file names refs rows recs k i t .named
         → Adds file names refs rows recs lists names′ rows′ recs′ lists′ k line (said file names i flag t) (step.Refused refusal.FullNames)
-    unfolding add-line state-of
-    fact-unnamed h = record-beyond st line (said file names i flag t) (fact-new free) (rw (excluded-here file names refs rows recs lists k) (past-names (omega (arith, fact-named))))
+    unfolding add-line excluded state-of
+    fact-unnamed h = record-beyond st line (said file names i flag t) (fact-new free) (past-names (omega (arith, fact-named)))
 
     -- more entries or uses than may be, and the names within their limit
-    fact-full : summed file names refs rows k i t .named ≤ most-names
-        → (most-entries < summed file names refs rows k i t .entries) ⊎ (most-uses < summed file names refs rows k i t .uses)
+    fact-full : summed file names refs rows recs k i t .named ≤ most-names
+        → (most-entries < summed file names refs rows recs k i t .entries) ⊎ (most-uses < summed file names refs rows recs k i t .uses)
         → Adds file names refs rows recs lists names′ rows′ recs′ lists′ k line (said file names i flag t)
         (step.Refused (behind-records (k .records)))
-    unfolding behind-records add-line state-of summarize-decl summarize-assumption root-of entries-of uses-of sum fact-summary fact-kind fact-names entries
+    unfolding behind-records add-line excluded state-of summarize-decl summarize-assumption root-of entries-of uses-of sum fact-summary fact-kind fact-names entries
     fact-full n h =
         let fact = said file names i flag t in
         let more : (most-entries < add-line exclude-names line (state-of file names refs rows recs lists k) fact .entries)
         ⊎ (most-uses < add-line exclude-names line (state-of file names refs rows recs lists k) fact .uses) =
-        rw (excluded-here file names refs rows recs lists k) (⊎-elim (λ e. inl (omega arith)) (λ u. inr (omega arith)) h) in
+        ⊎-elim (λ e. inl (omega arith)) (λ u. inr (omega arith)) h in
         ⊎-elim
         (λ (few : k .records < most-records). rw (lt-leb most-records (k .records) few)
         (record-over st line fact (fact-new free) (fact-one n) few more))
@@ -169,12 +169,12 @@ module _ {file names refs rows recs lists : List ℕ} {k : Counts} (st : Standin
 
     -- the summary passes a limit
     pub fact-over : {l : Limit} {r : Refusal} → r ≡ over-refusal l (k .records)
-        → summarized.Over l ≡ limited (summed file names refs rows k i t)
+        → summarized.Over l ≡ limited (summed file names refs rows recs k i t)
         → Adds file names refs rows recs lists names′ rows′ recs′ lists′ k line (said file names i flag t) (step.Refused r)
     unfolding over-refusal
     fact-over e o = rw e (go (limited-over _ o))
       where
-        go : {l : Limit} → Passes (summed file names refs rows k i t) l
+        go : {l : Limit} → Passes (summed file names refs rows recs k i t) l
             → Adds file names refs rows recs lists names′ rows′ recs′ lists′ k line (said file names i flag t)
             (step.Refused (over-refusal l (k .records)))
         go (names-passed h) = fact-unnamed h
@@ -186,30 +186,30 @@ module _ {file names refs rows recs lists : List ℕ} {k : Counts} (st : Standin
 module _ {file names refs rows recs lists names₁ rows′ lists₁ names′ recs′ lists′ : List ℕ} {k : Counts} (st : Standing file names refs rows recs lists k)
     (line : ℕ) {i : ℕ} (known : i < k .names) (flag t : ℕ) {x : Summary} {next : Counts}
     (few : k .records < most-records) (free : taken-at names i ≡ 0)
-    (done : summarized.Done x ≡ limited (summed file names refs rows k i t))
-    (filed-lists : Lists exclude-names file names refs rows (k .names) (k .references) (k .terms) i t names₁ rows′ lists₁ (k .entries) (k .uses) x)
+    (done : summarized.Done x ≡ limited (summed file names refs rows recs k i t))
+    (filed-lists : Lists (excluded-of (name-of file names) recs (k .records)) file names refs rows (k .names) (k .references) (k .terms) i t names₁ rows′ lists₁ (k .entries) (k .uses) x)
     (slices : Slices names rows lists names₁ rows′ lists₁ (k .entries) (k .uses))
     (puts : Puts names₁ recs lists₁ names′ recs′ lists′ k line i flag t x next) where
   -- the summary is the definition's, within the limits
-  within : (x ≡ summed file names refs rows k i t) × (x .named ≤ most-names) × (x .entries ≤ most-entries) × (x .uses ≤ most-uses)
+  within : (x ≡ summed file names refs rows recs k i t) × (x .named ≤ most-names) × (x .entries ≤ most-entries) × (x .uses ≤ most-uses)
   within = limited-done _ done
 
   low : i < most-names
   low = omega (arith, known, st .tables .name-table .few)
 
-  entries-are : x .entries ≡ k .entries + entries (fact-kind exclude-names file names refs rows (k .names) (k .references) (k .terms) i t .triggers)
+  entries-are : x .entries ≡ k .entries + entries (fact-kind (excluded-of (name-of file names) recs (k .records)) file names refs rows (k .names) (k .references) (k .terms) i t .triggers)
   unfolding fact-summary
   entries-are = ap (λ y. y .entries) (within .0)
 
-  uses-are : x .uses ≡ k .uses + length (fact-names exclude-names file names refs rows (k .names) (k .references) (k .terms) i t)
+  uses-are : x .uses ≡ k .uses + length (fact-names (excluded-of (name-of file names) recs (k .records)) file names refs rows (k .names) (k .references) (k .terms) i t)
   unfolding fact-summary
   uses-are = ap (λ y. y .uses) (within .0)
 
-  mark-is : x .mark ≡ k .mark + 2 + entries (fact-kind exclude-names file names refs rows (k .names) (k .references) (k .terms) i t .triggers)
+  mark-is : x .mark ≡ k .mark + 2 + entries (fact-kind (excluded-of (name-of file names) recs (k .records)) file names refs rows (k .names) (k .references) (k .terms) i t .triggers)
   unfolding fact-summary
   mark-is = ap (λ y. y .mark) (within .0)
 
-  kind-is : x .kind ≡ fact-kind exclude-names file names refs rows (k .names) (k .references) (k .terms) i t .kind
+  kind-is : x .kind ≡ fact-kind (excluded-of (name-of file names) recs (k .records)) file names refs rows (k .names) (k .references) (k .terms) i t .kind
   unfolding fact-summary
   kind-is = ap (λ y. y .kind) (within .0)
 
@@ -242,7 +242,7 @@ module _ {file names refs rows recs lists names₁ rows′ lists₁ names′ rec
   size = puts .chains .lists-length
 
   sets : disjuncts-of (name-of file names′) (part lists′ (entries-base + k .entries) (entries-base + x .entries))
-      ≡ fact-kind exclude-names file names refs rows (k .names) (k .references) (k .terms) i t .triggers
+      ≡ fact-kind (excluded-of (name-of file names) recs (k .records)) file names refs rows (k .names) (k .references) (k .terms) i t .triggers
   sets =
       let a = entries-base + k .entries in
       let e = entries-base + x .entries in
@@ -257,7 +257,8 @@ module _ {file names refs rows recs lists names₁ rows′ lists₁ names′ rec
   row = rw (puts .counts) at (puts .row)
 
   -- the record is appended
-  appends : Appends file names rows recs lists names′ rows′ recs′ lists′ k (x .named) (x .entries) (x .uses) (x .mark) assume-kind line i t flag (code-of (x .kind))
+  appends : Appends file names rows recs lists names′ rows′ recs′ lists′ k (k .hides) (x .named) (x .entries) (x .uses) (x .mark) assume-kind line i t flag
+      (code-of (x .kind))
   appends =
       let high : entries-base + x .entries ≤ length lists₁ = omega (arith, room, within .2) in
       let rise = entries-are in
@@ -268,6 +269,9 @@ module _ {file names refs rows recs lists names₁ rows′ lists₁ names′ rec
       let others : (n : ℕ) → n < most-names → (n ≡ i → ⊥) → taken-at names′ n ≡ taken-at names n =
       λ n l d. name-words (taken-column + n) (λ e. d (omega arith)) (λ a b. omega arith)
       ∙ slices .name-words .same-words (taken-column + n) (λ a b. omega arith) in
+      let told = tells-then more (omega arith) (still .name) (filed-lists .told)
+      (tells-kept (filed-lists .tables .name-table .few) (λ j l. name-words j (λ e. omega arith) (λ a b. omega arith))) in
+      let (hides, excludes) = no-hide st (still .table) more same told recs′ assume-kind (omega arith) in
       record {
         table = still .table;
         more = more;
@@ -305,9 +309,11 @@ module _ {file names refs rows recs lists names₁ rows′ lists₁ names′ rec
         only-facts = λ d. absurd (d refl);
         taken = is-taken st few row low free here others (omega arith);
         chained = puts .chains .chained;
+        hides = hides;
+        excludes = excludes;
       }
 
-  uses-then : free-at (name-of file names′) recs′ lists′ (k .records) ≡ fact-names exclude-names file names refs rows (k .names) (k .references) (k .terms) i t
+  uses-then : free-at (name-of file names′) recs′ lists′ (k .records) ≡ fact-names (excluded-of (name-of file names) recs (k .records)) file names refs rows (k .names) (k .references) (k .terms) i t
   unfolding free-at
   uses-then =
       let high : x .uses ≤ length lists₁ = omega (arith, room, within .3) in
@@ -324,7 +330,7 @@ module _ {file names refs rows recs lists names₁ rows′ lists₁ names′ rec
       known-use j l u = omega (arith, filed-lists .use-words j l u, more)
 
   fact-is : fact-at (name-of file names′) recs′ lists′ (k .records)
-      ≡ summarize-assumption exclude-names (terms-in file names refs rows (k .references) (k .terms)) line (name-of file names i) (eqb flag 1) t
+      ≡ summarize-assumption (excluded-of (name-of file names) recs (k .records)) (terms-in file names refs rows (k .references) (k .terms)) line (name-of file names i) (eqb flag 1) t
   unfolding fact-at summarize-assumption fact-kind fact-names
   fact-is = rw (
     uses-then,
@@ -342,13 +348,14 @@ module _ {file names refs rows recs lists names₁ rows′ lists₁ names′ rec
 
   -- the record is there
   fact-there : Adds file names refs rows recs lists names′ rows′ recs′ lists′ k line (said file names i flag t) (step.On next)
-  unfolding asked nodes spelled trimmed summarize-decl root-of entries-of uses-of sum fold-left summary-at root-at names-then fact-kind fact-names entries summarize-assumption
+  unfolding heads head-asks hidden-by hides-at collect nodes spelled trimmed summarize-decl root-of entries-of uses-of sum fold-left summary-at root-at names-then fact-kind fact-names entries summarize-assumption
   fact-there =
       rw (puts .counts) (record-added st few appends (fact-new st line known {w = 0} (sym free) flag t (omega arith)) (record {
         no-ask = refl;
+        hidden = refl;
         no-term = refl;
         spells = still .names ∙ filed-lists .spelled ∙ sym (spelled-before file names (k .names) i
-            (fact-kind exclude-names file names refs rows (k .names) (k .references) (k .terms) i t .trimmed) known);
+            (fact-kind (excluded-of (name-of file names) recs (k .records)) file names refs rows (k .names) (k .references) (k .terms) i t .trimmed) known);
         decls = rw fact-is;
         roots = refl;
         entries = omega (arith, entries-are);
@@ -356,10 +363,6 @@ module _ {file names refs rows recs lists names₁ rows′ lists₁ names′ rec
       }))
 
 -- ---- what the calls ask, and what stays
-
--- the table tells the excluded names
-pub excludes-here : {file names refs rows recs lists : List ℕ} {k : Counts} → Standing file names refs rows recs lists k → Excludes exclude-names file names (k .names)
-excludes-here st = excluded-exact (st .tables .name-table)
 
 module _ {file names refs rows recs lists : List ℕ} {k : Counts} (st : Standing file names refs rows recs lists k) {i t : ℕ} (known : i < k .names)
     (term : t < k .terms) where
@@ -378,8 +381,8 @@ module _ {file names refs rows recs lists : List ℕ} {k : Counts} (st : Standin
 
   -- putting its summary into the tables
   pub fact-puttable : {names₁ rows₁ lists₁ : List ℕ} {line flag : ℕ} {x : Summary}
-      → summarized.Done x ≡ limited (summed file names refs rows k i t)
-      → Lists exclude-names file names refs rows (k .names) (k .references) (k .terms) i t names₁ rows₁ lists₁ (k .entries) (k .uses) x
+      → summarized.Done x ≡ limited (summed file names refs rows recs k i t)
+      → Lists (excluded-of (name-of file names) recs (k .records)) file names refs rows (k .names) (k .references) (k .terms) i t names₁ rows₁ lists₁ (k .entries) (k .uses) x
       → Slices names rows lists names₁ rows₁ lists₁ (k .entries) (k .uses) → k .records < most-records → line < 4294967296 → flag < 2
       → Puttable names₁ recs lists₁ k line i flag t x
   unfolding fact-summary fact-kind
@@ -398,7 +401,7 @@ module _ {file names refs rows recs lists : List ℕ} {k : Counts} (st : Standin
         known = low;
         more = omega (arith, ap (λ y. y .entries) is);
         few-entries = few-entries;
-        small = small-row (x .named) (x .entries) (x .uses) (x .mark) assume-kind line i t flag (code-of (x .kind)) st refl few-entries few-uses
+        small = small-row (k .hides) (x .named) (x .entries) (x .uses) (x .mark) assume-kind line i t flag (code-of (x .kind)) st refl few-entries few-uses
             (omega arith) line-small low (omega (arith, st .tables .term-table .few-rows)) (omega arith) (omega arith);
       }
 
@@ -443,8 +446,8 @@ fact-past {names₁ = names₁} {i = i} {k = k} s few low p =
 pub fact-added : {file names refs rows recs lists names₁ rows′ lists₁ names′ recs′ lists′ : List ℕ} {k : Counts} → Standing file names refs rows recs lists k
     → (line : ℕ) → {i : ℕ} → i < k .names
     → {w : ℕ} → w ≡ taken-at names i → (flag t : ℕ) → {x : Summary} {next : Counts} → w ≤ 0 → k .records < most-records
-    → summarized.Done x ≡ limited (summed file names refs rows k i t)
-    → Lists exclude-names file names refs rows (k .names) (k .references) (k .terms) i t names₁ rows′ lists₁ (k .entries) (k .uses) x
+    → summarized.Done x ≡ limited (summed file names refs rows recs k i t)
+    → Lists (excluded-of (name-of file names) recs (k .records)) file names refs rows (k .names) (k .references) (k .terms) i t names₁ rows′ lists₁ (k .entries) (k .uses) x
     → Slices names rows lists names₁ rows′ lists₁ (k .entries) (k .uses) → Puts names₁ recs lists₁ names′ recs′ lists′ k line i flag t x next
     → Adds file names refs rows recs lists names′ rows′ recs′ lists′ k line (said file names i flag t) (step.On next)
 fact-added st line known is flag t h few done filed-lists slices puts = fact-there st line known flag t few (omega arith) done filed-lists slices puts

@@ -1,11 +1,10 @@
 -- `facts::add_fact` meets its contract.
 use native.Mathlib.Omega.{arith}
 use mathlib.Core.Path.{sym, _∙_}
-use Rattle.model.specs.Summaries.{exclude-names}
 use Rattle.records.specs.Adding.{full}
 use Rattle.summary.proofs.Answering.{limited-done}
 use Rattle.records.proofs.Funs.{untouched}
-use Rattle.facts.proofs.Facts.{excludes-here, fact-asked, fact-puttable, fact-repeated, fact-crowded, fact-over, over-past, fact-added, fact-past}
+use Rattle.facts.proofs.Facts.{fact-asked, fact-puttable, fact-repeated, fact-crowded, fact-over, over-past, fact-added, fact-past}
 use borrow.Author.Needs.{needs}
 use Rattle.facts.proofs.add_fact.Statement.{statement}
 use Rattle.facts.proofs.add_fact.Tie as tie
@@ -67,7 +66,7 @@ returns-3 c =
     let entry = at-if1 .before .before .before .before .before .before .before .before in
     let (st, known) = entry .pre .0 (at-if1 .if1 .left) in
     let promises = at-summarize-assumption .summarize-assumption .ensures in
-    let done = sym (at-s .s .given .1) ∙ promises .0 exclude-names (excludes-here st) in
+    let done = sym (at-s .s .given .1) ∙ promises .0 _ (st .hiding .excludes) in
     let free = at-if2 .if2 .left in (
       fact-crowded st (entry .args .line) known (at-at .at .ensures) (entry .args .flag) (entry .args .t) free done (c .if3 .taken),
       over-past (promises .1 .1 .0),
@@ -82,8 +81,8 @@ put-fact-requires c κs =
     let entry = at-if1 .before .before .before .before .before .before .before .before in
     let (st, known) = entry .pre .0 (at-if1 .if1 .left) in
     let promises = at-summarize-assumption .summarize-assumption .ensures in
-    let done = sym (at-s .s .given .1) ∙ promises .0 exclude-names (excludes-here st) in
-    let filed-lists = promises .1 .0 exclude-names (excludes-here st) _ (at-s .s .given .1) in
+    let done = sym (at-s .s .given .1) ∙ promises .0 _ (st .hiding .excludes) in
+    let filed-lists = promises .1 .0 _ (st .hiding .excludes) _ (at-s .s .given .1) in
     fact-puttable st known (entry .pre .1) done filed-lists (promises .1 .1 .0) (at-if3 .if3 .left) (entry .pre .2) (entry .pre .3)
 
 enum-known-limit : tie.Need-enum-known-limit
@@ -116,8 +115,8 @@ returns-4 c =
     let entry = at-if1 .before .before .before .before .before .before .before .before in
     let (st, known) = entry .pre .0 (at-if1 .if1 .left) in
     let promises = at-summarize-assumption .summarize-assumption .ensures in
-    let done = sym (at-s .s .given .1) ∙ promises .0 exclude-names (excludes-here st) in
-    let filed-lists = promises .1 .0 exclude-names (excludes-here st) _ (at-s .s .given .1) in
+    let done = sym (at-s .s .given .1) ∙ promises .0 _ (st .hiding .excludes) in
+    let filed-lists = promises .1 .0 _ (st .hiding .excludes) _ (at-s .s .given .1) in
     let slices = promises .1 .1 .0 in
     let free = at-if2 .if2 .left in
     let room = at-if3 .if3 .left in
@@ -145,7 +144,7 @@ returns-5 c =
     let entry = at-if1 .before .before .before .before .before .before .before .before in
     let (st, known) = entry .pre .0 (at-if1 .if1 .left) in
     let promises = at-summarize-assumption .summarize-assumption .ensures in
-    let over = sym (at-limit .limit .given .1) ∙ promises .0 exclude-names (excludes-here st) in
+    let over = sym (at-limit .limit .given .1) ∙ promises .0 _ (st .hiding .excludes) in
     let free = at-if2 .if2 .left in
     let told = c .over-refusal .ensures in (
       fact-over st (entry .args .line) known (at-at .at .ensures) (entry .args .flag) (entry .args .t) free told over,
