@@ -225,14 +225,14 @@ fn show_list(
     );
 }
 
-// Builds a table, with a head code for name 5, and gathers the names of its references or of its last term.
+// Builds a table, with the word of a head code for name 5, and gathers the names of its references or of its last term.
 fn run(label: &[u8], shape: Shape, code: u32, listed: bool, room: usize)
     requires { ⌜ room ≤ 2048 ⌝ }
 {
     let mut names = [0u32; 16384];
     let mut refs = [0u32; 16384];
     let mut rows = [0u32; 16384];
-    names[6144 + 5] = code;
+    names[names::CODE + 5] = code;
     let size = build(shape, &mut refs, &mut rows);
     let used = size.used;
     let many = size.many;
@@ -243,13 +243,19 @@ fn run(label: &[u8], shape: Shape, code: u32, listed: bool, room: usize)
     show_term(label, &mut names, &refs, &mut rows, used, many, room);
 }
 
-// One line for each table; head code 3 is that of an excluded name.
+// One line for each table; in the sixth name 5 is excluded.
 fn main() {
     run(b"deep ", Shape::Deep, 0, false, 2048);
     run(b"chain ", Shape::Chain, 0, false, 2048);
     run(b"chain ", Shape::Chain, 0, false, 2047);
     run(b"wide ", Shape::Wide, 0, false, 2048);
     run(b"list ", Shape::Wide, 0, true, 2048);
-    run(b"excluded ", Shape::Call, 3, false, 2048);
+    run(
+        b"excluded ",
+        Shape::Call,
+        names::EXCLUDED_MARK as u32,
+        false,
+        2048,
+    );
     run(b"patterns ", Shape::Patterns, 0, false, 2048);
 }

@@ -100,7 +100,7 @@ fn put_name(file: &[u8], table: &[u32], named: usize, n: usize)
     put(b" ");
     put(names::name_part(file, table, named, n));
     put(b" ");
-    put_number(words::at(table, names::CODE + n));
+    put_number(names::code_at(table, n));
     put(b"\n");
 }
 
