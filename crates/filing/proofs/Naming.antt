@@ -9,7 +9,7 @@ use lib.Dec.{T, not-T, leb}
 use Rattle.model.specs.Summaries.{exclude-names}
 use Rattle.model.specs.Lists.{collect, fold-left}
 use Rattle.model.specs.Names.{Name, mem}
-use Rattle.model.specs.Reading.{Result, ok, refused, Content, retain, State, spell, spelled, trimmed, asked, nodes, summarize-decl, root-of, add-line, repeats, limits, under-limits, taken-by, most-names, most-terms, excluded}
+use Rattle.model.specs.Reading.{Result, ok, refused, Content, retain, State, spell, spelled, trimmed, heads, nodes, summarize-decl, root-of, add-line, repeats, limits, under-limits, taken-by, most-names, most-terms, excluded}
 use Rattle.model.specs.declared.Counts.{Counts}
 use Rattle.model.specs.declared.Refusal.{Refusal}
 use Rattle.model.specs.declared.Refusal.the-variants as refusal
@@ -19,16 +19,17 @@ use Rattle.model.proofs.SetLaws.{mem-intro, mem-elim}
 use Rattle.laws.proofs.ReadingLaws.{past-names as many-names}
 use Rattle.names.specs.Table.{Table, name-of, table-names}
 use Rattle.names.proofs.Laws.{names-length, names-intro}
+use Rattle.names.proofs.Excluded.{excludes-more}
 use Rattle.terms.proofs.Table.{rows-named, terms-named}
 use Rattle.rules.specs.Views.{terms-in}
 use Rattle.fields.specs.Spelling.{name-columns, Naming, in-table, Longer, Spelled-as}
 use Rattle.fields.proofs.Spelling.{begun-table, naming-table, naming-past}
 use Rattle.records.specs.Columns.{record-name, taken-column, first-column}
-use Rattle.records.specs.States.{state-of, decls-of}
+use Rattle.records.specs.States.{state-of, decls-of, hides-of}
 use Rattle.records.specs.Adding.{Standing, judge, Adds, Untouched}
 use Rattle.records.specs.Adding as adds
 use Rattle.records.proofs.Judging.{judged-beyond, repeats-one, taken-elim}
-use Rattle.records.proofs.Recording.{Agree, decls-stay, roots-stay}
+use Rattle.records.proofs.Recording.{Agree, hides-known, hidden-stay, decls-stay, roots-stay}
 use Rattle.records.proofs.Keeping.{records-named, filing-kept, taken-kept}
 use Rattle.records.proofs.Chaining.{chained-kept}
 use Rattle.model.specs.declared.Step.{Step}
@@ -113,6 +114,7 @@ module _ {file names refs rows recs lists names′ : List ℕ} {k : Counts} {nam
   state-spelled e = rw (
     e,
     terms-named (name-of file names′) (name-of file names) (longer .same) (st .tables .term-table),
+    hidden-stay same-records (st .recorded) (k .records) (omega arith),
     decls-stay same-records (st .recorded) (k .records) (omega arith),
     roots-stay same-records (st .recorded) (k .records) (omega arith),
   )
@@ -133,6 +135,11 @@ module _ {file names refs rows recs lists names′ : List ℕ} {k : Counts} {nam
           (λ i h l. omega (arith, st .recorded .named-in i h (λ z. omega arith), st .tables .name-table .few))
           (λ n h. longer .kept .same-words (taken-column + n) (λ a b. omega arith));
       chained = chained-kept (st .stocked .chained) (λ n h. longer .kept .same-words (first-column + n) (λ a b. omega arith)) (λ e h. refl) (λ e h. refl);
+    };
+    hiding = record {
+      counted = st .hiding .counted;
+      excludes = excludes-more table (longer .more) (longer .same) (longer .told) (hides-of recs (k .records))
+          (hides-known (st .recorded) (k .records) (omega arith)) (st .hiding .excludes);
     };
   }
 
@@ -175,7 +182,7 @@ respelled n s m c e = rw (same-line n s m c e)
 
 -- a `retain`: its names are spelled, and none is left
 pub retained : (n : ℕ) (s : State) (ms : List Name) → judge n s (retain ms) ≡ judge n (with-spelled s (fold-left spell (s .names) ms)) (retain [])
-unfolding judge repeats add-line excluded summarize-decl root-of spelled trimmed asked nodes fold-left
+unfolding judge repeats add-line excluded summarize-decl root-of spelled trimmed heads nodes fold-left
 retained n s ms = rw (append-nil ms)
 
 -- what is judged well is the state with the line

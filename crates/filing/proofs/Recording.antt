@@ -9,7 +9,7 @@ use Rattle.model.specs.Lists.{collect}
 use Rattle.model.specs.Names.{Name}
 use Rattle.model.specs.Lines.{Field}
 use Rattle.model.specs.Terms.{Term}
-use Rattle.model.specs.Reading.{Result, ok, refused, next, name-field, Content, assume, fun, def, root, content, spelled, taken-by, summarize-decl}
+use Rattle.model.specs.Reading.{Result, ok, refused, next, name-field, Content, head, hide, hidden-by, assume, fun, def, root, content, spelled, taken-by, summarize-decl}
 use Rattle.model.specs.declared.Counts.{Counts}
 use Rattle.model.specs.declared.LineKind.the-variants as kind
 use Rattle.model.specs.declared.Refusal.{Refusal}
@@ -29,13 +29,17 @@ use Rattle.records.specs.Adding.{Standing, Adds, Untouched}
 use Rattle.records.proofs.Judging.{repeats-none}
 use Rattle.filing.specs.Lines.{with-names, last-field, rest-of-root, Adds-fact, fact-adds, fact-stops, Reads, Line-read}
 use Rattle.filing.proofs.Naming.{not-taken, record-reads, reads-refused, table-past, spelled-past, past-none, past-names, past-then}
-use Rattle.filing.proofs.Saying.{end-none, fun-said, def-said, assume-said, root-is}
+use Rattle.filing.proofs.Saying.{end-none, one-said, fun-is, hide-is, def-said, assume-said, root-is}
 
 -- ---- the name that a record spells and takes
 
 fun-name : (x : Name) → spelled (fun x) ≡ x ∷ []
 unfolding spelled
 fun-name x = refl
+
+hide-name : (x : Name) → spelled (head (hide x)) ≡ x ∷ []
+unfolding spelled hidden-by
+hide-name x = refl
 
 def-name : (t : ℕ) (x : Name) → spelled (def x t) ≡ x ∷ []
 unfolding spelled
@@ -52,6 +56,10 @@ root-name q t x = refl
 fun-takes : (exclude : List Name) (terms : List Term) (n : ℕ) (x : Name) → collect taken-by (summarize-decl exclude terms n (fun x)) ≡ x ∷ []
 unfolding collect taken-by summarize-decl
 fun-takes exclude terms n x = refl
+
+hide-takes : (exclude : List Name) (terms : List Term) (n : ℕ) (x : Name) → collect taken-by (summarize-decl exclude terms n (head (hide x))) ≡ []
+unfolding collect summarize-decl
+hide-takes exclude terms n x = refl
 
 def-takes : (exclude : List Name) (terms : List Term) (n t : ℕ) (x : Name) → collect taken-by (summarize-decl exclude terms n (def x t)) ≡ x ∷ []
 unfolding collect taken-by summarize-decl
@@ -113,7 +121,18 @@ module _ {file names refs rows recs lists : List ℕ} {k : Counts} (n : ℕ) {c 
       fun-line h a = record {
         reads = record-reads n st (r .spelled) fun fun-name
             (not-taken n st (r .spelled) (fun (r .name)) (fun-name (r .name)) (fun-takes _ _ n (r .name)))
-            (fun-said (k .terms) (fields-left file c) (r .said) (end-none (fun (r .name)) file last h)) q a;
+            (one-said (fields-left file c) fun (fun-is (k .terms) (fields-left file c)) (r .said) (end-none (fun (r .name)) file last h)) q a;
+        past = past-then refs (spelled-past (r .spelled .longer)) u;
+      }
+
+      -- a `hide`
+      pub hide-line : last .end < last .at → Adds file names′ refs rows recs lists names″ rows″ recs″ lists″ next n (head (hide (name-of file names′ i))) s
+          → Line-read file names refs rows recs lists names″ refs rows″ recs″ lists″ k n (content kind.Hide (k .terms) (fields-left file c)) s
+      hide-line h a = record {
+        reads = record-reads n st (r .spelled) (λ x. head (hide x)) hide-name
+            (λ l. repeats-none n (state-of file names refs rows recs lists k) (head (hide (r .name))) (hide-takes _ _ n (r .name)))
+            (one-said (fields-left file c) (λ x. head (hide x)) (hide-is (k .terms) (fields-left file c)) (r .said)
+            (end-none (head (hide (r .name))) file last h)) q a;
         past = past-then refs (spelled-past (r .spelled .longer)) u;
       }
 

@@ -8,7 +8,7 @@ use lib.Dec.{eqb, ltb}
 use borrow.Author.Tests.{ltb-true}
 use Rattle.model.specs.Names.{Name}
 use Rattle.model.specs.Lines.{Field}
-use Rattle.model.specs.Reading.{Result, ok, refused, _>>=_, next, end, name-field, number-field, term-field, assume, fun, def, root, content}
+use Rattle.model.specs.Reading.{Result, ok, refused, _>>=_, next, end, name-field, number-field, term-field, Content, head, hide, assume, fun, def, root, content}
 use Rattle.model.specs.declared.LineKind.the-variants as kind
 use Rattle.model.specs.declared.Refusal.{Refusal}
 use Rattle.model.specs.declared.Refusal.the-variants as refusal
@@ -90,22 +90,30 @@ last-below count (f ∷ fs) {t} e = go (term-field count f) refl e
 
 -- ---- each kind of record
 
-module _ (count : ℕ) (fs : List Field) where
-  -- a `fun`
-  pub fun-said : {m : Name} {gs : List Field} → next name-field fs ≡ ok (m, gs) → end (fun m) gs ≡ ok (fun m) → content kind.Fun count fs ≡ ok (fun m)
-  unfolding content
-  fun-said a e = rw (a, e)
+-- a line of one name, a `fun` or a `hide`
+module _ (fs : List Field) (make : Name → Content) {said : Result Content} (is : said ≡ (next name-field fs >>= λ (m, gs). end (make m) gs)) where
+  -- what it says
+  pub one-said : {m : Name} {gs : List Field} → next name-field fs ≡ ok (m, gs) → end (make m) gs ≡ ok (make m) → said ≡ ok (make m)
+  one-said a e = is ∙ rw (a, e)
 
   -- a field is left over
-  pub fun-more : {m : Name} {gs : List Field} → next name-field fs ≡ ok (m, gs) → end (fun m) gs ≡ refused refusal.Form
-      → content kind.Fun count fs ≡ refused refusal.Form
-  unfolding content
-  fun-more a e = rw (a, e)
+  pub one-more : {m : Name} {gs : List Field} → next name-field fs ≡ ok (m, gs) → end (make m) gs ≡ refused refusal.Form → said ≡ refused refusal.Form
+  one-more a e = is ∙ rw (a, e)
 
   -- its name is refused
-  pub fun-not : {x : Refusal} → next name-field fs ≡ refused x → content kind.Fun count fs ≡ refused x
+  pub one-not : {x : Refusal} → next name-field fs ≡ refused x → said ≡ refused x
+  one-not a = is ∙ rw a
+
+module _ (count : ℕ) (fs : List Field) where
+  -- a `fun`
+  pub fun-is : content kind.Fun count fs ≡ (next name-field fs >>= λ (m, gs). end (fun m) gs)
   unfolding content
-  fun-not a = rw a
+  fun-is = refl
+
+  -- a `hide`
+  pub hide-is : content kind.Hide count fs ≡ (next name-field fs >>= λ (m, gs). end (head (hide m)) gs)
+  unfolding content
+  hide-is = refl
 
   -- a `def`
   pub def-said : {m : Name} {gs : List Field} {t : ℕ} → next name-field fs ≡ ok (m, gs) → last-field count gs ≡ ok t → content kind.Def count fs ≡ ok (def m t)

@@ -49,6 +49,7 @@ rest-of-root count q fs = do
 abbrev pub with-names : Counts → ℕ → Counts
 with-names k named = record {
   asks = k .asks;
+  hides = k .hides;
   names = named;
   references = k .references;
   terms = k .terms;

@@ -48,6 +48,45 @@ fn last_term(file: &[u8], many: usize, c: Cursor) -> Last
     }
 }
 
+// Reads a `hide`, from its name on.
+pub fn read_hide(
+    file: &[u8],
+    names: &mut [u32],
+    refs: &[u32],
+    rows: &[u32],
+    recs: &mut [u32],
+    lists: &[u32],
+    k: Counts,
+    n: usize,
+    c: Cursor,
+) -> Step
+    requires { ⌜ Standing (now file) (now names) (now refs) (now rows) (now recs) (now lists) k × Placed (now file) c
+        × (n < 4294967296) ⌝ }
+    ensures { λ r. ⌜ Line-read (now (file .entry)) (now (names .entry)) (now (refs .entry)) (now (rows .entry))
+        (now (recs .entry)) (now (lists .entry)) (now (names .exit)) (now (refs .entry)) (now (rows .entry)) (now (recs .exit))
+        (now (lists .entry)) k n (content kind.Hide (k .terms) (fields-left (now (file .entry)) c)) r ⌝ }
+{
+    match fields::read_name(file, names, k.names, c) {
+        Word::Name(i, named, last) => {
+            if last.at <= last.end {
+                return Step::Refused(Refusal::Form);
+            }
+            records::add_hide(
+                file,
+                names,
+                refs,
+                rows,
+                recs,
+                lists,
+                spelled(k, named),
+                n,
+                i,
+            )
+        }
+        Word::Refused(r) => Step::Refused(r),
+    }
+}
+
 // Reads a `fun`, from its name on.
 fn read_fun(
     file: &[u8],
