@@ -68,6 +68,7 @@ unfoldable pub with-term : Counts → ℕ → ℕ → Counts
 with-term k named used =
     record {
       asks = k .asks;
+      hides = k .hides;
       names = named;
       references = used;
       terms = k .terms + 1;

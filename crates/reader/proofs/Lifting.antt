@@ -9,7 +9,7 @@ use Rattle.model.specs.Summaries.{exclude-names}
 use Rattle.model.specs.Lists.{collect, fold-left, sum}
 use Rattle.model.specs.Names.{Name}
 use Rattle.model.specs.Terms.{Node, Term, add-term, references}
-use Rattle.model.specs.Reading.{Result, refused, Content, ask, term, content, State, spell, spelled, spelled-by, trimmed, asked, nodes, summarize-decl, root-of, taken-by, add-line}
+use Rattle.model.specs.Reading.{Result, refused, Content, head, ask, term, content, State, spell, spelled, spelled-by, trimmed, heads, nodes, summarize-decl, root-of, taken-by, add-line}
 use Rattle.model.specs.Outcome.{working-words}
 use Rattle.model.specs.declared.Counts.{Counts}
 use Rattle.model.specs.declared.LineKind.{LineKind}
@@ -23,7 +23,7 @@ use Rattle.nodes.specs.Growing.{with-term, Grown, Passes, names-passed, terms-p
 use Rattle.words.proofs.Slices.{same-self, same-wider}
 use Rattle.records.specs.States.{state-of}
 use Rattle.records.specs.Adding.{Standing, judge}
-use Rattle.records.proofs.Recording.{decls-stay, roots-stay}
+use Rattle.records.proofs.Recording.{hidden-stay, decls-stay, roots-stay}
 use Rattle.records.proofs.Judging.{judged-beyond, judged-within, repeats-none}
 use Rattle.records.proofs.Appending.{terms-length, standing-within}
 use Rattle.records.proofs.Asking.{ask-standing, ask-state}
@@ -51,11 +51,11 @@ term-line : (n : ℕ) (s : State) (node : Node) → add-line exclude-names n s (
   entries = s .entries;
   uses = s .uses;
 }
-unfolding add-line asked nodes spelled trimmed summarize-decl root-of fold-left collect sum
+unfolding add-line heads nodes spelled trimmed summarize-decl root-of fold-left collect sum
 term-line n s node =
     let a : s .entries + 0 ≡ s .entries = omega arith in
     let b : s .uses + (0 + 0) ≡ s .uses = omega arith in
-    rw (append-nil (s .asks), append-nil (spelled-by node), append-nil (s .decls), append-nil (s .roots), append-nil (references node), a, b)
+    rw (append-nil (s .asks), append-nil (s .hidden), append-nil (spelled-by node), append-nil (s .decls), append-nil (s .roots), append-nil (references node), a, b)
 
 -- one term more
 one-more : (ts : List Term) (node : Node) → length (add-term ts node) ≡ length ts + 1
@@ -73,6 +73,7 @@ module _ {file names refs rows recs lists names′ refs′ rows′ : List ℕ} {
         g .terms,
         g .spelt,
         g .used,
+        hidden-stay (same-records st (g .longer)) (st .recorded) (k .records) (omega arith),
         decls-stay (same-records st (g .longer)) (st .recorded) (k .records) (omega arith),
         roots-stay (same-records st (g .longer)) (st .recorded) (k .records) (omega arith),
       )
@@ -112,6 +113,7 @@ module _ {file names refs rows recs lists names′ refs′ rows′ : List ℕ} {
         };
         few-marks = s .few-marks;
         stocked = s .stocked;
+        hiding = s .hiding;
       }
 
   -- what reading a term line comes to
@@ -142,7 +144,7 @@ module _ {file names refs rows recs lists names′ refs′ rows′ : List ℕ} {
 -- ---- an ask
 
 -- an ask takes no name
-ask-takes : (exclude : List Name) (ts : List Term) (n q options : ℕ) → collect taken-by (summarize-decl exclude ts n (ask q options)) ≡ []
+ask-takes : (exclude : List Name) (ts : List Term) (n q options : ℕ) → collect taken-by (summarize-decl exclude ts n (head (ask q options))) ≡ []
 unfolding collect summarize-decl
 ask-takes exclude ts n q options = refl
 
@@ -154,8 +156,8 @@ module _ {file names refs rows recs lists recs′ : List ℕ} {k : Counts} (n : 
   ask-read (asks {q} {options} e a) = record {
     reads = goes-on {k′ = with-ask k}
         (ap (λ r. judged n (state-of file names refs rows recs lists k) r) e
-        ∙ judged-within n (state-of file names refs rows recs lists k) (ask q options)
-        (repeats-none n (state-of file names refs rows recs lists k) (ask q options) (ask-takes _ _ n q options))
+        ∙ judged-within n (state-of file names refs rows recs lists k) (head (ask q options))
+        (repeats-none n (state-of file names refs rows recs lists k) (head (ask q options)) (ask-takes _ _ n q options))
         (ask-state st a n) (standing-within (ask-standing st a)))
         (ask-standing st a);
     past = past-records names refs rows lists (same-wider 0 working-words (omega arith) (omega arith) (a .same));

@@ -1,12 +1,13 @@
 -- The form of a line, and the loop over the lines of a file.
-use Prim.Native.Nat.{ℕ, _+_, _≤_, _<_}
+use Prim.Native.Nat.{ℕ, suc, _+_, _≤_, _<_}
 use native.Mathlib.Omega.{arith}
 use mathlib.Core.Path.{_≡_, refl, sym, ap, ap₂, _∙_}
-use mathlib.Core.Bool.{Bool, true, false, cond, not}
+use mathlib.Core.Bool.{Bool, true, false, cond, not, _&&_}
+use mathlib.Core.Logic.{⊎-elim}
 use mathlib.Core.List.{List, [], _∷_}
 use lib.Dec.{T, eqb}
 use lib.ListN.{length, drop}
-use borrow.Author.Tests.{eqb-true}
+use borrow.Author.Tests.{eqb-true, eq-eqb, ne-eqb}
 use Rattle.model.specs.Summaries.{exclude-names}
 use Rattle.model.specs.Lists.{fold-left, is-nil, part}
 use Rattle.model.specs.Lines.{lines, Field, fields}
@@ -36,15 +37,17 @@ use Rattle.fields.specs.declared.RecordKind.{RecordKind}
 use Rattle.fields.specs.Wording.{kind-result, term-kind, record-line-kind, Placing, well-counted}
 use Rattle.fields.proofs.Words.{parse-law}
 use Rattle.words.proofs.Slices.{same-then, same-wider}
-use Rattle.records.specs.States.{asks-of, decls-of, roots-of, state-of}
+use Rattle.records.specs.States.{asks-of, decls-of, roots-of, hides-of, state-of}
 use Rattle.records.specs.Columns.{taken-column, first-column, ask-room}
 use Rattle.macros.specs.Macros.{Macros-opened}
-use Rattle.records.proofs.Standing.{Beside, standing-start, decls-longer, roots-longer}
+use Rattle.records.proofs.Standing.{Beside, standing-start, hidden-longer, decls-longer, roots-longer}
 use Rattle.macros.proofs.Filling.{standing-filled}
 use Rattle.names.proofs.Coded.{table-kept}
 use Rattle.terms.proofs.Table.{terms-named}
 use Rattle.records.specs.Adding.{Standing, judge}
 use Rattle.records.proofs.Judging.{line-judged}
+use Rattle.records.proofs.Recording.{records-length}
+use Rattle.terms.proofs.Laws.{equal}
 use Rattle.records.proofs.Appending.{terms-length}
 use Rattle.records.proofs.Asking.{asks-none}
 use Rattle.records.specs.Writing.{no-counts}
@@ -108,6 +111,10 @@ module _ (count : ℕ) (fs : List Field) {k : Kind} where
   unfolding kind-content kind-result
   kind-ask e = rw e
 
+  pub kind-hide : k ≡ kinded.Hide → kind-content k count fs ≡ content kind.Hide count fs
+  unfolding kind-content kind-result
+  kind-hide e = rw e
+
   pub kind-term : {t : TermKind} → k ≡ kinded.Term t → kind-content k count fs ≡ content (term-kind t) count fs
   unfolding kind-content kind-result
   kind-term e = rw e
@@ -137,14 +144,47 @@ module _ (s : State) {count : ℕ} (terms : length (s .terms) ≡ count) {all : 
     where
       go : (k : Kind) → _≡_ {A = Result Content} (kind-result k >>= λ l. refused refusal.Form) (refused refusal.Form)
       go kinded.Ask = refl
+      go kinded.Hide = refl
       go (kinded.Term t) = refl
       go (kinded.Record r) = refl
       go kinded.No = refl
 
+-- a list is empty where its length is 0
+nil-length : {A : Type 0} (l : List A) → is-nil l ≡ eqb (length l) 0
+unfolding is-nil
+nil-length [] = refl
+nil-length (x ∷ l) = sym (ne-eqb (suc (length l)) 0 (λ e. omega arith))
+
+-- and two are where their lengths are 0 together
+nil-both : {A B : Type 0} (l : List A) (m : List B) → (is-nil l && is-nil m) ≡ eqb (length l + length m) 0
+unfolding is-nil
+nil-both [] m =
+    let e : length m ≡ 0 + length m = omega arith in
+    nil-length m ∙ ap (λ n. eqb n 0) e
+nil-both (x ∷ l) m = sym (ne-eqb (suc (length l) + length m) 0 (λ e. omega arith))
+
+-- a part is none where the whole is the other part
+rest-none : (a b n : ℕ) → a + b ≡ n → eqb b 0 ≡ eqb n a
+rest-none a b n h = ⊎-elim
+    (λ (e : b ≡ 0). eq-eqb b 0 e ∙ sym (eq-eqb n a (omega arith)))
+    (λ (d : b ≡ 0 → ⊥). ne-eqb b 0 d ∙ sym (ne-eqb n a (λ e. omega arith)))
+    (equal b 0)
+
 -- what of the tables decides where a line may stand
-pub placing : (file names refs rows recs lists : List ℕ) (k : Counts) → Placing (state-of file names refs rows recs lists k) k
+pub placing : {file names refs rows recs lists : List ℕ} {k : Counts} → Standing file names refs rows recs lists k
+    → Placing (state-of file names refs rows recs lists k) k
 unfolding state-of
-placing file names refs rows recs lists k = record { no-asks = asks-none recs (k .asks) }
+placing {file} {names} {refs} {rows} {recs} {lists} {k} st =
+    let decls = decls-of (name-of file names) recs lists (k .records) in
+    let roots = roots-of (name-of file names) recs lists (k .records) in
+    record {
+      no-asks = asks-none recs (k .asks);
+      no-terms = nil-length (terms-in file names refs rows (k .references) (k .terms))
+          ∙ ap (λ n. eqb n 0) (terms-length file names refs rows (k .references) (k .terms));
+      no-records = nil-both decls roots
+          ∙ rest-none (k .hides) (length decls + length roots) (k .records)
+          (omega (arith, st .hiding .counted, records-length (name-of file names) recs lists (k .records)));
+    }
 
 -- the terms of the tables
 pub terms-counted : (file names refs rows recs lists : List ℕ) (k : Counts) → length (state-of file names refs rows recs lists k .terms) ≡ k .terms
@@ -175,7 +215,7 @@ no-lines (b ∷ bs) h = absurd (omega arith)
 
 -- the state before line 1
 start-state : (file names refs rows recs lists : List ℕ) → start ≡ state-of file names refs rows recs lists no-counts
-unfolding start state-of asks-of terms-in terms-of nodes-below fold-left table-names decls-of roots-of
+unfolding start state-of asks-of terms-in terms-of nodes-below fold-left table-names decls-of roots-of hides-of
 start-state file names refs rows recs lists = refl
 
 -- one line of some
@@ -295,6 +335,7 @@ opened-state {file} {names} {refs} {rows} {recs} {lists} {names′} {k} st o =
     } in
     rw (
       kept .names,
+      hidden-longer st beside,
       decls-longer st beside,
       roots-longer st beside,
       terms-named (name-of file names′) (name-of file names) (kept .name) (st .tables .term-table),

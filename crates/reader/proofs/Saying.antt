@@ -3,7 +3,7 @@ use Prim.Native.Nat.{ℕ, _≤_, _<_}
 use mathlib.Core.Path.{_≡_, refl}
 use mathlib.Core.List.{List}
 use Rattle.model.specs.Lines.{Field}
-use Rattle.model.specs.Reading.{ok, refused, next, end, number-field, ask, content}
+use Rattle.model.specs.Reading.{ok, refused, next, end, number-field, head, ask, content}
 use Rattle.model.specs.declared.LineKind.the-variants as kind
 use Rattle.model.specs.declared.Refusal.{Refusal}
 use Rattle.model.specs.declared.Refusal.the-variants as refusal
@@ -22,13 +22,13 @@ use Rattle.reader.specs.Lines.{Asks, asks, not-asked}
 
 module _ (count : ℕ) (fs : List Field) where
   pub ask-is : {q options : ℕ} {gs hs : List Field} → next (number-field 255) fs ≡ ok (q, gs) → next (number-field 7) gs ≡ ok (options, hs)
-      → end (ask q options) hs ≡ ok (ask q options)
-      → content kind.Ask count fs ≡ ok (ask q options)
+      → end (head (ask q options)) hs ≡ ok (head (ask q options))
+      → content kind.Ask count fs ≡ ok (head (ask q options))
   unfolding content
   ask-is a b e = rw (a, b, e)
 
   pub ask-more : {q options : ℕ} {gs hs : List Field} → next (number-field 255) fs ≡ ok (q, gs) → next (number-field 7) gs ≡ ok (options, hs)
-      → end (ask q options) hs ≡ refused refusal.Form
+      → end (head (ask q options)) hs ≡ refused refusal.Form
       → content kind.Ask count fs ≡ refused refusal.Form
   unfolding content
   ask-more a b e = rw (a, b, e)
@@ -62,11 +62,11 @@ module _ {file : List ℕ} {c : Cursor} (k : Counts) (p : Placed file c) {r : Nu
     pub asks-more : {recs : List ℕ} {options : ℕ} {l : Cursor} → s ≡ numbered.Number options l → l .at ≤ l .end
         → Asks recs recs k (content kind.Ask (k .terms) (fields-left file c)) (step.Refused refusal.Form)
     asks-more {options = options} {l} e h = not-asked {x = refusal.Form}
-        (ask-more (k .terms) (fields-left file c) (number-read p 255 a b) (number-read after 7 d e) (end-more (ask q options) file l h)) refl
+        (ask-more (k .terms) (fields-left file c) (number-read p 255 a b) (number-read after 7 d e) (end-more (head (ask q options)) file l h)) refl
 
     -- it asks
     pub asks-is : {recs recs′ : List ℕ} {options : ℕ} {l : Cursor} {f : Counts} → s ≡ numbered.Number options l → l .end < l .at
         → f ≡ with-ask k → Asked-at recs recs′ k q options
         → Asks recs recs′ k (content kind.Ask (k .terms) (fields-left file c)) (step.On f)
     asks-is {options = options} {l} e h z w = rw z (asks {q = q} {options = options}
-        (ask-is (k .terms) (fields-left file c) (number-read p 255 a b) (number-read after 7 d e) (end-none (ask q options) file l h)) w)
+        (ask-is (k .terms) (fields-left file c) (number-read p 255 a b) (number-read after 7 d e) (end-none (head (ask q options)) file l h)) w)

@@ -5,7 +5,7 @@ use mathlib.Core.List.{List}
 use lib.ListN.{length, getD}
 use Rattle.model.specs.Summaries.{exclude-names}
 use Rattle.model.specs.Lines.{Field}
-use Rattle.model.specs.Reading.{Result, ok, refused, _>>=_, Content, ask, content, read-file, read, refused-at}
+use Rattle.model.specs.Reading.{Result, ok, refused, _>>=_, Content, head, ask, content, read-file, read, refused-at}
 use Rattle.model.specs.Outcome.{most-bytes, working-words}
 use Rattle.model.specs.declared.Counts.{Counts}
 use Rattle.model.specs.declared.Refusal.{Refusal}
@@ -26,7 +26,7 @@ kind-content k count fs = kind-result k >>= λ l. content l count fs
 
 -- what reading an `ask` comes to: it stands behind the records, or its refusal
 pub data Asks (recs recs′ : List ℕ) (k : Counts) (said : Result Content) : Step → Type 0 where
-  asks : {q options : ℕ} → said ≡ ok (ask q options) → Asked-at recs recs′ k q options → Asks recs recs′ k said (step.On (with-ask k))
+  asks : {q options : ℕ} → said ≡ ok (head (ask q options)) → Asked-at recs recs′ k q options → Asks recs recs′ k said (step.On (with-ask k))
   not-asked : {x : Refusal} → said ≡ refused x → recs′ ≡ recs → Asks recs recs′ k said (step.Refused x)
 
 -- what reading a file asks: the lengths that a call has checked, and cleared names and rows

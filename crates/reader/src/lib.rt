@@ -67,6 +67,7 @@ fn read_kind(
 {
     match kind {
         Kind::Ask => read_ask(file, recs, k, c),
+        Kind::Hide => filing::read_hide(file, names, refs, rows, recs, lists, k, n, c),
         Kind::Term(t) => nodes::read_term(file, names, refs, rows, k, t, c),
         Kind::Record(r) => filing::read_record(file, names, refs, rows, recs, lists, k, n, r, c),
         Kind::No => Step::Refused(Refusal::Form),
@@ -126,6 +127,7 @@ pub fn read_file(
     }
     let mut k = Counts {
         asks: 0,
+        hides: 0,
         names: 0,
         references: 0,
         terms: 0,

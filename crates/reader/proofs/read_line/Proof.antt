@@ -34,7 +34,7 @@ returns c =
     let entry = at-field .before .before .before .before .before .before .before in
     line-not _ _ _ _ _ _ _ _ refusal.Form (parse-count _ (terms-counted _ _ _ _ _ _ _) (fields-first _ _ _ (entry .pre .1) (entry .pre .2)
     (entry .pre .0 .tables .name-table .short) (at-field .field .ensures) (at-start .start .given .1)) _
-    (c .before .before .line-kind .ensures _ (placing _ _ _ _ _ _ _)) (not-true (c .before .counted .ensures _) (c .if1 .taken)))
+    (c .before .before .line-kind .ensures _ (placing (entry .pre .0))) (not-true (c .before .counted .ensures _) (c .if1 .taken)))
 
 read-kind-requires : tie.Need-read-kind-requires
 read-kind-requires c κs =
@@ -43,7 +43,7 @@ read-kind-requires c κs =
     let at-field = at-start .before .before in
     let entry = at-field .before .before .before .before .before .before .before in
     let a = entry .args in
-    let p = placing (a .file .now) (a .names .now) (a .refs .now) (a .rows .now) (a .recs .now) (a .lists .now) (a .k) in (
+    let p = placing (entry .pre .0) in (
       entry .pre .0,
       (field-placed (entry .pre .1) (entry .pre .2) (entry .pre .0 .tables .name-table .short) (at-field .field .ensures) (at-start .start .given .1)) .0,
       entry .pre .3,
@@ -78,7 +78,7 @@ returns-2 c =
     let at-field = at-start .before .before in
     let entry = at-field .before .before .before .before .before .before .before in
     line-said (parse-on _ (terms-counted _ _ _ _ _ _ _) (fields-first _ _ _ (entry .pre .1) (entry .pre .2) (entry .pre .0 .tables .name-table .short)
-    (at-field .field .ensures) (at-start .start .given .1)) _ (at-line-kind .line-kind .ensures _ (placing _ _ _ _ _ _ _))
+    (at-field .field .ensures) (at-start .start .given .1)) _ (at-line-kind .line-kind .ensures _ (placing (entry .pre .0)))
     (not-false (at-counted .counted .ensures _) (at-if1 .if1 .left)))
     (at-read-kind .read-kind .ensures)
 
