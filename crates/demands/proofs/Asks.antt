@@ -2,7 +2,7 @@
 -- ranges.
 use Prim.Native.Nat.{ℕ, _+_}
 use native.Mathlib.Omega.{arith}
-use mathlib.Core.Path.{_≡_, refl, sym, _∙_, ap, ap₂}
+use mathlib.Core.Path.{_≡_, refl, sym, _∙_, ap}
 use mathlib.Core.Logic.{_↔_, ⊎-elim}
 use mathlib.Core.Bool.{Bool, true, false, cond, not, _&&_, _||_}
 use mathlib.Core.List.{List, [], _∷_, _++_, append-nil, List·Memᴰ, List·Memᴰ·not-nil, List·Memᴰ·head, List·Memᴰ·cases-cons, List·Memᴰ·eq-of-singleton}
@@ -16,7 +16,7 @@ use Rattle.model.specs.Reading.{Head, State, start, read, in-head, may-stand, h
 use Rattle.model.proofs.ListLaws.{any-intro, any-elim, all-intro, all-elim, T-and, T-false}
 use Rattle.model.proofs.SetLaws.{same-eq, eq-same}
 use Rattle.demands.specs.Counts.{ask-words, hide-words, is-word, begins}
-use Rattle.demands.specs.Asks.{head-words, Placed-kind, Stands-exact, Head-first, Accepted-head-first, One-ask, Accepted-asks}
+use Rattle.demands.specs.Asks.{head-words, Placed-kind, Stands-exact, Accepted-head-first, One-ask, Accepted-asks}
 use Rattle.laws.proofs.ReadingLaws.{not-read, lines-read, none-read, file-read}
 use Rattle.demands.proofs.LineFields.{place-by, known-place, Head-by, one-ask, one-hide, no-head}
 use Rattle.demands.proofs.Heads.{and-true, Headed, headed-line}
@@ -61,7 +61,7 @@ or-not true b t u = absurd t
 or-not false b t u = u
 
 -- the head goes on as long as the lines are of it
-on-lines : (ls : List Line) (n : ℕ) (s t : State) → read-lines exclude-names n s ls ≡ read t → in-head t ≡ (in-head s && all (begins head-words) ls)
+pub on-lines : (ls : List Line) (n : ℕ) (s t : State) → read-lines exclude-names n s ls ≡ read t → in-head t ≡ (in-head s && all (begins head-words) ls)
 unfolding all begins
 on-lines [] n s t e = ap in-head (sym (none-read exclude-names n s t e)) ∙ sym (and-true (in-head s))
 on-lines (line ∷ ls) n s t e =
@@ -90,7 +90,7 @@ no-head-later (line ∷ ls) n s t e some out l i =
     ⊎-elim (λ p. rw p here) (no-head-later ls (n + 1) u t others (rw (no-ask-now h some .1) some) later l) (List·Memᴰ·cases-cons i)
 
 -- lines that are read after the ask: hide lines, then lines of which none is of the head; and nothing more is asked
-record Split-head (ls : List Line) (s t : State) : Type 0 where
+pub record Split-head (ls : List Line) (s t : State) : Type 0 where
   hides : List Line
   others : List Line
   are : ls ≡ hides ++ others
@@ -144,17 +144,17 @@ split-head (line ∷ ls) n s t e some =
         and-out false = tt
 
 -- after the first line one thing is asked
-asked-once : {s : State} → One-ask s → T (not (is-nil (s .asks)))
+pub asked-once : {s : State} → One-ask s → T (not (is-nil (s .asks)))
 asked-once o = rw (o .one) (unfold is-nil in tt)
 
 -- lines that are read from the start: the first is an ask, the others are as they are after it, and one thing is asked
-record Read-head (first : Line) (others : List Line) (t : State) : Type 0 where
+pub record Read-head (first : Line) (others : List Line) (t : State) : Type 0 where
   after : State
   is-ask : T (begins ask-words first)
   split : Split-head others after t
-  one-thing : One-ask t
+  pub one-thing : One-ask t
 
-read-head : (line : Line) (ls : List Line) (t : State) → read-lines exclude-names 1 start (line ∷ ls) ≡ read t → Read-head line ls t
+pub read-head : (line : Line) (ls : List Line) (t : State) → read-lines exclude-names 1 start (line ∷ ls) ≡ read t → Read-head line ls t
 unfolding start
 read-head line ls t e =
     let (u, r, others) = lines-read exclude-names 1 start line ls t e in

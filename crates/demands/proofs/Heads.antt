@@ -9,7 +9,7 @@ use lib.ListN.{getD}
 use Rattle.model.specs.Lists.{collect, fold-left, is-nil}
 use Rattle.model.specs.Names.{Name}
 use Rattle.model.specs.Lines.{Line, Field, fields}
-use Rattle.model.specs.Terms.{Term, add-term}
+use Rattle.model.specs.Terms.{add-term}
 use Rattle.model.specs.Reading.{Head, Content, head, term, assume, fun, def, retain, root, ok, State, read, in-head, may-stand, head-asks, hidden-by, heads, nodes, summarize-decl, root-of, excluded, add-line, read-line, read-lines}
 use Rattle.model.proofs.ListLaws.{T-and, T-false}
 use Rattle.demands.specs.Counts.{ask-words, hide-words, begins}

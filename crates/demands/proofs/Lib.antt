@@ -16,6 +16,9 @@ pub mod StateLaws
 pub mod Counts
 pub mod Queries
 pub mod Asks
+pub mod Moved
+pub mod SameNames
+pub mod Unspelled
 pub mod Hidden
 pub mod Refusals
 pub mod SaidLines

@@ -102,7 +102,7 @@ module _ (s : State) (f : Field) (fs : List Field) where
       parse-miscounted t = parse-allowed ∙ cond-true (other-count (length (f ∷ fs)) (fixed-count s k)) _ _ t
 
       -- a line with its field count is what its fields are read as
-      parse-fields : T (not (other-count (length (f ∷ fs)) (fixed-count s k))) → parse s (f ∷ fs) ≡ content k (length (s .terms)) fs
+      pub parse-fields : T (not (other-count (length (f ∷ fs)) (fixed-count s k))) → parse s (f ∷ fs) ≡ content k (length (s .terms)) fs
       parse-fields t = parse-allowed ∙ cond-false (other-count (length (f ∷ fs)) (fixed-count s k)) _ _ t
 
   module _ {r : Refusal} (q : parse s (f ∷ fs) ≡ refused r) where

@@ -1,12 +1,22 @@
--- Document 02, Change 6: the names that are no free names, and what hiding one does.
+-- Document 02, Change 6: the names that are no free names; and that hiding a name which no line spells changes no answer.
+use Prim.Native.Nat.{ℕ, _+_, _<_}
 use mathlib.Core.Path.{_≡_}
-use mathlib.Core.List.{List, [], _++_, map}
-use lib.ListN.{getD}
+use mathlib.Core.Logic.{_≢_}
+use mathlib.Core.List.{List, [], _∷_, _++_, map, List·Memᴰ}
+use lib.Dec.{T}
+use lib.ListN.{length, getD}
 use Rattle.model.specs.Lists.{keep}
-use Rattle.model.specs.Lines.{Line, fields}
+use Rattle.model.specs.Names.{Name, bytes}
+use Rattle.model.specs.Lines.{Line, lines, fields, is-name}
 use Rattle.model.specs.Summaries.{exclude-names}
-use Rattle.model.specs.Reading.{State, start, read, excluded, read-lines}
+use Rattle.model.specs.Reading.{Ask, State, start, read, excluded, read-lines}
+use Rattle.model.specs.Outcome.{listing}
+use Rattle.model.specs.Text.{name-on}
+use Rattle.demands.specs.LinesRead.{Lines-read, records-for}
+use Rattle.demands.specs.Demand2.{kept-list}
 use Rattle.demands.specs.Counts.{hide-words, begins}
+use Rattle.demands.specs.Asks.{head-words}
+use Rattle.demands.specs.Moved.{moved-outcome}
 
 -- "Their names join the nine of `exclude_names`": the second fields of the hide lines, in the order of the lines, wherever a file is
 -- read up to
@@ -14,3 +24,40 @@ abbrev pub Excluded-exact : Type 0
 Excluded-exact =
     (ls : List Line) (s : State) → read-lines exclude-names 1 start ls ≡ read s
     → excluded exclude-names s ≡ exclude-names ++ map (λ line. getD (fields (line .bytes)) 1 []) (keep (begins hide-words) ls)
+
+-- two lists of lines: the second has one more, a line of the head behind the ask, which hides this name
+pub record One-hides (name : Name) (ls ms : List Line) : Type 0 where
+  pub front : List Line
+  pub hide-line : Line
+  pub others : List Line
+  pub without : ls ≡ front ++ others
+  pub with-it : ms ≡ front ++ (hide-line ∷ others)
+  pub behind-ask : front ≢ []
+  pub in-head : (l : Line) → List·Memᴰ l front → T (begins head-words l)
+  pub ended : T (hide-line .ended)
+  pub hides : fields (hide-line .bytes) ≡ bytes "hide" ∷ name ∷ []
+  pub a-name : T (is-name name)
+
+-- a file that was read spells no such name, and has room for one name and one record line more
+pub record Room-for (name : Name) (s : State) : Type 0 where
+  pub unspelled : List·Memᴰ name (s .names) → ⊥
+  pub names-left : length (s .names) < 2048
+  pub records-left : length (s .hidden) + (length (s .decls) + length (s .roots)) < 1024
+
+-- the line below
+abbrev pub down : ℕ → ℕ
+down n = n + 1
+
+-- the second file is accepted, and every ask has the same list there, one line down, the same names, visits and rounds
+pub record One-down (file file′ : List ℕ) (s s′ : State) : Type 0 where
+  pub accepted : Lines-read file′ s′
+  pub asks : s′ .asks ≡ s .asks
+  pub listed : (a : Ask) → listing a (records-for a s′) (s′ .roots) ≡ moved-outcome down (listing a (records-for a s) (s .roots))
+  pub kept : (a : Ask) → kept-list a s′ ≡ map down (kept-list a s)
+  pub named : (a : Ask) → map (name-on file′) (kept-list a s′) ≡ map (name-on file) (kept-list a s)
+
+-- so it is where the first file is accepted
+abbrev pub Unspelled-hidden : Type 0
+Unspelled-hidden =
+    (file file′ : List ℕ) (s : State) (name : Name) → Lines-read file s → Room-for name s → One-hides name (lines file) (lines file′)
+    → (s′ : State) × One-down file file′ s s′

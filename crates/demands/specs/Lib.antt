@@ -12,6 +12,7 @@ pub mod Room
 pub mod FileOrder
 pub mod Counts
 pub mod Asks
+pub mod Moved
 pub mod Hidden
 pub mod Order
 pub mod Options

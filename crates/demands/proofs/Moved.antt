@@ -1,0 +1,207 @@
+-- Nothing but the lines told depends on the lines of the records.
+use Prim.Native.Nat.{ℕ, zero, suc, _+_}
+use mathlib.Core.Path.{_≡_, refl, sym, _∙_, ap, ap₂}
+use mathlib.Core.Bool.{Bool, true, false, cond, not, _&&_}
+use mathlib.Core.List.{List, [], _∷_, _++_, map, map-map, map-append, reverse}
+use lib.ListN.{length}
+use Rattle.model.specs.Lists.{keep, collect, is-nil}
+use Rattle.model.specs.Names.{Name, same, mem, union}
+use Rattle.model.specs.Summaries.{Fact}
+use Rattle.model.specs.Reading.{Ask, Decl, Summary, Sum-assume, Sum-definefun, Sum-declfun, Sum-retain, Root, no-ambients, prune-decls}
+use Rattle.model.specs.Pruning.{Map, init-macro-freenames}
+use Rattle.model.specs.Rounds.{Run, first-run, most-rounds, facts, definitions, declarations, macros, listed, filed, triggers-in, retainable, met-after, triggered, fresh, after-round, next-scanned, rounds-from, is-ambient, is-ambient-root, asks-for, goal-roots, ambient-roots, first-scanned, run, visits}
+use Rattle.model.specs.Kept.{reached-facts, ambients, kept-facts, kept-names, first-met, kept-decls, kept}
+use Rattle.model.specs.Outcome.{listing}
+use Rattle.model.proofs.ListLaws.{cond-ap, collect-map, collect-cong, map-collect, map-reverse}
+use Rattle.demands.specs.Moved.{moved-fact, moved-decl, moved, moved-root, moved-outcome, Lines-apart}
+
+-- to keep of changed elements is to change those kept, where the test does not see the change
+keep-map : {A B : Type 0} (f : A → B) (test : B → Bool) (l : List A) → keep test (map f l) ≡ map f (keep (λ x. test (f x)) l)
+unfolding keep
+keep-map f test [] = refl
+keep-map f test (x ∷ l) = go (test (f x)) (keep-map f test l)
+  where
+    go : (b : Bool) → keep test (map f l) ≡ map f (keep (λ x. test (f x)) l)
+        → cond b (f x ∷ keep test (map f l)) (keep test (map f l)) ≡ map f (cond b (x ∷ keep (λ x. test (f x)) l) (keep (λ x. test (f x)) l))
+    go true e = ap (f x ∷_) e
+    go false e = e
+
+pub map-length : {A B : Type 0} (f : A → B) (l : List A) → length (map f l) ≡ length l
+map-length f [] = refl
+map-length f (x ∷ l) = ap suc (map-length f l)
+
+pub nil-map : {A B : Type 0} (f : A → B) (l : List A) → is-nil (map f l) ≡ is-nil l
+unfolding is-nil
+nil-map f [] = refl
+nil-map f (x ∷ l) = refl
+
+module _ (to : ℕ → ℕ) where
+  -- the records of each sort
+  pub moved-facts : (decls : List Summary) → facts (map (moved to) decls) ≡ map (moved-fact to) (facts decls)
+  unfolding facts moved
+  moved-facts [] = refl
+  moved-facts (Sum-assume f ∷ decls) = ap (moved-fact to f ∷_) (moved-facts decls)
+  moved-facts (Sum-definefun d ∷ decls) = moved-facts decls
+  moved-facts (Sum-declfun d ∷ decls) = moved-facts decls
+  moved-facts (Sum-retain ∷ decls) = moved-facts decls
+
+  pub moved-definitions : (decls : List Summary) → definitions (map (moved to) decls) ≡ map (moved-decl to) (definitions decls)
+  unfolding definitions moved
+  moved-definitions [] = refl
+  moved-definitions (Sum-assume f ∷ decls) = moved-definitions decls
+  moved-definitions (Sum-definefun d ∷ decls) = ap (moved-decl to d ∷_) (moved-definitions decls)
+  moved-definitions (Sum-declfun d ∷ decls) = moved-definitions decls
+  moved-definitions (Sum-retain ∷ decls) = moved-definitions decls
+
+  pub moved-declarations : (decls : List Summary) → declarations (map (moved to) decls) ≡ map (moved-decl to) (declarations decls)
+  unfolding declarations moved
+  moved-declarations [] = refl
+  moved-declarations (Sum-assume f ∷ decls) = moved-declarations decls
+  moved-declarations (Sum-definefun d ∷ decls) = moved-declarations decls
+  moved-declarations (Sum-declfun d ∷ decls) = ap (moved-decl to d ∷_) (moved-declarations decls)
+  moved-declarations (Sum-retain ∷ decls) = moved-declarations decls
+
+  -- what the runs see of them
+  moved-macros : (decls : List Summary) → macros (map (moved to) decls) ≡ macros decls
+  unfolding macros moved-decl
+  moved-macros decls =
+      ap (_++ init-macro-freenames) (ap (map (λ (d : Decl). (d .name, d .free-names))) (moved-definitions decls)
+      ∙ map-map (λ (d : Decl). (d .name, d .free-names)) (moved-decl to) (definitions decls))
+
+  module _ (fs : List Fact) where
+    moved-filed : filed (map (moved-fact to) fs) ≡ filed fs
+    unfolding filed listed moved-fact
+    moved-filed = collect-map listed (moved-fact to) fs
+
+    module _ (a : Ask) (ms : Map (List Name)) where
+      moved-triggered : (r : Run) (scanned : List Name) → triggered ms (map (moved-fact to) fs) r scanned ≡ map (moved-fact to) (triggered ms fs r scanned)
+      unfolding triggered triggers-in listed moved-fact
+      moved-triggered r scanned = keep-map (moved-fact to) (triggers-in (r .met) (met-after ms r scanned)) fs
+
+      moved-fresh : (r : Run) (scanned : List Name) → fresh a ms (map (moved-fact to) fs) r scanned ≡ map (moved-fact to) (fresh a ms fs r scanned)
+      unfolding fresh retainable moved-fact
+      moved-fresh r scanned =
+          let test : Fact → Bool = λ f. retainable a f && not (mem (f .name) (r .reached)) in
+          ap (keep test) (moved-triggered r scanned) ∙ keep-map (moved-fact to) test (triggered ms fs r scanned)
+
+      moved-after : (r : Run) (scanned : List Name) → after-round a ms (map (moved-fact to) fs) r scanned ≡ after-round a ms fs r scanned
+      unfolding after-round moved-fact
+      moved-after r scanned =
+          ap (λ names. record { met = met-after ms r scanned; reached = union names (r .reached); rounds = r .rounds + 1 })
+          (ap (map (λ (f : Fact). f .name)) (moved-fresh r scanned) ∙ map-map (λ (f : Fact). f .name) (moved-fact to) (fresh a ms fs r scanned))
+
+      moved-next : (r : Run) (scanned : List Name) → next-scanned a ms (map (moved-fact to) fs) r scanned ≡ next-scanned a ms fs r scanned
+      unfolding next-scanned moved-fact
+      moved-next r scanned =
+          ap (collect (λ (f : Fact). f .free-names)) (moved-fresh r scanned) ∙ collect-map (λ (f : Fact). f .free-names) (moved-fact to) (fresh a ms fs r scanned)
+
+      moved-rounds : (fuel : ℕ) (r : Run) (scanned : List Name) → rounds-from a ms (map (moved-fact to) fs) fuel r scanned ≡ rounds-from a ms fs fuel r scanned
+      unfolding rounds-from
+      moved-rounds zero r scanned = refl
+      moved-rounds (suc fuel) r scanned =
+          rw (moved-triggered r scanned, nil-map (moved-fact to) (triggered ms fs r scanned), moved-after r scanned, moved-next r scanned, moved-rounds fuel (after-round a ms fs r scanned) (next-scanned a ms fs r scanned))
+
+  moved-goal : (a : Ask) (roots : List Root) → goal-roots a (map (moved-root to) roots) ≡ map (moved-root to) (goal-roots a roots)
+  unfolding goal-roots moved-root
+  moved-goal a roots = keep-map (moved-root to) (λ (r : Root). asks-for a (r .query)) roots
+
+  free-in-roots : (rs : List Root) → collect (λ (r : Root). r .free-names) (map (moved-root to) rs) ≡ collect (λ (r : Root). r .free-names) rs
+  unfolding moved-root
+  free-in-roots rs = collect-map (λ (r : Root). r .free-names) (moved-root to) rs
+
+  moved-ambient-roots : (a : Ask) (fs : List Fact) → ambient-roots a (map (moved-fact to) fs) ≡ map (moved-fact to) (ambient-roots a fs)
+  unfolding ambient-roots moved-fact
+  moved-ambient-roots a fs =
+      ap (λ l. cond (no-ambients a) [] l) (keep-map (moved-fact to) (λ (f : Fact). is-ambient-root (f .kind)) fs)
+      ∙ sym (cond-ap (map (moved-fact to)) (no-ambients a) [] (keep (λ f. is-ambient-root (f .kind)) fs))
+
+  moved-first : (a : Ask) (fs : List Fact) (roots : List Root) → first-scanned a (map (moved-fact to) fs) (map (moved-root to) roots) ≡ first-scanned a fs roots
+  unfolding first-scanned moved-fact
+  moved-first a fs roots =
+      ap₂ _++_ (ap (collect (λ (r : Root). r .free-names)) (moved-goal a roots) ∙ free-in-roots (goal-roots a roots))
+      (ap (collect (λ (f : Fact). f .free-names)) (moved-ambient-roots a fs) ∙ collect-map (λ (f : Fact). f .free-names) (moved-fact to) (ambient-roots a fs))
+
+  -- the run
+  module _ (decls : List Summary) (roots : List Root) (a : Ask) where
+    moved-run : run a (map (moved to) decls) (map (moved-root to) roots) ≡ run a decls roots
+    unfolding run
+    moved-run =
+        rw (
+          moved-facts decls,
+          moved-macros decls,
+          moved-filed (facts decls),
+          moved-first a (facts decls) roots,
+          moved-rounds (facts decls) a (macros decls) (most-rounds (facts decls)) first-run (first-scanned a (facts decls) roots),
+        )
+
+  -- the kept facts
+  moved-kept-facts : (a : Ask) (fs : List Fact) (reached : List Name) → kept-facts a (map (moved-fact to) fs) reached ≡ map (moved-fact to) (kept-facts a fs reached)
+  unfolding kept-facts reached-facts ambients moved-fact
+  moved-kept-facts a fs reached =
+      ap₂ _++_
+      (collect-cong (λ n. keep (λ f. same (f .name) n) (map (moved-fact to) fs)) (λ n. map (moved-fact to) (keep (λ f. same (f .name) n) fs)) reached
+      (λ n i. keep-map (moved-fact to) (λ (f : Fact). same (f .name) n) fs)
+      ∙ sym (map-collect (moved-fact to) (λ n. keep (λ f. same (f .name) n) fs) reached))
+      (ap (λ l. cond (no-ambients a) [] (reverse l)) (keep-map (moved-fact to) (λ (f : Fact). is-ambient (f .kind)) fs)
+      ∙ ap (λ l. cond (no-ambients a) [] l) (sym (map-reverse (moved-fact to) (keep (λ f. is-ambient (f .kind)) fs)))
+      ∙ sym (cond-ap (map (moved-fact to)) (no-ambients a) [] (reverse (keep (λ f. is-ambient (f .kind)) fs))))
+      ∙ sym (map-append (moved-fact to) (collect (λ n. keep (λ f. same (f .name) n) fs) reached) (cond (no-ambients a) [] (reverse (keep (λ f. is-ambient (f .kind)) fs))))
+
+  -- the names free in what is kept
+  moved-kept-names : (a : Ask) (fs : List Fact) (roots : List Root) (reached : List Name)
+      → kept-names a (map (moved-fact to) fs) (map (moved-root to) roots) reached ≡ kept-names a fs roots reached
+  unfolding kept-names moved-fact
+  moved-kept-names a fs roots reached =
+      ap₂ _++_ (ap (collect (λ (f : Fact). f .free-names)) (moved-kept-facts a fs reached) ∙ collect-map (λ (f : Fact). f .free-names) (moved-fact to) (kept-facts a fs reached))
+      (ap (collect (λ (r : Root). r .free-names)) (moved-goal a roots) ∙ free-in-roots (goal-roots a roots))
+
+  -- the definitions, or declarations, of names
+  moved-kept-decls : (names : List Name) (ds : List Decl) → kept-decls names (map (moved-decl to) ds) ≡ map (moved-decl to) (kept-decls names ds)
+  unfolding kept-decls moved-decl
+  moved-kept-decls names ds =
+      collect-cong (λ n. keep (λ d. same (d .name) n) (map (moved-decl to) ds)) (λ n. map (moved-decl to) (keep (λ d. same (d .name) n) ds)) (reverse (first-met names))
+      (λ n i. keep-map (moved-decl to) (λ (d : Decl). same (d .name) n) ds)
+      ∙ sym (map-collect (moved-decl to) (λ n. keep (λ d. same (d .name) n) ds) (reverse (first-met names)))
+
+  -- the lines of moved records are the lines moved
+  fact-lines : (fs : List Fact) → map (λ (f : Fact). f .line) (map (moved-fact to) fs) ≡ map to (map (λ (f : Fact). f .line) fs)
+  unfolding moved-fact
+  fact-lines fs = map-map (λ (f : Fact). f .line) (moved-fact to) fs ∙ sym (map-map to (λ (f : Fact). f .line) fs)
+
+  decl-lines : (ds : List Decl) → map (λ (d : Decl). d .line) (map (moved-decl to) ds) ≡ map to (map (λ (d : Decl). d .line) ds)
+  unfolding moved-decl
+  decl-lines ds = map-map (λ (d : Decl). d .line) (moved-decl to) ds ∙ sym (map-map to (λ (d : Decl). d .line) ds)
+
+  -- the kept lines
+  moved-kept : (a : Ask) (decls : List Summary) (roots : List Root) (reached : List Name)
+      → kept a (map (moved to) decls) (map (moved-root to) roots) reached ≡ map to (kept a decls roots reached)
+  unfolding kept
+  moved-kept a decls roots reached =
+      let fs = facts decls in
+      let names = kept-names a fs roots reached in
+      let ds = kept-decls names (definitions decls) ++ kept-decls names (declarations decls) in
+      rw (
+        moved-facts decls,
+        moved-definitions decls,
+        moved-declarations decls,
+        moved-kept-names a fs roots reached,
+        moved-kept-facts a fs reached,
+        moved-kept-decls names (definitions decls),
+        moved-kept-decls names (declarations decls),
+        fact-lines (kept-facts a fs reached),
+        ← (map-append (moved-decl to) (kept-decls names (definitions decls)) (kept-decls names (declarations decls))),
+        decl-lines ds,
+      )
+      (ap (map to (map (λ (f : Fact). f .line) (kept-facts a fs reached)) ++_) (sym (cond-ap (map to) (prune-decls a) (map (λ (d : Decl). d .line) ds) []))
+      ∙ sym (map-append to (map (λ (f : Fact). f .line) (kept-facts a fs reached)) (cond (prune-decls a) (map (λ (d : Decl). d .line) ds) [])))
+
+-- what an ask comes to
+pub lines-apart : Lines-apart
+unfolding listing moved-outcome visits
+lines-apart to decls roots a =
+    rw (
+      moved-run to decls roots a,
+      moved-kept to a decls roots (run a decls roots .reached),
+      moved-facts to decls,
+      moved-filed to (facts decls),
+    )
