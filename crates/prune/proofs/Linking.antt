@@ -49,14 +49,6 @@ listed-from f (suc n) =
     ∙ sym (map-append f (from 0 n) (n ∷ []))
     ∙ ap (map f) (sym (from-snoc 0 n ∙ ap (λ i. from 0 n ++ (i ∷ [])) (let e : 0 + n ≡ n = omega arith in e)))
 
--- a root's kind is the last
-root-kinds : (kind : ℕ) → kind ≤ root-kind → ltb retain-kind kind ≡ eqb kind root-kind
-root-kinds kind h =
-    ⊎-elim
-    (λ (e : kind ≡ root-kind). lt-ltb retain-kind kind (omega arith) ∙ sym (eq-eqb kind root-kind e))
-    (λ (d : kind ≡ root-kind → ⊥). le-ltb retain-kind kind (omega arith) ∙ sym (ne-eqb kind root-kind d))
-    (equal kind root-kind)
-
 -- an ambient is picked where the tests of it hold
 ambient-one : (recs : List ℕ) (i : ℕ)
     → cond (is-fact recs i && is-ambient (kind-of-code (summary-code recs i))) (i ∷ []) [] ≡ record-behind (ambient-at recs i)
@@ -187,10 +179,7 @@ module _ {file names recs lists : List ℕ} {k : Counts} (x : Filled file names 
       goal-one a (roots-of name recs lists (k .records))
       ∙ ap (keep (λ r. eqb (r .query) (a .query))) (roots-are name recs lists (k .records))
       ∙ keep-map (λ r. eqb (r .query) (a .query)) (root-of name recs lists) (keep (is-root recs) numbers)
-      ∙ ap (map (root-of name recs lists))
-      (keep-keep (λ i. eqb (record-flag recs i) (a .query)) (is-root recs) numbers
-      ∙ keep-cong (λ i. is-root recs i && eqb (record-flag recs i) (a .query)) (is-goal recs a) numbers
-      (λ i m. ap (λ b. b && eqb (record-flag recs i) (a .query)) (root-kinds (record-kind recs i) (x .recorded .kinds i (from-below (k .records) m)))))
+      ∙ ap (map (root-of name recs lists)) (keep-keep (λ i. eqb (record-flag recs i) (a .query)) (is-root recs) numbers)
 
   -- ---- stamps
 

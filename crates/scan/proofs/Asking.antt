@@ -128,7 +128,7 @@ module _ {file names recs lists : List ℕ} {k : Counts} (x : Filled file names 
       let (z, u, v) = collect-elim (λ (r : Root). r .free-names) (goal-roots (ask-of a) roots) p in
       let (s, q) = goal-one-elim a roots u in
       let (i, l, c, e) = roots-elim name recs lists (k .records) s in
-      root-in i z l (ltb→lt retain-kind (record-kind recs i) c) e q v)
+      root-in i z l (eqb→eq (record-kind recs i) root-kind c) e q v)
       (λ p.
       let (f, u, v) = collect-elim (λ (f : Fact). f .free-names) (ambient-roots (ask-of a) fs) p in
       let (s, t, n) = ambient-in u in
@@ -136,12 +136,12 @@ module _ {file names recs lists : List ℕ} {k : Counts} (x : Filled file names 
       fact-in i f l (eqb→eq (record-kind recs i) assume-kind c) e t n v)
       (List·Memᴰ·append-cases (collect (λ (r : Root). r .free-names) (goal-roots (ask-of a) roots)) m)
     where
-      root-in : (i : ℕ) (z : Root) → i < k .records → retain-kind < record-kind recs i → z ≡ root-of name recs lists i → z .query ≡ a .query
+      root-in : (i : ℕ) (z : Root) → i < k .records → record-kind recs i ≡ root-kind → z ≡ root-of name recs lists i → z .query ≡ a .query
           → List·Memᴰ y (z .free-names) → Starts y
       root-in i z l c e q v = (
         i,
         l,
-        root-starts recs a i (omega (arith, x .recorded .kinds i l)) (ap (λ (r : Root). r .query) (sym e) ∙ q),
+        root-starts recs a i c (ap (λ (r : Root). r .query) (sym e) ∙ q),
         free-in i (subst (λ (r : Root). List·Memᴰ y (r .free-names)) e v),
       )
 
@@ -158,7 +158,7 @@ module _ {file names recs lists : List ℕ} {k : Counts} (x : Filled file names 
       ⊎-elim
       (λ (e, q). Memᴰ·append-left (collect (λ (f : Fact). f .free-names) (ambient-roots (ask-of a) fs))
       (collect-intro (λ (r : Root). r .free-names)
-      (goal-one-intro a (roots-intro name recs lists (k .records) i l (lt→ltb retain-kind (record-kind recs i) (omega arith))) q)
+      (goal-one-intro a (roots-intro name recs lists (k .records) i l (true-T (eq-eqb (record-kind recs i) root-kind e))) q)
       (free-out i m)))
       (λ (e, q, n). Memᴰ·append-right (collect (λ (r : Root). r .free-names) (goal-roots (ask-of a) roots))
       (collect-intro (λ (f : Fact). f .free-names)

@@ -18,7 +18,7 @@ use Rattle.model.proofs.PartLaws.{part-nil, part-length}
 use Rattle.laws.proofs.Records.{facts-append, definitions-append}
 use Rattle.terms.proofs.Laws.{equal}
 use Rattle.triggers.specs.Entries.{disjuncts-of, last-flag, no-name, entries-base}
-use Rattle.records.specs.Columns.{record-kind, record-line, record-name, record-flag, entries-start, entries-end, assume-kind, def-kind, retain-kind, entry-name, entry-fact}
+use Rattle.records.specs.Columns.{record-kind, record-line, record-name, record-flag, entries-start, entries-end, assume-kind, def-kind, root-kind, entry-name, entry-fact}
 use Rattle.records.specs.States.{entries-at, free-at, fact-at, decl-at, summary-at, root-at, decls-of, roots-of}
 use Rattle.records.specs.Filing.{Records, entries-before, Filing}
 use Rattle.scan.specs.Held.{upto}
@@ -67,7 +67,7 @@ is-definition recs i = eqb (record-kind recs i) def-kind
 
 -- whether it is a root
 abbrev pub is-root : List ℕ → ℕ → Bool
-is-root recs i = ltb retain-kind (record-kind recs i)
+is-root recs i = eqb (record-kind recs i) root-kind
 
 module _ (name : ℕ → Name) (recs lists : List ℕ) where
   -- the definition, the root of a record
@@ -145,13 +145,14 @@ module _ (name : ℕ → Name) (recs lists : List ℕ) where
 
   -- ---- roots
 
-  record-roots : (i kind : ℕ) → root-at name recs lists i kind ≡ cond (ltb retain-kind kind) (root-of i ∷ []) []
+  record-roots : (i kind : ℕ) → root-at name recs lists i kind ≡ cond (eqb kind root-kind) (root-of i ∷ []) []
   unfolding root-at
   record-roots i zero = refl
   record-roots i (suc zero) = refl
   record-roots i (suc (suc zero)) = refl
   record-roots i (suc (suc (suc zero))) = refl
-  record-roots i (suc (suc (suc (suc k)))) = rw (lt-ltb 3 (suc (suc (suc (suc k)))) (omega arith))
+  record-roots i (suc (suc (suc (suc zero)))) = refl
+  record-roots i (suc (suc (suc (suc (suc k))))) = rw (ne-eqb (suc (suc (suc (suc (suc k))))) root-kind (λ e. omega arith))
 
   pub next-roots : (n : ℕ) → roots-of name recs lists (suc n) ≡ roots-of name recs lists n ++ cond (is-root recs n) (root-of n ∷ []) []
   unfolding roots-of
