@@ -448,7 +448,7 @@ fn hide_lines(edges: &mut Vec<Edge>) {
         ("longer", "hides,p", 1),
         ("ask", "ask,0,0", 1),
     ] {
-        add_line(edges, format!("hide-then-{name}"), number, &head, line);
+        add_line(edges, format!("hide-line-{name}"), number, &head, line);
     }
     for (length, number) in [(1, 0), (255, 0), (256, 2), (300, 2)] {
         add_line(edges, format!("name-{length}-hide"), number, &head, format!("hide,{}", "x".repeat(length)));
@@ -460,10 +460,10 @@ fn hide_lines(edges: &mut Vec<Edge>) {
             add_line(edges, format!("hide-after-{}-{name}", line.replace(',', "-")), 1, &text, hide);
         }
     }
-    add_line(edges, "hide-on-line-1", 1, &Text::default(), "hide,p");
+    add_line(edges, "hide-line-first", 1, &Text::default(), "hide,p");
     let mut cut = head.clone();
     cut.raw(b"hide,p");
-    add(edges, "hide-no-0a", 1, cut);
+    add(edges, "hide-line-no-0a", 1, cut);
 
     let full = hiding(limits::RECORDS, 4);
     add_line(edges, "hide-lines-1024", 0, &hiding(limits::RECORDS - 1, 4), "hide,z");
