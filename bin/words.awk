@@ -9,6 +9,7 @@ BEGIN {
     # What stands in the fields after the kind: a query, options, a flag, a name, a word of an op, a term; `*` any count of the
     # last.
     form["ask"] = "query options"
+    form["hide"] = "name"
     form["free"] = "name"
     form["leaf"] = ""
     form["call"] = "name term*"
@@ -71,6 +72,7 @@ function end_line(ended) {
         judge(ended)
     } else {
         kind = text(1)
+        if (kind != "ask" && kind != "hide") past_head = 1
         if (kind in is_term) term_lines++
         if (kind in is_taken) taken[text(2)] = line
     }
@@ -117,6 +119,8 @@ function judge(ended,   kind) {
         fault(1, 1, quoted(1) " stands where ask has to: line 1 is ask,QUERY,OPTIONS")
     } else if (line != 1 && kind == "ask") {
         fault(1, 1, "ask may stand on line 1 only")
+    } else if (kind == "hide" && past_head) {
+        fault(1, 1, "hide may stand only directly after ask or another hide line")
     } else if (form[kind] !~ /\*|groups/ && fields != 1 + split(form[kind], parts, " ")) {
         fault(1, 0, "a line of kind " kind " has " counted(1 + split(form[kind], parts, " "), "field") ", this one " fields)
     } else if (judge_fields(kind)) {

@@ -52,14 +52,18 @@ impl Case {
     }
 }
 
-/// The most names of a file that is worth probing.
+/// The most names and the most bytes of a file that is worth probing.
 const PROBED_NAMES: usize = 16;
+const PROBED_BYTES: usize = 5_000;
 
 /// An accepted file once more for each of its names, with a root that has that name alone, and with roots for all names
 /// but that one. This shows each name of each disjunct in the answers. The file's own roots are of other queries.
 ///
-/// There are none for a file with very many names, or without facts.
+/// There are none for a file with very many names or bytes, or without facts.
 pub fn probes(case: &Case) -> Vec<Case> {
+    if case.file.len() > PROBED_BYTES {
+        return Vec::new();
+    }
     let Ok(background) = reader::read(&case.file) else { return Vec::new() };
     let count = background.names.len();
     let query = (0..=limits::QUERY).rev().find(|query| background.roots.iter().all(|root| root.query != *query));

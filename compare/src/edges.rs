@@ -31,12 +31,15 @@ pub fn edges() -> Vec<Edge> {
     terms(&mut edges);
     references(&mut edges);
     records(&mut edges);
+    hide_lines(&mut edges);
+    hidden_names(&mut edges);
     entries(&mut edges);
     uses(&mut edges);
     several::one(&mut edges);
     several::of_a_term_line(&mut edges);
     several::names_and_another(&mut edges);
     several::records_and_triggers(&mut edges);
+    several::with_hide_lines(&mut edges);
     bytes(&mut edges);
     ugly(&mut edges);
     costly(&mut edges);
@@ -415,6 +418,142 @@ fn records(edges: &mut Vec<Edge>) {
         term = next;
     }
     add(edges, "records-1024-chain", 0, text);
+}
+
+/// A file with so many hide lines, each of a name of its own.
+fn hiding(count: usize, options: u32) -> Text {
+    let mut text = Text::ask(0, options);
+    plain_names(count).for_each(|name| text.hide(name));
+    text
+}
+
+/// Where a hide line may stand and what its fields are; hide lines among 1,024 record lines.
+fn hide_lines(edges: &mut Vec<Edge>) {
+    let head = hiding(1, 0);
+    for (name, line, number) in [
+        ("again", "hide,n0", 0),
+        ("another", "hide,p", 0),
+        ("one-of-the-nine", "hide,Valid", 0),
+        ("like-a-number", "hide,0", 0),
+        ("like-a-kind", "hide,hide", 0),
+        ("no-name", "hide", 1),
+        ("two-names", "hide,p,q", 1),
+        ("comma", "hide,p,", 1),
+        ("two-commas", "hide,,", 1),
+        ("empty", "hide,", 2),
+        ("blank", "hide,p q", 2),
+        ("byte-7f", "hide,p\x7f", 2),
+        ("return", "hide,p\r", 2),
+        ("upper", "Hide,p", 1),
+        ("longer", "hides,p", 1),
+        ("ask", "ask,0,0", 1),
+    ] {
+        add_line(edges, format!("hide-line-{name}"), number, &head, line);
+    }
+    for (length, number) in [(1, 0), (255, 0), (256, 2), (300, 2)] {
+        add_line(edges, format!("name-{length}-hide"), number, &head, format!("hide,{}", "x".repeat(length)));
+    }
+    for line in ["leaf", "free,p", "fun,p", "retain", "retain,p"] {
+        let mut text = head.clone();
+        text.line(line);
+        for (name, hide) in [("good", "hide,p"), ("empty", "hide,"), ("long", "hide,p,q")] {
+            add_line(edges, format!("hide-after-{}-{name}", line.replace(',', "-")), 1, &text, hide);
+        }
+    }
+    add_line(edges, "hide-line-first", 1, &Text::default(), "hide,p");
+    let mut cut = head.clone();
+    cut.raw(b"hide,p");
+    add(edges, "hide-line-no-0a", 1, cut);
+
+    let full = hiding(limits::RECORDS, 4);
+    add_line(edges, "hide-lines-1024", 0, &hiding(limits::RECORDS - 1, 4), "hide,z");
+    for (name, number, line) in [
+        ("hide", FULL_RECORDS, "hide,z"),
+        ("hide-again", FULL_RECORDS, "hide,n0"),
+        ("hide-2", 2, "hide,"),
+        ("hide-1", 1, "hide"),
+        ("retain", FULL_RECORDS, "retain"),
+        ("term", 0, "call,n0"),
+    ] {
+        add_line(edges, format!("hide-lines-1024-{name}"), number, &full, line);
+    }
+    for hides in [1, 512] {
+        let mut full = hiding(hides, 4);
+        full.free("p");
+        full.free("n0");
+        add_records(&mut full, limits::RECORDS - hides - 1);
+        add_line(edges, format!("hide-lines-{hides}-of-1024"), 0, &full, "assume,n0,0,1");
+        full.line("retain");
+        for (name, number, line) in [
+            ("hide", 1, "hide,n0"),
+            ("fun", FULL_RECORDS, "fun,n0"),
+            ("root", FULL_RECORDS, "root,0,n0,1"),
+            ("assume", FULL_RECORDS, "assume,n0,0,1"),
+        ] {
+            add_line(edges, format!("hide-lines-{hides}-full-{name}"), number, &full, line);
+        }
+    }
+    let mut text = hiding(limits::RECORDS - 3, 4);
+    text.free("p");
+    text.free("n1020");
+    text.op("other", &[0, 1]);
+    text.fun("p");
+    text.fun("n1020");
+    add_line(edges, "hide-lines-1021-kept", 0, &text, "root,0,r,2");
+}
+
+/// Hidden names count as names, and neither as uses nor in disjuncts, which they may leave empty.
+fn hidden_names(edges: &mut Vec<Edge>) {
+    let mut text = hiding(2, 0);
+    spell_names(&mut text, limits::NAMES - 1);
+    text.leaf();
+    add_line(edges, "hidden-2048-names", 0, &text, "fun,z");
+    text.fun("z");
+    add_line(edges, "hidden-2048-names-again", 0, &text, "free,n1");
+    add_line(edges, "hidden-2049-names", FULL_NAMES, &text, "free,y");
+    let mut text = Text::ask(0, 0);
+    text.hide("only");
+    spell_names(&mut text, limits::NAMES - 1);
+    add_line(edges, "hidden-2048-names-one-hidden-only", 0, &text, "fun,n0");
+    add_line(edges, "hidden-2049-names-one-hidden-only", FULL_NAMES, &text, "fun,z");
+
+    // The trimmed token is the hidden name, which has been counted.
+    let mut text = Text::ask(0, 0);
+    text.hide("f");
+    let marker = text.free("__uu__PartialApp");
+    let token = text.free("f@tok");
+    let apply = text.call("ApplyTT", &[marker, token]);
+    text.call("Valid", &[apply]);
+    spell_names(&mut text, limits::NAMES - 6);
+    add_line(edges, "hidden-trimmed-token", 0, &text, "assume,a,0,3");
+    text.assume("a", 0, 3);
+    add_line(edges, "hidden-trimmed-token-next", FULL_NAMES, &text, "free,z");
+
+    // Ten uses a root where 54 of 64 names are hidden.
+    let mut text = hiding(54, 0);
+    let wide = add_wide_call(&mut text, 64);
+    for _ in 0..614 {
+        text.root(1, "r", wide);
+    }
+    for (name, number, line) in [
+        ("6144", 0, "root,0,r,60".to_owned()),
+        ("hidden", 0, "root,0,r,0".to_owned()),
+        ("6153", FULL_TRIGGERS, format!("root,0,r,{wide}")),
+    ] {
+        let mut text = text.clone();
+        (0..3).for_each(|_| text.root(0, "r", 60));
+        add_line(edges, format!("hidden-uses-{name}"), number, &text, line);
+    }
+
+    // Each group has a name that is hidden and one that is not, or a hidden one alone.
+    for (groups, number) in [(1_024, 0), (1_025, FULL_TRIGGERS)] {
+        let mut text = Text::ask(0, 0);
+        text.hide("p");
+        let [p, q] = [text.free("p"), text.call("q", &[])];
+        text.all(p, &[vec![vec![p, q]; groups], vec![vec![p]; limits::ENTRIES / 2]].concat());
+        text.root(0, "r", q);
+        add_line(edges, format!("hidden-entries-{}", groups + limits::ENTRIES / 2), number, &text, "assume,a,0,2");
+    }
 }
 
 /// Files whose run takes the most steps: 1,024 rounds, 2,048 entries on one name, 1,024 disjuncts that share a name.

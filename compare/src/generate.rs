@@ -104,7 +104,7 @@ impl<'r> Grower<'r> {
     fn new(random: &'r mut Random) -> Self {
         let query = if random.chance(90) { random.below(3) } else { random.below(256) } as u32;
         let options = random.below(8) as u32;
-        let pool = (0..random.within(1..=60))
+        let pool: Vec<String> = (0..random.within(1..=60))
             .flat_map(|index| match random.pick(&STEMS) {
                 // A token and the name that it trims to.
                 stem if random.chance(10) => vec![format!("{stem}{index}@tok"), format!("{stem}{index}")],
@@ -112,7 +112,24 @@ impl<'r> Grower<'r> {
                 stem => vec![format!("{stem}{index}")],
             })
             .collect();
-        Grower { random, text: Text::ask(query, options), query, pool, taken: HashSet::new() }
+        let mut grower = Grower { random, text: Text::ask(query, options), query, pool, taken: HashSet::new() };
+        if grower.random.chance(40) {
+            grower.hides();
+        }
+        grower
+    }
+
+    /// Hide lines: of names that terms use, which may repeat, and of names that stand nowhere else.
+    fn hides(&mut self) {
+        let most = if self.random.chance(90) { 4 } else { 40 };
+        for _ in 0..self.random.within(1..=most) {
+            let name = match self.random.below(10) {
+                0 => format!("hidden{}", self.random.below(100)),
+                1 => self.random.pick(&SPECIAL).to_owned(),
+                _ => self.symbol(),
+            };
+            self.text.hide(name);
+        }
     }
 
     fn grow(mut self, steps: usize) -> Text {
@@ -450,10 +467,10 @@ fn damage_bytes(file: &mut Vec<u8>, random: &mut Random) {
 }
 
 /// Words that stand in files, good in some places.
-const WORDS: [&str; 32] = [
-    "ask", "free", "leaf", "call", "op", "all", "some", "let", "label", "assume", "fun", "def", "retain", "root",
-    "true", "iff", "eq", "and", "other", "xor", "Free", "", "0", "1", "2", "255", "256", "65535", "65536", "00", "01",
-    "-1",
+const WORDS: [&str; 33] = [
+    "ask", "hide", "free", "leaf", "call", "op", "all", "some", "let", "label", "assume", "fun", "def", "retain",
+    "root", "true", "iff", "eq", "and", "other", "xor", "Free", "", "0", "1", "2", "255", "256", "65535", "65536",
+    "00", "01", "-1",
 ];
 
 fn damage_fields(file: &mut Vec<u8>, random: &mut Random) {
@@ -488,15 +505,35 @@ fn damage_fields(file: &mut Vec<u8>, random: &mut Random) {
     *file = lines.join(&b'\n');
 }
 
+/// Lines of the head of a file, good ones and bad ones.
+const HEAD_LINES: [&str; 12] = [
+    "hide,p",
+    "hide,p",
+    "hide,f@tok",
+    "hide,Valid",
+    "hide",
+    "hide,",
+    "hide,p,q",
+    "hide,p,",
+    "hide,p q",
+    "Hide,p",
+    "ask,0,0",
+    "leaf",
+];
+
 fn damage_lines(file: &mut Vec<u8>, random: &mut Random) {
     let mut lines: Vec<Vec<u8>> = file.split(|&byte| byte == b'\n').map(<[u8]>::to_vec).collect();
     let (at, other) = (random.below(lines.len()), random.below(lines.len()));
+    let head = lines.iter().take_while(|line| line.starts_with(b"ask") || line.starts_with(b"hide")).count();
     let repeats = |line: &&Vec<u8>| [&b"assume"[..], b"fun", b"def"].iter().any(|kind| line.starts_with(kind));
-    match random.below(8) {
+    match random.below(10) {
         0 => {
             lines.remove(at);
         }
         1 => lines.insert(other, lines[at].clone()),
+        // A line in the head of the file, and one anywhere.
+        8 => lines.insert(random.within(0..=head), random.pick(&HEAD_LINES).as_bytes().to_vec()),
+        9 => lines.insert(at, random.pick(&HEAD_LINES).as_bytes().to_vec()),
         6 | 7 => {
             // A record once more, before the empty end that the final 0A leaves.
             if let Some(line) = lines.iter().find(repeats).cloned() {
@@ -537,6 +574,10 @@ pub fn raw(random: &mut Random) -> Vec<u8> {
 /// A file that comes near one limit or two, and then a few lines more.
 pub fn near_a_limit(random: &mut Random) -> Vec<u8> {
     let mut text = Text::ask(0, random.below(8) as u32);
+    let hides = if random.chance(30) { random.pick(&[1, 2, 500, limits::RECORDS - 2, limits::RECORDS]) } else { 0 };
+    for _ in 0..hides {
+        text.hide(random.pick(&["p", "t", "t@tok", "Valid", "n1", "z1", "wide"]));
+    }
     text.free("p");
     let (marker, token) = (text.free("__uu__PartialApp"), text.free("t@tok"));
     let apply = text.call("ApplyTT", &[marker, token]);
@@ -552,7 +593,7 @@ pub fn near_a_limit(random: &mut Random) -> Vec<u8> {
             2 => {
                 edges::add_references(&mut text, limits::REFERENCES - 5 - less);
             }
-            3 => edges::add_records(&mut text, limits::RECORDS - 2 - less),
+            3 => edges::add_records(&mut text, (limits::RECORDS - 2 - less).saturating_sub(hides)),
             4 => {
                 let all = edges::add_empty_groups(&mut text, limits::ENTRIES - 2 - less);
                 text.assume("full", 0, all);
@@ -615,6 +656,7 @@ pub fn near_a_limit(random: &mut Random) -> Vec<u8> {
         "all,0,65535",
         "all,0,1,2,0",
         "free,z9 ",
+        "hide,z9",
     ];
     for _ in 0..random.within(2..=10) {
         text.line(if random.chance(90) { random.pick(&good) } else { random.pick(&bad) });

@@ -1,5 +1,5 @@
-//! The fact filter of document 01 with Change 1 of document 02, written independently in plain Rust with the standard
-//! collections.
+//! The fact filter of document 01 with Changes 1, 3 and 6 of document 02, written independently in plain Rust with the
+//! standard collections.
 //!
 //! It reads a file of terms, facts and roots, and keeps the facts that the roots of one query can touch, with the
 //! definitions and declarations that come with them. [`filter`] is the whole call; [`summaries`] says how each fact is

@@ -1,13 +1,13 @@
 //! The names of a file, numbered by first mention, and sets of them.
 
-use std::collections::HashMap;
+use std::collections::{HashMap, HashSet};
 
 use crate::limits;
 
 /// A name's number.
 pub type NameId = usize;
 
-/// Names that never count as free.
+/// Names that never count as free, in any file.
 const EXCLUDED: [&[u8]; 9] =
     [b"SFuel", b"ZFuel", b"HasType", b"HasTypeZ", b"HasTypeFuel", b"Valid", b"ApplyTT", b"ApplyTF", b"Prims.lex_t"];
 
@@ -16,6 +16,7 @@ const EXCLUDED: [&[u8]; 9] =
 pub struct Names<'a> {
     spelled: Vec<&'a [u8]>,
     numbers: HashMap<&'a [u8], NameId>,
+    hidden: HashSet<NameId>,
 }
 
 impl<'a> Names<'a> {
@@ -39,9 +40,14 @@ impl<'a> Names<'a> {
         self.spelled[id]
     }
 
-    /// Whether the name is one that never counts as free.
+    /// Hides a name: from now on it does not count as free.
+    pub fn hide(&mut self, id: NameId) {
+        self.hidden.insert(id);
+    }
+
+    /// Whether the name is one that does not count as free: one of those of every file, or a hidden one.
     pub fn is_excluded(&self, id: NameId) -> bool {
-        EXCLUDED.contains(&self.bytes(id))
+        EXCLUDED.contains(&self.bytes(id)) || self.hidden.contains(&id)
     }
 
     /// How many names there are.
@@ -124,6 +130,16 @@ mod tests {
         assert_eq!(names.len(), 2);
         assert_eq!(names.bytes(1), b"q");
         assert_eq!(names.find(b"r"), None);
+    }
+
+    #[test]
+    fn a_name_is_excluded_for_itself_or_since_it_is_hidden() {
+        let mut names = Names::default();
+        let [own, hidden, other] = [&b"ZFuel"[..], b"p", b"q"].map(|name| names.number(name));
+        names.hide(hidden);
+        names.hide(hidden);
+        names.hide(own);
+        assert_eq!([own, hidden, other].map(|name| names.is_excluded(name)), [true, true, false]);
     }
 
     #[test]

@@ -86,6 +86,8 @@ pub fn read(file: &[u8]) -> Result<Background<'_>, Refusal> {
 #[derive(Default)]
 struct Reader<'a> {
     background: Background<'a>,
+    /// Whether a line other than `ask` and `hide` has been read.
+    past_head: bool,
     /// The names of the assume, fun and def lines.
     taken: HashSet<NameId>,
     records: usize,
@@ -97,11 +99,18 @@ impl<'a> Reader<'a> {
     fn line(&mut self, number: u32, line: &'a [u8]) -> Result<(), Fault> {
         let mut fields = Fields::new(line);
         let kind = fields.field()?;
-        if (kind == b"ask") != (number == 1) {
+        let may_stand = match kind {
+            b"ask" => number == 1,
+            b"hide" => number > 1 && !self.past_head,
+            _ => number > 1,
+        };
+        if !may_stand {
             return Err(Fault::Form);
         }
+        self.past_head = !matches!(kind, b"ask" | b"hide");
         match kind {
             b"ask" => self.ask(fields),
+            b"hide" => self.hide(fields),
             b"free" | b"leaf" | b"call" | b"op" | b"all" | b"some" | b"let" | b"label" => {
                 let term = self.term(kind, fields)?;
                 self.add_term(term)
@@ -123,6 +132,15 @@ impl<'a> Reader<'a> {
         background.no_ambients = options & 1 != 0;
         background.pretyping_axioms = options & 2 != 0;
         background.prune_decls = options & 4 != 0;
+        Ok(())
+    }
+
+    /// A record line that hides its name and does not take it.
+    fn hide(&mut self, mut fields: Fields<'a>) -> Result<(), Fault> {
+        fields.exactly(1)?;
+        let name = self.name(&mut fields)?;
+        self.add_record()?;
+        self.background.names.hide(name);
         Ok(())
     }
 

@@ -45,8 +45,10 @@ struct Filled {
 }
 
 impl Filled {
-    fn new() -> Self {
+    /// The start of a file, with so many hide lines.
+    fn new(hides: usize) -> Self {
         let mut text = Text::ask(0, 0);
+        (0..hides).for_each(|_| text.hide("known"));
         let leaf = text.leaf();
         let name = text.free("p");
         text.all(name, &[vec![name]]);
@@ -57,7 +59,7 @@ impl Filled {
         text.call("Valid", &[apply]);
         text.retain(["known"]);
         text.fun("taken");
-        Filled { text, names: 7, references: 6, records: 2 }
+        Filled { text, names: 7, references: 6, records: 2 + hides }
     }
 
     /// Goes on until so many are left of a limit.
@@ -98,9 +100,9 @@ impl Filled {
     }
 }
 
-/// A file that has so many left of each of these limits.
-fn filled(left: &[(Limit, usize)]) -> Text {
-    let mut filled = Filled::new();
+/// A file that has so many hide lines and so many left of each of these limits.
+fn filled(hides: usize, left: &[(Limit, usize)]) -> Text {
+    let mut filled = Filled::new(hides);
     // In this order none takes of what was filled before it.
     for limit in [Entries, Uses, Names, Records, References, Terms] {
         if let Some(&(_, left)) = left.iter().find(|(full, _)| *full == limit) {
@@ -118,11 +120,13 @@ pub fn nearly_full(random: &mut Random) -> Vec<u8> {
             left.push((limit, random.below(3)));
         }
     }
-    let mut text = filled(&left);
+    // So many that there is room for the record lines that fill the file.
+    let hides = random.pick(&[0, 0, 1, 700]);
+    let mut text = filled(hides, &left);
     for _ in 0..random.within(1..=4) {
         let name = random.pick(&["new", "other", "third", "known", "f", "taken"]);
         let (_, term) = random.pick(&TERMS);
-        text.line(match random.below(9) {
+        text.line(match random.below(10) {
             0 => format!("free,{name}"),
             1 => format!("call,{name},{term}"),
             2 => format!("label,{term}"),
@@ -130,6 +134,7 @@ pub fn nearly_full(random: &mut Random) -> Vec<u8> {
             4 => format!("def,{name},{term}"),
             5 => format!("root,{},{name},{term}", random.below(2)),
             6 => format!("retain,known,{name}"),
+            7 if random.chance(20) => format!("hide,{name}"),
             _ => format!("assume,{name},{},{term}", random.below(2)),
         });
     }
@@ -138,11 +143,17 @@ pub fn nearly_full(random: &mut Random) -> Vec<u8> {
 
 /// Adds the lines that are refused with each number, each at the end of a file that has so many left of each limit.
 fn add(edges: &mut Vec<Edge>, left: &[(Limit, usize)], answers: &[(u32, &[&str])]) {
-    let text = filled(left);
+    add_after(edges, 0, left, answers);
+}
+
+/// The same, with so many hide lines at the start of the file.
+fn add_after(edges: &mut Vec<Edge>, hides: usize, left: &[(Limit, usize)], answers: &[(u32, &[&str])]) {
+    let text = filled(hides, left);
+    let start = if hides > 0 { format!("hides-{hides}-") } else { String::new() };
     let full: String = left.iter().map(|(limit, left)| format!("-{limit:?}-{left}").to_lowercase()).collect();
     for &(number, lines) in answers {
         for &line in lines {
-            let name = format!("left{full}-{}", line.replace(',', "-").to_lowercase());
+            let name = format!("{start}left{full}-{}", line.replace(',', "-").to_lowercase());
             let line = TERMS.iter().fold(line.to_owned(), |line, (word, term)| line.replace(word, &term.to_string()));
             let mut text = text.clone();
             text.line(line);
@@ -366,6 +377,25 @@ pub fn records_and_triggers(edges: &mut Vec<Edge>) {
     );
 }
 
+/// Files that are full of record lines, some of which are hide lines, and of something else.
+pub fn with_hide_lines(edges: &mut Vec<Edge>) {
+    add_after(edges, 500, &[(Records, 1)], &[(0, &["fun,new"])]);
+    add_after(edges, 500, &[(Records, 0)], &[(1, &["hide,known"]), (5, &["fun,taken"]), (FULL_RECORDS, &["fun,new"])]);
+    add_after(
+        edges,
+        500,
+        &[(Names, 0), (Records, 0)],
+        &[(1, &["hide,new"]), (FULL_NAMES, &["fun,new"]), (FULL_RECORDS, &["fun,known"])],
+    );
+    add_after(
+        edges,
+        500,
+        &[(Records, 1), (Entries, 0), (Uses, 0)],
+        &[(FULL_TRIGGERS, &["assume,new,0,ENTRY"]), (0, &["assume,new,0,LEAF"])],
+    );
+    add_after(edges, 500, &[(Records, 0), (Entries, 0), (Uses, 0)], &[(FULL_RECORDS, &["assume,new,0,ENTRY"])]);
+}
+
 #[cfg(test)]
 mod tests {
     use std::collections::HashSet;
@@ -376,12 +406,12 @@ mod tests {
     #[test]
     fn nearly_full_files_pass_each_limit() {
         let mut random = Random::new(4);
-        let numbers: HashSet<u32> = (0..150)
+        let numbers: HashSet<u32> = (0..200)
             .map(|_| match filter_file(&nearly_full(&mut random)) {
                 Outcome::Refused { number, .. } => number,
                 Outcome::Kept { .. } => 0,
             })
             .collect();
-        assert_eq!(numbers, HashSet::from([0, 5, FULL_NAMES, 9, FULL_TERMS, FULL_RECORDS, FULL_TRIGGERS]));
+        assert_eq!(numbers, HashSet::from([0, 1, 5, FULL_NAMES, 9, FULL_TERMS, FULL_RECORDS, FULL_TRIGGERS]));
     }
 }

@@ -50,6 +50,10 @@ impl Text {
         self.bytes.push(b'\n');
     }
 
+    pub fn hide(&mut self, name: impl Display) {
+        self.line(format!("hide,{name}"));
+    }
+
     fn term(&mut self, line: String) -> TermId {
         self.line(line);
         self.terms += 1;

@@ -1,4 +1,4 @@
-//! The examples and edges of document 01, and of Change 1 of document 02.
+//! The examples and edges of document 01, and of Changes 1 and 6 of document 02.
 
 use compare::{filter, filter_file, filter_in, summaries, Order, Outcome, Refusal, Trigger, LONG_ENOUGH};
 
@@ -96,6 +96,33 @@ fn a_refusal_says_what_was_full() {
     ] {
         assert_eq!(answer(&rest), format!("refused,{number},{place}\n"));
     }
+}
+
+#[test]
+fn hide_lines() {
+    // They follow the ask line, have one name each, and may repeat it.
+    for (rest, answered) in [
+        ("hide,a\nhide,a\nhide,Valid\n", "sum,0,0,1\n"),
+        ("hide,a\nleaf\nhide,b\n", "refused,1,4\n"),
+        ("retain\nhide,a\n", "refused,1,3\n"),
+        ("leaf\nhide,\n", "refused,1,3\n"),
+        ("hide\n", "refused,1,2\n"),
+        ("hide,a,a\n", "refused,1,2\n"),
+        ("hide,\n", "refused,2,2\n"),
+        ("hide,a\nfun,a\nfun,a\n", "refused,5,4\n"),
+    ] {
+        assert_eq!(answer(rest), answered, "{rest:?}");
+    }
+    // A hidden name is not waited for, not met, and not declared; without the hide line it is.
+    let rest = "free,p\ncall,w,0\nall,0,1,1,1\nassume,a,0,2\nfun,p\nfun,w\nroot,0,r,0\n";
+    let answer = |head: &str| filter_file(format!("{head}{rest}").as_bytes()).to_string();
+    assert_eq!(answer("ask,0,4\nretain,w\n"), "kept,7,p\nsum,1,1,1\n");
+    assert_eq!(answer("ask,0,4\nhide,w\n"), "kept,6,a\nkept,7,p\nsum,2,1,2\n");
+    // They are record lines.
+    let hides = |count: usize| "hide,a\n".repeat(count);
+    assert_eq!(filter_file(format!("ask,0,0\n{}", hides(1_024)).as_bytes()).to_string(), "sum,0,0,1\n");
+    assert_eq!(filter_file(format!("ask,0,0\n{}", hides(1_025)).as_bytes()), refused(11, 1_026));
+    assert_eq!(filter_file(format!("ask,0,0\n{}fun,a\n", hides(1_024)).as_bytes()), refused(11, 1_026));
 }
 
 #[test]

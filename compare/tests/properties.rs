@@ -33,6 +33,24 @@ fn is_term(line: &[u8]) -> bool {
     ["free", "leaf", "call", "op", "all", "some", "let", "label"].contains(&kind(line).as_str())
 }
 
+/// Whether a line is an ask or a hide line.
+fn is_head(line: &[u8]) -> bool {
+    ["ask", "hide"].contains(&kind(line).as_str())
+}
+
+/// The names of the hide lines.
+fn hidden(file: &[u8]) -> Vec<String> {
+    lines(file).iter().map(|line| fields(line)).filter(|line| line[0] == "hide").map(|line| line[1].clone()).collect()
+}
+
+/// A file with other hide lines.
+fn with_hidden(file: &[u8], names: &[String]) -> Vec<u8> {
+    let mut lines = lines(file);
+    lines.retain(|line| kind(line) != "hide");
+    lines.splice(1..1, names.iter().map(|name| line(&["hide".to_owned(), name.clone()])));
+    lines.concat()
+}
+
 /// A file with each line exchanged for what is given for it, by line number from 1.
 fn each_line(file: &[u8], mut change: impl FnMut(usize, &Line) -> Line) -> Vec<u8> {
     lines(file).iter().enumerate().flat_map(|(index, line)| change(index + 1, line)).collect()
@@ -70,6 +88,12 @@ fn list(file: &[u8]) -> Option<List> {
         }
         Outcome::Refused { .. } => None,
     }
+}
+
+/// The list with line numbers higher or lower by so many.
+fn moved(list: List, by: isize) -> List {
+    let lines = list.lines.iter().map(|&line| (line as isize + by) as u32).collect();
+    List { lines, ..list }
 }
 
 /// Accepted random files of a seed.
@@ -219,18 +243,120 @@ fn options_and_the_order_of_a_list() {
     assert!(more > 20 && declared > 50, "{more} {declared}");
 }
 
+/// The nine names that never count as free.
+const NINE: [&str; 9] =
+    ["SFuel", "ZFuel", "HasType", "HasTypeZ", "HasTypeFuel", "Valid", "ApplyTT", "ApplyTF", "Prims.lex_t"];
+
+/// Change 6: a hide line may repeat a name, and their sequence is no matter; one of the nine names or one that stands
+/// nowhere else hides nothing.
+#[test]
+fn hide_lines_that_hide_nothing_more() {
+    let (mut random, mut tried) = (Random::new(28), 0);
+    for file in accepted(28, 400) {
+        let before = list(&file).unwrap();
+        let names = hidden(&file);
+        let mut turned = names.clone();
+        turned.reverse();
+        assert_eq!(list(&with_hidden(&file, &turned)).as_ref(), Some(&before));
+
+        let mut more = names.clone();
+        let many = random.within(1..=5);
+        for _ in 0..many {
+            let again = names.is_empty() || random.chance(60);
+            let name = if again { random.pick(&NINE).to_owned() } else { random.pick(&names) };
+            more.insert(random.below(more.len() + 1), name);
+        }
+        more.insert(random.below(more.len() + 1), "nowhere.else".to_owned());
+        if let Some(after) = list(&with_hidden(&file, &more)) {
+            assert_eq!(after, moved(before, many as isize + 1));
+            tried += usize::from(!names.is_empty());
+        }
+    }
+    assert!(tried > 80, "{tried}");
+}
+
+/// Change 6: a hide line elsewhere is 1, whatever its fields are.
+#[test]
+fn a_hide_line_elsewhere_is_1() {
+    let mut random = Random::new(29);
+    for file in accepted(29, 300) {
+        let mut lines = lines(&file);
+        let head = lines.iter().take_while(|line| is_head(line)).count();
+        let at = if random.chance(20) { 0 } else { random.within(head..=lines.len()) };
+        let line = random.pick(&["hide,p\n", "hide\n", "hide,\n", "hide,p,q\n", "hide,p q\n"]);
+        lines.insert(at, line.into());
+        match filter_file(&lines.concat()) {
+            Outcome::Refused { number, place } if at != head => assert_eq!((number, place as usize), (1, at + 1)),
+            outcome => assert_eq!(at, head, "{outcome}"),
+        }
+    }
+}
+
+/// Change 6: hidden names join the nine. So hiding a name without a meaning of its own is the same as to write one of the
+/// nine for it in all terms.
+#[test]
+fn a_hidden_name_is_as_one_of_the_nine() {
+    let has_meaning = |name: &str| {
+        name.ends_with("@tok")
+            || ["Tm_refine_", "Prims.", "is-", "Box", "__uu__"].iter().any(|start| name.starts_with(start))
+            || ["IsTotFun", "Term_constr_id"].contains(&name)
+            || NINE.contains(&name)
+    };
+    let (mut renamed, mut other) = (0, 0);
+    for file in accepted(30, 900) {
+        let names = hidden(&file);
+        let (kept, plain): (Vec<String>, Vec<String>) = names.into_iter().partition(|name| has_meaning(name));
+        let without = with_hidden(&file, &kept);
+        let file_renamed = each_line(&without, |_, old| {
+            let mut fields = fields(old);
+            if ["free", "call"].contains(&fields[0].as_str()) && plain.contains(&fields[1]) {
+                renamed += 1;
+                fields[1] = "ZFuel".to_owned();
+            }
+            line(&fields)
+        });
+        let before = list(&file).unwrap();
+        if let Some(after) = list(&file_renamed) {
+            assert_eq!(moved(after, plain.len() as isize), before);
+        }
+        other += usize::from(list(&without).is_some_and(|list| moved(list, plain.len() as isize) != before));
+    }
+    assert!(renamed > 300 && other > 40, "{renamed} {other}");
+}
+
+/// Change 6: no summary has a hidden name free, and none but rule 4's has one in a disjunct.
+#[test]
+fn hidden_names_stand_in_no_summary() {
+    let (mut shown, mut tokens) = (0, 0);
+    for file in accepted(31, 400) {
+        let names = hidden(&file);
+        let is_hidden = |name: &&[u8]| names.iter().any(|hidden| hidden.as_bytes() == *name);
+        for fact in summaries(&file).unwrap() {
+            assert!(!fact.free.iter().any(is_hidden), "{fact}");
+            shown += 1;
+            let Trigger::Names(disjuncts) = &fact.trigger else { continue };
+            if disjuncts.iter().flatten().any(is_hidden) {
+                // The token alone, or the token and what it is trimmed to.
+                assert!(disjuncts.len() <= 2 && disjuncts.iter().all(|names| names.len() == 1), "{fact}");
+                tokens += 1;
+            }
+        }
+    }
+    assert!(shown > 500 && tokens > 5, "{shown} {tokens}");
+}
+
 /// Change 14: record lines in another sequence, among the term lines too, keep the same names, visits and rounds; two
 /// reached facts never trade places.
 #[test]
 fn the_sequence_of_the_record_lines_is_no_matter() {
     let (mut random, mut moved) = (Random::new(27), 0);
     for file in accepted(27, 400) {
-        let (ask, rest) = (lines(&file)[0].clone(), lines(&file)[1..].to_vec());
+        let (head, rest): (Vec<Line>, Vec<Line>) = lines(&file).into_iter().partition(|line| is_head(line));
         let (terms, mut records): (Vec<Line>, Vec<Line>) = rest.into_iter().partition(|line| is_term(line));
         for index in (1..records.len()).rev() {
             records.swap(index, random.below(index + 1));
         }
-        let other = [vec![ask], terms, records].concat().concat();
+        let other = [head, terms, records].concat().concat();
         let Some(after) = list(&other) else { continue };
         let before = list(&file).unwrap();
         assert_eq!((after.visits, after.rounds), (before.visits, before.rounds));

@@ -123,7 +123,7 @@ mod tests {
 
     #[test]
     fn wrong_calls_differ() {
-        let wrong: [(&str, Call); 10] = [
+        let wrong: [(&str, Call); 11] = [
             ("a visit more", |file, working, result| {
                 let answer = right(file, working, result);
                 Answer { visits: answer.visits + u32::from(answer.visits > 2), ..answer }
@@ -140,6 +140,14 @@ mod tests {
             ("any limit is 6", |file, working, result| {
                 let answer = right(file, working, result);
                 Answer { refusal: if answer.refusal > 9 { 6 } else { answer.refusal }, ..answer }
+            }),
+            ("a hide line that hides nothing", |file, working, result| {
+                let lines = file.split(|&byte| byte == b'\n');
+                let shown = lines.map(|line| match line.strip_prefix(b"hide,") {
+                    Some(name) => [b"retain,", name].concat(),
+                    None => line.to_vec(),
+                });
+                right(&shown.collect::<Vec<_>>().join(&b'\n'), working, result)
             }),
             ("the next line for what was full", |file, working, result| {
                 let answer = right(file, working, result);

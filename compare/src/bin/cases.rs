@@ -4,6 +4,7 @@
 //! and from the edges of document 01, and beside it what the program prints. `cases answer` reads a container from standard input and prints
 //! the same. With `--by-line` at the end, definitions and declarations come by line.
 
+use std::collections::HashSet;
 use std::fs;
 use std::io::{self, Read, Write};
 use std::path::Path;
@@ -44,6 +45,10 @@ fn build(folder: &str, input: &str, output: &str, order: Order) -> io::Result<()
     cases.extend(probes);
     cases.extend(edges::edges().into_iter().map(|edge| edge.case));
 
+    let mut names = HashSet::new();
+    if let Some(case) = cases.iter().find(|case| !names.insert(&case.name)) {
+        return Err(io::Error::other(format!("two cases have the name {}", case.name)));
+    }
     let (mut stdin, mut stdout) = (Vec::new(), String::new());
     for case in &cases {
         case.write(&mut stdin)?;

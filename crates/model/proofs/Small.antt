@@ -350,7 +350,7 @@ pass-4 : All-print files-4
 unfolding prints files-4
 pass-4 = (refl, tt)
 
--- free-names-everywhere to macro-second-level-by-fact
+-- free-names-everywhere to hide-def-is-not-opened
 files-5 : List Small
 files-5 =
     record {
@@ -362,6 +362,248 @@ files-5 =
       printed = "fact,17,triggers,{h},{a b c d e f g i} free={a b c d e f g h i}\n"
           ∷ "fact,18,triggers,{h} free={a b c d e f g h i}\nsum,0,0,1\n"
           ∷ [];
+    }
+    ∷ record {
+      name = "hidden-fun-and-def-are-not-kept";
+      file = "ask,0,4\nhide,f\nhide,g\nfree,f\nfree,g\nfree,h\nop,other,0,1,2\nfun,f\ndef,g,0\nfun,h\nroot,0,r,3\n" ∷ [];
+      printed = "kept,10,h\nsum,1,0,1\n" ∷ [];
+    }
+    ∷ record {
+      name = "hidden-name-is-not-opened-by-a-def-of-a-starting-macro";
+      file = "ask,0,0\nhide,BoxInt\nfree,__uu__PartialApp\nfree,BoxInt\ncall,ApplyTT,0,1\ncall,Valid,2\nassume,t,0,3\n"
+          ∷ "def,is-BoxInt,1\nfree,is-BoxInt\nroot,0,r,4\n"
+          ∷ [];
+      printed = "fact,7,triggers,{BoxInt} free={__uu__PartialApp}\nsum,0,0,1\n" ∷ [];
+    }
+    ∷ record {
+      name = "hidden-starting-macro-opens-nothing";
+      file = "ask,0,0\nhide,is-BoxInt\nfree,__uu__PartialApp\nfree,BoxInt\ncall,ApplyTT,0,1\ncall,Valid,2\n"
+          ∷ "assume,t,0,3\nfree,is-BoxInt\nroot,0,r,4\n"
+          ∷ [];
+      printed = "fact,7,triggers,{BoxInt} free={BoxInt __uu__PartialApp}\nsum,0,0,1\n" ∷ [];
+    }
+    ∷ record {
+      name = "hidden-trimmed-token-is-never-met";
+      file = "ask,0,0\nhide,f\nfree,__uu__PartialApp\nfree,f@tok\ncall,ApplyTT,0,1\ncall,Valid,2\nassume,t,0,3\n"
+          ∷ "free,f\nroot,0,r,4\nroot,1,r,1\n"
+          ∷ [];
+      printed = "fact,7,triggers,{f@tok},{f} free={__uu__PartialApp f@tok}\nsum,0,0,1\n" ∷ [];
+    }
+    ∷ record {
+      name = "hide-255-bytes-passes";
+      file = "ask,0,0\n"
+          ∷ "hide,xxxxxxxxxxxxxxxxxxxxxxxxxxxxxxxxxxxxxxxxxxxxxxxxxxxxxxxxxxxxxxxxxxxxxxxxxxxxxxxxxxxxxxxxxxxxxxxxxxxxxxxxxxxxxxxxxxxxxxxxxxxxxxxxxxxxxxxxxxxxxxxxxxxxxxxxxxxxxxxxxxxxxxxxxxxxxxxxxxxxxxxxxxxxxxxxxxxxxxxxxxxxxxxxxxxxxxxxxxxxxxxxxxxxxxxxxxxxxxxxxxxxxxxxxxxxxxx\n"
+          ∷ [];
+      printed = "sum,0,0,1\n" ∷ [];
+    }
+    ∷ record {
+      name = "hide-256-bytes";
+      file = "ask,0,0\nhide,p\n"
+          ∷ "hide,xxxxxxxxxxxxxxxxxxxxxxxxxxxxxxxxxxxxxxxxxxxxxxxxxxxxxxxxxxxxxxxxxxxxxxxxxxxxxxxxxxxxxxxxxxxxxxxxxxxxxxxxxxxxxxxxxxxxxxxxxxxxxxxxxxxxxxxxxxxxxxxxxxxxxxxxxxxxxxxxxxxxxxxxxxxxxxxxxxxxxxxxxxxxxxxxxxxxxxxxxxxxxxxxxxxxxxxxxxxxxxxxxxxxxxxxxxxxxxxxxxxxxxxxxxxxxxxx\n"
+          ∷ [];
+      printed = "refused,2,3\n" ∷ [];
+    }
+    ∷ record {
+      name = "hide-after-record-is-1";
+      file = "ask,0,0\nhide,p\nfun,p\nhide,q\n" ∷ [];
+      printed = "refused,1,4\n" ∷ [];
+    }
+    ∷ record {
+      name = "hide-after-term-is-1";
+      file = "ask,0,0\nhide,p\nfree,p\nhide,q\n" ∷ [];
+      printed = "refused,1,4\n" ∷ [];
+    }
+    ∷ record {
+      name = "hide-def-is-not-opened";
+      file = "ask,0,4\nhide,g\nfree,g\nfree,q\ndef,g,1\nop,eq,1,1\nassume,a,0,2\nfun,q\nroot,0,r,0\n" ∷ [];
+      printed = "fact,7,triggers,{q},{q} free={q}\nsum,0,0,1\n" ∷ [];
+    }
+    ∷ []
+
+-- a wrong one is named in the error
+pass-5 : All-print files-5
+unfolding prints files-5
+pass-5 = (refl, (refl, (refl, (refl, (refl, (refl, (refl, (refl, (refl, (refl, tt))))))))))
+
+-- hide-empties-disjuncts to hide-name-is-taken-once
+files-6 : List Small
+files-6 =
+    record {
+      name = "hide-empties-disjuncts";
+      file = "ask,0,0\nhide,v\nhide,w\nfree,v\ncall,w,0\nfree,p\nall,2,1,1,1\nassume,never,0,3\nall,2,2,1,1,1,2\n"
+          ∷ "assume,either,0,4\nop,eq,0,2\nassume,equal,0,5\nop,iff,1,0\nassume,both_hidden,0,6\n"
+          ∷ "assume,equation_hidden,0,5\nroot,0,r,2\nroot,0,r,1\n"
+          ∷ [];
+      printed = "fact,8,triggers,{} free={p}\nfact,10,triggers,{},{p} free={p}\nfact,12,triggers,{},{p} free={p}\n"
+          ∷ "fact,14,triggers,{},{} free={}\nfact,15,triggers,{} free={p}\nkept,10,either\nkept,12,equal\nsum,2,2,2\n"
+          ∷ [];
+    }
+    ∷ record {
+      name = "hide-empty-name-is-2";
+      file = "ask,0,0\nhide,\n" ∷ [];
+      printed = "refused,2,2\n" ∷ [];
+    }
+    ∷ record {
+      name = "hide-everywhere-in-a-term";
+      file = "ask,0,4\nhide,w\nfree,w\nfree,p\ncall,w,1\nsome,1,1,1,0\nlet,2,0\nlabel,4\nop,other,3,5\n"
+          ∷ "all,6,2,1,2,1,3\nassume,a,0,7\ndef,d,6\nfun,w\nfun,p\nroot,0,r,6\n"
+          ∷ [];
+      printed = "fact,11,triggers,{p},{p} free={p}\nkept,11,a\nkept,14,p\nsum,2,2,2\n" ∷ [];
+    }
+    ∷ record {
+      name = "hide-heads-of-rules";
+      file = "ask,0,0\nhide,Prims.squash\nhide,Prims.hasEq\nhide,__uu__PartialApp\nhide,Tm_refine_1\n"
+          ∷ "hide,is-Tm_arrow\nhide,f@tok\nfree,p\nfree,q\ncall,Prims.squash,0\ncall,HasType,0,2\nassume,squash,0,3\n"
+          ∷ "call,Prims.hasEq,0,1\ncall,Valid,4\nop,iff,5,5\nassume,has_eq,0,6\nfree,__uu__PartialApp\nfree,f@tok\n"
+          ∷ "call,ApplyTT,7,8\ncall,Valid,9\nassume,partial,0,10\nfree,Tm_refine_1\ncall,HasType,1,11\n"
+          ∷ "assume,refined,0,12\ncall,is-Tm_arrow,1\nassume,arrow,0,13\nfree,f\nroot,0,r,14\n"
+          ∷ [];
+      printed = "fact,12,ambient,1 free={p}\nfact,16,triggers,{q} free={p q}\nfact,21,triggers,{f@tok},{f} free={}\n"
+          ∷ "fact,24,ambient,1 free={q}\nfact,26,triggers,{q} free={q}\nkept,26,arrow\nkept,16,has_eq\n"
+          ∷ "kept,21,partial\nkept,24,refined\nkept,12,squash\nsum,5,3,2\n"
+          ∷ [];
+    }
+    ∷ record {
+      name = "hide-in-a-macro-body";
+      file = "ask,0,0\nhide,w\nfree,g\nfree,w\nfree,q\nop,other,1,2\ndef,g,3\nop,eq,1,0\nfree,__uu__PartialApp\n"
+          ∷ "call,ApplyTT,5,1\ncall,Valid,6\nassume,t,0,7\nall,1,1,1,2\nassume,b,0,8\nroot,0,r,0\n"
+          ∷ [];
+      printed = "fact,12,triggers,{w} free={__uu__PartialApp}\nfact,14,triggers,{q} free={q}\nkept,14,b\nsum,1,1,2\n" ∷ [];
+    }
+    ∷ record {
+      name = "hide-in-a-scanned-fact";
+      file = "ask,0,0\nhide,w\nfree,p\nfree,w\nfree,z\nop,other,1\nall,3,1,1,0\nassume,a,0,4\nop,eq,1,2\n"
+          ∷ "assume,b,0,5\nroot,0,r,0\n"
+          ∷ [];
+      printed = "fact,8,triggers,{p} free={p}\nfact,10,triggers,{},{z} free={z}\nkept,8,a\nsum,1,1,2\n" ∷ [];
+    }
+    ∷ record {
+      name = "hide-in-rule-2";
+      file = "ask,0,0\nhide,w\nfree,w\nfree,p\nop,other,0,1\nassume,assumption_a,0,2\nroot,0,r,1\n" ∷ [];
+      printed = "fact,6,triggers,{p} free={p}\nkept,6,assumption_a\nsum,1,1,2\n" ∷ [];
+    }
+    ∷ record {
+      name = "hide-leaves-the-shapes-of-rules";
+      file = "ask,0,0\nhide,IsTotFun\nhide,Term_constr_id\nfree,p\ncall,IsTotFun,0\nassume,a,0,1\nfree,q\n"
+          ∷ "call,Term_constr_id,2\nop,eq,0,3\nassume,b,0,4\nroot,0,r,2\n"
+          ∷ [];
+      printed = "fact,6,triggers,{p} free={p}\nfact,10,triggers,{q} free={p q}\nkept,6,a\nkept,10,b\nsum,2,2,3\n" ∷ [];
+    }
+    ∷ record {
+      name = "hide-makes-one-name-enough";
+      file = "ask,0,0\nhide,w\nfree,p\ncall,w,0\nfree,q\nall,2,1,1,1\nassume,a,0,3\nroot,0,r,0\n" ∷ [];
+      printed = "fact,7,triggers,{p} free={p q}\nkept,7,a\nsum,1,1,2\n" ∷ [];
+    }
+    ∷ record {
+      name = "hide-misplaced-before-its-count";
+      file = "ask,0,0\nretain\nhide,a,b\n" ∷ [];
+      printed = "refused,1,3\n" ∷ [];
+    }
+    ∷ record {
+      name = "hide-misplaced-before-its-fields";
+      file = "ask,0,0\nleaf\nhide,\n" ∷ [];
+      printed = "refused,1,3\n" ∷ [];
+    }
+    ∷ record {
+      name = "hide-name-is-taken-once";
+      file = "ask,0,4\nhide,f\nhide,f\nfree,f\nfree,p\nfun,f\nroot,0,f,0\nroot,0,f,1\ndef,f,1\n" ∷ [];
+      printed = "refused,5,9\n" ∷ [];
+    }
+    ∷ []
+
+-- a wrong one is named in the error
+pass-6 : All-print files-6
+unfolding prints files-6
+pass-6 = (refl, (refl, (refl, (refl, (refl, (refl, (refl, (refl, (refl, (refl, (refl, (refl, tt))))))))))))
+
+-- hide-name-not-spelled-again to macro-box-fun-does-not-replace
+files-7 : List Small
+files-7 =
+    record {
+      name = "hide-name-not-spelled-again";
+      file = "ask,0,0\nhide,zz\nfree,p\nop,eq,0,0\nassume,a,0,1\nroot,0,r,0\n" ∷ [];
+      printed = "fact,5,triggers,{p},{p} free={p}\nkept,5,a\nsum,1,2,2\n" ∷ [];
+    }
+    ∷ record {
+      name = "hide-no-0a";
+      file = "ask,0,0\nhide,p" ∷ [];
+      printed = "refused,1,2\n" ∷ [];
+    }
+    ∷ record {
+      name = "hide-of-a-fact-name-keeps-the-fact";
+      file = "ask,0,0\nhide,a\nfree,p\nop,eq,0,0\nassume,a,0,1\nroot,0,r,0\n" ∷ [];
+      printed = "fact,5,triggers,{p},{p} free={p}\nkept,5,a\nsum,1,2,2\n" ∷ [];
+    }
+    ∷ record {
+      name = "hide-on-line-1";
+      file = "hide,p\nask,0,0\n" ∷ [];
+      printed = "refused,1,1\n" ∷ [];
+    }
+    ∷ record {
+      name = "hide-one-of-the-nine";
+      file = "ask,0,0\nhide,HasType\nfree,p\ncall,HasType,0,0\nassume,a,0,1\nroot,0,r,0\n" ∷ [];
+      printed = "fact,5,triggers,{p} free={p}\nkept,5,a\nsum,1,1,2\n" ∷ [];
+    }
+    ∷ record {
+      name = "hide-repeats-a-name";
+      file = "ask,0,0\nhide,p\nhide,p\nfree,p\nroot,0,r,0\n" ∷ [];
+      printed = "sum,0,0,1\n" ∷ [];
+    }
+    ∷ record {
+      name = "hide-rule-3-ambient-root";
+      file = "ask,0,0\nhide,w\nfree,w\nfree,p\nall,1,1,1,0\ncall,Prims.squash,0,2\ncall,HasType,0,3\nassume,m,0,4\n"
+          ∷ "op,eq,1,1\nassume,a,0,5\n"
+          ∷ [];
+      printed = "fact,8,ambient,1 free={Prims.squash p}\nfact,10,triggers,{p},{p} free={p}\nkept,10,a\nkept,8,m\n"
+          ∷ "sum,2,2,2\n"
+          ∷ [];
+    }
+    ∷ record {
+      name = "hide-rule-3-not-hidden";
+      file = "ask,0,0\nretain\nfree,w\nfree,p\nall,1,1,1,0\ncall,Prims.squash,0,2\ncall,HasType,0,3\nassume,m,0,4\n"
+          ∷ "op,eq,1,1\nassume,a,0,5\n"
+          ∷ [];
+      printed = "fact,8,triggers,{w} free={Prims.squash p w}\nfact,10,triggers,{p},{p} free={p}\nsum,0,0,1\n" ∷ [];
+    }
+    ∷ record {
+      name = "hide-the-nine";
+      file = "ask,0,0\nhide,ApplyTF\nhide,ApplyTT\nhide,HasType\nhide,HasTypeFuel\nhide,HasTypeZ\nhide,Prims.lex_t\n"
+          ∷ "hide,SFuel\nhide,Valid\nhide,ZFuel\nhide,Valid\nfree,p\ncall,Valid,0\nassume,a,0,1\n"
+          ∷ "free,__uu__PartialApp\nfree,f@tok\ncall,ApplyTT,2,3\ncall,Valid,4\nassume,t,0,5\nroot,0,r,0\n"
+          ∷ "root,0,r,3\n"
+          ∷ [];
+      printed = "fact,14,triggers,{p} free={p}\nfact,19,triggers,{f@tok},{f} free={__uu__PartialApp f@tok}\nkept,14,a\n"
+          ∷ "kept,19,t\nsum,2,2,2\n"
+          ∷ [];
+    }
+    ∷ record {
+      name = "hide-then-ask";
+      file = "ask,0,0\nhide,p\nask,0,0\n" ∷ [];
+      printed = "refused,1,3\n" ∷ [];
+    }
+    ∷ record {
+      name = "hide-token-is-filed";
+      file = "ask,0,0\nhide,f@tok\nfree,__uu__PartialApp\nfree,f@tok\ncall,ApplyTT,0,1\ncall,Valid,2\nassume,t,0,3\n"
+          ∷ "free,f\nop,other,1,4\nroot,0,r,5\n"
+          ∷ [];
+      printed = "fact,7,triggers,{f@tok},{f} free={__uu__PartialApp}\nkept,7,t\nsum,1,1,2\n" ∷ [];
+    }
+    ∷ record {
+      name = "hide-token-opened-by-a-starting-macro";
+      file = "ask,0,0\nhide,BoxInt\nfree,__uu__PartialApp\nfree,BoxInt\ncall,ApplyTT,0,1\ncall,Valid,2\nassume,t,0,3\n"
+          ∷ "free,is-BoxInt\nroot,0,r,4\n"
+          ∷ [];
+      printed = "fact,7,triggers,{BoxInt} free={__uu__PartialApp}\nkept,7,t\nsum,1,1,2\n" ∷ [];
+    }
+    ∷ record {
+      name = "hide-two-names-is-1";
+      file = "ask,0,0\nhide,p,q\n" ∷ [];
+      printed = "refused,1,2\n" ∷ [];
+    }
+    ∷ record {
+      name = "hide-without-name-is-1";
+      file = "ask,0,0\nhide\n" ∷ [];
+      printed = "refused,1,2\n" ∷ [];
     }
     ∷ record {
       name = "macro-box-each";
@@ -383,7 +625,17 @@ files-5 =
           ∷ [];
       printed = "fact,8,triggers,{BoxInt} free={BoxInt}\nkept,8,a\nkept,4,is-BoxInt\nkept,5,BoxInt\nsum,3,1,2\n" ∷ [];
     }
-    ∷ record {
+    ∷ []
+
+-- a wrong one is named in the error
+pass-7 : All-print files-7
+unfolding prints files-7
+pass-7 = (refl, (refl, (refl, (refl, (refl, (refl, (refl, (refl, (refl, (refl, (refl, (refl, (refl, (refl, (refl, (refl, tt))))))))))))))))
+
+-- macro-box-not-spelled to ok-term5-4
+files-8 : List Small
+files-8 =
+    record {
       name = "macro-box-not-spelled";
       file = "ask,0,4\ncall,is-BoxInt\nfun,is-BoxInt\nroot,0,r,0\n" ∷ [];
       printed = "kept,3,is-BoxInt\nsum,1,0,1\n" ∷ [];
@@ -436,17 +688,7 @@ files-5 =
           ∷ [];
       printed = "fact,8,triggers,{h} free={h}\nfact,10,triggers,{k} free={k}\nkept,8,a\nkept,10,b\nsum,2,2,3\n" ∷ [];
     }
-    ∷ []
-
--- a wrong one is named in the error
-pass-5 : All-print files-5
-unfolding prints files-5
-pass-5 = (refl, (refl, (refl, (refl, (refl, (refl, (refl, (refl, (refl, (refl, (refl, (refl, tt))))))))))))
-
--- macro-second-level-not-by-trimmed-token to r-all-alone
-files-6 : List Small
-files-6 =
-    record {
+    ∷ record {
       name = "macro-second-level-not-by-trimmed-token";
       file = "ask,0,0\nfree,h\nfree,k\nfree,g\ndef,g,0\ndef,h,1\nfree,__uu__PartialApp\nfree,h@tok\ncall,ApplyTT,3,4\n"
           ∷ "call,Valid,5\nassume,a,0,6\nall,1,1,1,1\nassume,b,0,7\nroot,0,r,2\n"
@@ -489,7 +731,17 @@ files-6 =
       file = "ask,0,0\nleaf\nleaf\nleaf\nleaf\nleaf\nlabel,4\n" ∷ [];
       printed = "sum,0,0,1\n" ∷ [];
     }
-    ∷ record {
+    ∷ []
+
+-- a wrong one is named in the error
+pass-8 : All-print files-8
+unfolding prints files-8
+pass-8 = (refl, (refl, (refl, (refl, (refl, (refl, (refl, (refl, (refl, (refl, (refl, (refl, (refl, (refl, (refl, (refl, tt))))))))))))))))
+
+-- option-1-with-option-4 to r-call-65535
+files-9 : List Small
+files-9 =
+    record {
       name = "option-1-with-option-4";
       file = "ask,0,5\nfree,x\nfree,Tm_refine_1\ncall,HasType,0,1\nassume,h,0,2\nfun,x\ndef,Tm_refine_1,0\n" ∷ [];
       printed = "fact,5,ambient,1 free={Tm_refine_1 x}\nsum,0,0,1\n" ∷ [];
@@ -552,17 +804,7 @@ files-6 =
       file = "ask,0,0\nleaf\nall\n" ∷ [];
       printed = "refused,1,3\n" ∷ [];
     }
-    ∷ []
-
--- a wrong one is named in the error
-pass-6 : All-print files-6
-unfolding prints files-6
-pass-6 = (refl, (refl, (refl, (refl, (refl, (refl, (refl, (refl, (refl, (refl, (refl, (refl, (refl, (refl, (refl, (refl, (refl, tt)))))))))))))))))
-
--- r-all-g-65536 to r-free-80
-files-7 : List Small
-files-7 =
-    record {
+    ∷ record {
       name = "r-all-g-65536";
       file = "ask,0,0\nleaf\nall,0,65536\n" ∷ [];
       printed = "refused,3,3\n" ∷ [];
@@ -612,7 +854,17 @@ files-7 =
       file = "ask,0,0\ncall,f,65535\n" ∷ [];
       printed = "refused,4,2\n" ∷ [];
     }
-    ∷ record {
+    ∷ []
+
+-- a wrong one is named in the error
+pass-9 : All-print files-9
+unfolding prints files-9
+pass-9 = (refl, (refl, (refl, (refl, (refl, (refl, (refl, (refl, (refl, (refl, (refl, (refl, (refl, (refl, (refl, (refl, (refl, (refl, (refl, (refl, tt))))))))))))))))))))
+
+-- r-call-alone to r-some-3-before-lacking
+files-10 : List Small
+files-10 =
+    record {
       name = "r-call-alone";
       file = "ask,0,0\ncall\n" ∷ [];
       printed = "refused,1,2\n" ∷ [];
@@ -664,17 +916,7 @@ files-7 =
       file = "ask,0,0\nfree,\u{80}\n" ∷ [];
       printed = "refused,2,2\n" ∷ [];
     }
-    ∷ []
-
--- a wrong one is named in the error
-pass-7 : All-print files-7
-unfolding prints files-7
-pass-7 = (refl, (refl, (refl, (refl, (refl, (refl, (refl, (refl, (refl, (refl, (refl, (refl, (refl, (refl, (refl, (refl, (refl, (refl, (refl, (refl, tt))))))))))))))))))))
-
--- r-leaf-comma to rounds-empty-disjunct-late
-files-8 : List Small
-files-8 =
-    record {
+    ∷ record {
       name = "r-leaf-comma";
       file = "ask,0,0\nleaf,\n" ∷ [];
       printed = "refused,1,2\n" ∷ [];
@@ -724,7 +966,17 @@ files-8 =
       file = "ask,0,0\nleaf\nsome,0,1,2,x\n" ∷ [];
       printed = "refused,3,3\n" ∷ [];
     }
-    ∷ record {
+    ∷ []
+
+-- a wrong one is named in the error
+pass-10 : All-print files-10
+unfolding prints files-10
+pass-10 = (refl, (refl, (refl, (refl, (refl, (refl, (refl, (refl, (refl, (refl, (refl, (refl, (refl, (refl, (refl, (refl, (refl, (refl, (refl, (refl, tt))))))))))))))))))))
+
+-- r-some-bad-body-first to rounds-term-shared-by-roots
+files-11 : List Small
+files-11 =
+    record {
       name = "r-some-bad-body-first";
       file = "ask,0,0\nleaf\nsome,x\n" ∷ [];
       printed = "refused,3,3\n" ∷ [];
@@ -774,17 +1026,7 @@ files-8 =
       file = "ask,0,0\nfree,p\nfree,q\nleaf\nall,1,1,1,0\nassume,a,0,3\nall,2,2,0,1,1\nassume,b,0,4\nroot,0,r,0\n" ∷ [];
       printed = "fact,6,triggers,{p} free={p q}\nfact,8,triggers,{},{q} free={q}\nkept,6,a\nkept,8,b\nsum,2,2,3\n" ∷ [];
     }
-    ∷ []
-
--- a wrong one is named in the error
-pass-8 : All-print files-8
-unfolding prints files-8
-pass-8 = (refl, (refl, (refl, (refl, (refl, (refl, (refl, (refl, (refl, (refl, (refl, (refl, (refl, (refl, (refl, (refl, (refl, (refl, (refl, (refl, tt))))))))))))))))))))
-
--- rounds-empty-disjuncts-only to rule-0-two-groups
-files-9 : List Small
-files-9 =
-    record {
+    ∷ record {
       name = "rounds-empty-disjuncts-only";
       file = "ask,0,0\nfree,p\nall,0,3,0,0,0\nassume,a,0,1\nroot,0,r,0\n" ∷ [];
       printed = "fact,4,triggers,{},{},{} free={p}\nsum,0,0,1\n" ∷ [];
@@ -844,7 +1086,17 @@ files-9 =
           ∷ [];
       printed = "fact,7,triggers,{p} free={p}\nkept,7,a\nsum,1,1,2\n" ∷ [];
     }
-    ∷ record {
+    ∷ []
+
+-- a wrong one is named in the error
+pass-11 : All-print files-11
+unfolding prints files-11
+pass-11 = (refl, (refl, (refl, (refl, (refl, (refl, (refl, (refl, (refl, (refl, (refl, (refl, (refl, (refl, (refl, (refl, (refl, (refl, (refl, (refl, tt))))))))))))))))))))
+
+-- rounds-two-halves to rule-12-free
+files-12 : List Small
+files-12 =
+    record {
       name = "rounds-two-halves";
       file = "ask,0,0\nfree,p\nfree,q\nfree,s\nfree,t\nall,0,2,2,0,2,2,1,3\nassume,a,0,4\nop,other,0,1\nroot,0,r,5\n" ∷ [];
       printed = "fact,7,triggers,{p s},{q t} free={p q s t}\nsum,0,2,1\n" ∷ [];
@@ -886,17 +1138,7 @@ files-9 =
       file = "ask,0,0\nfree,p\nfree,q\nall,0,2,1,0,2,0,1\nassume,x,0,2\n" ∷ [];
       printed = "fact,5,triggers,{p},{p q} free={p q}\nsum,0,0,1\n" ∷ [];
     }
-    ∷ []
-
--- a wrong one is named in the error
-pass-9 : All-print files-9
-unfolding prints files-9
-pass-9 = (refl, (refl, (refl, (refl, (refl, (refl, (refl, (refl, (refl, (refl, (refl, (refl, (refl, (refl, (refl, (refl, (refl, (refl, tt))))))))))))))))))
-
--- rule-0-under-names to rule-3-hastype-3
-files-10 : List Small
-files-10 =
-    record {
+    ∷ record {
       name = "rule-0-under-names";
       file = "ask,0,0\nfree,p\nfree,q\nall,1,1,1,0\nassume,assumption_1,0,2\nassume,equation_1,0,2\n"
           ∷ "assume,l_quant_interp_1,0,2\nlabel,2\nlabel,3\nassume,a,0,4\n"
@@ -959,7 +1201,17 @@ files-10 =
       file = "ask,0,0\nfree,p\nfree,q\nfree,HasType\nassume,x,0,2\n" ∷ [];
       printed = "fact,5,ambient,0 free={}\nkept,5,x\nsum,1,0,1\n" ∷ [];
     }
-    ∷ record {
+    ∷ []
+
+-- a wrong one is named in the error
+pass-12 : All-print files-12
+unfolding prints files-12
+pass-12 = (refl, (refl, (refl, (refl, (refl, (refl, (refl, (refl, (refl, (refl, (refl, (refl, (refl, (refl, (refl, (refl, (refl, (refl, tt))))))))))))))))))
+
+-- rule-12-kinds to rule-3-type-is-all
+files-13 : List Small
+files-13 =
+    record {
       name = "rule-12-kinds";
       file = "ask,0,0\nfree,p\nassume,a,0,0\nleaf\nassume,b,0,1\ncall,g,0\nassume,c,0,2\nop,other,0\nassume,d,0,3\n"
           ∷ "some,0,1,1,0\nassume,e,0,4\nlet,0,1\nassume,f,0,5\nlabel,3\nassume,g,0,6\nall,0,0\nassume,h,0,7\n"
@@ -998,17 +1250,7 @@ files-10 =
       file = "ask,0,0\nfree,p\nfree,q\ncall,Tm_refine_1,0\ncall,HasType,0,2,2\nassume,x,0,3\n" ∷ [];
       printed = "fact,6,ambient,0 free={Tm_refine_1 p}\nkept,6,x\nsum,1,0,1\n" ∷ [];
     }
-    ∷ []
-
--- a wrong one is named in the error
-pass-10 : All-print files-10
-unfolding prints files-10
-pass-10 = (refl, (refl, (refl, (refl, (refl, (refl, (refl, (refl, (refl, (refl, (refl, (refl, (refl, (refl, (refl, tt)))))))))))))))
-
--- rule-3-refinements to rule-4-tok-tok
-files-11 : List Small
-files-11 =
-    record {
+    ∷ record {
       name = "rule-3-refinements";
       file = "ask,0,0\nfree,x\nfree,Tm_refine_\ncall,HasType,0,1\nassume,a,0,2\ncall,Tm_refine_0,0,0,0\n"
           ∷ "call,HasType,0,3\nassume,b,0,4\nfree,Tm_refine\ncall,HasType,0,5\nassume,c,0,6\nlabel,1\n"
@@ -1044,7 +1286,17 @@ files-11 =
       file = "ask,0,0\nfree,x\nall,0,1,1,0\ncall,HasType,0,1\nassume,a,0,2\n" ∷ [];
       printed = "fact,5,triggers,{x} free={x}\nsum,0,0,1\n" ∷ [];
     }
-    ∷ record {
+    ∷ []
+
+-- a wrong one is named in the error
+pass-13 : All-print files-13
+unfolding prints files-13
+pass-13 = (refl, (refl, (refl, (refl, (refl, (refl, (refl, (refl, (refl, (refl, (refl, tt)))))))))))
+
+-- rule-4-markers to rule-5-hastype
+files-14 : List Small
+files-14 =
+    record {
       name = "rule-4-markers";
       file = "ask,0,0\nfree,__uu__PartialApp\ncall,__uu__PartialApp\nfree,x\ncall,__uu__PartialApp,2\ncall,f@tok\n"
           ∷ "call,ApplyTT,0,4\ncall,Valid,5\nassume,a,0,6\ncall,ApplyTT,1,4\ncall,Valid,7\nassume,b,0,8\n"
@@ -1069,17 +1321,7 @@ files-11 =
           ∷ [];
       printed = "fact,8,triggers,{a@tok@tok},{a@tok} free={__uu__PartialApp a@tok@tok}\nsum,0,0,1\n" ∷ [];
     }
-    ∷ []
-
--- a wrong one is named in the error
-pass-11 : All-print files-11
-unfolding prints files-11
-pass-11 = (refl, (refl, (refl, (refl, (refl, (refl, (refl, (refl, tt))))))))
-
--- rule-4-tokens to rule-7
-files-12 : List Small
-files-12 =
-    record {
+    ∷ record {
       name = "rule-4-tokens";
       file = "ask,0,0\nfree,__uu__PartialApp\nfree,x\nfree,f@to\ncall,ApplyTT,0,2\ncall,Valid,3\nassume,a,0,4\nleaf\n"
           ∷ "call,ApplyTT,0,5\ncall,Valid,6\nassume,b,0,7\ncall,g@tok,1\ncall,ApplyTT,0,8\ncall,Valid,9\n"
@@ -1121,7 +1363,17 @@ files-12 =
       file = "ask,0,0\nfree,p\nfree,q\ncall,HasType,1,0\nassume,x,0,2\n" ∷ [];
       printed = "fact,5,triggers,{q} free={p q}\nsum,0,0,1\n" ∷ [];
     }
-    ∷ record {
+    ∷ []
+
+-- a wrong one is named in the error
+pass-14 : All-print files-14
+unfolding prints files-14
+pass-14 = (refl, (refl, (refl, (refl, (refl, (refl, tt))))))
+
+-- rule-6 to rule-9-half-right
+files-15 : List Small
+files-15 =
+    record {
       name = "rule-6";
       file = "ask,0,0\nfree,p\nfree,q\ncall,Term_constr_id,1\nop,eq,0,2\nassume,equation_x,0,3\n" ∷ [];
       printed = "fact,6,triggers,{q} free={Term_constr_id p q}\nsum,0,0,1\n" ∷ [];
@@ -1153,17 +1405,7 @@ files-12 =
       file = "ask,0,0\nfree,p\nfree,q\nall,0,1,1,1\nlabel,2\nall,0,2,1,0,0\nop,and,0,3,4,2\nassume,x,0,5\n" ∷ [];
       printed = "fact,8,triggers,{q},{p},{},{q} free={p q}\nsum,0,0,1\n" ∷ [];
     }
-    ∷ []
-
--- a wrong one is named in the error
-pass-12 : All-print files-12
-unfolding prints files-12
-pass-12 = (refl, (refl, (refl, (refl, (refl, (refl, (refl, (refl, tt))))))))
-
--- rule-7-nested to rule-9-has-eq
-files-13 : List Small
-files-13 =
-    record {
+    ∷ record {
       name = "rule-7-nested";
       file = "ask,0,0\nfree,p\nfree,q\nall,0,1,1,1\nop,and,2\nop,and,3\nassume,x,0,4\n" ∷ [];
       printed = "fact,7,triggers free={p q}\nsum,0,0,1\n" ∷ [];
@@ -1200,7 +1442,17 @@ files-13 =
       file = "ask,0,0\nfree,p\nfree,q\ncall,Prims.hasEq,0,1\ncall,Valid,2\nop,iff,0,3\nassume,x,0,4\n" ∷ [];
       printed = "fact,7,triggers,{p},{Prims.hasEq p q} free={Prims.hasEq p q}\nsum,0,0,1\n" ∷ [];
     }
-    ∷ record {
+    ∷ []
+
+-- a wrong one is named in the error
+pass-15 : All-print files-15
+unfolding prints files-15
+pass-15 = (refl, (refl, (refl, (refl, (refl, (refl, (refl, (refl, (refl, tt)))))))))
+
+-- rule-9-has-eq to without-hide-needs-both-names
+files-16 : List Small
+files-16 =
+    record {
       name = "rule-9-has-eq";
       file = "ask,0,0\nfree,u\nfree,s\nfree,t\ncall,Prims.hasEq,0,1\ncall,Valid,3\ncall,Prims.hasEq,0,2\n"
           ∷ "call,Valid,5\nop,iff,4,6\nassume,a,0,7\nop,iff,6,4\nassume,b,0,8\nop,iff,4,0\nassume,c,0,9\nop,iff,3,5\n"
@@ -1218,9 +1470,14 @@ files-13 =
           ∷ "fact,31,triggers,{Prims.hasEq s u},{Prims.hasEq t u} free={Prims.hasEq s t u}\nsum,0,0,1\n"
           ∷ [];
     }
+    ∷ record {
+      name = "without-hide-needs-both-names";
+      file = "ask,0,0\nfree,p\ncall,w,0\nfree,q\nall,2,1,1,1\nassume,a,0,3\nroot,0,r,0\n" ∷ [];
+      printed = "fact,6,triggers,{p w} free={p q w}\nsum,0,1,1\n" ∷ [];
+    }
     ∷ []
 
 -- a wrong one is named in the error
-pass-13 : All-print files-13
-unfolding prints files-13
-pass-13 = (refl, (refl, (refl, (refl, (refl, (refl, tt))))))
+pass-16 : All-print files-16
+unfolding prints files-16
+pass-16 = (refl, (refl, tt))
