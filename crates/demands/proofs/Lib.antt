@@ -16,6 +16,7 @@ pub mod StateLaws
 pub mod Counts
 pub mod Queries
 pub mod Asks
+pub mod NeverFree
 pub mod Moved
 pub mod SameNames
 pub mod Unspelled

@@ -8,8 +8,11 @@ use lib.ListN.{length, getD}
 use Rattle.model.specs.Lists.{keep}
 use Rattle.model.specs.Names.{Name, bytes}
 use Rattle.model.specs.Lines.{Line, lines, fields, is-name}
-use Rattle.model.specs.Summaries.{exclude-names}
-use Rattle.model.specs.Reading.{Ask, State, start, read, excluded, read-lines}
+use Rattle.model.specs.Terms.{Term}
+use Rattle.model.specs.Summaries.{exclude-names, Fact, rule-4}
+use Rattle.model.specs.Reading.{Ask, Decl, Summary, Root, State, start, read, excluded, read-lines}
+use Rattle.model.specs.Pruning.{try-find, init-macro-freenames}
+use Rattle.model.specs.Rounds.{facts, definitions, macros}
 use Rattle.model.specs.Outcome.{listing}
 use Rattle.model.specs.Text.{name-on}
 use Rattle.demands.specs.LinesRead.{Lines-read, records-for}
@@ -24,6 +27,30 @@ abbrev pub Excluded-exact : Type 0
 Excluded-exact =
     (ls : List Line) (s : State) → read-lines exclude-names 1 start ls ≡ read s
     → excluded exclude-names s ≡ exclude-names ++ map (λ line. getD (fields (line .bytes)) 1 []) (keep (begins hide-words) ls)
+
+-- "What counts as a free name therefore depends on the file, in summaries, macros, triggers and roots alike": an excluded name is in
+-- no record; a disjunct that has it, by rule 4, is that name alone
+pub record Never-free (s : State) (name : Name) : Type 0 where
+  pub in-fact : (f : Fact) → List·Memᴰ f (facts (s .decls)) → List·Memᴰ name (f .free-names) → ⊥
+  pub in-disjunct : (f : Fact) (d : List Name) → List·Memᴰ f (facts (s .decls)) → List·Memᴰ d (f .triggers) → List·Memᴰ name d
+      → d ≡ name ∷ []
+  pub in-definition : (d : Decl) → List·Memᴰ d (definitions (s .decls)) → List·Memᴰ name (d .free-names) → ⊥
+  pub in-root : (r : Root) → List·Memᴰ r (s .roots) → List·Memᴰ name (r .free-names) → ⊥
+
+abbrev pub Excluded-never-free : Type 0
+Excluded-never-free =
+    (file : List ℕ) (s : State) → Lines-read file s → (name : Name) → List·Memᴰ name (excluded exclude-names s) → Never-free s name
+
+-- "The tokens of rule 4 .. are not subtracted": the rule gives the same whatever is excluded
+abbrev pub Tokens-kept : Type 0
+Tokens-kept =
+    (out out′ : List Name) (terms : List Term) (name : Name) (t : ℕ) → rule-4 out terms name t ≡ rule-4 out′ terms name t
+
+-- ".. and the names that the five starting macros open to": a name that no def has opens to what it does at the start
+abbrev pub Starting-macros-kept : Type 0
+Starting-macros-kept =
+    (decls : List Summary) (name : Name) → ((d : Decl) → List·Memᴰ d (definitions decls) → d .name ≢ name)
+    → try-find (macros decls) name ≡ try-find init-macro-freenames name
 
 -- two lists of lines: the second has one more, a line of the head behind the ask, which hides this name
 pub record One-hides (name : Name) (ls ms : List Line) : Type 0 where
