@@ -141,7 +141,7 @@ abbrev pub most-query : ℕ
 most-query = 255
 
 abbrev pub most-options : ℕ
-most-options = 7
+most-options = 15
 
 -- the fields of a line after its kind, left to right; `count` is the number of term lines so far
 unfoldable pub content : LineKind → ℕ → List Field → Result Content
@@ -230,6 +230,10 @@ pretyping-axioms a = eqb (a .options / 2 % 2) 1
 -- option 4, `prune_decls`
 unfoldable pub prune-decls : Ask → Bool
 prune-decls a = eqb (a .options / 4 % 2) 1
+
+-- option 8 of document 02: the bodies of kept definitions are followed, where option 4 is on too
+unfoldable pub follow-bodies : Ask → Bool
+follow-bodies a = eqb (a .options / 8 % 2) 1
 
 -- what reading carries from line to line. `hidden`: a name for each hide line. `names`: in order of first spelling. `decls` and
 -- `roots`: in file order

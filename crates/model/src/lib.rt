@@ -89,7 +89,7 @@ pub const MOST_USES: usize = 6144;
 // The highest number of a query and of options.
 pub const MOST_QUERY: u32 = 255;
 
-pub const MOST_OPTIONS: u32 = 7;
+pub const MOST_OPTIONS: u32 = 15;
 
 // The lines that a call can keep: every record line of a file.
 pub const MOST_KEPT: usize = MOST_RECORDS;
