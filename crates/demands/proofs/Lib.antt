@@ -34,8 +34,9 @@ pub mod ScanRounds
 pub mod ScanFile
 pub mod Pruned
 pub mod Demand2
-pub mod Room
 pub mod Order
+pub mod Bodies
+pub mod Room
 pub mod OrderCases
 pub mod Options
 pub mod History

@@ -31,7 +31,7 @@ quantifier-walk make count fs =
 -- the fields of a line are refused for what the walk meets
 content-walk : (k : LineKind) (count : ℕ) (fs : List Field) → why (content k count fs) ≡ walk count (due k) fs
 unfolding content due in-order then-terms
-content-walk kind.Ask count fs = walk-next (number-judged count 255) _ _ refl (λ f q h. walk-next (number-judged count 7) _ _ refl (λ f₁ options h₁. walk-end count _ _ refl)) fs
+content-walk kind.Ask count fs = walk-next (number-judged count 255) _ _ refl (λ f q h. walk-next (number-judged count 15) _ _ refl (λ f₁ options h₁. walk-end count _ _ refl)) fs
 content-walk kind.Hide count fs = walk-next (name-judged count) _ _ refl (λ f name h. walk-end count _ _ refl) fs
 content-walk kind.Free count fs = walk-next (name-judged count) _ _ refl (λ f name h. walk-end count _ _ refl) fs
 content-walk kind.Leaf count fs = walk-end count _ _ refl fs

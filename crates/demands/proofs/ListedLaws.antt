@@ -111,7 +111,7 @@ module _ (a : Ask) (decls : List Summary) (roots : List Root) (wf : Well-formed 
       (λ f i j. let (k, t) = reached-facts-elim (facts decls) (run a decls roots .reached) i in T-not (is-ambient (f .kind)) (reached-no-ambient f k t) (ambients-elim a (facts decls) j .1))
 
 -- no name is met first twice
-first-met-once : (ns : List Name) → Distinct (first-met ns)
+pub first-met-once : (ns : List Name) → Distinct (first-met ns)
 unfolding first-met remove
 first-met-once [] = none
 first-met-once (n ∷ ns) =
@@ -119,7 +119,7 @@ first-met-once (n ∷ ns) =
     (distinct-keep (λ m. not (same n m)) (first-met-once ns))
 
 -- no element is picked twice by names that are all different
-picked-once : {A : Type 0} (name : A → Name) (l : List A) → Distinct l → {ns : List Name} → Distinct ns
+pub picked-once : {A : Type 0} (name : A → Name) (l : List A) → Distinct l → {ns : List Name} → Distinct ns
     → Distinct (collect (λ n. keep (λ x. same (name x) n) l) ns)
 unfolding collect
 picked-once name l d none = none

@@ -27,7 +27,7 @@ use Rattle.demands.proofs.RecordLines.{rising-head, rising-tail, roots-
 use Rattle.demands.proofs.Pruned.{distinct-definitions, distinct-declarations}
 
 -- a list each element of which is so related to all after it
-data Ordered {A : Type 0} (R : A → A → Type 0) : List A → Type 0 where
+pub data Ordered {A : Type 0} (R : A → A → Type 0) : List A → Type 0 where
   end : Ordered R []
   ahead : {x : A} {l : List A} → ((y : A) → List·Memᴰ y l → R x y) → Ordered R l → Ordered R (x ∷ l)
 
@@ -61,7 +61,7 @@ ordered-reverse {R} (ahead {x} {l} f p) =
     (λ y z i j. rw (List·Memᴰ·eq-of-singleton j) (f y (reverse-elim l i))))
 
 -- lists so ordered with the same members are equal, where no two are related both ways
-ordered-unique : {A : Type 0} {R : A → A → Type 0} → ((x y : A) → R x y → R y x → ⊥)
+pub ordered-unique : {A : Type 0} {R : A → A → Type 0} → ((x y : A) → R x y → R y x → ⊥)
     → {l m : List A} → Ordered R l → Ordered R m → ((x : A) → List·Memᴰ x l ↔ List·Memᴰ x m) → l ≡ m
 ordered-unique apart end end h = refl
 ordered-unique apart end (ahead {x} g q) h = absurd (List·Memᴰ·not-nil (h x .1 (List·Memᴰ·head refl)))
@@ -117,7 +117,7 @@ module _ {A : Type 0} (key : A → ℕ) where
   falling-distinct (ahead {x} f p) = one-more (λ i. let z = f x i in omega arith) (falling-distinct p)
 
 -- a name first met is walked
-first-met-elim : (ns : List Name) {n : Name} → List·Memᴰ n (first-met ns) → List·Memᴰ n ns
+pub first-met-elim : (ns : List Name) {n : Name} → List·Memᴰ n (first-met ns) → List·Memᴰ n ns
 unfolding first-met remove
 first-met-elim [] i = i
 first-met-elim (m ∷ ns) i =
@@ -194,13 +194,13 @@ module _ (ds : List Decl) where
   kept-decls-fall names once = picked-fall (first-place names) once (ordered-reverse (first-met-rises names))
 
   -- those are kept whose name is walked
-  kept-decls-intro : (names : List Name) {d : Decl} → List·Memᴰ d ds → List·Memᴰ (d .name) names → List·Memᴰ d (kept-decls names ds)
+  pub kept-decls-intro : (names : List Name) {d : Decl} → List·Memᴰ d ds → List·Memᴰ (d .name) names → List·Memᴰ d (kept-decls names ds)
   unfolding kept-decls
   kept-decls-intro names {d} i j =
       collect-intro of-name (reverse-intro (first-met-intro names j)) (keep-intro (λ c. same (c .name) (d .name)) i (same-refl (d .name)))
 
   -- and no others
-  kept-decls-name : (names : List Name) {d : Decl} → List·Memᴰ d (kept-decls names ds) → List·Memᴰ (d .name) names
+  pub kept-decls-name : (names : List Name) {d : Decl} → List·Memᴰ d (kept-decls names ds) → List·Memᴰ (d .name) names
   unfolding kept-decls
   kept-decls-name names {d} i =
       let (n, j, o) = collect-elim of-name (reverse (first-met names)) i in
@@ -224,7 +224,7 @@ module _ (ds : List Decl) where
       }
 
 -- the lines of two lists, where both may be left out
-lines-apart : (option-4 : Bool) (defs funs : List Decl)
+pub lines-apart : (option-4 : Bool) (defs funs : List Decl)
     → cond option-4 (map (λ (d : Decl). d .line) (defs ++ funs)) [] ≡ map (λ (d : Decl). d .line) (cond option-4 defs [] ++ cond option-4 funs [])
 lines-apart true defs funs = refl
 lines-apart false defs funs = refl

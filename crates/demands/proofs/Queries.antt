@@ -12,7 +12,8 @@ use Rattle.model.specs.Lines.{Line, Field, fields, number}
 use Rattle.model.specs.Summaries.{exclude-names, free-top-level-names}
 use Rattle.model.specs.Reading.{ok, next, name-field, number-field, term-field, kinds, word, most-query, content, parse, Content, root, Ask, Summary, Root, State, start, heads, nodes, summarize-decl, root-of, excluded, add-line, read, read-line, read-lines}
 use Rattle.model.specs.Rounds.{asks-for, goal-roots, first-scanned, run}
-use Rattle.model.specs.Kept.{kept, kept-names}
+use Rattle.model.specs.Kept.{kept-names}
+use Rattle.model.specs.Bodies.{kept-followed}
 use Rattle.model.specs.Outcome.{first-ask, goal, listing, filtered}
 use Rattle.model.specs.declared.LineKind.{LineKind}
 use Rattle.model.specs.declared.LineKind.the-variants as kind
@@ -160,8 +161,8 @@ run-roots a decls roots roots′ e = rw e
 
 -- so does the kept list
 kept-roots : (a : Ask) (decls : List Summary) (roots roots′ : List Root) (reached : List Name) → goal-roots a roots ≡ goal-roots a roots′
-    → kept a decls roots reached ≡ kept a decls roots′ reached
-unfolding kept kept-names
+    → kept-followed a decls roots reached ≡ kept-followed a decls roots′ reached
+unfolding kept-followed kept-names
 kept-roots a decls roots roots′ reached e = rw e
 
 -- what an ask comes to depends on the roots of its queries only

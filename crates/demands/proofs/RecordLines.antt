@@ -133,6 +133,20 @@ module _ (decls : List Summary) (once : Distinct (collect line-of decls)) where
       let is : Sum-assume f ≡ Sum-assume g = one-record (f .line) (fact-summary decls i) (fact-summary decls j) (List·Memᴰ·head refl) (List·Memᴰ·head e) in
       cc
 
+  -- two definitions on one line are one
+  pub definition-by-line : {c d : Decl} → List·Memᴰ c (definitions decls) → List·Memᴰ d (definitions decls) → c .line ≡ d .line → c ≡ d
+  unfolding line-of
+  definition-by-line {c} {d} i j e =
+      let is : Sum-definefun c ≡ Sum-definefun d = one-record (c .line) (definition-summary decls i) (definition-summary decls j) (List·Memᴰ·head refl) (List·Memᴰ·head e) in
+      cc
+
+  -- two declarations on one line are one
+  pub declaration-by-line : {c d : Decl} → List·Memᴰ c (declarations decls) → List·Memᴰ d (declarations decls) → c .line ≡ d .line → c ≡ d
+  unfolding line-of
+  declaration-by-line {c} {d} i j e =
+      let is : Sum-declfun c ≡ Sum-declfun d = one-record (c .line) (declaration-summary decls i) (declaration-summary decls j) (List·Memᴰ·head refl) (List·Memᴰ·head e) in
+      cc
+
   -- no fact and definition stand on one line
   pub fact-or-definition : {f : Fact} {d : Decl} → List·Memᴰ f (facts decls) → List·Memᴰ d (definitions decls) → f .line ≡ d .line → ⊥
   unfolding line-of

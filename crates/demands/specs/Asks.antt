@@ -53,7 +53,7 @@ pub record One-ask (s : State) : Type 0 where
   pub query : ℕ
   pub has-query : asked .queries ≡ query ∷ []
   pub in-range : query ≤ 255
-  pub few-options : asked .options ≤ 7
+  pub few-options : asked .options ≤ 15
 
 abbrev pub Accepted-asks : Type 0
 Accepted-asks = (file : List ℕ) (s : State) → Lines-read file s → One-ask s

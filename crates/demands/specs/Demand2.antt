@@ -9,6 +9,7 @@ use Rattle.model.specs.Reading.{Ask, no-ambients, pretyping-axioms, prune-decls
 use Rattle.model.specs.Pruning.{Ctxt, Passumption, PruningState, init, add-summaries, passumption-of-root, prune, scan}
 use Rattle.model.specs.Rounds.{facts, goal-roots, visits}
 use Rattle.model.specs.Kept.{kept}
+use Rattle.model.specs.Bodies.{kept-followed}
 use Rattle.demands.specs.LinesRead.{Lines-read, records-for, Distinct}
 use Rattle.demands.specs.Scans.{Scans}
 use Rattle.demands.specs.Demand3.{run-of}
@@ -43,6 +44,10 @@ pruned a s = prune (no-ambients a) (pretyping-axioms a) (prune-decls a) (filed-s
 -- document 01's list
 abbrev pub kept-list : Ask → State → List ℕ
 kept-list a s = kept a (records-for a s) (s .roots) (run-of a s .reached)
+
+-- the list with what the bodies of kept definitions add, document 02, Change 8: "demand 2 speaks of" the one without
+abbrev pub followed-list : Ask → State → List ℕ
+followed-list a s = kept-followed a (records-for a s) (s .roots) (run-of a s .reached)
 
 -- "the kept list and its order equal what Pruning.fst computes", the order inside the definitions and inside the
 -- declarations too

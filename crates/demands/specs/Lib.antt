@@ -15,6 +15,7 @@ pub mod Asks
 pub mod Moved
 pub mod Hidden
 pub mod Order
+pub mod Bodies
 pub mod Options
 pub mod FreeNames
 pub mod Bytes

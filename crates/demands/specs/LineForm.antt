@@ -61,7 +61,7 @@ then-terms s (f ∷ fs) = may a-term
 
 -- what stands next in a line of this kind, after these fields
 unfoldable pub due : LineKind → List Field → Due
-due kind.Ask fs = in-order (a-number 255 ∷ a-number 7 ∷ []) fs
+due kind.Ask fs = in-order (a-number 255 ∷ a-number 15 ∷ []) fs
 due kind.Hide fs = in-order (a-name ∷ []) fs
 due kind.Free fs = in-order (a-name ∷ []) fs
 due kind.Leaf fs = in-order [] fs

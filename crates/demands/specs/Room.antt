@@ -2,8 +2,16 @@
 use Prim.Native.Nat.{ℕ, _≤_}
 use mathlib.Core.Path.{_≡_}
 use mathlib.Core.List.{List}
+use lib.ListN.{length}
+use Rattle.model.specs.Reading.{Ask, State}
 use Rattle.model.specs.Outcome.{Lent, refusal-at, most-kept, outcome}
 use Rattle.model.specs.declared.Refusal.the-variants as refusal
+use Rattle.demands.specs.LinesRead.{Lines-read, records-for}
+use Rattle.demands.specs.Demand2.{followed-list}
+
+-- there are no more kept lines than records, where bodies are followed too
+abbrev pub Followed-room : Type 0
+Followed-room = (file : List ℕ) (s : State) → Lines-read file s → (a : Ask) → length (followed-list a s) ≤ length (records-for a s)
 
 -- a call over a result slice with room for every record line never comes to 8
 abbrev pub Room-enough : Type 0

@@ -7,3 +7,4 @@ pub mod HistoryLaws
 pub mod ReachedLaws
 pub mod ReadingLaws
 pub mod OptionLaws
+pub mod BodyLaws

@@ -5,7 +5,7 @@ use mathlib.Core.Path.{_≡_, refl, sym, ap}
 use mathlib.Core.Bool.{Bool, true, false, cond}
 use lib.Dec.{eqb}
 use borrow.Author.Tests.{eqb-true, eqb-false}
-use Rattle.model.specs.Reading.{Ask, no-ambients, pretyping-axioms, prune-decls}
+use Rattle.model.specs.Reading.{Ask, no-ambients, pretyping-axioms, prune-decls, follow-bodies, most-options}
 use Rattle.laws.specs.Places.{option-at, values-on}
 
 -- the option at place 0 counts what remains by 2
@@ -25,30 +25,41 @@ places-sum (suc k) n h = omega (arith, last-digit n, places-sum k (n / 2) (omega
 
 -- each option of an ask is at its place
 pub options-at-places : (a : Ask)
-    → (no-ambients a ≡ option-at 0 (a .options)) × (pretyping-axioms a ≡ option-at 1 (a .options)) × (prune-decls a ≡ option-at 2 (a .options))
-unfolding no-ambients pretyping-axioms prune-decls option-at
-options-at-places a = (refl, refl, ap (λ (n : ℕ). eqb (n % 2) 1) (let e : a .options / 4 ≡ a .options / 2 / 2 = omega arith in e))
+    → (no-ambients a ≡ option-at 0 (a .options))
+    × (pretyping-axioms a ≡ option-at 1 (a .options))
+    × (prune-decls a ≡ option-at 2 (a .options))
+    × (follow-bodies a ≡ option-at 3 (a .options))
+unfolding no-ambients pretyping-axioms prune-decls follow-bodies option-at
+options-at-places a = (
+  refl,
+  refl,
+  ap (λ (n : ℕ). eqb (n % 2) 1) (let e : a .options / 4 ≡ a .options / 2 / 2 = omega arith in e),
+  ap (λ (n : ℕ). eqb (n % 2) 1) (let e : a .options / 8 ≡ a .options / 2 / 2 / 2 = omega arith in e),
+)
 
 -- an option that is on counts its value
 counts : (b : Bool) (v : ℕ) → cond b v 0 ≡ v * cond b 1 0
 counts true v = omega arith
 counts false v = omega arith
 
--- three options, by the places
-three-places : (n : ℕ) → values-on 3 n ≡ cond (option-at 0 n) 1 0 + 2 * (cond (option-at 1 n) 1 0 + 2 * (cond (option-at 2 n) 1 0 + 2 * 0))
+-- four options, by the places
+four-places : (n : ℕ)
+    → values-on 4 n
+    ≡ cond (option-at 0 n) 1 0 + 2 * (cond (option-at 1 n) 1 0 + 2 * (cond (option-at 2 n) 1 0 + 2 * (cond (option-at 3 n) 1 0 + 2 * 0)))
 unfolding values-on option-at
-three-places n = refl
+four-places n = refl
 
 -- the options of an ask that are on, each at its value, sum to its number
-pub options-sum : (a : Ask) → a .options ≤ 7
-    → cond (no-ambients a) 1 0 + cond (pretyping-axioms a) 2 0 + cond (prune-decls a) 4 0 ≡ a .options
+pub options-sum : (a : Ask) → a .options ≤ most-options
+    → cond (no-ambients a) 1 0 + cond (pretyping-axioms a) 2 0 + cond (prune-decls a) 4 0 + cond (follow-bodies a) 8 0 ≡ a .options
 options-sum a h =
-    let (first, second, third) = options-at-places a in
-    rw (first, second, third)
+    let (first, second, third, fourth) = options-at-places a in
+    rw (first, second, third, fourth)
     (omega (
       arith,
       counts (option-at 1 (a .options)) 2,
       counts (option-at 2 (a .options)) 4,
-      three-places (a .options),
-      places-sum 3 (a .options) (omega arith),
+      counts (option-at 3 (a .options)) 8,
+      four-places (a .options),
+      places-sum 4 (a .options) (omega arith),
     ))

@@ -1,0 +1,61 @@
+-- Change 8, for every accepted file and every ask over it: "With 4 and 8 together, every def or fun whose name is free in the
+-- body of a kept def is kept too, to any depth." Said of the list itself and not by the function that makes it.
+use Prim.Native.Nat.{ℕ}
+use mathlib.Core.Path.{_≡_}
+use mathlib.Core.Bool.{Bool, not, _&&_}
+use mathlib.Core.List.{List, _++_, map, List·Memᴰ}
+use lib.Dec.{T}
+use Rattle.model.specs.Names.{Ascending}
+use Rattle.model.specs.Summaries.{Fact}
+use Rattle.model.specs.Reading.{Ask, prune-decls, follow-bodies, Decl, Summary, State}
+use Rattle.model.specs.Rounds.{definitions, declarations}
+use Rattle.demands.specs.LinesRead.{Lines-read, records-for, Distinct}
+use Rattle.demands.specs.Demand2.{kept-list, followed-list}
+use Rattle.demands.specs.Order.{listed-facts}
+
+-- a set of lines that has, with a def, every def and fun whose name is free in its body
+pub record Closed-lines (decls : List Summary) (has : ℕ → Type 0) : Type 0 where
+  pub has-every : (d e : Decl) → List·Memᴰ d (definitions decls) → List·Memᴰ e (definitions decls ++ declarations decls)
+      → List·Memᴰ (e .name) (d .free-names) → has (d .line) → has (e .line)
+
+-- "the smallest closed in this way that holds the list without the added ones"
+pub record Smallest (a : Ask) (s : State) (lines : List ℕ) : Type 0 where
+  pub closed : Closed-lines (records-for a s) (λ n. List·Memᴰ n lines)
+  pub holds : (n : ℕ) → List·Memᴰ n (kept-list a s) → List·Memᴰ n lines
+  pub least : (has : ℕ → Bool) → Closed-lines (records-for a s) (λ n. T (has n)) → ((n : ℕ) → List·Memᴰ n (kept-list a s) → T (has n))
+      → (n : ℕ) → List·Memᴰ n lines → T (has n)
+
+-- Change 8 of a file that was read, and of a list of lines
+pub record Bodies-followed (a : Ask) (s : State) (lines : List ℕ) : Type 0 where
+  pub defs : List Decl
+  pub added-defs : List Decl
+  pub funs : List Decl
+  pub added-funs : List Decl
+  pub are-definitions : (d : Decl) → List·Memᴰ d (defs ++ added-defs) → List·Memᴰ d (definitions (records-for a s))
+  pub are-declarations : (d : Decl) → List·Memᴰ d (funs ++ added-funs) → List·Memᴰ d (declarations (records-for a s))
+  -- "the list without the added ones; demand 2 speaks of that list"
+  pub without : kept-list a s ≡ map (λ (f : Fact). f .line) (listed-facts a s) ++ map (λ (d : Decl). d .line) (defs ++ funs)
+  pub new : (d : Decl) → List·Memᴰ d (added-defs ++ added-funs) → List·Memᴰ (d .line) (kept-list a s) → ⊥
+  -- "The added ones stand at the end of their group"
+  pub list : lines
+      ≡ map (λ (f : Fact). f .line) (listed-facts a s) ++ map (λ (d : Decl). d .line) ((defs ++ added-defs) ++ (funs ++ added-funs))
+  -- "in byte order of name"
+  pub defs-by-name : Ascending (map (λ (d : Decl). d .name) added-defs)
+  pub funs-by-name : Ascending (map (λ (d : Decl). d .name) added-funs)
+  -- "With 4 and 8 together"
+  pub smallest : T (prune-decls a) → T (follow-bodies a) → Smallest a s lines
+  -- "the old option remains as it is", and 8 counts with 4 alone
+  pub as-it-was : T (not (prune-decls a && follow-bodies a)) → lines ≡ kept-list a s
+
+-- the list is so
+abbrev pub List-followed : Type 0
+List-followed = (file : List ℕ) (s : State) → Lines-read file s → (a : Ask) → Bodies-followed a s (followed-list a s)
+
+-- no other list is
+abbrev pub Followed-fixed : Type 0
+Followed-fixed =
+    (file : List ℕ) (s : State) → Lines-read file s → (a : Ask) (lines : List ℕ) → Bodies-followed a s lines → lines ≡ followed-list a s
+
+-- each line stands once
+abbrev pub Followed-once : Type 0
+Followed-once = (file : List ℕ) (s : State) → Lines-read file s → (a : Ask) → Distinct (followed-list a s)
