@@ -21,19 +21,19 @@ use Rattle.reader.specs.Lines.{Asks, asks, not-asked}
 -- ---- its fields
 
 module _ (count : ℕ) (fs : List Field) where
-  pub ask-is : {q options : ℕ} {gs hs : List Field} → next (number-field 255) fs ≡ ok (q, gs) → next (number-field 7) gs ≡ ok (options, hs)
+  pub ask-is : {q options : ℕ} {gs hs : List Field} → next (number-field 255) fs ≡ ok (q, gs) → next (number-field 15) gs ≡ ok (options, hs)
       → end (head (ask q options)) hs ≡ ok (head (ask q options))
       → content kind.Ask count fs ≡ ok (head (ask q options))
   unfolding content
   ask-is a b e = rw (a, b, e)
 
-  pub ask-more : {q options : ℕ} {gs hs : List Field} → next (number-field 255) fs ≡ ok (q, gs) → next (number-field 7) gs ≡ ok (options, hs)
+  pub ask-more : {q options : ℕ} {gs hs : List Field} → next (number-field 255) fs ≡ ok (q, gs) → next (number-field 15) gs ≡ ok (options, hs)
       → end (head (ask q options)) hs ≡ refused refusal.Form
       → content kind.Ask count fs ≡ refused refusal.Form
   unfolding content
   ask-more a b e = rw (a, b, e)
 
-  pub ask-options-not : {q : ℕ} {gs : List Field} {x : Refusal} → next (number-field 255) fs ≡ ok (q, gs) → next (number-field 7) gs ≡ refused x
+  pub ask-options-not : {q : ℕ} {gs : List Field} {x : Refusal} → next (number-field 255) fs ≡ ok (q, gs) → next (number-field 15) gs ≡ refused x
       → content kind.Ask count fs ≡ refused x
   unfolding content
   ask-options-not a b = rw (a, b)
@@ -49,24 +49,24 @@ module _ {file : List ℕ} {c : Cursor} (k : Counts) (p : Placed file c) {r : Nu
   pub asks-not : {recs : List ℕ} {x : Refusal} → r ≡ numbered.Refused x → Asks recs recs k (content kind.Ask (k .terms) (fields-left file c)) (step.Refused x)
   asks-not {x = x} b = not-asked {x = x} (ask-not (k .terms) (fields-left file c) (number-not p 255 a b)) refl
 
-  module _ {q : ℕ} {n : Cursor} (b : r ≡ numbered.Number q n) {s : NumberStep} (d : s ≡ number-at 7 file n) where
+  module _ {q : ℕ} {n : Cursor} (b : r ≡ numbered.Number q n) {s : NumberStep} (d : s ≡ number-at 15 file n) where
     -- the cursor after the query
     after : Placed file n
     after = number-placed 255 p a b
 
     -- its options are refused
     pub asks-options-not : {recs : List ℕ} {x : Refusal} → s ≡ numbered.Refused x → Asks recs recs k (content kind.Ask (k .terms) (fields-left file c)) (step.Refused x)
-    asks-options-not {x = x} e = not-asked {x = x} (ask-options-not (k .terms) (fields-left file c) (number-read p 255 a b) (number-not after 7 d e)) refl
+    asks-options-not {x = x} e = not-asked {x = x} (ask-options-not (k .terms) (fields-left file c) (number-read p 255 a b) (number-not after 15 d e)) refl
 
     -- a field is left over
     pub asks-more : {recs : List ℕ} {options : ℕ} {l : Cursor} → s ≡ numbered.Number options l → l .at ≤ l .end
         → Asks recs recs k (content kind.Ask (k .terms) (fields-left file c)) (step.Refused refusal.Form)
     asks-more {options = options} {l} e h = not-asked {x = refusal.Form}
-        (ask-more (k .terms) (fields-left file c) (number-read p 255 a b) (number-read after 7 d e) (end-more (head (ask q options)) file l h)) refl
+        (ask-more (k .terms) (fields-left file c) (number-read p 255 a b) (number-read after 15 d e) (end-more (head (ask q options)) file l h)) refl
 
     -- it asks
     pub asks-is : {recs recs′ : List ℕ} {options : ℕ} {l : Cursor} {f : Counts} → s ≡ numbered.Number options l → l .end < l .at
         → f ≡ with-ask k → Asked-at recs recs′ k q options
         → Asks recs recs′ k (content kind.Ask (k .terms) (fields-left file c)) (step.On f)
     asks-is {options = options} {l} e h z w = rw z (asks {q = q} {options = options}
-        (ask-is (k .terms) (fields-left file c) (number-read p 255 a b) (number-read after 7 d e) (end-none (head (ask q options)) file l h)) w)
+        (ask-is (k .terms) (fields-left file c) (number-read p 255 a b) (number-read after 15 d e) (end-none (head (ask q options)) file l h)) w)
