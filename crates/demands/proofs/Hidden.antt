@@ -5,27 +5,28 @@ use native.Mathlib.Omega.{arith}
 use mathlib.Core.Path.{_≡_, refl, sym, _∙_, ap, ap₂, subst}
 use mathlib.Core.Logic.{_≢_, inl, ⊎-elim}
 use mathlib.Core.Bool.{Bool, true, false, cond, not, _&&_}
-use mathlib.Core.List.{List, [], _∷_, _++_, map, map-map, map-append, append-nil, append-assoc, List·Memᴰ, List·Memᴰ·head, List·Memᴰ·tail, List·Memᴰ·not-nil, List·Memᴰ·append-cases}
+use mathlib.Core.List.{List, [], _∷_, _++_, map, map-map, append-nil, append-assoc, List·Memᴰ, List·Memᴰ·head, List·Memᴰ·tail, List·Memᴰ·not-nil, List·Memᴰ·append-cases, Memᴰ·append-left}
 use lib.Dec.{T, not-T}
 use lib.ListN.{length, getD, length-append}
 use Rattle.model.specs.Lists.{keep, any, all, sum, collect, fold-left, holds, is-nil}
 use Rattle.model.specs.Names.{Name, bytes, by-byte, order, is-same, same, mem}
 use Rattle.model.specs.Lines.{Line, lines, Field, fields, is-name}
 use Rattle.model.specs.Summaries.{exclude-names}
-use Rattle.model.specs.Reading.{Head, hide, head, ok, next, end, name-field, kinds, word, content, Ask, prune-decls, Decl, State, start, read, in-head, a-hide, place, may-stand, fixed-count, parse, head-asks, hidden-by, heads, nodes, spelled, spell, limits, summarize-decl, trimmed, root-of, excluded, add-line, repeats, read-line, read-lines, read-file}
+use Rattle.model.specs.Reading.{Head, hide, head, ok, next, end, name-field, kinds, word, content, Ask, Decl, State, start, read, in-head, a-hide, place, may-stand, fixed-count, parse, head-asks, hidden-by, heads, nodes, spelled, spell, limits, summarize-decl, trimmed, root-of, excluded, add-line, repeats, read-line, read-lines, read-file}
 use Rattle.model.specs.Rounds.{facts, definitions, declarations}
-use Rattle.model.specs.Kept.{kept-facts, kept-names, kept-decls, kept}
 use Rattle.model.specs.Outcome.{list, listing}
 use Rattle.model.specs.Text.{name-on}
 use Rattle.model.specs.declared.LineKind.the-variants as kind
-use Rattle.model.proofs.ListLaws.{T-and, T-ext, T-true, cond-false, is-nil-elim, all-intro, option-elim, map-intro}
+use Rattle.model.proofs.ListLaws.{T-and, T-ext, T-true, cond-false, is-nil-elim, all-intro, map-intro, map-elim}
 use Rattle.model.proofs.SetLaws.{mem-append, mem-cons, mem-elim}
 use Rattle.demands.specs.LinesRead.{Lines-read, records-for}
-use Rattle.demands.specs.Demand2.{kept-list}
+use Rattle.demands.specs.Demand2.{kept-list, followed-list}
 use Rattle.demands.specs.Demand3.{run-of}
 use Rattle.demands.specs.Counts.{hide-words, begins}
 use Rattle.demands.specs.Asks.{head-words}
 use Rattle.demands.specs.Moved.{moved-fact, moved-decl, moved, moved-root, moved-outcome}
+use Rattle.demands.specs.Order.{listed-facts}
+use Rattle.demands.specs.Bodies.{Bodies-followed}
 use Rattle.demands.specs.Printed.{Names-on-lines}
 use Rattle.demands.specs.Hidden.{Excluded-exact, One-hides, Room-for, down, One-down, Unspelled-hidden}
 use Rattle.laws.proofs.ReadingLaws.{within, lines-read, none-read, added-line, line-read, file-read, kept-by-lines}
@@ -34,9 +35,10 @@ use Rattle.demands.proofs.LineForm.{parse-fields}
 use Rattle.demands.proofs.LineFields.{Head-by, one-ask, one-hide, no-head}
 use Rattle.demands.proofs.Heads.{headed-line}
 use Rattle.demands.proofs.Asks.{on-lines, asked-once, read-head}
-use Rattle.demands.proofs.ListedLaws.{kept-fact-line, kept-decl-line}
+use Rattle.demands.proofs.ListedLaws.{kept-fact-line}
 use Rattle.demands.proofs.StateLaws.{State-laws, laws-start, laws-line}
-use Rattle.demands.proofs.Moved.{moved-facts, moved-definitions, moved-declarations, lines-apart}
+use Rattle.demands.proofs.Moved.{moved-facts, moved-definitions, moved-declarations, lines-apart, kept-apart}
+use Rattle.demands.proofs.Bodies.{list-followed}
 use Rattle.demands.proofs.Printed.{printed-names}
 use Rattle.demands.proofs.Unspelled.{lowered, One-name-more, limits-lowered, grows-lines, room-before, lines-lowered}
 
@@ -186,9 +188,9 @@ lines-of : {l m : List ℕ} {v v′ r r′ : ℕ} → list l v r ≡ list m v′
 lines-of e = cc
 
 -- the kept lines of an ask whose list is that of another state, moved
-kept-moved : (a : Ask) (s t : State) → listing a (t .decls) (t .roots) ≡ moved-outcome down (listing a (s .decls) (s .roots)) → kept-list a t ≡ map down (kept-list a s)
+followed-moved : (a : Ask) (s t : State) → listing a (t .decls) (t .roots) ≡ moved-outcome down (listing a (s .decls) (s .roots)) → followed-list a t ≡ map down (followed-list a s)
 unfolding listing moved-outcome
-kept-moved a s t e = lines-of e
+followed-moved a s t e = lines-of e
 
 -- general law
 map-same : {A B : Type 0} (f g : A → B) (l : List A) → ((x : A) → List·Memᴰ x l → f x ≡ g x) → map f l ≡ map g l
@@ -196,35 +198,35 @@ map-same f g [] h = refl
 map-same f g (x ∷ l) h = ap₂ _∷_ (h x (List·Memᴰ·head refl)) (map-same f g l (λ y i. h y (List·Memᴰ·tail i)))
 
 module _ (file file′ : List ℕ) (s : State) (hidden names : List Name) (e : Lines-read file s) (e′ : Lines-read file′ (lowered hidden names s)) where
-  -- the name on a kept line is that on the line below it in the second file
-  name-down : (a : Ask) (n : ℕ) → List·Memᴰ n (kept-list a s) → name-on file′ (down n) ≡ name-on file n
-  unfolding kept moved-fact moved-decl
-  name-down a n m = ⊎-elim
+  here : Names-on-lines file s
+  here = printed-names file s e
+
+  there : Names-on-lines file′ (lowered hidden names s)
+  there = printed-names file′ (lowered hidden names s) e′
+
+  of-line : {n line : ℕ} {name : Name} → line ≡ n → name-on file line ≡ name → name-on file′ (down line) ≡ name → name-on file′ (down n) ≡ name-on file n
+  of-line p q r = ap (λ x. name-on file′ (down x)) (sym p) ∙ r ∙ sym q ∙ ap (name-on file) p
+
+  -- the name on the line of a kept fact, of a definition or of a declaration is that on the line below it in the second file
+  name-down : (a : Ask) (defs funs : List Decl) → ((d : Decl) → List·Memᴰ d defs → List·Memᴰ d (definitions (records-for a s)))
+      → ((d : Decl) → List·Memᴰ d funs → List·Memᴰ d (declarations (records-for a s)))
+      → (n : ℕ) → List·Memᴰ n (map (λ f. f .line) (listed-facts a s) ++ map (λ d. d .line) (defs ++ funs)) → name-on file′ (down n) ≡ name-on file n
+  unfolding moved-fact moved-decl
+  name-down a defs funs are-defs are-funs n m = ⊎-elim
       (λ i. let (f, k, p) = kept-fact-line a (facts (records-for a s)) (run-of a s .reached) i in
       of-line p (here .of-fact f k) (there .of-fact (moved-fact down f) (rw (moved-facts down (s .decls)) (map-intro (moved-fact down) k))))
-      (λ i. of-decl (option-elim (prune-decls a) i))
-      (List·Memᴰ·append-cases (map (λ f. f .line) (kept-facts a (facts (records-for a s)) (run-of a s .reached))) m)
-    where
-      here : Names-on-lines file s
-      here = printed-names file s e
+      (λ i. let (d, j, p) = map-elim (λ (d : Decl). d .line) (defs ++ funs) i in
+      ⊎-elim
+      (λ k. of-line p (here .of-definition d (are-defs d k))
+      (there .of-definition (moved-decl down d) (rw (moved-definitions down (s .decls)) (map-intro (moved-decl down) (are-defs d k)))))
+      (λ k. of-line p (here .of-declaration d (are-funs d k))
+      (there .of-declaration (moved-decl down d) (rw (moved-declarations down (s .decls)) (map-intro (moved-decl down) (are-funs d k)))))
+      (List·Memᴰ·append-cases defs j))
+      (List·Memᴰ·append-cases (map (λ f. f .line) (listed-facts a s)) m)
 
-      there : Names-on-lines file′ (lowered hidden names s)
-      there = printed-names file′ (lowered hidden names s) e′
-
-      of-line : {line : ℕ} {name : Name} → line ≡ n → name-on file line ≡ name → name-on file′ (down line) ≡ name → name-on file′ (down n) ≡ name-on file n
-      of-line p q r = ap (λ x. name-on file′ (down x)) (sym p) ∙ r ∙ sym q ∙ ap (name-on file) p
-
-      met : List Name
-      met = kept-names a (facts (records-for a s)) (s .roots) (run-of a s .reached)
-
-      of-decl : List·Memᴰ n (map (λ d. d .line) (kept-decls met (definitions (records-for a s)) ++ kept-decls met (declarations (records-for a s))))
-          → name-on file′ (down n) ≡ name-on file n
-      of-decl i = ⊎-elim
-          (λ j. let (d, k, p) = kept-decl-line met (definitions (records-for a s)) j in
-          of-line p (here .of-definition d k) (there .of-definition (moved-decl down d) (rw (moved-definitions down (s .decls)) (map-intro (moved-decl down) k))))
-          (λ j. let (d, k, p) = kept-decl-line met (declarations (records-for a s)) j in
-          of-line p (here .of-declaration d k) (there .of-declaration (moved-decl down d) (rw (moved-declarations down (s .decls)) (map-intro (moved-decl down) k))))
-          (List·Memᴰ·append-cases (map (λ (d : Decl). d .line) (kept-decls met (definitions (records-for a s)))) (rw map-append at i))
+  -- the same names stand on two lists, where one has the lines of the other moved down
+  named-down : (l m : List ℕ) → m ≡ map down l → ((n : ℕ) → List·Memᴰ n l → name-on file′ (down n) ≡ name-on file n) → map (name-on file′) m ≡ map (name-on file) l
+  named-down l m p h = ap (map (name-on file′)) p ∙ map-map (name-on file′) down l ∙ map-same (λ n. name-on file′ (down n)) (name-on file) l h
 
   -- every ask has the same answer, one line down
   one-down : One-down file file′ s (lowered hidden names s)
@@ -233,16 +235,28 @@ module _ (file file′ : List ℕ) (s : State) (hidden names : List Name) (e : L
         accepted = e′;
         asks = refl;
         listed = listed;
+        followed = followed-down;
         kept = kept-down;
-        named = λ a. ap (map (name-on file′)) (kept-down a) ∙ map-map (name-on file′) down (kept-list a s)
-            ∙ map-same (λ n. name-on file′ (down n)) (name-on file) (kept-list a s) (name-down a);
+        followed-named = λ a. let p = parts a in
+            named-down (followed-list a s) (followed-list a (lowered hidden names s)) (followed-down a)
+            (λ n i. name-down a (p .defs ++ p .added-defs) (p .funs ++ p .added-funs) (p .are-definitions) (p .are-declarations) n (rw (p .list) at i));
+        named = λ a. let p = parts a in
+            named-down (kept-list a s) (kept-list a (lowered hidden names s)) (kept-down a)
+            (λ n i. name-down a (p .defs) (p .funs) (λ d j. p .are-definitions d (Memᴰ·append-left (p .added-defs) j))
+            (λ d j. p .are-declarations d (Memᴰ·append-left (p .added-funs) j)) n (rw (p .without) at i));
       }
     where
+      parts : (a : Ask) → Bodies-followed a s (followed-list a s)
+      parts a = list-followed file s e a
+
       listed : (a : Ask) → listing a (map (moved down) (s .decls)) (map (moved-root down) (s .roots)) ≡ moved-outcome down (listing a (s .decls) (s .roots))
       listed a = lines-apart down (s .decls) (s .roots) a
 
+      followed-down : (a : Ask) → followed-list a (lowered hidden names s) ≡ map down (followed-list a s)
+      followed-down a = followed-moved a s (lowered hidden names s) (listed a)
+
       kept-down : (a : Ask) → kept-list a (lowered hidden names s) ≡ map down (kept-list a s)
-      kept-down a = kept-moved a s (lowered hidden names s) (listed a)
+      kept-down a = kept-apart down (s .decls) (s .roots) a
 
 -- hiding a name that no line spells changes no answer
 pub unspelled-hidden : Unspelled-hidden

@@ -5,15 +5,16 @@ use mathlib.Core.Bool.{Bool, true, false, cond, not, _&&_}
 use mathlib.Core.List.{List, [], _∷_, _++_, map, map-map, map-append, reverse}
 use lib.ListN.{length}
 use Rattle.model.specs.Lists.{keep, collect, is-nil}
-use Rattle.model.specs.Names.{Name, same, mem, union}
+use Rattle.model.specs.Names.{Name, same, mem, from-list, union}
 use Rattle.model.specs.Summaries.{Fact}
 use Rattle.model.specs.Reading.{Ask, Decl, Summary, Sum-assume, Sum-definefun, Sum-declfun, Sum-retain, Root, no-ambients, prune-decls}
 use Rattle.model.specs.Pruning.{Map, init-macro-freenames}
 use Rattle.model.specs.Rounds.{Run, first-run, most-rounds, facts, definitions, declarations, macros, listed, filed, triggers-in, retainable, met-after, triggered, fresh, after-round, next-scanned, rounds-from, is-ambient, is-ambient-root, asks-for, goal-roots, ambient-roots, first-scanned, run, visits}
 use Rattle.model.specs.Kept.{reached-facts, ambients, kept-facts, kept-names, first-met, kept-decls, kept}
+use Rattle.model.specs.Bodies.{with-bodies, followed, all-followed, added-names, of-names, added-for, kept-followed}
 use Rattle.model.specs.Outcome.{listing}
 use Rattle.model.proofs.ListLaws.{cond-ap, collect-map, collect-cong, map-collect, map-reverse}
-use Rattle.demands.specs.Moved.{moved-fact, moved-decl, moved, moved-root, moved-outcome, Lines-apart}
+use Rattle.demands.specs.Moved.{moved-fact, moved-decl, moved, moved-root, moved-outcome, Lines-apart, Kept-apart}
 
 -- to keep of changed elements is to change those kept, where the test does not see the change
 keep-map : {A B : Type 0} (f : A → B) (test : B → Bool) (l : List A) → keep test (map f l) ≡ map f (keep (λ x. test (f x)) l)
@@ -156,12 +157,37 @@ module _ (to : ℕ → ℕ) where
       (ap (collect (λ (r : Root). r .free-names)) (moved-goal a roots) ∙ free-in-roots (goal-roots a roots))
 
   -- the definitions, or declarations, of names
-  moved-kept-decls : (names : List Name) (ds : List Decl) → kept-decls names (map (moved-decl to) ds) ≡ map (moved-decl to) (kept-decls names ds)
-  unfolding kept-decls moved-decl
-  moved-kept-decls names ds =
-      collect-cong (λ n. keep (λ d. same (d .name) n) (map (moved-decl to) ds)) (λ n. map (moved-decl to) (keep (λ d. same (d .name) n) ds)) (reverse (first-met names))
+  moved-of-names : (names : List Name) (ds : List Decl) → of-names names (map (moved-decl to) ds) ≡ map (moved-decl to) (of-names names ds)
+  unfolding of-names moved-decl
+  moved-of-names names ds =
+      collect-cong (λ n. keep (λ d. same (d .name) n) (map (moved-decl to) ds)) (λ n. map (moved-decl to) (keep (λ d. same (d .name) n) ds)) names
       (λ n i. keep-map (moved-decl to) (λ (d : Decl). same (d .name) n) ds)
-      ∙ sym (map-collect (moved-decl to) (λ n. keep (λ d. same (d .name) n) ds) (reverse (first-met names)))
+      ∙ sym (map-collect (moved-decl to) (λ n. keep (λ d. same (d .name) n) ds) names)
+
+  moved-kept-decls : (names : List Name) (ds : List Decl) → kept-decls names (map (moved-decl to) ds) ≡ map (moved-decl to) (kept-decls names ds)
+  unfolding kept-decls of-names
+  moved-kept-decls names ds = moved-of-names (reverse (first-met names)) ds
+
+  -- the names that bodies lead to
+  moved-with-bodies : (ds : List Decl) (names : List Name) → with-bodies (map (moved-decl to) ds) names ≡ with-bodies ds names
+  unfolding with-bodies moved-decl
+  moved-with-bodies ds names =
+      ap (λ l. union l names) (ap (collect (λ (d : Decl). d .free-names)) (keep-map (moved-decl to) (λ (d : Decl). mem (d .name) names) ds)
+      ∙ collect-map (λ (d : Decl). d .free-names) (moved-decl to) (keep (λ d. mem (d .name) names) ds))
+
+  moved-followed : (ds : List Decl) (fuel : ℕ) (names : List Name) → followed (map (moved-decl to) ds) fuel names ≡ followed ds fuel names
+  unfolding followed
+  moved-followed ds zero names = refl
+  moved-followed ds (suc fuel) names = rw (moved-with-bodies ds names) (moved-followed ds fuel (with-bodies ds names))
+
+  moved-added : (a : Ask) (ds : List Decl) (names : List Name) → added-for a (map (moved-decl to) ds) names ≡ added-for a ds names
+  unfolding added-for added-names all-followed
+  moved-added a ds names = rw (map-length (moved-decl to) ds, moved-followed ds (suc (length ds)) (from-list names))
+
+  -- a group of definitions, or declarations
+  moved-group : (names added : List Name) (ds : List Decl)
+      → kept-decls names (map (moved-decl to) ds) ++ of-names added (map (moved-decl to) ds) ≡ map (moved-decl to) (kept-decls names ds ++ of-names added ds)
+  moved-group names added ds = ap₂ _++_ (moved-kept-decls names ds) (moved-of-names added ds) ∙ sym (map-append (moved-decl to) (kept-decls names ds) (of-names added ds))
 
   -- the lines of moved records are the lines moved
   fact-lines : (fs : List Fact) → map (λ (f : Fact). f .line) (map (moved-fact to) fs) ≡ map to (map (λ (f : Fact). f .line) fs)
@@ -172,14 +198,22 @@ module _ (to : ℕ → ℕ) where
   unfolding moved-decl
   decl-lines ds = map-map (λ (d : Decl). d .line) (moved-decl to) ds ∙ sym (map-map to (λ (d : Decl). d .line) ds)
 
-  -- the kept lines
+  -- the lines of facts, and of definitions and declarations where these are kept
+  moved-lines : (b : Bool) (fs : List Fact) (cs es : List Decl)
+      → map (λ f. f .line) (map (moved-fact to) fs) ++ cond b (map (λ d. d .line) (map (moved-decl to) cs ++ map (moved-decl to) es)) []
+      ≡ map to (map (λ f. f .line) fs ++ cond b (map (λ d. d .line) (cs ++ es)) [])
+  moved-lines b fs cs es =
+      rw (fact-lines fs, ← (map-append (moved-decl to) cs es), decl-lines (cs ++ es))
+      (ap (map to (map (λ (f : Fact). f .line) fs) ++_) (sym (cond-ap (map to) b (map (λ (d : Decl). d .line) (cs ++ es)) []))
+      ∙ sym (map-append to (map (λ (f : Fact). f .line) fs) (cond b (map (λ (d : Decl). d .line) (cs ++ es)) [])))
+
+  -- the kept lines, without what is added
   moved-kept : (a : Ask) (decls : List Summary) (roots : List Root) (reached : List Name)
       → kept a (map (moved to) decls) (map (moved-root to) roots) reached ≡ map to (kept a decls roots reached)
   unfolding kept
   moved-kept a decls roots reached =
       let fs = facts decls in
       let names = kept-names a fs roots reached in
-      let ds = kept-decls names (definitions decls) ++ kept-decls names (declarations decls) in
       rw (
         moved-facts decls,
         moved-definitions decls,
@@ -188,12 +222,30 @@ module _ (to : ℕ → ℕ) where
         moved-kept-facts a fs reached,
         moved-kept-decls names (definitions decls),
         moved-kept-decls names (declarations decls),
-        fact-lines (kept-facts a fs reached),
-        ← (map-append (moved-decl to) (kept-decls names (definitions decls)) (kept-decls names (declarations decls))),
-        decl-lines ds,
       )
-      (ap (map to (map (λ (f : Fact). f .line) (kept-facts a fs reached)) ++_) (sym (cond-ap (map to) (prune-decls a) (map (λ (d : Decl). d .line) ds) []))
-      ∙ sym (map-append to (map (λ (f : Fact). f .line) (kept-facts a fs reached)) (cond (prune-decls a) (map (λ (d : Decl). d .line) ds) [])))
+      (moved-lines (prune-decls a) (kept-facts a fs reached) (kept-decls names (definitions decls)) (kept-decls names (declarations decls)))
+
+  -- and with it
+  moved-list : (a : Ask) (decls : List Summary) (roots : List Root) (reached : List Name)
+      → kept-followed a (map (moved to) decls) (map (moved-root to) roots) reached ≡ map to (kept-followed a decls roots reached)
+  unfolding kept-followed
+  moved-list a decls roots reached =
+      let fs = facts decls in
+      let D = definitions decls in
+      let E = declarations decls in
+      let names = kept-names a fs roots reached in
+      let added = added-for a D names in
+      rw (
+        moved-facts decls,
+        moved-definitions decls,
+        moved-declarations decls,
+        moved-kept-names a fs roots reached,
+        moved-added a D names,
+        moved-kept-facts a fs reached,
+        moved-group names added D,
+        moved-group names added E,
+      )
+      (moved-lines (prune-decls a) (kept-facts a fs reached) (kept-decls names D ++ of-names added D) (kept-decls names E ++ of-names added E))
 
 -- what an ask comes to
 pub lines-apart : Lines-apart
@@ -201,7 +253,11 @@ unfolding listing moved-outcome visits
 lines-apart to decls roots a =
     rw (
       moved-run to decls roots a,
-      moved-kept to a decls roots (run a decls roots .reached),
+      moved-list to a decls roots (run a decls roots .reached),
       moved-facts to decls,
       moved-filed to (facts decls),
     )
+
+-- its list without what is added
+pub kept-apart : Kept-apart
+kept-apart to decls roots a = rw (moved-run to decls roots a) (moved-kept to a decls roots (run a decls roots .reached))

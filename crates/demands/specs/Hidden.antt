@@ -16,7 +16,7 @@ use Rattle.model.specs.Rounds.{facts, definitions, macros}
 use Rattle.model.specs.Outcome.{listing}
 use Rattle.model.specs.Text.{name-on}
 use Rattle.demands.specs.LinesRead.{Lines-read, records-for}
-use Rattle.demands.specs.Demand2.{kept-list}
+use Rattle.demands.specs.Demand2.{kept-list, followed-list}
 use Rattle.demands.specs.Counts.{hide-words, begins}
 use Rattle.demands.specs.Asks.{head-words}
 use Rattle.demands.specs.Moved.{moved-outcome}
@@ -75,12 +75,15 @@ pub record Room-for (name : Name) (s : State) : Type 0 where
 abbrev pub down : ℕ → ℕ
 down n = n + 1
 
--- the second file is accepted, and every ask has the same list there, one line down, the same names, visits and rounds
+-- the second file is accepted, and every ask has the same list there, one line down, the same names, visits and rounds; so it is
+-- of the list without what the bodies of kept definitions add
 pub record One-down (file file′ : List ℕ) (s s′ : State) : Type 0 where
   pub accepted : Lines-read file′ s′
   pub asks : s′ .asks ≡ s .asks
   pub listed : (a : Ask) → listing a (records-for a s′) (s′ .roots) ≡ moved-outcome down (listing a (records-for a s) (s .roots))
+  pub followed : (a : Ask) → followed-list a s′ ≡ map down (followed-list a s)
   pub kept : (a : Ask) → kept-list a s′ ≡ map down (kept-list a s)
+  pub followed-named : (a : Ask) → map (name-on file′) (followed-list a s′) ≡ map (name-on file) (followed-list a s)
   pub named : (a : Ask) → map (name-on file′) (kept-list a s′) ≡ map (name-on file) (kept-list a s)
 
 -- so it is where the first file is accepted

@@ -4,6 +4,8 @@ use mathlib.Core.Path.{_≡_}
 use mathlib.Core.List.{List, map}
 use Rattle.model.specs.Summaries.{Fact}
 use Rattle.model.specs.Reading.{Ask, Decl, Summary, Sum-assume, Sum-definefun, Sum-declfun, Sum-retain, Root}
+use Rattle.model.specs.Rounds.{run}
+use Rattle.model.specs.Kept.{kept}
 use Rattle.model.specs.Outcome.{Outcome, refusal-at, list, listing}
 
 -- a fact whose line n is now `to n`
@@ -43,3 +45,10 @@ abbrev pub Lines-apart : Type 0
 Lines-apart =
     (to : ℕ → ℕ) (decls : List Summary) (roots : List Root) (a : Ask)
     → listing a (map (moved to) decls) (map (moved-root to) roots) ≡ moved-outcome to (listing a decls roots)
+
+-- its list without what the bodies of kept definitions add
+abbrev pub Kept-apart : Type 0
+Kept-apart =
+    (to : ℕ → ℕ) (decls : List Summary) (roots : List Root) (a : Ask)
+    → kept a (map (moved to) decls) (map (moved-root to) roots) (run a (map (moved to) decls) (map (moved-root to) roots) .reached)
+    ≡ map to (kept a decls roots (run a decls roots .reached))
