@@ -59,7 +59,7 @@ fn found_word(found: &[u32], c: usize) -> usize
 }
 
 // Whether a word of the taken column is that of a def.
-fn is_def(recs: &[u32], taken: usize) -> bool
+pub fn is_def(recs: &[u32], taken: usize) -> bool
     requires { ⌜ (taken ≤ most-records) × (working-words ≤ length (now recs)) ⌝ }
     ensures { λ r. ⌜ r ≡ is-def (now (recs .entry)) taken ⌝ }
 {

@@ -23,9 +23,9 @@ pub linked-same : {f g : ℕ → ℕ} {n : ℕ} {w v : List ℕ} → Linked f n 
     → ((j : ℕ) → below-column ≤ j → getD v j 0 ≡ getD w j 0) → n ≤ most-names → Linked g n v
 linked-same {f} {g} {n} {w} {v} c stamps words few = record {
   last = λ s h. words (highest-column + s) (omega arith) ∙ c .last s h ∙ sym (newest-cong g f (s + 1) n stamps);
-  below = λ r h p.
+  below = λ r h p l.
       let e = stamps r h in
-      words (below-column + r) (omega arith) ∙ c .below r h (omega arith) ∙ ap (λ (s : ℕ). newest f s r) (sym e)
+      words (below-column + r) (omega arith) ∙ c .below r h (omega arith) (omega arith) ∙ ap (λ (s : ℕ). newest f s r) (sym e)
       ∙ sym (newest-cong g f (g r) r (λ d l. stamps d (omega arith)));
 }
 
@@ -44,7 +44,7 @@ module _ {names : List ℕ} {named : ℕ} (index : Index names named) where
   links-start z = record {
     high = omega arith;
     same = record { same-length = refl; same-words = λ i h. refl };
-    linked = record { last = λ s h. z .zero (highest-column + s) (omega arith) (omega arith); below = λ r h p. absurd (omega arith) };
+    linked = record { last = λ s h. z .zero (highest-column + s) (omega arith) (omega arith); below = λ r h p l. absurd (omega arith) };
   }
 
   module _ {before w₀ w : List ℕ} {r : ℕ} (z : Zeroed highest-column most-stamps before w₀) (room : working-words ≤ length before)
@@ -81,12 +81,12 @@ module _ {names : List ℕ} {named : ℕ} (index : Index names named) where
       same = c .same;
       linked = record {
         last = λ s l. c .linked .last s l ∙ sym (newest-other (stamp-in names w₀) (s + 1) r (λ q. let b = stamp-is in omega arith));
-        below = λ q l p. ⊎-elim
+        below = λ q l p d. ⊎-elim
             (λ (y : q ≡ r).
             let b = stamp-is in
             let g : 0 < stamp-in names w₀ r = subst (λ (m : ℕ). 0 < stamp-in names w₀ m) y p in
             absurd (omega arith))
-            (λ (y : q ≡ r → ⊥). c .linked .below q (omega (arith, y)) p) (equal q r);
+            (λ (y : q ≡ r → ⊥). c .linked .below q (omega (arith, y)) p d) (equal q r);
       };
     }
 
@@ -114,7 +114,7 @@ module _ {names : List ℕ} {named : ℕ} (index : Index names named) where
                 ∙ getD-set-other w (below-column + r) (highest-column + s) (getD w (highest-column + (x - 1)) 0) 0 (λ q. omega arith)
                 ∙ c .linked .last s l ∙ sym (newest-other (stamp-in names w₀) (s + 1) r (λ q. y (omega arith))))
                 (equal s (x - 1));
-            below = λ q l p.
+            below = λ q l p d.
                 getD-set-other v (highest-column + (x - 1)) (below-column + q) (r + 1) 0 (λ y. omega arith)
                 ∙ ⊎-elim
                 (λ (y : q ≡ r).
@@ -122,7 +122,7 @@ module _ {names : List ℕ} {named : ℕ} (index : Index names named) where
                 ∙ ap (λ (m : ℕ). newest (stamp-in names w₀) m r) st))
                 (λ (y : q ≡ r → ⊥).
                 getD-set-other w (below-column + r) (below-column + q) (getD w (highest-column + (x - 1)) 0) 0 (λ k. y (omega arith))
-                ∙ c .linked .below q (omega (arith, y)) p)
+                ∙ c .linked .below q (omega (arith, y)) p d)
                 (equal q r);
           };
         }

@@ -2,13 +2,13 @@
 use Prim.Native.Nat.{ℕ, zero, suc, _+_, _-_, _≤_, _<_}
 use native.Mathlib.Omega.{arith}
 use mathlib.Core.Path.{_≡_, refl, sym, _∙_, ap, ap₂, subst}
-use mathlib.Core.Bool.{Bool, true, false, cond}
+use mathlib.Core.Bool.{Bool, true, false}
 use mathlib.Core.Logic.{⊎-elim}
-use mathlib.Core.List.{List, [], _++_, map, map-append, append-nil, append-assoc, List·Memᴰ, List·Memᴰ·append-cases}
+use mathlib.Core.List.{List, _++_, map, map-append, append-nil, append-assoc, List·Memᴰ, List·Memᴰ·append-cases}
 use lib.ListN.{length, getD, take, drop, length-append, length-map}
 use lib.Seq.{sets, sets-eq, length-sets, length-take-le, drop-at, take-at}
 use Rattle.model.specs.Lists.{keep, part}
-use Rattle.model.specs.Reading.{prune-decls, most-names, most-records}
+use Rattle.model.specs.Reading.{prune-decls, follow-bodies, most-names, most-records}
 use Rattle.model.specs.Outcome.{working-words}
 use Rattle.model.specs.declared.Asked.{Asked}
 use Rattle.model.specs.declared.Counts.{Counts}
@@ -19,13 +19,14 @@ use Rattle.words.specs.Slices.{Same-but, Zeroed}
 use Rattle.words.proofs.Slices.{same-then, same-wider}
 use Rattle.options.specs.OptionsOf.{ask-of}
 use Rattle.records.specs.States.{uses-at}
-use Rattle.prune.specs.Listing.{from, is-goal, reached-records, fact-records, goal-records, kept-items, decl-records, item-stamp, kept-records}
-use Rattle.prune.specs.Loops.{kept-column, stamp-column, prune-room, most-stamps, stamp-in, stamp-words, Index, Kept-behind, noted, Notes, Linked, Links, Listable, Records-listed}
+use Rattle.prune.specs.Listing.{from, is-goal, reached-records, fact-records, goal-records, kept-items, decl-records, groups-records, item-stamp, kept-records}
+use Rattle.prune.specs.Follow.{Stamped}
+use Rattle.prune.specs.Loops.{kept-column, stamp-column, prune-room, most-stamps, stamp-of, stamp-in, stamp-words, Index, Kept-behind, noted, Notes, Linked, Links, Bodies, Stamps-followed, Listable, Records-listed}
 use Rattle.prune.proofs.Writing.{sets-below, lists-length, lists-same}
 use Rattle.prune.proofs.Noting.{notes-then, words-in, noted-length, noted-append, noted-out, noted-stamped, stamps-words, stamped-low}
 use Rattle.prune.proofs.Chains.{linked-same}
-use Rattle.prune.proofs.Stamps.{decls-same}
 use Rattle.prune.proofs.Members.{reached-small, ambients-small, goals-small}
+use Rattle.prune.proofs.Raised.{grown-raised, linked-raised, groups-none, follows-same}
 
 -- ---- a list just written
 
@@ -50,7 +51,7 @@ part-behind w a b l k e p h =
     (part-sets w b k h)
 
 -- how many roots there may be
-kept-few : (test : ℕ → Bool) (i n : ℕ) → length (keep test (from i n)) ≤ n
+pub kept-few : (test : ℕ → Bool) (i n : ℕ) → length (keep test (from i n)) ≤ n
 unfolding from keep
 kept-few test i zero = omega arith
 kept-few test i (suc n) =
@@ -58,29 +59,18 @@ kept-few test i (suc n) =
     cond-case (λ (l : List ℕ). length l ≤ suc n) (test i) (omega arith) (omega arith)
 
 -- without option 4 the kept records are the facts
-kept-off : (names recs lists w : List ℕ) (k : Counts) (a : Asked) → prune-decls (ask-of a) ≡ false → kept-records names recs lists w k a ≡ fact-records names recs w k a
+kept-off : (names recs w : List ℕ) (k : Counts) (a : Asked) (stamp : ℕ → ℕ) → prune-decls (ask-of a) ≡ false
+    → kept-records names recs w k a stamp ≡ fact-records names recs w k a
 unfolding kept-records
-kept-off names recs lists w k a e =
-    ap
-    (λ (b : Bool). fact-records names recs w k a
-    ++ cond b (decl-records names recs (k .names) (item-stamp names recs lists w k a) (length (kept-items names recs w k a))) [])
-    e
-    ∙ append-nil (fact-records names recs w k a)
+kept-off names recs w k a stamp e = rw e (append-nil (fact-records names recs w k a))
 
 -- with it, the records of their names too
-kept-on : (names recs lists w : List ℕ) (k : Counts) (a : Asked) → prune-decls (ask-of a) ≡ true
-    → kept-records names recs lists w k a
-    ≡ fact-records names recs w k a ++ decl-records names recs (k .names) (item-stamp names recs lists w k a) (length (kept-items names recs w k a))
+kept-on : (names recs w : List ℕ) (k : Counts) (a : Asked) (stamp : ℕ → ℕ) → prune-decls (ask-of a) ≡ true
+    → kept-records names recs w k a stamp
+    ≡ fact-records names recs w k a
+    ++ groups-records names recs (k .names) (λ r. stamp (ranked names r)) (length (kept-items names recs w k a))
 unfolding kept-records
-kept-on names recs lists w k a e =
-    ap
-    (λ (b : Bool). fact-records names recs w k a
-    ++ cond b (decl-records names recs (k .names) (item-stamp names recs lists w k a) (length (kept-items names recs w k a))) [])
-    e
-
--- the front of a list is no longer than it
-front-low : (l m : List ℕ) → length (l ++ m) ≤ most-records → length l ≤ most-records
-front-low l m h = let e = length-append l m in omega arith
+kept-on names recs w k a stamp e = rw e
 
 module _ {names recs lists w : List ℕ} {k : Counts} {a : Asked} (t : Listable names recs lists w k a) where
   facts-small : {x : ℕ} → List·Memᴰ x (fact-records names recs w k a) → x < k .records
@@ -102,10 +92,6 @@ module _ {names recs lists w : List ℕ} {k : Counts} {a : Asked} (t : Listable 
       let (i, j, e) = map-elim (stamp-words recs lists) (kept-items names recs w k a) m in
       words-in (t .notes) (items-small j) (subst (λ (l : List ℕ). List·Memᴰ n l) (sym e) q)
 
-  pub facts-fit : length (fact-records names recs w k a) ≤ most-records
-  unfolding kept-records
-  facts-fit = front-low (fact-records names recs w k a) _ (t .fits)
-
   -- ---- the facts listed
 
   module _ {w₁ : List ℕ} {f : ℕ} (p : Kept-behind w 0 (fact-records names recs w k a) w₁ f) where
@@ -113,25 +99,56 @@ module _ {names recs lists w : List ℕ} {k : Counts} {a : Asked} (t : Listable 
     facts-count = let c = p .count in omega arith
 
     pub few-facts : f ≤ most-records
-    few-facts = let y = facts-count in let b = facts-fit in omega arith
+    few-facts = let y = facts-count in let b = t .few-facts in omega arith
 
     -- they stand in the slice
     facts-first : part w₁ kept-column (kept-column + f) ≡ fact-records names recs w k a
     facts-first =
-        let y = facts-fit in
+        let y = t .few-facts in
         let r = t .notes .room in
         ap₂ (λ (v : List ℕ) (n : ℕ). part v kept-column (kept-column + n)) (p .written) facts-count
         ∙ part-sets w kept-column (fact-records names recs w k a) (omega arith)
 
     -- and nothing else changes
     facts-same : Same-but kept-column prune-room w w₁
-    facts-same = lists-same p (let y = facts-fit in omega arith)
+    facts-same = lists-same p (let y = t .few-facts in omega arith)
 
     -- without option 4 that is all
     pub listed-facts : {x : Bool} → x ≡ prune-decls (ask-of a) → x ≡ false → Records-listed names recs lists w w₁ k a f
     listed-facts e z =
-        let q = kept-off names recs lists w k a (sym e ∙ z) in
-        record { records = facts-first ∙ sym q; count = facts-count ∙ ap length (sym q); same = facts-same }
+        let off = sym e ∙ z in
+        let q = kept-off names recs w k a (λ n. 0) off in
+        record {
+          stamp = λ n. 0;
+          stamped = λ on. absurd (rw off at on);
+          records = facts-first ∙ sym q;
+          count = facts-count ∙ ap length (sym q);
+          same = facts-same;
+        }
+
+    -- the facts and the records of the names, where these stand behind those
+    listed-with : {u v : List ℕ} {to : ℕ} (stamp : ℕ → ℕ) (D : List ℕ) → Stamped names recs lists w k a stamp
+        → kept-records names recs w k a stamp ≡ fact-records names recs w k a ++ D → Same-but kept-column prune-room w u
+        → part u kept-column (kept-column + f) ≡ fact-records names recs w k a → Kept-behind u f D v to
+        → Records-listed names recs lists w v k a to
+    listed-with {u} {v} {to} stamp D stamped are same there d =
+        let count = facts-count in
+        let many = d .count in
+        let size = same .same-length in
+        let room = t .notes .room in
+        let y = ap length are in
+        let b = length-append (fact-records names recs w k a) D in
+        let fit = t .fits stamp stamped in
+        record {
+          stamp = stamp;
+          stamped = stamped;
+          records = ap₂ (λ (v : List ℕ) (b : ℕ). part v kept-column b) (d .written)
+              (let y : kept-column + to ≡ kept-column + f + length D = omega arith in y)
+              ∙ part-behind u kept-column (kept-column + f) (fact-records names recs w k a) D (omega arith) there (omega arith)
+              ∙ sym are;
+          count = omega arith;
+          same = same-then same (lists-same d (omega arith));
+        }
 
     -- ---- the column of stamps cleared
 
@@ -198,17 +215,16 @@ module _ {names recs lists w : List ℕ} {k : Counts} {a : Asked} (t : Listable 
           noted-size : length w₄ ≡ length w
           noted-size = noted-same .same-length ∙ cleared-length
 
-          stamps-are : (r : ℕ) → r < k .names → stamp-in names w₄ r ≡ item-stamp names recs lists w k a r
+          stamps-are : (n : ℕ) → n < k .names → stamp-of w₄ n ≡ item-stamp names recs lists w k a n
           unfolding item-stamp
-          stamps-are r h =
-              let y = t .index .numbers r h in
+          stamps-are n h =
               let b = t .index .few in
               let e = t .notes .room in
               let d = cleared-length in
-              ap (λ (v : List ℕ). getD v (stamp-column + ranked names r) 0) all-noted
-              ∙ noted-stamped 1 w₂ (map (stamp-words recs lists) (kept-items names recs w k a)) (stamp-column + ranked names r) (omega arith) (omega arith)
-              (z .zero (stamp-column + ranked names r) (omega arith) (omega arith))
-              ∙ stamps-words recs lists 1 (kept-items names recs w k a) (ranked names r)
+              ap (λ (v : List ℕ). getD v (stamp-column + n) 0) all-noted
+              ∙ noted-stamped 1 w₂ (map (stamp-words recs lists) (kept-items names recs w k a)) (stamp-column + n) (omega arith) (omega arith)
+              (z .zero (stamp-column + n) (omega arith) (omega arith))
+              ∙ stamps-words recs lists 1 (kept-items names recs w k a) n
 
           stamps-count : s ≡ length (kept-items names recs w k a)
           unfolding kept-items
@@ -224,11 +240,11 @@ module _ {names recs lists w : List ℕ} {k : Counts} {a : Asked} (t : Listable 
               let d = t .notes .recorded .few in
               omega arith
 
-          stamps-low : (r : ℕ) → r < k .names → stamp-in names w₄ r ≤ most-stamps
+          stamps-low : (n : ℕ) → n < k .names → stamp-of w₄ n ≤ most-stamps
           unfolding item-stamp
-          stamps-low r h =
-              let y = stamps-are r h in
-              let b = stamped-low 1 (map (uses-at recs lists) (kept-items names recs w k a)) (ranked names r) (omega arith) in
+          stamps-low n h =
+              let y = stamps-are n h in
+              let b = stamped-low 1 (map (uses-at recs lists) (kept-items names recs w k a)) n (omega arith) in
               let d = length-map (kept-items names recs w k a) (uses-at recs lists) in
               let e = stamps-count in
               let g = few-stamps in
@@ -239,73 +255,128 @@ module _ {names recs lists w : List ℕ} {k : Counts} {a : Asked} (t : Listable 
 
           -- what linking asks
           pub link-asks : Index names (k .names) × (working-words ≤ length w₄) × ((r : ℕ) → r < k .names → stamp-in names w₄ r ≤ most-stamps)
-          link-asks = (t .index, noted-room, stamps-low)
+          link-asks = (t .index, noted-room, λ r h. stamps-low (ranked names r) (t .index .numbers r h))
 
           -- ---- the ranks linked
 
           module _ {w₅ : List ℕ} (l : Links names w₄ w₅ (k .names)) where
-            linked-stamps : (r : ℕ) → r < k .names → stamp-in names w₅ r ≡ stamp-in names w₄ r
-            linked-stamps r h = l .same .same-words (stamp-column + ranked names r) (λ x y. omega arith)
+            linked-stamps : (n : ℕ) → n < k .names → stamp-of w₅ n ≡ stamp-of w₄ n
+            linked-stamps n h = l .same .same-words (stamp-column + n) (λ x y. omega arith)
+
+            -- the stamps are those of the items
+            item-stamps : (n : ℕ) → n < k .names → stamp-of w₅ n ≡ item-stamp names recs lists w k a n
+            item-stamps n h = linked-stamps n h ∙ stamps-are n h
+
+            linked-low : (n : ℕ) → n < k .names → stamp-of w₅ n ≤ most-stamps
+            linked-low n h = let y = linked-stamps n h in let b = stamps-low n h in omega arith
 
             all-linked : Linked (stamp-in names w₅) (k .names) w₅
-            all-linked = linked-same (l .linked) linked-stamps (λ j h. refl) (t .index .few)
+            all-linked =
+                linked-same (l .linked) (λ r h. linked-stamps (ranked names r) (t .index .numbers r h)) (λ j h. refl) (t .index .few)
 
             linked-room : working-words ≤ length w₅
             linked-room = let y = l .same .same-length in let b = noted-room in omega arith
 
+            -- the facts stand in the slice still, and nothing else has changed
+            linked-there : part w₅ kept-column (kept-column + f) ≡ fact-records names recs w k a
+            linked-there =
+                let few = few-facts in
+                let room = linked-room in
+                let d = cleared-length in
+                let r = t .notes .room in
+                part-agree w₂ w₅ f kept-column (kept-column + f) (omega arith) (omega arith) (omega arith)
+                (λ i g h. l .same .same-words i (λ y b. omega arith) ∙ noted-same .same-words i (λ y b. omega arith))
+                ∙ facts-there
+
+            linked-since : Same-but kept-column prune-room w w₅
+            linked-since =
+                same-then facts-same
+                (same-then (same-wider kept-column prune-room (omega arith) (omega arith) (z .same))
+                (same-then (same-wider kept-column prune-room (omega arith) (omega arith) noted-same)
+                (same-wider kept-column prune-room (omega arith) (omega arith) (l .same))))
+
             -- ---- the records of the names
 
-            decls-are : decl-records names recs (k .names) (stamp-in names w₅) s
-                ≡ decl-records names recs (k .names) (item-stamp names recs lists w k a) (length (kept-items names recs w k a))
-            decls-are =
-                decls-same names recs (k .names) (λ r h. linked-stamps r h ∙ stamps-are r h) s
-                ∙ ap (decl-records names recs (k .names) (item-stamp names recs lists w k a)) stamps-count
-
             module _ {x : Bool} (e : x ≡ prune-decls (ask-of a)) (on : x ≡ true) where
-              kept-are : kept-records names recs lists w k a
-                  ≡ fact-records names recs w k a ++ decl-records names recs (k .names) (stamp-in names w₅) s
-              kept-are = kept-on names recs lists w k a (sym e ∙ on) ∙ ap (λ (d : List ℕ). fact-records names recs w k a ++ d) (sym decls-are)
+              -- all kept records, by stamps in a slice
+              kept-by : (u : List ℕ)
+                  → kept-records names recs w k a (stamp-of u) ≡ fact-records names recs w k a ++ groups-records names recs (k .names) (stamp-in names u) s
+              kept-by u =
+                  kept-on names recs w k a (stamp-of u) (sym e ∙ on)
+                  ∙ ap (λ (m : ℕ). fact-records names recs w k a ++ groups-records names recs (k .names) (stamp-in names u) m) (sym stamps-count)
 
-              decls-fit : f + length (decl-records names recs (k .names) (stamp-in names w₅) s) ≤ most-records
-              decls-fit =
+              groups-fit : (u : List ℕ) → Stamped names recs lists w k a (stamp-of u)
+                  → f + length (groups-records names recs (k .names) (stamp-in names u) s) ≤ most-records
+              groups-fit u stamped =
                   let y = facts-count in
-                  let b = t .fits in
-                  let g = ap length kept-are in
-                  let h = length-append (fact-records names recs w k a) (decl-records names recs (k .names) (stamp-in names w₅) s) in
+                  let b = t .fits (stamp-of u) stamped in
+                  let g = ap length (kept-by u) in
+                  let h = length-append (fact-records names recs w k a) (groups-records names recs (k .names) (stamp-in names u) s) in
                   omega arith
 
-              -- what listing them asks
-              pub decls-ask : Index names (k .names) × (working-words ≤ length recs) × (working-words ≤ length w₅)
-                  × Linked (stamp-in names w₅) (k .names) w₅ × (s ≤ most-stamps)
-                  × (f + length (decl-records names recs (k .names) (stamp-in names w₅) s) ≤ most-records)
-              decls-ask = (t .index, t .notes .recorded .room, linked-room, all-linked, few-stamps, decls-fit)
+              -- ---- without option 8
 
-              pub listed-all : {w₆ : List ℕ} {to : ℕ} → Kept-behind w₅ f (decl-records names recs (k .names) (stamp-in names w₅) s) w₆ to
-                  → Records-listed names recs lists w w₆ k a to
-              listed-all {w₆} {to} d =
-                  let few = few-facts in
-                  let fit = decls-fit in
-                  let count = facts-count in
-                  let room = linked-room in
-                  let many = d .count in
-                  let size : length w₅ ≡ length w = l .same .same-length ∙ noted-size in
-                  let D : List ℕ = decl-records names recs (k .names) (stamp-in names w₅) s in
-                  let there : part w₅ kept-column (kept-column + f) ≡ fact-records names recs w k a =
-                  part-agree w₂ w₅ f kept-column (kept-column + f) (omega arith) (omega (arith, cleared-length)) (omega arith)
-                  (λ i g h. l .same .same-words i (λ y b. omega arith) ∙ noted-same .same-words i (λ y b. omega arith))
-                  ∙ facts-there in
-                  record {
-                    records = ap₂ (λ (v : List ℕ) (b : ℕ). part v kept-column b) (d .written)
-                        (let y : kept-column + to ≡ kept-column + f + length D = omega arith in y)
-                        ∙ part-behind w₅ kept-column (kept-column + f) (fact-records names recs w k a) D (omega arith) there (omega arith)
-                        ∙ sym kept-are;
-                    count =
-                        let g = ap length kept-are in
-                        let h = length-append (fact-records names recs w k a) D in
-                        omega arith;
-                    same =
-                        same-then facts-same
-                        (same-then (same-wider kept-column prune-room (omega arith) (omega arith) (z .same))
-                        (same-then (same-wider kept-column prune-room (omega arith) (omega arith) noted-same)
-                        (same-then (same-wider kept-column prune-room (omega arith) (omega arith) (l .same)) (lists-same d fit))));
+              module _ {y : Bool} (i : y ≡ follow-bodies (ask-of a)) (off : y ≡ false) where
+                noted-only : Stamped names recs lists w k a (stamp-of w₅)
+                noted-only q = record { noted = λ b. item-stamps; followed = λ b. absurd (rw (sym i ∙ off) at b) }
+
+                decls-are : groups-records names recs (k .names) (stamp-in names w₅) s ≡ decl-records names recs (k .names) (stamp-in names w₅) s
+                decls-are = groups-none names recs (k .names) (stamp-in names w₅) (λ r h. linked-low (ranked names r) (t .index .numbers r h)) s
+
+                -- what listing them asks
+                pub decls-ask : Index names (k .names) × (working-words ≤ length recs) × (working-words ≤ length w₅)
+                    × Linked (stamp-in names w₅) (k .names) w₅ × (s ≤ most-stamps)
+                    × (f + length (decl-records names recs (k .names) (stamp-in names w₅) s) ≤ most-records)
+                decls-ask =
+                    (t .index, t .notes .recorded .room, linked-room, all-linked, few-stamps, rw (← decls-are) (groups-fit w₅ noted-only))
+
+                pub listed-noted : {w₆ : List ℕ} {to : ℕ} → Kept-behind w₅ f (decl-records names recs (k .names) (stamp-in names w₅) s) w₆ to
+                    → Records-listed names recs lists w w₆ k a to
+                listed-noted d =
+                    listed-with (stamp-of w₅) (decl-records names recs (k .names) (stamp-in names w₅) s) noted-only
+                    (kept-by w₅ ∙ ap (fact-records names recs w k a ++_) decls-are) linked-since linked-there d
+
+              -- ---- with it
+
+              module _ {y : Bool} (i : y ≡ follow-bodies (ask-of a)) (with-8 : y ≡ true) where
+                -- what following asks
+                pub follow-asks : Bodies names recs lists k × (working-words ≤ length w₅)
+                    × ((n : ℕ) → n < k .names → stamp-of w₅ n ≤ most-stamps)
+                follow-asks = (
+                  record { room = t .index .room; few = t .index .few; took = t .took; recorded = t .notes .recorded },
+                  linked-room,
+                  linked-low,
+                )
+
+                module _ {w₆ : List ℕ} (o : Stamps-followed names recs lists k w₅ w₆) where
+                  followed-stamps : Stamped names recs lists w k a (stamp-of w₆)
+                  followed-stamps q = record {
+                    noted = λ b. absurd (rw (sym i ∙ with-8) at b);
+                    followed = λ b. follows-same (λ n h. sym (item-stamps n h)) (o .follows);
                   }
+
+                  followed-linked : Linked (stamp-in names w₆) (k .names) w₆
+                  followed-linked =
+                      linked-raised (k .names) (λ r h. grown-raised (o .follows .grown) (ranked names r) (t .index .numbers r h)) all-linked (t .index .few)
+                      (λ j g h. o .same .same-words j (λ y b. omega arith))
+
+                  followed-room : working-words ≤ length w₆
+                  followed-room = let y = o .same .same-length in let b = linked-room in omega arith
+
+                  -- what listing them asks
+                  pub groups-ask : Index names (k .names) × (working-words ≤ length recs) × (working-words ≤ length w₆)
+                      × Linked (stamp-in names w₆) (k .names) w₆ × (s ≤ most-stamps)
+                      × (f + length (groups-records names recs (k .names) (stamp-in names w₆) s) ≤ most-records)
+                  groups-ask = (t .index, t .notes .recorded .room, followed-room, followed-linked, few-stamps, groups-fit w₆ followed-stamps)
+
+                  pub listed-followed : {w₇ : List ℕ} {to : ℕ} → Kept-behind w₆ f (groups-records names recs (k .names) (stamp-in names w₆) s) w₇ to
+                      → Records-listed names recs lists w w₇ k a to
+                  listed-followed d =
+                      let few = few-facts in
+                      let room = followed-room in
+                      let r = linked-room in
+                      listed-with (stamp-of w₆) (groups-records names recs (k .names) (stamp-in names w₆) s) followed-stamps (kept-by w₆)
+                      (same-then linked-since (same-wider kept-column prune-room (omega arith) (omega arith) (o .same)))
+                      (part-agree w₅ w₆ f kept-column (kept-column + f) (omega arith) (omega arith) (omega arith)
+                      (λ j g h. o .same .same-words j (λ y b. omega arith)) ∙ linked-there)
+                      d

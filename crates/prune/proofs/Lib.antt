@@ -6,11 +6,16 @@ pub mod Facts
 pub mod Noting
 pub mod Chains
 pub mod Stamps
+pub mod Following
+pub mod Bodies
+pub mod Groups
 pub mod Members
+pub mod Raised
 pub mod Gathering
 pub mod Lines
 pub mod Order
 pub mod Filed
 pub mod Takers
 pub mod Linking
+pub mod Joining
 pub mod Pruning

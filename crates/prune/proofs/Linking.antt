@@ -1,19 +1,19 @@
--- The kept list on numbers of records is that of `model`.
+-- What the kept list has of facts, definitions and declarations, on numbers of records, is that of `model`.
 use Prim.Native.Nat.{ℕ, zero, suc, _+_, _≤_, _<_}
 use native.Mathlib.Omega.{arith}
 use mathlib.Core.Path.{_≡_, refl, sym, ap, ap₂, _∙_, subst}
 use mathlib.Core.Logic.{⊎-elim}
 use mathlib.Core.Bool.{Bool, true, false, cond, _&&_}
-use mathlib.Core.List.{List, [], _∷_, _++_, map, map-append, map-map, reverse, List·Memᴰ, List·Memᴰ·head, List·Memᴰ·tail}
+use mathlib.Core.List.{List, [], _∷_, _++_, map, map-append, reverse, List·Memᴰ, List·Memᴰ·head, List·Memᴰ·tail}
 use lib.Dec.{T, eqb, eqb→eq, ltb}
 use lib.ListN.{length, length-map}
 use borrow.Author.Tests.{eq-eqb, ne-eqb, lt-ltb, le-ltb}
 use Rattle.model.specs.Lists.{keep, concat, collect}
 use Rattle.model.specs.Names.{Name, same, mem}
 use Rattle.model.specs.Summaries.{Fact}
-use Rattle.model.specs.Reading.{Decl, no-ambients, prune-decls}
+use Rattle.model.specs.Reading.{Decl, no-ambients}
 use Rattle.model.specs.Rounds.{facts, definitions, declarations, is-ambient, goal-roots}
-use Rattle.model.specs.Kept.{reached-facts, ambients, kept-facts, kept-names, first-met, kept-decls, kept}
+use Rattle.model.specs.Kept.{reached-facts, ambients, kept-facts, kept-names, first-met, kept-decls}
 use Rattle.model.specs.declared.Asked.{Asked}
 use Rattle.model.specs.declared.Counts.{Counts}
 use Rattle.model.proofs.ListLaws.{T-ext, true-T, cond-ap, any-intro, any-elim, map-intro, map-elim, keep-elim, keep-cong, collect-append, collect-cong, collect-map, map-collect, map-reverse, concat-collect}
@@ -21,7 +21,7 @@ use Rattle.model.proofs.SetLaws.{mem-intro, mem-elim, mem-keep, mem-from-list, 
 use Rattle.names.specs.Table.{name-of, ranked}
 use Rattle.names.proofs.Laws.{listed, listed-intro, listed-ascending, distinct}
 use Rattle.terms.proofs.Laws.{equal}
-use Rattle.records.specs.Columns.{record-kind, record-line, record-name, record-flag, summary-code, kind-of-code, assume-kind, fun-kind, def-kind, retain-kind, root-kind}
+use Rattle.records.specs.Columns.{record-kind, record-name, record-flag, summary-code, kind-of-code, assume-kind, fun-kind, def-kind, retain-kind, root-kind}
 use Rattle.options.specs.OptionsOf.{ask-of}
 use Rattle.records.specs.States.{uses-at, free-at, fact-at, decl-at, decls-of, roots-of}
 use Rattle.macros.specs.Macros.{Filled}
@@ -31,14 +31,12 @@ use Rattle.scan.proofs.Numbers.{set-elim, set-ascending, upto-elim}
 use Rattle.scan.proofs.Background.{is-fact, is-definition, is-root, def-at, root-of}
 use Rattle.scan.proofs.Queries.{goal-one}
 use Rattle.scan.proofs.Joining.{uses-low}
-use Rattle.prune.specs.Listing.{from, record-behind, picked, reached-at, kind-at, ambient-at, is-goal, reached-records, ambient-records, fact-records, goal-records, kept-items, is-among, stamped, stamp-records, kind-records, decl-records, item-stamp, kept-records}
-use Rattle.prune.specs.Kept.{reached-of, kept-of}
+use Rattle.prune.specs.Listing.{from, record-behind, picked, reached-at, kind-at, ambient-at, is-goal, reached-records, ambient-records, fact-records, goal-records, kept-items, is-among, stamped, stamp-records, kind-records}
+use Rattle.prune.specs.Kept.{reached-of}
 use Rattle.prune.proofs.Ranges.{keep-keep, keep-reverse, keep-collect-one, keep-map, collect-keep, reverse-collect, collect-collect, from-below, from-snoc, upto-reverse, upto-reverse-1}
 use Rattle.prune.proofs.Order.{name-stamp, Sets-in, met-by-stamp}
 use Rattle.prune.proofs.Filed.{is-declaration, fun-at, facts-are, definitions-are, declarations-are, roots-are}
-use Rattle.prune.proofs.Takers.{one-zero, one-suc, by-name, reached-one, items-small}
--- the numbers listed are those of records
-pub use Rattle.prune.proofs.Takers.{records-small}
+use Rattle.prune.proofs.Takers.{one-zero, one-suc, by-name, reached-one}
 
 -- the values of a function at the numbers below another
 listed-from : (f : ℕ → Name) (n : ℕ) → listed f n ≡ map f (from 0 n)
@@ -78,10 +76,23 @@ module _ {file names recs lists : List ℕ} {k : Counts} (x : Filled file names 
   up = listed-ascending rank-name (k .names) (x .table .ascending)
 
   -- each name has a rank
-  in-all : (m : ℕ) → m < k .names → T (mem (name m) (listed rank-name (k .names)))
+  pub in-all : (m : ℕ) → m < k .names → T (mem (name m) (listed rank-name (k .names)))
   in-all m h =
       let (r, l, e) = x .table .each m h in
       subst (λ n. T (mem (name n) (listed rank-name (k .names)))) e (listed-intro rank-name (k .names) r l)
+
+  -- a set of names of the table, by rank
+  pub by-rank : (X : List Name) → Ascending X → ((n : Name) → T (mem n X) → T (mem n (listed rank-name (k .names))))
+      → X ≡ map rank-name (keep (λ r. mem (rank-name r) X) (from 0 (k .names)))
+  by-rank X a found =
+      ascending-ext a (ascending-keep there up)
+      (λ n t. mem-keep n there (listed rank-name (k .names)) .1 (found n t, t))
+      (λ n t. mem-keep n there (listed rank-name (k .names)) .0 t .1)
+      ∙ ap (keep there) (listed-from rank-name (k .names))
+      ∙ keep-map there rank-name (from 0 (k .names))
+    where
+      there : Name → Bool
+      there n = mem n X
 
   -- ---- facts
 
@@ -100,23 +111,11 @@ module _ {file names recs lists : List ℕ} {k : Counts} (x : Filled file names 
         ≡ map rank-name (keep (λ r. mem (rank-name r) (reached-of file names recs run k)) (from 0 (k .names)))
     unfolding reached-of
     reached-names =
-        ascending-ext up-reached (ascending-keep there up)
-        (λ n t. mem-keep n there (listed rank-name (k .names)) .1 (found n t, t))
-        (λ n t. mem-keep n there (listed rank-name (k .names)) .0 t .1)
-        ∙ ap (keep there) (listed-from rank-name (k .names))
-        ∙ keep-map there rank-name (from 0 (k .names))
-      where
-        there : Name → Bool
-        there n = mem n (reached-of file names recs run k)
-
-        up-reached : Ascending (reached-of file names recs run k)
-        up-reached = set-ascending (λ i. name (record-name recs i)) (is-reached run) (k .records)
-
-        found : (n : Name) → T (there n) → T (mem n (listed rank-name (k .names)))
-        found n t =
-            let (i, l, u, e) = set-elim (λ i. name (record-name recs i)) (is-reached run) (k .records) t in
-            subst (λ n. T (mem n (listed rank-name (k .names)))) (sym e)
-            (in-all (record-name recs i) (x .recorded .named-in i l (λ z. omega (arith, only-facts i l u))))
+        by-rank (reached-of file names recs run k) (set-ascending (λ i. name (record-name recs i)) (is-reached run) (k .records))
+        (λ n t.
+        let (i, l, u, e) = set-elim (λ i. name (record-name recs i)) (is-reached run) (k .records) t in
+        subst (λ n. T (mem n (listed rank-name (k .names)))) (sym e)
+        (in-all (record-name recs i) (x .recorded .named-in i l (λ z. omega (arith, only-facts i l u)))))
 
     -- the reached facts
     reached-are : reached-facts (facts (decls-of name recs lists (k .records))) (reached-of file names recs run k)
@@ -213,7 +212,7 @@ module _ {file names recs lists : List ℕ} {k : Counts} (x : Filled file names 
   )
 
   -- the stamp of a name is that of its number
-  stamps-same : (is : List ℕ) → ((i : ℕ) → List·Memᴰ i is → i < k .records) → (s m : ℕ) → m < k .names
+  pub stamps-same : (is : List ℕ) → ((i : ℕ) → List·Memᴰ i is → i < k .records) → (s m : ℕ) → m < k .names
       → name-stamp s (map free is) (name m) ≡ stamped s (map (uses-at recs lists) is) m
   unfolding name-stamp stamped
   stamps-same [] h s m l = refl
@@ -261,7 +260,7 @@ module _ {file names recs lists : List ℕ} {k : Counts} (x : Filled file names 
             (λ r m. ap (λ t. eqb t q) (stamps-same is small 1 (ranked names r) (x .table .numbers r (upto-elim (k .names) m)))))
 
     -- the definitions, or the declarations, of the names met
-    decls-are : (ds : List Decl) (decl : ℕ → Decl) (kind : ℕ)
+    pub decls-are : (ds : List Decl) (decl : ℕ → Decl) (kind : ℕ)
         → ((r : ℕ) → r < k .names → keep (λ d. same (d .name) (rank-name r)) ds ≡ map decl (record-behind (kind-at names recs kind r)))
         → kept-decls (concat (map free is)) ds ≡ map decl (kind-records names recs (k .names) stamp kind (length is))
     unfolding kept-decls kind-records stamp-records picked
@@ -288,7 +287,7 @@ module _ {file names recs lists : List ℕ} {k : Counts} (x : Filled file names 
   -- ---- definitions and declarations
 
   -- a definition found by the name of a rank
-  def-found : (r : ℕ) → r < k .names
+  pub def-found : (r : ℕ) → r < k .names
       → keep (λ d. same (d .name) (rank-name r)) (definitions (decls-of name recs lists (k .records)))
       ≡ map (def-at name recs lists) (record-behind (kind-at names recs def-kind r))
   unfolding decl-at
@@ -298,7 +297,7 @@ module _ {file names recs lists : List ℕ} {k : Counts} (x : Filled file names 
       ∙ ap (map (def-at name recs lists)) (by-name x def-kind r (omega arith) h)
 
   -- a declaration
-  fun-found : (r : ℕ) → r < k .names
+  pub fun-found : (r : ℕ) → r < k .names
       → keep (λ d. same (d .name) (rank-name r)) (declarations (decls-of name recs lists (k .records)))
       ≡ map (fun-at name recs lists) (record-behind (kind-at names recs fun-kind r))
   unfolding decl-at
@@ -307,39 +306,18 @@ module _ {file names recs lists : List ℕ} {k : Counts} (x : Filled file names 
       ∙ keep-map (λ d. same (d .name) (rank-name r)) (fun-at name recs lists) (keep (is-declaration recs) (from 0 (k .records)))
       ∙ ap (map (fun-at name recs lists)) (by-name x fun-kind r (omega arith) h)
 
-  -- the lines of the definitions and declarations of the names free in the items
-  decl-lines : (a : Asked) (run : List ℕ)
-      → map (λ d. d .line)
-      (kept-decls (concat (map free (kept-items names recs run k a))) (definitions (decls-of name recs lists (k .records)))
-      ++ kept-decls (concat (map free (kept-items names recs run k a))) (declarations (decls-of name recs lists (k .records))))
-      ≡ map (record-line recs) (decl-records names recs (k .names) (item-stamp names recs lists run k a) (length (kept-items names recs run k a)))
-  unfolding decl-records item-stamp decl-at
-  decl-lines a run =
-      let is = kept-items names recs run k a in
-      let defs = definitions (decls-of name recs lists (k .records)) in
-      let funs = declarations (decls-of name recs lists (k .records)) in
-      let ds = kind-records names recs (k .names) (item-stamp names recs lists run k a) def-kind (length is) in
-      let fs = kind-records names recs (k .names) (item-stamp names recs lists run k a) fun-kind (length is) in
-      map-append (λ d. d .line) (kept-decls (concat (map free is)) defs) (kept-decls (concat (map free is)) funs)
-      ∙ ap₂ _++_
-      (ap (map (λ d. d .line)) (decls-are is (items-small x a run) defs (def-at name recs lists) def-kind def-found)
-      ∙ map-map (λ d. d .line) (def-at name recs lists) ds)
-      (ap (map (λ d. d .line)) (decls-are is (items-small x a run) funs (fun-at name recs lists) fun-kind fun-found)
-      ∙ map-map (λ d. d .line) (fun-at name recs lists) fs)
-      ∙ sym (map-append (record-line recs) ds fs)
-
   -- ---- the kept list
 
   module _ (a : Asked) (run : List ℕ) (only-facts : (i : ℕ) → i < k .records → T (is-reached run i) → record-kind recs i ≡ assume-kind) where
     -- the kept facts
-    kept-facts-are : kept-facts (ask-of a) (facts (decls-of name recs lists (k .records))) (reached-of file names recs run k)
+    pub kept-facts-are : kept-facts (ask-of a) (facts (decls-of name recs lists (k .records))) (reached-of file names recs run k)
         ≡ map fact (fact-records names recs run k a)
     unfolding kept-facts fact-records
     kept-facts-are =
         ap₂ _++_ (reached-are run only-facts) (ambients-are a) ∙ sym (map-append fact (reached-records names run (k .names)) (ambient-records recs k a))
 
     -- the names met are those free in the items
-    names-are : kept-names (ask-of a) (facts (decls-of name recs lists (k .records))) (roots-of name recs lists (k .records)) (reached-of file names recs run k)
+    pub names-are : kept-names (ask-of a) (facts (decls-of name recs lists (k .records))) (roots-of name recs lists (k .records)) (reached-of file names recs run k)
         ≡ concat (map free (kept-items names recs run k a))
     unfolding kept-names kept-items fact-at
     names-are =
@@ -349,18 +327,3 @@ module _ {file names recs lists : List ℕ} {k : Counts} (x : Filled file names 
         (ap (collect (λ f. f .free-names)) kept-facts-are ∙ collect-map (λ f. f .free-names) fact fs)
         (ap (collect (λ r. r .free-names)) (goals-are a) ∙ collect-map (λ r. r .free-names) (root-of name recs lists) gs)
         ∙ sym (concat-collect (map free (fs ++ gs)) ∙ collect-map (λ l. l) free (fs ++ gs) ∙ collect-append free fs gs)
-
-    -- the lines of the kept records are the kept lines
-    pub kept-lines : map (record-line recs) (kept-records names recs lists run k a) ≡ kept-of file names recs lists run k a
-    unfolding kept-records kept-of kept fact-at
-    kept-lines =
-        let defs = definitions (decls-of name recs lists (k .records)) in
-        let funs = declarations (decls-of name recs lists (k .records)) in
-        let fs = fact-records names recs run k a in
-        let ds = decl-records names recs (k .names) (item-stamp names recs lists run k a) (length (kept-items names recs run k a)) in
-        let b = prune-decls (ask-of a) in
-        map-append (record-line recs) fs (cond b ds [])
-        ∙ ap₂ _++_
-        (sym (ap (map (λ f. f .line)) kept-facts-are ∙ map-map (λ f. f .line) fact fs))
-        (cond-ap (map (record-line recs)) b ds []
-        ∙ ap (λ l. cond b l []) (sym (ap (λ ns. map (λ d. d .line) (kept-decls ns defs ++ kept-decls ns funs)) names-are ∙ decl-lines a run)))

@@ -15,6 +15,7 @@ use Rattle.model.proofs.ListLaws.{cond-case, true-T, T-ext, any-intro, any-elim
 use Rattle.model.proofs.PartLaws.{part-cons, part-nil, part-elim}
 use Rattle.records.specs.Columns.{uses-start, uses-end}
 use Rattle.records.specs.States.{uses-at}
+use Rattle.records.specs.Filing.{Records}
 use Rattle.scan.specs.Steps.{mark, marks, is-met}
 use Rattle.scan.proofs.Marks.{mark-length, marks-nil, marks-cons, marks-length, marks-old, marks-out, met-in, new-intro}
 use Rattle.prune.specs.Listing.{from, is-goal, goal-records, is-among, stamped}
@@ -27,25 +28,26 @@ use Rattle.prune.proofs.Picking.{kept-skip, kept-take, kept-end}
 pub notes-then : {recs lists run v : List ℕ} {k : Counts} → Notes recs lists run k → length v ≡ length run → Notes recs lists v k
 notes-then n e = let r = n .room in record { recorded = n .recorded; few = n .few; room = omega arith }
 
-module _ {recs lists run : List ℕ} {k : Counts} (n : Notes recs lists run k) {i : ℕ} (h : i < k .records) where
-  -- the free names of a record are names of the table
-  uses-small : {m : ℕ} → List·Memᴰ m (uses-at recs lists i) → m < k .names
-  uses-small q =
-      let a = n .recorded .uses-in i h in
-      let b = n .recorded .few-uses in
-      let c = n .recorded .lists-room in
-      let p = part-elim {l = lists} {a = uses-start recs i} {e = uses-end recs i} (omega arith) q in
-      let d = p .high in
-      let s = n .recorded .use-words (p .place) (omega arith) in
-      let e = p .is in
-      omega arith
+-- the free names of a record are names of the table
+pub uses-small : {recs lists : List ℕ} {named records filed uses : ℕ} → Records recs lists named records filed uses
+    → {i : ℕ} → i < records → {m : ℕ} → List·Memᴰ m (uses-at recs lists i) → m < named
+uses-small {recs} {lists} r {i} h q =
+    let a = r .uses-in i h in
+    let b = r .few-uses in
+    let c = r .lists-room in
+    let p = part-elim {l = lists} {a = uses-start recs i} {e = uses-end recs i} (omega arith) q in
+    let d = p .high in
+    let s = r .use-words (p .place) (omega arith) in
+    let e = p .is in
+    omega arith
 
+module _ {recs lists run : List ℕ} {k : Counts} (n : Notes recs lists run k) {i : ℕ} (h : i < k .records) where
   -- and so the words of their stamps
   pub words-in : {m : ℕ} → List·Memᴰ m (stamp-words recs lists i) → (stamp-column ≤ m) × (m < stamp-column + most-names)
   unfolding stamp-words
   words-in q =
       let (x, y, e) = map-elim (λ n. stamp-column + n) (uses-at recs lists i) q in
-      let s = uses-small y in
+      let s = uses-small (n .recorded) h y in
       let f = n .few in
       (omega arith, omega arith)
 

@@ -3,7 +3,7 @@ use Prim.Native.Nat.{ℕ, _+_, _≤_, _<_}
 use native.Mathlib.Omega.{arith}
 use mathlib.Core.Path.{_≡_, _∙_, ap, ap₂, subst}
 use mathlib.Core.List.{List, map, List·Memᴰ}
-use lib.ListN.{length, getD, length-map}
+use lib.ListN.{length, getD, length-append, length-map}
 use Rattle.model.specs.Lists.{part}
 use Rattle.model.specs.Reading.{most-records}
 use Rattle.model.specs.Outcome.{working-words}
@@ -12,22 +12,38 @@ use Rattle.model.specs.declared.Counts.{Counts}
 use Rattle.model.proofs.PartLaws.{part-intro}
 use Rattle.words.proofs.Slices.{same-then}
 use Rattle.records.specs.Columns.{record-line}
-use Rattle.prune.specs.Listing.{kept-records}
-use Rattle.prune.specs.Loops.{kept-column, Kept-behind, Listable, Records-listed}
+use Rattle.prune.specs.Listing.{is-goal, fact-records, goal-records, kept-items, kept-records}
+use Rattle.prune.specs.Follow.{Stamped}
+use Rattle.prune.specs.Loops.{kept-column, most-stamps, Kept-behind, Listable, Records-listed}
 use Rattle.prune.specs.Kept.{kept-of, Run-over, Pruned}
 use Rattle.prune.proofs.Writing.{lists-same}
-use Rattle.prune.proofs.Gathering.{part-sets}
-use Rattle.prune.proofs.Linking.{kept-lines, records-small}
+use Rattle.prune.proofs.Gathering.{part-sets, kept-few}
+use Rattle.prune.proofs.Takers.{records-small}
+use Rattle.prune.proofs.Joining.{kept-lines, facts-front}
 
 module _ {file names recs lists w : List ℕ} {k : Counts} {a : Asked} (t : Run-over file names recs lists w k a) where
-  lines-are : map (record-line recs) (kept-records names recs lists w k a) ≡ kept-of file names recs lists w k a
-  lines-are = kept-lines (t .filled) a w (t .only-facts)
+  -- no more facts than lines, and no more items than there is room for stamps
+  facts-fit : length (fact-records names recs w k a) ≤ most-records
+  facts-fit = let y = facts-front (t .filled) a w (t .only-facts) in let b = t .fits in omega arith
+
+  items-fit : length (kept-items names recs w k a) ≤ most-stamps
+  unfolding kept-items
+  items-fit =
+      let y = facts-fit in
+      let b = kept-few (is-goal recs a) 0 (k .records) in
+      let c = t .filled .recorded .few in
+      let d = length-append (fact-records names recs w k a) (goal-records recs k a) in
+      omega arith
+
+  lines-are : (stamp : ℕ → ℕ) → Stamped names recs lists w k a stamp
+      → map (record-line recs) (kept-records names recs w k a stamp) ≡ kept-of file names recs lists w k a
+  lines-are = kept-lines (t .filled) a w items-fit (t .only-facts)
 
   -- as many records as lines
-  records-fit : length (kept-records names recs lists w k a) ≤ most-records
-  records-fit =
-      let y = length-map (kept-records names recs lists w k a) (record-line recs) in
-      let b = ap length lines-are in
+  records-fit : (stamp : ℕ → ℕ) → Stamped names recs lists w k a stamp → length (kept-records names recs w k a stamp) ≤ most-records
+  records-fit stamp stamped =
+      let y = length-map (kept-records names recs w k a stamp) (record-line recs) in
+      let b = ap length (lines-are stamp stamped) in
       let c = t .fits in
       omega arith
 
@@ -47,12 +63,13 @@ module _ {file names recs lists w : List ℕ} {k : Counts} {a : Asked} (t : Run-
         };
         took = λ n h. low n (omega arith);
         notes = record { recorded = t .filled .recorded; few = few; room = t .room };
+        few-facts = facts-fit;
         fits = records-fit;
       }
 
   module _ {v : List ℕ} {count : ℕ} (l : Records-listed names recs lists w v k a count) where
     pub few-kept : count ≤ most-records
-    few-kept = let y = l .count in let b = records-fit in omega arith
+    few-kept = let y = l .count in let b = records-fit (l .stamp) (l .stamped) in omega arith
 
     pub listed-room : working-words ≤ length v
     listed-room = let y = l .same .same-length in let b = t .room in omega arith
@@ -64,7 +81,7 @@ module _ {file names recs lists w : List ℕ} {k : Counts} {a : Asked} (t : Run-
         let r = listed-room in
         let many = t .filled .recorded .few in
         let m = part-intro v kept-column (kept-column + count) (kept-column + j) (omega arith) (omega arith) (omega arith) in
-        let b = records-small (t .filled) a w (getD v (kept-column + j) 0)
+        let b = records-small (t .filled) a w (l .stamp) (getD v (kept-column + j) 0)
         (subst (λ (x : List ℕ). List·Memᴰ (getD v (kept-column + j) 0) x) (l .records) m) in
         omega arith
 
@@ -72,7 +89,7 @@ module _ {file names recs lists w : List ℕ} {k : Counts} {a : Asked} (t : Run-
         → Pruned file names recs lists w u k a count
     pruned {u} p =
         let lines : List ℕ = map (record-line recs) (part v kept-column (kept-column + count)) in
-        let are : lines ≡ kept-of file names recs lists w k a = ap (map (record-line recs)) (l .records) ∙ lines-are in
+        let are : lines ≡ kept-of file names recs lists w k a = ap (map (record-line recs)) (l .records) ∙ lines-are (l .stamp) (l .stamped) in
         let few = few-kept in
         let room = listed-room in
         let many : count ≡ length lines = (let c = p .count in omega arith) in

@@ -85,14 +85,14 @@ module _ {names recs : List ℕ} {f : ℕ → ℕ} {named kind : ℕ} {w : List 
       }
 
   module _ {s m : ℕ} {v : List ℕ} {to p : ℕ} (fits : m + length (stamp-records names recs named f kind s) ≤ most-records)
-      (few : named ≤ most-names) (pos : 0 < s) (g : Listed-to names recs f named kind s w m v to p) (h : p ≡ 0 → ⊥) {q : ℕ}
+      (few : named ≤ most-names) (pos : 0 < s) (low : s ≤ most-stamps) (g : Listed-to names recs f named kind s w m v to p) (h : p ≡ 0 → ⊥) {q : ℕ}
       (e : q ≡ getD v (below-column + (p - 1)) 0) where
     -- the next rank on the chain
     next-is : q ≡ newest f s (p - 1)
     next-is =
         let b = g .high in
         let o = g .on (omega (arith, h)) in
-        e ∙ going-above (g .going) fits (below-column + (p - 1)) (omega arith) ∙ c .below (p - 1) (omega (arith, h)) (omega arith)
+        e ∙ going-above (g .going) fits (below-column + (p - 1)) (omega arith) ∙ c .below (p - 1) (omega (arith, h)) (omega arith) (omega arith)
         ∙ ap (λ (t : ℕ). newest f t (p - 1)) o
 
     pub chain-less : q < p
@@ -132,7 +132,7 @@ module _ (names recs : List ℕ) (named : ℕ) {f g : ℕ → ℕ} (same : (r : 
       ap (picked (kind-at names recs kind))
       (keep-cong (λ r. eqb (g r) s) (λ r. eqb (f r) s) (upto named) (λ r m. ap (λ (x : ℕ). eqb x s) (same r (upto-elim named m))))
 
-  kinds-same : (kind s : ℕ) → kind-records names recs named g kind s ≡ kind-records names recs named f kind s
+  pub kinds-same : (kind s : ℕ) → kind-records names recs named g kind s ≡ kind-records names recs named f kind s
   unfolding kind-records
   kinds-same kind s =
       collect-cong (λ j. stamp-records names recs named g kind (j + 1)) (λ j. stamp-records names recs named f kind (j + 1)) (upto s)
@@ -156,7 +156,7 @@ going-apart g f = record { size = going-length g; low = going-below g; high = go
 
 module _ {names w v : List ℕ} {named : ℕ} (index : Index names named) (apart : Apart w v) where
   -- the stamps of the ranks stay
-  stamps-apart : (r : ℕ) → r < named → stamp-in names v r ≡ stamp-in names w r
+  pub stamps-apart : (r : ℕ) → r < named → stamp-in names v r ≡ stamp-in names w r
   stamps-apart r h = apart .high (stamp-column + ranked names r) (omega arith)
 
   -- and the chains
@@ -204,7 +204,7 @@ module _ {names recs : List ℕ} {named kind stamps : ℕ} {w : List ℕ} {m : �
 
 -- ---- definitions, then declarations
 
-lists-apart : {w : List ℕ} {m : ℕ} {l v : List ℕ} {to : ℕ} → Kept-behind w m l v to → m + length l ≤ most-records → Apart w v
+pub lists-apart : {w : List ℕ} {m : ℕ} {l v : List ℕ} {to : ℕ} → Kept-behind w m l v to → m + length l ≤ most-records → Apart w v
 lists-apart {w} {m} {l} {v} {to} p f = going-apart {rest = []} (going-list {rest = []} (going-start w m l) (sym (append-nil l)) p) f
 
 module _ (names recs : List ℕ) {named : ℕ} (s : ℕ) (w : List ℕ) (m : ℕ) (index : Index names named)

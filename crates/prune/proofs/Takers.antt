@@ -25,7 +25,7 @@ use Rattle.macros.specs.Macros.{Filled}
 use Rattle.scan.specs.Held.{upto}
 use Rattle.scan.specs.Steps.{is-reached}
 use Rattle.scan.proofs.Numbers.{set-intro, set-elim, upto-elim}
-use Rattle.prune.specs.Listing.{from, record-behind, taker, reached-at, kind-at, reached-records, fact-records, kept-items, stamp-records, kind-records, decl-records, item-stamp, kept-records}
+use Rattle.prune.specs.Listing.{from, record-behind, taker, reached-at, kind-at, reached-records, fact-records, kept-items, stamp-records, kind-records, followed-stamp, added-at, added-records, group-records, groups-records, kept-records}
 use Rattle.prune.specs.Kept.{reached-of}
 use Rattle.prune.proofs.Members.{picked-elim, reached-small, ambients-small, goals-small}
 use Rattle.prune.proofs.Ranges.{keep-keep, keep-only, from-below}
@@ -196,14 +196,28 @@ module _ {file names recs lists : List ℕ} {k : Counts} (x : Filled file names 
       let (r, c, d) = picked-elim (kind-at names recs kind) (keep (λ r. eqb (stamp r) (j + 1)) (upto (k .names))) b in
       taker-low r i (upto-elim (k .names) (keep-elim (λ r. eqb (stamp r) (j + 1)) (upto (k .names)) c .0)) (kind-taker names recs kind r d)
 
+  -- those that bodies add
+  additions-small : (stamp : ℕ → ℕ) (kind i : ℕ) → List·Memᴰ i (added-records names recs (k .names) stamp kind) → i < k .records
+  unfolding added-at
+  additions-small stamp kind i m =
+      let (r, a, b) = picked-elim (added-at names recs stamp kind) (from 0 (k .names)) m in
+      taker-low r i (from-below (k .names) a) (kind-taker names recs kind r (cond-suc (eqb (stamp r) followed-stamp) (kind-at names recs kind r) b))
+
+  -- a group
+  group-small : (stamp : ℕ → ℕ) (kind s i : ℕ) → List·Memᴰ i (group-records names recs (k .names) stamp kind s) → i < k .records
+  unfolding group-records
+  group-small stamp kind s i m =
+      ⊎-elim (kinds-small stamp kind s i) (additions-small stamp kind i)
+      (List·Memᴰ·append-cases (kind-records names recs (k .names) stamp kind s) m)
+
   -- the kept records
-  pub records-small : (a : Asked) (run : List ℕ) (i : ℕ) → List·Memᴰ i (kept-records names recs lists run k a) → i < k .records
-  unfolding kept-records decl-records
-  records-small a run i m =
-      let stamp = item-stamp names recs lists run k a in
+  pub records-small : (a : Asked) (run : List ℕ) (stamp : ℕ → ℕ) (i : ℕ) → List·Memᴰ i (kept-records names recs run k a stamp) → i < k .records
+  unfolding kept-records groups-records
+  records-small a run stamp i m =
+      let by-rank : ℕ → ℕ = λ r. stamp (ranked names r) in
       let s = length (kept-items names recs run k a) in
       ⊎-elim (facts-small a run i)
       (λ n.
-      ⊎-elim (kinds-small stamp def-kind s i) (kinds-small stamp fun-kind s i)
-      (List·Memᴰ·append-cases (kind-records names recs (k .names) stamp def-kind s) (option-elim (prune-decls (ask-of a)) n)))
+      ⊎-elim (group-small by-rank def-kind s i) (group-small by-rank fun-kind s i)
+      (List·Memᴰ·append-cases (group-records names recs (k .names) by-rank def-kind s) (option-elim (prune-decls (ask-of a)) n)))
       (List·Memᴰ·append-cases (fact-records names recs run k a) m)

@@ -7,7 +7,7 @@ use lib.ListN.{length}
 use Rattle.model.specs.Lists.{part}
 use Rattle.model.specs.Names.{Name}
 use Rattle.model.specs.Reading.{most-records}
-use Rattle.model.specs.Kept.{kept}
+use Rattle.model.specs.Bodies.{kept-followed}
 use Rattle.model.specs.Outcome.{working-words}
 use Rattle.model.specs.declared.Asked.{Asked}
 use Rattle.model.specs.declared.Counts.{Counts}
@@ -28,7 +28,7 @@ reached-of file names recs run k = set-of (λ i. name-of file names (record-name
 -- the kept lines of the tables after a run
 unfoldable pub kept-of : List ℕ → List ℕ → List ℕ → List ℕ → List ℕ → Counts → Asked → List ℕ
 kept-of file names recs lists run k a =
-    kept (ask-of a)
+    kept-followed (ask-of a)
     (decls-of (name-of file names) recs lists (k .records))
     (roots-of (name-of file names) recs lists (k .records))
     (reached-of file names recs run k)

@@ -1,3 +1,4 @@
 pub mod Listing
+pub mod Follow
 pub mod Loops
 pub mod Kept

@@ -91,14 +91,35 @@ module _ (names recs : List ℕ) (named : ℕ) (stamp : ℕ → ℕ) (kind : ℕ
 unfoldable pub decl-records : List ℕ → List ℕ → ℕ → (ℕ → ℕ) → ℕ → List ℕ
 decl-records names recs named stamp s = kind-records names recs named stamp def-kind s ++ kind-records names recs named stamp fun-kind s
 
--- the stamp of the name of a rank: the place of the item that first has it, from 1
+-- the stamp of a name: the place of the item that first has it, from 1
 unfoldable pub item-stamp : List ℕ → List ℕ → List ℕ → List ℕ → Counts → Asked → ℕ → ℕ
-item-stamp names recs lists run k a r = stamped 1 (map (uses-at recs lists) (kept-items names recs run k a)) (ranked names r)
+item-stamp names recs lists run k a n = stamped 1 (map (uses-at recs lists) (kept-items names recs run k a)) n
 
--- the kept records: the facts, and with option 4 definitions and then declarations
-unfoldable pub kept-records : List ℕ → List ℕ → List ℕ → List ℕ → Counts → Asked → List ℕ
-kept-records names recs lists run k a =
+-- the stamp of a name that a body adds, above those of the items
+abbrev pub followed-stamp : ℕ
+followed-stamp = 2049
+
+-- the definition, or the declaration, of the name of a rank, and one, where a body adds the name; or 0
+unfoldable pub added-at : List ℕ → List ℕ → (ℕ → ℕ) → ℕ → ℕ → ℕ
+added-at names recs stamp kind r = cond (eqb (stamp r) followed-stamp) (kind-at names recs kind r) 0
+
+module _ (names recs : List ℕ) (named : ℕ) (stamp : ℕ → ℕ) (kind : ℕ) where
+  -- the definitions, or the declarations, of the names that bodies add, in byte order
+  abbrev pub added-records : List ℕ
+  added-records = picked (added-at names recs stamp kind) (from 0 named)
+
+  -- those of the stamps up to s, then those
+  unfoldable pub group-records : ℕ → List ℕ
+  group-records s = kind-records names recs named stamp kind s ++ added-records
+
+-- definitions, then declarations, with those that bodies add
+unfoldable pub groups-records : List ℕ → List ℕ → ℕ → (ℕ → ℕ) → ℕ → List ℕ
+groups-records names recs named stamp s = group-records names recs named stamp def-kind s ++ group-records names recs named stamp fun-kind s
+
+-- the kept records by the stamps of the names: the facts, and with option 4 definitions and then declarations
+unfoldable pub kept-records : List ℕ → List ℕ → List ℕ → Counts → Asked → (ℕ → ℕ) → List ℕ
+kept-records names recs run k a stamp =
     fact-records names recs run k a
     ++ cond (prune-decls (ask-of a))
-    (decl-records names recs (k .names) (item-stamp names recs lists run k a) (length (kept-items names recs run k a)))
+    (groups-records names recs (k .names) (λ r. stamp (ranked names r)) (length (kept-items names recs run k a)))
     []

@@ -1,10 +1,12 @@
 -- What the loops of `prune` leave in the run's slice.
 use Prim.Native.Nat.{ℕ, _+_, _≤_, _<_}
 use mathlib.Core.Path.{_≡_}
+use mathlib.Core.Bool.{cond}
 use mathlib.Core.List.{List, [], _∷_, map}
-use lib.ListN.{length, getD}
+use lib.Dec.{eqb}
+use lib.ListN.{length, getD, set}
 use lib.Seq.{sets}
-use Rattle.model.specs.Lists.{part}
+use Rattle.model.specs.Lists.{count, fold-left, part}
 use Rattle.model.specs.Reading.{most-names, most-records}
 use Rattle.model.specs.Outcome.{working-words}
 use Rattle.model.specs.declared.Asked.{Asked}
@@ -14,11 +16,13 @@ use Rattle.words.specs.Slices.{Same-but}
 use Rattle.records.specs.Columns.{taken-at}
 use Rattle.records.specs.States.{uses-at}
 use Rattle.records.specs.Filing.{Records, newest}
+use Rattle.scan.specs.Held.{upto}
 use Rattle.scan.specs.Steps.{marks}
-use Rattle.prune.specs.Listing.{kept-records}
+use Rattle.prune.specs.Listing.{fact-records, followed-stamp, kept-records}
+use Rattle.prune.specs.Follow.{body-at, Follows, Stamped}
 
 -- the columns behind those of the run: the kept list; by rank, the next lower rank of the same stamp, and one; by stamp, counted
--- from 0, its highest rank and one; by name, its stamp; and how many words they have
+-- from 0, its highest rank and one; by name, its stamp; the queue of the names that bodies add; and how many words they have
 abbrev pub kept-column : ℕ
 kept-column = 5120
 
@@ -31,16 +35,23 @@ highest-column = 8192
 abbrev pub stamp-column : ℕ
 stamp-column = 10240
 
+abbrev pub queue-column : ℕ
+queue-column = 12288
+
 abbrev pub prune-room : ℕ
-prune-room = 7168
+prune-room = 9216
 
 -- the room for stamps: the kept facts and the roots
 abbrev pub most-stamps : ℕ
 most-stamps = 2048
 
--- the stamp of the name of a rank, as it stands in the slice
+-- the stamp of a name, as it stands in the slice
+abbrev pub stamp-of : List ℕ → ℕ → ℕ
+stamp-of run n = getD run (stamp-column + n) 0
+
+-- that of the name of a rank
 abbrev pub stamp-in : List ℕ → List ℕ → ℕ → ℕ
-stamp-in names run r = getD run (stamp-column + ranked names r) 0
+stamp-in names run r = stamp-of run (ranked names r)
 
 -- the words of the stamps of a record's free names
 unfoldable pub stamp-words : List ℕ → List ℕ → ℕ → List ℕ
@@ -69,25 +80,68 @@ pub record Notes (recs lists run : List ℕ) (k : Counts) : Type 0 where
   pub few : k .names ≤ most-names
   pub room : working-words ≤ length run
 
--- the ranks of each stamp stand on its chain, highest first
+-- the ranks of each stamp of an item stand on its chain, highest first
 pub record Linked (stamp : ℕ → ℕ) (named : ℕ) (run : List ℕ) : Type 0 where
   pub last : (s : ℕ) → s < most-stamps → getD run (highest-column + s) 0 ≡ newest stamp (s + 1) named
-  pub below : (r : ℕ) → r < named → 0 < stamp r → getD run (below-column + r) 0 ≡ newest stamp (stamp r) r
+  pub below : (r : ℕ) → r < named → 0 < stamp r → stamp r ≤ most-stamps → getD run (below-column + r) 0 ≡ newest stamp (stamp r) r
 
 -- the ranks put on the chains of their stamps
 pub record Links (names before after : List ℕ) (named : ℕ) : Type 0 where
   pub linked : Linked (stamp-in names before) named after
   pub same : Same-but below-column (most-names + most-stamps) before after
 
--- what listing the kept records asks: tables in range, and room
+-- a slice with its queue, which ends at a place
+pub record Queue : Type 0 where
+  pub run : List ℕ
+  pub to : ℕ
+
+abbrev pub queue : List ℕ → ℕ → Queue
+queue w to = record { run = w; to = to }
+
+-- a name that has no stamp followed: it gets that of the names that bodies add, and stands behind the queue
+unfoldable pub follow-name : Queue → ℕ → Queue
+follow-name q n =
+    cond (eqb (stamp-of (q .run) n) 0)
+    (queue (set (set (q .run) (stamp-column + n) followed-stamp) (queue-column + q .to) n) (q .to + 1))
+    q
+
+-- names followed one after the other
+unfoldable pub follow-names : Queue → List ℕ → Queue
+follow-names q ns = fold-left follow-name q ns
+
+-- how many names have no stamp
+unfoldable pub unnoted : List ℕ → ℕ
+unnoted w = count (λ n. eqb (stamp-of w n) 0) (upto most-names)
+
+-- the queue has room for the names without a stamp
+pub record Queue-room (q : Queue) : Type 0 where
+  pub fits : q .to + unnoted (q .run) ≤ most-names
+  pub long : working-words ≤ length (q .run)
+
+-- what following asks of the tables
+pub record Bodies (names recs lists : List ℕ) (k : Counts) : Type 0 where
+  pub room : working-words ≤ length names
+  pub few : k .names ≤ most-names
+  pub took : (n : ℕ) → n < k .names → taken-at names n ≤ k .records
+  pub recorded : Records recs lists (k .names) (k .records) (k .entries) (k .uses)
+
+-- bodies followed from the stamps in the slice
+pub record Stamps-followed (names recs lists : List ℕ) (k : Counts) (before after : List ℕ) : Type 0 where
+  pub follows : Follows (k .names) (body-at names recs lists) (stamp-of before) (stamp-of after)
+  pub same : Same-but stamp-column (most-names + most-names) before after
+
+-- what listing the kept records asks: tables in range, and room whatever the stamps of the ask
 pub record Listable (names recs lists run : List ℕ) (k : Counts) (a : Asked) : Type 0 where
   pub index : Index names (k .names)
   pub took : (n : ℕ) → n < k .names → taken-at names n ≤ k .records
   pub notes : Notes recs lists run k
-  pub fits : length (kept-records names recs lists run k a) ≤ most-records
+  pub few-facts : length (fact-records names recs run k a) ≤ most-records
+  pub fits : (stamp : ℕ → ℕ) → Stamped names recs lists run k a stamp → length (kept-records names recs run k a stamp) ≤ most-records
 
--- the kept records stand in the slice, so many
+-- the kept records stand in the slice, so many, by the stamps of the ask
 pub record Records-listed (names recs lists before after : List ℕ) (k : Counts) (a : Asked) (to : ℕ) : Type 0 where
-  pub records : part after kept-column (kept-column + to) ≡ kept-records names recs lists before k a
-  pub count : to ≡ length (kept-records names recs lists before k a)
+  pub stamp : ℕ → ℕ
+  pub stamped : Stamped names recs lists before k a stamp
+  pub records : part after kept-column (kept-column + to) ≡ kept-records names recs before k a stamp
+  pub count : to ≡ length (kept-records names recs before k a stamp)
   pub same : Same-but kept-column prune-room before after

@@ -5,17 +5,18 @@ ghost use mathlib.Core.Path.{_≡_};
 ghost use mathlib.Core.List.{map};
 ghost use lib.ListN.{length, getD};
 ghost use Rattle.model.specs.Lists.{part};
-ghost use Rattle.model.specs.Reading.{most-records};
+ghost use Rattle.model.specs.Reading.{most-names, most-records};
 ghost use Rattle.model.specs.Outcome.{working-words};
 ghost use Rattle.records.specs.Columns.{record-line};
 ghost use Rattle.scan.specs.Steps.{marks};
-ghost use Rattle.prune.specs.Listing.{taker, reached-at, kind-at, ambient-at, is-goal, reached-records, ambient-records, fact-records, goal-records, stamp-records, kind-records, decl-records};
-ghost use Rattle.prune.specs.Loops.{kept-column, most-stamps, stamp-in, stamp-words, Index, Kept-behind, noted, Notes, Linked, Links, Listable, Records-listed};
+ghost use Rattle.prune.specs.Listing.{taker, reached-at, kind-at, ambient-at, is-goal, reached-records, ambient-records, fact-records, goal-records, stamp-records, kind-records, decl-records, added-at, added-records, group-records, groups-records};
+ghost use Rattle.prune.specs.Follow.{body-at};
+ghost use Rattle.prune.specs.Loops.{kept-column, most-stamps, stamp-of, stamp-in, stamp-words, Index, Kept-behind, noted, Notes, Linked, Links, queue, follow-name, follow-names, Queue-room, Bodies, Stamps-followed, Listable, Records-listed};
 ghost use Rattle.prune.specs.Kept.{Run-over, Pruned};
 
 // The columns of the run's slice behind those of the run: the kept list; by rank, the next lower rank of the same stamp, and one;
 // by stamp, counted from 0, its highest rank and one; by name, its stamp. A stamp is the place of the item that first has a name,
-// counted from 1. A rank is a name's place in byte order.
+// counted from 1. A rank is a name's place in byte order. Last the queue of the names that bodies add.
 pub const KEPT: usize = 5120;
 
 const BELOW: usize = 6144;
@@ -24,8 +25,13 @@ const HIGHEST: usize = 8192;
 
 const STAMP: usize = 10240;
 
+const QUEUE: usize = 12288;
+
 // The room for stamps: the kept facts and the roots.
 const MOST_STAMPS: usize = 2048;
+
+// The stamp of a name that a body adds.
+const FOLLOWED: usize = 2049;
 
 // The assume, fun or def that took the name of a rank, and one; 0 if none did.
 fn taker(names: &[u32], named: usize, r: usize) -> usize
@@ -279,6 +285,159 @@ fn list_kind(
     to
 }
 
+// Follows a name that has no stamp: it gets that of the names that bodies add, and stands behind the queue.
+fn follow_name(run: &mut [u32], n: usize, to: usize) -> usize
+    requires { ⌜ (n < most-names) × Queue-room (queue (now run) to) ⌝ }
+    ensures { λ r. ⌜ queue (now (run .exit)) r ≡ follow-name (queue (now (run .entry)) to) n ⌝ }
+{
+    if words::at(run, STAMP + n) != 0 {
+        return to;
+    }
+    run[STAMP + n] = FOLLOWED as u32;
+    run[QUEUE + to] = n as u32;
+    to + 1
+}
+
+// Follows the free names of the body of a name's definition, if it has one.
+fn follow_body(
+    names: &[u32],
+    recs: &[u32],
+    lists: &[u32],
+    run: &mut [u32],
+    k: Counts,
+    n: usize,
+    m: usize,
+) -> usize
+    requires { ⌜ Bodies (now names) (now recs) (now lists) k × (n < k .names) × Queue-room (queue (now run) m) ⌝ }
+    ensures { λ r. ⌜ queue (now (run .exit)) r ≡ follow-names (queue (now (run .entry)) m)
+        (body-at (now (names .entry)) (now (recs .entry)) (now (lists .entry)) n) ⌝ }
+{
+    let taken = words::at(names, records::TAKEN + n);
+    if !macros::is_def(recs, taken) {
+        return m;
+    }
+    let a = words::at(recs, records::USES_START + (taken - 1));
+    let e = words::at(recs, records::USES_END + (taken - 1));
+    let mut to = m;
+    let mut j = a;
+    while j < e {
+        to = follow_name(run, words::at(lists, j), to);
+        j += 1;
+    }
+    to
+}
+
+// Follows the bodies of the names with a stamp, then those of the names that these add, each once.
+fn follow(names: &[u32], recs: &[u32], lists: &[u32], run: &mut [u32], k: Counts)
+    requires { ⌜ Bodies (now names) (now recs) (now lists) k × (working-words ≤ length (now run))
+        × ((n : ℕ) → n < k .names → stamp-of (now run) n ≤ most-stamps) ⌝ }
+    ensures { λ r. ⌜ Stamps-followed (now (names .entry)) (now (recs .entry)) (now (lists .entry)) k (now (run .entry))
+        (now (run .exit)) ⌝ }
+{
+    let named = k.names;
+    let mut to = 0;
+    let mut n = 0;
+    while n < named {
+        let m = n;
+        n += 1;
+        let stamp = words::at(run, STAMP + m);
+        if stamp == 0 {
+            continue;
+        }
+        if stamp == FOLLOWED {
+            continue;
+        }
+        to = follow_body(names, recs, lists, run, k, m, to);
+    }
+    let mut j = 0;
+    while j < to {
+        let m = words::at(run, QUEUE + j);
+        j += 1;
+        to = follow_body(names, recs, lists, run, k, m, to);
+    }
+}
+
+// The definition, or the declaration, of the name of a rank, and one, if a body adds the name; else 0.
+fn added_at(names: &[u32], recs: &[u32], run: &[u32], named: usize, kind: usize, r: usize) -> usize
+    requires { ⌜ Index (now names) named × (working-words ≤ length (now recs)) × (working-words ≤ length (now run)) × (r < named) ⌝ }
+    ensures { λ t. ⌜ (t ≡ added-at (now (names .entry)) (now (recs .entry)) (stamp-in (now (names .entry)) (now (run .entry))) kind r)
+        × (t ≤ most-records) ⌝ }
+{
+    let n = words::at(names, names::INDEX + r);
+    if words::at(run, STAMP + n) != FOLLOWED {
+        return 0;
+    }
+    kind_at(names, recs, named, kind, r)
+}
+
+// Lists the definitions, or the declarations, of the names that bodies add, in byte order.
+fn list_added(
+    names: &[u32],
+    recs: &[u32],
+    run: &mut [u32],
+    named: usize,
+    kind: usize,
+    m: usize,
+) -> usize
+    requires { ⌜ Index (now names) named × (working-words ≤ length (now recs)) × (working-words ≤ length (now run))
+        × (m + length (added-records (now names) (now recs) named (stamp-in (now names) (now run)) kind) ≤ most-records) ⌝ }
+    ensures { λ to. ⌜ Kept-behind (now (run .entry)) m (added-records (now (names .entry)) (now (recs .entry)) named
+        (stamp-in (now (names .entry)) (now (run .entry))) kind) (now (run .exit)) to ⌝ }
+{
+    let mut to = m;
+    let mut r = 0;
+    while r < named {
+        let t = added_at(names, recs, run, named, kind, r);
+        r += 1;
+        if t == 0 {
+            continue;
+        }
+        run[KEPT + to] = (t - 1) as u32;
+        to += 1;
+    }
+    to
+}
+
+// Lists the definitions, or the declarations, those noted and then those that bodies add.
+fn list_group(
+    names: &[u32],
+    recs: &[u32],
+    run: &mut [u32],
+    named: usize,
+    kind: usize,
+    stamps: usize,
+    m: usize,
+) -> usize
+    requires { ⌜ Index (now names) named × (working-words ≤ length (now recs)) × (working-words ≤ length (now run))
+        × Linked (stamp-in (now names) (now run)) named (now run) × (stamps ≤ most-stamps)
+        × (m + length (group-records (now names) (now recs) named (stamp-in (now names) (now run)) kind
+        stamps) ≤ most-records) ⌝ }
+    ensures { λ to. ⌜ Kept-behind (now (run .entry)) m (group-records (now (names .entry)) (now (recs .entry)) named
+        (stamp-in (now (names .entry)) (now (run .entry))) kind stamps) (now (run .exit)) to ⌝ }
+{
+    let noted = list_kind(names, recs, run, named, kind, stamps, m);
+    list_added(names, recs, run, named, kind, noted)
+}
+
+// Lists the definitions and then the declarations, with those that bodies add.
+fn list_groups(
+    names: &[u32],
+    recs: &[u32],
+    run: &mut [u32],
+    named: usize,
+    stamps: usize,
+    m: usize,
+) -> usize
+    requires { ⌜ Index (now names) named × (working-words ≤ length (now recs)) × (working-words ≤ length (now run))
+        × Linked (stamp-in (now names) (now run)) named (now run) × (stamps ≤ most-stamps)
+        × (m + length (groups-records (now names) (now recs) named (stamp-in (now names) (now run)) stamps) ≤ most-records) ⌝ }
+    ensures { λ to. ⌜ Kept-behind (now (run .entry)) m (groups-records (now (names .entry)) (now (recs .entry)) named
+        (stamp-in (now (names .entry)) (now (run .entry))) stamps) (now (run .exit)) to ⌝ }
+{
+    let defs = list_group(names, recs, run, named, records::DEF, stamps, m);
+    list_group(names, recs, run, named, records::FUN, stamps, defs)
+}
+
 // Lists the definitions and then the declarations of the names with the stamps up to `stamps`.
 fn list_decls(
     names: &[u32],
@@ -313,7 +472,8 @@ fn put_lines(recs: &[u32], run: &mut [u32], count: usize)
     }
 }
 
-// Lists the kept records: the facts, and with option 4 definitions and then declarations.
+// Lists the kept records: the facts, and with option 4 definitions and then declarations; with option 8 too what the bodies of
+// definitions add, at the end of each group.
 fn list_records(
     names: &[u32],
     recs: &[u32],
@@ -335,7 +495,11 @@ fn list_records(
     note_facts(recs, lists, run, k, facts);
     let stamps = note_roots(recs, lists, run, k, a, facts);
     link_names(names, run, k.names);
-    list_decls(names, recs, run, k.names, stamps, facts)
+    if !options.follow_bodies {
+        return list_decls(names, recs, run, k.names, stamps, facts);
+    }
+    follow(names, recs, lists, run, k);
+    list_groups(names, recs, run, k.names, stamps, facts)
 }
 
 // Lists the kept lines.

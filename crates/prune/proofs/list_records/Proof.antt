@@ -3,14 +3,14 @@ use native.Mathlib.Omega.{arith}
 use borrow.Author.Needs.{needs}
 use borrow.Author.Tests.{not-true, not-false}
 use Rattle.prune.proofs.Writing.{lists-length}
-use Rattle.prune.proofs.Gathering.{facts-fit, few-facts, listed-facts, cleared-notes, facts-in, noted-notes, link-asks, decls-ask, listed-all}
+use Rattle.prune.proofs.Gathering.{few-facts, listed-facts, cleared-notes, facts-in, noted-notes, link-asks, decls-ask, listed-noted, follow-asks, groups-ask, listed-followed}
 use Rattle.prune.proofs.list_records.Statement.{statement}
 use Rattle.prune.proofs.list_records.Tie as tie
 
 list-facts-requires : tie.Need-list-facts-requires
 list-facts-requires c κs =
     let entry = c .before .before .before .before .before in
-    (entry .pre .index, entry .pre .notes .recorded .room, entry .pre .notes .room, entry .pre .notes .recorded .few, facts-fit (entry .pre))
+    (entry .pre .index, entry .pre .notes .recorded .room, entry .pre .notes .room, entry .pre .notes .recorded .few, entry .pre .few-facts)
 
 options-of-requires : tie.Need-options-of-requires
 options-of-requires c κs = search needs
@@ -65,7 +65,8 @@ link-names-requires c κs =
 
 list-decls-requires : tie.Need-list-decls-requires
 list-decls-requires c κs =
-    let link-names = c .before .before .before in
+    let if2 = c .before in
+    let link-names = if2 .before .before .before .before in
     let note-roots = link-names .before .before .before .before in
     let note-facts = note-roots .before .before .before .before in
     let clear = note-facts .before .before .before .before in
@@ -75,12 +76,13 @@ list-decls-requires c κs =
     let entry = list-facts .before .before .before .before .before .before in
     decls-ask (entry .pre) (list-facts .list-facts .ensures) (clear .clear .ensures) (note-facts .note-facts .ensures)
     (note-roots .note-roots .ensures .0) (note-roots .note-roots .ensures .1) (link-names .link-names .ensures)
-    (options-of .options-of .ensures .0 (entry .args .a .query) .prune-decls-is) (not-false _ (if1 .if1 .left))
+    (options-of .options-of .ensures .0 (entry .args .a .query) .prune-decls-is) (not-false _ (if1 .if1 .left)) (options-of .options-of .ensures .0 (entry .args .a .query) .follow-bodies-is) (not-true _ (if2 .if2 .taken))
 
 same-length-2 : tie.Need-same-length-2
 same-length-2 c =
     let list-decls = c .before .before in
-    let link-names = list-decls .before .before .before .before in
+    let if2 = list-decls .before .before in
+    let link-names = if2 .before .before .before .before in
     let note-roots = link-names .before .before .before .before in
     let note-facts = note-roots .before .before .before .before in
     let clear = note-facts .before .before .before .before in
@@ -88,14 +90,16 @@ same-length-2 c =
     let options-of = if1 .before .before in
     let list-facts = options-of .before .before .before in
     let entry = list-facts .before .before .before .before .before .before in
-    listed-all (entry .pre) (list-facts .list-facts .ensures) (clear .clear .ensures) (note-facts .note-facts .ensures)
+    listed-noted (entry .pre) (list-facts .list-facts .ensures) (clear .clear .ensures) (note-facts .note-facts .ensures)
     (note-roots .note-roots .ensures .0) (note-roots .note-roots .ensures .1) (link-names .link-names .ensures)
-    (options-of .options-of .ensures .0 (entry .args .a .query) .prune-decls-is) (not-false _ (if1 .if1 .left)) (list-decls .list-decls .ensures) .same .same-length
+    (options-of .options-of .ensures .0 (entry .args .a .query) .prune-decls-is) (not-false _ (if1 .if1 .left)) (options-of .options-of .ensures .0 (entry .args .a .query) .follow-bodies-is) (not-true _ (if2 .if2 .taken))
+    (list-decls .list-decls .ensures) .same .same-length
 
 returns-2 : tie.Need-returns-2
 returns-2 c =
     let list-decls = c .before .before in
-    let link-names = list-decls .before .before .before .before in
+    let if2 = list-decls .before .before in
+    let link-names = if2 .before .before .before .before in
     let note-roots = link-names .before .before .before .before in
     let note-facts = note-roots .before .before .before .before in
     let clear = note-facts .before .before .before .before in
@@ -103,12 +107,82 @@ returns-2 c =
     let options-of = if1 .before .before in
     let list-facts = options-of .before .before .before in
     let entry = list-facts .before .before .before .before .before .before in
-    listed-all (entry .pre) (list-facts .list-facts .ensures) (clear .clear .ensures) (note-facts .note-facts .ensures)
+    listed-noted (entry .pre) (list-facts .list-facts .ensures) (clear .clear .ensures) (note-facts .note-facts .ensures)
     (note-roots .note-roots .ensures .0) (note-roots .note-roots .ensures .1) (link-names .link-names .ensures)
-    (options-of .options-of .ensures .0 (entry .args .a .query) .prune-decls-is) (not-false _ (if1 .if1 .left)) (list-decls .list-decls .ensures)
+    (options-of .options-of .ensures .0 (entry .args .a .query) .prune-decls-is) (not-false _ (if1 .if1 .left)) (options-of .options-of .ensures .0 (entry .args .a .query) .follow-bodies-is) (not-true _ (if2 .if2 .taken))
+    (list-decls .list-decls .ensures)
+
+follow-requires : tie.Need-follow-requires
+follow-requires c κs =
+    let if2 = c .before in
+    let link-names = if2 .before .before .before .before in
+    let note-roots = link-names .before .before .before .before in
+    let note-facts = note-roots .before .before .before .before in
+    let clear = note-facts .before .before .before .before in
+    let if1 = clear .before .before in
+    let options-of = if1 .before .before in
+    let list-facts = options-of .before .before .before in
+    let entry = list-facts .before .before .before .before .before .before in
+    follow-asks (entry .pre) (list-facts .list-facts .ensures) (clear .clear .ensures) (note-facts .note-facts .ensures)
+    (note-roots .note-roots .ensures .0) (note-roots .note-roots .ensures .1) (link-names .link-names .ensures)
+    (options-of .options-of .ensures .0 (entry .args .a .query) .prune-decls-is) (not-false _ (if1 .if1 .left)) (options-of .options-of .ensures .0 (entry .args .a .query) .follow-bodies-is) (not-false _ (if2 .if2 .left))
+
+list-groups-requires : tie.Need-list-groups-requires
+list-groups-requires c κs =
+    let follow = c .before .before .before in
+    let if2 = follow .before .before in
+    let link-names = if2 .before .before .before .before in
+    let note-roots = link-names .before .before .before .before in
+    let note-facts = note-roots .before .before .before .before in
+    let clear = note-facts .before .before .before .before in
+    let if1 = clear .before .before in
+    let options-of = if1 .before .before in
+    let list-facts = options-of .before .before .before in
+    let entry = list-facts .before .before .before .before .before .before in
+    groups-ask (entry .pre) (list-facts .list-facts .ensures) (clear .clear .ensures) (note-facts .note-facts .ensures)
+    (note-roots .note-roots .ensures .0) (note-roots .note-roots .ensures .1) (link-names .link-names .ensures)
+    (options-of .options-of .ensures .0 (entry .args .a .query) .prune-decls-is) (not-false _ (if1 .if1 .left)) (options-of .options-of .ensures .0 (entry .args .a .query) .follow-bodies-is) (not-false _ (if2 .if2 .left))
+    (follow .follow .ensures)
+
+same-length-3 : tie.Need-same-length-3
+same-length-3 c =
+    let list-groups = c .before .before in
+    let follow = list-groups .before .before .before .before in
+    let if2 = follow .before .before in
+    let link-names = if2 .before .before .before .before in
+    let note-roots = link-names .before .before .before .before in
+    let note-facts = note-roots .before .before .before .before in
+    let clear = note-facts .before .before .before .before in
+    let if1 = clear .before .before in
+    let options-of = if1 .before .before in
+    let list-facts = options-of .before .before .before in
+    let entry = list-facts .before .before .before .before .before .before in
+    listed-followed (entry .pre) (list-facts .list-facts .ensures) (clear .clear .ensures) (note-facts .note-facts .ensures)
+    (note-roots .note-roots .ensures .0) (note-roots .note-roots .ensures .1) (link-names .link-names .ensures)
+    (options-of .options-of .ensures .0 (entry .args .a .query) .prune-decls-is) (not-false _ (if1 .if1 .left)) (options-of .options-of .ensures .0 (entry .args .a .query) .follow-bodies-is) (not-false _ (if2 .if2 .left))
+    (follow .follow .ensures) (list-groups .list-groups .ensures) .same .same-length
+
+returns-3 : tie.Need-returns-3
+returns-3 c =
+    let list-groups = c .before .before in
+    let follow = list-groups .before .before .before .before in
+    let if2 = follow .before .before in
+    let link-names = if2 .before .before .before .before in
+    let note-roots = link-names .before .before .before .before in
+    let note-facts = note-roots .before .before .before .before in
+    let clear = note-facts .before .before .before .before in
+    let if1 = clear .before .before in
+    let options-of = if1 .before .before in
+    let list-facts = options-of .before .before .before in
+    let entry = list-facts .before .before .before .before .before .before in
+    listed-followed (entry .pre) (list-facts .list-facts .ensures) (clear .clear .ensures) (note-facts .note-facts .ensures)
+    (note-roots .note-roots .ensures .0) (note-roots .note-roots .ensures .1) (link-names .link-names .ensures)
+    (options-of .options-of .ensures .0 (entry .args .a .query) .prune-decls-is) (not-false _ (if1 .if1 .left)) (options-of .options-of .ensures .0 (entry .args .a .query) .follow-bodies-is) (not-false _ (if2 .if2 .left))
+    (follow .follow .ensures) (list-groups .list-groups .ensures)
 
 pub list-records-spec : {M : Type 1} → statement M
 list-records-spec =
     tie.close
     (tie.spec list-facts-requires options-of-requires same-length returns clear-requires note-facts-requires
-    note-roots-requires link-names-requires list-decls-requires same-length-2 returns-2)
+    note-roots-requires link-names-requires list-decls-requires same-length-2 returns-2 follow-requires list-groups-requires
+    same-length-3 returns-3)

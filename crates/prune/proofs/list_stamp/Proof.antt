@@ -64,7 +64,7 @@ loop-less c =
     let loop-test = at2 .before .before .before in
     let loop = loop-test .before in
     let entry = loop .before .before .before .before .before .before in
-    chain-less (entry .pre .3) (entry .pre .6) (entry .pre .0 .few) (entry .pre .4) (loop .loop .inv) (loop-test .loop-test .taken) (at2 .at2 .ensures)
+    chain-less (entry .pre .3) (entry .pre .6) (entry .pre .0 .few) (entry .pre .4) (entry .pre .5) (loop .loop .inv) (loop-test .loop-test .taken) (at2 .at2 .ensures)
 
 loop-again : tie.Need-loop-again Inv-loop μ-loop
 loop-again c =
@@ -73,7 +73,7 @@ loop-again c =
     let loop-test = kind-at .before in
     let loop = loop-test .before in
     let entry = loop .before .before .before .before .before .before in
-    chain-none (entry .pre .3) (entry .pre .6) (entry .pre .0 .few) (entry .pre .4) (loop .loop .inv) (loop-test .loop-test .taken) (at2 .at2 .ensures)
+    chain-none (entry .pre .3) (entry .pre .6) (entry .pre .0 .few) (entry .pre .4) (entry .pre .5) (loop .loop .inv) (loop-test .loop-test .taken) (at2 .at2 .ensures)
     (kind-at .kind-at .ensures .0) (c .if1 .taken)
 
 sub-run : tie.Need-sub-run Inv-loop μ-loop
@@ -91,7 +91,7 @@ add-run c =
     let loop-test = kind-at .before in
     let loop = loop-test .before in
     let entry = loop .before .before .before .before .before .before in
-    let room = chain-room (entry .pre .3) (entry .pre .6) (entry .pre .0 .few) (entry .pre .4) (loop .loop .inv) (loop-test .loop-test .taken)
+    let room = chain-room (entry .pre .3) (entry .pre .6) (entry .pre .0 .few) (entry .pre .4) (entry .pre .5) (loop .loop .inv) (loop-test .loop-test .taken)
     (at2 .at2 .ensures) (kind-at .kind-at .ensures .0) (c .if1 .left) in
     omega (arith, room)
 
@@ -102,7 +102,7 @@ mul-run c =
     let loop-test = kind-at .before in
     let loop = loop-test .before in
     let entry = loop .before .before .before .before .before .before in
-    let room = chain-room (entry .pre .3) (entry .pre .6) (entry .pre .0 .few) (entry .pre .4) (loop .loop .inv) (loop-test .loop-test .taken)
+    let room = chain-room (entry .pre .3) (entry .pre .6) (entry .pre .0 .few) (entry .pre .4) (entry .pre .5) (loop .loop .inv) (loop-test .loop-test .taken)
     (at2 .at2 .ensures) (kind-at .kind-at .ensures .0) (c .if1 .left) in
     omega (arith, room)
 
@@ -113,7 +113,7 @@ slice-write-run c =
     let loop-test = kind-at .before in
     let loop = loop-test .before in
     let entry = loop .before .before .before .before .before .before in
-    let room = chain-room (entry .pre .3) (entry .pre .6) (entry .pre .0 .few) (entry .pre .4) (loop .loop .inv) (loop-test .loop-test .taken)
+    let room = chain-room (entry .pre .3) (entry .pre .6) (entry .pre .0 .few) (entry .pre .4) (entry .pre .5) (loop .loop .inv) (loop-test .loop-test .taken)
     (at2 .at2 .ensures) (kind-at .kind-at .ensures .0) (c .if1 .left) in
     omega (arith, room, entry .pre .2, going-length (loop .loop .inv .going))
 
@@ -124,7 +124,7 @@ add-to c =
     let loop-test = kind-at .before in
     let loop = loop-test .before in
     let entry = loop .before .before .before .before .before .before in
-    let room = chain-room (entry .pre .3) (entry .pre .6) (entry .pre .0 .few) (entry .pre .4) (loop .loop .inv) (loop-test .loop-test .taken)
+    let room = chain-room (entry .pre .3) (entry .pre .6) (entry .pre .0 .few) (entry .pre .4) (entry .pre .5) (loop .loop .inv) (loop-test .loop-test .taken)
     (at2 .at2 .ensures) (kind-at .kind-at .ensures .0) (c .if1 .left) in
     omega (arith, room)
 
@@ -134,7 +134,7 @@ loop-less-2 c =
     let loop-test = at2 .before .before .before in
     let loop = loop-test .before in
     let entry = loop .before .before .before .before .before .before in
-    chain-less (entry .pre .3) (entry .pre .6) (entry .pre .0 .few) (entry .pre .4) (loop .loop .inv) (loop-test .loop-test .taken) (at2 .at2 .ensures)
+    chain-less (entry .pre .3) (entry .pre .6) (entry .pre .0 .few) (entry .pre .4) (entry .pre .5) (loop .loop .inv) (loop-test .loop-test .taken) (at2 .at2 .ensures)
 
 loop-again-2 : tie.Need-loop-again-2 Inv-loop μ-loop
 loop-again-2 c =
@@ -143,7 +143,7 @@ loop-again-2 c =
     let loop-test = kind-at .before in
     let loop = loop-test .before in
     let entry = loop .before .before .before .before .before .before in
-    chain-one (entry .pre .3) (entry .pre .6) (entry .pre .0 .few) (entry .pre .4) (loop .loop .inv) (loop-test .loop-test .taken) (at2 .at2 .ensures)
+    chain-one (entry .pre .3) (entry .pre .6) (entry .pre .0 .few) (entry .pre .4) (entry .pre .5) (loop .loop .inv) (loop-test .loop-test .taken) (at2 .at2 .ensures)
     (kind-at .kind-at .ensures .0) (c .if1 .left)
 
 same-length : tie.Need-same-length Inv-loop μ-loop
