@@ -30,7 +30,7 @@ BEGIN {
     for (i = 1; i <= many_words; i++) is_word[words_of[i]] = 1
 
     most["query"] = 255
-    most["options"] = 7
+    most["options"] = 15
     most["flag"] = 1
     most["count"] = most["term"] = 65535
     article["query"] = "a query"

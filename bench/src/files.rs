@@ -52,12 +52,13 @@ pub fn real(folder: &Path) -> io::Result<Vec<Sample>> {
 
 /// Files that ask for much work.
 pub fn ugly() -> Vec<Sample> {
-    let files: [(&str, Vec<u8>); 10] = [
+    let files: [(&str, Vec<u8>); 11] = [
         ("a chain of 4,096 terms walked 4,095 times", most_walks()),
         ("a deep chain named by a thousand records", deep_chain()),
         ("a wide term named by a thousand records", wide_term()),
         ("an `and` of references to a run of labels", labels()),
         ("1,024 rounds", rounds()),
+        ("1,023 bodies followed", bodies()),
         ("names in descending order", descending()),
         ("names that share 250 bytes", long_names()),
         ("thousands of empty groups", empty_groups()),
@@ -146,6 +147,20 @@ fn rounds() -> Vec<u8> {
     text.finish()
 }
 
+/// Each definition has the one above in its body, and the goal has the last.
+fn bodies() -> Vec<u8> {
+    let mut text = Text::ask(0, 12);
+    let goal = text.free("d1022");
+    text.root(0, "r", goal);
+    text.leaf();
+    text.def("d0", goal + 1);
+    for index in 1..limits::RECORDS - 1 {
+        let next = text.free(format!("d{}", index - 1));
+        text.def(format!("d{index}"), next);
+    }
+    text.finish()
+}
+
 /// Each name comes before all that were spelled.
 fn descending() -> Vec<u8> {
     let mut text = Text::ask(0, 0);
@@ -200,6 +215,7 @@ mod tests {
                 ("1,024 rounds", Outcome::Kept { lines, rounds, .. }) => {
                     assert_eq!((lines.len(), rounds), (1_023, 1_024))
                 }
+                ("1,023 bodies followed", Outcome::Kept { lines, .. }) => assert_eq!(lines.len(), 1_023),
                 (name, Outcome::Refused { number, place }) => panic!("{name}: refused, {number}, {place}"),
                 (_, Outcome::Kept { .. }) => {}
             }

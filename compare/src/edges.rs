@@ -43,6 +43,7 @@ pub fn edges() -> Vec<Edge> {
     bytes(&mut edges);
     ugly(&mut edges);
     costly(&mut edges);
+    bodies(&mut edges);
     slices(&mut edges);
     edges
 }
@@ -135,13 +136,16 @@ fn fields(edges: &mut Vec<Edge>) {
     let empty = Text::default();
     for (query, options, number) in [
         ("0", "0", 0),
-        ("255", "7", 0),
+        ("255", "15", 0),
         ("256", "0", 3),
-        ("0", "8", 3),
+        ("0", "7", 0),
+        ("0", "8", 0),
+        ("0", "16", 3),
+        ("0", "31", 3),
         ("65535", "0", 3),
         ("0", "65536", 3),
         ("00", "0", 3),
-        ("0", "07", 3),
+        ("0", "015", 3),
         ("", "0", 3),
         ("0", "", 3),
         ("256", "x", 3),
@@ -589,6 +593,50 @@ fn costly(edges: &mut Vec<Edge>) {
     text.assume("a", 0, fact);
     text.root(0, "r", shared);
     add(edges, "costly-1024-disjuncts-share-a-name", 0, text);
+}
+
+/// Definitions whose bodies lead far: one after the other, in a circle, all to all, one to all declarations.
+fn bodies(edges: &mut Vec<Edge>) {
+    // As many definitions as there can be beside a root, each with the next in its body, by line up and down.
+    for (name, options, last) in [("up", 12, "end"), ("down", 12, "end"), ("circle", 12, "d0"), ("4-alone", 4, "end")] {
+        let count = limits::RECORDS - 1;
+        let mut text = Text::ask(0, options);
+        let next = |index: usize| if index == count { last.to_owned() } else { format!("d{index}") };
+        let terms: Vec<TermId> = (0..=count).map(|index| text.free(next(index))).collect();
+        let mut defs: Vec<usize> = (0..count).collect();
+        if name == "down" {
+            defs.reverse();
+        }
+        for index in defs {
+            text.def(format!("d{index}"), terms[index + 1]);
+        }
+        text.root(0, "r", terms[0]);
+        add(edges, format!("bodies-1023-{name}"), 0, text);
+    }
+
+    let mut text = Text::ask(0, 12);
+    let terms: Vec<TermId> = plain_names(76).map(|name| text.free(name)).collect();
+    let all = text.op("other", &terms);
+    for name in plain_names(76) {
+        text.def(name, all);
+    }
+    text.root(0, "r", terms[40]);
+    add(edges, "bodies-76-all-to-all", 0, text);
+
+    let mut text = Text::ask(0, 12);
+    let wide = add_wide_call(&mut text, 1_021);
+    for name in plain_names(1_020) {
+        text.fun(name);
+    }
+    text.def("g", wide);
+    text.def("wide", 7);
+    let goal = text.free("g");
+    text.root(0, "r", goal);
+    let full = Case::new("", text.finish());
+    for (room, number) in [(1_021, 8), (1_022, 0)] {
+        let case = Case { name: format!("bodies-room-{room}"), ..full.clone().with_room(room) };
+        edges.push(Edge { case, number });
+    }
 }
 
 /// 2,048 trigger entries and the next.

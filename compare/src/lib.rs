@@ -1,4 +1,4 @@
-//! The fact filter of document 01 with Changes 1, 3 and 6 of document 02, written independently in plain Rust with the
+//! The fact filter of document 01 with Changes 1, 3, 6 and 8 of document 02, written independently in plain Rust with the
 //! standard collections.
 //!
 //! It reads a file of terms, facts and roots, and keeps the facts that the roots of one query can touch, with the
@@ -79,7 +79,8 @@ fn text(name: &[u8]) -> &str {
 /// Lengths of working slices that are long enough.
 pub const LONG_ENOUGH: [usize; 6] = [limits::WORK_WORDS; 6];
 
-/// The order inside the definitions and inside the declarations, which document 01 leaves open.
+/// The order inside the definitions and inside the declarations, which document 01 leaves open. Those that bodies add stand
+/// after the others of their group in either.
 #[derive(Clone, Copy, Debug, PartialEq, Eq)]
 pub enum Order {
     /// As Pruning.fst has it: the one met last first.

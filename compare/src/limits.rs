@@ -21,6 +21,6 @@ pub const NUMBER: u32 = 65_535;
 /// The largest query number.
 pub const QUERY: u32 = 255;
 /// The largest options number.
-pub const OPTIONS: u32 = 7;
+pub const OPTIONS: u32 = 15;
 /// Words that each working slice must have.
 pub const WORK_WORDS: usize = 16_384;

@@ -47,7 +47,8 @@ pub fn prune(background: &Background, order: Order) -> Kept {
     Kept { records, visits: scan.visits, rounds: scan.rounds }
 }
 
-/// The defs and then the funs named in some sets.
+/// The defs and then the funs named in some sets; with option 8, at the end of each of the two, those that the bodies of
+/// kept defs add.
 fn declarations<'s>(
     background: &Background,
     free: impl Iterator<Item = &'s NameSet>,
@@ -71,8 +72,42 @@ fn declarations<'s>(
             Order::Line => group.sort_unstable(),
         }
     }
+    if background.follow_bodies {
+        let (more_defs, more_funs) = followed(background, &defs, seen);
+        defs.extend(more_defs);
+        funs.extend(more_funs);
+    }
     defs.append(&mut funs);
     defs
+}
+
+/// The defs and the funs that are not among those seen and are named in the bodies of some defs, or of defs found so; each
+/// by name in byte order.
+fn followed(
+    background: &Background,
+    defs: &[(u32, NameId)],
+    mut seen: HashSet<NameId>,
+) -> (Vec<(u32, NameId)>, Vec<(u32, NameId)>) {
+    let mut found = Vec::new();
+    let mut bodies: Vec<NameId> = defs.iter().map(|&(_, name)| name).collect();
+    while let Some(def) = bodies.pop() {
+        for name in background.macros[&def].iter() {
+            if let Some(declaration) = background.declarations.get(&name) {
+                if seen.insert(name) {
+                    found.push((declaration, name));
+                    if !declaration.is_fun {
+                        bodies.push(name);
+                    }
+                }
+            }
+        }
+    }
+    found.sort_unstable_by_key(|&(_, name)| background.names.bytes(name));
+    let group = |is_fun: bool| {
+        let of_group = found.iter().filter(|(declaration, _)| declaration.is_fun == is_fun);
+        of_group.map(|&(declaration, name)| (declaration.line, name)).collect()
+    };
+    (group(false), group(true))
 }
 
 /// One disjunct of one fact that waits on a name.

@@ -37,6 +37,7 @@ pub struct Background<'a> {
     pub no_ambients: bool,
     pub pretyping_axioms: bool,
     pub prune_decls: bool,
+    pub follow_bodies: bool,
     pub names: Names<'a>,
     pub terms: Terms,
     /// In the order of their lines.
@@ -52,7 +53,8 @@ pub struct Background<'a> {
 impl Background<'_> {
     /// The options number.
     pub fn options(&self) -> u32 {
-        u32::from(self.no_ambients) + 2 * u32::from(self.pretyping_axioms) + 4 * u32::from(self.prune_decls)
+        let options = [self.no_ambients, self.pretyping_axioms, self.prune_decls, self.follow_bodies];
+        options.iter().rev().fold(0, |number, &on| 2 * number + u32::from(on))
     }
 }
 
@@ -132,6 +134,7 @@ impl<'a> Reader<'a> {
         background.no_ambients = options & 1 != 0;
         background.pretyping_axioms = options & 2 != 0;
         background.prune_decls = options & 4 != 0;
+        background.follow_bodies = options & 8 != 0;
         Ok(())
     }
 

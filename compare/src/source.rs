@@ -5,7 +5,7 @@ use std::collections::{BTreeMap, BTreeSet, HashSet};
 
 use crate::names::{NameId, NameSet};
 use crate::prune::{prune, Kept};
-use crate::reader::{self, Background};
+use crate::reader::{self, Background, Declaration};
 use crate::rules::Kind;
 use crate::terms::{Term, TermId};
 use crate::{generate, Order};
@@ -166,10 +166,35 @@ fn source_prune(background: &Background) -> (Vec<u32>, u32, u32) {
                 }
             }
         }
-        let (funs, defs): (Vec<_>, Vec<_>) = met.into_iter().partition(|declaration| declaration.is_fun);
-        lines.extend(defs.iter().chain(&funs).map(|declaration| declaration.line));
+        let added = if background.follow_bodies { added_by_bodies(background, &included) } else { Vec::new() };
+        for is_fun in [false, true] {
+            let group = met.iter().chain(&added).filter(|declaration| declaration.is_fun == is_fun);
+            lines.extend(group.map(|declaration| declaration.line));
+        }
     }
     (lines, state.visits, state.rounds)
+}
+
+/// Change 8: what the smallest closed set that holds these names has more, in byte order of name. A set is closed if the
+/// def or fun of each name that is free in the body of one of its defs is in it.
+fn added_by_bodies<'b>(background: &'b Background, included: &BTreeSet<&Bytes<'b>>) -> Vec<&'b Declaration> {
+    let declared: BTreeMap<Bytes, (NameId, &Declaration)> = background
+        .declarations
+        .iter()
+        .map(|(&name, declaration)| (background.names.bytes(name), (name, declaration)))
+        .collect();
+    let mut closed: BTreeSet<Bytes> = included.iter().map(|name| **name).collect();
+    loop {
+        let bodies = closed.iter().filter_map(|name| background.macros.get(&declared[name].0));
+        let free: BTreeSet<Bytes> = bodies.flat_map(|free| spelled(background, free.iter())).collect();
+        let next: BTreeSet<Bytes> =
+            declared.keys().filter(|name| closed.contains(*name) || free.contains(*name)).copied().collect();
+        if next == closed {
+            let more = closed.iter().filter(|name| !included.contains(name));
+            return more.map(|name| declared[name].1).collect();
+        }
+        closed = next;
+    }
 }
 
 /// `free_top_level_names`, less the excluded names. A term already walked is not walked again.

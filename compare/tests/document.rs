@@ -1,6 +1,6 @@
-//! The examples and edges of document 01, and of Changes 1 and 6 of document 02.
+//! The examples and edges of document 01, and of Changes 1, 6 and 8 of document 02.
 
-use compare::{filter, filter_file, filter_in, summaries, Order, Outcome, Refusal, Trigger, LONG_ENOUGH};
+use compare::{filter, filter_file, filter_in, limits, summaries, Order, Outcome, Refusal, Trigger, LONG_ENOUGH};
 
 fn refused(number: u32, place: u32) -> Outcome<'static> {
     Outcome::Refused { number, place }
@@ -45,7 +45,7 @@ fn each_refusal_has_its_place() {
         ("ask,0,0\nfree,\n", 2, 2),
         ("ask,0,0\nretain,a,\n", 2, 2),
         ("ask,256,0\n", 3, 1),
-        ("ask,0,8\n", 3, 1),
+        ("ask,0,16\n", 3, 1),
         ("ask,0,0\nleaf\nassume,a,2,0\n", 3, 3),
         ("ask,0,0\nleaf\nlabel,00\n", 3, 3),
         ("ask,0,0\nlabel,0\n", 4, 2),
@@ -123,6 +123,24 @@ fn hide_lines() {
     assert_eq!(filter_file(format!("ask,0,0\n{}", hides(1_024)).as_bytes()).to_string(), "sum,0,0,1\n");
     assert_eq!(filter_file(format!("ask,0,0\n{}", hides(1_025)).as_bytes()), refused(11, 1_026));
     assert_eq!(filter_file(format!("ask,0,0\n{}fun,a\n", hides(1_024)).as_bytes()), refused(11, 1_026));
+}
+
+#[test]
+fn bodies_are_followed() {
+    let rest = "free,f\nfree,h\nfree,g\ndef,g,1\nop,other,0,2\ndef,h,3\nfun,f\nroot,0,r,2\n";
+    let answer = |options: u32| filter_file(format!("ask,0,{options}\n{rest}").as_bytes()).to_string();
+    for options in 0..=limits::OPTIONS {
+        let kept = match options & 12 {
+            4 => "kept,5,g\nsum,1,0,1\n",
+            12 => "kept,5,g\nkept,7,h\nkept,8,f\nsum,3,0,1\n",
+            _ => "sum,0,0,1\n",
+        };
+        assert_eq!(answer(options), kept, "{options}");
+    }
+    assert_eq!(answer(16), "refused,3,1\n");
+    // Hidden names are not followed.
+    let hiding = format!("ask,0,12\nhide,h\n{rest}");
+    assert_eq!(filter_file(hiding.as_bytes()).to_string(), "kept,6,g\nsum,1,0,1\n");
 }
 
 #[test]

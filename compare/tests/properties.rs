@@ -345,6 +345,92 @@ fn hidden_names_stand_in_no_summary() {
     assert!(shown > 500 && tokens > 5, "{shown} {tokens}");
 }
 
+/// The names in each term of an accepted file that count as free, by their lines alone.
+fn free_names(file: &[u8]) -> Vec<BTreeSet<String>> {
+    let hidden = hidden(file);
+    let mut terms: Vec<BTreeSet<String>> = Vec::new();
+    for line in lines(file).iter().filter(|line| is_term(line)) {
+        let fields = fields(line);
+        let numbers = |fields: &[String]| -> Vec<usize> { fields.iter().map(|field| field.parse().unwrap()).collect() };
+        let parts = match fields[0].as_str() {
+            "call" | "op" => numbers(&fields[2..]),
+            "let" | "label" => numbers(&fields[1..]),
+            "all" | "some" => {
+                let (mut parts, mut rest) = (numbers(&fields[1..2]), numbers(&fields[3..]));
+                while let Some(count) = rest.first().copied() {
+                    parts.extend(&rest[1..=count]);
+                    rest.drain(..=count);
+                }
+                parts
+            }
+            _ => Vec::new(),
+        };
+        let mut names: BTreeSet<String> = parts.iter().flat_map(|&part| terms[part].clone()).collect();
+        let is_free = |name: &str| !NINE.contains(&name) && !hidden.iter().any(|hidden| hidden == name);
+        if ["free", "call"].contains(&fields[0].as_str()) && is_free(&fields[1]) {
+            names.insert(fields[1].clone());
+        }
+        terms.push(names);
+    }
+    terms
+}
+
+/// Change 8: option 8 without 4 changes nothing. With both, the kept set is the smallest that holds the list without 8 and
+/// with each def the def or fun of every name free in its body; the added ones stand at the end of their group by name;
+/// facts, visits and rounds are those without 8.
+#[test]
+fn bodies_of_kept_definitions_are_followed() {
+    let (mut grown, mut deep) = (0, 0);
+    for file in accepted(32, 900) {
+        let of = |options: u32| list(&with_options(&file, options)).expect("options do not refuse a file");
+        let others = asked(&file).1 & 3;
+        assert_eq!(of(others + 8), of(others));
+        let (stopped, followed) = (of(others + 4), of(others + 12));
+        assert_eq!((stopped.visits, stopped.rounds), (followed.visits, followed.rounds));
+
+        let text: Vec<Vec<String>> = lines(&file).iter().map(|line| fields(line)).collect();
+        let of_kind = |list: &List, kind: &str| -> Vec<String> {
+            let records = list.lines.iter().map(|&line| &text[line as usize - 1]);
+            records.filter(|record| record[0] == kind).map(|record| record[1].clone()).collect()
+        };
+        let kinds: Vec<&str> = followed.lines.iter().map(|&line| text[line as usize - 1][0].as_str()).collect();
+        assert!(kinds.is_sorted(), "{kinds:?}");
+        assert_eq!(of_kind(&followed, "assume"), of_kind(&stopped, "assume"));
+        let mut added = BTreeSet::new();
+        for kind in ["def", "fun"] {
+            let (before, after) = (of_kind(&stopped, kind), of_kind(&followed, kind));
+            let (same, more) = after.split_at(before.len());
+            assert_eq!(same, before);
+            assert!(more.windows(2).all(|pair| pair[0] < pair[1]), "{more:?}");
+            added.extend(more.to_vec());
+        }
+
+        let terms = free_names(&file);
+        let mut kept = BTreeSet::from_iter(of_kind(&stopped, "def").into_iter().chain(of_kind(&stopped, "fun")));
+        let (mut more, mut levels) = (BTreeSet::new(), 0);
+        loop {
+            let defs = text.iter().filter(|record| record[0] == "def" && kept.contains(&record[1]));
+            let named: BTreeSet<&String> =
+                defs.flat_map(|record| &terms[record[2].parse::<usize>().unwrap()]).collect();
+            let declared = text.iter().filter(|record| ["def", "fun"].contains(&record[0].as_str()));
+            let next: Vec<String> = declared
+                .map(|record| record[1].clone())
+                .filter(|name| named.contains(name) && !kept.contains(name))
+                .collect();
+            if next.is_empty() {
+                break;
+            }
+            levels += 1;
+            kept.extend(next.iter().cloned());
+            more.extend(next);
+        }
+        assert_eq!(added, more);
+        grown += usize::from(levels > 0);
+        deep += usize::from(levels > 1);
+    }
+    assert!(grown > 100 && deep > 30, "{grown} {deep}");
+}
+
 /// Change 14: record lines in another sequence, among the term lines too, keep the same names, visits and rounds; two
 /// reached facts never trade places.
 #[test]

@@ -123,7 +123,7 @@ mod tests {
 
     #[test]
     fn wrong_calls_differ() {
-        let wrong: [(&str, Call); 11] = [
+        let wrong: [(&str, Call); 12] = [
             ("a visit more", |file, working, result| {
                 let answer = right(file, working, result);
                 Answer { visits: answer.visits + u32::from(answer.visits > 2), ..answer }
@@ -148,6 +148,17 @@ mod tests {
                     None => line.to_vec(),
                 });
                 right(&shown.collect::<Vec<_>>().join(&b'\n'), working, result)
+            }),
+            ("bodies that are not followed", |file, working, result| {
+                let end = file.iter().position(|&byte| byte == b'\n').unwrap_or(file.len());
+                let (ask, rest) = file.split_at(end);
+                let mut ask = String::from_utf8_lossy(ask).into_owned();
+                for options in 12..=limits::OPTIONS {
+                    if let Some(query) = ask.strip_suffix(&format!(",{options}")) {
+                        ask = format!("{query},{}", options - 8);
+                    }
+                }
+                right(&[ask.as_bytes(), rest].concat(), working, result)
             }),
             ("the next line for what was full", |file, working, result| {
                 let answer = right(file, working, result);

@@ -1,8 +1,8 @@
 //! The proved fact filter.
 //!
 //! A file holds terms, facts over them, definitions, declarations, and the roots of a query. The filter keeps the facts
-//! that the roots can touch, as F*'s context pruning does, and with option 4 the definitions and declarations that come
-//! with them. `docs/FORMAT.md` of the repository describes the file; the filter itself is proved in Rattle and linked here
+//! that the roots can touch, as F*'s context pruning does, with option 4 also the definitions and declarations that come
+//! with them, and with options 4 and 8 those that their bodies need. `docs/FORMAT.md` of the repository describes the file; the filter itself is proved in Rattle and linked here
 //! as an archive, for x86-64 Linux.
 //!
 //! ```
@@ -15,7 +15,7 @@
 //!     assert_eq!((record.line, record.name, record.name_str()), (5, &b"fact"[..], "fact"));
 //! }
 //!
-//! let refusal = filter.run(b"ask,0,8\n").unwrap_err();
+//! let refusal = filter.run(b"ask,0,16\n").unwrap_err();
 //! assert_eq!(refusal.to_string(), "line 1: a field is no number, or one out of its range");
 //! # Ok::<(), wimplejade::Refusal>(())
 //! ```
@@ -101,7 +101,8 @@ fn name(line: &[u8]) -> &[u8] {
 #[non_exhaustive]
 pub struct Kept<'f> {
     /// The kept records in their order: the reached facts by name in byte order, then the ambient facts, last filed first;
-    /// with option 4 the definitions and then the declarations, each group in the order of F*'s pruning.
+    /// with option 4 the definitions and then the declarations, each group in the order of F*'s pruning. Those that option 8
+    /// adds stand at the end of their group, by name in byte order.
     pub records: Vec<Record<'f>>,
     /// The filed trigger entries whose name was met.
     pub visits: u32,

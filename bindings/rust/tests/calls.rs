@@ -97,7 +97,7 @@ fn a_refusal_is_an_error() {
         Ok(Filter::new().run(file)?.rounds)
     }
     assert_eq!(run(WORKED).unwrap(), 2);
-    assert_eq!(run(b"ask,0,8\n").unwrap_err().to_string(), "line 1: a field is no number, or one out of its range");
+    assert_eq!(run(b"ask,0,16\n").unwrap_err().to_string(), "line 1: a field is no number, or one out of its range");
 }
 
 #[test]
