@@ -2,10 +2,10 @@
 use Prim.Native.Nat.{ℕ, _+_}
 use native.Mathlib.Nat.{add-zero}
 use native.Mathlib.Omega.{arith}
-use mathlib.Core.Path.{_≡_, refl, sym, _∙_, ap, ap₂, subst}
+use mathlib.Core.Path.{_≡_, refl, sym, _∙_, ap, subst}
 use mathlib.Core.Logic.{_≢_, inl, ⊎-elim}
 use mathlib.Core.Bool.{Bool, true, false, cond, not, _&&_}
-use mathlib.Core.List.{List, [], _∷_, _++_, map, map-map, map-append, append-nil, append-assoc, List·Memᴰ, List·Memᴰ·head, List·Memᴰ·tail, List·Memᴰ·not-nil, List·Memᴰ·append-cases}
+use mathlib.Core.List.{List, [], _∷_, _++_, map, map-map, map-append, append-nil, append-assoc, List·Memᴰ, List·Memᴰ·not-nil, List·Memᴰ·append-cases}
 use lib.Dec.{T, not-T}
 use lib.ListN.{length, getD, length-append}
 use Rattle.model.specs.Lists.{keep, any, all, sum, collect, fold-left, holds, is-nil}
@@ -18,7 +18,7 @@ use Rattle.model.specs.Kept.{kept-facts, kept-names, kept-decls, kept}
 use Rattle.model.specs.Outcome.{list, listing}
 use Rattle.model.specs.Text.{name-on}
 use Rattle.model.specs.declared.LineKind.the-variants as kind
-use Rattle.model.proofs.ListLaws.{T-and, T-ext, T-true, cond-false, is-nil-elim, all-intro, option-elim, map-intro}
+use Rattle.model.proofs.ListLaws.{T-and, T-ext, T-true, cond-false, is-nil-elim, all-intro, option-elim, map-intro, map-cong}
 use Rattle.model.proofs.SetLaws.{mem-append, mem-cons, mem-elim}
 use Rattle.demands.specs.LinesRead.{Lines-read, records-for}
 use Rattle.demands.specs.Demand2.{kept-list}
@@ -190,11 +190,6 @@ kept-moved : (a : Ask) (s t : State) → listing a (t .decls) (t .roots) ≡ mov
 unfolding listing moved-outcome
 kept-moved a s t e = lines-of e
 
--- general law
-map-same : {A B : Type 0} (f g : A → B) (l : List A) → ((x : A) → List·Memᴰ x l → f x ≡ g x) → map f l ≡ map g l
-map-same f g [] h = refl
-map-same f g (x ∷ l) h = ap₂ _∷_ (h x (List·Memᴰ·head refl)) (map-same f g l (λ y i. h y (List·Memᴰ·tail i)))
-
 module _ (file file′ : List ℕ) (s : State) (hidden names : List Name) (e : Lines-read file s) (e′ : Lines-read file′ (lowered hidden names s)) where
   -- the name on a kept line is that on the line below it in the second file
   name-down : (a : Ask) (n : ℕ) → List·Memᴰ n (kept-list a s) → name-on file′ (down n) ≡ name-on file n
@@ -235,7 +230,7 @@ module _ (file file′ : List ℕ) (s : State) (hidden names : List Name) (e : L
         listed = listed;
         kept = kept-down;
         named = λ a. ap (map (name-on file′)) (kept-down a) ∙ map-map (name-on file′) down (kept-list a s)
-            ∙ map-same (λ n. name-on file′ (down n)) (name-on file) (kept-list a s) (name-down a);
+            ∙ map-cong (λ n. name-on file′ (down n)) (name-on file) (kept-list a s) (name-down a);
       }
     where
       listed : (a : Ask) → listing a (map (moved down) (s .decls)) (map (moved-root down) (s .roots)) ≡ moved-outcome down (listing a (s .decls) (s .roots))
