@@ -4,7 +4,7 @@ use Prim.Native.Nat.{ℕ, _+_}
 use native.Mathlib.Omega.{arith}
 use mathlib.Core.Path.{_≡_, refl, sym, _∙_, ap}
 use mathlib.Core.Logic.{_↔_, ⊎-elim}
-use mathlib.Core.Bool.{Bool, true, false, cond, not, _&&_, _||_}
+use mathlib.Core.Bool.{Bool, true, false, cond, not, _&&_, _||_, and-true, and-assoc}
 use mathlib.Core.List.{List, [], _∷_, _++_, append-nil, List·Memᴰ, List·Memᴰ·not-nil, List·Memᴰ·head, List·Memᴰ·cases-cons, List·Memᴰ·eq-of-singleton}
 use lib.Dec.{T, T-not, not-T, eqb}
 use lib.ListN.{length}
@@ -19,7 +19,7 @@ use Rattle.demands.specs.Counts.{ask-words, hide-words, is-word, begins}
 use Rattle.demands.specs.Asks.{head-words, Placed-kind, Stands-exact, Accepted-head-first, One-ask, Accepted-asks}
 use Rattle.laws.proofs.ReadingLaws.{not-read, lines-read, none-read, file-read}
 use Rattle.demands.proofs.LineFields.{place-by, known-place, Head-by, one-ask, one-hide, no-head}
-use Rattle.demands.proofs.Heads.{and-true, Headed, headed-line}
+use Rattle.demands.proofs.Heads.{Headed, headed-line}
 
 -- where nothing was asked it is an ask, and asks one thing
 ask-now : {b c : Bool} {name : Field} {s s′ : State} → Headed b c name s s′ → s .asks ≡ [] → T b × One-ask s′
@@ -51,11 +51,7 @@ head-word f = go (same f (bytes "ask")) (same f (bytes "hide"))
     go true b = refl
     go false b = refl
 
--- general laws
-and-assoc : (a b c : Bool) → ((a && b) && c) ≡ (a && (b && c))
-and-assoc true b c = refl
-and-assoc false b c = refl
-
+-- general law
 or-not : (a b : Bool) → T (not a) → T (not b) → T (not (a || b))
 or-not true b t u = absurd t
 or-not false b t u = u

@@ -118,7 +118,7 @@ ended (x ∷ l) = go (ended l)
     go (last b e) = last b (go e)
 
 -- a value that is there, of a step after another
-bind-some : {A B : Type 0} (o : Option A) {f : A → Option B} {b : B} → (o >>= f) ≡ some b → (a : A) × (o ≡ some a) × (f a ≡ some b)
+pub bind-some : {A B : Type 0} (o : Option A) {f : A → Option B} {b : B} → (o >>= f) ≡ some b → (a : A) × (o ≡ some a) × (f a ≡ some b)
 bind-some none e = absurd (Option·none-ne-some _ e)
 bind-some (some a) e = (a, refl, e)
 
@@ -187,7 +187,7 @@ only-digits (last {xs} b v) (suc fuel) n h e s =
         rw (le-ltb n 10 (omega arith)) (ap₂ (λ l c. l ++ (c ∷ [])) (below (rw tenth at (tenth-below fuel n h)) front ∙ ap (digits fuel) (sym tenth)) digit)
 
 -- a value that is there under a test
-when-some : {A : Type 0} (t : Bool) {a b : A} → when t a ≡ some b → T t × (a ≡ b)
+pub when-some : {A : Type 0} (t : Bool) {a b : A} → when t a ≡ some b → T t × (a ≡ b)
 unfolding when
 when-some true e = (tt, Option·some-injective _ _ e)
 when-some false e = absurd (Option·none-ne-some _ e)

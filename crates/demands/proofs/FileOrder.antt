@@ -16,7 +16,7 @@ use Rattle.demands.specs.FileOrder.{Said, numbers-from, fact-said, defin
 use Rattle.laws.proofs.Records.{facts-append, definitions-append, declarations-append}
 use Rattle.laws.proofs.ReadingLaws.{line-read, lines-read, none-read, file-read}
 use Rattle.demands.proofs.SaidLines.{reached, Said-from, said-first, said-later}
-use Rattle.demands.proofs.Heads.{excluded-at}
+use Rattle.demands.proofs.Heads.{excluded-to-the-end}
 use Rattle.demands.proofs.RecordLines.{records-rise, roots-rise}
 
 -- every line of those that are read, and what it says
@@ -67,7 +67,7 @@ told-part part said h (line ∷ ls) n s t e =
     let (u, r, others) = lines-read exclude-names n s line ls t e in
     let l = line-read exclude-names n s line u r in
     let out = excluded exclude-names t in
-    let late = said-late h n s t (l .content) (excluded-at exclude-names line ls n s t e) in
+    let late = said-late h n s t (l .content) (excluded-to-the-end exclude-names line ls n s t e) in
     told-part part said h ls (n + 1) u t others
     ∙ ap₂ _++_ (ap part (l .after) ∙ h .adds n s (l .content) ∙ ap (part s ++_) late) (sym (collect-map (from-said out said) (said-later n s u line r) (told ls (n + 1) u t others)))
     ∙ append-assoc (part s) (said out (s .terms) n (l .content)) _

@@ -2,7 +2,7 @@
 use Prim.Native.Nat.{ℕ, _+_}
 use mathlib.Core.Path.{_≡_, refl, sym, _∙_, ap}
 use mathlib.Core.Logic.{_⊎_, inl, inr, ⊎-elim}
-use mathlib.Core.Bool.{Bool, true, false, not, _&&_, _||_}
+use mathlib.Core.Bool.{Bool, true, false, not, _&&_, _||_, and-true, and-false}
 use mathlib.Core.List.{List, [], _∷_, _++_, append-nil}
 use lib.Dec.{T, T-not}
 use lib.ListN.{getD}
@@ -62,15 +62,6 @@ is-head (one-ask low few) = refl
 is-head one-hide = refl
 is-head no-head = refl
 
--- general laws
-pub and-true : (b : Bool) → (b && true) ≡ b
-and-true true = refl
-and-true false = refl
-
-pub and-false : (b : Bool) → (b && false) ≡ false
-and-false true = refl
-and-false false = refl
-
 -- after a line the head goes on exactly where it did before and the line is one of it
 on-by-word : (exclude : List Name) (n : ℕ) (s : State) (c : Content) {is-ask is-hide : Bool} {name : Field} → Head-by name is-ask is-hide (heads c)
     → in-head (add-line exclude n s c) ≡ (in-head s && (is-ask || is-hide))
@@ -127,11 +118,11 @@ module _ (exclude : List Name) where
       sym (hides-none h out) ∙ hidden-stays ls (n + 1) u t others later
 
   -- what is excluded at a line behind the head is excluded at the end of the file
-  pub excluded-at : (line : Line) (ls : List Line) (n : ℕ) (s t : State) (e : read-lines exclude n s (line ∷ ls) ≡ read t)
+  pub excluded-to-the-end : (line : Line) (ls : List Line) (n : ℕ) (s t : State) (e : read-lines exclude n s (line ∷ ls) ≡ read t)
       → let c = line-read exclude n s line (lines-read exclude n s line ls t e .0) (lines-read exclude n s line ls t e .1) .content in
       ((h : Head) × (c ≡ head h)) ⊎ (excluded exclude s ≡ excluded exclude t)
   unfolding excluded add-line collect
-  excluded-at line ls n s t e =
+  excluded-to-the-end line ls n s t e =
       let (u, r, others) = lines-read exclude n s line ls t e in
       let l = line-read exclude n s line u r in
       ⊎-elim inl

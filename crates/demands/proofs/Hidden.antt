@@ -2,10 +2,10 @@
 use Prim.Native.Nat.{ℕ, _+_}
 use native.Mathlib.Nat.{add-zero}
 use native.Mathlib.Omega.{arith}
-use mathlib.Core.Path.{_≡_, refl, sym, _∙_, ap, ap₂, subst}
+use mathlib.Core.Path.{_≡_, refl, sym, _∙_, ap, subst}
 use mathlib.Core.Logic.{_≢_, inl, ⊎-elim}
 use mathlib.Core.Bool.{Bool, true, false, cond, not, _&&_}
-use mathlib.Core.List.{List, [], _∷_, _++_, map, map-map, append-nil, append-assoc, List·Memᴰ, List·Memᴰ·head, List·Memᴰ·tail, List·Memᴰ·not-nil, List·Memᴰ·append-cases, Memᴰ·append-left}
+use mathlib.Core.List.{List, [], _∷_, _++_, map, map-map, append-nil, append-assoc, List·Memᴰ, List·Memᴰ·not-nil, List·Memᴰ·append-cases, Memᴰ·append-left}
 use lib.Dec.{T, not-T}
 use lib.ListN.{length, getD, length-append}
 use Rattle.model.specs.Lists.{keep, any, all, sum, collect, fold-left, holds, is-nil}
@@ -17,7 +17,7 @@ use Rattle.model.specs.Rounds.{facts, definitions, declarations}
 use Rattle.model.specs.Outcome.{list, listing}
 use Rattle.model.specs.Text.{name-on}
 use Rattle.model.specs.declared.LineKind.the-variants as kind
-use Rattle.model.proofs.ListLaws.{T-and, T-ext, T-true, cond-false, is-nil-elim, all-intro, map-intro, map-elim}
+use Rattle.model.proofs.ListLaws.{T-and, T-ext, T-true, cond-false, is-nil-elim, all-intro, map-intro, map-elim, map-cong}
 use Rattle.model.proofs.SetLaws.{mem-append, mem-cons, mem-elim}
 use Rattle.demands.specs.LinesRead.{Lines-read, records-for}
 use Rattle.demands.specs.Demand2.{kept-list, followed-list}
@@ -192,11 +192,6 @@ followed-moved : (a : Ask) (s t : State) → listing a (t .decls) (t .roots) ≡
 unfolding listing moved-outcome
 followed-moved a s t e = lines-of e
 
--- general law
-map-same : {A B : Type 0} (f g : A → B) (l : List A) → ((x : A) → List·Memᴰ x l → f x ≡ g x) → map f l ≡ map g l
-map-same f g [] h = refl
-map-same f g (x ∷ l) h = ap₂ _∷_ (h x (List·Memᴰ·head refl)) (map-same f g l (λ y i. h y (List·Memᴰ·tail i)))
-
 module _ (file file′ : List ℕ) (s : State) (hidden names : List Name) (e : Lines-read file s) (e′ : Lines-read file′ (lowered hidden names s)) where
   here : Names-on-lines file s
   here = printed-names file s e
@@ -226,7 +221,7 @@ module _ (file file′ : List ℕ) (s : State) (hidden names : List Name) (e : L
 
   -- the same names stand on two lists, where one has the lines of the other moved down
   named-down : (l m : List ℕ) → m ≡ map down l → ((n : ℕ) → List·Memᴰ n l → name-on file′ (down n) ≡ name-on file n) → map (name-on file′) m ≡ map (name-on file) l
-  named-down l m p h = ap (map (name-on file′)) p ∙ map-map (name-on file′) down l ∙ map-same (λ n. name-on file′ (down n)) (name-on file) l h
+  named-down l m p h = ap (map (name-on file′)) p ∙ map-map (name-on file′) down l ∙ map-cong (λ n. name-on file′ (down n)) (name-on file) l h
 
   -- every ask has the same answer, one line down
   one-down : One-down file file′ s (lowered hidden names s)

@@ -3,19 +3,22 @@ use Prim.Native.Nat.{ℕ}
 use mathlib.Core.Path.{_≡_, refl, sym, _∙_, ap}
 use mathlib.Core.Logic.{_≢_, ⊎-elim}
 use mathlib.Core.List.{List, [], _∷_, _++_, map, List·Memᴰ, List·Memᴰ·head, List·Memᴰ·tail, List·Memᴰ·not-nil, List·Memᴰ·eq-of-singleton}
+use mathlib.Core.Option.{none, some, Option·none-ne-some}
 use lib.Dec.{T, T-not}
-use Rattle.model.specs.Lists.{fold-left}
-use Rattle.model.specs.Names.{Name, mem, union, diff}
-use Rattle.model.specs.Terms.{Term, term as term-of}
-use Rattle.model.specs.Summaries.{exclude-names, Fact, free-top-level-names, group-names, rule-4, summarize-assumption}
+use Rattle.model.specs.Lists.{fold-left, is-nil, when, _>>=_}
+use Rattle.model.specs.Names.{Name, bytes, by-byte, order, is-same, same, mem, union, diff, starts-with}
+use Rattle.model.specs.Terms.{Node, FreeV, Leaf, Call, App, Forall, Exists, Let, Labeled, Term, term as term-of}
+use Rattle.model.specs.Summaries.{exclude-names, Kinded, Fact, call-of, op-of, two, op-args, call-args, call-one, call-two, at, free-top-level-names, group-names, triggers-of-term, rule-1, rule-2, rule-3, rule-4, first-rule, maybe-add-ambient, summarize-kind, summarize-assumption}
 use Rattle.model.specs.Reading.{Content, head, term, assume, fun, def, retain, root, Decl, Root, excluded}
 use Rattle.model.specs.Pruning.{Map, try-find, init-macro-freenames}
 use Rattle.model.specs.Rounds.{definitions, macros}
-use Rattle.model.proofs.ListLaws.{collect-elim, fold-left-case}
-use Rattle.model.proofs.SetLaws.{mem-intro, mem-elim, mem-diff, mem-union}
+use Rattle.model.specs.declared.Op.the-variants.{Iff}
+use Rattle.model.proofs.ListLaws.{T-false, collect-elim, fold-left-case}
+use Rattle.model.proofs.SetLaws.{same-eq, mem-intro, mem-elim, mem-diff, mem-union}
 use Rattle.demands.specs.FileOrder.{fact-said, definition-said, root-said, from-line}
-use Rattle.demands.specs.Hidden.{Excluded-never-free, Tokens-kept, Starting-macros-kept}
+use Rattle.demands.specs.Hidden.{Excluded-never-free, Tokens-kept, Tokens-filed, Starting-macros-kept}
 use Rattle.laws.proofs.MapLaws.{try-find-tail}
+use Rattle.demands.proofs.Decimal.{bind-some, when-some}
 use Rattle.demands.proofs.Disjuncts.{Parts, lawful-kind}
 use Rattle.demands.proofs.FileOrder.{file-order}
 
@@ -97,12 +100,43 @@ pub tokens-kept : Tokens-kept
 unfolding rule-4
 tokens-kept out out′ terms name t = refl
 
+-- a Valid of one is neither an `iff` nor a HasType
+valid-only : (node : Node) {a : ℕ} → call-one "Valid" node ≡ some a → ((op-args Iff node >>= two) ≡ none) × (call-two "HasType" node ≡ none)
+unfolding call-one call-two call-args call-of op-args op-of when same order by-byte is-same bytes
+valid-only (FreeV name) e = absurd (Option·none-ne-some _ e)
+valid-only Leaf e = absurd (Option·none-ne-some _ e)
+valid-only (Call name ts) e =
+    let (us, w, o) = bind-some (when (same name (bytes "Valid")) ts) e in
+    let is : name ≡ bytes "Valid" = same-eq (when-some (same name (bytes "Valid")) w .0) in
+    (refl, rw is)
+valid-only (App word ts) e = absurd (Option·none-ne-some _ e)
+valid-only (Forall body groups) e = absurd (Option·none-ne-some _ e)
+valid-only (Exists body groups) e = absurd (Option·none-ne-some _ e)
+valid-only (Let body ts) e = absurd (Option·none-ne-some _ e)
+valid-only (Labeled t) e = absurd (Option·none-ne-some _ e)
+
+-- what rule 4 takes is a Valid of one
+valid-taken : (out : List Name) (terms : List Term) (name : Name) (t : ℕ) {k : Kinded} → rule-4 out terms name t ≡ some k
+    → (a : ℕ) × (call-one "Valid" (at terms t) ≡ some a)
+unfolding rule-4
+valid-taken out terms name t e = let (a, valid, o) = bind-some (call-one "Valid" (at terms t)) e in (a, valid)
+
+-- a fact that rule 4 takes files its token, whatever is excluded
+pub tokens-filed : Tokens-filed
+unfolding summarize-assumption summarize-kind triggers-of-term is-nil maybe-add-ambient first-rule rule-1 rule-2 rule-3 when
+tokens-filed out terms line name pretyping t k unwritten other e = (is, ap (λ (x : Kinded). x .triggers) is)
+  where
+    is : summarize-kind out terms name t ≡ k
+    is =
+        let (no-iff, no-type) = valid-only (at terms t) (valid-taken [] terms name t e .1) in
+        rw (unwritten, no-iff, T-false (starts-with name (bytes "assumption_")) other, no-type, tokens-kept out [] terms name t, e)
+
 -- a name that no def has opens to what it does at the start
 pub starting-macros-kept : Starting-macros-kept
 unfolding macros
-starting-macros-kept decls name none = go (definitions decls) none
+starting-macros-kept decls name other = go (definitions decls) other
   where
     go : (ds : List Decl) → ((d : Decl) → List·Memᴰ d ds → d .name ≢ name)
         → try-find (map (λ d. (d .name, d .free-names)) ds ++ init-macro-freenames) name ≡ try-find init-macro-freenames name
-    go [] none = refl
-    go (d ∷ ds) none = try-find-tail (d .free-names) _ (none d (List·Memᴰ·head refl)) ∙ go ds (λ x i. none x (List·Memᴰ·tail i))
+    go [] other = refl
+    go (d ∷ ds) other = try-find-tail (d .free-names) _ (other d (List·Memᴰ·head refl)) ∙ go ds (λ x i. other x (List·Memᴰ·tail i))

@@ -18,7 +18,7 @@ use Rattle.demands.specs.Counts.{ask-words, hide-words, begins}
 
 -- the lines of the head
 unfoldable pub head-words : List String
-head-words = "ask" ∷ "hide" ∷ []
+head-words = ask-words ++ hide-words
 
 -- where a kind may stand, after these lines: `ask` on line 1 and nowhere else; `hide` after the ask and hide lines alone
 pub record Placed-kind (n : ℕ) (before : List Line) (f : Field) : Type 0 where

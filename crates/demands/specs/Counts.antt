@@ -1,5 +1,5 @@
--- Demand 1, the counts behind the refusals 6 and 10 to 12: what is counted at a line is what document 01 says, of the bytes
--- of the lines.
+-- Demand 1, the counts behind the refusals 6 and 10 to 12: what is counted at a line is what documents 01 and 02 say, of
+-- the bytes of the lines.
 use Prim.Native.Nat.{ℕ, _+_, max}
 use Prim.Native.String.{String}
 use mathlib.Core.Path.{_≡_}

@@ -1,5 +1,5 @@
 -- Demand 2, for every accepted file and every ask over it: the list of Pruning.fst, read as definitions over lists, is the
--- kept list. Document 02, Change 6: "with the longer set", by which the records are summarized (FileOrder, Hidden).
+-- kept list. Document 02, Change 6: "with the longer set", by which the records are summarised (FileOrder, Hidden).
 use Prim.Native.Nat.{ℕ, suc}
 use mathlib.Core.Path.{_≡_}
 use mathlib.Core.Bool.{cond}

@@ -16,6 +16,7 @@ use Rattle.model.specs.Summaries.{exclude-names, entries, summarize-assumption}
 use Rattle.model.specs.declared.Counts.{Counts}
 use Rattle.model.specs.declared.Refusal.{Refusal}
 use Rattle.model.specs.declared.Refusal.the-variants as refusal
+use Rattle.model.proofs.ListLaws.{map-cong}
 use Rattle.model.proofs.PartLaws.{part-agree, part-elim, part-intro, part-length, part-at}
 use Rattle.laws.proofs.ReadingLaws.{past-names}
 use Rattle.names.specs.Table.{name-of, table-names}
@@ -38,7 +39,7 @@ use Rattle.records.specs.States.{free-at, fact-at, summary-at, root-at, hides-a
 use Rattle.records.specs.Writing.{with-record, Rowed}
 use Rattle.records.specs.Adding.{Standing, Adds, Untouched}
 use Rattle.records.proofs.Chaining.{chained-kept}
-use Rattle.records.proofs.Recording.{names-stay, disjuncts-stay}
+use Rattle.records.proofs.Recording.{disjuncts-stay}
 use Rattle.records.proofs.Judging.{repeats-taken, repeats-free}
 use Rattle.records.proofs.Appending.{no-hide, Appends, One-record, record-added, record-repeated, record-crowded, record-over, record-beyond}
 use Rattle.records.proofs.Plain.{spelled-again, is-taken}
@@ -324,7 +325,7 @@ module _ {file names refs rows recs lists names₁ rows′ lists₁ names′ rec
         row .uses-to,
         part-agree lists₁ lists′ (x .uses - k .uses) (k .uses) (x .uses) refl high (omega (arith, high, size)) (λ j l u. list-words j (omega (arith, within .3))),
       )
-      (ap from-list (names-stay (name-of file names′) (name-of file names₁) (part lists₁ (k .uses) (x .uses)) name) ∙ filed-lists .free-names)
+      (ap from-list (map-cong (name-of file names′) (name-of file names₁) (part lists₁ (k .uses) (x .uses)) name) ∙ filed-lists .free-names)
     where
       known-use : (j : ℕ) → k .uses ≤ j → j < x .uses → getD lists₁ j 0 < x .named
       known-use j l u = omega (arith, filed-lists .use-words j l u, more)

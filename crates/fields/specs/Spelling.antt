@@ -37,8 +37,8 @@ pub data Begun (file names : List ℕ) (named : ℕ) : Type 0 where
   table-there : Table file names named → Begun file names named
   none-left : named ≡ past-names → Begun file names named
 
--- a table with no fewer names: those before have their numbers, the excluded names are told, and the columns of others are as
--- before
+-- a table with no fewer names: those before have their numbers and are excluded as before, the new ones where they are of
+-- `exclude_names`; the columns of others are as before
 pub record Longer (file names names′ : List ℕ) (named named′ : ℕ) : Type 0 where
   pub more : named ≤ named′
   pub same : (n : ℕ) → n < named → name-of file names′ n ≡ name-of file names n

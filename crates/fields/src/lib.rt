@@ -30,7 +30,7 @@ pub enum TermKind {
     Label,
 }
 
-// The kinds of record lines.
+// The kinds of record lines but `hide`, which is a kind of its own.
 pub enum RecordKind {
     Assume,
     Fun,

@@ -331,7 +331,7 @@ fn read_root(
     }
 }
 
-// Reads a record line of a kind, from the field after the kind on.
+// Reads a record line other than `hide`, of a kind, from the field after the kind on.
 pub fn read_record(
     file: &[u8],
     names: &mut [u32],

@@ -3,7 +3,8 @@ use mathlib.Core.Path.{refl}
 use mathlib.Core.List.{List, [], _∷_}
 use Rattle.model.proofs.Printing.{Case, passes, All-pass}
 
--- the token of rule 4 and what a starting macro opens to are not subtracted: r opens to the hidden BoxInt, on which t is filed
+-- the token of rule 4 and what a starting macro opens to are not subtracted: is-BoxInt, free in r, opens to the hidden BoxInt, on
+-- which t is filed
 token-and-macro : Case
 token-and-macro = record { file = ("ask,0,0" ∷ "hide,BoxInt" ∷ "free,__uu__PartialApp" ∷ "free,BoxInt" ∷ "call,ApplyTT,0,1" ∷ "call,Valid,2" ∷ "assume,t,0,3" ∷ "free,is-BoxInt" ∷ "root,0,r,4" ∷ []); printed = ("fact,7,triggers,{BoxInt} free={__uu__PartialApp}" ∷ "kept,7,t" ∷ "sum,1,1,2" ∷ []) }
 
@@ -19,7 +20,7 @@ token-in-root = record { file = ("ask,0,0" ∷ "hide,f" ∷ "hide,f@tok" ∷ "fr
 trigger : Case
 trigger = record { file = ("ask,0,0" ∷ "hide,w" ∷ "free,w" ∷ "free,p" ∷ "op,other,0,1" ∷ "assume,assumption_a,0,2" ∷ "root,0,r,1" ∷ []); printed = ("fact,6,triggers,{p} free={p}" ∷ "kept,6,assumption_a" ∷ "sum,1,1,2" ∷ []) }
 
--- nor in what a def opens to, which replaces what a starting macro does
+-- nor in the body of a def, also of one that replaces a starting macro
 macro-body : Case
 macro-body = record { file = ("ask,0,0" ∷ "hide,BoxInt" ∷ "free,__uu__PartialApp" ∷ "free,BoxInt" ∷ "call,ApplyTT,0,1" ∷ "call,Valid,2" ∷ "assume,t,0,3" ∷ "def,is-BoxInt,1" ∷ "free,is-BoxInt" ∷ "root,0,r,4" ∷ []); printed = ("fact,7,triggers,{BoxInt} free={__uu__PartialApp}" ∷ "sum,0,0,1" ∷ []) }
 

@@ -13,7 +13,7 @@ use borrow.Author.Tests.{le-leb}
 use Rattle.model.specs.Lists.{any, keep}
 use Rattle.model.specs.Names.{Name, same, mem}
 use Rattle.model.specs.Summaries.{exclude-names}
-use Rattle.model.proofs.ListLaws.{T-true, T-false, T-ext, any-append, keep-intro, keep-elim, map-intro, map-elim}
+use Rattle.model.proofs.ListLaws.{T-true, T-false, T-ext, any-append, keep-intro, keep-elim, map-intro, map-elim, map-cong}
 use Rattle.model.proofs.SetLaws.{same-refl, same-eq, mem-intro, mem-elim}
 use Rattle.words.specs.Slices.{Same-but}
 use Rattle.words.proofs.Slices.{same-set}
@@ -103,11 +103,6 @@ excludes-some {file} {w} {named} table = (map (name-of file w) (keep (is-exclude
         let (l, u) = keep-elim (is-excluded w) (numbers named) k in
         rw (distinct table m n (below named m l) h e) at u)
 
--- functions that agree on a list of numbers map it to the same names
-pub map-stays : (f g : ℕ → Name) (hs : List ℕ) → ((h : ℕ) → List·Memᴰ h hs → f h ≡ g h) → map f hs ≡ map g hs
-map-stays f g [] same = refl
-map-stays f g (h ∷ hs) same = ap₂ _∷_ (same h (List·Memᴰ·head refl)) (map-stays f g hs (λ k m. same k (List·Memᴰ·tail m)))
-
 -- a name is in two lists together where it is in one of them
 mem-both : (n : Name) (l m : List Name) → mem n (l ++ m) ≡ (mem n l || mem n m)
 unfolding mem
@@ -140,7 +135,7 @@ excludes-more {file} {w} {w′} {named} table more same tells hs small before n 
     ∙ sym (mem-both (name-of file w′ n) exclude-names (map (name-of file w′) hs) ∙ rw none (or-false (mem (name-of file w′ n) exclude-names))))
     (λ (p : n < named).
     tells .old n p ∙ before n p
-    ∙ ap₂ (λ m l. mem m (exclude-names ++ l)) (sym (same n p)) (sym (map-stays (name-of file w′) (name-of file w) hs (λ k m. same k (small k m)))))
+    ∙ ap₂ (λ m l. mem m (exclude-names ++ l)) (sym (same n p)) (sym (map-cong (name-of file w′) (name-of file w) hs (λ k m. same k (small k m)))))
     (below-or named n)
 
 -- ---- a name excluded
@@ -201,7 +196,7 @@ excludes-one {file} {w} {named} table n l hs small before m h = go (stands m n) 
         rw (map-append name hs (n ∷ []), ← append-assoc exclude-names (map name hs) (name n ∷ []))
         (mem-last (name m) (name n) (exclude-names ++ map name hs)
         ∙ ap (_|| same (name m) (name n))
-        (ap₂ (λ x y. mem x (exclude-names ++ y)) (kept .name m h) (map-stays name (name-of file w) hs (λ k u. kept .name k (small k u))) ∙ sym (before m h)))
+        (ap₂ (λ x y. mem x (exclude-names ++ y)) (kept .name m h) (map-cong name (name-of file w) hs (λ k u. kept .name k (small k u))) ∙ sym (before m h)))
 
     other : (m ≡ n → ⊥) → is-excluded (excluded-at w n) m ≡ (is-excluded w m || same (name m) (name n))
     other e =

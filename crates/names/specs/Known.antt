@@ -48,13 +48,17 @@ code-from n (k ∷ ks) name = let other = code-from (n + 1) ks name in cond (sam
 unfoldable pub head-code : Name → ℕ
 head-code name = code-from 1 (map bytes known-names) name
 
--- what is added to the head code of an excluded name
+-- what is added to the head code of an excluded name, above every head code
 abbrev pub excluded-mark : ℕ
 excluded-mark = 32
 
+-- the first head code behind those of `exclude_names`
+abbrev pub first-other : ℕ
+first-other = 10
+
 -- a head code, marked where it is that of one of `exclude_names`, 1 to 9
 unfoldable pub marked-code : ℕ → ℕ
-marked-code code = cond (ltb 0 code && ltb code 10) (code + excluded-mark) code
+marked-code code = cond (ltb 0 code && ltb code first-other) (code + excluded-mark) code
 
 -- the word of a new name: its head code, marked where the name is one of `exclude_names`, codes 1 to 9
 unfoldable pub head-word : Name → ℕ

@@ -1,6 +1,6 @@
 -- The name table in a lent slice: 8 columns of 2,048 words. By name number: where the name starts in the file (from word 0),
--- its length, its head code with the mark of an excluded name; by rank in byte order: the number. The other columns are others'
--- concern.
+-- its length, its head code with the mark of an excluded name; by rank in byte order: the number. The other columns belong to
+-- other crates.
 use Prim.Native.Nat.{ℕ, zero, suc, _+_, _-_, _%_, _≤_, _<_}
 use mathlib.Core.Path.{_≡_}
 use mathlib.Core.Bool.{Bool, true, false, cond}
@@ -92,7 +92,8 @@ Excludes exclude file w named = (n : ℕ) → n < named → is-excluded w n ≡ 
 unfoldable pub excluded-at : List ℕ → ℕ → List ℕ
 excluded-at w n = set w (code-column + n) (name-code w n + excluded-mark)
 
--- a table with no fewer names: those before are excluded as before, of the others those of `exclude_names` are
+-- a table with no fewer names: those before are excluded as before, of the others those of `exclude_names` are; past the limit
+-- nothing is said
 pub record Tells (file w w′ : List ℕ) (named named′ : ℕ) : Type 0 where
   pub old : (n : ℕ) → n < named → is-excluded w′ n ≡ is-excluded w n
   pub new : (n : ℕ) → named ≤ n → n < named′ → named′ ≤ most-names → is-excluded w′ n ≡ mem (name-of file w′ n) exclude-names

@@ -30,7 +30,7 @@ pub const INDEX: usize = 4096;
 
 pub const CODE: usize = 6144;
 
-// What is added to the head code of an excluded name.
+// What is added to the head code of an excluded name, above every head code.
 pub const EXCLUDED_MARK: usize = 32;
 
 // The known names in the order of their codes, each behind its length.
@@ -38,6 +38,9 @@ const KNOWN: [u8; 250] =
     *b"\x05SFuel\x05ZFuel\x07HasType\x08HasTypeZ\x0bHasTypeFuel\x05Valid\x07ApplyTT\x07ApplyTF\x0bPrims.lex_t\x0ais-BoxBool\
       \x09is-BoxInt\x0cis-BoxString\x0ais-BoxReal\x0ais-BoxProp\x07BoxBool\x06BoxInt\x09BoxString\x07BoxReal\x07BoxProp\
       \x0cPrims.squash\x0bPrims.hasEq\x08IsTotFun\x0bis-Tm_arrow\x0eTerm_constr_id\x10__uu__PartialApp";
+
+// The first head code behind those of `exclude_names`.
+const FIRST_OTHER: u32 = 10;
 
 // The lengths of the shortest known name and of the longest.
 const SHORTEST: usize = 5;
@@ -86,7 +89,7 @@ fn head_word(file: &[u8], a: usize, e: usize) -> u32
     if code == 0 {
         return 0;
     }
-    if code < 10 {
+    if code < FIRST_OTHER {
         return code + EXCLUDED_MARK as u32;
     }
     code
@@ -206,7 +209,7 @@ pub fn code_at(w: &[u32], n: usize) -> usize
     words::at(w, CODE + n) % EXCLUDED_MARK
 }
 
-// Whether a name is excluded: nothing else reads what says so.
+// Whether a name is excluded: its word has the mark.
 pub fn is_excluded(w: &[u32], n: usize) -> bool
     requires { ⌜ (n < most-names) × (working-words ≤ length (now w)) ⌝ }
     ensures { λ r. ⌜ r ≡ is-excluded (now (w .entry)) n ⌝ }

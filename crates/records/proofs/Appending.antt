@@ -15,6 +15,7 @@ use Rattle.model.specs.Reading.{Content, heads, head-asks, hidden-by, nodes, sp
 use Rattle.model.specs.declared.Counts.{Counts}
 use Rattle.model.specs.declared.Refusal.{Refusal}
 use Rattle.model.specs.declared.Refusal.the-variants as refusal
+use Rattle.model.proofs.ListLaws.{map-cong}
 use Rattle.laws.specs.Limits.{Past-names, Past-terms, Past-triggers}
 use Rattle.laws.proofs.ReadingLaws.{Lowest, past-records, past-triggers}
 use Rattle.names.specs.Table.{Table, name-of, table-names, Excludes, Tells}
@@ -35,7 +36,7 @@ use Rattle.records.specs.States.{summary-at, root-at, hides-at, decls-of
 use Rattle.records.specs.Filing.{Records, Chained, Filing, Taken}
 use Rattle.records.specs.Writing.{with-row, Rowed}
 use Rattle.records.specs.Adding.{Standing, Adds, stops, added}
-use Rattle.records.proofs.Recording.{Agree, names-stay, hides-known, hides-stay, decls-stay, roots-stay, records-length}
+use Rattle.records.proofs.Recording.{Agree, hides-known, hides-stay, decls-stay, roots-stay, records-length}
 use Rattle.records.proofs.Keeping.{filing-more}
 use Rattle.records.proofs.Judging.{Within, judged-repeated, judged-beyond, judged-within}
 
@@ -254,7 +255,7 @@ module _ {file names refs rows recs lists names′ rows′ recs′ lists′ : Li
 
   -- the names hidden before
   names-known : map (name-of file names′) (hides-of recs (k .records)) ≡ map (name-of file names) (hides-of recs (k .records))
-  names-known = names-stay (name-of file names′) (name-of file names) (hides-of recs (k .records))
+  names-known = map-cong (name-of file names′) (name-of file names) (hides-of recs (k .records))
       (λ m h. a .same m (hides-known (st .recorded) (k .records) (omega arith) m h))
 
   -- the asks are those before

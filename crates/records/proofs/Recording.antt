@@ -10,17 +10,13 @@ use lib.Dec.{ltb}
 use borrow.Author.Tests.{ltb-true}
 use Rattle.model.specs.Names.{Name, from-list}
 use Rattle.model.specs.Reading.{most-records}
+use Rattle.model.proofs.ListLaws.{map-cong}
 use Rattle.model.proofs.PartLaws.{part-agree, part-elim}
 use Rattle.triggers.specs.Entries.{disjuncts-of, disjuncts-of-words, before-first, entry-number, entries-base, last-flag, no-name}
 use Rattle.records.specs.Writing.{row-columns}
 use Rattle.records.specs.Columns.{record-word, record-kind, record-name, uses-start, uses-end, entries-start, entries-end, retain-kind, entry-word}
 use Rattle.records.specs.States.{uses-at, entries-at, free-at, fact-at, decl-at, summary-at, root-at, decls-of, roots-of, hides-at, hides-of, hidden-of}
 use Rattle.records.specs.Filing.{Records}
-
--- the names of numbers stay where each of them does
-pub names-stay : (f g : ℕ → Name) (ns : List ℕ) → ((n : ℕ) → List·Memᴰ n ns → f n ≡ g n) → map f ns ≡ map g ns
-names-stay f g [] h = refl
-names-stay f g (n ∷ ns) h = ap₂ _∷_ (h n (List·Memᴰ·head refl)) (names-stay f g ns (λ m k. h m (List·Memᴰ·tail k)))
 
 -- the name of an entry
 entry-stays : (f g : ℕ → Name) (w : ℕ) → (w % last-flag < no-name → f (w % last-flag) ≡ g (w % last-flag)) → map f (entry-number w) ≡ map g (entry-number w)
@@ -120,7 +116,7 @@ module _ {name name′ : ℕ → Name} {recs lists recs′ lists′ : List ℕ} 
       let same : (n : ℕ) → List·Memᴰ n (uses-at recs lists i) → name′ n ≡ name n =
       λ n m. let p = part-elim room m in a .same n (rw (← p .is) (r .use-words (p .place) (omega (arith, p .high)))) in
       rw (a .rows 5 i (omega arith) h, a .rows 6 i (omega arith) h, part-agree lists lists′ (e - s) s e refl room room′ (λ j x y. a .use-words j (omega arith)))
-      (ap from-list (names-stay name′ name (uses-at recs lists i) same))
+      (ap from-list (map-cong name′ name (uses-at recs lists i) same))
 
   -- the disjuncts of a record
   pub sets-stay : (i : ℕ) → i < records → disjuncts-of name′ (entries-at recs′ lists′ i) ≡ disjuncts-of name (entries-at recs lists i)
@@ -199,7 +195,7 @@ module _ {name name′ : ℕ → Name} {recs lists recs′ lists′ : List ℕ} 
   -- the hidden names
   pub hidden-stay : (n : ℕ) → n ≤ records → hidden-of name′ recs′ n ≡ hidden-of name recs n
   hidden-stay n h =
-      rw (hides-stay n h) (names-stay name′ name (hides-of recs n) (λ m k. a .same m (hides-known r n h m k)))
+      rw (hides-stay n h) (map-cong name′ name (hides-of recs n) (λ m k. a .same m (hides-known r n h m k)))
 
 -- ---- how many records there are
 

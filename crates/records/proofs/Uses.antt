@@ -13,6 +13,7 @@ use Rattle.model.specs.Reading.{def, root, heads, head-asks, hidden-by, nodes, 
 use Rattle.model.specs.Summaries.{exclude-names, free-top-level-names}
 use Rattle.model.specs.declared.Counts.{Counts}
 use Rattle.model.specs.declared.Refusal.the-variants as refusal
+use Rattle.model.proofs.ListLaws.{map-cong}
 use Rattle.model.proofs.PartLaws.{part-elim}
 use Rattle.names.specs.Table.{name-of}
 use Rattle.names.proofs.Laws.{distinct}
@@ -30,7 +31,6 @@ use Rattle.records.specs.Columns.{def-kind, root-kind, taken-column, tak
 use Rattle.records.specs.States.{free-at, summary-at, root-at, hides-at, decl-at, excluded-of, state-of}
 use Rattle.records.specs.Writing.{with-record, Rowed}
 use Rattle.records.specs.Adding.{Standing, Adds, Untouched}
-use Rattle.records.proofs.Recording.{names-stay}
 use Rattle.records.proofs.Judging.{repeats-none, repeats-taken, repeats-free}
 use Rattle.records.proofs.Appending.{One-record, record-added, record-repeated, record-crowded, record-over}
 use Rattle.records.proofs.Plain.{spelled-again, named-within, kept, not-taken, is-taken, plain}
@@ -121,7 +121,7 @@ module _ {file names refs rows recs lists names′ rows′ recs′ lists′ name
       let room : n ≤ length lists′ = omega (arith, u .fits, u .lists-words .same-length, st .recorded .lists-room) in
       let same : (m : ℕ) → List·Memᴰ m (part lists′ (k .uses) n) → name-of file names″ m ≡ name-of file names m =
       λ m q. let p = part-elim room q in kept st words .name m (rw (p .is) at (u .words (p .place) (p .low) (p .high))) in
-      rw (row .uses-from, row .uses-to) (ap from-list (names-stay (name-of file names″) (name-of file names) (part lists′ (k .uses) n) same) ∙ u .is)
+      rw (row .uses-from, row .uses-to) (ap from-list (map-cong (name-of file names″) (name-of file names) (part lists′ (k .uses) n) same) ∙ u .is)
 
 -- ---- def
 
