@@ -34,7 +34,7 @@ use Rattle.model.specs.declared.Step.the-variants as step
 use Rattle.records.specs.Columns.{record-kind, assume-kind, retain-kind, root-kind, hide-kind, entry-word, entry-name, entry-fact, ask-query-column, ask-options-column, ask-query, ask-options}
 use Rattle.records.specs.States.{summary-at, root-at, hides-at, decls-of, roots-of, hides-of, hidden-of, excluded-of, asks-of, state-of}
 use Rattle.records.specs.Filing.{Records, Chained, Filing, Taken}
-use Rattle.records.specs.Writing.{with-row, Rowed}
+use Rattle.records.specs.Writing.{with-line, Rowed}
 use Rattle.records.specs.Adding.{Standing, Adds, stops, added}
 use Rattle.records.proofs.Recording.{Agree, hides-known, hides-stay, decls-stay, roots-stay, records-length}
 use Rattle.records.proofs.Keeping.{filing-more}
@@ -125,7 +125,7 @@ pub record Appends (file names rows recs lists names′ rows′ recs′ lists′
   pub row-words : Same-but 12288 4096 rows rows′
   pub fresh : Fresh names′ rows′ mark′
   pub few-marks : mark′ ≤ 2 * (k .records + 1) + entries′ + 1
-  pub row : Rowed recs recs′ k (with-row k hides′ named′ entries′ uses′ mark′) kind line name term flag code
+  pub row : Rowed recs recs′ k (with-line k hides′ named′ entries′ uses′ mark′) kind line name term flag code
   pub small-kind : kind ≤ hide-kind
   pub known : (kind ≡ retain-kind → ⊥) → name < named′
   pub lists-length : length lists′ ≡ length lists
@@ -235,7 +235,7 @@ module _ {file names refs rows recs lists names′ rows′ recs′ lists′ : Li
   hides-then = rw (add-one (k .records), a .row .kind-is, hides-stay agree (st .recorded) (k .records) (omega arith))
 
   -- the tables stand
-  pub standing-then : Standing file names′ refs rows′ recs′ lists′ (with-row k hides′ named′ entries′ uses′ mark′)
+  pub standing-then : Standing file names′ refs rows′ recs′ lists′ (with-line k hides′ named′ entries′ uses′ mark′)
   standing-then = record {
     tables = record { name-table = a .table; term-table = rows-named (a .more) (a .table .few) (rows-marked (a .row-words) (st .tables .term-table)) };
     recorded = records-then;
@@ -264,9 +264,9 @@ module _ {file names refs rows recs lists names′ rows′ recs′ lists′ : Li
 
   -- the tables are the state with the line
   state-then : {c : Content} → Says file names names′ recs′ lists′ (excluded-of (name-of file names) recs (k .records)) (terms-in file names refs rows (k .references) (k .terms)) k
-      (with-row k hides′ named′ entries′ uses′ mark′) kind line c
+      (with-line k hides′ named′ entries′ uses′ mark′) kind line c
       → add-line exclude-names line (state-of file names refs rows recs lists k) c
-      ≡ state-of file names′ refs rows′ recs′ lists′ (with-row k hides′ named′ entries′ uses′ mark′)
+      ≡ state-of file names′ refs rows′ recs′ lists′ (with-line k hides′ named′ entries′ uses′ mark′)
   unfolding add-line excluded state-of hides-of decls-of roots-of fold-left collect
   state-then s =
       let zero-more : k .references + 0 ≡ k .references = omega arith in
@@ -294,9 +294,9 @@ module _ {file names refs rows recs lists names′ rows′ recs′ lists′ : Li
 
   -- what adding the record comes to
   pub record-added : {c : Content} → repeats exclude-names line (state-of file names refs rows recs lists k) c ≡ false
-      → Says file names names′ recs′ lists′ (excluded-of (name-of file names) recs (k .records)) (terms-in file names refs rows (k .references) (k .terms)) k (with-row k hides′ named′ entries′ uses′ mark′) kind line c
-      → Adds file names refs rows recs lists names′ rows′ recs′ lists′ k line c (step.On (with-row k hides′ named′ entries′ uses′ mark′))
-  record-added {c} new s = added {k′ = with-row k hides′ named′ entries′ uses′ mark′}
+      → Says file names names′ recs′ lists′ (excluded-of (name-of file names) recs (k .records)) (terms-in file names refs rows (k .references) (k .terms)) k (with-line k hides′ named′ entries′ uses′ mark′) kind line c
+      → Adds file names refs rows recs lists names′ rows′ recs′ lists′ k line c (step.On (with-line k hides′ named′ entries′ uses′ mark′))
+  record-added {c} new s = added {k′ = with-line k hides′ named′ entries′ uses′ mark′}
       (judged-within line (state-of file names refs rows recs lists k) c new (state-then s) (standing-within standing-then)) standing-then
 
 -- ---- a record refused

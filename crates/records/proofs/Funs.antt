@@ -19,7 +19,7 @@ use Rattle.model.specs.declared.Step.the-variants as step
 use Rattle.model.specs.Outcome.{working-words}
 use Rattle.records.specs.Columns.{fun-kind, retain-kind, hide-kind, taken-column, taken-at}
 use Rattle.records.specs.States.{summary-at, root-at, hides-at, decl-at, state-of}
-use Rattle.records.specs.Writing.{with-row, with-record, Small, Rowed}
+use Rattle.records.specs.Writing.{with-line, with-record, Small, Rowed}
 use Rattle.records.specs.Adding.{Standing, Adds, Untouched}
 use Rattle.records.proofs.Judging.{repeats-none, repeats-taken, repeats-free}
 use Rattle.records.proofs.Appending.{standing-within, record-added, record-repeated, record-crowded}
@@ -58,7 +58,7 @@ fresh-taken s f = record { row-marks = f .row-marks; name-marks = λ n l. rw (s 
 -- a row's words fit
 pub small-row : {file names refs rows recs lists : List ℕ} {k next : Counts} (hides named entries uses mark : ℕ) (kind line name term flag code : ℕ)
     → Standing file names refs rows recs lists k
-    → next ≡ with-row k hides named entries uses mark → entries ≤ most-entries → uses ≤ most-uses
+    → next ≡ with-line k hides named entries uses mark → entries ≤ most-entries → uses ≤ most-uses
     → kind ≤ hide-kind → line < 4294967296 → name < most-names → term < most-terms → flag < 256 → code < 4294967296 → Small k next kind line name term flag code
 small-row {k = k} {next} hides named entries uses mark kind line name term flag code st e h₁ h₂ h₃ h₄ h₅ h₆ h₇ h₈ = rw e (record {
   small-kind = omega arith;

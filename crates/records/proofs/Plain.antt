@@ -21,7 +21,7 @@ use Rattle.triggers.specs.Entries.{disjuncts-of, disjuncts-of-words, entries-ba
 use Rattle.records.specs.Columns.{record-kind, record-name, assume-kind, retain-kind, root-kind, hide-kind, fact-column, next-column, first-column, taken-at, first-entry}
 use Rattle.records.specs.States.{hides-at, hides-of}
 use Rattle.records.specs.Filing.{Taken}
-use Rattle.records.specs.Writing.{with-row, with-record, Rowed}
+use Rattle.records.specs.Writing.{with-line, with-record, Rowed}
 use Rattle.records.specs.Adding.{Standing}
 use Rattle.records.proofs.Chaining.{chained-kept}
 use Rattle.records.proofs.Keeping.{taken-none, taken-more}
@@ -76,7 +76,7 @@ module _ {file names refs rows recs lists names′ : List ℕ} {k : Counts} (st 
   -- the record is appended
   pub appended : {rows′ recs′ lists′ : List ℕ} {hides′ uses′ mark′ kind line name term flag code : ℕ}
       → Same-but 12288 4096 rows rows′ → Fresh names′ rows′ mark′ → mark′ ≤ k .mark + 1
-      → Rowed recs recs′ k (with-row k hides′ (k .names) (k .entries) uses′ mark′) kind line name term flag code
+      → Rowed recs recs′ k (with-line k hides′ (k .names) (k .entries) uses′ mark′) kind line name term flag code
       → (kind ≡ assume-kind → ⊥) → kind ≤ hide-kind → ((kind ≡ retain-kind → ⊥) → name < k .names)
       → Same-but (k .uses) (uses′ - k .uses) lists lists′ → k .uses ≤ uses′ → uses′ ≤ most-uses → ((j : ℕ) → k .uses ≤ j → j < uses′ → getD lists′ j 0 < k .names)
       → Taken names′ recs′ (k .records + 1)

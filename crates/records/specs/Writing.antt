@@ -14,8 +14,8 @@ put-row recs i c [] = recs
 put-row recs i c (v ∷ vs) = put-row (set recs (c * most-records + i) v) i (c + 1) vs
 
 -- the counts with a record more: how many hide lines, names, entries and uses there are then, and the next mark
-abbrev pub with-row : Counts → ℕ → ℕ → ℕ → ℕ → ℕ → Counts
-with-row k hides named entries uses mark = record {
+abbrev pub with-line : Counts → ℕ → ℕ → ℕ → ℕ → ℕ → Counts
+with-line k hides named entries uses mark = record {
   asks = k .asks;
   hides = hides;
   names = named;
@@ -29,11 +29,11 @@ with-row k hides named entries uses mark = record {
 
 -- the same of a record that is no hide line
 abbrev pub with-record : Counts → ℕ → ℕ → ℕ → ℕ → Counts
-with-record k named entries uses mark = with-row k (k .hides) named entries uses mark
+with-record k named entries uses mark = with-line k (k .hides) named entries uses mark
 
 -- the counts with a hide line more
 abbrev pub with-hide : Counts → Counts
-with-hide k = with-row k (k .hides + 1) (k .names) (k .entries) (k .uses) (k .mark)
+with-hide k = with-line k (k .hides + 1) (k .names) (k .entries) (k .uses) (k .mark)
 
 -- the counts before the first line; the first mark is 1, since a cleared slice has marks 0
 abbrev pub no-counts : Counts
