@@ -23,7 +23,7 @@ use Rattle.demands.specs.Demand2.{kept-list, followed-list}
 use Rattle.demands.specs.Demand3.{run-of}
 use Rattle.demands.specs.FileOrder.{line-of}
 use Rattle.demands.specs.Order.{listed-facts}
-use Rattle.demands.specs.Bodies.{Closed-lines, Smallest, Bodies-followed, List-followed, Followed-fixed, Followed-once}
+use Rattle.demands.specs.Bodies.{Closed-lines, Smallest, Bodies-followed, List-followed, Followed-fixed, Plain-stands, Followed-once}
 use Rattle.demands.proofs.Distinct.{keep-one-name, distinct-append, distinct-map, distinct-of-map, distinct-to-map, ascending-distinct, distinct-reverse}
 use Rattle.demands.proofs.ListedLaws.{kept-facts-elim, kept-facts-once, kept-fact-line, kept-decls-elim, first-met-once, picked-once}
 use Rattle.demands.proofs.WellFormed.{accepted-well-formed}
@@ -560,6 +560,18 @@ module _ (file : List ℕ) (s : State) (accepted : Lines-read file s) (a : Ask) 
       (λ t. p .as-it-was t ∙ sym (q .as-it-was t))
       (T-dec (prune-decls a && follow-bodies a))
 
+-- a list kept by a test of which parts hold and others do not
+keep-parts : (test : ℕ → Bool) (x y u z v : List ℕ) → ((n : ℕ) → List·Memᴰ n x → T (test n)) → ((n : ℕ) → List·Memᴰ n y → T (test n))
+    → ((n : ℕ) → List·Memᴰ n u → T (not (test n))) → ((n : ℕ) → List·Memᴰ n z → T (test n)) → ((n : ℕ) → List·Memᴰ n v → T (not (test n)))
+    → keep test (x ++ ((y ++ u) ++ (z ++ v))) ≡ x ++ (y ++ z)
+keep-parts test x y u z v a b c d e =
+    keep-append test x ((y ++ u) ++ (z ++ v))
+    ∙ ap₂ _++_ (keep-all test x a)
+    (keep-append test (y ++ u) (z ++ v)
+    ∙ ap₂ _++_
+    (keep-append test y u ∙ ap₂ _++_ (keep-all test y b) (keep-none test u c) ∙ append-nil y)
+    (keep-append test z v ∙ ap₂ _++_ (keep-all test z d) (keep-none test v e) ∙ append-nil z))
+
 -- the list is so
 pub list-followed : List-followed
 list-followed file s accepted a = is-followed file s accepted a
@@ -571,3 +583,35 @@ followed-once file s accepted a = once-followed file s accepted a
 -- no other list is
 pub followed-fixed : Followed-fixed
 followed-fixed file s accepted a lines p = one-list file s accepted a p (list-followed file s accepted a)
+
+-- the list without the added ones stands in it
+pub plain-stands : Plain-stands
+plain-stands file s accepted a =
+    ap (keep on) (four-parts file s accepted a p)
+    ∙ keep-parts on fs (map decl-line (p .defs)) (map decl-line (p .added-defs)) (map decl-line (p .funs)) (map decl-line (p .added-funs))
+    (λ n i. is-on n (Memᴰ·append-left _ i))
+    (λ n i. is-on n (Memᴰ·append-right fs (Memᴰ·append-left _ i)))
+    (λ n i. is-new n (p .added-defs) i (λ d j. Memᴰ·append-left (p .added-funs) j))
+    (λ n i. is-on n (Memᴰ·append-right fs (Memᴰ·append-right (map decl-line (p .defs)) i)))
+    (λ n i. is-new n (p .added-funs) i (λ d j. Memᴰ·append-right (p .added-defs) j))
+    ∙ sym plain
+  where
+    p : Bodies-followed a s (followed-list a s)
+    p = list-followed file s accepted a
+
+    fs : List ℕ
+    fs = map (λ (f : Fact). f .line) (listed-facts a s)
+
+    on : ℕ → Bool
+    on n = any (eqb n) (kept-list a s)
+
+    plain : kept-list a s ≡ fs ++ (map decl-line (p .defs) ++ map decl-line (p .funs))
+    plain = p .without ∙ ap (fs ++_) (map-append decl-line (p .defs) (p .funs))
+
+    is-on : (n : ℕ) → List·Memᴰ n (fs ++ (map decl-line (p .defs) ++ map decl-line (p .funs))) → T (on n)
+    is-on n i = on-intro {l = kept-list a s} (rw plain i)
+
+    is-new : (n : ℕ) (ds : List Decl) → List·Memᴰ n (map decl-line ds) → ((d : Decl) → List·Memᴰ d ds → List·Memᴰ d (p .added-defs ++ p .added-funs)) → T (not (on n))
+    is-new n ds i among = not-T (on n) (λ t.
+        let (d, j, e) = map-elim decl-line ds i in
+        p .new d (among d j) (Memᴰ·cast e (on-elim n (kept-list a s) t)))

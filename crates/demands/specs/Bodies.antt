@@ -4,7 +4,8 @@ use Prim.Native.Nat.{ℕ}
 use mathlib.Core.Path.{_≡_}
 use mathlib.Core.Bool.{Bool, not, _&&_}
 use mathlib.Core.List.{List, _++_, map, List·Memᴰ}
-use lib.Dec.{T}
+use lib.Dec.{T, eqb}
+use Rattle.model.specs.Lists.{any, keep}
 use Rattle.model.specs.Names.{Ascending}
 use Rattle.model.specs.Summaries.{Fact}
 use Rattle.model.specs.Reading.{Ask, prune-decls, follow-bodies, Decl, Summary, State}
@@ -55,6 +56,11 @@ List-followed = (file : List ℕ) (s : State) → Lines-read file s → (a : Ask
 abbrev pub Followed-fixed : Type 0
 Followed-fixed =
     (file : List ℕ) (s : State) → Lines-read file s → (a : Ask) (lines : List ℕ) → Bodies-followed a s lines → lines ≡ followed-list a s
+
+-- the list without the added ones stands in it, in its order
+abbrev pub Plain-stands : Type 0
+Plain-stands =
+    (file : List ℕ) (s : State) → Lines-read file s → (a : Ask) → keep (λ n. any (eqb n) (kept-list a s)) (followed-list a s) ≡ kept-list a s
 
 -- each line stands once
 abbrev pub Followed-once : Type 0
