@@ -4,10 +4,24 @@ use mathlib.Core.Path.{refl}
 use mathlib.Core.List.{List, [], _∷_}
 use Rattle.model.proofs.Printing.{Small, prints, All-print}
 
--- ambient-not-scanned to contract-13-l-quant-interp-both
+-- added-defs-after-noted-defs-in-byte-order to bodies-noted-stays-in-its-place
 files-1 : List Small
 files-1 =
     record {
+      name = "added-defs-after-noted-defs-in-byte-order";
+      file = "ask,0,12\nfree,B\nfree,a\nfree,Z\nfree,m\nop,other,0,1,2\ndef,n,4\ndef,B,3\ndef,a,3\ndef,Z,3\nfree,n\n"
+          ∷ "free,k\nop,other,5,6\ndef,k,3\nroot,0,r,7\n"
+          ∷ [];
+      printed = "kept,7,n\nkept,14,k\nkept,8,B\nkept,10,Z\nkept,9,a\nsum,5,0,1\n" ∷ [];
+    }
+    ∷ record {
+      name = "added-funs-after-noted-funs-in-byte-order";
+      file = "ask,0,12\nfree,ab\nfree,a\nfree,A\nop,other,0,1,2\ndef,g,3\nfun,a\nfun,ab\nfun,A\nfun,zz\nfree,g\n"
+          ∷ "free,zz\nop,other,4,5\nroot,0,r,6\n"
+          ∷ [];
+      printed = "kept,6,g\nkept,10,zz\nkept,9,A\nkept,7,a\nkept,8,ab\nsum,5,0,1\n" ∷ [];
+    }
+    ∷ record {
       name = "ambient-not-scanned";
       file = "ask,0,0\nfree,p\nassume,amb,0,0\nall,0,1,1,0\nassume,z,0,1\n" ∷ [];
       printed = "fact,3,ambient,0 free={p}\nfact,5,triggers,{p} free={p}\nkept,3,amb\nsum,1,0,1\n" ∷ [];
@@ -48,6 +62,84 @@ files-1 =
       printed = "fact,6,ambient,1 free={Tm_refine_1 p}\nfact,7,ambient,0 free={}\nfact,8,ambient,1 free={Tm_refine_1 p}\n"
           ∷ "fact,10,triggers,{p} free={p}\nkept,10,z\nsum,1,1,2\n"
           ∷ [];
+    }
+    ∷ record {
+      name = "bodies-8-alone";
+      file = "ask,0,8\nfree,f\ndef,g,0\nfun,f\nfree,g\nroot,0,r,1\n" ∷ [];
+      printed = "sum,0,0,1\n" ∷ [];
+    }
+    ∷ record {
+      name = "bodies-circle-of-three";
+      file = "ask,0,12\nfree,a\nfree,b\nfree,c\nfree,f\nop,other,1,3\ndef,a,4\ndef,b,2\ndef,c,0\nfun,f\nroot,0,r,1\n" ∷ [];
+      printed = "kept,8,b\nkept,7,a\nkept,9,c\nkept,10,f\nsum,4,0,1\n" ∷ [];
+    }
+    ∷ record {
+      name = "bodies-every-part-counts";
+      file = "ask,0,12\nfree,f1\ncall,f2\nlabel,1\nsome,2,1,1,0\nfree,f3\nlet,3,4\nleaf\nall,6,2,0,1,5\ncall,f4,7\n"
+          ∷ "def,g,8\nfun,f4\nfun,f3\nfun,f2\nfun,f1\nfree,g\nroot,0,r,9\n"
+          ∷ [];
+      printed = "kept,11,g\nkept,15,f1\nkept,14,f2\nkept,13,f3\nkept,12,f4\nsum,5,0,1\n" ∷ [];
+    }
+    ∷ record {
+      name = "bodies-hidden-definition";
+      file = "ask,0,12\nhide,h\nfree,f\nfree,h\ndef,h,0\ndef,g,1\nfun,f\nfree,g\nop,other,1,2\nroot,0,r,3\n" ∷ [];
+      printed = "kept,6,g\nsum,1,0,1\n" ∷ [];
+    }
+    ∷ record {
+      name = "bodies-listed-but-not-met";
+      file = "ask,0,12\nfree,k\nfree,h\nfree,g\ndef,h,0\ndef,g,1\nall,0,1,1,0\nassume,on_k,0,3\nall,1,1,1,1\n"
+          ∷ "assume,on_h,1,4\nfun,k\nroot,0,r,2\n"
+          ∷ [];
+      printed = "fact,8,triggers,{k} free={k}\nfact,10,triggers,{h} free={h}\nkept,6,g\nkept,5,h\nkept,11,k\nsum,3,1,2\n" ∷ [];
+    }
+    ∷ record {
+      name = "bodies-noted-stays-in-its-place";
+      file = "ask,0,12\nfree,a\nfree,m\nop,other,0,1\ndef,z,2\ndef,y,2\nfun,a\nfun,m\nfree,z\nfree,y\nop,other,3,4,1\n"
+          ∷ "root,0,r,5\n"
+          ∷ [];
+      printed = "kept,5,z\nkept,6,y\nkept,8,m\nkept,7,a\nsum,4,0,1\n" ∷ [];
+    }
+    ∷ []
+
+-- a wrong one is named in the error
+pass-1 : All-print files-1
+unfolding prints files-1
+pass-1 = (refl, (refl, (refl, (refl, (refl, (refl, (refl, (refl, (refl, (refl, (refl, (refl, (refl, (refl, tt))))))))))))))
+
+-- bodies-of-what-is-not-kept to contract-15-squash-with-pattern
+files-2 : List Small
+files-2 =
+    record {
+      name = "bodies-of-what-is-not-kept";
+      file = "ask,0,12\nfree,f\ndef,g,0\nfun,f\nfree,g\nroot,1,r,1\ndef,h,1\nop,eq,1,1\nassume,unreached,0,2\nfree,p\n"
+          ∷ "root,0,r,3\n"
+          ∷ [];
+      printed = "fact,9,triggers,{g},{g} free={g}\nsum,0,0,1\n" ∷ [];
+    }
+    ∷ record {
+      name = "bodies-options-012";
+      file = "ask,0,012\n" ∷ [];
+      printed = "refused,3,1\n" ∷ [];
+    }
+    ∷ record {
+      name = "bodies-options-16";
+      file = "ask,0,16\nleaf\n" ∷ [];
+      printed = "refused,3,1\n" ∷ [];
+    }
+    ∷ record {
+      name = "bodies-order-of-the-list";
+      file = "ask,0,12\nfree,p\nfree,v\nfree,u\nop,other,1,2\ndef,t,3\nfree,c\nfree,b\nop,other,4,5\ndef,s,6\nfun,b\n"
+          ∷ "fun,c\ndef,u,4\ndef,v,5\nfun,p\nfun,o\nfree,s\nfree,t\nfree,o\nop,other,7,8,0\nall,10,1,1,0\n"
+          ∷ "assume,reached,0,11\nop,other,9\nassume,loose,0,12\nroot,0,goal,0\n"
+          ∷ [];
+      printed = "fact,22,triggers,{p} free={p s t}\nfact,24,ambient,0 free={o}\nkept,22,reached\nkept,24,loose\n"
+          ∷ "kept,6,t\nkept,10,s\nkept,13,u\nkept,14,v\nkept,16,o\nkept,15,p\nkept,11,b\nkept,12,c\nsum,10,1,2\n"
+          ∷ [];
+    }
+    ∷ record {
+      name = "bodies-to-any-depth";
+      file = "ask,0,12\nfree,g\nfree,h\nfree,k\nfree,m\ndef,g,1\ndef,h,2\ndef,k,3\nfun,m\nroot,0,r,0\n" ∷ [];
+      printed = "kept,6,g\nkept,7,h\nkept,8,k\nkept,9,m\nsum,4,0,1\n" ∷ [];
     }
     ∷ record {
       name = "contract-01-equation-without-pattern";
@@ -116,17 +208,7 @@ files-1 =
       file = "ask,0,0\nfree,p\nfree,q\nall,1,1,1,0\nop,iff,2,1\nassume,l_quant_interp_1,0,3\nroot,0,r,0\n" ∷ [];
       printed = "fact,6,triggers,{p q} free={p q}\nsum,0,1,1\n" ∷ [];
     }
-    ∷ []
-
--- a wrong one is named in the error
-pass-1 : All-print files-1
-unfolding prints files-1
-pass-1 = (refl, (refl, (refl, (refl, (refl, (refl, (refl, (refl, (refl, (refl, (refl, (refl, (refl, (refl, (refl, (refl, (refl, (refl, (refl, tt)))))))))))))))))))
-
--- contract-14-assumption-waits to contract-31-pattern-name-met
-files-2 : List Small
-files-2 =
-    record {
+    ∷ record {
       name = "contract-14-assumption-waits";
       file = "ask,0,0\nfree,p\ncall,Tm_refine_1\ncall,HasType,0,1\nassume,assumption_A,0,2\nroot,0,r,0\n" ∷ [];
       printed = "fact,5,triggers,{Tm_refine_1 p} free={Tm_refine_1 p}\nsum,0,1,1\n" ∷ [];
@@ -138,7 +220,17 @@ files-2 =
           ∷ [];
       printed = "fact,7,triggers,{p} free={Prims.squash p t}\nsum,0,0,1\n" ∷ [];
     }
-    ∷ record {
+    ∷ []
+
+-- a wrong one is named in the error
+pass-2 : All-print files-2
+unfolding prints files-2
+pass-2 = (refl, (refl, (refl, (refl, (refl, (refl, (refl, (refl, (refl, (refl, (refl, (refl, (refl, (refl, (refl, (refl, (refl, (refl, (refl, (refl, tt))))))))))))))))))))
+
+-- contract-16-token-without-tok to contract-33-body-not-followed
+files-3 : List Small
+files-3 =
+    record {
       name = "contract-16-token-without-tok";
       file = "ask,0,0\nfree,__uu__PartialApp\nfree,f\ncall,ApplyTT,0,1\ncall,Valid,2\nassume,a,0,3\ncall,f@tok\n"
           ∷ "call,ApplyTT,0,4\nroot,0,r,5\n"
@@ -224,17 +316,7 @@ files-2 =
       file = "ask,0,0\nfree,p\nfree,q\nleaf\nall,2,2,1,0,1,1\nall,2,1,1,1\nassume,a,0,3\nassume,b,0,4\nroot,0,r,0\n" ∷ [];
       printed = "fact,7,triggers,{p},{q} free={p q}\nfact,8,triggers,{q} free={q}\nkept,7,a\nkept,8,b\nsum,2,3,3\n" ∷ [];
     }
-    ∷ []
-
--- a wrong one is named in the error
-pass-2 : All-print files-2
-unfolding prints files-2
-pass-2 = (refl, (refl, (refl, (refl, (refl, (refl, (refl, (refl, (refl, (refl, (refl, (refl, (refl, (refl, (refl, (refl, (refl, (refl, tt))))))))))))))))))
-
--- contract-32-def-replaces-box to dropped-facts
-files-3 : List Small
-files-3 =
-    record {
+    ∷ record {
       name = "contract-32-def-replaces-box";
       file = "ask,0,0\ncall,is-BoxInt\ncall,BoxInt\nall,0,1,1,1\nassume,a,0,2\nleaf\ndef,is-BoxInt,3\nroot,0,r,0\n" ∷ [];
       printed = "fact,5,triggers,{BoxInt} free={BoxInt is-BoxInt}\nsum,0,0,1\n" ∷ [];
@@ -244,7 +326,17 @@ files-3 =
       file = "ask,0,4\nfree,f\nfun,f\ndef,g,0\ncall,g\nroot,0,r,1\n" ∷ [];
       printed = "kept,4,g\nsum,1,0,1\n" ∷ [];
     }
-    ∷ record {
+    ∷ []
+
+-- a wrong one is named in the error
+pass-3 : All-print files-3
+unfolding prints files-3
+pass-3 = (refl, (refl, (refl, (refl, (refl, (refl, (refl, (refl, (refl, (refl, (refl, (refl, (refl, (refl, (refl, (refl, (refl, (refl, tt))))))))))))))))))
+
+-- decls-by-ambient-and-root to dropped-facts
+files-4 : List Small
+files-4 =
+    record {
       name = "decls-by-ambient-and-root";
       file = "ask,0,4\nfree,a\nfree,b\nfree,c\nfree,d\ndef,d,0\nfun,c\ndef,b,0\nfun,a\nop,other,1,2\nassume,amb,0,4\n"
           ∷ "op,other,0,3\nroot,0,r,5\nroot,1,r,2\n"
@@ -286,6 +378,26 @@ files-3 =
       printed = "kept,3,g\nsum,1,0,1\n" ∷ [];
     }
     ∷ record {
+      name = "def-kept-for-an-ambient-is-followed";
+      file = "ask,0,12\nfree,f\ndef,g,0\nfun,f\nfree,g\nlabel,1\nassume,m,0,2\n" ∷ [];
+      printed = "fact,7,ambient,0 free={g}\nkept,7,m\nkept,3,g\nkept,4,f\nsum,3,0,1\n" ∷ [];
+    }
+    ∷ record {
+      name = "def-of-a-starting-macro-is-followed";
+      file = "ask,0,12\nfree,is-BoxInt\nroot,0,r,0\nfun,BoxInt\nfree,BoxInt\ndef,is-BoxInt,1\n" ∷ [];
+      printed = "kept,6,is-BoxInt\nkept,4,BoxInt\nsum,2,0,1\n" ∷ [];
+    }
+    ∷ record {
+      name = "def-of-itself";
+      file = "ask,0,12\nfree,a\ndef,a,0\nroot,0,r,0\n" ∷ [];
+      printed = "kept,3,a\nsum,1,0,1\n" ∷ [];
+    }
+    ∷ record {
+      name = "defs-in-a-circle";
+      file = "ask,0,12\nfree,a\nfree,b\ndef,a,1\ndef,b,0\nroot,0,r,0\n" ∷ [];
+      printed = "kept,4,a\nkept,5,b\nsum,2,0,1\n" ∷ [];
+    }
+    ∷ record {
       name = "dropped-facts";
       file = "ask,0,0\nfree,p\nop,true,0\nassume,a,0,1\nassume,equation_a,0,1\nassume,l_quant_interp_a,0,1\n"
           ∷ "assume,assumption_a,0,1\nroot,0,r,0\n"
@@ -297,13 +409,13 @@ files-3 =
     ∷ []
 
 -- a wrong one is named in the error
-pass-3 : All-print files-3
-unfolding prints files-3
-pass-3 = (refl, (refl, (refl, (refl, (refl, (refl, (refl, (refl, (refl, (refl, tt))))))))))
+pass-4 : All-print files-4
+unfolding prints files-4
+pass-4 = (refl, (refl, (refl, (refl, (refl, (refl, (refl, (refl, (refl, (refl, (refl, (refl, tt))))))))))))
 
 -- every-kind
-files-4 : List Small
-files-4 =
+files-5 : List Small
+files-5 =
     record {
       name = "every-kind";
       file = "ask,0,4\nfree,SFuel\nfree,ZFuel\nfree,HasType\nfree,HasTypeZ\nfree,HasTypeFuel\nfree,Valid\n"
@@ -346,14 +458,24 @@ files-4 =
     ∷ []
 
 -- a wrong one is named in the error
-pass-4 : All-print files-4
-unfolding prints files-4
-pass-4 = (refl, tt)
+pass-5 : All-print files-5
+unfolding prints files-5
+pass-5 = (refl, tt)
 
--- free-names-everywhere to hide-def-is-not-opened
-files-5 : List Small
-files-5 =
+-- fact-not-reached-named-in-a-body-is-not-kept to hide-after-term-is-1
+files-6 : List Small
+files-6 =
     record {
+      name = "fact-not-reached-named-in-a-body-is-not-kept";
+      file = "ask,0,12\nfree,x\ndef,g,0\nfree,y\nop,eq,1,1\nassume,x,0,2\nfree,g\nroot,0,r,3\n" ∷ [];
+      printed = "fact,6,triggers,{y},{y} free={y}\nkept,3,g\nsum,1,0,1\n" ∷ [];
+    }
+    ∷ record {
+      name = "following-meets-no-more-names";
+      file = "ask,0,12\nfree,f2\ndef,f1,0\nfree,f1\ndef,f0,1\nfree,f0\nroot,0,r,2\nop,eq,0,0\nassume,e,0,3\n" ∷ [];
+      printed = "fact,9,triggers,{f2},{f2} free={f2}\nkept,5,f0\nkept,3,f1\nsum,2,0,1\n" ∷ [];
+    }
+    ∷ record {
       name = "free-names-everywhere";
       file = "ask,0,0\nfree,a\nfree,b\nfree,c\nfree,d\nfree,e\nfree,f\nfree,g\nfree,h\ncall,i,0\nop,other,1,8\n"
           ∷ "all,2,2,1,3,1,9\nsome,4,1,1,10\nlet,5,6,11\nlabel,12\nop,eq,7,13\nassume,x,0,14\n"
@@ -367,6 +489,11 @@ files-5 =
       name = "hidden-fun-and-def-are-not-kept";
       file = "ask,0,4\nhide,f\nhide,g\nfree,f\nfree,g\nfree,h\nop,other,0,1,2\nfun,f\ndef,g,0\nfun,h\nroot,0,r,3\n" ∷ [];
       printed = "kept,10,h\nsum,1,0,1\n" ∷ [];
+    }
+    ∷ record {
+      name = "hidden-name-is-not-followed";
+      file = "ask,0,12\nhide,f\nfree,f\ndef,g,0\nfun,f\nfree,g\nroot,0,r,1\n" ∷ [];
+      printed = "kept,4,g\nsum,1,0,1\n" ∷ [];
     }
     ∷ record {
       name = "hidden-name-is-not-opened-by-a-def-of-a-starting-macro";
@@ -413,22 +540,22 @@ files-5 =
       file = "ask,0,0\nhide,p\nfree,p\nhide,q\n" ∷ [];
       printed = "refused,1,4\n" ∷ [];
     }
-    ∷ record {
+    ∷ []
+
+-- a wrong one is named in the error
+pass-6 : All-print files-6
+unfolding prints files-6
+pass-6 = (refl, (refl, (refl, (refl, (refl, (refl, (refl, (refl, (refl, (refl, (refl, (refl, tt))))))))))))
+
+-- hide-def-is-not-opened to hide-misplaced-before-its-fields
+files-7 : List Small
+files-7 =
+    record {
       name = "hide-def-is-not-opened";
       file = "ask,0,4\nhide,g\nfree,g\nfree,q\ndef,g,1\nop,eq,1,1\nassume,a,0,2\nfun,q\nroot,0,r,0\n" ∷ [];
       printed = "fact,7,triggers,{q},{q} free={q}\nsum,0,0,1\n" ∷ [];
     }
-    ∷ []
-
--- a wrong one is named in the error
-pass-5 : All-print files-5
-unfolding prints files-5
-pass-5 = (refl, (refl, (refl, (refl, (refl, (refl, (refl, (refl, (refl, (refl, tt))))))))))
-
--- hide-empties-disjuncts to hide-name-is-taken-once
-files-6 : List Small
-files-6 =
-    record {
+    ∷ record {
       name = "hide-empties-disjuncts";
       file = "ask,0,0\nhide,v\nhide,w\nfree,v\ncall,w,0\nfree,p\nall,2,1,1,1\nassume,never,0,3\nall,2,2,1,1,1,2\n"
           ∷ "assume,either,0,4\nop,eq,0,2\nassume,equal,0,5\nop,iff,1,0\nassume,both_hidden,0,6\n"
@@ -504,22 +631,22 @@ files-6 =
       file = "ask,0,0\nleaf\nhide,\n" ∷ [];
       printed = "refused,1,3\n" ∷ [];
     }
-    ∷ record {
+    ∷ []
+
+-- a wrong one is named in the error
+pass-7 : All-print files-7
+unfolding prints files-7
+pass-7 = (refl, (refl, (refl, (refl, (refl, (refl, (refl, (refl, (refl, (refl, (refl, (refl, tt))))))))))))
+
+-- hide-name-is-taken-once to macro-box-each
+files-8 : List Small
+files-8 =
+    record {
       name = "hide-name-is-taken-once";
       file = "ask,0,4\nhide,f\nhide,f\nfree,f\nfree,p\nfun,f\nroot,0,f,0\nroot,0,f,1\ndef,f,1\n" ∷ [];
       printed = "refused,5,9\n" ∷ [];
     }
-    ∷ []
-
--- a wrong one is named in the error
-pass-6 : All-print files-6
-unfolding prints files-6
-pass-6 = (refl, (refl, (refl, (refl, (refl, (refl, (refl, (refl, (refl, (refl, (refl, (refl, tt))))))))))))
-
--- hide-name-not-spelled-again to macro-box-fun-does-not-replace
-files-7 : List Small
-files-7 =
-    record {
+    ∷ record {
       name = "hide-name-not-spelled-again";
       file = "ask,0,0\nhide,zz\nfree,p\nop,eq,0,0\nassume,a,0,1\nroot,0,r,0\n" ∷ [];
       printed = "fact,5,triggers,{p},{p} free={p}\nkept,5,a\nsum,1,2,2\n" ∷ [];
@@ -618,24 +745,24 @@ files-7 =
           ∷ "sum,5,5,2\n"
           ∷ [];
     }
-    ∷ record {
+    ∷ []
+
+-- a wrong one is named in the error
+pass-8 : All-print files-8
+unfolding prints files-8
+pass-8 = (refl, (refl, (refl, (refl, (refl, (refl, (refl, (refl, (refl, (refl, (refl, (refl, (refl, (refl, (refl, (refl, tt))))))))))))))))
+
+-- macro-box-fun-does-not-replace to not-retained-round
+files-9 : List Small
+files-9 =
+    record {
       name = "macro-box-fun-does-not-replace";
       file = "ask,0,4\ncall,is-BoxInt\ncall,BoxInt\nfun,is-BoxInt\nfun,BoxInt\nleaf\nall,2,1,1,1\nassume,a,0,3\n"
           ∷ "root,0,r,0\n"
           ∷ [];
       printed = "fact,8,triggers,{BoxInt} free={BoxInt}\nkept,8,a\nkept,4,is-BoxInt\nkept,5,BoxInt\nsum,3,1,2\n" ∷ [];
     }
-    ∷ []
-
--- a wrong one is named in the error
-pass-7 : All-print files-7
-unfolding prints files-7
-pass-7 = (refl, (refl, (refl, (refl, (refl, (refl, (refl, (refl, (refl, (refl, (refl, (refl, (refl, (refl, (refl, (refl, tt))))))))))))))))
-
--- macro-box-not-spelled to ok-term5-4
-files-8 : List Small
-files-8 =
-    record {
+    ∷ record {
       name = "macro-box-not-spelled";
       file = "ask,0,4\ncall,is-BoxInt\nfun,is-BoxInt\nroot,0,r,0\n" ∷ [];
       printed = "kept,3,is-BoxInt\nsum,1,0,1\n" ∷ [];
@@ -705,11 +832,26 @@ files-8 =
       printed = "kept,13,leaf\nkept,8,~\nkept,11,ask\nkept,12,65535\nkept,10,\"\nkept,9,!\nsum,6,0,1\n" ∷ [];
     }
     ∷ record {
+      name = "no-ambients-no-def-to-follow";
+      file = "ask,0,13\nfree,f\ndef,g,0\nfun,f\nfree,g\nlabel,1\nassume,m,0,2\n" ∷ [];
+      printed = "fact,7,ambient,0 free={g}\nsum,0,0,1\n" ∷ [];
+    }
+    ∷ record {
       name = "not-retained-round";
       file = "ask,0,0\nfree,p\nall,0,1,1,0\nassume,z,1,1\nroot,0,r,0\n" ∷ [];
       printed = "fact,4,triggers,{p} free={p}\nsum,0,1,2\n" ∷ [];
     }
-    ∷ record {
+    ∷ []
+
+-- a wrong one is named in the error
+pass-9 : All-print files-9
+unfolding prints files-9
+pass-9 = (refl, (refl, (refl, (refl, (refl, (refl, (refl, (refl, (refl, (refl, (refl, (refl, (refl, (refl, tt))))))))))))))
+
+-- ok-free-255 to r-all-g-65536
+files-10 : List Small
+files-10 =
+    record {
       name = "ok-free-255";
       file = "ask,0,0\n"
           ∷ "free,xxxxxxxxxxxxxxxxxxxxxxxxxxxxxxxxxxxxxxxxxxxxxxxxxxxxxxxxxxxxxxxxxxxxxxxxxxxxxxxxxxxxxxxxxxxxxxxxxxxxxxxxxxxxxxxxxxxxxxxxxxxxxxxxxxxxxxxxxxxxxxxxxxxxxxxxxxxxxxxxxxxxxxxxxxxxxxxxxxxxxxxxxxxxxxxxxxxxxxxxxxxxxxxxxxxxxxxxxxxxxxxxxxxxxxxxxxxxxxxxxxxxxxxxxxxxxxx\n"
@@ -731,20 +873,30 @@ files-8 =
       file = "ask,0,0\nleaf\nleaf\nleaf\nleaf\nleaf\nlabel,4\n" ∷ [];
       printed = "sum,0,0,1\n" ∷ [];
     }
-    ∷ []
-
--- a wrong one is named in the error
-pass-8 : All-print files-8
-unfolding prints files-8
-pass-8 = (refl, (refl, (refl, (refl, (refl, (refl, (refl, (refl, (refl, (refl, (refl, (refl, (refl, (refl, (refl, (refl, tt))))))))))))))))
-
--- option-1-with-option-4 to r-call-65535
-files-9 : List Small
-files-9 =
-    record {
+    ∷ record {
+      name = "one-of-the-nine-is-not-followed";
+      file = "ask,0,12\nfree,ApplyTT\ndef,g,0\nfun,ApplyTT\nfree,g\nroot,0,r,1\n" ∷ [];
+      printed = "kept,3,g\nsum,1,0,1\n" ∷ [];
+    }
+    ∷ record {
       name = "option-1-with-option-4";
       file = "ask,0,5\nfree,x\nfree,Tm_refine_1\ncall,HasType,0,1\nassume,h,0,2\nfun,x\ndef,Tm_refine_1,0\n" ∷ [];
       printed = "fact,5,ambient,1 free={Tm_refine_1 x}\nsum,0,0,1\n" ∷ [];
+    }
+    ∷ record {
+      name = "option-4-alone-stops-at-the-def";
+      file = "ask,0,4\nfree,f\ndef,g,0\nfun,f\nfree,g\nroot,0,r,1\n" ∷ [];
+      printed = "kept,3,g\nsum,1,0,1\n" ∷ [];
+    }
+    ∷ record {
+      name = "options-12-follow-the-body";
+      file = "ask,0,12\nfree,f\ndef,g,0\nfun,f\nfree,g\nroot,0,r,1\n" ∷ [];
+      printed = "kept,3,g\nkept,4,f\nsum,2,0,1\n" ∷ [];
+    }
+    ∷ record {
+      name = "options-15-pass";
+      file = "ask,0,15\nfree,f\ndef,g,0\nfun,f\nfree,g\nroot,0,r,1\n" ∷ [];
+      printed = "kept,3,g\nkept,4,f\nsum,2,0,1\n" ∷ [];
     }
     ∷ record {
       name = "order-fact-and-roots";
@@ -785,6 +937,11 @@ files-9 =
           ∷ [];
     }
     ∷ record {
+      name = "pattern-names-of-a-body-are-followed";
+      file = "ask,0,12\nfree,f\nleaf\nall,1,1,1,0\ndef,g,2\nfun,f\nfree,g\nroot,0,r,3\n" ∷ [];
+      printed = "kept,5,g\nkept,6,f\nsum,2,0,1\n" ∷ [];
+    }
+    ∷ record {
       name = "r-3-beats-later-no-0a";
       file = "ask,0,0\nlabel,x\nleaf" ∷ [];
       printed = "refused,3,2\n" ∷ [];
@@ -809,7 +966,17 @@ files-9 =
       file = "ask,0,0\nleaf\nall,0,65536\n" ∷ [];
       printed = "refused,3,3\n" ∷ [];
     }
-    ∷ record {
+    ∷ []
+
+-- a wrong one is named in the error
+pass-10 : All-print files-10
+unfolding prints files-10
+pass-10 = (refl, (refl, (refl, (refl, (refl, (refl, (refl, (refl, (refl, (refl, (refl, (refl, (refl, (refl, (refl, (refl, (refl, (refl, (refl, (refl, tt))))))))))))))))))))
+
+-- r-all-g-huge-lacking to r-leaf-comma
+files-11 : List Small
+files-11 =
+    record {
       name = "r-all-g-huge-lacking";
       file = "ask,0,0\nleaf\nall,0,65535\n" ∷ [];
       printed = "refused,1,3\n" ∷ [];
@@ -854,17 +1021,7 @@ files-9 =
       file = "ask,0,0\ncall,f,65535\n" ∷ [];
       printed = "refused,4,2\n" ∷ [];
     }
-    ∷ []
-
--- a wrong one is named in the error
-pass-9 : All-print files-9
-unfolding prints files-9
-pass-9 = (refl, (refl, (refl, (refl, (refl, (refl, (refl, (refl, (refl, (refl, (refl, (refl, (refl, (refl, (refl, (refl, (refl, (refl, (refl, (refl, tt))))))))))))))))))))
-
--- r-call-alone to r-some-3-before-lacking
-files-10 : List Small
-files-10 =
-    record {
+    ∷ record {
       name = "r-call-alone";
       file = "ask,0,0\ncall\n" ∷ [];
       printed = "refused,1,2\n" ∷ [];
@@ -921,7 +1078,17 @@ files-10 =
       file = "ask,0,0\nleaf,\n" ∷ [];
       printed = "refused,1,2\n" ∷ [];
     }
-    ∷ record {
+    ∷ []
+
+-- a wrong one is named in the error
+pass-11 : All-print files-11
+unfolding prints files-11
+pass-11 = (refl, (refl, (refl, (refl, (refl, (refl, (refl, (refl, (refl, (refl, (refl, (refl, (refl, (refl, (refl, (refl, (refl, (refl, (refl, (refl, tt))))))))))))))))))))
+
+-- r-let-alone to rounds-empty-disjuncts-only
+files-12 : List Small
+files-12 =
+    record {
       name = "r-let-alone";
       file = "ask,0,0\nlet\n" ∷ [];
       printed = "refused,1,2\n" ∷ [];
@@ -966,17 +1133,7 @@ files-10 =
       file = "ask,0,0\nleaf\nsome,0,1,2,x\n" ∷ [];
       printed = "refused,3,3\n" ∷ [];
     }
-    ∷ []
-
--- a wrong one is named in the error
-pass-10 : All-print files-10
-unfolding prints files-10
-pass-10 = (refl, (refl, (refl, (refl, (refl, (refl, (refl, (refl, (refl, (refl, (refl, (refl, (refl, (refl, (refl, (refl, (refl, (refl, (refl, (refl, tt))))))))))))))))))))
-
--- r-some-bad-body-first to rounds-term-shared-by-roots
-files-11 : List Small
-files-11 =
-    record {
+    ∷ record {
       name = "r-some-bad-body-first";
       file = "ask,0,0\nleaf\nsome,x\n" ∷ [];
       printed = "refused,3,3\n" ∷ [];
@@ -1031,7 +1188,17 @@ files-11 =
       file = "ask,0,0\nfree,p\nall,0,3,0,0,0\nassume,a,0,1\nroot,0,r,0\n" ∷ [];
       printed = "fact,4,triggers,{},{},{} free={p}\nsum,0,0,1\n" ∷ [];
     }
-    ∷ record {
+    ∷ []
+
+-- a wrong one is named in the error
+pass-12 : All-print files-12
+unfolding prints files-12
+pass-12 = (refl, (refl, (refl, (refl, (refl, (refl, (refl, (refl, (refl, (refl, (refl, (refl, (refl, (refl, (refl, (refl, (refl, (refl, (refl, (refl, tt))))))))))))))))))))
+
+-- rounds-equal-disjuncts-count-apart to rule-0-two-groups
+files-13 : List Small
+files-13 =
+    record {
       name = "rounds-equal-disjuncts-count-apart";
       file = "ask,0,0\nfree,p\nleaf\nall,1,3,1,0,1,0,1,0\nassume,a,0,2\nroot,0,r,0\n" ∷ [];
       printed = "fact,5,triggers,{p},{p},{p} free={p}\nkept,5,a\nsum,1,3,2\n" ∷ [];
@@ -1086,17 +1253,7 @@ files-11 =
           ∷ [];
       printed = "fact,7,triggers,{p} free={p}\nkept,7,a\nsum,1,1,2\n" ∷ [];
     }
-    ∷ []
-
--- a wrong one is named in the error
-pass-11 : All-print files-11
-unfolding prints files-11
-pass-11 = (refl, (refl, (refl, (refl, (refl, (refl, (refl, (refl, (refl, (refl, (refl, (refl, (refl, (refl, (refl, (refl, (refl, (refl, (refl, (refl, tt))))))))))))))))))))
-
--- rounds-two-halves to rule-12-free
-files-12 : List Small
-files-12 =
-    record {
+    ∷ record {
       name = "rounds-two-halves";
       file = "ask,0,0\nfree,p\nfree,q\nfree,s\nfree,t\nall,0,2,2,0,2,2,1,3\nassume,a,0,4\nop,other,0,1\nroot,0,r,5\n" ∷ [];
       printed = "fact,7,triggers,{p s},{q t} free={p q s t}\nsum,0,2,1\n" ∷ [];
@@ -1138,7 +1295,17 @@ files-12 =
       file = "ask,0,0\nfree,p\nfree,q\nall,0,2,1,0,2,0,1\nassume,x,0,2\n" ∷ [];
       printed = "fact,5,triggers,{p},{p q} free={p q}\nsum,0,0,1\n" ∷ [];
     }
-    ∷ record {
+    ∷ []
+
+-- a wrong one is named in the error
+pass-13 : All-print files-13
+unfolding prints files-13
+pass-13 = (refl, (refl, (refl, (refl, (refl, (refl, (refl, (refl, (refl, (refl, (refl, (refl, (refl, (refl, (refl, (refl, (refl, tt)))))))))))))))))
+
+-- rule-0-under-names to rule-3-hastype-3
+files-14 : List Small
+files-14 =
+    record {
       name = "rule-0-under-names";
       file = "ask,0,0\nfree,p\nfree,q\nall,1,1,1,0\nassume,assumption_1,0,2\nassume,equation_1,0,2\n"
           ∷ "assume,l_quant_interp_1,0,2\nlabel,2\nlabel,3\nassume,a,0,4\n"
@@ -1201,17 +1368,7 @@ files-12 =
       file = "ask,0,0\nfree,p\nfree,q\nfree,HasType\nassume,x,0,2\n" ∷ [];
       printed = "fact,5,ambient,0 free={}\nkept,5,x\nsum,1,0,1\n" ∷ [];
     }
-    ∷ []
-
--- a wrong one is named in the error
-pass-12 : All-print files-12
-unfolding prints files-12
-pass-12 = (refl, (refl, (refl, (refl, (refl, (refl, (refl, (refl, (refl, (refl, (refl, (refl, (refl, (refl, (refl, (refl, (refl, (refl, tt))))))))))))))))))
-
--- rule-12-kinds to rule-3-type-is-all
-files-13 : List Small
-files-13 =
-    record {
+    ∷ record {
       name = "rule-12-kinds";
       file = "ask,0,0\nfree,p\nassume,a,0,0\nleaf\nassume,b,0,1\ncall,g,0\nassume,c,0,2\nop,other,0\nassume,d,0,3\n"
           ∷ "some,0,1,1,0\nassume,e,0,4\nlet,0,1\nassume,f,0,5\nlabel,3\nassume,g,0,6\nall,0,0\nassume,h,0,7\n"
@@ -1250,7 +1407,17 @@ files-13 =
       file = "ask,0,0\nfree,p\nfree,q\ncall,Tm_refine_1,0\ncall,HasType,0,2,2\nassume,x,0,3\n" ∷ [];
       printed = "fact,6,ambient,0 free={Tm_refine_1 p}\nkept,6,x\nsum,1,0,1\n" ∷ [];
     }
-    ∷ record {
+    ∷ []
+
+-- a wrong one is named in the error
+pass-14 : All-print files-14
+unfolding prints files-14
+pass-14 = (refl, (refl, (refl, (refl, (refl, (refl, (refl, (refl, (refl, (refl, (refl, (refl, (refl, (refl, (refl, tt)))))))))))))))
+
+-- rule-3-refinements to rule-4-tok-tok
+files-15 : List Small
+files-15 =
+    record {
       name = "rule-3-refinements";
       file = "ask,0,0\nfree,x\nfree,Tm_refine_\ncall,HasType,0,1\nassume,a,0,2\ncall,Tm_refine_0,0,0,0\n"
           ∷ "call,HasType,0,3\nassume,b,0,4\nfree,Tm_refine\ncall,HasType,0,5\nassume,c,0,6\nlabel,1\n"
@@ -1286,17 +1453,7 @@ files-13 =
       file = "ask,0,0\nfree,x\nall,0,1,1,0\ncall,HasType,0,1\nassume,a,0,2\n" ∷ [];
       printed = "fact,5,triggers,{x} free={x}\nsum,0,0,1\n" ∷ [];
     }
-    ∷ []
-
--- a wrong one is named in the error
-pass-13 : All-print files-13
-unfolding prints files-13
-pass-13 = (refl, (refl, (refl, (refl, (refl, (refl, (refl, (refl, (refl, (refl, (refl, tt)))))))))))
-
--- rule-4-markers to rule-5-hastype
-files-14 : List Small
-files-14 =
-    record {
+    ∷ record {
       name = "rule-4-markers";
       file = "ask,0,0\nfree,__uu__PartialApp\ncall,__uu__PartialApp\nfree,x\ncall,__uu__PartialApp,2\ncall,f@tok\n"
           ∷ "call,ApplyTT,0,4\ncall,Valid,5\nassume,a,0,6\ncall,ApplyTT,1,4\ncall,Valid,7\nassume,b,0,8\n"
@@ -1321,7 +1478,17 @@ files-14 =
           ∷ [];
       printed = "fact,8,triggers,{a@tok@tok},{a@tok} free={__uu__PartialApp a@tok@tok}\nsum,0,0,1\n" ∷ [];
     }
-    ∷ record {
+    ∷ []
+
+-- a wrong one is named in the error
+pass-15 : All-print files-15
+unfolding prints files-15
+pass-15 = (refl, (refl, (refl, (refl, (refl, (refl, (refl, (refl, tt))))))))
+
+-- rule-4-tokens to rule-7
+files-16 : List Small
+files-16 =
+    record {
       name = "rule-4-tokens";
       file = "ask,0,0\nfree,__uu__PartialApp\nfree,x\nfree,f@to\ncall,ApplyTT,0,2\ncall,Valid,3\nassume,a,0,4\nleaf\n"
           ∷ "call,ApplyTT,0,5\ncall,Valid,6\nassume,b,0,7\ncall,g@tok,1\ncall,ApplyTT,0,8\ncall,Valid,9\n"
@@ -1363,17 +1530,7 @@ files-14 =
       file = "ask,0,0\nfree,p\nfree,q\ncall,HasType,1,0\nassume,x,0,2\n" ∷ [];
       printed = "fact,5,triggers,{q} free={p q}\nsum,0,0,1\n" ∷ [];
     }
-    ∷ []
-
--- a wrong one is named in the error
-pass-14 : All-print files-14
-unfolding prints files-14
-pass-14 = (refl, (refl, (refl, (refl, (refl, (refl, tt))))))
-
--- rule-6 to rule-9-half-right
-files-15 : List Small
-files-15 =
-    record {
+    ∷ record {
       name = "rule-6";
       file = "ask,0,0\nfree,p\nfree,q\ncall,Term_constr_id,1\nop,eq,0,2\nassume,equation_x,0,3\n" ∷ [];
       printed = "fact,6,triggers,{q} free={Term_constr_id p q}\nsum,0,0,1\n" ∷ [];
@@ -1405,7 +1562,17 @@ files-15 =
       file = "ask,0,0\nfree,p\nfree,q\nall,0,1,1,1\nlabel,2\nall,0,2,1,0,0\nop,and,0,3,4,2\nassume,x,0,5\n" ∷ [];
       printed = "fact,8,triggers,{q},{p},{},{q} free={p q}\nsum,0,0,1\n" ∷ [];
     }
-    ∷ record {
+    ∷ []
+
+-- a wrong one is named in the error
+pass-16 : All-print files-16
+unfolding prints files-16
+pass-16 = (refl, (refl, (refl, (refl, (refl, (refl, (refl, (refl, tt))))))))
+
+-- rule-7-nested to without-hide-needs-both-names
+files-17 : List Small
+files-17 =
+    record {
       name = "rule-7-nested";
       file = "ask,0,0\nfree,p\nfree,q\nall,0,1,1,1\nop,and,2\nop,and,3\nassume,x,0,4\n" ∷ [];
       printed = "fact,7,triggers free={p q}\nsum,0,0,1\n" ∷ [];
@@ -1442,17 +1609,7 @@ files-15 =
       file = "ask,0,0\nfree,p\nfree,q\ncall,Prims.hasEq,0,1\ncall,Valid,2\nop,iff,0,3\nassume,x,0,4\n" ∷ [];
       printed = "fact,7,triggers,{p},{Prims.hasEq p q} free={Prims.hasEq p q}\nsum,0,0,1\n" ∷ [];
     }
-    ∷ []
-
--- a wrong one is named in the error
-pass-15 : All-print files-15
-unfolding prints files-15
-pass-15 = (refl, (refl, (refl, (refl, (refl, (refl, (refl, (refl, (refl, tt)))))))))
-
--- rule-9-has-eq to without-hide-needs-both-names
-files-16 : List Small
-files-16 =
-    record {
+    ∷ record {
       name = "rule-9-has-eq";
       file = "ask,0,0\nfree,u\nfree,s\nfree,t\ncall,Prims.hasEq,0,1\ncall,Valid,3\ncall,Prims.hasEq,0,2\n"
           ∷ "call,Valid,5\nop,iff,4,6\nassume,a,0,7\nop,iff,6,4\nassume,b,0,8\nop,iff,4,0\nassume,c,0,9\nop,iff,3,5\n"
@@ -1471,6 +1628,11 @@ files-16 =
           ∷ [];
     }
     ∷ record {
+      name = "starting-macro-has-no-body-to-follow";
+      file = "ask,0,12\nfree,is-BoxInt\nroot,0,r,0\nfun,BoxInt\n" ∷ [];
+      printed = "sum,0,0,1\n" ∷ [];
+    }
+    ∷ record {
       name = "without-hide-needs-both-names";
       file = "ask,0,0\nfree,p\ncall,w,0\nfree,q\nall,2,1,1,1\nassume,a,0,3\nroot,0,r,0\n" ∷ [];
       printed = "fact,6,triggers,{p w} free={p q w}\nsum,0,1,1\n" ∷ [];
@@ -1478,6 +1640,6 @@ files-16 =
     ∷ []
 
 -- a wrong one is named in the error
-pass-16 : All-print files-16
-unfolding prints files-16
-pass-16 = (refl, (refl, tt))
+pass-17 : All-print files-17
+unfolding prints files-17
+pass-17 = (refl, (refl, (refl, (refl, (refl, (refl, (refl, (refl, tt))))))))
