@@ -335,7 +335,7 @@ fn follow(names: &[u32], recs: &[u32], lists: &[u32], run: &mut [u32], k: Counts
         (now (run .exit)) ⌝ }
 {
     let named = k.names;
-    let mut to = 0;
+    let mut end = 0;
     let mut n = 0;
     while n < named {
         let m = n;
@@ -347,13 +347,13 @@ fn follow(names: &[u32], recs: &[u32], lists: &[u32], run: &mut [u32], k: Counts
         if stamp == FOLLOWED {
             continue;
         }
-        to = follow_body(names, recs, lists, run, k, m, to);
+        end = follow_body(names, recs, lists, run, k, m, end);
     }
     let mut j = 0;
-    while j < to {
+    while j < end {
         let m = words::at(run, QUEUE + j);
         j += 1;
-        to = follow_body(names, recs, lists, run, k, m, to);
+        end = follow_body(names, recs, lists, run, k, m, end);
     }
 }
 

@@ -12,17 +12,17 @@ use Rattle.prune.proofs.follow.Statement.{statement}
 use Rattle.prune.proofs.follow.Tie as tie
 
 abbrev Inv-loop : tie.InvT-loop
-Inv-loop names recs lists run₀ k named to₀ n₀ run to n = Noted-to (k .names) (body-at names recs lists) run₀ run to n
+Inv-loop names recs lists run₀ k named end₀ n₀ run end n = Noted-to (k .names) (body-at names recs lists) run₀ run end n
 
 abbrev μ-loop : tie.MeasureT-loop
-μ-loop names recs lists run₀ k named to₀ n₀ run to n = named - n
+μ-loop names recs lists run₀ k named end₀ n₀ run end n = named - n
 
 abbrev Inv-loop2 : tie.InvT-loop2
-Inv-loop2 names recs lists run₀ k named to₀ n j₀ run to j =
-    (w : List ℕ) → Queue-to (k .names) (body-at names recs lists) w run₀ to₀ 0 → Queue-to (k .names) (body-at names recs lists) w run to j
+Inv-loop2 names recs lists run₀ k named end₀ n j₀ run end j =
+    (w : List ℕ) → Queue-to (k .names) (body-at names recs lists) w run₀ end₀ 0 → Queue-to (k .names) (body-at names recs lists) w run end j
 
 abbrev μ-loop2 : tie.MeasureT-loop2
-μ-loop2 names recs lists run₀ k named to₀ n j₀ run to j = most-names - j
+μ-loop2 names recs lists run₀ k named end₀ n j₀ run end j = most-names - j
 
 loop-holds : tie.Need-loop-holds Inv-loop μ-loop Inv-loop2 μ-loop2
 loop-holds c =
