@@ -1,14 +1,12 @@
 // The printed form of an answer: document 01's lines, one at a time into a lent slice, and a refusal in words.
-use model::Answer;
 use model::Refusal;
-use model::Verdict;
 ghost use Prim.Native.Nat.{_+_, _≤_, _<_};
 ghost use mathlib.Core.Path.{_≡_};
 ghost use lib.ListN.{length};
 ghost use Rattle.model.specs.Lists.{part};
 ghost use Rattle.model.specs.Lines.{fields};
 ghost use Rattle.model.specs.Text.{show, second, name-on, kept-line, sum-line, refused-line};
-ghost use Rattle.printing.specs.Printed.{Bytes-put, Text-begins, Starts, Same-from, Lies-in, reason, has-line, reason-line, Answered};
+ghost use Rattle.printing.specs.Printed.{Bytes-put, Text-begins, Starts, Same-from, Lies-in, reason, has-line, reason-line, Listed-line};
 
 // Writes bytes from a place on; where they end.
 fn put(text: &mut [u8], at: usize, bytes: &[u8]) -> usize
@@ -110,7 +108,7 @@ fn sum_line(kept: u32, visits: u32, rounds: u32, text: &mut [u8]) -> usize
 }
 
 // Writes the line of a refusal; its length.
-fn refused_line(r: Refusal, place: u32, text: &mut [u8]) -> usize
+pub fn refused_line(r: Refusal, place: u32, text: &mut [u8]) -> usize
     requires { ⌜ 128 ≤ length (now text) ⌝ }
     ensures { λ n. ⌜ Text-begins (refused-line r place) (now (text .exit)) n ⌝ }
 {
@@ -121,31 +119,26 @@ fn refused_line(r: Refusal, place: u32, text: &mut [u8]) -> usize
     put(text, at, b"\n")
 }
 
-// Writes a line of the printed form of an answer: the kept lines, then their sum; or the refusal. Its length.
-pub fn answer_line(
+// Writes a line of the printed form of one list: its kept lines, then their sum. Its length.
+pub fn list_line(
     file: &[u8],
     starts: &[u32],
     many: usize,
-    a: Answer,
+    kept: u32,
+    visits: u32,
+    rounds: u32,
     out: &[u32],
     i: usize,
     text: &mut [u8],
 ) -> usize
     requires { ⌜ Starts (now file) (now starts) many × (length (now file) + 128 ≤ length (now text))
-        × (a .kept ≤ length (now out)) ⌝ }
-    ensures { λ n. ⌜ Answered (now (file .entry)) a (now (out .entry)) i (now (text .exit)) n ⌝ }
+        × (kept ≤ length (now out)) ⌝ }
+    ensures { λ n. ⌜ Listed-line (now (file .entry)) kept visits rounds (now (out .entry)) i (now (text .exit)) n ⌝ }
 {
-    let v = a.verdict;
-    match v {
-        Verdict::Accepted => {
-            let kept = a.kept;
-            if i < kept as usize {
-                return kept_line(file, starts, many, out[i], text);
-            }
-            sum_line(kept, a.visits, a.rounds, text)
-        }
-        Verdict::Refused(r) => refused_line(r, a.place, text),
+    if i < kept as usize {
+        return kept_line(file, starts, many, out[i], text);
     }
+    sum_line(kept, visits, rounds, text)
 }
 
 // Writes why a refusal is given from a place on; where it ends.
@@ -178,6 +171,7 @@ fn put_reason(text: &mut [u8], at: usize, r: Refusal) -> usize
             at,
             b"the file has more than 2,048 trigger entries or 6,144 name uses",
         ),
+        Refusal::FullAsks => put(text, at, b"the file has more than 16 ask lines"),
     }
 }
 
@@ -198,6 +192,7 @@ fn has_line(r: Refusal) -> bool
         Refusal::FullTerms => true,
         Refusal::FullRecords => true,
         Refusal::FullTriggers => true,
+        Refusal::FullAsks => true,
     }
 }
 
