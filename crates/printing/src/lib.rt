@@ -1,9 +1,13 @@
-// The printed form of an answer: document 01's lines, one at a time into a lent slice, and a refusal in words.
+// The printed form of an answer: document 01's lines, one at a time into a lent slice, and all to standard output; and a refusal
+// in words.
+use libc::STDOUT_FILENO;
+use model::Answer;
 use model::Refusal;
+use model::Verdict;
 ghost use Prim.Native.Nat.{_+_, _≤_, _<_};
 ghost use mathlib.Core.Path.{_≡_};
 ghost use lib.ListN.{length};
-ghost use Rattle.model.specs.Lists.{part};
+ghost use Rattle.model.specs.Lists.{part, sum};
 ghost use Rattle.model.specs.Lines.{fields};
 ghost use Rattle.model.specs.Text.{show, second, name-on, kept-line, sum-line, refused-line};
 ghost use Rattle.printing.specs.Printed.{Bytes-put, Text-begins, Starts, Same-from, Lies-in, reason, has-line, reason-line, Listed-line};
@@ -139,6 +143,105 @@ pub fn list_line(
         return kept_line(file, starts, many, out[i], text);
     }
     sum_line(kept, visits, rounds, text)
+}
+
+// Prints a list: its kept lines, then their sum; whether each line was written.
+fn print_list(
+    file: &[u8],
+    starts: &[u32],
+    many: usize,
+    kept: u32,
+    visits: u32,
+    rounds: u32,
+    out: &[u32],
+    text: &mut [u8],
+) -> bool
+    requires { ⌜ Starts (now file) (now starts) many × (length (now file) + 128 ≤ length (now text))
+        × (kept ≤ length (now out)) ⌝ }
+{
+    let count = kept as usize;
+    let mut i: usize = 0;
+    while i <= count {
+        let n = list_line(file, starts, many, kept, visits, rounds, out, i, text);
+        if !io::write_all(STDOUT_FILENO, &text[..n]) {
+            return false;
+        }
+        i += 1;
+    }
+    true
+}
+
+// Prints the lists of an accepted answer; whether each line was written. A position that was asked has a round.
+fn print_lists(
+    file: &[u8],
+    starts: &[u32],
+    many: usize,
+    a: Answer,
+    out: &[u32],
+    text: &mut [u8],
+) -> bool
+    requires { ⌜ Starts (now file) (now starts) many × (length (now file) + 128 ≤ length (now text))
+        × (sum (a .kept) ≤ length (now out)) ⌝ }
+{
+    let kept = a.kept;
+    let visits = a.visits;
+    let rounds = a.rounds;
+    let mut from: usize = 0;
+    let mut p: usize = 0;
+    while p < model::MOST_ASKS {
+        let count = kept[p];
+        let turns = rounds[p];
+        if turns == 0 {
+            return true;
+        }
+        if !print_list(
+            file,
+            starts,
+            many,
+            count,
+            visits[p],
+            turns,
+            &out[from..],
+            text,
+        ) {
+            return false;
+        }
+        from += count as usize;
+        p += 1;
+    }
+    true
+}
+
+// Prints an answer, its lists or its refusal; whether each line was written.
+pub fn print(file: &[u8], a: Answer, out: &[u32], starts: &mut [u32], text: &mut [u8]) -> bool
+    requires { ⌜ (length (now file) ≤ length (now starts)) × (length (now file) < 4294967296)
+        × (length (now file) + 128 ≤ length (now text)) × (sum (a .kept) ≤ length (now out)) ⌝ }
+{
+    let v = a.verdict;
+    match v {
+        Verdict::Accepted => {
+            let many = line_starts(file, starts);
+            print_lists(file, starts, many, a, out, text)
+        }
+        Verdict::Refused(r) => {
+            let n = refused_line(r, a.place, text);
+            io::write_all(STDOUT_FILENO, &text[..n])
+        }
+    }
+}
+
+// The sum of the counts of an answer.
+pub fn sum_counts(counts: [u32; 16]) -> usize
+    requires { ⌜ sum counts < 4294967296 ⌝ }
+    ensures { λ r. ⌜ r ≡ sum counts ⌝ }
+{
+    let mut n: usize = 0;
+    let mut p: usize = 0;
+    while p < model::MOST_ASKS {
+        n += counts[p] as usize;
+        p += 1;
+    }
+    n
 }
 
 // Writes why a refusal is given from a place on; where it ends.
