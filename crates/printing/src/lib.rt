@@ -1,5 +1,5 @@
-// The printed form of an answer: document 01's lines, one at a time into a lent slice, and all to standard output; and a refusal
-// in words.
+// The printed form of an answer: document 01's lines, one at a time into a lent slice, and all to standard output. A refusal in
+// words.
 use libc::STDOUT_FILENO;
 use model::Answer;
 use model::Refusal;
