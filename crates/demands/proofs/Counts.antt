@@ -1,7 +1,7 @@
 -- The counts towards the limits, at every line that a file reaches, are those of document 01.
 use Prim.Native.Nat.{ℕ, _+_, max}
 use native.Mathlib.Omega.{arith}
-use mathlib.Core.Path.{_≡_, refl, _∙_}
+use mathlib.Core.Path.{_≡_, refl, _∙_, ap}
 use mathlib.Core.Bool.{Bool, true, false, cond}
 use mathlib.Core.List.{List, [], _∷_, _++_, map}
 use lib.ListN.{length, length-append}
@@ -10,14 +10,15 @@ use Rattle.model.specs.Names.{Name}
 use Rattle.model.specs.Lines.{Line, fields}
 use Rattle.model.specs.Terms.{Node, Term, add-term, references}
 use Rattle.model.specs.Summaries.{exclude-names, Fact, entries}
-use Rattle.model.specs.Reading.{Content, head, term, assume, fun, def, retain, root, ok, Decl, Summary, Sum-assume, Sum-definefun, Sum-declfun, Sum-retain, State, start, read, entries-of, uses-of, hidden-by, heads, nodes, spelled, trimmed, summarize-decl, root-of, excluded, parse, add-line, read-lines}
+use Rattle.model.specs.Reading.{Content, head, term, assume, fun, def, retain, root, ok, Decl, Summary, Sum-assume, Sum-definefun, Sum-declfun, Sum-retain, State, start, read, entries-of, uses-of, head-asks, hidden-by, heads, nodes, spelled, trimmed, summarize-decl, root-of, excluded, parse, add-line, read-lines}
 use Rattle.model.specs.Rounds.{facts, definitions}
-use Rattle.model.proofs.ListLaws.{keep-append, count-append, sum-map-append}
+use Rattle.model.proofs.ListLaws.{cond-ap, keep-append, count-append, sum-map-append}
 use Rattle.demands.specs.Demand1.{Reached-line, Says}
-use Rattle.demands.specs.Counts.{state-with, lines-to, term-words, record-words, begins, term-fields, name-fields, Counted, token-trimmed, Names-added, Counts-exact}
+use Rattle.demands.specs.Counts.{state-with, lines-to, ask-words, term-words, record-words, begins, term-fields, name-fields, Counted, token-trimmed, Names-added, Counts-exact}
 use Rattle.laws.proofs.ReadingLaws.{line-read, lines-read, none-read, kept-by-lines}
 use Rattle.demands.proofs.TermNumbers.{named-below}
 use Rattle.demands.proofs.LineFields.{line-fields}
+use Rattle.demands.proofs.Heads.{asks-by}
 use Rattle.demands.proofs.StateLaws.{spelled-exact, State-laws, laws-start, laws-added, laws-line}
 
 -- the trigger entries of the records are those of the facts
@@ -45,6 +46,7 @@ references-in ls = sum (map (λ line. length (term-fields line)) (keep (begins t
 
 -- what these lines add to the counts, from one state to another
 record Adds (ls : List Line) (s t : State) : Type 0 where
+  ask-lines : length (t .asks) ≡ length (s .asks) + count (begins ask-words) ls
   term-lines : length (t .terms) ≡ length (s .terms) + count (begins term-words) ls
   term-references : t .references ≡ s .references + references-in ls
   record-lines : length (t .hidden) + (length (t .decls) + length (t .roots))
@@ -54,6 +56,7 @@ record Adds (ls : List Line) (s t : State) : Type 0 where
 adds-append : {ls ms : List Line} {s t u : State} → Adds ls s t → Adds ms t u → Adds (ls ++ ms) s u
 adds-append {ls} {ms} {s} {t} {u} a b =
     record {
+      ask-lines = omega (arith, a .ask-lines, b .ask-lines, count-append (begins ask-words) ls ms);
       term-lines = omega (arith, a .term-lines, b .term-lines, count-append (begins term-words) ls ms);
       term-references = rw keep-append (omega (
         arith,
@@ -67,7 +70,7 @@ adds-append {ls} {ms} {s} {t} {u} a b =
 -- no line adds nothing
 adds-none : (s : State) → Adds [] s s
 unfolding count keep sum
-adds-none s = record { term-lines = omega arith; term-references = omega arith; record-lines = omega arith }
+adds-none s = record { ask-lines = omega arith; term-lines = omega arith; term-references = omega arith; record-lines = omega arith }
 
 -- the table with term lines more has as many terms more
 terms-more : (terms : List Term) (ns : List Node) → length (fold-left add-term terms ns) ≡ length terms + length ns
@@ -101,6 +104,7 @@ adds-line exclude n s line c e =
     let l = line-fields s (fields (line .bytes)) e in
     let out = excluded exclude s in
     record {
+      ask-lines = rw (one-counted (begins ask-words) line) (omega (arith, length-append (s .asks) (collect head-asks (heads c)), ap length (asks-by (l .headed)) ∙ cond-ap length (begins ask-words line) _ []));
       term-lines = rw (one-counted (begins term-words) line) (omega (arith, terms-more (s .terms) (nodes c), l .term-lines));
       term-references = rw (one-referring line) (omega (arith, l .term-references));
       record-lines = rw (one-counted (begins record-words) line) (omega (
@@ -125,6 +129,7 @@ counted : (ls : List Line) (s : State) → Adds ls start s → State-laws s → 
 unfolding start
 counted ls s a h =
     record {
+      ask-lines = omega (arith, a .ask-lines);
       term-lines = omega (arith, a .term-lines);
       term-references = omega (arith, a .term-references);
       record-lines = omega (arith, a .record-lines);

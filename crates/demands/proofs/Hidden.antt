@@ -12,9 +12,9 @@ use Rattle.model.specs.Lists.{keep, any, all, sum, collect, fold-left, holds, i
 use Rattle.model.specs.Names.{Name, bytes, by-byte, order, is-same, same, mem}
 use Rattle.model.specs.Lines.{Line, lines, Field, fields, is-name}
 use Rattle.model.specs.Summaries.{exclude-names}
-use Rattle.model.specs.Reading.{Head, hide, head, ok, next, end, name-field, kinds, word, content, Ask, Decl, State, start, read, in-head, a-hide, place, may-stand, fixed-count, parse, head-asks, hidden-by, heads, nodes, spelled, spell, limits, summarize-decl, trimmed, root-of, excluded, add-line, repeats, read-line, read-lines, read-file}
+use Rattle.model.specs.Reading.{Head, hide, head, ok, next, end, name-field, kinds, word, content, Ask, Decl, State, start, read, in-head, a-hide, place, may-stand, is-position, fixed-count, parse, head-asks, hidden-by, heads, nodes, spelled, spell, limits, summarize-decl, trimmed, root-of, excluded, add-line, repeats, read-line, read-lines, read-file}
 use Rattle.model.specs.Rounds.{facts, definitions, declarations}
-use Rattle.model.specs.Outcome.{list, listing}
+use Rattle.model.specs.Outcome.{Position, position}
 use Rattle.model.specs.Text.{name-on}
 use Rattle.model.specs.declared.LineKind.the-variants as kind
 use Rattle.model.proofs.ListLaws.{T-and, T-ext, T-true, cond-false, is-nil-elim, all-intro, map-intro, map-elim, map-cong}
@@ -24,7 +24,7 @@ use Rattle.demands.specs.Demand2.{kept-list, followed-list}
 use Rattle.demands.specs.Demand3.{run-of}
 use Rattle.demands.specs.Counts.{hide-words, begins}
 use Rattle.demands.specs.Asks.{head-words}
-use Rattle.demands.specs.Moved.{moved-fact, moved-decl, moved, moved-root, moved-outcome}
+use Rattle.demands.specs.Moved.{moved-fact, moved-decl, moved, moved-root, moved-position}
 use Rattle.demands.specs.Order.{listed-facts}
 use Rattle.demands.specs.Bodies.{Bodies-followed}
 use Rattle.demands.specs.Printed.{Names-on-lines}
@@ -34,7 +34,7 @@ use Rattle.demands.proofs.Refusals.{lines-on, lines-append}
 use Rattle.demands.proofs.LineForm.{parse-fields}
 use Rattle.demands.proofs.LineFields.{Head-by, one-ask, one-hide, no-head}
 use Rattle.demands.proofs.Heads.{headed-line}
-use Rattle.demands.proofs.Asks.{on-lines, asked-once, read-head}
+use Rattle.demands.proofs.Asks.{on-lines, asked-lines}
 use Rattle.demands.proofs.ListedLaws.{kept-fact-line}
 use Rattle.demands.proofs.StateLaws.{State-laws, laws-start, laws-line}
 use Rattle.demands.proofs.Moved.{moved-facts, moved-definitions, moved-declarations, lines-apart, kept-apart}
@@ -51,7 +51,7 @@ abbrev hidden-names : List Line → List Name
 hidden-names ls = map name-field-of (keep (begins hide-words) ls)
 
 -- a line hides its name where it is a hide line
-hides-by : {name : Field} {b c : Bool} {l : List Head} → Head-by name b c l → collect hidden-by l ≡ cond c (name ∷ []) []
+hides-by : {name second : Field} {b c : Bool} {l : List Head} → Head-by name second b c l → collect hidden-by l ≡ cond c (name ∷ []) []
 unfolding collect hidden-by
 hides-by (one-ask low few) = refl
 hides-by one-hide = refl
@@ -80,8 +80,9 @@ excluded-exact ls s e = ap (exclude-names ++_) (hidden-lines exclude-names ls 1 
 
 -- what the fields of a hide line say, where it may stand
 hide-says : (s : State) (name : Name) → T (is-name name) → T (may-stand s a-hide) → parse s (bytes "hide" ∷ name ∷ []) ≡ ok (head (hide name))
-unfolding word kinds same order by-byte is-same bytes place fixed-count holds content next name-field end
-hide-says s name t stands = parse-fields s (bytes "hide") (name ∷ []) {k = kind.Hide} refl (record { stands = stands }) tt ∙ rw (T-true (is-name name) t)
+unfolding word kinds same order by-byte is-same bytes place is-position fixed-count holds content next name-field end
+hide-says s name t stands =
+    parse-fields s (bytes "hide") (name ∷ []) {k = kind.Hide} refl (record { stands = stands; in-number = λ p. absurd p }) tt ∙ rw (T-true (is-name name) t)
 
 -- what it adds
 add-hide : (exclude : List Name) (n : ℕ) (s : State) (name : Name) → s .decls ≡ [] → s .roots ≡ [] → T (not (mem name (s .names)))
@@ -120,7 +121,7 @@ read-hide n s name line ended are is-a-name in-the-head asked few room =
     added-line exclude-names n s line ended (head (hide name)) says fresh within-all ∙ ap ok added
 
 -- lines that are read are so in two parts
-lines-split : (ls ms : List Line) (n : ℕ) (s t : State) → read-lines exclude-names n s (ls ++ ms) ≡ read t
+pub lines-split : (ls ms : List Line) (n : ℕ) (s t : State) → read-lines exclude-names n s (ls ++ ms) ≡ read t
     → (u : State) × (read-lines exclude-names n s ls ≡ read u) × (read-lines exclude-names (n + length ls) u ms ≡ read t)
 lines-split [] ms n s t e = (s, unfold read-lines in refl, rw add-zero e)
 lines-split (line ∷ ls) ms n s t e =
@@ -143,7 +144,7 @@ unfolding start in-head is-nil
 head-goes-on [] s e not-nil are = absurd (not-nil refl)
 head-goes-on (line ∷ ls) s e not-nil are = (
   subst T (sym (on-lines (line ∷ ls) 1 start s e)) (all-intro (begins head-words) (line ∷ ls) are),
-  asked-once (read-head line ls s e .one-thing),
+  asked-lines line ls 1 start s e,
 )
 
 -- the lines with one more that hides a name, where those before it are read to a state and those behind it are read one line down
@@ -168,12 +169,12 @@ lines-more ls ms s name e room w =
     rw (w .with-it)
     (with-hide (w .front) (w .hide-line) (w .others) u (lowered (u .hidden ++ (name ∷ [])) (u .names ++ (name ∷ [])) u) s here
     (read-hide (1 + length (w .front)) u name (w .hide-line) (w .ended) (w .hides) (w .a-name) on asked (within-limits (w .front) u here) room-here)
-    (lines-lowered exclude-names name (w .others) (1 + length (w .front)) u s _ _ later laws room (one-at-end u name)))
+    (lines-lowered exclude-names name (w .others) (1 + length (w .front)) u s _ _ later laws room (one-at-end u name) (w .no-ask) asked))
 
 -- ---- the answers
 
 -- a file with a line is its lines, read from the start
-read-by-lines : (file : List ℕ) → lines file ≢ [] → read-file exclude-names file ≡ read-lines exclude-names 1 start (lines file)
+pub read-by-lines : (file : List ℕ) → lines file ≢ [] → read-file exclude-names file ≡ read-lines exclude-names 1 start (lines file)
 unfolding read-file lines
 read-by-lines [] some-line = absurd (some-line refl)
 read-by-lines (b ∷ bs) some-line = refl
@@ -183,14 +184,10 @@ not-none : (front : List Line) (line : Line) (others : List Line) → front ++ (
 not-none [] line others e = let z : _≡_ {A = ℕ} 0 1 = cc in omega arith
 not-none (l ∷ front) line others e = let z : _≡_ {A = ℕ} 0 1 = cc in omega arith
 
--- the lines of two lists that are told alike
-lines-of : {l m : List ℕ} {v v′ r r′ : ℕ} → list l v r ≡ list m v′ r′ → l ≡ m
-lines-of e = cc
-
--- the kept lines of an ask whose list is that of another state, moved
-followed-moved : (a : Ask) (s t : State) → listing a (t .decls) (t .roots) ≡ moved-outcome down (listing a (s .decls) (s .roots)) → followed-list a t ≡ map down (followed-list a s)
-unfolding listing moved-outcome
-followed-moved a s t e = lines-of e
+-- the kept lines of an ask whose answer is that of another state, moved
+followed-moved : (a : Ask) (s t : State) → position (t .decls) (t .roots) a ≡ moved-position down (position (s .decls) (s .roots) a) → followed-list a t ≡ map down (followed-list a s)
+unfolding position moved-position
+followed-moved a s t e = ap (λ (p : Position). p .kept) e
 
 module _ (file file′ : List ℕ) (s : State) (hidden names : List Name) (e : Lines-read file s) (e′ : Lines-read file′ (lowered hidden names s)) where
   here : Names-on-lines file s
@@ -244,7 +241,7 @@ module _ (file file′ : List ℕ) (s : State) (hidden names : List Name) (e : L
       parts : (a : Ask) → Bodies-followed a s (followed-list a s)
       parts a = list-followed file s e a
 
-      listed : (a : Ask) → listing a (map (moved down) (s .decls)) (map (moved-root down) (s .roots)) ≡ moved-outcome down (listing a (s .decls) (s .roots))
+      listed : (a : Ask) → position (map (moved down) (s .decls)) (map (moved-root down) (s .roots)) a ≡ moved-position down (position (s .decls) (s .roots) a)
       listed a = lines-apart down (s .decls) (s .roots) a
 
       followed-down : (a : Ask) → followed-list a (lowered hidden names s) ≡ map down (followed-list a s)

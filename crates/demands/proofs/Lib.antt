@@ -19,8 +19,10 @@ pub mod Asks
 pub mod NeverFree
 pub mod Moved
 pub mod SameNames
+pub mod Shifted
 pub mod Unspelled
 pub mod Hidden
+pub mod AskedAlone
 pub mod Refusals
 pub mod SaidLines
 pub mod Demand1
@@ -37,6 +39,7 @@ pub mod Demand2
 pub mod Order
 pub mod Bodies
 pub mod Room
+pub mod Sixteen
 pub mod OrderCases
 pub mod Options
 pub mod History

@@ -1,6 +1,6 @@
 -- The fields of an accepted line by their sorts: the names that it spells, the terms that it names, which lines count as term
 -- lines and as record lines, and what a line of the head says.
-use Prim.Native.Nat.{ℕ, zero, suc, _+_, _≤_}
+use Prim.Native.Nat.{ℕ, zero, suc, _+_, _≤_, _<_}
 use Prim.Native.String.{String}
 use native.Mathlib.Nat.{zero-add}
 use native.Mathlib.Omega.{arith}
@@ -8,22 +8,22 @@ use mathlib.Core.Path.{_≡_, refl, sym, _∙_, ap}
 use mathlib.Core.Bool.{Bool, true, false, cond}
 use mathlib.Core.List.{List, [], _∷_, append-nil}
 use mathlib.Core.Option.{some, Option·none-ne-some, Option·some-injective}
-use lib.Dec.{T, leb→le, eqb}
+use lib.Dec.{T, T-not, not-T, leb, leb→le, nleb→lt, eqb}
 use lib.ListN.{length, getD, length-append}
 use Rattle.model.specs.Lists.{any, concat, collect, holds}
 use Rattle.model.specs.Names.{Name, bytes, by-byte, order, is-same, same}
 use Rattle.model.specs.Lines.{Field, is-name}
 use Rattle.model.specs.Terms.{Node, FreeV, Leaf, Forall, Exists, Labeled, Term, references}
-use Rattle.model.specs.Reading.{Result, ok, refused, _>>=_, need, name-field, number-field, term-field, op-words, word, kinds, next, many, rest, end, groups, Head, ask, hide, Content, head, term, assume, fun, def, root, quantifier, most-query, most-options, content, State, Place, an-ask, a-hide, another, place, may-stand, parse, hidden-by, heads, nodes, spelled-by, spelled, summarize-decl, root-of}
+use Rattle.model.specs.Reading.{Result, ok, refused, _>>=_, need, name-field, number-field, term-field, op-words, word, kinds, next, many, rest, end, groups, Head, ask, hide, Content, head, term, assume, fun, def, root, quantifier, most-query, most-options, content, State, Place, an-ask, a-hide, another, place, may-stand, is-position, most-asks, parse, hidden-by, heads, nodes, spelled-by, spelled, summarize-decl, root-of}
 use Rattle.model.specs.declared.LineKind.{LineKind}
 use Rattle.model.specs.declared.LineKind.the-variants as kind
 use Rattle.model.specs.declared.Refusal.the-variants as refusal
-use Rattle.model.proofs.ListLaws.{true-T}
+use Rattle.model.proofs.ListLaws.{true-T, T-and}
 use Rattle.model.proofs.SetLaws.{same-eq}
 use Rattle.model.proofs.ResultLaws.{cond-ok, ok-eq}
 use Rattle.demands.specs.LineForm.{Sort, a-name, a-term, nothing, may, value, group-due, quantifier-due, in-order, then-terms, due, sort-due, is-a-name, is-a-term, fields-due, fields-of}
 use Rattle.demands.specs.Counts.{term-words, record-words, ask-words, hide-words, is-word}
-use Rattle.laws.proofs.ReadingLaws.{number-ok, parse-ok}
+use Rattle.laws.proofs.ReadingLaws.{number-ok, is-past, parse-ok}
 use Rattle.demands.proofs.TermNumbers.{Gives, value as gives-value, no-value, any-value, given, gives-bind}
 use Rattle.demands.proofs.LineWalk.{number-value}
 
@@ -98,9 +98,9 @@ gives-name f = gives-by (name-field f) (λ n e. ok-eq (cond-ok (is-name f) (ok f
 gives-number : (limit : ℕ) (f : Field) → Gives (λ n. value f ≡ n) (number-field limit f)
 gives-number limit f = gives-by (number-field limit f) (λ n e. number-value limit f e)
 
--- a field that is a number is at most its limit
-gives-at-most : (limit : ℕ) (f : Field) → Gives (λ n. n ≤ limit) (number-field limit f)
-gives-at-most limit f = gives-by (number-field limit f) (λ n e. leb→le n limit (number-ok limit f e .1))
+-- and is at most its limit
+gives-at-most : (limit : ℕ) (f : Field) → Gives (λ n. (value f ≡ n) × (n ≤ limit)) (number-field limit f)
+gives-at-most limit f = gives-by (number-field limit f) (λ n e. (number-value limit f e, leb→le n limit (number-ok limit f e .1)))
 
 -- the fields that are left are as many as their values
 gives-as-many : {A : Type 0} (judge : Field → Result A) (fs : List Field) → Gives (λ xs. length fs ≡ length xs) (rest judge fs)
@@ -201,17 +201,21 @@ kind-place kind.Root = refl
 pub known-place : (f : Field) {k : LineKind} → word kinds f ≡ some k → place k ≡ place-by (is-word ask-words f) (is-word hide-words f)
 known-place f {k} known = kind-place k ∙ ap (λ g. place-by (is-word ask-words g) (is-word hide-words g)) (sym (word-exact f known))
 
--- the line of the head that a line is, by whether it is an ask or a hide: a query and options in their ranges, or the field that
--- is its name; any other is none
-pub data Head-by (name : Field) : Bool → Bool → List Head → Type 0 where
-  one-ask : {q options : ℕ} → q ≤ most-query → options ≤ most-options → Head-by name true false (ask q options ∷ [])
-  one-hide : Head-by name false true (hide name ∷ [])
-  no-head : Head-by name false false []
+-- the line of the head that a line is, by whether it is an ask or a hide, and by the two fields after its kind: the values of
+-- both, a query and options in their ranges; or the first, its name; any other is none
+pub data Head-by (first second : Field) : Bool → Bool → List Head → Type 0 where
+  one-ask : value first ≤ most-query → value second ≤ most-options → Head-by first second true false (ask (value first) (value second) ∷ [])
+  one-hide : Head-by first second false true (hide first ∷ [])
+  no-head : Head-by first second false false []
 
--- what a line says, by whether it counts as an ask, as a hide, as a term line or as a record line, by the field after its kind, by
--- its names and by the terms that it names
-pub record Formed (is-ask is-hide is-term is-record : Bool) (first : Field) (named terms : List Field) (c : Content) : Type 0 where
-  pub headed : Head-by first is-ask is-hide (heads c)
+-- an ask by its two numbers
+said-ask : (f g : Field) {q o : ℕ} → value f ≡ q → value g ≡ o → q ≤ most-query → o ≤ most-options → Head-by f g true false (ask q o ∷ [])
+said-ask f g e d low few = rw (← e, ← d) (one-ask (rw e low) (rw d few))
+
+-- what a line says, by whether it counts as an ask, as a hide, as a term line or as a record line, by the two fields after its
+-- kind, by its names and by the terms that it names
+pub record Formed (is-ask is-hide is-term is-record : Bool) (first second : Field) (named terms : List Field) (c : Content) : Type 0 where
+  pub headed : Head-by first second is-ask is-hide (heads c)
   pub names : named ≡ spelled c
   pub term-lines : length (nodes c) ≡ cond is-term 1 0
   pub term-references : length (collect references (nodes c)) ≡ cond is-term (length terms) 0
@@ -221,21 +225,21 @@ pub record Formed (is-ask is-hide is-term is-record : Bool) (first : Field) (nam
 -- the same of the fields of a line of a kind
 abbrev Formed-as : Bool → Bool → Bool → Bool → LineKind → List Field → Content → Type 0
 Formed-as is-ask is-hide is-term is-record k fs c =
-    Formed is-ask is-hide is-term is-record (getD fs 0 []) (fields-due is-a-name (due k) fs) (fields-due is-a-term (due k) fs) c
+    Formed is-ask is-hide is-term is-record (getD fs 0 []) (getD fs 1 []) (fields-due is-a-name (due k) fs) (fields-due is-a-term (due k) fs) c
 
 -- a term line
-term-formed : {first : Field} {named terms : List Field} {node : Node} → named ≡ spelled-by node → length terms ≡ length (references node)
-    → Formed false false true false first named terms (term node)
+term-formed : {first second : Field} {named terms : List Field} {node : Node} → named ≡ spelled-by node → length terms ≡ length (references node)
+    → Formed false false true false first second named terms (term node)
 unfolding heads hidden-by spelled nodes collect summarize-decl root-of
 term-formed {node} e h =
     record { headed = no-head; names = e; term-lines = refl; term-references = rw append-nil (sym h); record-lines = λ exclude terms n. refl }
 
 -- a line that is no term line
-other-formed : {is-ask is-hide is-record : Bool} {first : Field} {named terms : List Field} {c : Content} → Head-by first is-ask is-hide (heads c)
+other-formed : {is-ask is-hide is-record : Bool} {first second : Field} {named terms : List Field} {c : Content} → Head-by first second is-ask is-hide (heads c)
     → nodes c ≡ []
     → ((exclude : List Name) (terms : List Term) (n : ℕ)
     → length (collect hidden-by (heads c)) + (length (summarize-decl exclude terms n c) + length (root-of exclude terms n c)) ≡ cond is-record 1 0)
-    → named ≡ spelled c → Formed is-ask is-hide false is-record first named terms c
+    → named ≡ spelled c → Formed is-ask is-hide false is-record first second named terms c
 unfolding collect
 other-formed a e h names = record { headed = a; names = names; term-lines = rw e; term-references = rw e; record-lines = h }
 
@@ -270,7 +274,7 @@ module _ (count : ℕ) where
       heads hidden-by spelled spelled-by references nodes collect summarize-decl root-of
   kind-formed kind.Ask =
       gives-field _ (gives-at-most most-query) _ (λ f q u. gives-field _ (gives-at-most most-options) _ (λ g o v.
-      gives-ended _ (head (ask q o)) (other-formed (one-ask u v) refl (λ exclude terms n. refl) refl)))
+      gives-ended _ (head (ask q o)) (other-formed (said-ask f g (u .0) (v .0) (u .1) (v .1)) refl (λ exclude terms n. refl) refl)))
   kind-formed kind.Hide =
       gives-field _ gives-name _ (λ f name e. gives-ended _ (head (hide name)) (other-formed (rw e one-hide) refl (λ exclude terms n. refl) (rw e)))
   kind-formed kind.Free = gives-field _ gives-name _ (λ f name e. gives-ended _ (term (FreeV name)) (term-formed (rw e) refl))
@@ -311,7 +315,7 @@ fields-known of-sort f fs e = rw (e, fields-of)
 -- an accepted line says what its fields are
 pub line-fields : (s : State) (fs : List Field) {c : Content} → parse s fs ≡ ok c
     → Formed (is-word ask-words (getD fs 0 [])) (is-word hide-words (getD fs 0 [])) (is-word term-words (getD fs 0 [])) (is-word record-words (getD fs 0 []))
-    (getD fs 1 []) (fields-of is-a-name fs) (fields-of is-a-term fs) c
+    (getD fs 1 []) (getD fs 2 []) (fields-of is-a-name fs) (fields-of is-a-term fs) c
 line-fields s fs e =
     let p = parse-ok s fs e in
     let is = word-exact (p .kind-word) (p .known) in
@@ -324,3 +328,20 @@ pub line-stands : (s : State) (fs : List Field) {c : Content} → parse s fs ≡
 line-stands s fs e =
     let p = parse-ok s fs e in
     rw (p .split, ← (known-place (p .kind-word) (p .known))) (p .stands)
+
+-- a line is a position exactly where it is an ask
+pub position-by : (is-ask is-hide : Bool) → is-position (place-by is-ask is-hide) ≡ is-ask
+unfolding is-position place-by
+position-by true is-hide = refl
+position-by false true = refl
+position-by false false = refl
+
+-- where it is one, there are fewer than sixteen before it
+pub line-number : (s : State) (fs : List Field) {c : Content} → parse s fs ≡ ok c → T (is-word ask-words (getD fs 0 [])) → length (s .asks) < 16
+line-number s fs e t =
+    let p = parse-ok s fs e in
+    let f = p .kind-word in
+    let at : is-position (place (p .kind)) ≡ is-word ask-words f = ap is-position (known-place f (p .known)) ∙ position-by (is-word ask-words f) (is-word hide-words f) in
+    let is : T (is-position (place (p .kind))) = rw (at) (rw (p .split) at t) in
+    nleb→lt most-asks (length (s .asks)) (not-T (leb most-asks (length (s .asks))) (λ u.
+    T-not (is-past s (p .kind)) (p .in-number) (T-and (is-position (place (p .kind))) (leb most-asks (length (s .asks))) .1 (is, u))))

@@ -1,24 +1,24 @@
--- Demand 1, the refusals 1 to 4: a line is refused exactly for a fault of its form.
+-- Demand 1, the refusals 1 to 4 and 13: a line is refused exactly for a fault of its form.
 use Prim.Native.Nat.{ℕ, _+_, _≤_}
 use native.Mathlib.Omega.{arith}
 use mathlib.Core.Path.{_≡_, refl, sym, _∙_}
-use mathlib.Core.Bool.{Bool, cond, not, Bool·not-not}
+use mathlib.Core.Bool.{Bool, true, false, cond, not, Bool·not-not}
 use mathlib.Core.List.{List, [], _∷_}
 use mathlib.Core.Logic.{_↔_, _≢_, _⊎_, inl, inr, Iff·trans}
 use mathlib.Core.Option.{Option, none, some, Option·some-injective, Option·none-ne-some}
-use lib.Dec.{T, T-not, not-T, eqb, eqb→eq, eqb-refl}
+use lib.Dec.{T, T-not, not-T, leb, leb→le, le→leb, nleb→lt, eqb, eqb→eq, eqb-refl}
 use lib.ListN.{length}
 use Rattle.model.specs.Lists.{holds}
 use Rattle.model.specs.Lines.{Field}
 use Rattle.model.specs.Terms.{Node}
-use Rattle.model.specs.Reading.{Result, ok, refused, need, next, kinds, word, quantifier, Content, content, State, place, may-stand, kind-field, fixed-count, parse}
+use Rattle.model.specs.Reading.{Result, ok, refused, _>>=_, need, next, kinds, word, quantifier, Content, content, State, place, may-stand, is-position, most-asks, kind-field, fixed-count, parse}
 use Rattle.model.specs.declared.LineKind.{LineKind}
 use Rattle.model.specs.declared.LineKind.the-variants as kind
 use Rattle.model.specs.declared.Refusal.{Refusal}
 use Rattle.model.specs.declared.Refusal.the-variants as refusal
-use Rattle.model.proofs.ListLaws.{T-dec, cond-true, cond-false}
-use Rattle.model.proofs.ResultLaws.{bind-assoc, cond-bind}
-use Rattle.demands.specs.LineForm.{Sort, nothing, group-due, quantifier-due, in-order, then-terms, due, Refused-fields, Allowed, Faulty-line, unknown, misplaced, miscounted, field, Refused-line, Fixed-counts}
+use Rattle.model.proofs.ListLaws.{T-and, T-dec, cond-true, cond-false}
+use Rattle.demands.specs.LineForm.{Sort, nothing, group-due, quantifier-due, in-order, then-terms, due, Refused-fields, Allowed, Faulty-line, unknown, misplaced, too-many, miscounted, field, Refused-line, Fixed-counts}
+use Rattle.laws.proofs.ReadingLaws.{is-past}
 use Rattle.demands.proofs.LineWalk.{why, refused-why, walk, walk-exact, walk-next, walk-rest, walk-groups, walk-end, name-judged, number-judged, number-value, term-judged, op-judged}
 
 -- an `all` or a `some` is refused for what the walk meets
@@ -71,31 +71,60 @@ counted-exact l none = (λ t fixed e. absurd (Option·none-ne-some fixed e), λ 
 counted-exact l (some c) =
     (λ t fixed e. eqb→eq l c (rw Bool·not-not at t) ∙ Option·some-injective c fixed e, λ h. rw (h c refl, Bool·not-not) (eqb-refl c))
 
+-- a kind that may stand, and is no ask too many
+allowed : (s : State) (k : LineKind) → T (may-stand s (place k)) → T (not (is-past s k)) → Allowed s k
+allowed s k t u =
+    record {
+      stands = t;
+      in-number = λ p. nleb→lt most-asks (length (s .asks))
+          (not-T (leb most-asks (length (s .asks))) (λ v. T-not (is-past s k) u (T-and (is-position (place k)) (leb most-asks (length (s .asks))) .1 (p, v))));
+    }
+
+-- and back
+pub allowed-past : (s : State) (k : LineKind) → Allowed s k → T (not (is-past s k))
+allowed-past s k a =
+    not-T (is-past s k) (λ t. let (p, v) = T-and (is-position (place k)) (leb most-asks (length (s .asks))) .0 t in
+    omega (arith, a .in-number p, leb→le most-asks (length (s .asks)) v))
+
+-- the two tests of a kind, and what reads on
+kind-steps : (s : State) (k : LineKind) (fs : List Field) (b : Bool) (on : LineKind × List Field → Result Content)
+    → (_>>=_ {B = LineKind × List Field} (cond b (ok k) (refused refusal.Form) >>= λ p. cond (is-past s p) (refused refusal.FullAsks) (ok p)) (λ a. ok (a, fs)) >>= on)
+    ≡ cond b (cond (is-past s k) (refused refusal.FullAsks) (on (k, fs))) (refused refusal.Form)
+kind-steps s k fs true on = past (is-past s k)
+  where
+    past : (d : Bool) → (_>>=_ {B = LineKind × List Field} (cond d (refused refusal.FullAsks) (ok k)) (λ a. ok (a, fs)) >>= on) ≡ cond d (refused refusal.FullAsks) (on (k, fs))
+    past true = refl
+    past false = refl
+kind-steps s k fs false on = refl
+
 module _ (s : State) (f : Field) (fs : List Field) where
   -- a line of an unknown kind is refused
-  parse-unknown : word kinds f ≡ none → parse s (f ∷ fs) ≡ refused refusal.Form
+  pub parse-unknown : word kinds f ≡ none → parse s (f ∷ fs) ≡ refused refusal.Form
   unfolding parse next kind-field need
   parse-unknown e = rw e
 
   module _ {k : LineKind} (e : word kinds f ≡ some k) where
     -- the fields after the kind, judged after the field count
-    abbrev after-kind : Result Content
+    abbrev pub after-kind : Result Content
     after-kind = cond (other-count (length (f ∷ fs)) (fixed-count s k)) (refused refusal.Form) (content k (length (s .terms)) fs)
 
-    -- a line of a known kind is tested for the kind's place and the field count before its fields are read
-    parse-known : parse s (f ∷ fs) ≡ cond (may-stand s (place k)) after-kind (refused refusal.Form)
+    -- a line of a known kind is tested for the kind's place, for 13 and for the field count before its fields are read
+    pub parse-known : parse s (f ∷ fs) ≡ cond (may-stand s (place k)) (cond (is-past s k) (refused refusal.FullAsks) after-kind) (refused refusal.Form)
     unfolding parse next kind-field need
-    parse-known =
-        rw e (bind-assoc (cond (may-stand s (place k)) (ok k) (refused refusal.Form)) _ _ ∙ cond-bind (may-stand s (place k)) k refusal.Form _)
+    parse-known = rw e (kind-steps s k fs (may-stand s (place k)) _)
 
     -- a line of a kind that may not stand here is refused
     parse-misplaced : T (not (may-stand s (place k))) → parse s (f ∷ fs) ≡ refused refusal.Form
     parse-misplaced t = parse-known ∙ cond-false (may-stand s (place k)) _ _ t
 
+    -- the seventeenth ask is refused by 13
+    parse-past : T (may-stand s (place k)) → T (is-past s k) → parse s (f ∷ fs) ≡ refused refusal.FullAsks
+    parse-past t u = parse-known ∙ cond-true (may-stand s (place k)) _ _ t ∙ cond-true (is-past s k) _ _ u
+
     module _ (a : Allowed s k) where
       -- any other line is judged by its field count, then by its fields
       parse-allowed : parse s (f ∷ fs) ≡ after-kind
-      parse-allowed = parse-known ∙ cond-true (may-stand s (place k)) _ _ (a .stands)
+      parse-allowed = parse-known ∙ cond-true (may-stand s (place k)) _ _ (a .stands) ∙ cond-false (is-past s k) _ _ (allowed-past s k a)
 
       -- a line with a field count other than the fixed one is refused
       parse-miscounted : T (other-count (length (f ∷ fs)) (fixed-count s k)) → parse s (f ∷ fs) ≡ refused refusal.Form
@@ -106,9 +135,9 @@ module _ (s : State) (f : Field) (fs : List Field) where
       parse-fields t = parse-allowed ∙ cond-false (other-count (length (f ∷ fs)) (fixed-count s k)) _ _ t
 
   module _ {r : Refusal} (q : parse s (f ∷ fs) ≡ refused r) where
-    -- a line that is refused with 1 has the refusal r only if r is 1
-    formed : parse s (f ∷ fs) ≡ refused refusal.Form → Faulty-line s (f ∷ fs) refusal.Form → Faulty-line s (f ∷ fs) r
-    formed p x = let e : r ≡ refusal.Form = cc in rw e x
+    -- a line that is refused with x has the refusal r only if r is x
+    formed : {x : Refusal} → parse s (f ∷ fs) ≡ refused x → Faulty-line s (f ∷ fs) x → Faulty-line s (f ∷ fs) r
+    formed {x} p y = let e : r ≡ x = cc in rw e y
 
     -- a line that is refused is faulty
     line-faulty : Faulty-line s (f ∷ fs) r
@@ -121,8 +150,14 @@ module _ (s : State) (f : Field) (fs : List Field) where
         by-count {k} e a (inr t) =
             field e a (counted-exact (length (f ∷ fs)) (fixed-count s k) .0 t) (refused-fields k (length (s .terms)) fs r .0 (sym (parse-fields e a t) ∙ q))
 
+        by-number : {k : LineKind} → word kinds f ≡ some k → T (may-stand s (place k)) → T (is-past s k) ⊎ T (not (is-past s k)) → Faulty-line s (f ∷ fs) r
+        by-number {k} e t (inl u) =
+            let (p, v) = T-and (is-position (place k)) (leb most-asks (length (s .asks))) .0 u in
+            formed (parse-past e t u) (too-many e t p (leb→le most-asks (length (s .asks)) v))
+        by-number {k} e t (inr u) = by-count e (allowed s k t u) (T-dec (other-count (length (f ∷ fs)) (fixed-count s k)))
+
         by-place : {k : LineKind} → word kinds f ≡ some k → T (may-stand s (place k)) ⊎ T (not (may-stand s (place k))) → Faulty-line s (f ∷ fs) r
-        by-place {k} e (inl t) = by-count e (record { stands = t }) (T-dec (other-count (length (f ∷ fs)) (fixed-count s k)))
+        by-place {k} e (inl t) = by-number e t (T-dec (is-past s k))
         by-place {k} e (inr t) = formed (parse-misplaced e t) (misplaced e t)
 
         by-kind : (o : Option LineKind) → word kinds f ≡ o → Faulty-line s (f ∷ fs) r
@@ -133,12 +168,14 @@ module _ (s : State) (f : Field) (fs : List Field) where
 faulty-refused : {s : State} {f : Field} {fs : List Field} {r : Refusal} → Faulty-line s (f ∷ fs) r → parse s (f ∷ fs) ≡ refused r
 faulty-refused {s} {fs} (unknown {f} e) = parse-unknown s f fs e
 faulty-refused {s} {fs} (misplaced {f} e t) = parse-misplaced s f fs e t
+faulty-refused {s} {fs} (too-many {f} {k} e t p n) =
+    parse-past s f fs e t (T-and (is-position (place k)) (leb most-asks (length (s .asks))) .1 (p, le→leb most-asks (length (s .asks)) n))
 faulty-refused {s} {fs} (miscounted {f} {k} {fixed} e a h d) =
     parse-miscounted s f fs e a (other-count-exact (length (f ∷ fs)) (fixed-count s k) .1 (fixed, h, d))
 faulty-refused {s} {fs} {r} (field {f} {k} e a c x) =
     parse-fields s f fs e a (counted-exact (length (f ∷ fs)) (fixed-count s k) .1 c) ∙ refused-fields k (length (s .terms)) fs r .1 x
 
--- a line is refused with 1 to 4 exactly for a fault
+-- a line is refused with 1 to 4 or 13 exactly for a fault
 pub refused-line : Refused-line
 refused-line s f fs r = (line-faulty s f fs, faulty-refused)
 

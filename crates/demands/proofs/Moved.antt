@@ -12,9 +12,9 @@ use Rattle.model.specs.Pruning.{Map, init-macro-freenames}
 use Rattle.model.specs.Rounds.{Run, first-run, most-rounds, facts, definitions, declarations, macros, listed, filed, triggers-in, retainable, met-after, triggered, fresh, after-round, next-scanned, rounds-from, is-ambient, is-ambient-root, asks-for, goal-roots, ambient-roots, first-scanned, run, visits}
 use Rattle.model.specs.Kept.{reached-facts, ambients, kept-facts, kept-names, first-met, kept-decls, kept}
 use Rattle.model.specs.Bodies.{with-bodies, followed, all-followed, added-names, of-names, added-for, kept-followed}
-use Rattle.model.specs.Outcome.{listing}
+use Rattle.model.specs.Outcome.{position}
 use Rattle.model.proofs.ListLaws.{cond-ap, collect-map, collect-cong, map-collect, map-reverse}
-use Rattle.demands.specs.Moved.{moved-fact, moved-decl, moved, moved-root, moved-outcome, Lines-apart, Kept-apart}
+use Rattle.demands.specs.Moved.{moved-fact, moved-decl, moved, moved-root, moved-position, Lines-apart, Kept-apart}
 
 -- to keep of changed elements is to change those kept, where the test does not see the change
 keep-map : {A B : Type 0} (f : A → B) (test : B → Bool) (l : List A) → keep test (map f l) ≡ map f (keep (λ x. test (f x)) l)
@@ -249,7 +249,7 @@ module _ (to : ℕ → ℕ) where
 
 -- what an ask comes to
 pub lines-apart : Lines-apart
-unfolding listing moved-outcome visits
+unfolding position moved-position visits
 lines-apart to decls roots a =
     rw (
       moved-run to decls roots a,

@@ -1,8 +1,9 @@
--- Two accepted files that differ, line for line, only in root lines of other queries give the same list.
+-- Two accepted files that differ, line for line, only in root lines of queries other than an ask's answer it alike.
 use Prim.Native.Nat.{ℕ, _+_}
+use native.Mathlib.Omega.{arith}
 use mathlib.Core.Path.{_≡_, refl, sym, _∙_, ap}
 use mathlib.Core.Logic.{_↔_}
-use mathlib.Core.List.{List, [], _∷_, _++_, append-nil, List·Memᴰ}
+use mathlib.Core.List.{List, [], _∷_, _++_, map, map-append, append-nil, List·Memᴰ}
 use mathlib.Core.Option.{some, Option·some-injective}
 use lib.Dec.{T, not-T, eqb, eqb→eq, eqb-refl}
 use lib.ListN.{length}
@@ -14,13 +15,15 @@ use Rattle.model.specs.Reading.{ok, next, name-field, number-field, term-field,
 use Rattle.model.specs.Rounds.{asks-for, goal-roots, first-scanned, run}
 use Rattle.model.specs.Kept.{kept-names}
 use Rattle.model.specs.Bodies.{kept-followed}
-use Rattle.model.specs.Outcome.{first-ask, goal, listing, filtered}
+use Rattle.model.specs.Outcome.{position, filtered}
 use Rattle.model.specs.declared.LineKind.{LineKind}
 use Rattle.model.specs.declared.LineKind.the-variants as kind
 use Rattle.model.proofs.ListLaws.{any-intro, any-elim, keep-append, cond-false}
 use Rattle.model.proofs.ResultLaws.{ok-eq, bind-ok}
+use Rattle.demands.specs.LinesRead.{At}
 use Rattle.demands.specs.Queries.{Other-root, Alike, end as no-lines, same as same-line, roots as root-lines, Other-queries-do-not-matter, Filtered-alike}
 use Rattle.laws.proofs.ReadingLaws.{next-ok, end-ok, number-ok, Parsed, parse-ok, line-read, lines-read, none-read, file-read}
+use Rattle.demands.proofs.Moved.{map-length}
 
 -- a query is asked for exactly where it is one of the ask's
 pub asked-query : (a : Ask) (q : ℕ) → T (asks-for a q) ↔ List·Memᴰ q (a .queries)
@@ -166,20 +169,32 @@ unfolding kept-followed kept-names
 kept-roots a decls roots roots′ reached e = rw e
 
 -- what an ask comes to depends on the roots of its queries only
-listing-roots : (a : Ask) (decls : List Summary) (roots roots′ : List Root) → goal-roots a roots ≡ goal-roots a roots′ → listing a decls roots ≡ listing a decls roots′
-unfolding listing
-listing-roots a decls roots roots′ e = rw (run-roots a decls roots roots′ e, kept-roots a decls roots roots′ _ e)
+position-roots : (a : Ask) (decls : List Summary) (roots roots′ : List Root) → goal-roots a roots ≡ goal-roots a roots′
+    → position decls roots a ≡ position decls roots′ a
+unfolding position
+position-roots a decls roots roots′ e = rw (run-roots a decls roots roots′ e, kept-roots a decls roots roots′ _ e)
 
 -- root lines of other queries do not matter
 pub other-queries-do-not-matter : Other-queries-do-not-matter
 other-queries-do-not-matter file file′ s s′ e e′ a alike =
     let agree = agree-lines exclude-names alike 1 start start s s′ (file-read exclude-names file s e) (file-read exclude-names file′ s′ e′)
     (record { asks = refl; hides = refl; tables = refl; records = refl; queried = refl }) in
-    record { asks = agree .asks; listed = rw (agree .records) (listing-roots a (s′ .decls) (s .roots) (s′ .roots) (agree .queried)) }
+    record { asks = agree .asks; listed = rw (agree .records) (position-roots a (s′ .decls) (s .roots) (s′ .roots) (agree .queried)) }
 
--- two such files give the same list
+-- where an element stands, what a function gives of it stands in what it gives of the list
+pub at-map : {A B : Type 0} (f : A → B) {l : List A} {i : ℕ} {x : A} → At l i x → At (map f l) i (f x)
+at-map f {l} {i} {x} h =
+    let place = h .place in
+    record {
+      before = map f (h .before);
+      after = map f (h .after);
+      are = ap (map f) (h .are) ∙ map-append f (h .before) (x ∷ h .after);
+      place = omega (arith, map-length f (h .before));
+    }
+
+-- at each place two such files answer the same
 pub filtered-alike : Filtered-alike
 unfolding filtered
-filtered-alike file file′ s s′ e e′ alike =
-    let same = other-queries-do-not-matter file file′ s s′ e e′ (goal s) alike in
-    same .listed ∙ ap (λ asks. listing (first-ask asks) (s′ .decls) (s′ .roots)) (same .asks)
+filtered-alike file file′ s s′ e e′ i a at alike =
+    let same = other-queries-do-not-matter file file′ s s′ e e′ a alike in
+    (position (s′ .decls) (s′ .roots) a, rw (same .listed) at (at-map (position (s .decls) (s .roots)) at), at-map (position (s′ .decls) (s′ .roots)) (rw (same .asks) at at))

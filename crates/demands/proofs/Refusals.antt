@@ -1,5 +1,5 @@
--- Which refusals reading gives, and where: the fields of a line give 1 to 4, a line these, 5, 6 and 10 to 12, a file those of the
--- first line that is refused.
+-- Which refusals reading gives, and where: the fields of a line give 1 to 4 and 13, a line these, 5, 6 and 10 to 12, a file
+-- those of the first line that is refused.
 use Prim.Native.Nat.{ℕ, _+_}
 use native.Mathlib.Nat.{add-zero}
 use native.Mathlib.Omega.{arith}
@@ -18,8 +18,8 @@ use Rattle.model.specs.declared.Refusal.{Refusal}
 use Rattle.model.specs.declared.Refusal.the-variants as refusal
 use Rattle.model.proofs.ListLaws.{cond-case}
 use Rattle.model.proofs.ResultLaws.{not-ok}
-use Rattle.demands.specs.LineForm.{Sort, a-name, a-number, a-term, an-op-word, number-fault, term-fault, fault, Faulty, lacking, left-over, not-so, later, Faulty-line, unknown, misplaced, miscounted, field}
-use Rattle.demands.specs.Demand1.{Of-line, Of-fields, form as of-form, name as of-name, number as of-number, term as of-term, repeated as of-repeated, full-names, full-terms, full-records, full-triggers}
+use Rattle.demands.specs.LineForm.{Sort, a-name, a-number, a-term, an-op-word, number-fault, term-fault, fault, Faulty, lacking, left-over, not-so, later, Faulty-line, unknown, misplaced, too-many, miscounted, field}
+use Rattle.demands.specs.Demand1.{Of-line, Of-fields, form as of-form, name as of-name, number as of-number, term as of-term, repeated as of-repeated, full-names, full-terms, full-records, full-triggers, full-asks}
 use Rattle.laws.proofs.ReadingLaws.{Lowest, past-names, past-terms, past-records, past-triggers, Line-view, unended, unparsed, repeated, past-limit, accepted, line-view, lines-read, none-read, not-read}
 use Rattle.demands.proofs.LineForm.{refused-line}
 
@@ -49,23 +49,38 @@ fault-only count an-op-word f = go (word op-words f)
     go (some w) = tt
 
 -- faulty fields are refused by 1 to 4
-faulty-refusal : {k : LineKind} {count : ℕ} {before fs : List Field} {r : Refusal} → Faulty k count before fs r → Of-fields r
+pub faulty-refusal : {k : LineKind} {count : ℕ} {before fs : List Field} {r : Refusal} → Faulty k count before fs r → Of-fields r
 faulty-refusal (lacking e) = of-form
 faulty-refusal (left-over e) = of-form
 faulty-refusal {count} (not-so {f} {s} p e) = rw e at (fault-only count s f)
 faulty-refusal (later p e x) = faulty-refusal x
 
--- a faulty line is refused by 1 to 4
-faulty-line-refusal : {s : State} {all : List Field} {r : Refusal} → Faulty-line s all r → Of-fields r
-faulty-line-refusal (unknown e) = of-form
-faulty-line-refusal (misplaced e t) = of-form
-faulty-line-refusal (miscounted e a h d) = of-form
-faulty-line-refusal (field e a c x) = faulty-refusal x
+-- the refusals of a line's kind and fields: 1 to 4 and 13
+pub data Of-parse : Refusal → Type 0 where
+  bad-form : Of-parse refusal.Form
+  bad-name : Of-parse refusal.Name
+  bad-number : Of-parse refusal.Number
+  bad-term : Of-parse refusal.Term
+  ask-past : Of-parse refusal.FullAsks
 
--- the fields of a line are refused by 1 to 4 alone
-pub parse-refusal : (s : State) (all : List Field) {r : Refusal} → parse s all ≡ refused r → Of-fields r
+pub of-parse : {r : Refusal} → Of-fields r → Of-parse r
+of-parse of-form = bad-form
+of-parse of-name = bad-name
+of-parse of-number = bad-number
+of-parse of-term = bad-term
+
+-- a faulty line is refused by these
+faulty-line-refusal : {s : State} {all : List Field} {r : Refusal} → Faulty-line s all r → Of-parse r
+faulty-line-refusal (unknown e) = bad-form
+faulty-line-refusal (misplaced e t) = bad-form
+faulty-line-refusal (too-many e t p n) = ask-past
+faulty-line-refusal (miscounted e a h d) = bad-form
+faulty-line-refusal (field e a c x) = of-parse (faulty-refusal x)
+
+-- the kind and fields of a line are refused by these alone
+pub parse-refusal : (s : State) (all : List Field) {r : Refusal} → parse s all ≡ refused r → Of-parse r
 unfolding parse next
-parse-refusal s [] {r} e = let is : r ≡ refusal.Form = cc in rw is of-form
+parse-refusal s [] {r} e = let is : r ≡ refusal.Form = cc in rw is bad-form
 parse-refusal s (f ∷ fs) {r} e = faulty-line-refusal (refused-line s f fs r .0 e)
 
 -- the refusals of the fields are refusals of a line
@@ -75,6 +90,14 @@ fields-line of-name = of-name
 fields-line of-number = of-number
 fields-line of-term = of-term
 
+-- so are those of its kind and fields
+parse-line : {r : Refusal} → Of-parse r → Of-line r
+parse-line bad-form = of-form
+parse-line bad-name = of-name
+parse-line bad-number = of-number
+parse-line bad-term = of-term
+parse-line ask-past = full-asks
+
 -- the refusals of the limits are refusals of a line
 limit-line : {s : State} {r : Refusal} → Lowest s r → Of-line r
 limit-line (past-names h) = full-names
@@ -82,20 +105,20 @@ limit-line (past-terms n h) = full-terms
 limit-line (past-records n t h) = full-records
 limit-line (past-triggers n t k h) = full-triggers
 
--- the refusals of the limits are none of the fields
-pub limit-not-fields : {s : State} {r : Refusal} → Lowest s r → Of-fields r → ⊥
-limit-not-fields (past-names h) o = elim o [ ]
-limit-not-fields (past-terms n h) o = elim o [ ]
-limit-not-fields (past-records n t h) o = elim o [ ]
-limit-not-fields (past-triggers n t k h) o = elim o [ ]
+-- the refusals of the limits are none of the kind and fields
+pub limit-not-parse : {s : State} {r : Refusal} → Lowest s r → Of-parse r → ⊥
+limit-not-parse (past-names h) o = elim o [ ]
+limit-not-parse (past-terms n h) o = elim o [ ]
+limit-not-parse (past-records n t h) o = elim o [ ]
+limit-not-parse (past-triggers n t k h) o = elim o [ ]
 
--- a line is refused by 1 to 6 or 10 to 12 alone
+-- a line is refused by 1 to 6 or 10 to 13 alone
 pub line-refusal : (exclude : List Name) (n : ℕ) (s : State) (line : Line) {r : Refusal} → read-line exclude n s line ≡ refused r → Of-line r
 line-refusal exclude n s line {r} e = go (line-view exclude n s line) e
   where
     go : {x : Result State} → Line-view exclude n s line x → x ≡ refused r → Of-line r
     go (unended t) e = let is : r ≡ refusal.Form = cc in rw is of-form
-    go (unparsed {r = q} t p) e = let is : q ≡ r = cc in rw is at (fields-line (parse-refusal s (fields (line .bytes)) p))
+    go (unparsed {r = q} t p) e = let is : q ≡ r = cc in rw is at (parse-line (parse-refusal s (fields (line .bytes)) p))
     go (repeated c t p u) e = let is : r ≡ refusal.Repeated = cc in rw is of-repeated
     go (past-limit {r = q} c t p u v) e = let is : q ≡ r = cc in rw is at (limit-line v)
     go (accepted c t p u v) e = absurd (not-ok (sym e))
@@ -193,7 +216,7 @@ module _ (exclude : List Name) where
   unfolding read-file
   refused-empty = refl
 
-  -- a file is refused by 1 to 6 or 10 to 12 alone
+  -- a file is refused by 1 to 6 or 10 to 13 alone
   pub file-refusal : (file : List ℕ) {r : Refusal} {n : ℕ} → read-file exclude file ≡ refused-at r n → Of-line r
   file-refusal file {r} {n} e =
       ⊎-elim (λ p. rw (p .1) of-form) (λ (l, refusing). line-refusal exclude n (l .state) (l .line) refusing) (file-refused file e)

@@ -4,28 +4,26 @@ use native.Mathlib.Omega.{arith}
 use mathlib.Core.Path.{_≡_, refl, sym, _∙_, ap, subst}
 use mathlib.Core.Logic.{inl, inr, ⊎-elim}
 use mathlib.Core.Bool.{Bool, true, false, cond, not, _&&_, _||_}
-use mathlib.Core.List.{List, [], _∷_, _++_, map, map-append, append-assoc}
-use lib.Dec.{T, leb, le→leb, eqb}
+use mathlib.Core.List.{List, [], _∷_, _++_, map, append-assoc, List·Memᴰ, List·Memᴰ·head, List·Memᴰ·tail}
+use lib.Dec.{T, leb, le→leb}
 use lib.ListN.{length, length-append}
-use Rattle.model.specs.Lists.{all, sum, collect, fold-left, holds}
+use Rattle.model.specs.Lists.{all, collect, fold-left, is-nil}
 use Rattle.model.specs.Names.{Name, mem, diff, same}
-use Rattle.model.specs.Lines.{Line, Field, fields}
-use Rattle.model.specs.Terms.{Term, term as term-of}
-use Rattle.model.specs.Summaries.{free-top-level-names, summarize-assumption}
-use Rattle.model.specs.Reading.{ok, Content, head, term, assume, fun, def, retain, root, Summary, Sum-assume, Sum-definefun, Sum-declfun, Sum-retain, Root, State, read, in-head, Place, an-ask, a-hide, another, place, may-stand, fixed-count, parse, hidden-by, heads, spelled, taken-by, entries-of, uses-of, spell, most-names, most-terms, most-references, most-records, most-entries, most-uses, limits, summarize-decl, trimmed, root-of, excluded, add-line, repeats, read-line, read-lines}
-use Rattle.model.specs.declared.LineKind.{LineKind}
-use Rattle.model.specs.declared.LineKind.the-variants as kind
+use Rattle.model.specs.Lines.{Line, fields}
+use Rattle.model.specs.Terms.{term as term-of}
+use Rattle.model.specs.Summaries.{free-top-level-names}
+use Rattle.model.specs.Reading.{ok, Content, State, read, parse, hidden-by, heads, spelled, spell, most-names, most-terms, most-references, most-records, most-entries, most-uses, limits, summarize-decl, trimmed, root-of, excluded, add-line, repeats, read-line, read-lines}
 use Rattle.model.proofs.ListLaws.{T-and, T-or, T-ext, keep-cong, getD-case, any-append}
 use Rattle.model.proofs.SetLaws.{Within, within-nil, mem-append, mem-cons, mem-intro, mem-elim, mem-first}
-use Rattle.demands.specs.LineForm.{Allowed}
-use Rattle.demands.specs.Moved.{moved-fact, moved-decl, moved, moved-root}
+use Rattle.demands.specs.Counts.{ask-words, begins}
+use Rattle.demands.specs.Moved.{moved, moved-root}
 use Rattle.demands.specs.Hidden.{down, Room-for}
-use Rattle.laws.proofs.ReadingLaws.{within, parse-ok, line-read, lines-read, none-read, added-line}
+use Rattle.laws.proofs.ReadingLaws.{within, line-read, lines-read, none-read, added-line}
 use Rattle.demands.proofs.Refusals.{lines-on}
-use Rattle.demands.proofs.LineForm.{parse-fields}
+use Rattle.demands.proofs.Heads.{asks-none, headed-line}
 use Rattle.demands.proofs.StateLaws.{spelled-exact, State-laws, laws-line}
-use Rattle.demands.proofs.Moved.{map-length, nil-map}
-use Rattle.demands.proofs.SameNames.{same-kind}
+use Rattle.demands.proofs.Moved.{map-length}
+use Rattle.demands.proofs.Shifted.{relaid, add-relaid, repeats-relaid, parse-relaid}
 
 -- the names with this one put between two of them
 pub record Inserted (name : Name) (l m : List Name) : Type 0 where
@@ -74,151 +72,7 @@ inserted-spelled {name} (k ∷ ks) l m other i =
 
 -- the state with its records one line down, these names hidden, and these spelled
 abbrev pub lowered : List Name → List Name → State → State
-lowered hidden names s =
-    record {
-      asks = s .asks;
-      hidden = hidden;
-      terms = s .terms;
-      names = names;
-      decls = map (moved down) (s .decls);
-      roots = map (moved-root down) (s .roots);
-      references = s .references;
-      entries = s .entries;
-      uses = s .uses;
-    }
-
--- what is counted of records one line down
-entries-down : (l : List Summary) → sum (map entries-of (map (moved down) l)) ≡ sum (map entries-of l)
-unfolding sum entries-of moved moved-fact
-entries-down [] = refl
-entries-down (Sum-assume f ∷ l) = rw (entries-down l)
-entries-down (Sum-definefun d ∷ l) = rw (entries-down l)
-entries-down (Sum-declfun d ∷ l) = rw (entries-down l)
-entries-down (Sum-retain ∷ l) = rw (entries-down l)
-
-uses-down : (l : List Summary) → sum (map uses-of (map (moved down) l)) ≡ sum (map uses-of l)
-unfolding sum uses-of moved moved-fact moved-decl
-uses-down [] = refl
-uses-down (Sum-assume f ∷ l) = rw (uses-down l)
-uses-down (Sum-definefun d ∷ l) = rw (uses-down l)
-uses-down (Sum-declfun d ∷ l) = rw (uses-down l)
-uses-down (Sum-retain ∷ l) = rw (uses-down l)
-
-root-uses-down : (l : List Root) → sum (map (λ (r : Root). length (r .free-names)) (map (moved-root down) l)) ≡ sum (map (λ (r : Root). length (r .free-names)) l)
-unfolding sum moved-root
-root-uses-down [] = refl
-root-uses-down (r ∷ l) = rw (root-uses-down l)
-
--- the names that they take
-taken-down : (l : List Summary) → collect taken-by (map (moved down) l) ≡ collect taken-by l
-unfolding collect taken-by moved moved-fact moved-decl
-taken-down [] = refl
-taken-down (Sum-assume f ∷ l) = rw (taken-down l)
-taken-down (Sum-definefun d ∷ l) = rw (taken-down l)
-taken-down (Sum-declfun d ∷ l) = rw (taken-down l)
-taken-down (Sum-retain ∷ l) = taken-down l
-
-module _ (terms : List Term) (out out′ : List Name) (same-free : (t : ℕ) → free-top-level-names out terms t ≡ free-top-level-names out′ terms t) where
-  -- the records of a line that stands one line down, by excluded names that leave the same free names
-  decls-down : (n : ℕ) (c : Content) → summarize-decl out terms (n + 1) c ≡ map (moved down) (summarize-decl out′ terms n c)
-  unfolding summarize-decl summarize-assumption moved moved-fact moved-decl
-  decls-down n (head h) = refl
-  decls-down n (term node) = refl
-  decls-down n (assume name flag t) = rw (same-free t, same-kind terms out out′ same-free name t)
-  decls-down n (fun name) = refl
-  decls-down n (def name t) = rw (same-free t)
-  decls-down n (retain names) = refl
-  decls-down n (root q name t) = refl
-
-  roots-down : (n : ℕ) (c : Content) → root-of out terms (n + 1) c ≡ map (moved-root down) (root-of out′ terms n c)
-  unfolding root-of moved-root
-  roots-down n (head h) = refl
-  roots-down n (term node) = refl
-  roots-down n (assume name flag t) = refl
-  roots-down n (fun name) = refl
-  roots-down n (def name t) = refl
-  roots-down n (retain names) = refl
-  roots-down n (root q name t) = rw (same-free t)
-
-  -- the token that is trimmed
-  same-trimmed : (c : Content) → trimmed out terms c ≡ trimmed out′ terms c
-  unfolding trimmed
-  same-trimmed (head h) = refl
-  same-trimmed (term node) = refl
-  same-trimmed (assume name flag t) = ap (λ k. k .trimmed) (same-kind terms out out′ same-free name t)
-  same-trimmed (fun name) = refl
-  same-trimmed (def name t) = refl
-  same-trimmed (retain names) = refl
-  same-trimmed (root q name t) = refl
-
-module _ (exclude hidden names : List Name) (n : ℕ) (s : State) (c : Content)
-    (same-free : (t : ℕ) → free-top-level-names (exclude ++ hidden) (s .terms) t ≡ free-top-level-names (exclude ++ s .hidden) (s .terms) t) where
-  -- the names that a line spells and trims
-  abbrev said-names : List Name
-  said-names = spelled c ++ trimmed (excluded exclude s) (s .terms) c
-
-  -- a line adds the same, one line down
-  add-lowered : add-line exclude (n + 1) (lowered hidden names s) c
-      ≡ lowered (hidden ++ collect hidden-by (heads c)) (fold-left spell names said-names) (add-line exclude n s c)
-  unfolding add-line excluded
-  add-lowered =
-      let out = exclude ++ s .hidden in
-      rw (
-        same-trimmed (s .terms) (exclude ++ hidden) out same-free c,
-        decls-down (s .terms) (exclude ++ hidden) out same-free n c,
-        roots-down (s .terms) (exclude ++ hidden) out same-free n c,
-        entries-down (summarize-decl out (s .terms) n c),
-        uses-down (summarize-decl out (s .terms) n c),
-        root-uses-down (root-of out (s .terms) n c),
-        map-append (moved down) (s .decls) (summarize-decl out (s .terms) n c),
-        map-append (moved-root down) (s .roots) (root-of out (s .terms) n c),
-      )
-
-  -- it repeats a name where it did
-  repeats-lowered : repeats exclude (n + 1) (lowered hidden names s) c ≡ repeats exclude n s c
-  unfolding repeats excluded
-  repeats-lowered =
-      rw (
-        decls-down (s .terms) (exclude ++ hidden) (exclude ++ s .hidden) same-free n c,
-        taken-down (s .decls),
-        taken-down (summarize-decl (exclude ++ s .hidden) (s .terms) n c),
-      )
-
--- a line may stand where it did
-stands-lowered : (hidden names : List Name) (s : State) (at : Place) → T (may-stand s at) → T (may-stand (lowered hidden names s) at)
-unfolding may-stand in-head
-stands-lowered hidden names s an-ask t = t
-stands-lowered hidden names s a-hide t = rw (nil-map (moved down) (s .decls), nil-map (moved-root down) (s .roots)) t
-stands-lowered hidden names s another t = t
-
--- has as many fields
-same-count : (s t : State) (k : LineKind) → fixed-count s k ≡ fixed-count t k
-unfolding fixed-count
-same-count s t kind.Ask = refl
-same-count s t kind.Hide = refl
-same-count s t kind.Free = refl
-same-count s t kind.Leaf = refl
-same-count s t kind.Call = refl
-same-count s t kind.Op = refl
-same-count s t kind.All = refl
-same-count s t kind.Some = refl
-same-count s t kind.Let = refl
-same-count s t kind.Label = refl
-same-count s t kind.Assume = refl
-same-count s t kind.Fun = refl
-same-count s t kind.Def = refl
-same-count s t kind.Retain = refl
-same-count s t kind.Root = refl
-
--- and they say the same
-parse-lowered : (hidden names : List Name) (s : State) (fs : List Field) {c : Content} → parse s fs ≡ ok c → parse (lowered hidden names s) fs ≡ ok c
-parse-lowered hidden names s fs {c} e =
-    let p = parse-ok s fs e in
-    let stands : Allowed (lowered hidden names s) (p .kind) = record { stands = stands-lowered hidden names s (place (p .kind)) (p .stands) } in
-    let counted = subst (λ all. T (not (holds (λ c. not (eqb (length all) c)) (fixed-count s (p .kind))))) (p .split) (p .counted) in
-    ap (parse (lowered hidden names s)) (p .split)
-    ∙ parse-fields (lowered hidden names s) (p .kind-word) (p .others) (p .known) stands (rw (same-count s (lowered hidden names s) (p .kind)) at counted)
-    ∙ p .says
+lowered hidden names s = relaid down (s .asks) hidden names s
 
 -- ---- a line, and all lines, read one line down
 
@@ -358,29 +212,31 @@ module _ (exclude : List Name) (name : Name) where
 
   content-lowered : (n : ℕ) (s : State) (hidden names : List Name) (line : Line) (c : Content) → T (line .ended) → parse s (fields (line .bytes)) ≡ ok c
       → T (not (repeats exclude n s c)) → T (all within (limits (add-line exclude n s c)))
-      → State-laws s → Room-for name (add-line exclude n s c) → One-name-more name s hidden names
+      → State-laws s → Room-for name (add-line exclude n s c) → One-name-more name s hidden names → T (not (begins ask-words line)) → T (not (is-nil (s .asks)))
       → Lowered n s (add-line exclude n s c) hidden names line
-  content-lowered n s hidden names line c ended parsed fresh few laws room o =
+  unfolding add-line begins
+  content-lowered n s hidden names line c ended parsed fresh few laws room o no-ask asked =
       let (before, here) = unspelled-by n s c room in
       let free = same-free s hidden names laws before o in
-      let added = add-lowered exclude hidden names n s c free in
+      let added = add-relaid down (s .asks) hidden names exclude n s c free in
       let more = one-name-more n s c hidden names here o in
-      let fresh′ : T (not (repeats exclude (n + 1) (lowered hidden names s) c)) = rw (repeats-lowered exclude hidden names n s c free) fresh in
+      let fresh′ : T (not (repeats exclude (n + 1) (lowered hidden names s) c)) = rw (repeats-relaid down (s .asks) hidden names exclude n s c free) fresh in
       let few′ : T (all within (limits (add-line exclude (n + 1) (lowered hidden names s) c))) =
       subst (λ x. T (all within (limits x))) (sym added) (limits-lowered (add-line exclude n s c) _ _ room more few) in
       record {
         new-hidden = hidden ++ collect hidden-by (heads c);
         new-names = fold-left spell names (spelled c ++ trimmed (excluded exclude s) (s .terms) c);
-        reads = added-line exclude (n + 1) (lowered hidden names s) line ended c (parse-lowered hidden names s (fields (line .bytes)) parsed) fresh′ few′ ∙ ap ok added;
+        reads = added-line exclude (n + 1) (lowered hidden names s) line ended c
+            (parse-relaid down (s .asks) hidden names s asked asked (fields (line .bytes)) no-ask ∙ parsed) fresh′ few′ ∙ ap ok added;
         one-more = more;
       }
 
   line-lowered : (n : ℕ) (s u : State) (hidden names : List Name) (line : Line) → read-line exclude n s line ≡ ok u
-      → State-laws s → Room-for name u → One-name-more name s hidden names → Lowered n s u hidden names line
-  line-lowered n s u hidden names line e laws room o =
+      → State-laws s → Room-for name u → One-name-more name s hidden names → T (not (begins ask-words line)) → T (not (is-nil (s .asks))) → Lowered n s u hidden names line
+  line-lowered n s u hidden names line e laws room o no-ask asked =
       let l = line-read exclude n s line u e in
       subst (λ x. Lowered n s x hidden names line) (sym (l .after))
-      (content-lowered n s hidden names line (l .content) (l .ended) (l .parsed) (l .fresh) (l .in-limits) laws (subst (Room-for name) (l .after) room) o)
+      (content-lowered n s hidden names line (l .content) (l .ended) (l .parsed) (l .fresh) (l .in-limits) laws (subst (Room-for name) (l .after) room) o no-ask asked)
 
   -- such lines after such a line
   then-lowered : (n : ℕ) (s u t : State) (hidden names hidden₁ names₁ : List Name) (line : Line) (ls : List Line)
@@ -390,14 +246,16 @@ module _ (exclude : List Name) (name : Name) where
   then-lowered n s u t hidden names hidden₁ names₁ line ls r (hidden′, names′, reads) =
       (hidden′, names′, lines-on exclude (n + 1) (lowered hidden names s) (lowered hidden₁ names₁ u) line ls r ∙ reads)
 
-  -- so are all lines
+  -- so are all lines that are no asks
   pub lines-lowered : (ls : List Line) (n : ℕ) (s t : State) (hidden names : List Name) → read-lines exclude n s ls ≡ read t
-      → State-laws s → Room-for name t → One-name-more name s hidden names
+      → State-laws s → Room-for name t → One-name-more name s hidden names → ((l : Line) → List·Memᴰ l ls → T (not (begins ask-words l))) → T (not (is-nil (s .asks)))
       → (hidden′ : List Name) × (names′ : List Name) × (read-lines exclude (n + 1) (lowered hidden names s) ls ≡ read (lowered hidden′ names′ t))
-  lines-lowered [] n s t hidden names e laws room o =
+  lines-lowered [] n s t hidden names e laws room o no-asks asked =
       (hidden, names, unfold read-lines in (ap (λ x. read (lowered hidden names x)) (none-read exclude n s t e)))
-  lines-lowered (line ∷ ls) n s t hidden names e laws room o =
+  lines-lowered (line ∷ ls) n s t hidden names e laws room o no-asks asked =
       let (u, r, others) = lines-read exclude n s line ls t e in
-      let l = line-lowered n s u hidden names line r laws (room-before (grows-lines ls (n + 1) u t others) room) o in
+      let no-ask = no-asks line (List·Memᴰ·head refl) in
+      let l = line-lowered n s u hidden names line r laws (room-before (grows-lines ls (n + 1) u t others) room) o no-ask asked in
       then-lowered n s u t hidden names (l .new-hidden) (l .new-names) line ls (l .reads)
-      (lines-lowered ls (n + 1) u t (l .new-hidden) (l .new-names) others (laws-line exclude n s u line r laws) room (l .one-more))
+      (lines-lowered ls (n + 1) u t (l .new-hidden) (l .new-names) others (laws-line exclude n s u line r laws) room (l .one-more) (λ m i. no-asks m (List·Memᴰ·tail i))
+      (rw (asks-none (headed-line exclude n s u line r) no-ask) asked))

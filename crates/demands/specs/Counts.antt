@@ -1,4 +1,4 @@
--- Demand 1, the counts behind the refusals 6 and 10 to 12: what is counted at a line is what documents 01 and 02 say, of
+-- Demand 1, the counts behind the refusals 6 and 10 to 13: what is counted at a line is what documents 01 and 02 say, of
 -- the bytes of the lines.
 use Prim.Native.Nat.{ℕ, _+_, max}
 use Prim.Native.String.{String}
@@ -33,7 +33,7 @@ term-words = "free" ∷ "leaf" ∷ "call" ∷ "op" ∷ "all" ∷ "some" ∷ "let
 unfoldable pub record-words : List String
 record-words = "hide" ∷ "assume" ∷ "fun" ∷ "def" ∷ "retain" ∷ "root" ∷ []
 
--- the ask line
+-- ask lines, which are no record lines
 unfoldable pub ask-words : List String
 ask-words = "ask" ∷ []
 
@@ -57,10 +57,11 @@ term-fields line = fields-of is-a-term (fields (line .bytes))
 unfoldable pub name-fields : Line → List Name
 name-fields line = fields-of is-a-name (fields (line .bytes))
 
--- the counts after these lines are those of document 01: "term lines", "term references in term lines", "record lines",
--- "trigger entries (fact, disjunct, name) .., where an empty disjunct counts as one", "name uses (free names summed over
--- assume, def and root lines)"
+-- the counts after these lines are those of documents 01 and 02: ask lines, "term lines", "term references in term lines",
+-- "record lines", "trigger entries (fact, disjunct, name) .., where an empty disjunct counts as one", "name uses (free names
+-- summed over assume, def and root lines)"
 pub record Counted (read-so-far : List Line) (s : State) : Type 0 where
+  pub ask-lines : length (s .asks) ≡ count (begins ask-words) read-so-far
   pub term-lines : length (s .terms) ≡ count (begins term-words) read-so-far
   pub term-references : s .references
       ≡ sum (map (λ line. length (term-fields line)) (keep (begins term-words) read-so-far))

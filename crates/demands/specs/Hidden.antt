@@ -16,13 +16,13 @@ use Rattle.model.specs.Summaries.{exclude-names, Kinded, Fact, pattern-groups, 
 use Rattle.model.specs.Reading.{Ask, Decl, Summary, Root, State, start, read, excluded, read-lines}
 use Rattle.model.specs.Pruning.{try-find, init-macro-freenames}
 use Rattle.model.specs.Rounds.{facts, definitions, macros}
-use Rattle.model.specs.Outcome.{listing}
+use Rattle.model.specs.Outcome.{position}
 use Rattle.model.specs.Text.{name-on}
 use Rattle.demands.specs.LinesRead.{Lines-read, records-for}
 use Rattle.demands.specs.Demand2.{kept-list, followed-list}
-use Rattle.demands.specs.Counts.{hide-words, begins}
+use Rattle.demands.specs.Counts.{ask-words, hide-words, begins}
 use Rattle.demands.specs.Asks.{head-words}
-use Rattle.demands.specs.Moved.{moved-outcome}
+use Rattle.demands.specs.Moved.{moved-position}
 
 -- "Their names join the nine of `exclude_names`": the second fields of the hide lines, in the order of the lines, for all lines that
 -- are read
@@ -62,7 +62,7 @@ Starting-macros-kept =
     (decls : List Summary) (name : Name) → ((d : Decl) → List·Memᴰ d (definitions decls) → d .name ≢ name)
     → try-find (macros decls) name ≡ try-find init-macro-freenames name
 
--- two lists of lines: the second has one more, a line of the head behind the ask, which hides this name
+-- two lists of lines: the second has one more, behind the asks and in the head, which hides this name
 pub record One-hides (name : Name) (ls ms : List Line) : Type 0 where
   pub front : List Line
   pub hide-line : Line
@@ -71,6 +71,7 @@ pub record One-hides (name : Name) (ls ms : List Line) : Type 0 where
   pub with-it : ms ≡ front ++ (hide-line ∷ others)
   pub behind-ask : front ≢ []
   pub in-head : (l : Line) → List·Memᴰ l front → T (begins head-words l)
+  pub no-ask : (l : Line) → List·Memᴰ l others → T (not (begins ask-words l))
   pub ended : T (hide-line .ended)
   pub hides : fields (hide-line .bytes) ≡ bytes "hide" ∷ name ∷ []
   pub a-name : T (is-name name)
@@ -90,7 +91,7 @@ down n = n + 1
 pub record One-down (file file′ : List ℕ) (s s′ : State) : Type 0 where
   pub accepted : Lines-read file′ s′
   pub asks : s′ .asks ≡ s .asks
-  pub listed : (a : Ask) → listing a (records-for a s′) (s′ .roots) ≡ moved-outcome down (listing a (records-for a s) (s .roots))
+  pub listed : (a : Ask) → position (records-for a s′) (s′ .roots) a ≡ moved-position down (position (records-for a s) (s .roots) a)
   pub followed : (a : Ask) → followed-list a s′ ≡ map down (followed-list a s)
   pub kept : (a : Ask) → kept-list a s′ ≡ map down (kept-list a s)
   pub followed-named : (a : Ask) → map (name-on file′) (followed-list a s′) ≡ map (name-on file) (followed-list a s)

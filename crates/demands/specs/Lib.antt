@@ -12,7 +12,9 @@ pub mod Room
 pub mod FileOrder
 pub mod Counts
 pub mod Asks
+pub mod Sixteen
 pub mod Moved
+pub mod AskedAlone
 pub mod Hidden
 pub mod Order
 pub mod Bodies

@@ -1,5 +1,6 @@
--- Demand 1, the refusals 1 to 4: what documents 01 and 02 say that each field of a line must be, and which refusal a line gets.
-use Prim.Native.Nat.{ℕ, zero, suc, _+_, _≤_}
+-- Demand 1, the refusals 1 to 4 and 13: what documents 01 and 02 say that each field of a line must be, and which refusal a
+-- line gets.
+use Prim.Native.Nat.{ℕ, zero, suc, _+_, _≤_, _<_}
 use mathlib.Core.Path.{_≡_}
 use mathlib.Core.Bool.{Bool, true, false, cond, not}
 use mathlib.Core.List.{List, [], _∷_, _++_}
@@ -9,7 +10,7 @@ use lib.Dec.{T, leb, ltb}
 use lib.ListN.{length}
 use Rattle.model.specs.Lists.{holds}
 use Rattle.model.specs.Lines.{Field, is-name, number}
-use Rattle.model.specs.Reading.{refused, word, op-words, kinds, content, State, place, may-stand, fixed-count, parse}
+use Rattle.model.specs.Reading.{refused, word, op-words, kinds, content, State, place, may-stand, is-position, fixed-count, parse}
 use Rattle.model.specs.declared.LineKind.{LineKind}
 use Rattle.model.specs.declared.LineKind.the-variants as kind
 use Rattle.model.specs.declared.Refusal.{Refusal}
@@ -146,15 +147,16 @@ Refused-fields =
     (k : LineKind) (count : ℕ) (fs : List Field) (r : Refusal)
     → (content k count fs ≡ refused r) ↔ Faulty k count [] fs r
 
--- a line of this kind may stand next
+-- a line of this kind may stand next, and if it is an ask there are fewer than 16 before it
 pub record Allowed (s : State) (k : LineKind) : Type 0 where
   pub stands : T (may-stand s (place k))
+  pub in-number : T (is-position (place k)) → length (s .asks) < 16
 
 -- the field count is the fixed one, where there is one
 abbrev pub Field-counted : State → LineKind → List Field → Type 0
 Field-counted s k fs = (fixed : ℕ) → fixed-count s k ≡ some fixed → length fs ≡ fixed
 
--- why a line's fields are refused, after the lines that led to this state: kind, field count where it is fixed, fields left
+-- why a line's fields are refused, after the lines that led to this state: kind, 13, field count where it is fixed, fields left
 -- to right
 pub data Faulty-line (s : State) : List Field → Refusal → Type 0 where
   -- an unknown kind
@@ -162,6 +164,9 @@ pub data Faulty-line (s : State) : List Field → Refusal → Type 0 where
   -- one that may not stand here: document 02, Change 6, "a line where it may not stand is 1 as an unknown kind"
   misplaced : {f : Field} {fs : List Field} {k : LineKind} → word kinds f ≡ some k → T (not (may-stand s (place k)))
       → Faulty-line s (f ∷ fs) refusal.Form
+  -- an ask that may stand here, after 16 of them: document 02, Change 7, "right after its kind"
+  too-many : {f : Field} {fs : List Field} {k : LineKind} → word kinds f ≡ some k → T (may-stand s (place k))
+      → T (is-position (place k)) → 16 ≤ length (s .asks) → Faulty-line s (f ∷ fs) refusal.FullAsks
   -- a field count other than the fixed one
   miscounted : {f : Field} {fs : List Field} {k : LineKind} {fixed : ℕ} → word kinds f ≡ some k → Allowed s k
       → fixed-count s k ≡ some fixed → length (f ∷ fs) ≢ fixed → Faulty-line s (f ∷ fs) refusal.Form
@@ -169,7 +174,7 @@ pub data Faulty-line (s : State) : List Field → Refusal → Type 0 where
   field : {f : Field} {fs : List Field} {k : LineKind} {r : Refusal} → word kinds f ≡ some k → Allowed s k
       → Field-counted s k (f ∷ fs) → Faulty k (length (s .terms)) [] fs r → Faulty-line s (f ∷ fs) r
 
--- a line is refused with 1 to 4 exactly for such a reason
+-- a line is refused with 1 to 4 or 13 exactly for such a reason
 abbrev pub Refused-line : Type 0
 Refused-line =
     (s : State) (f : Field) (fs : List Field) (r : Refusal)

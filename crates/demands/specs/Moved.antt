@@ -6,7 +6,7 @@ use Rattle.model.specs.Summaries.{Fact}
 use Rattle.model.specs.Reading.{Ask, Decl, Summary, Sum-assume, Sum-definefun, Sum-declfun, Sum-retain, Root}
 use Rattle.model.specs.Rounds.{run}
 use Rattle.model.specs.Kept.{kept}
-use Rattle.model.specs.Outcome.{Outcome, refusal-at, list, listing}
+use Rattle.model.specs.Outcome.{Position, position}
 
 -- a fact whose line n is now `to n`
 unfoldable pub moved-fact : (ℕ → ℕ) → Fact → Fact
@@ -35,16 +35,15 @@ moved to Sum-retain = Sum-retain
 unfoldable pub moved-root : (ℕ → ℕ) → Root → Root
 moved-root to r = record { line = to (r .line); query = r .query; name = r .name; free-names = r .free-names }
 
--- a list with its lines moved so
-unfoldable pub moved-outcome : (ℕ → ℕ) → Outcome → Outcome
-moved-outcome to (refusal-at r place) = refusal-at r place
-moved-outcome to (list lines visits rounds) = list (map to lines) visits rounds
+-- what an ask comes to, with its lines moved so
+unfoldable pub moved-position : (ℕ → ℕ) → Position → Position
+moved-position to p = record { kept = map to (p .kept); visits = p .visits; rounds = p .rounds }
 
 -- what an ask comes to over records that stand on other lines
 abbrev pub Lines-apart : Type 0
 Lines-apart =
     (to : ℕ → ℕ) (decls : List Summary) (roots : List Root) (a : Ask)
-    → listing a (map (moved to) decls) (map (moved-root to) roots) ≡ moved-outcome to (listing a decls roots)
+    → position (map (moved to) decls) (map (moved-root to) roots) a ≡ moved-position to (position decls roots a)
 
 -- its list without what the bodies of kept definitions add
 abbrev pub Kept-apart : Type 0

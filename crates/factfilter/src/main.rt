@@ -1,12 +1,12 @@
-// Document 01's program: reads a file from standard input and prints the kept records, or the refusal. A refusal is said in
-// words on standard error too.
+// Document 01's program: reads a file from standard input and prints the kept records of each ask, or the refusal. A refusal
+// is said in words on standard error too.
 use libc::STDERR_FILENO;
 use libc::STDIN_FILENO;
-use libc::STDOUT_FILENO;
 use model::Answer;
 use model::Verdict;
 ghost use Prim.Native.Nat.{_≤_};
 ghost use lib.ListN.{length};
+ghost use Rattle.model.specs.Lists.{sum};
 ghost use Rattle.model.specs.Outcome.{most-kept};
 ghost use Rattle.factfilter.specs.Input.{bytes-read};
 ghost use Rattle.factfilter.specs.Filters.{Filters};
@@ -38,21 +38,11 @@ fn read_input(buffer: &mut [u8]) -> Input
 
 // Prints the lines of an answer; whether each was written.
 fn print(file: &[u8], a: Answer, out: &[u32]) -> bool
-    requires { ⌜ (length (now file) ≤ 65536) × (a .kept ≤ length (now out)) ⌝ }
+    requires { ⌜ (length (now file) ≤ 65536) × (sum (a .kept) ≤ length (now out)) ⌝ }
 {
     let mut starts = [0u32; 65536];
     let mut text = [0u8; 65664];
-    let many = printing::line_starts(file, &mut starts);
-    let kept = a.kept as usize;
-    let mut i: usize = 0;
-    while i <= kept {
-        let n = printing::answer_line(file, &starts, many, a, out, i, &mut text);
-        if !io::write_all(STDOUT_FILENO, &text[..n]) {
-            return false;
-        }
-        i += 1;
-    }
-    true
+    printing::print(file, a, out, &mut starts, &mut text)
 }
 
 // Says a refusal in words on standard error.

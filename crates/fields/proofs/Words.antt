@@ -12,10 +12,11 @@ use borrow.Author.Tests.{eq-eqb, ne-eqb, ltb-true, leb-true}
 use Rattle.model.specs.Lists.{all, holds, part}
 use Rattle.model.specs.Names.{bytes, same}
 use Rattle.model.specs.Lines.{Field}
-use Rattle.model.specs.Reading.{Result, ok, refused, _>>=_, need, next, word, op-words, kinds, State, another, in-head, place, may-stand, kind-field, fixed-count, content, parse}
+use Rattle.model.specs.Reading.{Result, ok, refused, _>>=_, need, next, word, op-words, kinds, State, another, in-head, in-asks, place, may-stand, is-position, most-asks, kind-field, fixed-count, content, parse}
 use Rattle.model.specs.declared.Counts.{Counts}
 use Rattle.model.specs.declared.LineKind.{LineKind}
 use Rattle.model.specs.declared.LineKind.the-variants as kind
+use Rattle.model.specs.declared.Refusal.{Refusal}
 use Rattle.model.specs.declared.Refusal.the-variants as refusal
 use Rattle.model.proofs.PartLaws.{part-cons, part-nil}
 use Rattle.model.proofs.ListLaws.{T-ext}
@@ -28,7 +29,7 @@ use Rattle.fields.specs.declared.RecordKind.the-variants as recorded
 use Rattle.fields.specs.declared.Kind.{Kind}
 use Rattle.fields.specs.declared.Kind.the-variants as kinded
 use Rattle.fields.specs.declared.OpWord.the-variants as is-op
-use Rattle.fields.specs.Wording.{key-from, key-of, is-byte, longest-word, is-short, Keyed, look, term-kind, record-line-kind, kind-result, stands, Placing, fixed-of, count-of, well-counted, as-op}
+use Rattle.fields.specs.Wording.{key-from, key-of, is-byte, longest-word, is-short, Keyed, look, term-kind, record-line-kind, kind-result, stands, over, Placing, fixed-of, count-of, well-counted, as-op}
 
 -- ---- keys
 
@@ -156,9 +157,24 @@ module _ {A : Type 0} where
 
 module _ {s : State} {k : Counts} (p : Placing s k) where
   -- an ask
-  pub stands-ask : eqb (k .asks) 0 ≡ stands s kinded.Ask
+  pub stands-ask : {b : Bool} → b ≡ in-asks s → b ≡ stands s kinded.Ask
   unfolding stands place may-stand
-  stands-ask = sym (p .no-asks)
+  stands-ask e = e
+
+  -- there is a hide line
+  pub asks-past : (k .hides ≡ 0 → ⊥) → false ≡ in-asks s
+  unfolding in-asks
+  asks-past h = rw (p .no-hidden, ne-eqb (k .hides) 0 h) (sym (and-false (in-head s)))
+
+  -- there is none
+  pub asks-there : k .hides ≡ 0 → {b : Bool} → b ≡ in-head s → b ≡ in-asks s
+  unfolding in-asks
+  asks-there h e = rw (p .no-hidden, eq-eqb (k .hides) 0 h) (e ∙ sym (and-true (in-head s)))
+
+  -- an ask more than may be
+  pub over-ask : leb most-asks (k .asks) ≡ over s kinded.Ask
+  unfolding over place is-position
+  over-ask = rw (p .asks)
 
   -- a hide line: none before the first ask
   pub stands-hide-first : k .asks ≡ 0 → false ≡ stands s kinded.Hide
@@ -205,35 +221,81 @@ module _ {s : State} {k : Counts} (p : Placing s k) where
   stands-record recorded.Root = later
 
 -- no kind
-pub stands-none : (s : State) → false ≡ stands s kinded.No
+pub stands-none : (s : State) (x : Refusal) → true ≡ stands s (kinded.No x)
 unfolding stands
-stands-none s = refl
+stands-none s x = refl
+
+-- only an ask is a position
+pub over-hide : (s : State) → false ≡ over s kinded.Hide
+unfolding over place is-position
+over-hide s = refl
+
+pub over-term : (s : State) (t : TermKind) → false ≡ over s (kinded.Term t)
+unfolding over place term-kind is-position
+over-term s termed.Free = refl
+over-term s termed.Leaf = refl
+over-term s termed.Call = refl
+over-term s termed.Op = refl
+over-term s termed.All = refl
+over-term s termed.Some = refl
+over-term s termed.Let = refl
+over-term s termed.Label = refl
+
+pub over-record : (s : State) (r : RecordKind) → false ≡ over s (kinded.Record r)
+unfolding over place record-line-kind is-position
+over-record s recorded.Assume = refl
+over-record s recorded.Fun = refl
+over-record s recorded.Def = refl
+over-record s recorded.Retain = refl
+over-record s recorded.Root = refl
+
+pub over-none : (s : State) (x : Refusal) → false ≡ over s (kinded.No x)
+unfolding over
+over-none s x = refl
+
+-- a known kind: 1 where it may not stand, then 13
+abbrev judged-kind : State → LineKind → Result LineKind
+judged-kind s k =
+    cond (may-stand s (place k)) (ok k) (refused refusal.Form)
+    >>= λ placed. cond (is-position (place placed) && leb most-asks (length (s .asks))) (refused refusal.FullAsks) (ok placed)
+
+placed-kind : (s : State) (k : LineKind) (b : Bool)
+    → (cond b (ok k) (refused refusal.Form)
+    >>= λ placed. cond (is-position (place placed) && leb most-asks (length (s .asks))) (refused refusal.FullAsks) (ok placed))
+    ≡ cond b (cond (is-position (place k) && leb most-asks (length (s .asks))) (refused refusal.FullAsks) (ok k)) (refused refusal.Form)
+placed-kind s k true = refl
+placed-kind s k false = refl
 
 -- a kind that may stand, and one that may not
-kind-tested : (s : State) (r : Kind) → (kind-result r >>= λ k. cond (may-stand s (place k)) (ok k) (refused refusal.Form))
-    ≡ cond (stands s r) (kind-result r) (refused refusal.Form)
-unfolding kind-result stands
-kind-tested s kinded.Ask = refl
-kind-tested s kinded.Hide = refl
-kind-tested s (kinded.Term t) = refl
-kind-tested s (kinded.Record r) = refl
-kind-tested s kinded.No = refl
+kind-tested : (s : State) (r : Kind) → (kind-result r >>= judged-kind s)
+    ≡ cond (stands s r) (cond (over s r) (refused refusal.FullAsks) (kind-result r)) (refused refusal.Form)
+unfolding kind-result stands over
+kind-tested s kinded.Ask = placed-kind s kind.Ask (may-stand s (place kind.Ask))
+kind-tested s kinded.Hide = placed-kind s kind.Hide (may-stand s (place kind.Hide))
+kind-tested s (kinded.Term t) = placed-kind s (term-kind t) (may-stand s (place (term-kind t)))
+kind-tested s (kinded.Record r) = placed-kind s (record-line-kind r) (may-stand s (place (record-line-kind r)))
+kind-tested s (kinded.No x) = refl
 
 module _ {key : ℕ} (f : Field) (d : Keyed f key) (r : Kind) (e : kind-result r ≡ need refusal.Form (look kinds key)) (s : State) where
   -- the kind of a line by the key of its first field
-  kind-key : kind-field s f ≡ cond (stands s r) (kind-result r) (refused refusal.Form)
+  kind-key : kind-field s f ≡ cond (stands s r) (cond (over s r) (refused refusal.FullAsks) (kind-result r)) (refused refusal.Form)
   unfolding kind-field kinds are-short is-short is-byte all bytes
   kind-key =
-      ap (λ (x : Result LineKind). x >>= λ k. cond (may-stand s (place k)) (ok k) (refused refusal.Form))
+      ap (λ (x : Result LineKind). x >>= judged-kind s)
       (ap (need refusal.Form) (word-look kinds f refl d) ∙ sym e)
       ∙ kind-tested s r
 
   -- it may stand
-  pub kind-there : true ≡ stands s r → kind-result r ≡ kind-field s f
-  kind-there t = sym (rw (← t) at kind-key)
+  pub kind-there : true ≡ stands s r → false ≡ over s r → kind-result r ≡ kind-field s f
+  kind-there t o = sym (rw (← t, ← o) at kind-key)
+
+  -- it is one too many
+  pub kind-over : true ≡ stands s r → true ≡ over s r → kind-result (kinded.No refusal.FullAsks) ≡ kind-field s f
+  unfolding kind-result
+  kind-over t o = sym (rw (← t, ← o) at kind-key)
 
   -- it may not
-  pub kind-not : false ≡ stands s r → kind-result kinded.No ≡ kind-field s f
+  pub kind-not : false ≡ stands s r → kind-result (kinded.No refusal.Form) ≡ kind-field s f
   unfolding kind-result
   kind-not t = sym (rw (← t) at kind-key)
 
@@ -277,7 +339,7 @@ fixed-none s kinded.Ask e = fixed-some s kind.Ask e
 fixed-none s kinded.Hide e = fixed-some s kind.Hide e
 fixed-none s (kinded.Term t) e = fixed-some s (term-kind t) e
 fixed-none s (kinded.Record r) e = fixed-some s (record-line-kind r) e
-fixed-none s kinded.No e = refl
+fixed-none s (kinded.No x) e = refl
 
 module _ (s : State) (k : Kind) (fs : List Field) {r : ℕ} (p : r ≡ count-of (fixed-of s k)) where
   -- a count that is not fixed
@@ -326,4 +388,4 @@ parse-law s {count} f fs r d e = rw (← e, ← d) (go r)
     go kinded.Hide = turned (wrong s (f ∷ fs) kind.Hide) (refused refusal.Form) (content kind.Hide terms fs)
     go (kinded.Term t) = turned (wrong s (f ∷ fs) (term-kind t)) (refused refusal.Form) (content (term-kind t) terms fs)
     go (kinded.Record r) = turned (wrong s (f ∷ fs) (record-line-kind r)) (refused refusal.Form) (content (record-line-kind r) terms fs)
-    go kinded.No = refl
+    go (kinded.No x) = refl

@@ -10,7 +10,7 @@ use lib.Dec.{leb, ltb, eqb}
 use Rattle.model.specs.Lists.{all, is-nil, holds}
 use Rattle.model.specs.Names.{bytes, same}
 use Rattle.model.specs.Lines.{Field}
-use Rattle.model.specs.Reading.{Result, ok, refused, need, word, op-words, next, State, place, may-stand, fixed-count}
+use Rattle.model.specs.Reading.{Result, ok, refused, need, word, op-words, next, State, place, may-stand, is-position, most-asks, fixed-count}
 use Rattle.model.specs.declared.Counts.{Counts}
 use Rattle.model.specs.declared.LineKind.{LineKind}
 use Rattle.model.specs.declared.LineKind.the-variants as kind
@@ -80,25 +80,35 @@ record-line-kind recorded.Def = kind.Def
 record-line-kind recorded.Retain = kind.Retain
 record-line-kind recorded.Root = kind.Root
 
--- the kind of a line; none is 1
+-- the kind of a line, or its refusal
 unfoldable pub kind-result : Kind → Result LineKind
 kind-result kinded.Ask = ok kind.Ask
 kind-result kinded.Hide = ok kind.Hide
 kind-result (kinded.Term t) = ok (term-kind t)
 kind-result (kinded.Record r) = ok (record-line-kind r)
-kind-result kinded.No = refused refusal.Form
+kind-result (kinded.No x) = refused x
 
--- whether a line of the kind may stand next
+-- whether a line of the kind may stand next; what has no kind is refused for that
 unfoldable pub stands : State → Kind → Bool
 stands s kinded.Ask = may-stand s (place kind.Ask)
 stands s kinded.Hide = may-stand s (place kind.Hide)
 stands s (kinded.Term t) = may-stand s (place (term-kind t))
 stands s (kinded.Record r) = may-stand s (place (record-line-kind r))
-stands s kinded.No = false
+stands s (kinded.No x) = true
+
+-- whether a line of the kind is a position more than a file may have
+unfoldable pub over : State → Kind → Bool
+over s kinded.Ask = is-position (place kind.Ask) && leb most-asks (length (s .asks))
+over s kinded.Hide = is-position (place kind.Hide) && leb most-asks (length (s .asks))
+over s (kinded.Term t) = is-position (place (term-kind t)) && leb most-asks (length (s .asks))
+over s (kinded.Record r) = is-position (place (record-line-kind r)) && leb most-asks (length (s .asks))
+over s (kinded.No x) = false
 
 -- the counts say what of a state decides where a line may stand
 pub record Placing (s : State) (k : Counts) : Type 0 where
+  pub asks : length (s .asks) ≡ k .asks
   pub no-asks : is-nil (s .asks) ≡ eqb (k .asks) 0
+  pub no-hidden : is-nil (s .hidden) ≡ eqb (k .hides) 0
   pub no-terms : is-nil (s .terms) ≡ eqb (k .terms) 0
   pub no-records : (is-nil (s .decls) && is-nil (s .roots)) ≡ eqb (k .records) (k .hides)
 
@@ -108,7 +118,7 @@ fixed-of s kinded.Ask = fixed-count s kind.Ask
 fixed-of s kinded.Hide = fixed-count s kind.Hide
 fixed-of s (kinded.Term t) = fixed-count s (term-kind t)
 fixed-of s (kinded.Record r) = fixed-count s (record-line-kind r)
-fixed-of s kinded.No = none
+fixed-of s (kinded.No x) = none
 
 -- a count, or 0 where there is none
 unfoldable pub count-of : Option ℕ → ℕ

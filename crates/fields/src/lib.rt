@@ -10,11 +10,11 @@ ghost use mathlib.Core.Path.{_≡_};
 ghost use lib.ListN.{length};
 ghost use Rattle.model.specs.Lists.{part};
 ghost use Rattle.model.specs.Lines.{fields};
-ghost use Rattle.model.specs.Reading.{need, word, op-words, kinds, State, in-head, kind-field};
+ghost use Rattle.model.specs.Reading.{need, word, op-words, kinds, State, in-head, in-asks, kind-field};
 ghost use Rattle.model.specs.declared.Refusal.the-variants as refusal;
 ghost use Rattle.text.specs.Parts.{Placed, fields-left};
 ghost use Rattle.names.specs.Table.{Table};
-ghost use Rattle.fields.specs.Wording.{Keyed, look, kind-result, stands, Placing, count-of, fixed-of, well-counted, as-op, Reads-op};
+ghost use Rattle.fields.specs.Wording.{Keyed, look, kind-result, stands, over, Placing, count-of, fixed-of, well-counted, as-op, Reads-op};
 ghost use Rattle.fields.specs.Pushing.{most-number, push-one, push-many, push-rest, push-groups, Pushable, Pushes};
 ghost use Rattle.fields.specs.Spelling.{Begun, Spells, Reads-name, Spells-rest};
 
@@ -39,13 +39,13 @@ pub enum RecordKind {
     Root,
 }
 
-// The kind of a line, or that there is none.
+// The kind of a line, or the refusal of a line that has none.
 pub enum Kind {
     Ask,
     Hide,
     Term(TermKind),
     Record(RecordKind),
-    No,
+    No(Refusal),
 }
 
 // An op word, or that there is none.
@@ -135,7 +135,7 @@ fn kind_of(key: u64) -> Kind
         DEF => Kind::Record(RecordKind::Def),
         RETAIN => Kind::Record(RecordKind::Retain),
         ROOT => Kind::Record(RecordKind::Root),
-        _ => Kind::No,
+        _ => Kind::No(Refusal::Form),
     }
 }
 
@@ -149,12 +149,23 @@ fn in_head(k: Counts) -> bool
     k.records == k.hides
 }
 
-// Whether a line of a kind may stand after the lines counted: the first is an ask, and no other is; hide lines follow it.
+// Whether the lines counted are asks alone.
+fn in_asks(k: Counts) -> bool
+    ensures { λ r. ⌜ ((s : State) → Placing s k → r ≡ in-asks s) ⌝ }
+{
+    if k.hides != 0 {
+        return false;
+    }
+    in_head(k)
+}
+
+// Whether a line of a kind may stand after the lines counted: asks first, at least one; then hide lines; then any other. What
+// has no kind is refused for that.
 fn may_stand(k: Counts, kind: Kind) -> bool
     ensures { λ r. ⌜ ((s : State) → Placing s k → r ≡ stands s kind) ⌝ }
 {
     match kind {
-        Kind::Ask => k.asks == 0,
+        Kind::Ask => in_asks(k),
         Kind::Hide => {
             if k.asks == 0 {
                 return false;
@@ -163,20 +174,36 @@ fn may_stand(k: Counts, kind: Kind) -> bool
         }
         Kind::Term(_) => k.asks != 0,
         Kind::Record(_) => k.asks != 0,
-        Kind::No => false,
+        Kind::No(_) => true,
     }
 }
 
-// The kind of the line after those counted, whose first field stands from `a` up to `e`; none where it may not stand there.
+// Whether a line of a kind is an ask and as many as may be are counted.
+fn too_many(k: Counts, kind: Kind) -> bool
+    ensures { λ r. ⌜ ((s : State) → Placing s k → r ≡ over s kind) ⌝ }
+{
+    match kind {
+        Kind::Ask => model::MOST_ASKS <= k.asks,
+        Kind::Hide => false,
+        Kind::Term(_) => false,
+        Kind::Record(_) => false,
+        Kind::No(_) => false,
+    }
+}
+
+// The kind of the line after those counted, whose first field stands from `a` up to `e`; 1 where it may not stand there, then 13.
 pub fn line_kind(file: &[u8], k: Counts, a: usize, e: usize) -> Kind
     requires { ⌜ (a ≤ e) × (e ≤ length (now file)) ⌝ }
     ensures { λ r. ⌜ ((s : State) → Placing s k → kind-result r ≡ kind-field s (part (now (file .entry)) a e)) ⌝ }
 {
     let kind = kind_of(word_key(file, a, e));
     if may_stand(k, kind) {
+        if too_many(k, kind) {
+            return Kind::No(Refusal::FullAsks);
+        }
         return kind;
     }
-    Kind::No
+    Kind::No(Refusal::Form)
 }
 
 // The op word that stands from `a` up to `e`.
@@ -232,7 +259,7 @@ fn fixed_count(kind: Kind) -> usize
         Kind::Hide => 2,
         Kind::Term(t) => term_count(t),
         Kind::Record(r) => record_count(r),
-        Kind::No => 0,
+        Kind::No(_) => 0,
     }
 }
 

@@ -4,7 +4,7 @@ use native.Mathlib.Nat.{add-zero}
 use native.Mathlib.Omega.{arith}
 use mathlib.Core.Path.{_≡_, refl, _∙_, ap, subst}
 use mathlib.Core.Logic.{inl, inr, ⊎-elim}
-use mathlib.Core.Bool.{Bool, true, false, not, _&&_}
+use mathlib.Core.Bool.{Bool, true, false, cond, not, _&&_}
 use mathlib.Core.Option.{some}
 use mathlib.Core.List.{List, [], _∷_}
 use lib.Dec.{T, not-T, leb, leb→le, nleb→lt, ltb, ltb→lt, eqb}
@@ -13,7 +13,7 @@ use borrow.Author.Tests.{leb-true, leb-false}
 use Rattle.model.specs.Lists.{all, holds}
 use Rattle.model.specs.Names.{Name}
 use Rattle.model.specs.Lines.{Line, lines, Field, fields, number}
-use Rattle.model.specs.Reading.{Result, ok, refused, _>>=_, need, next, end, number-field, kinds, word, fixed-count, kind-field, content, Content, State, start, place, may-stand, read, refused-at, go-on, limits, under-limits, parse, add-line, repeats, read-line, read-lines, read-file}
+use Rattle.model.specs.Reading.{Result, ok, refused, _>>=_, need, next, end, number-field, kinds, word, fixed-count, kind-field, content, Content, State, start, place, may-stand, is-position, most-asks, read, refused-at, go-on, limits, under-limits, parse, add-line, repeats, read-line, read-lines, read-file}
 use Rattle.model.specs.Outcome.{refusal-number}
 use Rattle.model.specs.declared.LineKind.{LineKind}
 use Rattle.model.specs.declared.Refusal.{Refusal}
@@ -49,13 +49,21 @@ number-ok limit f e =
     let p = ok-eq k in
     (rw (← p) (need-ok refusal.Number (number f) g), rw (← p) t)
 
+-- whether a line of this kind is an ask more than a file may have
+abbrev pub is-past : State → LineKind → Bool
+is-past s k = is-position (place k) && leb most-asks (length (s .asks))
+
 -- a field that is the kind of the next line
-pub kind-ok : (s : State) (f : Field) {k : LineKind} → kind-field s f ≡ ok k → (word kinds f ≡ some k) × T (may-stand s (place k))
+pub kind-ok : (s : State) (f : Field) {k : LineKind} → kind-field s f ≡ ok k
+    → (word kinds f ≡ some k) × T (may-stand s (place k)) × T (not (is-past s k))
 unfolding kind-field
 kind-ok s f e =
     let (m, g, h) = bind-ok (need refusal.Form (word kinds f)) e in
-    let (t, k) = cond-ok (may-stand s (place m)) (ok m) refusal.Form h in
-    (rw (← (ok-eq k)) (need-ok refusal.Form (word kinds f) g), rw (← (ok-eq k)) t)
+    let (p, i, j) = bind-ok (cond (may-stand s (place m)) (ok m) (refused refusal.Form)) h in
+    let (t, is) = cond-ok (may-stand s (place m)) (ok m) refusal.Form i in
+    let (u, k) = cond-not-ok (is-past s p) (ok p) refusal.FullAsks j in
+    let same = ok-eq is ∙ ok-eq k in
+    (rw (← same) (need-ok refusal.Form (word kinds f) g), rw (← same) t, rw (← (ok-eq k)) u)
 
 -- the fields of a line that were accepted: a kind, and what the fields after it say
 pub record Parsed (s : State) (all : List Field) (c : Content) : Type 0 where
@@ -65,6 +73,7 @@ pub record Parsed (s : State) (all : List Field) (c : Content) : Type 0 where
   pub split : all ≡ kind-word ∷ others
   pub known : word kinds kind-word ≡ some kind
   pub stands : T (may-stand s (place kind))
+  pub in-number : T (not (is-past s kind))
   pub counted : T (not (holds (λ c. not (eqb (length all) c)) (fixed-count s kind)))
   pub says : content kind (length (s .terms)) others ≡ ok c
 
@@ -74,9 +83,9 @@ unfolding parse
 parse-ok s all e =
     let ((k, fs), g, h) = bind-ok (next (kind-field s) all) e in
     let (f, split, judged) = next-ok (kind-field s) all g in
-    let (known, stands) = kind-ok s f judged in
+    let (known, stands, in-number) = kind-ok s f judged in
     let (t, says) = cond-not-ok (holds (λ c. not (eqb (length all) c)) (fixed-count s k)) (content k (length (s .terms)) fs) refusal.Form h in
-    record { kind-word = f; others = fs; kind = k; split = split; known = known; stands = stands; counted = t; says = says }
+    record { kind-word = f; others = fs; kind = k; split = split; known = known; stands = stands; in-number = in-number; counted = t; says = says }
 
 -- a refusal is no state
 pub not-read : {r : Refusal} {n : ℕ} {s : State} → refused-at r n ≡ read s → ⊥

@@ -1,8 +1,8 @@
 -- Reading a file, line after line: document 01, "The file" and "Who can cause a refusal", the refusals 1 to 6;
--- document 02, Change 1: 10 to 12, Change 6: hide lines.
+-- document 02, Change 1: 10 to 12, Change 6: hide lines, Change 7: several ask lines, 13.
 use Prim.Native.Nat.{ℕ, zero, suc, _+_, _/_, _%_}
 use Prim.Native.String.{String}
-use mathlib.Core.Bool.{Bool, cond, not, _&&_}
+use mathlib.Core.Bool.{Bool, true, false, cond, not, _&&_}
 use mathlib.Core.List.{List, [], _∷_, _++_, map}
 use mathlib.Core.Option.{Option, none, some}
 use lib.ListN.{length}
@@ -214,7 +214,7 @@ pub record Root : Type 0 where
   pub name : Name
   pub free-names : List Name
 
--- what a file asks for: the queries whose roots are the goal, and the options number
+-- what one ask line asks for: the queries whose roots are the goal, and the options number
 pub record Ask : Type 0 where
   pub queries : List ℕ
   pub options : ℕ
@@ -235,8 +235,8 @@ prune-decls a = eqb (a .options / 4 % 2) 1
 unfoldable pub follow-bodies : Ask → Bool
 follow-bodies a = eqb (a .options / 8 % 2) 1
 
--- what reading carries from line to line. `hidden`: a name for each hide line. `names`: in order of first spelling. `decls` and
--- `roots`: in file order
+-- what reading carries from line to line. `asks`: one for each ask line. `hidden`: a name for each hide line. `names`: in order
+-- of first spelling. `decls` and `roots`: in file order
 pub record State : Type 0 where
   pub asks : List Ask
   pub hidden : List Name
@@ -267,6 +267,10 @@ start =
 unfoldable pub in-head : State → Bool
 in-head s = is-nil (s .terms) && is-nil (s .decls) && is-nil (s .roots)
 
+-- whether nothing but ask lines was read so far
+unfoldable pub in-asks : State → Bool
+in-asks s = in-head s && is-nil (s .hidden)
+
 -- what decides where a line of a kind may stand: an ask, a hide, or any other
 pub data Place : Type 0 where
   an-ask : Place
@@ -290,17 +294,28 @@ place kind.Def = another
 place kind.Retain = another
 place kind.Root = another
 
--- whether such a line may stand next: the first is an ask, and no other is; hide lines follow it
+-- whether such a line may stand next: asks first, at least one; then hide lines; then any other
 unfoldable pub may-stand : State → Place → Bool
-may-stand s an-ask = is-nil (s .asks)
+may-stand s an-ask = in-asks s
 may-stand s a-hide = in-head s && not (is-nil (s .asks))
 may-stand s another = not (is-nil (s .asks))
 
--- the kind of the next line: 1 where it is unknown or may not stand
+-- whether such a line is a position of the answer
+unfoldable pub is-position : Place → Bool
+is-position an-ask = true
+is-position a-hide = false
+is-position another = false
+
+-- the ask lines that a file may have
+abbrev pub most-asks : ℕ
+most-asks = 16
+
+-- the kind of the next line: 1 where it is unknown or may not stand, then 13
 unfoldable pub kind-field : State → Field → Result LineKind
 kind-field s f = do
   k ← need refusal.Form (word kinds f)
-  cond (may-stand s (place k)) (ok k) (refused refusal.Form)
+  placed ← cond (may-stand s (place k)) (ok k) (refused refusal.Form)
+  cond (is-position (place placed) && leb most-asks (length (s .asks))) (refused refusal.FullAsks) (ok placed)
 
 -- the fields of the next line, the kind counted, where their count is fixed
 unfoldable pub fixed-count : State → LineKind → Option ℕ

@@ -4,9 +4,10 @@ use mathlib.Core.Bool.{cond}
 use mathlib.Core.List.{List, [], _∷_, _++_, map}
 use lib.ListN.{length, drop}
 use lib.Dec.{ltb}
+use Rattle.model.specs.Lists.{collect}
 use Rattle.model.specs.Names.{Name, bytes}
 use Rattle.model.specs.Lines.{Line, lines, Field, fields}
-use Rattle.model.specs.Outcome.{Outcome, refusal-at, list, refusal-number}
+use Rattle.model.specs.Outcome.{Position, Outcome, refusal-at, lists, refusal-number}
 use Rattle.model.specs.declared.Refusal.{Refusal}
 
 -- the decimal digits of a number below ten to the fuel
@@ -58,7 +59,11 @@ sum-line kept visits rounds = line (bytes "sum" ∷ show kept ∷ show visits �
 unfoldable pub refused-line : Refusal → ℕ → List ℕ
 refused-line r place = line (bytes "refused" ∷ show (refusal-number r) ∷ show place ∷ [])
 
--- the lines printed of what a call of a file comes to: one for each kept record, then their sum; or the refusal
+-- the lines printed of one list: one for each kept record, then their sum
+unfoldable pub printed-list : List ℕ → Position → List (List ℕ)
+printed-list file p = map (kept-line file) (p .kept) ++ (sum-line (length (p .kept)) (p .visits) (p .rounds) ∷ [])
+
+-- the lines printed of what a call of a file comes to: its lists in their order, or the refusal
 unfoldable pub printed : List ℕ → Outcome → List (List ℕ)
 printed file (refusal-at r place) = refused-line r place ∷ []
-printed file (list kept visits rounds) = map (kept-line file) kept ++ (sum-line (length kept) visits rounds ∷ [])
+printed file (lists ps) = collect (printed-list file) ps

@@ -12,21 +12,23 @@ pub enum Refusal {
     FullTerms,
     FullRecords,
     FullTriggers,
+    FullAsks,
 }
 
-// What a call comes to: a list, or a refusal.
+// What a call comes to: the lists of the asks, or a refusal.
 pub enum Verdict {
     Accepted,
     Refused(Refusal),
 }
 
-// The answer of a call. A refusal has its place, and every count 0; a list has place 0.
+// The answer of a call, its counts by the position of an ask, 0 past the last. A refusal has its place, and every count 0;
+// lists have place 0.
 pub struct Answer {
     pub verdict: Verdict,
     pub place: u32,
-    pub kept: u32,
-    pub visits: u32,
-    pub rounds: u32,
+    pub kept: [u32; 16],
+    pub visits: [u32; 16],
+    pub rounds: [u32; 16],
 }
 
 // The kind of a summary: dropped, ambient (true: also a root), or so many disjuncts of trigger names.
@@ -91,8 +93,11 @@ pub const MOST_QUERY: u32 = 255;
 
 pub const MOST_OPTIONS: u32 = 15;
 
-// The lines that a call can keep: every record line of a file.
-pub const MOST_KEPT: usize = MOST_RECORDS;
+// The ask lines that a file may have.
+pub const MOST_ASKS: usize = 16;
+
+// The lines that a call can keep: for each ask every record line of a file.
+pub const MOST_KEPT: usize = MOST_ASKS * MOST_RECORDS;
 
 // The words of a working slice that a call uses.
 pub const WORKING_WORDS: usize = 16384;

@@ -1,4 +1,4 @@
--- A line of the printed form of an answer in a lent slice, and a refusal in words.
+-- A line of the printed form of a list in a lent slice, and a refusal in words.
 use Prim.Native.Nat.{ℕ, _+_, _≤_, _<_}
 use mathlib.Core.Path.{_≡_}
 use mathlib.Core.Bool.{Bool, true, false, cond}
@@ -7,9 +7,8 @@ use lib.ListN.{length, take, drop, getD}
 use denote.Ref.{RefT}
 use Rattle.model.specs.Names.{bytes}
 use Rattle.model.specs.Lines.{lines}
-use Rattle.model.specs.Outcome.{Outcome, answer, result-after}
-use Rattle.model.specs.Text.{show, printed}
-use Rattle.model.specs.declared.Answer.{Answer}
+use Rattle.model.specs.Outcome.{Position}
+use Rattle.model.specs.Text.{show, printed-list}
 use Rattle.model.specs.declared.Refusal.{Refusal}
 use Rattle.model.specs.declared.Refusal.the-variants as refusal
 use Rattle.text.specs.Parts.{Is-part}
@@ -55,6 +54,7 @@ reason refusal.Size = bytes "the file has more than 65,535 bytes"
 reason refusal.FullTerms = bytes "the file has more than 4,096 term lines or 16,384 references"
 reason refusal.FullRecords = bytes "the file has more than 1,024 record lines"
 reason refusal.FullTriggers = bytes "the file has more than 2,048 trigger entries or 6,144 name uses"
+reason refusal.FullAsks = bytes "the file has more than 16 ask lines"
 
 -- whether the place of a refusal is a line
 unfoldable pub has-line : Refusal → Bool
@@ -70,14 +70,15 @@ has-line refusal.Size = false
 has-line refusal.FullTerms = true
 has-line refusal.FullRecords = true
 has-line refusal.FullTriggers = true
+has-line refusal.FullAsks = true
 
 -- a refusal in words, after its line where it has one
 unfoldable pub reason-line : Refusal → ℕ → List ℕ
 reason-line r place =
     cond (has-line r) (bytes "line " ++ show place ++ bytes ": " ++ reason r) (reason r) ++ (0x0a ∷ [])
 
--- a text begins with a line of the printed form, by its place from 0, for whatever the answer and its result slice are of
-pub record Answered (file : List ℕ) (a : Answer) (out : List ℕ) (i : ℕ) (text : List ℕ) (n : ℕ) : Type 0 where
+-- a text begins with a line of the printed form of one list, by its place from 0, for whatever the counts and the words are of
+pub record Listed-line (file : List ℕ) (kept visits rounds : ℕ) (out : List ℕ) (i : ℕ) (text : List ℕ) (n : ℕ) : Type 0 where
   pub inside : n ≤ length text
-  pub prints : (o : Outcome) → a ≡ answer o → (before : List ℕ) → take (a .kept) out ≡ take (a .kept) (result-after o before)
-      → i < length (printed file o) → Text-begins (getD (printed file o) i []) text n
+  pub prints : (p : Position) → kept ≡ length (p .kept) → visits ≡ p .visits → rounds ≡ p .rounds → take kept out ≡ p .kept
+      → i < length (printed-list file p) → Text-begins (getD (printed-list file p) i []) text n

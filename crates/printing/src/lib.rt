@@ -1,14 +1,16 @@
-// The printed form of an answer: document 01's lines, one at a time into a lent slice, and a refusal in words.
+// The printed form of an answer: document 01's lines, one at a time into a lent slice, and all to standard output. A refusal in
+// words.
+use libc::STDOUT_FILENO;
 use model::Answer;
 use model::Refusal;
 use model::Verdict;
 ghost use Prim.Native.Nat.{_+_, _≤_, _<_};
 ghost use mathlib.Core.Path.{_≡_};
 ghost use lib.ListN.{length};
-ghost use Rattle.model.specs.Lists.{part};
+ghost use Rattle.model.specs.Lists.{part, sum};
 ghost use Rattle.model.specs.Lines.{fields};
 ghost use Rattle.model.specs.Text.{show, second, name-on, kept-line, sum-line, refused-line};
-ghost use Rattle.printing.specs.Printed.{Bytes-put, Text-begins, Starts, Same-from, Lies-in, reason, has-line, reason-line, Answered};
+ghost use Rattle.printing.specs.Printed.{Bytes-put, Text-begins, Starts, Same-from, Lies-in, reason, has-line, reason-line, Listed-line};
 
 // Writes bytes from a place on; where they end.
 fn put(text: &mut [u8], at: usize, bytes: &[u8]) -> usize
@@ -110,7 +112,7 @@ fn sum_line(kept: u32, visits: u32, rounds: u32, text: &mut [u8]) -> usize
 }
 
 // Writes the line of a refusal; its length.
-fn refused_line(r: Refusal, place: u32, text: &mut [u8]) -> usize
+pub fn refused_line(r: Refusal, place: u32, text: &mut [u8]) -> usize
     requires { ⌜ 128 ≤ length (now text) ⌝ }
     ensures { λ n. ⌜ Text-begins (refused-line r place) (now (text .exit)) n ⌝ }
 {
@@ -121,31 +123,125 @@ fn refused_line(r: Refusal, place: u32, text: &mut [u8]) -> usize
     put(text, at, b"\n")
 }
 
-// Writes a line of the printed form of an answer: the kept lines, then their sum; or the refusal. Its length.
-pub fn answer_line(
+// Writes a line of the printed form of one list: its kept lines, then their sum. Its length.
+pub fn list_line(
     file: &[u8],
     starts: &[u32],
     many: usize,
-    a: Answer,
+    kept: u32,
+    visits: u32,
+    rounds: u32,
     out: &[u32],
     i: usize,
     text: &mut [u8],
 ) -> usize
     requires { ⌜ Starts (now file) (now starts) many × (length (now file) + 128 ≤ length (now text))
-        × (a .kept ≤ length (now out)) ⌝ }
-    ensures { λ n. ⌜ Answered (now (file .entry)) a (now (out .entry)) i (now (text .exit)) n ⌝ }
+        × (kept ≤ length (now out)) ⌝ }
+    ensures { λ n. ⌜ Listed-line (now (file .entry)) kept visits rounds (now (out .entry)) i (now (text .exit)) n ⌝ }
+{
+    if i < kept as usize {
+        return kept_line(file, starts, many, out[i], text);
+    }
+    sum_line(kept, visits, rounds, text)
+}
+
+// Prints a list: its kept lines, then their sum; whether each line was written.
+fn print_list(
+    file: &[u8],
+    starts: &[u32],
+    many: usize,
+    kept: u32,
+    visits: u32,
+    rounds: u32,
+    out: &[u32],
+    text: &mut [u8],
+) -> bool
+    requires { ⌜ Starts (now file) (now starts) many × (length (now file) + 128 ≤ length (now text))
+        × (kept ≤ length (now out)) ⌝ }
+{
+    let count = kept as usize;
+    let mut i: usize = 0;
+    while i <= count {
+        let n = list_line(file, starts, many, kept, visits, rounds, out, i, text);
+        if !io::write_all(STDOUT_FILENO, &text[..n]) {
+            return false;
+        }
+        i += 1;
+    }
+    true
+}
+
+// Prints the lists of an accepted answer; whether each line was written. A position that was asked has a round.
+fn print_lists(
+    file: &[u8],
+    starts: &[u32],
+    many: usize,
+    a: Answer,
+    out: &[u32],
+    text: &mut [u8],
+) -> bool
+    requires { ⌜ Starts (now file) (now starts) many × (length (now file) + 128 ≤ length (now text))
+        × (sum (a .kept) ≤ length (now out)) ⌝ }
+{
+    let kept = a.kept;
+    let visits = a.visits;
+    let rounds = a.rounds;
+    let mut from: usize = 0;
+    let mut p: usize = 0;
+    while p < model::MOST_ASKS {
+        let count = kept[p];
+        let turns = rounds[p];
+        if turns == 0 {
+            return true;
+        }
+        if !print_list(
+            file,
+            starts,
+            many,
+            count,
+            visits[p],
+            turns,
+            &out[from..],
+            text,
+        ) {
+            return false;
+        }
+        from += count as usize;
+        p += 1;
+    }
+    true
+}
+
+// Prints an answer, its lists or its refusal; whether each line was written.
+pub fn print(file: &[u8], a: Answer, out: &[u32], starts: &mut [u32], text: &mut [u8]) -> bool
+    requires { ⌜ (length (now file) ≤ length (now starts)) × (length (now file) < 4294967296)
+        × (length (now file) + 128 ≤ length (now text)) × (sum (a .kept) ≤ length (now out)) ⌝ }
 {
     let v = a.verdict;
     match v {
         Verdict::Accepted => {
-            let kept = a.kept;
-            if i < kept as usize {
-                return kept_line(file, starts, many, out[i], text);
-            }
-            sum_line(kept, a.visits, a.rounds, text)
+            let many = line_starts(file, starts);
+            print_lists(file, starts, many, a, out, text)
         }
-        Verdict::Refused(r) => refused_line(r, a.place, text),
+        Verdict::Refused(r) => {
+            let n = refused_line(r, a.place, text);
+            io::write_all(STDOUT_FILENO, &text[..n])
+        }
     }
+}
+
+// The sum of the counts of an answer.
+pub fn sum_counts(counts: [u32; 16]) -> usize
+    requires { ⌜ sum counts < 4294967296 ⌝ }
+    ensures { λ r. ⌜ r ≡ sum counts ⌝ }
+{
+    let mut n: usize = 0;
+    let mut p: usize = 0;
+    while p < model::MOST_ASKS {
+        n += counts[p] as usize;
+        p += 1;
+    }
+    n
 }
 
 // Writes why a refusal is given from a place on; where it ends.
@@ -178,6 +274,7 @@ fn put_reason(text: &mut [u8], at: usize, r: Refusal) -> usize
             at,
             b"the file has more than 2,048 trigger entries or 6,144 name uses",
         ),
+        Refusal::FullAsks => put(text, at, b"the file has more than 16 ask lines"),
     }
 }
 
@@ -198,6 +295,7 @@ fn has_line(r: Refusal) -> bool
         Refusal::FullTerms => true,
         Refusal::FullRecords => true,
         Refusal::FullTriggers => true,
+        Refusal::FullAsks => true,
     }
 }
 

@@ -2,16 +2,16 @@
 use Prim.Native.Nat.{ℕ, suc, _+_, _≤_, _<_}
 use native.Mathlib.Omega.{arith}
 use mathlib.Core.Path.{_≡_, refl, sym, ap, ap₂, _∙_}
-use mathlib.Core.Bool.{Bool, true, false, cond, not, _&&_}
+use mathlib.Core.Bool.{Bool, true, false, cond, not, _&&_, true≢false}
 use mathlib.Core.Logic.{⊎-elim}
 use mathlib.Core.List.{List, [], _∷_}
-use lib.Dec.{T, eqb}
-use lib.ListN.{length, drop}
-use borrow.Author.Tests.{eqb-true, eq-eqb, ne-eqb}
+use lib.Dec.{eqb, nleb→lt}
+use lib.ListN.{length, drop, length-map}
+use borrow.Author.Tests.{eq-eqb, ne-eqb}
 use Rattle.model.specs.Summaries.{exclude-names}
-use Rattle.model.specs.Lists.{fold-left, is-nil, part}
+use Rattle.model.specs.Lists.{fold-left, holds, is-nil, part}
 use Rattle.model.specs.Lines.{lines, Field, fields}
-use Rattle.model.specs.Reading.{Result, ok, refused, _>>=_, next, place, may-stand, kind-field, content, parse, State, start, read, refused-at, go-on, read-line, read-lines, read-file, Content}
+use Rattle.model.specs.Reading.{Result, ok, refused, _>>=_, next, place, is-position, most-asks, kind-field, content, parse, State, start, read, refused-at, go-on, read-line, read-lines, read-file, Content}
 use Rattle.model.specs.Outcome.{most-bytes, working-words}
 use Rattle.model.specs.declared.Counts.{Counts}
 use Rattle.model.specs.declared.LineKind.the-variants as kind
@@ -19,7 +19,6 @@ use Rattle.model.specs.declared.Refusal.{Refusal}
 use Rattle.model.specs.declared.Refusal.the-variants as refusal
 use Rattle.model.specs.declared.Step.{Step}
 use Rattle.model.specs.declared.Step.the-variants as step
-use Rattle.model.proofs.ListLaws.{T-true}
 use Rattle.model.proofs.ResultLaws.{ok-eq, not-ok}
 use Rattle.laws.proofs.ReadingLaws.{kind-ok}
 use Rattle.text.specs.declared.Cursor.{Cursor}
@@ -34,10 +33,10 @@ use Rattle.fields.specs.declared.Kind.{Kind}
 use Rattle.fields.specs.declared.Kind.the-variants as kinded
 use Rattle.fields.specs.declared.TermKind.{TermKind}
 use Rattle.fields.specs.declared.RecordKind.{RecordKind}
-use Rattle.fields.specs.Wording.{kind-result, term-kind, record-line-kind, Placing, well-counted}
+use Rattle.fields.specs.Wording.{kind-result, term-kind, record-line-kind, Placing, fixed-of, well-counted}
 use Rattle.fields.proofs.Words.{parse-law}
 use Rattle.words.proofs.Slices.{same-then, same-wider}
-use Rattle.records.specs.States.{asks-of, decls-of, roots-of, hides-of, state-of}
+use Rattle.records.specs.States.{asks-of, decls-of, roots-of, hides-of, hidden-of, state-of}
 use Rattle.records.specs.Columns.{taken-column, first-column, ask-room}
 use Rattle.macros.specs.Macros.{Macros-opened}
 use Rattle.records.proofs.Standing.{Beside, standing-start, hidden-longer, decls-longer, roots-longer}
@@ -49,7 +48,7 @@ use Rattle.records.proofs.Judging.{line-judged}
 use Rattle.records.proofs.Recording.{records-length}
 use Rattle.terms.proofs.Laws.{equal}
 use Rattle.records.proofs.Appending.{terms-length}
-use Rattle.records.proofs.Asking.{asks-none}
+use Rattle.records.proofs.Asking.{asks-length, asks-none}
 use Rattle.records.specs.Writing.{no-counts}
 use Rattle.filing.specs.Lines.{judged, Reads, goes-on, stops, Past}
 use Rattle.reader.specs.declared.Reading.the-variants as answer
@@ -123,9 +122,19 @@ module _ (count : ℕ) (fs : List Field) {k : Kind} where
   unfolding kind-content kind-result
   kind-record e = rw e
 
-  pub kind-none : k ≡ kinded.No → kind-content k count fs ≡ refused refusal.Form
+  pub kind-none : {x : Refusal} → k ≡ kinded.No x → kind-content k count fs ≡ refused x
   unfolding kind-content kind-result
   kind-none e = rw e
+
+-- a line without a kind is not counted
+miscounted : (s : State) (k : Kind) (all : List Field) → false ≡ well-counted s k all
+    → _≡_ {A = Result Content} (kind-result k >>= λ l. refused refusal.Form) (refused refusal.Form)
+unfolding kind-result well-counted fixed-of holds
+miscounted s kinded.Ask all c = refl
+miscounted s kinded.Hide all c = refl
+miscounted s (kinded.Term t) all c = refl
+miscounted s (kinded.Record r) all c = refl
+miscounted s (kinded.No x) all c = absurd (true≢false (sym c))
 
 module _ (s : State) {count : ℕ} (terms : length (s .terms) ≡ count) {all : List Field} {f : Field} {fs : List Field} (d : all ≡ f ∷ fs) (k : Kind)
     (q : kind-result k ≡ kind-field s f) where
@@ -140,14 +149,7 @@ module _ (s : State) {count : ℕ} (terms : length (s .terms) ≡ count) {all : 
   unfolding kind-result
   parse-count c = ap (parse s) d ∙ parse-law s f fs k terms q
       ∙ ap (λ b. kind-result k >>= λ l. cond b (content l count fs) (refused refusal.Form)) (sym (c ∙ ap (well-counted s k) d))
-      ∙ go k
-    where
-      go : (k : Kind) → _≡_ {A = Result Content} (kind-result k >>= λ l. refused refusal.Form) (refused refusal.Form)
-      go kinded.Ask = refl
-      go kinded.Hide = refl
-      go (kinded.Term t) = refl
-      go (kinded.Record r) = refl
-      go kinded.No = refl
+      ∙ miscounted s k all c
 
 -- a list is empty where its length is 0
 nil-length : {A : Type 0} (l : List A) → is-nil l ≡ eqb (length l) 0
@@ -178,7 +180,10 @@ placing {file} {names} {refs} {rows} {recs} {lists} {k} st =
     let decls = decls-of (name-of file names) recs lists (k .records) in
     let roots = roots-of (name-of file names) recs lists (k .records) in
     record {
+      asks = asks-length recs (k .asks);
       no-asks = asks-none recs (k .asks);
+      no-hidden = nil-length (hidden-of (name-of file names) recs (k .records))
+          ∙ ap (λ n. eqb n 0) (length-map (hides-of recs (k .records)) (name-of file names) ∙ st .hiding .counted);
       no-terms = nil-length (terms-in file names refs rows (k .references) (k .terms))
           ∙ ap (λ n. eqb n 0) (terms-length file names refs rows (k .references) (k .terms));
       no-records = nil-both decls roots
@@ -193,11 +198,11 @@ terms-counted file names refs rows recs lists k = terms-length file names refs r
 
 -- an ask that may stand has room
 pub ask-fits : (s : State) {k : Counts} (f : Field) {r : Kind} → Placing s k → kind-result r ≡ kind-field s f → r ≡ kinded.Ask → k .asks < ask-room
-unfolding kind-result place may-stand
+unfolding kind-result place is-position
 ask-fits s {k} f {r} p e a =
     let d : kind-field s f ≡ ok kind.Ask = sym (rw a at e) in
-    let none = T-true (is-nil (s .asks)) (kind-ok s f d .1) in
-    omega (arith, eqb-true (k .asks) 0 (sym (p .no-asks) ∙ none))
+    let few = kind-ok s f d .2 in
+    omega (arith, p .asks, nleb→lt most-asks (length (s .asks)) few)
 
 -- ---- the loop over lines
 

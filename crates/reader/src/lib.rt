@@ -70,7 +70,7 @@ fn read_kind(
         Kind::Hide => filing::read_hide(file, names, refs, rows, recs, lists, k, n, c),
         Kind::Term(t) => nodes::read_term(file, names, refs, rows, k, t, c),
         Kind::Record(r) => filing::read_record(file, names, refs, rows, recs, lists, k, n, r, c),
-        Kind::No => Step::Refused(Refusal::Form),
+        Kind::No(x) => Step::Refused(x),
     }
 }
 

@@ -6,7 +6,7 @@ use mathlib.Core.Path.{_≡_, refl, sym, _∙_}
 use mathlib.Core.Bool.{false}
 use mathlib.Core.List.{List, [], _∷_, _++_, append-nil}
 use lib.Dec.{eqb}
-use lib.ListN.{length, getD, set, length-set}
+use lib.ListN.{length, getD, set, length-append, length-set}
 use lib.Seq.{getD-set-same, getD-set-other}
 use borrow.Author.Tests.{ne-eqb}
 use Rattle.model.specs.Lists.{sum, collect, fold-left, is-nil}
@@ -57,6 +57,12 @@ not-nil : {A : Type 0} (l : List A) (a : A) → is-nil (l ++ (a ∷ [])) ≡ fal
 unfolding is-nil
 not-nil [] a = refl
 not-nil (x ∷ l) a = refl
+
+-- as many asks as are counted
+pub asks-length : (recs : List ℕ) (n : ℕ) → length (asks-of recs n) ≡ n
+unfolding asks-of
+asks-length recs zero = refl
+asks-length recs (suc n) = simp length-append (omega (arith, asks-length recs n))
 
 -- there is no ask exactly where none is counted
 pub asks-none : (recs : List ℕ) (n : ℕ) → is-nil (asks-of recs n) ≡ eqb n 0

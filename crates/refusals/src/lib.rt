@@ -19,5 +19,6 @@ pub fn refusal_number(r: Refusal) -> u32
         Refusal::FullTerms => 10,
         Refusal::FullRecords => 11,
         Refusal::FullTriggers => 12,
+        Refusal::FullAsks => 13,
     }
 }

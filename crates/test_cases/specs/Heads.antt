@@ -17,7 +17,7 @@ abbrev pub most-work : ℕ
 most-work = 16400
 
 abbrev pub most-room : ℕ
-most-room = 1040
+most-room = 16400
 
 -- sizes that a case may have
 pub record Sized (s : Sizes) : Type 0 where

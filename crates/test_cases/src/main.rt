@@ -8,6 +8,7 @@ use model::Verdict;
 ghost use Prim.Native.Nat.{_+_, _≤_, _<_};
 ghost use mathlib.Core.Path.{_≡_};
 ghost use lib.ListN.{length};
+ghost use Rattle.model.specs.Lists.{sum};
 ghost use Rattle.test_cases.specs.Heads.{most-file, most-work, most-room, Sized, At-most, Lends, Head-fits, Name-placed};
 
 // The longest head line, file, working slice and result slice of a case.
@@ -17,7 +18,7 @@ const MOST_FILE: usize = 131072;
 
 const MOST_WORK: usize = 16400;
 
-const MOST_ROOM: usize = 1040;
+const MOST_ROOM: usize = 16400;
 
 // The bytes of standard input that are held at a time: more than a case can have.
 const WINDOW: usize = 262144;
@@ -134,18 +135,11 @@ fn put_wrong(good: bool, slice: &[u8]) -> usize
 
 // Prints the lines of an answer.
 fn print(file: &[u8], a: Answer, out: &[u32])
-    requires { ⌜ (length (now file) ≤ most-file) × (a .kept ≤ length (now out)) ⌝ }
+    requires { ⌜ (length (now file) ≤ most-file) × (sum (a .kept) ≤ length (now out)) ⌝ }
 {
     let mut starts = [0u32; MOST_FILE];
     let mut text = [0u8; 131200];
-    let many = printing::line_starts(file, &mut starts);
-    let kept = a.kept as usize;
-    let mut i: usize = 0;
-    while i <= kept {
-        let n = printing::answer_line(file, &starts, many, a, out, i, &mut text);
-        put(&text[..n]);
-        i += 1;
-    }
+    printing::print(file, a, out, &mut starts, &mut text);
 }
 
 // Calls the filter over slices of a case's lengths.
@@ -161,7 +155,7 @@ fn call(
     s: Sizes,
 ) -> Answer
     requires { ⌜ Lends (now w0) (now w1) (now w2) (now w3) (now w4) (now w5) (now out) s ⌝ }
-    ensures { λ a. ⌜ a .kept ≤ length (now (out .entry)) ⌝ }
+    ensures { λ a. ⌜ sum (a .kept) ≤ s .room ⌝ }
 {
     let n0 = s.n0;
     let n1 = s.n1;
@@ -182,7 +176,7 @@ fn call(
     )
 }
 
-// Prints whether the slices came back as document 01 says.
+// Prints whether the slices came back as document 01 says, the result slice from the end of its lists on.
 fn put_slices(
     w0: &[u32],
     w1: &[u32],
@@ -192,6 +186,7 @@ fn put_slices(
     w5: &[u32],
     out: &[u32],
     a: Answer,
+    kept: usize,
 ) {
     let zeros = zeros_after(a);
     let mut wrong = put_wrong(is_left(w0, 0, zeros), b"0");
@@ -200,7 +195,7 @@ fn put_slices(
     wrong += put_wrong(is_left(w3, 3, zeros), b"3");
     wrong += put_wrong(is_left(w4, 4, zeros), b"4");
     wrong += put_wrong(is_left(w5, 5, zeros), b"5");
-    wrong += put_wrong(is_left_from(out, 6, a.kept as usize), b"result");
+    wrong += put_wrong(is_left_from(out, 6, kept), b"result");
     if wrong == 0 {
         put(b"slices,ok\n");
     }
@@ -236,7 +231,9 @@ fn run(file: &[u8], s: Sizes)
         s,
     );
     print(file, a, &out);
-    put_slices(&w0, &w1, &w2, &w3, &w4, &w5, &out, a);
+    let counts = a.kept;
+    let kept = printing::sum_counts(counts);
+    put_slices(&w0, &w1, &w2, &w3, &w4, &w5, &out, a, kept);
 }
 
 // The number of the field that starts at a place, at most `most`.

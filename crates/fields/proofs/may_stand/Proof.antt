@@ -9,6 +9,9 @@ use Rattle.fields.proofs.may_stand.Tie as tie
 enum-told : tie.Need-enum-told
 enum-told c = c .match .keys1
 
+in-asks-requires : tie.Need-in-asks-requires
+in-asks-requires c κs = search needs
+
 enum-told-2 : tie.Need-enum-told-2
 enum-told-2 c = c .match .keys2
 
@@ -28,10 +31,11 @@ enum-told-5 : tie.Need-enum-told-5
 enum-told-5 c = c .match .keys5
 
 returns-2 : tie.Need-returns-2
-returns-2 c = λ s p. stands-ask p ∙ ap (stands s) (sym (c .before .enum-told .given .1))
+returns-2 c = λ s p. stands-ask p (c .in-asks .ensures s p) ∙ ap (stands s) (sym (c .before .enum-told .given .1))
 
 returns-3 : tie.Need-returns-3
-returns-3 c = λ s p. stands-hide p (c .before .if1 .left) (c .in-head .ensures s p) ∙ ap (stands s) (sym (c .before .before .before .enum-told2 .given .1))
+returns-3 c = λ s p.
+    stands-hide p (c .before .if1 .left) (c .in-head .ensures s p) ∙ ap (stands s) (sym (c .before .before .before .enum-told2 .given .1))
 
 returns-4 : tie.Need-returns-4
 returns-4 c = λ s p. stands-term p _ ∙ ap (stands s) (sym (c .before .enum-told3 .given .1))
@@ -40,13 +44,14 @@ returns-5 : tie.Need-returns-5
 returns-5 c = λ s p. stands-record p _ ∙ ap (stands s) (sym (c .before .enum-told4 .given .1))
 
 returns-6 : tie.Need-returns-6
-returns-6 c = λ s p. stands-none s ∙ ap (stands s) (sym (c .enum-told5 .given .1))
+returns-6 c = λ s p. stands-none s _ ∙ ap (stands s) (sym (c .enum-told5 .given .1))
 
 pub may-stand-spec : {M : Type 1} → statement M
 may-stand-spec =
     tie.close
     (tie.spec
     enum-told
+    in-asks-requires
     enum-told-2
     returns
     in-head-requires

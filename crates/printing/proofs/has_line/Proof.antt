@@ -41,6 +41,9 @@ enum-told-11 c = c .match .keys11
 enum-told-12 : tie.Need-enum-told-12
 enum-told-12 c = c .match .keys12
 
+enum-told-13 : tie.Need-enum-told-13
+enum-told-13 c = c .match .keys13
+
 returns : tie.Need-returns
 unfolding has-line
 returns c = line-is (c .enum-told .given .1) refl
@@ -89,6 +92,10 @@ returns-12 : tie.Need-returns-12
 unfolding has-line
 returns-12 c = line-is (c .enum-told12 .given .1) refl
 
+returns-13 : tie.Need-returns-13
+unfolding has-line
+returns-13 c = line-is (c .enum-told13 .given .1) refl
+
 pub has-line-spec : {M : Type 1} → statement M
 has-line-spec =
     tie.close
@@ -105,6 +112,7 @@ has-line-spec =
     enum-told-10
     enum-told-11
     enum-told-12
+    enum-told-13
     returns
     returns-2
     returns-3
@@ -116,4 +124,5 @@ has-line-spec =
     returns-9
     returns-10
     returns-11
-    returns-12)
+    returns-12
+    returns-13)

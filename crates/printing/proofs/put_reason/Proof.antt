@@ -114,6 +114,15 @@ slice-aggregate-put-12 c = search needs
 put-requires-12 : tie.Need-put-requires-12
 put-requires-12 c κs = search needs
 
+enum-told-13 : tie.Need-enum-told-13
+enum-told-13 c = c .match .keys13
+
+slice-aggregate-put-13 : tie.Need-slice-aggregate-put-13
+slice-aggregate-put-13 c = search needs
+
+put-requires-13 : tie.Need-put-requires-13
+put-requires-13 c κs = search needs
+
 same-length : tie.Need-same-length
 same-length c = search needs
 
@@ -234,6 +243,16 @@ returns-12 c =
     let at-enum-told12 = at-put12 .before .before .before in
     (rw (at-enum-told12 .enum-told12 .given .1) (at-put12 .put12 .ensures), omega (arith, at-put12 .put12 .ensures .ends))
 
+same-length-13 : tie.Need-same-length-13
+same-length-13 c = search needs
+
+returns-13 : tie.Need-returns-13
+unfolding reason bytes
+returns-13 c =
+    let at-put13 = c .before .before in
+    let at-enum-told13 = at-put13 .before .before .before in
+    (rw (at-enum-told13 .enum-told13 .given .1) (at-put13 .put13 .ensures), omega (arith, at-put13 .put13 .ensures .ends))
+
 pub put-reason-spec : {M : Type 1} → statement M
 put-reason-spec =
     tie.close
@@ -274,6 +293,9 @@ put-reason-spec =
     enum-told-12
     slice-aggregate-put-12
     put-requires-12
+    enum-told-13
+    slice-aggregate-put-13
+    put-requires-13
     same-length
     returns
     same-length-2
@@ -297,4 +319,6 @@ put-reason-spec =
     same-length-11
     returns-11
     same-length-12
-    returns-12)
+    returns-12
+    same-length-13
+    returns-13)

@@ -1,5 +1,4 @@
 -- `reader::read_kind` meets its contract: each sort of line by its own.
-use Rattle.model.specs.declared.Refusal.the-variants as refusal
 use Rattle.filing.proofs.Recording.{line-not, line-said}
 use Rattle.reader.proofs.Lifting.{ask-read, term-read}
 use Rattle.reader.proofs.Lines.{kind-ask, kind-hide, kind-term, kind-record, kind-none}
@@ -39,8 +38,8 @@ read-record-requires c κs =
     let entry = c .before .before .before .before .before .before .before .before .before .before .before .before .before .before in
     (entry .pre .0, entry .pre .1, entry .pre .2)
 
-enum-told-3 : tie.Need-enum-told-3
-enum-told-3 c = c .match .keys5
+enum-known-kind-3 : tie.Need-enum-known-kind-3
+enum-known-kind-3 c = c .match .keys5
 
 same-length : tie.Need-same-length
 same-length c =
@@ -112,7 +111,7 @@ returns-4 c =
     line-said (kind-record _ _ (at-kind2 .kind2 .given .1)) (at-read-record .read-record .ensures)
 
 returns-5 : tie.Need-returns-5
-returns-5 c = line-not _ _ _ _ _ _ _ _ refusal.Form (kind-none _ _ (c .enum-told3 .given .1))
+returns-5 c = line-not _ _ _ _ _ _ _ _ _ (kind-none _ _ (c .before .kind3 .given .1))
 
 pub read-kind-spec : {M : Type 1} → statement M
 read-kind-spec =
@@ -126,7 +125,7 @@ read-kind-spec =
     read-term-requires
     enum-known-kind-2
     read-record-requires
-    enum-told-3
+    enum-known-kind-3
     same-length
     returns
     same-length-2

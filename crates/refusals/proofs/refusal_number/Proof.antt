@@ -39,6 +39,9 @@ enum-told-11 c = c .match .keys11
 enum-told-12 : tie.Need-enum-told-12
 enum-told-12 c = c .match .keys12
 
+enum-told-13 : tie.Need-enum-told-13
+enum-told-13 c = c .match .keys13
+
 returns : tie.Need-returns
 returns c = number-is (c .enum-told .given .1) (numbers .0)
 
@@ -75,6 +78,9 @@ returns-11 c = number-is (c .enum-told11 .given .1) (numbers .10)
 returns-12 : tie.Need-returns-12
 returns-12 c = number-is (c .enum-told12 .given .1) (numbers .11)
 
+returns-13 : tie.Need-returns-13
+returns-13 c = number-is (c .enum-told13 .given .1) (numbers .12)
+
 pub refusal-number-spec : {M : Type 1} → statement M
 refusal-number-spec =
     tie.close
@@ -91,6 +97,7 @@ refusal-number-spec =
     enum-told-10
     enum-told-11
     enum-told-12
+    enum-told-13
     returns
     returns-2
     returns-3
@@ -102,4 +109,5 @@ refusal-number-spec =
     returns-9
     returns-10
     returns-11
-    returns-12)
+    returns-12
+    returns-13)

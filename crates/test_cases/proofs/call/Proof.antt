@@ -1,7 +1,7 @@
 -- `test_cases::call` meets its contract.
 use lib.ListN.{length-take}
 use Rattle.printing.proofs.Texts.{counted}
-use Rattle.printing.proofs.Answers.{kept-room}
+use Rattle.printing.proofs.Sums.{kept-room}
 use borrow.Author.Needs.{needs}
 use native.Mathlib.Omega.{arith}
 use Rattle.test_cases.proofs.call.Statement.{statement}

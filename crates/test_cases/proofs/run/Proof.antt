@@ -80,6 +80,12 @@ print-requires c κs =
     let at-pre = at-call .before .before .before .before .before .before .before .before .before .before .before .before .before .before .before .before .before .before .before .before .before .before .before .before .before .before .before .before .before .before in
     (at-pre .pre .0, omega (arith, at-call .call .ensures))
 
+sum-counts-requires : tie.Need-sum-counts-requires
+sum-counts-requires c κs =
+    let at-call = c .before .before .before .before .before .before .before .before .before .before in
+    let at-pre = at-call .before .before .before .before .before .before .before .before .before .before .before .before .before .before .before .before .before .before .before .before .before .before .before .before .before .before .before .before .before .before in
+    omega (arith, at-call .call .ensures, at-pre .pre .1 .result)
+
 slice-aggregate-put-slices : tie.Need-slice-aggregate-put-slices
 slice-aggregate-put-slices c = search needs
 
@@ -135,6 +141,7 @@ run-spec =
     call-requires
     slice-aggregate-print
     print-requires
+    sum-counts-requires
     slice-aggregate-put-slices
     slice-aggregate-put-slices-2
     slice-aggregate-put-slices-3
