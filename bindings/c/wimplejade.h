@@ -16,9 +16,9 @@ extern "C" {
 
 /* The version; the archive has to be of the same one. While the first number is 0, a change of the second may change the
  * functions, the answer or the file. */
-#define WIMPLEJADE_VERSION "0.2.0"
+#define WIMPLEJADE_VERSION "0.3.0"
 #define WIMPLEJADE_VERSION_MAJOR 0
-#define WIMPLEJADE_VERSION_MINOR 2
+#define WIMPLEJADE_VERSION_MINOR 3
 #define WIMPLEJADE_VERSION_PATCH 0
 
 /* The words that each working slice must have at least. */
