@@ -72,6 +72,7 @@ function end_line(ended) {
         judge(ended)
     } else {
         kind = text(1)
+        if (kind != "ask") past_asks = 1
         if (kind != "ask" && kind != "hide") past_head = 1
         if (kind in is_term) term_lines++
         if (kind in is_taken) taken[text(2)] = line
@@ -117,8 +118,8 @@ function judge(ended,   kind) {
         unknown_kind(kind)
     } else if (line == 1 && kind != "ask") {
         fault(1, 1, quoted(1) " stands where ask has to: line 1 is ask,QUERY,OPTIONS")
-    } else if (line != 1 && kind == "ask") {
-        fault(1, 1, "ask may stand on line 1 only")
+    } else if (kind == "ask" && past_asks) {
+        fault(1, 1, "ask may stand only on line 1 or directly after another ask line")
     } else if (kind == "hide" && past_head) {
         fault(1, 1, "hide may stand only directly after ask or another hide line")
     } else if (form[kind] !~ /\*|groups/ && fields != 1 + split(form[kind], parts, " ")) {

@@ -5,8 +5,8 @@ use std::io;
 use std::path::Path;
 
 use compare::export::export;
-use compare::limits;
 use compare::text::Text;
+use compare::{filter_file, limits};
 
 /// Where a file comes from.
 #[derive(Clone, Copy, PartialEq, Eq)]
@@ -26,14 +26,34 @@ pub struct Sample {
 /// The seed of the files that look like exports.
 pub const EXPORT_SEED: u64 = 1;
 
+/// The longest file that looks like an export, with one ask line and with as many as there may be.
+pub const ONE_ASK: &str = "export-like, 65 KB";
+pub const SIXTEEN_ASKS: &str = "export-like, 65 KB, sixteen asks";
+
 /// Files that look like what F* exports.
 pub fn exports() -> Vec<Sample> {
-    let sample = |(name, bytes): (&str, usize)| Sample {
-        name: format!("export-like, {name}"),
-        sort: Sort::Export,
-        file: export(EXPORT_SEED, bytes),
-    };
-    [("2 KB", 2_000), ("16 KB", 16_000), ("65 KB", 65_535)].map(sample).into()
+    let files: [(&str, Vec<u8>); 4] = [
+        ("export-like, 2 KB", export(EXPORT_SEED, 2_000)),
+        ("export-like, 16 KB", export(EXPORT_SEED, 16_000)),
+        (ONE_ASK, export(EXPORT_SEED, limits::BYTES)),
+        (SIXTEEN_ASKS, sixteen_asks()),
+    ];
+    files.map(|(name, file)| Sample { name: name.to_owned(), sort: Sort::Export, file }).into()
+}
+
+/// The longest file that looks like an export with its ask line sixteen times. Declarations that it does not keep give way
+/// to these lines: so it fits the limit, and every list is that of the file with one ask line.
+fn sixteen_asks() -> Vec<u8> {
+    let file = export(EXPORT_SEED, limits::BYTES);
+    let kept = filter_file(&file).lines();
+    let mut lines: Vec<&[u8]> = file.split_inclusive(|&byte| byte == b'\n').collect();
+    let mut left_over = (file.len() + (limits::ASKS - 1) * lines[0].len()).saturating_sub(limits::BYTES);
+    for index in (0..lines.len()).rev() {
+        if left_over > 0 && lines[index].starts_with(b"fun,") && !kept.contains(&(index as u32 + 1)) {
+            left_over = left_over.saturating_sub(lines.remove(index).len());
+        }
+    }
+    [lines[0].repeat(limits::ASKS - 1), lines.concat()].concat()
 }
 
 /// Every `.in` of a folder, by name.
@@ -201,7 +221,7 @@ fn refused_last() -> Vec<u8> {
 #[cfg(test)]
 mod tests {
     use super::*;
-    use compare::{filter_file, Outcome};
+    use compare::Outcome;
 
     #[test]
     fn ugly_files_are_what_they_say() {
@@ -212,14 +232,27 @@ mod tests {
                     assert_eq!(answer, Outcome::Refused { number: 1, place: lines + 1 });
                 }
                 ("no file at all", answer) => assert_eq!(answer, Outcome::Refused { number: 1, place: 1 }),
-                ("1,024 rounds", Outcome::Kept { lines, rounds, .. }) => {
-                    assert_eq!((lines.len(), rounds), (1_023, 1_024))
+                ("1,024 rounds", Outcome::Kept(lists)) => {
+                    assert_eq!((lists[0].lines.len(), lists[0].rounds), (1_023, 1_024))
                 }
-                ("1,023 bodies followed", Outcome::Kept { lines, .. }) => assert_eq!(lines.len(), 1_023),
+                ("1,023 bodies followed", answer @ Outcome::Kept(_)) => assert_eq!(answer.lines().len(), 1_023),
                 (name, Outcome::Refused { number, place }) => panic!("{name}: refused, {number}, {place}"),
-                (_, Outcome::Kept { .. }) => {}
+                (_, Outcome::Kept(_)) => {}
             }
         }
+    }
+
+    #[test]
+    fn sixteen_asks_are_one_again_and_again() {
+        let answer_to = |name: &str| {
+            let sample = exports().into_iter().find(|sample| sample.name == name).unwrap();
+            let answer = filter_file(&sample.file);
+            let names = |names: &[&[u8]]| names.iter().map(|name| name.to_vec()).collect::<Vec<_>>();
+            answer.lists().iter().map(|list| (names(&list.names), list.visits, list.rounds)).collect::<Vec<_>>()
+        };
+        let one = answer_to(ONE_ASK);
+        assert_eq!(one.len(), 1);
+        assert_eq!(answer_to(SIXTEEN_ASKS), vec![one[0].clone(); limits::ASKS]);
     }
 
     #[test]

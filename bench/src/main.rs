@@ -95,6 +95,9 @@ fn run(options: &Options) -> io::Result<()> {
     }
     let table = format!("{}\n\n{}", conditions(), table::markdown(&rows));
     println!("{table}");
+    if let Some(times) = sixteen_asks_for_one(&rows) {
+        println!("sixteen asks: {times:.2} times the instructions of one ask; wanted are at most {WANTED_FOR_SIXTEEN}");
+    }
 
     if let Some(path) = &options.document {
         let text = fs::read_to_string(path)?;
@@ -114,6 +117,15 @@ fn run(options: &Options) -> io::Result<()> {
         fs::write(path, picture::draw(&points))?;
     }
     Ok(())
+}
+
+/// The most instructions that sixteen asks over the longest file may take, as so many times those of one.
+const WANTED_FOR_SIXTEEN: f64 = 2.5;
+
+/// How many times the library's instructions of one ask sixteen of them take, over the longest file that looks like an export.
+fn sixteen_asks_for_one(rows: &[Row]) -> Option<f64> {
+    let library = |name: &str| Some(rows.iter().find(|row| row.name == name)?.instructions?.library as f64);
+    Some(library(files::SIXTEEN_ASKS)? / library(files::ONE_ASK)?)
 }
 
 /// Looks for the worst file, writes it, and says what it takes.

@@ -2,7 +2,7 @@
 
 use std::hint::black_box;
 
-use compare::{filter_file, Outcome};
+use compare::{filter_file, List, Outcome};
 use wimplejade::{Counts, Refusal, MOST_KEPT, WORKING_WORDS};
 
 /// The slices that the library is lent.
@@ -42,9 +42,17 @@ pub fn independent(file: &[u8]) -> usize {
 unsafe extern "C" fn bench_independent_filter(file: *const u8, bytes: usize) -> usize {
     // SAFETY: as the caller promises.
     let file = unsafe { std::slice::from_raw_parts(file, bytes) };
-    match black_box(filter_file(file)) {
-        Outcome::Kept { lines, .. } => lines.len(),
-        Outcome::Refused { number, .. } => number as usize,
+    let outcome = black_box(filter_file(file));
+    outcome.lists().iter().map(|list| list.lines.len()).sum::<usize>() + outcome.number() as usize
+}
+
+/// Some lists in a few words.
+fn in_words(lists: &[List]) -> String {
+    let kept: usize = lists.iter().map(|list| list.lines.len()).sum();
+    let rounds: u32 = lists.iter().map(|list| list.rounds).sum();
+    match lists.len() {
+        1 => format!("{kept} kept, {rounds} rounds"),
+        many => format!("{many} lists, {kept} kept, {rounds} rounds"),
     }
 }
 
@@ -53,10 +61,12 @@ pub fn same_answer(file: &[u8]) -> Option<String> {
     let mut library = Library::new();
     let answer = library.call(file);
     match (filter_file(file), answer) {
-        (Outcome::Kept { lines, visits, rounds, .. }, Ok(counts)) => {
-            let same = (lines.len() as u32, visits, rounds) == (counts.kept, counts.visits, counts.rounds)
-                && library.result[..lines.len()] == lines;
-            same.then(|| format!("{} kept, {rounds} rounds", lines.len()))
+        (Outcome::Kept(lists), Ok(counts)) => {
+            let same = counts.asks() == lists.len()
+                && counts.lists(&library.result).zip(&lists).enumerate().all(|(index, (lines, list))| {
+                    (lines, counts.visits[index], counts.rounds[index]) == (&list.lines[..], list.visits, list.rounds)
+                });
+            same.then(|| in_words(&lists))
         }
         (Outcome::Refused { number, place }, Err(refusal)) => {
             ((number, place) == (refusal.number(), refusal.place())).then(|| format!("refused, {number}"))

@@ -1,4 +1,4 @@
-/* Filters one file, or standard input, and prints what factfilter prints:
+/* Filters one file, or standard input, and prints what factfilter prints, a list for each ask line:
  *
  *     example [FILE]
  *
@@ -43,12 +43,14 @@ int main(int count, char **arguments)
         fprintf(stderr, "%s\n", wimplejade_words(answer.refusal));
         return 1;
     }
-    for (uint32_t index = 0; index < answer.kept; index++) {
-        uint32_t line = slices.result[index];
-        struct wimplejade_name name = wimplejade_name_on(file, bytes, line);
-        printf("kept,%u,%.*s\n", (unsigned)line, (int)name.length, (const char *)name.bytes);
+    for (uint32_t position = 1; position <= wimplejade_asks(&answer); position++) {
+        struct wimplejade_list list = wimplejade_list_at(&answer, slices.result, position);
+        for (uint32_t index = 0; index < list.kept; index++) {
+            struct wimplejade_name name = wimplejade_name_on(file, bytes, list.lines[index]);
+            printf("kept,%u,%.*s\n", (unsigned)list.lines[index], (int)name.length, (const char *)name.bytes);
+        }
+        printf("sum,%u,%u,%u\n", (unsigned)list.kept, (unsigned)list.visits, (unsigned)list.rounds);
     }
-    printf("sum,%u,%u,%u\n", (unsigned)answer.kept, (unsigned)answer.visits, (unsigned)answer.rounds);
     if (fflush(stdout) != 0) {
         perror("example");
         return 2;

@@ -30,6 +30,15 @@ static int has_name(const char *text, uint32_t line, const char *expected)
     return same;
 }
 
+static struct wimplejade_slices slices;
+
+/* Whether the list of a position has so many lines, and this one first if it has any. */
+static int list_is(const struct wimplejade_answer *answer, uint32_t position, uint32_t kept, uint32_t first)
+{
+    struct wimplejade_list list = wimplejade_list_at(answer, slices.result, position);
+    return list.kept == kept && (kept == 0 || list.lines[0] == first);
+}
+
 int main(void)
 {
     check(has_name("ask,0,0\nfun,f\n", 2, "f"), "the last field of a line");
@@ -41,16 +50,32 @@ int main(void)
     check(has_name("ask,0,0\n", 9, ""), "a line far behind the last");
     check(has_name("", 1, ""), "no file");
 
-    for (uint32_t refusal = 0; refusal <= 12; refusal++) {
+    for (uint32_t refusal = 0; refusal <= 13; refusal++) {
         check(wimplejade_has_line(refusal) == (refusal != 0 && (refusal < 7 || refusal > 9)), "a line has a refusal");
-        for (uint32_t other = 0; other <= 13; other++) {
+        for (uint32_t other = 0; other <= 14; other++) {
             check((strcmp(wimplejade_words(refusal), wimplejade_words(other)) == 0) == (refusal == other), "words");
         }
     }
 
-    static struct wimplejade_slices slices;
     const char *text = "ask,0,0\nleaf\nassume,a,0,0\n";
     struct wimplejade_answer answer = wimplejade_run((const uint8_t *)text, strlen(text), &slices);
-    check(answer.refusal == WIMPLEJADE_ACCEPTED && answer.kept == 1 && slices.result[0] == 3, "a call");
+    check(answer.refusal == WIMPLEJADE_ACCEPTED && answer.kept[0] == 1 && slices.result[0] == 3, "a call");
+    check(wimplejade_asks(&answer) == 1 && list_is(&answer, 1, 1, 3) && list_is(&answer, 2, 0, 0), "one ask line");
+
+    text = "ask,1,0\nask,7,1\nask,0,4\nleaf\nassume,a,0,0\nfree,p\nfun,p\nroot,0,goal,1\n";
+    answer = wimplejade_run((const uint8_t *)text, strlen(text), &slices);
+    check(wimplejade_asks(&answer) == 3, "three ask lines");
+    check(list_is(&answer, 1, 1, 5) && list_is(&answer, 2, 0, 0) && list_is(&answer, 3, 2, 5), "three lists");
+    check(wimplejade_list_at(&answer, slices.result, 3).lines[1] == 7, "the second line of the third list");
+    check(wimplejade_list_at(&answer, slices.result, 2).rounds == 1, "the rounds of an empty list");
+    check(list_is(&answer, 0, 0, 0) && list_is(&answer, 4, 0, 0) && list_is(&answer, 17, 0, 0), "no ask line there");
+    for (uint32_t index = 3; index < WIMPLEJADE_MOST_ASKS; index++) {
+        check(answer.kept[index] == 0 && answer.visits[index] == 0 && answer.rounds[index] == 0, "counts past the last");
+    }
+
+    text = "ask,0,0\nhide,p\nask,0,0\n";
+    answer = wimplejade_run((const uint8_t *)text, strlen(text), &slices);
+    check(answer.refusal == WIMPLEJADE_FORM && answer.place == 3 && wimplejade_asks(&answer) == 0, "an ask line after hide");
+    check(sizeof answer == 200, "the bytes of an answer");
     return wrong;
 }

@@ -16,17 +16,23 @@ extern "C" {
 
 /* The version; the archive has to be of the same one. While the first number is 0, a change of the second may change the
  * functions, the answer or the file. */
-#define WIMPLEJADE_VERSION "0.2.0"
+#define WIMPLEJADE_VERSION "0.3.0"
 #define WIMPLEJADE_VERSION_MAJOR 0
-#define WIMPLEJADE_VERSION_MINOR 2
+#define WIMPLEJADE_VERSION_MINOR 3
 #define WIMPLEJADE_VERSION_PATCH 0
 
 /* The words that each working slice must have at least. */
 #define WIMPLEJADE_WORKING_WORDS 16384
 
-/* The most lines that an accepted file can keep. It is proved that a call over a result slice of so many words, or more, is
- * never refused with WIMPLEJADE_ROOM. */
-#define WIMPLEJADE_MOST_KEPT 1024
+/* The ask lines that a file may have. */
+#define WIMPLEJADE_MOST_ASKS 16
+
+/* The record lines that a file may have: so many lines one list can have. */
+#define WIMPLEJADE_MOST_RECORDS 1024
+
+/* The most lines that an accepted file can keep, in all lists. It is proved that a call over a result slice of so many words,
+ * or more, is never refused with WIMPLEJADE_ROOM. */
+#define WIMPLEJADE_MOST_KEPT (WIMPLEJADE_MOST_ASKS * WIMPLEJADE_MOST_RECORDS)
 
 /* The bytes that a file may have. */
 #define WIMPLEJADE_MOST_BYTES 65535
@@ -38,43 +44,46 @@ extern "C" {
 /* Why a call is refused; the comment says what `place` is then. A line is counted from 1. A line that passes several
  * limits is refused with the lowest of 6, 10, 11 and 12. */
 enum wimplejade_refusal {
-    WIMPLEJADE_ACCEPTED = 0,      /* not refused; 0 */
-    WIMPLEJADE_FORM = 1,          /* not a line of the file's form; the line */
-    WIMPLEJADE_NAME = 2,          /* a field is no name; the line */
-    WIMPLEJADE_NUMBER = 3,        /* a field is no number, or outside its range; the line */
-    WIMPLEJADE_TERM = 4,          /* a term number that is not there yet; the line */
-    WIMPLEJADE_REPEATED = 5,      /* the name of an earlier assume, fun or def; the line */
-    WIMPLEJADE_FULL_NAMES = 6,    /* more than 2,048 names; the line */
-    WIMPLEJADE_WORKING = 7,       /* a working slice is too short; 0 */
-    WIMPLEJADE_ROOM = 8,          /* the result slice is shorter than the kept lines; how many they are */
-    WIMPLEJADE_SIZE = 9,          /* the file has more than WIMPLEJADE_MOST_BYTES; 0 */
-    WIMPLEJADE_FULL_TERMS = 10,   /* more than 4,096 term lines or 16,384 references in them; the line */
-    WIMPLEJADE_FULL_RECORDS = 11, /* more than 1,024 record lines; the line */
-    WIMPLEJADE_FULL_TRIGGERS = 12 /* more than 2,048 trigger entries or 6,144 name uses; the line */
+    WIMPLEJADE_ACCEPTED = 0,       /* not refused; 0 */
+    WIMPLEJADE_FORM = 1,           /* not a line of the file's form; the line */
+    WIMPLEJADE_NAME = 2,           /* a field is no name; the line */
+    WIMPLEJADE_NUMBER = 3,         /* a field is no number, or outside its range; the line */
+    WIMPLEJADE_TERM = 4,           /* a term number that is not there yet; the line */
+    WIMPLEJADE_REPEATED = 5,       /* the name of an earlier assume, fun or def; the line */
+    WIMPLEJADE_FULL_NAMES = 6,     /* more than 2,048 names; the line */
+    WIMPLEJADE_WORKING = 7,        /* a working slice is too short; 0 */
+    WIMPLEJADE_ROOM = 8,           /* the result slice is shorter than all lists end to end; how many lines they have */
+    WIMPLEJADE_SIZE = 9,           /* the file has more than WIMPLEJADE_MOST_BYTES; 0 */
+    WIMPLEJADE_FULL_TERMS = 10,    /* more than 4,096 term lines or 16,384 references in them; the line */
+    WIMPLEJADE_FULL_RECORDS = 11,  /* more than 1,024 record lines; the line */
+    WIMPLEJADE_FULL_TRIGGERS = 12, /* more than 2,048 trigger entries or 6,144 name uses; the line */
+    WIMPLEJADE_FULL_ASKS = 13      /* more than WIMPLEJADE_MOST_ASKS ask lines; the line */
 };
 
-/* The answer of a call. After a refusal kept, visits and rounds are 0. */
+/* The answer of a call: the counts of each ask line, that of line 1 at index 0. Past the last ask line, and after a refusal,
+ * they are 0; the rounds of an ask are 1 at least. */
 struct wimplejade_answer {
     uint32_t refusal; /* one of enum wimplejade_refusal */
     uint32_t place;
-    uint32_t kept;   /* how many lines are kept */
-    uint32_t visits; /* the trigger entries whose name was met */
-    uint32_t rounds; /* the rounds of the run */
+    uint32_t kept[WIMPLEJADE_MOST_ASKS];   /* how many lines are kept */
+    uint32_t visits[WIMPLEJADE_MOST_ASKS]; /* the trigger entries whose name was met */
+    uint32_t rounds[WIMPLEJADE_MOST_ASKS]; /* the rounds of the run */
 };
 
-/* Filters a file.
+/* Filters a file, for all its ask lines.
  *
  * A slice is passed as a pointer and the number of its elements: bytes of the file, 32-bit words of the others.
- * `working0` to `working5` are the six working slices, `result` takes the kept line numbers in their order.
+ * `working0` to `working5` are the six working slices. `result` takes the kept line numbers: the list of each ask line, in its
+ * order, directly after that of the ask line before.
  *
  * The call always returns, whatever the file holds and however short a slice is. It writes nothing but the slices as
  * said here, allocates nothing, keeps nothing between calls, and reads and writes no file.
  *
- * A file that looks like an export takes 10 to 300 microseconds, the worst file known 0.22 seconds; no bound is proved
- * (docs/PERFORMANCE.md).
+ * A file that looks like an export, with one ask line, takes 10 to 300 microseconds, the worst file known 0.22 seconds; no
+ * bound is proved (docs/PERFORMANCE.md).
  *
- *   accepted       result holds `kept` line numbers from its start, and past them what it held before; the first
- *                  WIMPLEJADE_WORKING_WORDS words of each working slice are 0, the rest is as before
+ *   accepted       result holds line numbers from its start, as many as the sum of `kept`, and past them what it held before;
+ *                  the first WIMPLEJADE_WORKING_WORDS words of each working slice are 0, the rest is as before
  *   refused, 7     every slice is as before
  *   refused else   result is as before; the working slices as when accepted
  *

@@ -1,5 +1,5 @@
-/* What callers of wimplejade.h would each write again, in plain C: the slices in one struct, a refusal in words, the name on a
- * kept line. Nothing of it is proved, and nothing else needs it: all of it is here, as static functions.
+/* What callers of wimplejade.h would each write again, in plain C: the slices in one struct, the list of an ask, a refusal in
+ * words, the name on a kept line. Nothing of it is proved, and nothing else needs it: all of it is here, as static functions.
  */
 #ifndef WIMPLEJADE_HELPER_H
 #define WIMPLEJADE_HELPER_H
@@ -8,15 +8,15 @@
 
 #include <string.h>
 
-/* The slices of a call, long enough for every file: some 400 KB, so a static object or one from calloc. Its words have to be
+/* The slices of a call, long enough for every file: some 460 KB, so a static object or one from calloc. Its words have to be
  * written once before the first call, which both of these do; after that it serves any number of calls, one at a time. */
 struct wimplejade_slices {
     uint32_t working[6][WIMPLEJADE_WORKING_WORDS];
     uint32_t result[WIMPLEJADE_MOST_KEPT];
 };
 
-/* Filters a file with these slices. The first `kept` words of slices->result are the kept lines; refusals 7 and 8 do not
- * occur. */
+/* Filters a file with these slices. slices->result then holds the lists, which wimplejade_list_at finds; refusals 7 and 8 do
+ * not occur. */
 static inline struct wimplejade_answer wimplejade_run(const uint8_t *file, size_t file_bytes, struct wimplejade_slices *slices)
 {
     uint32_t (*working)[WIMPLEJADE_WORKING_WORDS] = slices->working;
@@ -25,6 +25,42 @@ static inline struct wimplejade_answer wimplejade_run(const uint8_t *file, size_
         working[0], WIMPLEJADE_WORKING_WORDS, working[1], WIMPLEJADE_WORKING_WORDS, working[2], WIMPLEJADE_WORKING_WORDS,
         working[3], WIMPLEJADE_WORKING_WORDS, working[4], WIMPLEJADE_WORKING_WORDS, working[5], WIMPLEJADE_WORKING_WORDS,
         slices->result, WIMPLEJADE_MOST_KEPT);
+}
+
+/* How many ask lines were answered: none after a refusal. */
+static inline uint32_t wimplejade_asks(const struct wimplejade_answer *answer)
+{
+    uint32_t asks = 0;
+    while (asks < WIMPLEJADE_MOST_ASKS && answer->rounds[asks] > 0) {
+        asks++;
+    }
+    return asks;
+}
+
+/* What one ask keeps: `kept` line numbers, a part of the result slice, and the counts of its run. */
+struct wimplejade_list {
+    const uint32_t *lines;
+    uint32_t kept;
+    uint32_t visits;
+    uint32_t rounds;
+};
+
+/* The list of the ask line at a position, which is counted from 1 as lines are: the ask of position 2 stands on line 2.
+ * `result` is the start of the call's result slice. Where no ask line is answered at the position, all counts are 0. */
+static inline struct wimplejade_list wimplejade_list_at(const struct wimplejade_answer *answer, const uint32_t *result,
+                                                        uint32_t position)
+{
+    struct wimplejade_list list = {result, 0, 0, 0};
+    if (position == 0 || position > WIMPLEJADE_MOST_ASKS) {
+        return list;
+    }
+    for (uint32_t before = 0; before < position - 1; before++) {
+        list.lines += answer->kept[before];
+    }
+    list.kept = answer->kept[position - 1];
+    list.visits = answer->visits[position - 1];
+    list.rounds = answer->rounds[position - 1];
+    return list;
 }
 
 /* A refusal in words. */
@@ -44,6 +80,7 @@ static inline const char *wimplejade_words(uint32_t refusal)
     case WIMPLEJADE_FULL_TERMS: return "the file has more than 4,096 term lines or 16,384 references";
     case WIMPLEJADE_FULL_RECORDS: return "the file has more than 1,024 record lines";
     case WIMPLEJADE_FULL_TRIGGERS: return "the file has more than 2,048 trigger entries or 6,144 name uses";
+    case WIMPLEJADE_FULL_ASKS: return "the file has more than 16 ask lines";
     default: return "a refusal that this header does not know";
     }
 }

@@ -22,7 +22,7 @@ pub struct Case {
 impl Case {
     /// A case whose slices are long enough.
     pub fn new(name: impl Into<String>, file: Vec<u8>) -> Self {
-        Case { name: name.into(), file, works: LONG_ENOUGH, room: limits::RECORDS }
+        Case { name: name.into(), file, works: LONG_ENOUGH, room: limits::ROOM }
     }
 
     /// The same case with other working slices.
@@ -57,7 +57,8 @@ const PROBED_NAMES: usize = 16;
 const PROBED_BYTES: usize = 5_000;
 
 /// An accepted file once more for each of its names, with a root that has that name alone, and with roots for all names
-/// but that one. This shows each name of each disjunct in the answers. The file's own roots are of other queries.
+/// but that one. This shows each name of each disjunct in the answers. Every ask line asks for these roots, with its own
+/// options; the file's own roots are of other queries.
 ///
 /// There are none for a file with very many names or bytes, or without facts.
 pub fn probes(case: &Case) -> Vec<Case> {
@@ -70,9 +71,10 @@ pub fn probes(case: &Case) -> Vec<Case> {
     let (Some(query), 1..=PROBED_NAMES, false) = (query, count, background.facts.is_empty()) else {
         return Vec::new();
     };
-    let first_line = case.file.iter().position(|&byte| byte == b'\n').map_or(0, |end| end + 1);
-    let mut lines = format!("ask,{query},{}\n", background.options()).into_bytes();
-    lines.extend_from_slice(&case.file[first_line..]);
+    let asks = background.asks.iter().map(|ask| format!("ask,{query},{}\n", ask.options()));
+    let mut lines = asks.collect::<String>().into_bytes();
+    let rest = case.file.split_inclusive(|&byte| byte == b'\n').skip(background.asks.len());
+    rest.for_each(|line| lines.extend_from_slice(line));
 
     // The empty name, which a token can leave, can't be spelled.
     let names: Vec<&[u8]> = (0..count).map(|id| background.names.bytes(id)).filter(|name| !name.is_empty()).collect();
@@ -145,9 +147,20 @@ mod tests {
     }
 
     #[test]
+    fn probes_ask_with_each_options_number() {
+        let file = b"ask,0,0\nask,255,4\nfree,p\nfun,p\nop,eq,0,0\nassume,a,0,1\nroot,0,r,0\n";
+        let probes = probes(&Case::new("x", file.to_vec()));
+        assert!(probes.iter().all(|probe| probe.file.starts_with(b"ask,255,0\nask,255,4\nfree,p\n")));
+        let answer = "case,x-with-0\nkept,6,a\nsum,1,2,2\nkept,6,a\nkept,4,p\nsum,2,2,2\nslices,ok\n";
+        assert_eq!(probes[0].answer(Order::Source), answer);
+    }
+
+    #[test]
     fn answers() {
         let case = Case::new("accepted", b"ask,0,0\nleaf\nassume,a,0,0\n".to_vec());
         assert_eq!(case.answer(Order::Source), "case,accepted\nkept,3,a\nsum,1,0,1\nslices,ok\n");
         assert_eq!(case.with_room(0).answer(Order::Source), "case,accepted\nrefused,8,1\nslices,ok\n");
+        let case = Case::new("two", b"ask,0,0\nask,0,1\nleaf\nassume,a,0,0\n".to_vec());
+        assert_eq!(case.answer(Order::Source), "case,two\nkept,4,a\nsum,1,0,1\nsum,0,0,1\nslices,ok\n");
     }
 }

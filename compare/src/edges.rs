@@ -3,6 +3,7 @@
 //!
 //! Whatever is refused for a line is refused at the last line of its file.
 
+use crate::asks;
 use crate::case::Case;
 use crate::limits;
 use crate::several;
@@ -16,11 +17,13 @@ pub struct Edge {
     pub number: u32,
 }
 
-/// The refusals that say what was full: names; term lines or references; record lines; trigger entries or name uses.
+/// The refusals that say what was full: names; term lines or references; record lines; trigger entries or name uses; ask
+/// lines.
 pub const FULL_NAMES: u32 = 6;
 pub const FULL_TERMS: u32 = 10;
 pub const FULL_RECORDS: u32 = 11;
 pub const FULL_TRIGGERS: u32 = 12;
+pub const FULL_ASKS: u32 = 13;
 
 /// Every edge, each under its own name.
 pub fn edges() -> Vec<Edge> {
@@ -45,15 +48,27 @@ pub fn edges() -> Vec<Edge> {
     costly(&mut edges);
     bodies(&mut edges);
     slices(&mut edges);
+    asks::counts(&mut edges);
+    asks::lines(&mut edges);
+    asks::limits_with_asks(&mut edges);
+    asks::rooms(&mut edges);
+    asks::runs(&mut edges);
     edges
 }
 
-fn add(edges: &mut Vec<Edge>, name: impl Into<String>, number: u32, text: Text) {
+/// Adds a file.
+pub(crate) fn add(edges: &mut Vec<Edge>, name: impl Into<String>, number: u32, text: Text) {
     edges.push(Edge { case: Case::new(name, text.finish()), number });
 }
 
 /// Adds a file that ends in the line given.
-fn add_line(edges: &mut Vec<Edge>, name: impl Into<String>, number: u32, text: &Text, line: impl AsRef<[u8]>) {
+pub(crate) fn add_line(
+    edges: &mut Vec<Edge>,
+    name: impl Into<String>,
+    number: u32,
+    text: &Text,
+    line: impl AsRef<[u8]>,
+) {
     let mut text = text.clone();
     text.line(line);
     add(edges, name, number, text);
@@ -932,7 +947,7 @@ mod tests {
     use std::collections::HashSet;
 
     use super::*;
-    use crate::{filter, Outcome};
+    use crate::{filter, filter_file, Outcome};
 
     #[test]
     fn each_edge_is_refused_as_it_says() {
@@ -943,18 +958,21 @@ mod tests {
             let lines = case.file.strip_suffix(b"\n").unwrap_or(&case.file);
             let last_line = 1 + lines.iter().filter(|&&byte| byte == b'\n').count() as u32;
             match filter(&case.file, case.works, case.room) {
-                Outcome::Kept { .. } => assert_eq!(*number, 0, "{}", case.name),
+                Outcome::Kept(_) => assert_eq!(*number, 0, "{}", case.name),
                 Outcome::Refused { number: actual, place } => {
                     assert_eq!(actual, *number, "{}", case.name);
                     match actual {
-                        1..=6 | 10..=12 => assert_eq!(place, last_line, "{}", case.name),
-                        8 => assert!(place as usize > case.room, "{}", case.name),
+                        1..=6 | 10..=13 => assert_eq!(place, last_line, "{}", case.name),
+                        8 => {
+                            let kept = filter_file(&case.file).lines().len();
+                            assert!(place as usize == kept && kept > case.room, "{}", case.name);
+                        }
                         _ => assert_eq!(place, 0, "{}", case.name),
                     }
                 }
             }
         }
-        for number in 0..=12 {
+        for number in 0..=13 {
             assert!(edges.iter().any(|edge| edge.number == number), "no edge for {number}");
         }
     }

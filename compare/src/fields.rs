@@ -23,6 +23,8 @@ pub enum Fault {
     FullRecords = 11,
     /// The trigger entries or the name uses pass theirs.
     FullTriggers = 12,
+    /// The ask lines pass theirs.
+    FullAsks = 13,
 }
 
 /// The fields of a line that are still to be read.

@@ -9,7 +9,7 @@ use crate::random::Random;
 use crate::several;
 use crate::terms::TermId;
 use crate::text::Text;
-use crate::{filter, Outcome, LONG_ENOUGH};
+use crate::{filter_file, LONG_ENOUGH};
 
 /// Names with a meaning of their own.
 const SPECIAL: [&str; 29] = [
@@ -79,6 +79,28 @@ fn options(random: &mut Random) -> u32 {
     (if random.chance(30) { random.within(12..=most) } else { random.within(0..=most) }) as u32
 }
 
+/// Queries and options to ask for: mostly one, often a few that may repeat, now and then as many as there may be or too
+/// many.
+fn asks(random: &mut Random) -> Vec<(u32, u32)> {
+    let count = match random.below(100) {
+        0..=59 => 1,
+        60..=86 => random.within(2..=4),
+        87..=94 => random.within(5..=limits::ASKS - 1),
+        95..=97 => limits::ASKS,
+        _ => random.within(limits::ASKS + 1..=limits::ASKS + 2),
+    };
+    let mut asks: Vec<(u32, u32)> = Vec::new();
+    for _ in 0..count {
+        let query = match asks.last() {
+            Some(&(query, _)) if random.chance(40) => query,
+            _ if random.chance(90) => random.below(3) as u32,
+            _ => random.below(256) as u32,
+        };
+        asks.push((query, options(random)));
+    }
+    asks
+}
+
 /// A well-formed file.
 pub fn formed(random: &mut Random) -> Vec<u8> {
     let steps = match random.below(10) {
@@ -99,7 +121,8 @@ fn small(random: &mut Random) -> Vec<u8> {
 struct Grower<'r> {
     random: &'r mut Random,
     text: Text,
-    query: u32,
+    /// The queries that are asked for.
+    queries: Vec<u32>,
     /// The plain names to draw from.
     pool: Vec<String>,
     /// The names of the assume, fun and def lines.
@@ -108,8 +131,7 @@ struct Grower<'r> {
 
 impl<'r> Grower<'r> {
     fn new(random: &'r mut Random) -> Self {
-        let query = if random.chance(90) { random.below(3) } else { random.below(256) } as u32;
-        let options = options(random);
+        let asks = asks(random);
         let pool: Vec<String> = (0..random.within(1..=60))
             .flat_map(|index| match random.pick(&STEMS) {
                 // A token and the name that it trims to.
@@ -118,7 +140,8 @@ impl<'r> Grower<'r> {
                 stem => vec![format!("{stem}{index}")],
             })
             .collect();
-        let mut grower = Grower { random, text: Text::ask(query, options), query, pool, taken: HashSet::new() };
+        let queries = asks.iter().map(|&(query, _)| query).collect();
+        let mut grower = Grower { random, text: Text::asks(&asks), queries, pool, taken: HashSet::new() };
         if grower.random.chance(40) {
             grower.hides();
         }
@@ -419,7 +442,7 @@ impl<'r> Grower<'r> {
         }
         if self.random.chance(50) {
             let term = self.named(&first);
-            lines.push(format!("root,{},goal,{term}", self.query));
+            lines.push(format!("root,{},goal,{term}", self.random.pick(&self.queries)));
         }
         for index in (1..lines.len()).rev() {
             lines.swap(index, self.random.below(index + 1));
@@ -464,7 +487,7 @@ impl<'r> Grower<'r> {
     }
 
     fn root(&mut self) {
-        let query = if self.random.chance(65) { self.query } else { self.random.below(4) as u32 };
+        let query = if self.random.chance(65) { self.random.pick(&self.queries) } else { self.random.below(4) as u32 };
         let (name, term) = (self.symbol(), self.term());
         self.text.root(query, name, term);
     }
@@ -474,7 +497,8 @@ impl<'r> Grower<'r> {
         let start = self.symbol();
         let mut term = self.named(&start);
         if self.random.chance(60) {
-            self.text.root(self.query, start, term);
+            let query = self.random.pick(&self.queries);
+            self.text.root(query, start, term);
         }
         let long = self.random.chance(4);
         for step in 0..self.random.within(if long { 20..=200 } else { 1..=8 }) {
@@ -576,7 +600,7 @@ fn damage_fields(file: &mut Vec<u8>, random: &mut Random) {
 }
 
 /// Lines of the head of a file, good ones and bad ones.
-const HEAD_LINES: [&str; 12] = [
+const HEAD_LINES: [&str; 20] = [
     "hide,p",
     "hide,p",
     "hide,f@tok",
@@ -588,6 +612,14 @@ const HEAD_LINES: [&str; 12] = [
     "hide,p q",
     "Hide,p",
     "ask,0,0",
+    "ask,1,12",
+    "ask,2,7",
+    "ask,255,15",
+    "ask",
+    "ask,0",
+    "ask,256,0",
+    "ask,0,16",
+    "ask,0,0,",
     "leaf",
 ];
 
@@ -596,11 +628,22 @@ fn damage_lines(file: &mut Vec<u8>, random: &mut Random) {
     let (at, other) = (random.below(lines.len()), random.below(lines.len()));
     let head = lines.iter().take_while(|line| line.starts_with(b"ask") || line.starts_with(b"hide")).count();
     let repeats = |line: &&Vec<u8>| [&b"assume"[..], b"fun", b"def"].iter().any(|kind| line.starts_with(kind));
-    match random.below(11) {
+    match random.below(13) {
         0 => {
             lines.remove(at);
         }
         10 => lines[0] = format!("ask,{},{}", random.below(3), random.within(4..=20)).into_bytes(),
+        // As many ask lines as there may be, or one or two more; the last of them may be anything.
+        11 => {
+            let asks = lines.iter().take_while(|line| line.starts_with(b"ask")).count();
+            for _ in asks..random.within(limits::ASKS - 1..=limits::ASKS + 1) {
+                lines.insert(0, format!("ask,{},{}", random.below(3), options(random)).into_bytes());
+            }
+            let asks = lines.iter().take_while(|line| line.starts_with(b"ask")).count();
+            lines.insert(asks, random.pick(&HEAD_LINES).as_bytes().to_vec());
+        }
+        // An ask line anywhere.
+        12 => lines.insert(at, format!("ask,{},{}", random.below(3), options(random)).into_bytes()),
         1 => lines.insert(other, lines[at].clone()),
         // A line in the head of the file, and one anywhere.
         8 => lines.insert(random.within(0..=head), random.pick(&HEAD_LINES).as_bytes().to_vec()),
@@ -644,7 +687,8 @@ pub fn raw(random: &mut Random) -> Vec<u8> {
 
 /// A file that comes near one limit or two, and then a few lines more.
 pub fn near_a_limit(random: &mut Random) -> Vec<u8> {
-    let mut text = Text::ask(0, options(random));
+    let asks = if random.chance(70) { vec![(0, options(random))] } else { asks(random) };
+    let mut text = Text::asks(&asks);
     let hides = if random.chance(30) { random.pick(&[1, 2, 500, limits::RECORDS - 2, limits::RECORDS]) } else { 0 };
     for _ in 0..hides {
         text.hide(random.pick(&["p", "t", "t@tok", "Valid", "n1", "z1", "wide"]));
@@ -728,6 +772,7 @@ pub fn near_a_limit(random: &mut Random) -> Vec<u8> {
         "all,0,1,2,0",
         "free,z9 ",
         "hide,z9",
+        "ask,0,0",
     ];
     for _ in 0..random.within(2..=10) {
         text.line(if random.chance(90) { random.pick(&good) } else { random.pick(&bad) });
@@ -746,10 +791,7 @@ fn lent(random: &mut Random) -> Case {
         1 => raw(random),
         _ => small(random),
     };
-    let kept = match filter(&file, LONG_ENOUGH, limits::RECORDS) {
-        Outcome::Kept { lines, .. } => lines.len(),
-        Outcome::Refused { .. } => 0,
-    };
+    let kept = filter_file(&file).lines().len();
     let mut works = LONG_ENOUGH;
     for words in &mut works {
         *words = match random.below(40) {
@@ -770,7 +812,7 @@ fn lent(random: &mut Random) -> Case {
 #[cfg(test)]
 mod tests {
     use super::*;
-    use crate::{filter_in, Order};
+    use crate::{filter, filter_in, Order, Outcome};
 
     #[test]
     fn a_seed_gives_the_same_cases() {
@@ -782,12 +824,16 @@ mod tests {
     fn every_answer_is_generated() {
         let mut numbers = HashSet::new();
         for case in cases(1, 1_500) {
-            match filter(&case.file, case.works, case.room) {
-                Outcome::Refused { number, .. } => numbers.insert(number),
-                Outcome::Kept { .. } => numbers.insert(0),
-            };
+            numbers.insert(filter(&case.file, case.works, case.room).number());
         }
-        assert_eq!(numbers, (0..=12).collect());
+        assert_eq!(numbers, (0..=13).collect());
+    }
+
+    #[test]
+    fn every_number_of_asks_is_generated() {
+        let mut random = Random::new(7);
+        let counts: HashSet<usize> = (0..1_000).map(|_| asks(&mut random).len()).collect();
+        assert_eq!(counts, (1..=limits::ASKS + 2).collect());
     }
 
     #[test]
@@ -796,10 +842,10 @@ mod tests {
         let mut kept_in_other_order = 0;
         for _ in 0..300 {
             let file = formed(&mut random);
-            let answer = filter(&file, LONG_ENOUGH, limits::RECORDS);
+            let answer = filter_file(&file);
             if let Outcome::Refused { number, .. } = answer {
-                assert!([6, 9, 10, 11, 12].contains(&number), "{number}");
-            } else if answer != filter_in(Order::Line, &file, LONG_ENOUGH, limits::RECORDS) {
+                assert!([6, 9, 10, 11, 12, 13].contains(&number), "{number}");
+            } else if answer != filter_in(Order::Line, &file, LONG_ENOUGH, limits::ROOM) {
                 kept_in_other_order += 1;
             }
         }

@@ -1,10 +1,11 @@
-//! The fact filter of document 01 with Changes 1, 3, 6 and 8 of document 02, written independently in plain Rust with the
+//! The fact filter of document 01 with Changes 1, 3 and 6 to 8 of document 02, written independently in plain Rust with the
 //! standard collections.
 //!
-//! It reads a file of terms, facts and roots, and keeps the facts that the roots of one query can touch, with the
-//! definitions and declarations that come with them. [`filter`] is the whole call; [`summaries`] says how each fact is
+//! It reads a file of terms, facts and roots, and keeps for each ask the facts that the roots of its query can touch, with
+//! the definitions and declarations that come with them. [`filter`] is the whole call; [`summaries`] says how each fact is
 //! triggered. Both answer with the refusals of these documents.
 
+mod asks;
 pub mod case;
 pub mod edges;
 pub mod export;
@@ -41,13 +42,42 @@ pub enum Outcome<'a> {
         number: u32,
         place: u32,
     },
-    /// The kept lines in order and the name of each, a part of the file.
-    Kept {
-        lines: Vec<u32>,
-        names: Vec<&'a [u8]>,
-        visits: u32,
-        rounds: u32,
-    },
+    /// The list of each ask line, in their sequence.
+    Kept(Vec<List<'a>>),
+}
+
+/// What one ask keeps.
+#[derive(Clone, Debug, PartialEq, Eq)]
+pub struct List<'a> {
+    /// The kept lines in order.
+    pub lines: Vec<u32>,
+    /// The name of each, a part of the file.
+    pub names: Vec<&'a [u8]>,
+    pub visits: u32,
+    pub rounds: u32,
+}
+
+impl<'a> Outcome<'a> {
+    /// The lists; none where the call is refused.
+    pub fn lists(&self) -> &[List<'a>] {
+        match self {
+            Outcome::Refused { .. } => &[],
+            Outcome::Kept(lists) => lists,
+        }
+    }
+
+    /// The lines of all lists, end to end.
+    pub fn lines(&self) -> Vec<u32> {
+        self.lists().iter().flat_map(|list| list.lines.iter().copied()).collect()
+    }
+
+    /// The number of the refusal, 0 if the call is accepted.
+    pub fn number(&self) -> u32 {
+        match self {
+            Outcome::Refused { number, .. } => *number,
+            Outcome::Kept(_) => 0,
+        }
+    }
 }
 
 impl From<Refusal> for Outcome<'_> {
@@ -61,13 +91,19 @@ impl fmt::Display for Outcome<'_> {
     fn fmt(&self, out: &mut fmt::Formatter) -> fmt::Result {
         match self {
             Outcome::Refused { number, place } => writeln!(out, "refused,{number},{place}"),
-            Outcome::Kept { lines, names, visits, rounds } => {
-                for (line, name) in lines.iter().zip(names) {
-                    writeln!(out, "kept,{line},{}", text(name))?;
-                }
-                writeln!(out, "sum,{},{visits},{rounds}", lines.len())
-            }
+            Outcome::Kept(lists) => lists.iter().try_for_each(|list| list.fmt(out)),
         }
+    }
+}
+
+/// The list as `factfilter` prints it.
+impl fmt::Display for List<'_> {
+    fn fmt(&self, out: &mut fmt::Formatter) -> fmt::Result {
+        let List { lines, names, visits, rounds } = self;
+        for (line, name) in lines.iter().zip(names) {
+            writeln!(out, "kept,{line},{}", text(name))?;
+        }
+        writeln!(out, "sum,{},{visits},{rounds}", lines.len())
     }
 }
 
@@ -106,17 +142,22 @@ pub fn filter_in(order: Order, file: &[u8], works: [usize; 6], room: usize) -> O
         Ok(background) => background,
         Err(refusal) => return refusal.into(),
     };
-    let kept = prune::prune(&background, order);
-    if kept.records.len() > room {
-        return Outcome::Refused { number: 8, place: kept.records.len() as u32 };
+    let list = |ask: &reader::Ask| {
+        let kept = prune::prune(&background, ask, order);
+        let (lines, names) = kept.records.iter().map(|&(line, name)| (line, background.names.bytes(name))).unzip();
+        List { lines, names, visits: kept.visits, rounds: kept.rounds }
+    };
+    let lists: Vec<List> = background.asks.iter().map(list).collect();
+    let kept: usize = lists.iter().map(|list| list.lines.len()).sum();
+    if kept > room {
+        return Outcome::Refused { number: 8, place: kept as u32 };
     }
-    let (lines, names) = kept.records.iter().map(|&(line, name)| (line, background.names.bytes(name))).unzip();
-    Outcome::Kept { lines, names, visits: kept.visits, rounds: kept.rounds }
+    Outcome::Kept(lists)
 }
 
 /// Filters a file with slices that are long enough for every file.
 pub fn filter_file(file: &[u8]) -> Outcome<'_> {
-    filter(file, LONG_ENOUGH, limits::RECORDS)
+    filter(file, LONG_ENOUGH, limits::ROOM)
 }
 
 /// How a fact is triggered.

@@ -1,4 +1,4 @@
-//! The limits of document 01.
+//! The limits of documents 01 and 02.
 
 /// Bytes of a file.
 pub const BYTES: usize = 65_535;
@@ -6,6 +6,8 @@ pub const BYTES: usize = 65_535;
 pub const NAMES: usize = 2_048;
 /// Bytes of a name.
 pub const NAME_BYTES: usize = 255;
+/// Ask lines.
+pub const ASKS: usize = 16;
 /// Term lines.
 pub const TERMS: usize = 4_096;
 /// Term references in term lines.
@@ -24,3 +26,5 @@ pub const QUERY: u32 = 255;
 pub const OPTIONS: u32 = 15;
 /// Words that each working slice must have.
 pub const WORK_WORDS: usize = 16_384;
+/// Words of a result slice that is long enough for every file: a list has at most every record line.
+pub const ROOM: usize = ASKS * RECORDS;

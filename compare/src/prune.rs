@@ -3,7 +3,7 @@
 use std::collections::{HashMap, HashSet};
 
 use crate::names::{NameId, NameSet};
-use crate::reader::{Background, Fact};
+use crate::reader::{Ask, Background, Fact};
 use crate::rules::Kind;
 use crate::Order;
 
@@ -16,44 +16,48 @@ const BOX_MACROS: [(&[u8], &[u8]); 5] = [
     (b"is-BoxProp", b"BoxProp"),
 ];
 
-/// What a run keeps: lines with their names, in order, and the counts.
+/// Lines with their names, in order.
+type Records = Vec<(u32, NameId)>;
+
+/// What an ask keeps, and the counts of its run.
 pub struct Kept {
-    pub records: Vec<(u32, NameId)>,
+    pub records: Records,
     pub visits: u32,
     pub rounds: u32,
 }
 
-/// The answer to the query of a file.
-pub fn prune(background: &Background, order: Order) -> Kept {
-    let Background { names, facts, no_ambients, .. } = background;
+/// The answer to an ask over a file.
+pub fn prune(background: &Background, ask: &Ask, order: Order) -> Kept {
+    let Background { names, facts, .. } = background;
     let roots: Vec<&NameSet> =
-        background.roots.iter().filter(|root| root.query == background.query).map(|root| &root.free).collect();
-    let ambient = |fact: &&Fact| !no_ambients && matches!(fact.kind, Kind::Ambient { .. });
+        background.roots.iter().filter(|root| root.query == ask.query).map(|root| &root.free).collect();
+    let ambient = |fact: &&Fact| !ask.no_ambients && matches!(fact.kind, Kind::Ambient { .. });
     let extra_roots =
         facts.iter().filter(ambient).filter(|fact| fact.kind == Kind::Ambient { root: true }).map(|fact| &fact.free);
 
-    let mut scan = Scan::new(background);
+    let mut scan = Scan::new(background, ask.pretyping_axioms);
     scan.run(roots.iter().copied().chain(extra_roots).collect());
 
     let mut kept: Vec<&Fact> = scan.reached.iter().map(|&fact| &facts[fact]).collect();
     kept.sort_unstable_by_key(|fact| names.bytes(fact.name));
     kept.extend(facts.iter().rev().filter(ambient));
 
-    let mut records: Vec<(u32, NameId)> = kept.iter().map(|fact| (fact.line, fact.name)).collect();
-    if background.prune_decls {
+    let mut records: Records = kept.iter().map(|fact| (fact.line, fact.name)).collect();
+    if ask.prune_decls {
         let free = kept.iter().map(|fact| &fact.free).chain(roots);
-        records.extend(declarations(background, free, order));
+        records.extend(declarations(background, free, ask.follow_bodies, order));
     }
     Kept { records, visits: scan.visits, rounds: scan.rounds }
 }
 
-/// The defs and then the funs named in some sets; with option 8, at the end of each of the two, those that the bodies of
-/// kept defs add.
+/// The defs and then the funs named in some sets; if bodies are followed, at the end of each of the two those that the
+/// bodies of kept defs add.
 fn declarations<'s>(
     background: &Background,
     free: impl Iterator<Item = &'s NameSet>,
+    follow_bodies: bool,
     order: Order,
-) -> Vec<(u32, NameId)> {
+) -> Records {
     let mut seen = HashSet::new();
     let (mut defs, mut funs) = (Vec::new(), Vec::new());
     for set in free {
@@ -72,7 +76,7 @@ fn declarations<'s>(
             Order::Line => group.sort_unstable(),
         }
     }
-    if background.follow_bodies {
+    if follow_bodies {
         let (more_defs, more_funs) = followed(background, &defs, seen);
         defs.extend(more_defs);
         funs.extend(more_funs);
@@ -83,11 +87,7 @@ fn declarations<'s>(
 
 /// The defs and the funs that are not among those seen and are named in the bodies of some defs, or of defs found so; each
 /// by name in byte order.
-fn followed(
-    background: &Background,
-    defs: &[(u32, NameId)],
-    mut seen: HashSet<NameId>,
-) -> (Vec<(u32, NameId)>, Vec<(u32, NameId)>) {
+fn followed(background: &Background, defs: &[(u32, NameId)], mut seen: HashSet<NameId>) -> (Records, Records) {
     let mut found = Vec::new();
     let mut bodies: Vec<NameId> = defs.iter().map(|&(_, name)| name).collect();
     while let Some(def) = bodies.pop() {
@@ -116,9 +116,11 @@ struct Entry {
     disjunct: usize,
 }
 
-/// The state of the rounds.
+/// The state of the rounds of one ask.
 struct Scan<'b> {
     background: &'b Background<'b>,
+    /// Whether pretyping facts are retainable.
+    pretyping_axioms: bool,
     /// The names that each macro opens to.
     macros: HashMap<NameId, Vec<NameId>>,
     /// The entries filed under each name.
@@ -134,9 +136,10 @@ struct Scan<'b> {
 }
 
 impl<'b> Scan<'b> {
-    fn new(background: &'b Background<'b>) -> Self {
+    fn new(background: &'b Background<'b>, pretyping_axioms: bool) -> Self {
         let mut scan = Scan {
             background,
+            pretyping_axioms,
             macros: HashMap::new(),
             waiting: HashMap::new(),
             missing: Vec::new(),
@@ -217,6 +220,6 @@ impl<'b> Scan<'b> {
 
     /// `should_retain_assumption`.
     fn is_retainable(&self, fact: usize) -> bool {
-        !self.background.facts[fact].pretyping || self.background.pretyping_axioms
+        !self.background.facts[fact].pretyping || self.pretyping_axioms
     }
 }

@@ -24,6 +24,28 @@ pub struct Declaration {
     pub is_fun: bool,
 }
 
+/// An `ask` line.
+pub struct Ask {
+    pub query: u32,
+    pub no_ambients: bool,
+    pub pretyping_axioms: bool,
+    pub prune_decls: bool,
+    pub follow_bodies: bool,
+}
+
+impl Ask {
+    fn new(query: u32, options: u32) -> Self {
+        let on = |option: u32| options & option != 0;
+        Ask { query, no_ambients: on(1), pretyping_axioms: on(2), prune_decls: on(4), follow_bodies: on(8) }
+    }
+
+    /// The options number.
+    pub fn options(&self) -> u32 {
+        let options = [self.no_ambients, self.pretyping_axioms, self.prune_decls, self.follow_bodies];
+        options.iter().rev().fold(0, |number, &on| 2 * number + u32::from(on))
+    }
+}
+
 /// A `root` line.
 pub struct Root {
     pub query: u32,
@@ -33,11 +55,8 @@ pub struct Root {
 /// What an accepted file says.
 #[derive(Default)]
 pub struct Background<'a> {
-    pub query: u32,
-    pub no_ambients: bool,
-    pub pretyping_axioms: bool,
-    pub prune_decls: bool,
-    pub follow_bodies: bool,
+    /// At least one, in the order of their lines.
+    pub asks: Vec<Ask>,
     pub names: Names<'a>,
     pub terms: Terms,
     /// In the order of their lines.
@@ -48,14 +67,6 @@ pub struct Background<'a> {
     pub macros: HashMap<NameId, NameSet>,
     /// In the order of their lines.
     pub roots: Vec<Root>,
-}
-
-impl Background<'_> {
-    /// The options number.
-    pub fn options(&self) -> u32 {
-        let options = [self.no_ambients, self.pretyping_axioms, self.prune_decls, self.follow_bodies];
-        options.iter().rev().fold(0, |number, &on| 2 * number + u32::from(on))
-    }
 }
 
 /// Reads a file, or says which line is refused.
@@ -85,11 +96,21 @@ pub fn read(file: &[u8]) -> Result<Background<'_>, Refusal> {
     }
 }
 
+/// The kind of the line before, as far as it says what may follow.
+#[derive(Clone, Copy, Default, PartialEq, Eq)]
+enum Before {
+    /// There is no line before.
+    #[default]
+    Nothing,
+    Ask,
+    Hide,
+    Other,
+}
+
 #[derive(Default)]
 struct Reader<'a> {
     background: Background<'a>,
-    /// Whether a line other than `ask` and `hide` has been read.
-    past_head: bool,
+    before: Before,
     /// The names of the assume, fun and def lines.
     taken: HashSet<NameId>,
     records: usize,
@@ -101,15 +122,15 @@ impl<'a> Reader<'a> {
     fn line(&mut self, number: u32, line: &'a [u8]) -> Result<(), Fault> {
         let mut fields = Fields::new(line);
         let kind = fields.field()?;
-        let may_stand = match kind {
-            b"ask" => number == 1,
-            b"hide" => number > 1 && !self.past_head,
-            _ => number > 1,
+        let (now, may_stand) = match kind {
+            b"ask" => (Before::Ask, matches!(self.before, Before::Nothing | Before::Ask)),
+            b"hide" => (Before::Hide, matches!(self.before, Before::Ask | Before::Hide)),
+            _ => (Before::Other, self.before != Before::Nothing),
         };
         if !may_stand {
             return Err(Fault::Form);
         }
-        self.past_head = !matches!(kind, b"ask" | b"hide");
+        self.before = now;
         match kind {
             b"ask" => self.ask(fields),
             b"hide" => self.hide(fields),
@@ -126,15 +147,13 @@ impl<'a> Reader<'a> {
         }
     }
 
+    /// One ask line too many is found before its fields are looked at.
     fn ask(&mut self, mut fields: Fields<'a>) -> Result<(), Fault> {
+        within(self.background.asks.len() + 1, limits::ASKS, Fault::FullAsks)?;
         fields.exactly(2)?;
-        let background = &mut self.background;
-        background.query = fields.number(limits::QUERY)?;
+        let query = fields.number(limits::QUERY)?;
         let options = fields.number(limits::OPTIONS)?;
-        background.no_ambients = options & 1 != 0;
-        background.pretyping_axioms = options & 2 != 0;
-        background.prune_decls = options & 4 != 0;
-        background.follow_bodies = options & 8 != 0;
+        self.background.asks.push(Ask::new(query, options));
         Ok(())
     }
 

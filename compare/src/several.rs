@@ -45,9 +45,9 @@ struct Filled {
 }
 
 impl Filled {
-    /// The start of a file, with so many hide lines.
-    fn new(hides: usize) -> Self {
-        let mut text = Text::ask(0, 0);
+    /// The start of a file, with so many ask and hide lines.
+    fn new(asks: usize, hides: usize) -> Self {
+        let mut text = Text::asks(&vec![(0, 0); asks]);
         (0..hides).for_each(|_| text.hide("known"));
         let leaf = text.leaf();
         let name = text.free("p");
@@ -100,9 +100,9 @@ impl Filled {
     }
 }
 
-/// A file that has so many hide lines and so many left of each of these limits.
-fn filled(hides: usize, left: &[(Limit, usize)]) -> Text {
-    let mut filled = Filled::new(hides);
+/// A file that has so many ask and hide lines and so many left of each of these limits.
+fn filled(asks: usize, hides: usize, left: &[(Limit, usize)]) -> Text {
+    let mut filled = Filled::new(asks, hides);
     // In this order none takes of what was filled before it.
     for limit in [Entries, Uses, Names, Records, References, Terms] {
         if let Some(&(_, left)) = left.iter().find(|(full, _)| *full == limit) {
@@ -122,7 +122,8 @@ pub fn nearly_full(random: &mut Random) -> Vec<u8> {
     }
     // So many that there is room for the record lines that fill the file.
     let hides = random.pick(&[0, 0, 1, 700]);
-    let mut text = filled(hides, &left);
+    let asks = random.pick(&[1, 1, 1, 2, limits::ASKS, limits::ASKS + 1]);
+    let mut text = filled(asks, hides, &left);
     for _ in 0..random.within(1..=4) {
         let name = random.pick(&["new", "other", "third", "known", "f", "taken"]);
         let (_, term) = random.pick(&TERMS);
@@ -148,7 +149,7 @@ fn add(edges: &mut Vec<Edge>, left: &[(Limit, usize)], answers: &[(u32, &[&str])
 
 /// The same, with so many hide lines at the start of the file.
 fn add_after(edges: &mut Vec<Edge>, hides: usize, left: &[(Limit, usize)], answers: &[(u32, &[&str])]) {
-    let text = filled(hides, left);
+    let text = filled(1, hides, left);
     let start = if hides > 0 { format!("hides-{hides}-") } else { String::new() };
     let full: String = left.iter().map(|(limit, left)| format!("-{limit:?}-{left}").to_lowercase()).collect();
     for &(number, lines) in answers {
@@ -401,17 +402,16 @@ mod tests {
     use std::collections::HashSet;
 
     use super::*;
-    use crate::{filter_file, Outcome};
+    use crate::edges::FULL_ASKS;
+    use crate::filter_file;
 
     #[test]
     fn nearly_full_files_pass_each_limit() {
         let mut random = Random::new(4);
-        let numbers: HashSet<u32> = (0..200)
-            .map(|_| match filter_file(&nearly_full(&mut random)) {
-                Outcome::Refused { number, .. } => number,
-                Outcome::Kept { .. } => 0,
-            })
-            .collect();
-        assert_eq!(numbers, HashSet::from([0, 1, 5, FULL_NAMES, 9, FULL_TERMS, FULL_RECORDS, FULL_TRIGGERS]));
+        let numbers: HashSet<u32> = (0..200).map(|_| filter_file(&nearly_full(&mut random)).number()).collect();
+        assert_eq!(
+            numbers,
+            HashSet::from([0, 1, 5, FULL_NAMES, 9, FULL_TERMS, FULL_RECORDS, FULL_TRIGGERS, FULL_ASKS])
+        );
     }
 }

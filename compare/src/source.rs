@@ -5,7 +5,7 @@ use std::collections::{BTreeMap, BTreeSet, HashSet};
 
 use crate::names::{NameId, NameSet};
 use crate::prune::{prune, Kept};
-use crate::reader::{self, Background, Declaration};
+use crate::reader::{self, Ask, Background, Declaration};
 use crate::rules::Kind;
 use crate::terms::{Term, TermId};
 use crate::{generate, Order};
@@ -39,7 +39,7 @@ fn spelled<'b>(background: &Background<'b>, names: impl IntoIterator<Item = Name
 
 impl<'b> State<'b> {
     /// `init` and `add_summaries`.
-    fn new(background: &Background<'b>) -> Self {
+    fn new(background: &Background<'b>, ask: &Ask) -> Self {
         let macros: [(Bytes, Bytes); 5] = [
             (b"is-BoxBool", b"BoxBool"),
             (b"is-BoxInt", b"BoxInt"),
@@ -55,7 +55,7 @@ impl<'b> State<'b> {
             ambients: Vec::new(),
             extra_roots: Vec::new(),
             reached: BTreeMap::new(),
-            pretyping_axioms: background.pretyping_axioms,
+            pretyping_axioms: ask.pretyping_axioms,
             visits: 0,
             rounds: 0,
         };
@@ -75,7 +75,7 @@ impl<'b> State<'b> {
                     if *root {
                         state.extra_roots.insert(0, index);
                     }
-                    if !background.no_ambients {
+                    if !ask.no_ambients {
                         state.ambients.insert(0, index);
                     }
                 }
@@ -136,16 +136,16 @@ impl<'b> State<'b> {
 }
 
 /// `prune`: the kept lines, the visits and the rounds.
-fn source_prune(background: &Background) -> (Vec<u32>, u32, u32) {
-    let mut state = State::new(background);
+fn source_prune(background: &Background, ask: &Ask) -> (Vec<u32>, u32, u32) {
+    let mut state = State::new(background, ask);
     let own_roots: Vec<_> = background
         .roots
         .iter()
-        .filter(|root| root.query == background.query)
+        .filter(|root| root.query == ask.query)
         .map(|root| spelled(background, root.free.iter()))
         .collect();
     let mut roots = own_roots.clone();
-    if !background.no_ambients {
+    if !ask.no_ambients {
         roots.extend(state.extra_roots.iter().map(|&fact| state.assumptions[fact].free_names.clone()));
     }
     state.scan(roots);
@@ -153,7 +153,7 @@ fn source_prune(background: &Background) -> (Vec<u32>, u32, u32) {
     let kept: Vec<&Assumption> =
         state.reached.values().chain(&state.ambients).map(|&fact| &state.assumptions[fact]).collect();
     let mut lines: Vec<u32> = kept.iter().map(|assumption| assumption.line).collect();
-    if background.prune_decls {
+    if ask.prune_decls {
         let mut included = BTreeSet::new();
         let mut met = Vec::new();
         for names in kept.iter().map(|assumption| &assumption.free_names).chain(&own_roots) {
@@ -166,7 +166,7 @@ fn source_prune(background: &Background) -> (Vec<u32>, u32, u32) {
                 }
             }
         }
-        let added = if background.follow_bodies { added_by_bodies(background, &included) } else { Vec::new() };
+        let added = if ask.follow_bodies { added_by_bodies(background, &included) } else { Vec::new() };
         for is_fun in [false, true] {
             let group = met.iter().chain(&added).filter(|declaration| declaration.is_fun == is_fun);
             lines.extend(group.map(|declaration| declaration.line));
@@ -252,16 +252,16 @@ fn met_from<'b>(state: &State<'b>, items: &[BTreeSet<Bytes<'b>>]) -> BTreeSet<By
 }
 
 /// The lines of the least closed set of demand 3, and the visits.
-fn least_closed_set(background: &Background) -> (BTreeSet<u32>, u32) {
-    let state = State::new(background);
+fn least_closed_set(background: &Background, ask: &Ask) -> (BTreeSet<u32>, u32) {
+    let state = State::new(background, ask);
     let fires = |met: &BTreeSet<Bytes>, disjuncts: &[BTreeSet<Bytes>]| {
         disjuncts.iter().flatten().any(|name| met.contains(name)) && disjuncts.iter().any(|names| names.is_subset(met))
     };
     let mut closed: BTreeSet<usize> = BTreeSet::new();
     loop {
-        let roots = background.roots.iter().filter(|root| root.query == background.query);
+        let roots = background.roots.iter().filter(|root| root.query == ask.query);
         let mut items: Vec<_> = roots.map(|root| spelled(background, root.free.iter())).collect();
-        let ambient_roots = state.extra_roots.iter().filter(|_| !background.no_ambients);
+        let ambient_roots = state.extra_roots.iter().filter(|_| !ask.no_ambients);
         items.extend(ambient_roots.chain(&closed).map(|&fact| state.assumptions[fact].free_names.clone()));
         let met = met_from(&state, &items);
         let next: BTreeSet<usize> = state
@@ -287,14 +287,21 @@ fn check(name: &str, file: &[u8]) -> bool {
         assert_eq!(*background.terms.free_names(term), walk_all(&background, &[term]), "{name}, term {term}");
         assert_eq!(background.terms.triggers(term), triggers_of_term(&background, term), "{name}, term {term}");
     }
-    let Kept { records, visits, rounds } = prune(&background, Order::Source);
+    for ask in &background.asks {
+        check_ask(name, &background, ask);
+    }
+    true
+}
+
+fn check_ask(name: &str, background: &Background, ask: &Ask) {
+    let Kept { records, visits, rounds } = prune(background, ask, Order::Source);
     let lines: Vec<u32> = records.iter().map(|&(line, _)| line).collect();
-    assert_eq!((lines.clone(), visits, rounds), source_prune(&background), "{name}");
+    assert_eq!((lines.clone(), visits, rounds), source_prune(background, ask), "{name}");
 
     let fact = |line: &u32| background.facts.iter().find(|fact| fact.line == *line);
     let is_reached = |line: &&u32| fact(line).is_some_and(|fact| matches!(fact.kind, Kind::Triggers(_)));
     let reached: BTreeSet<u32> = lines.iter().filter(is_reached).copied().collect();
-    assert_eq!((reached, visits), least_closed_set(&background), "{name}");
+    assert_eq!((reached, visits), least_closed_set(background, ask), "{name}");
 
     let mut listed = NameSet::empty();
     for fact in &background.facts {
@@ -305,7 +312,6 @@ fn check(name: &str, file: &[u8]) -> bool {
         }
     }
     assert!(rounds as usize <= 1 + listed.len(), "{name}");
-    true
 }
 
 #[test]

@@ -14,8 +14,15 @@ pub struct Text {
 impl Text {
     /// A file with its first line.
     pub fn ask(query: u32, options: u32) -> Self {
+        Text::asks(&[(query, options)])
+    }
+
+    /// A file with its ask lines, each a query and an options number.
+    pub fn asks(asks: &[(u32, u32)]) -> Self {
         let mut text = Text::default();
-        text.line(format!("ask,{query},{options}"));
+        for (query, options) in asks {
+            text.line(format!("ask,{query},{options}"));
+        }
         text
     }
 

@@ -1,4 +1,4 @@
-//! The examples and edges of document 01, and of Changes 1, 6 and 8 of document 02.
+//! The examples and edges of document 01, and of Changes 1, 6, 7 and 8 of document 02.
 
 use compare::{filter, filter_file, filter_in, limits, summaries, Order, Outcome, Refusal, Trigger, LONG_ENOUGH};
 
@@ -21,10 +21,7 @@ fn the_worked_example() {
 #[test]
 fn names_are_parts_of_the_file() {
     let file = b"ask,0,0\nleaf\nassume,a,0,0\n";
-    match filter_file(file) {
-        Outcome::Kept { names, .. } => assert_eq!(names[0].as_ptr(), &file[20]),
-        refused => panic!("{refused}"),
-    }
+    assert_eq!(filter_file(file).lists()[0].names[0].as_ptr(), &file[20]);
 }
 
 #[test]
@@ -36,7 +33,7 @@ fn each_refusal_has_its_place() {
         ("leaf\n", 1, 1),
         ("ask,0\n", 1, 1),
         ("ask,0,0,0\n", 1, 1),
-        ("ask,0,0\nask,0,0\n", 1, 2),
+        ("ask,0,0\nleaf\nask,0,0\n", 1, 3),
         ("ask,0,0\n\n", 1, 2),
         ("ask,0,0\nleaf\nleaf", 1, 3),
         ("ask,0,0\nop\n", 1, 2),
@@ -126,6 +123,36 @@ fn hide_lines() {
 }
 
 #[test]
+fn several_ask_lines() {
+    let rest = "free,p\nfree,q\nop,eq,0,0\nassume,a,0,2\nop,eq,1,1\nassume,b,0,3\nroot,0,r,0\nroot,1,r,1\n";
+    let answer = |head: &str| filter_file(format!("{head}{rest}").as_bytes()).to_string();
+    assert_eq!(answer("ask,1,0\n"), "kept,7,b\nsum,1,2,2\n");
+    assert_eq!(answer("ask,1,0\nask,0,0\n"), "kept,8,b\nsum,1,2,2\nkept,6,a\nsum,1,2,2\n");
+    assert_eq!(answer("ask,7,0\nask,1,0\nask,7,0\n"), "sum,0,0,1\nkept,9,b\nsum,1,2,2\nsum,0,0,1\n");
+    // Sixteen, and then any line but an ask line; what a seventeenth is refused for is found right after its kind.
+    let sixteen = "ask,0,0\n".repeat(16);
+    assert_eq!(answer(&sixteen), "kept,20,a\nsum,1,2,2\n".repeat(16));
+    assert_eq!(answer(&format!("{sixteen}hide,p\n")), "sum,0,0,1\n".repeat(16));
+    for line in ["ask,0,0", "ask", "ask,", "ask,0,0,0", "ask,256,16"] {
+        assert_eq!(answer(&format!("{sixteen}{line}\n")), "refused,13,17\n");
+    }
+    assert_eq!(filter_file(format!("{sixteen}ask,0,0").as_bytes()), refused(1, 17));
+    assert_eq!(answer(&format!("{sixteen}hide,p\nask,0,0\n")), "refused,1,18\n");
+    // Each has its own fields, and an earlier line is refused first.
+    for (line, number) in [("ask", 1), ("ask,0", 1), ("ask,0,0,", 1), ("ask,256,0", 3), ("ask,0,16", 3)] {
+        assert_eq!(answer(&format!("ask,0,0\n{line}\n{sixteen}")), format!("refused,{number},2\n"));
+    }
+    // Ask lines follow ask lines only.
+    for line in ["hide,p", "leaf", "retain"] {
+        assert_eq!(answer(&format!("ask,0,0\n{line}\nask,0,0\n")), "refused,1,3\n");
+    }
+    // The result slice holds all lists.
+    let file = format!("ask,1,0\nask,7,0\nask,0,0\n{rest}");
+    assert_eq!(filter(file.as_bytes(), LONG_ENOUGH, 1), refused(8, 2));
+    assert_eq!(filter(file.as_bytes(), LONG_ENOUGH, 2).lines(), [9, 7]);
+}
+
+#[test]
 fn bodies_are_followed() {
     let rest = "free,f\nfree,h\nfree,g\ndef,g,1\nop,other,0,2\ndef,h,3\nfun,f\nroot,0,r,2\n";
     let answer = |options: u32| filter_file(format!("ask,0,{options}\n{rest}").as_bytes()).to_string();
@@ -156,16 +183,13 @@ fn the_callers_refusals() {
     assert_eq!(filter(&[0; 65_535], LONG_ENOUGH, 0), refused(1, 1));
     assert_eq!(filter(file, LONG_ENOUGH, 1), refused(8, 2));
     assert_eq!(filter(&file[..30], LONG_ENOUGH, 0), refused(1, 4));
-    assert!(matches!(filter(file, LONG_ENOUGH, 2), Outcome::Kept { .. }));
+    assert_eq!(filter(file, LONG_ENOUGH, 2).lines(), [4, 3]);
 }
 
 #[test]
 fn definitions_and_declarations_in_both_orders() {
     let file = b"ask,0,4\nfree,a\nfree,b\nfun,a\nfun,b\nop,other,0,1\nroot,0,r,2\n";
-    let lines = |order| match filter_in(order, file, LONG_ENOUGH, 2) {
-        Outcome::Kept { lines, .. } => lines,
-        refused => panic!("{refused}"),
-    };
+    let lines = |order| filter_in(order, file, LONG_ENOUGH, 2).lines();
     assert_eq!(lines(Order::Source), [5, 4]);
     assert_eq!(lines(Order::Line), [4, 5]);
 }

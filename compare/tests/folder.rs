@@ -3,10 +3,11 @@
 use std::fs;
 use std::path::Path;
 
-/// How two answers compare: the order inside the definitions and inside the declarations is free.
+/// How two answers compare.
 #[derive(PartialEq)]
 enum Verdict {
     Same,
+    /// Definitions or declarations of a list stand in another order.
     OrderOnly,
     /// The one is 6 and the other says what was full, at the same place.
     NumberOnly,
@@ -21,9 +22,9 @@ fn compare(file: &[u8], expected: &str, actual: &str) -> Verdict {
         let full = ["10", "11", "12"].map(|number| format!("refused,{number},{place}"));
         return if full.iter().any(|full| full == actual) { Verdict::NumberOnly } else { Verdict::Different };
     }
-    let groups = |answer: &str| {
+    let groups = |list: &[&str]| {
         let mut lines: Vec<(u8, String)> = Vec::new();
-        for line in answer.lines() {
+        for &line in list {
             let number = line.split(',').nth(1).and_then(|number| number.parse::<usize>().ok());
             let record = match number {
                 Some(number) if line.starts_with("kept,") => file.split(|&byte| byte == b'\n').nth(number - 1),
@@ -43,24 +44,28 @@ fn compare(file: &[u8], expected: &str, actual: &str) -> Verdict {
         lines.retain(|line| ![1, 2].contains(&line.0));
         (in_groups, lines, free)
     };
-    if groups(expected) == groups(actual) {
+    let lists = |answer: &str| -> Vec<_> {
+        let lines: Vec<&str> = answer.lines().collect();
+        lines.split_inclusive(|line| line.starts_with("sum,")).map(groups).collect()
+    };
+    if lists(expected) == lists(actual) {
         Verdict::OrderOnly
     } else {
         Verdict::Different
     }
 }
 
-/// What the 6 of an answer speaks of.
+/// What the answers of a folder are by.
 #[derive(Clone, Copy, PartialEq)]
-enum Six {
-    /// Names only, as document 02 has it.
-    Names,
-    /// Any limit, as document 01 has it.
-    AnyLimit,
+enum Answers {
+    /// Document 02: 6 speaks of names only, and the order of definitions and declarations is fixed.
+    Document02,
+    /// Document 01: 6 speaks of any limit, and the order is free.
+    Document01,
 }
 
 /// Checks every file of a folder.
-fn check_folder(folder: &Path, six: Six) {
+fn check_folder(folder: &Path, answers: Answers) {
     let mut inputs: Vec<_> = fs::read_dir(folder)
         .expect("the folder can be read")
         .map(|entry| entry.expect("an entry").path())
@@ -77,11 +82,9 @@ fn check_folder(folder: &Path, six: Six) {
         let actual = compare::filter_file(&file).to_string();
         match compare(&file, &expected, &actual) {
             Verdict::Same => {}
-            Verdict::OrderOnly => reordered.push(name.clone()),
-            Verdict::NumberOnly if six == Six::AnyLimit => renumbered.push(name.clone()),
-            Verdict::NumberOnly | Verdict::Different => {
-                wrong.push(format!("{name}\nexpected\n{expected}actual\n{actual}"))
-            }
+            Verdict::OrderOnly if answers == Answers::Document01 => reordered.push(name.clone()),
+            Verdict::NumberOnly if answers == Answers::Document01 => renumbered.push(name.clone()),
+            _ => wrong.push(format!("{name}\nexpected\n{expected}actual\n{actual}")),
         }
         if let Ok(expected) = fs::read_to_string(input.with_extension("sum")) {
             sums += 1;
@@ -104,18 +107,18 @@ fn check_folder(folder: &Path, six: Six) {
 
 #[test]
 fn cases_beside_the_tests() {
-    check_folder(Path::new(env!("CARGO_MANIFEST_DIR")).join("cases").as_path(), Six::Names);
+    check_folder(Path::new(env!("CARGO_MANIFEST_DIR")).join("cases").as_path(), Answers::Document02);
 }
 
 #[test]
 fn examples() {
-    check_folder(Path::new(env!("CARGO_MANIFEST_DIR")).join("../examples").as_path(), Six::Names);
+    check_folder(Path::new(env!("CARGO_MANIFEST_DIR")).join("../examples").as_path(), Answers::Document02);
 }
 
 #[test]
 fn cases_of_the_environment() {
     match std::env::var_os("WIMPLEJADE_CASES") {
-        Some(folder) => check_folder(Path::new(&folder), Six::AnyLimit),
+        Some(folder) => check_folder(Path::new(&folder), Answers::Document01),
         None => println!("skipped: WIMPLEJADE_CASES is not set"),
     }
 }

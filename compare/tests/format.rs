@@ -146,6 +146,7 @@ fn the_limits() {
         shown,
         [
             (limits::BYTES, 9),
+            (limits::ASKS, 13),
             (limits::NAMES, 6),
             (limits::TERMS, 10),
             (limits::REFERENCES, 10),

@@ -47,7 +47,8 @@ fn hidden(file: &[u8]) -> Vec<String> {
 fn with_hidden(file: &[u8], names: &[String]) -> Vec<u8> {
     let mut lines = lines(file);
     lines.retain(|line| kind(line) != "hide");
-    lines.splice(1..1, names.iter().map(|name| line(&["hide".to_owned(), name.clone()])));
+    let asks = lines.iter().take_while(|line| kind(line) == "ask").count();
+    lines.splice(asks..asks, names.iter().map(|name| line(&["hide".to_owned(), name.clone()])));
     lines.concat()
 }
 
@@ -56,19 +57,23 @@ fn each_line(file: &[u8], mut change: impl FnMut(usize, &Line) -> Line) -> Vec<u
     lines(file).iter().enumerate().flat_map(|(index, line)| change(index + 1, line)).collect()
 }
 
-/// The query and the options of a file.
-fn asked(file: &[u8]) -> (u32, u32) {
-    let ask = fields(&lines(file)[0]);
-    (ask[1].parse().unwrap(), ask[2].parse().unwrap())
+/// The query and the options of each ask line.
+fn asked(file: &[u8]) -> Vec<(u32, u32)> {
+    let asks = lines(file).into_iter().map(|line| fields(&line)).take_while(|line| line[0] == "ask");
+    asks.map(|ask| (ask[1].parse().unwrap(), ask[2].parse().unwrap())).collect()
 }
 
-/// A file with other options.
+/// A file with other ask lines.
+fn with_asks(file: &[u8], asks: &[(u32, u32)]) -> Vec<u8> {
+    let lines = lines(file);
+    let rest = lines.iter().skip_while(|line| kind(line) == "ask");
+    let asks = asks.iter().map(|(query, options)| format!("ask,{query},{options}\n").into_bytes());
+    asks.chain(rest.cloned()).collect::<Vec<Line>>().concat()
+}
+
+/// A file with one ask line, that of its first query with other options.
 fn with_options(file: &[u8], options: u32) -> Vec<u8> {
-    let query = asked(file).0;
-    each_line(
-        file,
-        |number, line| if number == 1 { format!("ask,{query},{options}\n").into_bytes() } else { line.clone() },
-    )
+    with_asks(file, &[(asked(file)[0].0, options)])
 }
 
 /// A list as it is kept, with its counts.
@@ -80,26 +85,40 @@ struct List {
     rounds: u32,
 }
 
-/// The list that an accepted file gives.
-fn list(file: &[u8]) -> Option<List> {
-    match filter_file(file) {
-        Outcome::Kept { lines, names, visits, rounds } => {
-            Some(List { lines, names: names.into_iter().map(<[u8]>::to_vec).collect(), visits, rounds })
-        }
-        Outcome::Refused { .. } => None,
-    }
+/// The lists that an accepted file gives.
+fn lists(file: &[u8]) -> Option<Vec<List>> {
+    let Outcome::Kept(lists) = filter_file(file) else { return None };
+    let list = |list: compare::List| List {
+        lines: list.lines,
+        names: list.names.into_iter().map(<[u8]>::to_vec).collect(),
+        visits: list.visits,
+        rounds: list.rounds,
+    };
+    Some(lists.into_iter().map(list).collect())
 }
 
-/// The list with line numbers higher or lower by so many.
-fn moved(list: List, by: isize) -> List {
-    let lines = list.lines.iter().map(|&line| (line as isize + by) as u32).collect();
-    List { lines, ..list }
+/// The list that an accepted file with one ask line gives.
+fn list(file: &[u8]) -> Option<List> {
+    let mut lists = lists(file)?;
+    assert_eq!(lists.len(), 1);
+    lists.pop()
+}
+
+/// The lists with line numbers higher or lower by so many.
+fn moved(lists: Vec<List>, by: isize) -> Vec<List> {
+    let line = |line: &u32| (*line as isize + by) as u32;
+    lists.into_iter().map(|list| List { lines: list.lines.iter().map(line).collect(), ..list }).collect()
 }
 
 /// Accepted random files of a seed.
 fn accepted(seed: u64, count: usize) -> Vec<Vec<u8>> {
     let mut random = Random::new(seed);
-    (0..count).map(|_| generate::formed(&mut random)).filter(|file| list(file).is_some()).collect()
+    (0..count).map(|_| generate::formed(&mut random)).filter(|file| lists(file).is_some()).collect()
+}
+
+/// The same with the first of their ask lines alone.
+fn accepted_with_one_ask(seed: u64, count: usize) -> Vec<Vec<u8>> {
+    accepted(seed, count).iter().map(|file| with_asks(file, &asked(file)[..1])).collect()
 }
 
 /// The lines of the ambient facts.
@@ -133,7 +152,7 @@ fn a_line_is_refused_for_itself_and_the_lines_before() {
         let until = lines[..place_of_line.min(lines.len())].concat();
         assert_eq!(filter_file(&until), Outcome::Refused { number, place }, "{}", case.name);
         if place > 1 {
-            assert!(list(&lines[..place_of_line - 1].concat()).is_some(), "{}", case.name);
+            assert!(lists(&lines[..place_of_line - 1].concat()).is_some(), "{}", case.name);
         }
         if until.ends_with(b"\n") && until.len() + 10 < limits::BYTES {
             let more = [&until[..], b"\x00,nothing"].concat();
@@ -143,14 +162,16 @@ fn a_line_is_refused_for_itself_and_the_lines_before() {
     assert!(refused > 400, "{refused}");
 }
 
-/// Document 01: 8 exactly where the result slice is shorter than the kept count, which is its place.
+/// Documents 01 and 02: 8 exactly where the result slice is shorter than all lists end to end, whose summed count is its
+/// place.
 #[test]
-fn the_result_slice_holds_the_list() {
-    for file in accepted(22, 200) {
-        let kept = list(&file).unwrap().lines.len();
-        for room in [0, kept.saturating_sub(1), kept, kept + 1] {
+fn the_result_slice_holds_the_lists() {
+    for file in accepted(22, 300) {
+        let kept: usize = lists(&file).unwrap().iter().map(|list| list.lines.len()).sum();
+        let first = lists(&file).unwrap()[0].lines.len();
+        for room in [0, first, kept.saturating_sub(1), kept, kept + 1] {
             match filter(&file, LONG_ENOUGH, room) {
-                Outcome::Kept { lines, .. } => assert!(lines.len() == kept && room >= kept),
+                outcome @ Outcome::Kept(_) => assert!(outcome.lines().len() == kept && room >= kept),
                 refused => {
                     assert_eq!(refused, Outcome::Refused { number: 8, place: kept as u32 });
                     assert!(room < kept);
@@ -165,21 +186,22 @@ fn the_result_slice_holds_the_list() {
 fn root_lines_of_other_queries_do_not_matter() {
     let (mut random, mut changed) = (Random::new(23), 0);
     for file in accepted(23, 400) {
-        let query = asked(&file).0;
+        let asked: Vec<u32> = asked(&file).iter().map(|&(query, _)| query).collect();
+        let others: Vec<u32> = (0..=255).filter(|query| !asked.contains(query)).collect();
         let mut terms = 0;
         let other = each_line(&file, |_, old| {
             terms += usize::from(is_term(old));
             let mut fields = fields(old);
-            if fields[0] != "root" || fields[1] == query.to_string() {
+            if fields[0] != "root" || asked.contains(&fields[1].parse().unwrap()) {
                 return old.clone();
             }
             changed += 1;
-            fields[1] = (0..=255).find(|other| *other != query && random.chance(30)).unwrap_or(query ^ 1).to_string();
+            fields[1] = random.pick(&others).to_string();
             fields[3] = random.below(terms).to_string();
             line(&fields)
         });
-        if let Some(other) = list(&other) {
-            assert_eq!(Some(other), list(&file));
+        if let Some(other) = lists(&other) {
+            assert_eq!(Some(other), lists(&file));
         }
     }
     assert!(changed > 300, "{changed}");
@@ -190,7 +212,7 @@ fn root_lines_of_other_queries_do_not_matter() {
 fn retain_lines_have_no_effect() {
     for file in accepted(24, 300) {
         let without = each_line(&file, |_, old| if kind(old) == "retain" { b"retain\n".to_vec() } else { old.clone() });
-        assert_eq!(list(&without), list(&file));
+        assert_eq!(lists(&without), lists(&file));
     }
 }
 
@@ -206,7 +228,7 @@ fn the_flag_of_an_ambient_fact_does_not_matter() {
             }
             line(&fields)
         });
-        assert_eq!(list(&flipped), list(&file));
+        assert_eq!(lists(&flipped), lists(&file));
     }
 }
 
@@ -215,7 +237,7 @@ fn the_flag_of_an_ambient_fact_does_not_matter() {
 #[test]
 fn options_and_the_order_of_a_list() {
     let (mut more, mut declared) = (0, 0);
-    for file in accepted(26, 300) {
+    for file in accepted_with_one_ask(26, 300) {
         let text = lines(&file);
         let name = |line: &u32| fields(&text[*line as usize - 1])[1].clone().into_bytes();
         let [without, no_ambients, pretyping, decls] =
@@ -253,11 +275,11 @@ const NINE: [&str; 9] =
 fn hide_lines_that_hide_nothing_more() {
     let (mut random, mut tried) = (Random::new(28), 0);
     for file in accepted(28, 400) {
-        let before = list(&file).unwrap();
+        let before = lists(&file).unwrap();
         let names = hidden(&file);
         let mut turned = names.clone();
         turned.reverse();
-        assert_eq!(list(&with_hidden(&file, &turned)).as_ref(), Some(&before));
+        assert_eq!(lists(&with_hidden(&file, &turned)).as_ref(), Some(&before));
 
         let mut more = names.clone();
         let many = random.within(1..=5);
@@ -267,7 +289,7 @@ fn hide_lines_that_hide_nothing_more() {
             more.insert(random.below(more.len() + 1), name);
         }
         more.insert(random.below(more.len() + 1), "nowhere.else".to_owned());
-        if let Some(after) = list(&with_hidden(&file, &more)) {
+        if let Some(after) = lists(&with_hidden(&file, &more)) {
             assert_eq!(after, moved(before, many as isize + 1));
             tried += usize::from(!names.is_empty());
         }
@@ -315,11 +337,11 @@ fn a_hidden_name_is_as_one_of_the_nine() {
             }
             line(&fields)
         });
-        let before = list(&file).unwrap();
-        if let Some(after) = list(&file_renamed) {
+        let before = lists(&file).unwrap();
+        if let Some(after) = lists(&file_renamed) {
             assert_eq!(moved(after, plain.len() as isize), before);
         }
-        other += usize::from(list(&without).is_some_and(|list| moved(list, plain.len() as isize) != before));
+        other += usize::from(lists(&without).is_some_and(|lists| moved(lists, plain.len() as isize) != before));
     }
     assert!(renamed > 300 && other > 40, "{renamed} {other}");
 }
@@ -343,6 +365,100 @@ fn hidden_names_stand_in_no_summary() {
         }
     }
     assert!(shown > 500 && tokens > 5, "{shown} {tokens}");
+}
+
+/// Change 7: each answer is what the file with only that ask line gives, apart from the line numbers.
+#[test]
+fn each_answer_is_that_of_its_ask_line_alone() {
+    let (mut several, mut different) = (0, 0);
+    for file in accepted(33, 500) {
+        let (asks, lists) = (asked(&file), lists(&file).unwrap());
+        assert_eq!(lists.len(), asks.len());
+        for (ask, list) in asks.iter().zip(&lists) {
+            let alone = self::lists(&with_asks(&file, &[*ask])).expect("an ask line refuses no file");
+            assert_eq!(moved(alone, asks.len() as isize - 1), std::slice::from_ref(list));
+        }
+        several += usize::from(lists.len() > 1);
+        different += usize::from(lists.windows(2).any(|pair| pair[0] != pair[1]));
+    }
+    assert!(several > 120 && different > 80, "{several} {different}");
+}
+
+/// Change 7: the answers stand in the sequence of the ask lines, which may repeat.
+#[test]
+fn the_answers_follow_the_sequence_of_the_ask_lines() {
+    let mut random = Random::new(34);
+    for file in accepted(34, 200) {
+        let (asks, lists) = (asked(&file), lists(&file).unwrap());
+        let picked: Vec<usize> = (0..random.within(1..=limits::ASKS)).map(|_| random.below(asks.len())).collect();
+        let other = with_asks(&file, &picked.iter().map(|&index| asks[index]).collect::<Vec<_>>());
+        if other.len() > limits::BYTES {
+            continue;
+        }
+        let by = picked.len() as isize - asks.len() as isize;
+        let expected = picked.iter().map(|&index| lists[index].clone()).collect();
+        assert_eq!(self::lists(&other), Some(moved(expected, by)));
+    }
+}
+
+/// Change 7: an ask line elsewhere is 1, whatever its fields are; among the ask lines it is one more, and the seventeenth
+/// is 13, whatever its fields are, unless it does not end with 0A.
+#[test]
+fn an_ask_line_elsewhere_is_1_and_the_seventeenth_is_13() {
+    let (mut random, mut elsewhere, mut seventeenth) = (Random::new(35), 0, 0);
+    for file in accepted(35, 600) {
+        let mut lines = lines(&file);
+        let asks = asked(&file).len();
+        if asks < limits::ASKS && random.chance(40) {
+            let more = vec![b"ask,1,4\n".to_vec(); limits::ASKS - asks];
+            lines.splice(0..0, more);
+        }
+        let asks = lines.iter().take_while(|line| kind(line) == "ask").count();
+        let at = if random.chance(50) { asks } else { random.within(0..=lines.len()) };
+        let (line, number) =
+            random.pick(&[("ask,0,0", 0), ("ask", 1), ("ask,0", 1), ("ask,256,0", 3), ("ask,0,16", 3)]);
+        lines.insert(at, format!("{line}\n").into_bytes());
+        let whole = lines.concat();
+        if whole.len() > limits::BYTES {
+            continue;
+        }
+        let refused = |number: u32, place: usize| Outcome::Refused { number, place: place as u32 };
+        if at > asks {
+            elsewhere += 1;
+            assert_eq!(filter_file(&whole), refused(1, at + 1));
+        } else if number == 0 && asks < limits::ASKS {
+            assert_eq!(filter_file(&whole).lists().len(), asks + 1);
+        } else if number == 0 || at == limits::ASKS {
+            seventeenth += 1;
+            assert_eq!(filter_file(&whole), refused(13, limits::ASKS + 1));
+            let cut: Vec<u8> = lines[..=limits::ASKS].concat();
+            assert_eq!(filter_file(&cut[..cut.len() - 1]), refused(1, limits::ASKS + 1));
+        } else {
+            assert_eq!(filter_file(&whole), refused(number, at + 1));
+        }
+    }
+    assert!(elsewhere > 60 && seventeenth > 60, "{elsewhere} {seventeenth}");
+}
+
+/// Change 7: a refusal refuses the whole call: what a line is refused for does not depend on how many ask lines stand above.
+#[test]
+fn a_refusal_does_not_depend_on_the_ask_lines() {
+    let (mut random, mut refused) = (Random::new(36), 0);
+    for case in generate::cases(36, 1_500) {
+        let Outcome::Refused { number, place } = filter_file(&case.file) else { continue };
+        let before = lines(&case.file).iter().take_while(|line| kind(line) == "ask").count();
+        // A line after the ask lines, of which there are some.
+        if before == 0 || place as usize <= before {
+            continue;
+        }
+        let more = random.below(limits::ASKS + 1 - before);
+        let file = ["ask,3,6\n".repeat(more).as_bytes(), &case.file].concat();
+        if file.len() <= limits::BYTES {
+            refused += 1;
+            assert_eq!(filter_file(&file), Outcome::Refused { number, place: place + more as u32 }, "{}", case.name);
+        }
+    }
+    assert!(refused > 300, "{refused}");
 }
 
 /// The names in each term of an accepted file that count as free, by their lines alone.
@@ -381,9 +497,9 @@ fn free_names(file: &[u8]) -> Vec<BTreeSet<String>> {
 #[test]
 fn bodies_of_kept_definitions_are_followed() {
     let (mut grown, mut deep) = (0, 0);
-    for file in accepted(32, 900) {
+    for file in accepted_with_one_ask(32, 900) {
         let of = |options: u32| list(&with_options(&file, options)).expect("options do not refuse a file");
-        let others = asked(&file).1 & 3;
+        let others = asked(&file)[0].1 & 3;
         assert_eq!(of(others + 8), of(others));
         let (stopped, followed) = (of(others + 4), of(others + 12));
         assert_eq!((stopped.visits, stopped.rounds), (followed.visits, followed.rounds));
@@ -443,16 +559,17 @@ fn the_sequence_of_the_record_lines_is_no_matter() {
             records.swap(index, random.below(index + 1));
         }
         let other = [head, terms, records].concat().concat();
-        let Some(after) = list(&other) else { continue };
-        let before = list(&file).unwrap();
-        assert_eq!((after.visits, after.rounds), (before.visits, before.rounds));
-        assert_eq!(BTreeSet::from_iter(&after.names), BTreeSet::from_iter(&before.names));
+        let Some(all_after) = lists(&other) else { continue };
         let names = |file: &[u8], list: &List| -> Vec<Vec<u8>> {
             let reached = facts_and_reached(file, list).1;
             list.names[..reached.len()].to_vec()
         };
-        assert_eq!(names(&other, &after), names(&file, &before));
-        moved += usize::from(after != before);
+        for (after, before) in all_after.iter().zip(&lists(&file).unwrap()) {
+            assert_eq!((after.visits, after.rounds), (before.visits, before.rounds));
+            assert_eq!(BTreeSet::from_iter(&after.names), BTreeSet::from_iter(&before.names));
+            assert_eq!(names(&other, after), names(&file, before));
+            moved += usize::from(after != before);
+        }
     }
     assert!(moved > 100, "{moved}");
 }

@@ -1,4 +1,4 @@
-//! The proved filter against the independent version: the answer, the list, the counts, and every word of the lent slices.
+//! The proved filter against the independent version: the answer, the lists, the counts, and every word of the lent slices.
 
 mod lend;
 pub mod shrink;
@@ -6,7 +6,7 @@ pub mod shrink;
 use compare::case::Case;
 use compare::random::Random;
 use compare::{filter, limits, Outcome, LONG_ENOUGH};
-use wimplejade::Answer;
+use wimplejade::{Answer, MOST_ASKS};
 
 pub use lend::Lender;
 
@@ -29,7 +29,7 @@ impl Lengths {
     /// Lengths for a case: its own where it has some, else odd ones that are long enough, with a result slice that is now
     /// and then exact or short.
     pub fn of(case: &Case, kept: usize, random: &mut Random) -> Self {
-        if (case.works, case.room) != (LONG_ENOUGH, limits::RECORDS) {
+        if (case.works, case.room) != (LONG_ENOUGH, limits::ROOM) {
             return Lengths { works: case.works, room: case.room };
         }
         let works = LONG_ENOUGH.map(|words| words + random.below(MOST_MORE));
@@ -38,7 +38,7 @@ impl Lengths {
             1 => kept.saturating_sub(1),
             2 => random.below(kept + 1),
             3..=5 => kept + random.below(20),
-            _ => limits::RECORDS + random.below(20),
+            _ => limits::ROOM + random.below(20),
         };
         Lengths { works, room }
     }
@@ -48,7 +48,7 @@ impl Lengths {
 pub fn with_lengths<'f>(outcome: &Outcome<'f>, file: &'f [u8], lengths: Lengths) -> Outcome<'f> {
     let long = lengths.works.iter().all(|&words| words >= limits::WORK_WORDS);
     match outcome {
-        Outcome::Kept { lines, .. } if long && lines.len() <= lengths.room => outcome.clone(),
+        Outcome::Kept(_) if long && outcome.lines().len() <= lengths.room => outcome.clone(),
         _ => expected(file, lengths),
     }
 }
@@ -60,15 +60,20 @@ pub fn expected(file: &[u8], lengths: Lengths) -> Outcome<'_> {
 
 /// The answer that an outcome is.
 pub fn answer_of(outcome: &Outcome) -> Answer {
-    match outcome {
-        Outcome::Refused { number, place } => Answer { refusal: *number, place: *place, kept: 0, visits: 0, rounds: 0 },
-        Outcome::Kept { lines, visits, rounds, .. } => {
-            Answer { refusal: 0, place: 0, kept: lines.len() as u32, visits: *visits, rounds: *rounds }
-        }
+    let none = [0; MOST_ASKS];
+    let mut answer = Answer { refusal: 0, place: 0, kept: none, visits: none, rounds: none };
+    if let Outcome::Refused { number, place } = outcome {
+        (answer.refusal, answer.place) = (*number, *place);
     }
+    for (index, list) in outcome.lists().iter().enumerate() {
+        answer.kept[index] = list.lines.len() as u32;
+        answer.visits[index] = list.visits;
+        answer.rounds[index] = list.rounds;
+    }
+    answer
 }
 
-/// How a call differs from what document 01 says of it, if it does.
+/// How a call differs from what documents 01 and 02 say of it, if it does.
 pub fn difference(call: Call, lender: &mut Lender, file: &[u8], lengths: Lengths, outcome: &Outcome) -> Option<String> {
     lender.lend(lengths);
     let (working, result) = lender.slices();
@@ -77,11 +82,7 @@ pub fn difference(call: Call, lender: &mut Lender, file: &[u8], lengths: Lengths
     if answer != right {
         return Some(format!("the answer is {answer:?}, by the independent version {right:?}"));
     }
-    let lines: &[u32] = match outcome {
-        Outcome::Kept { lines, .. } => lines,
-        Outcome::Refused { .. } => &[],
-    };
-    lender.fault(lines, right.refusal == 7)
+    lender.fault(&outcome.lines(), right.refusal == 7)
 }
 
 #[cfg(test)]
@@ -89,7 +90,7 @@ mod tests {
     use super::*;
     use compare::generate;
 
-    /// The independent version as a call that does all that document 01 says.
+    /// The independent version as a call that does all that documents 01 and 02 say.
     fn right(file: &[u8], mut working: [&mut [u32]; 6], result: &mut [u32]) -> Answer {
         let works = working.each_ref().map(|words| words.len());
         let outcome = filter(file, works, result.len());
@@ -99,10 +100,19 @@ mod tests {
                 words[..limits::WORK_WORDS].fill(0);
             }
         }
-        if let Outcome::Kept { lines, .. } = outcome {
-            result[..lines.len()].copy_from_slice(&lines);
-        }
+        let lines = outcome.lines();
+        result[..lines.len()].copy_from_slice(&lines);
         answer
+    }
+
+    /// How many lines an answer says are kept, in all lists.
+    fn all_kept(answer: &Answer) -> usize {
+        answer.kept.iter().sum::<u32>() as usize
+    }
+
+    /// How many ask lines an answer has counts of.
+    fn asks(answer: &Answer) -> usize {
+        answer.rounds.iter().filter(|&&rounds| rounds > 0).count()
     }
 
     /// How many of some files a call differs on.
@@ -123,23 +133,80 @@ mod tests {
 
     #[test]
     fn wrong_calls_differ() {
-        let wrong: [(&str, Call); 12] = [
+        let wrong: [(&str, Call); 20] = [
             ("a visit more", |file, working, result| {
                 let answer = right(file, working, result);
-                Answer { visits: answer.visits + u32::from(answer.visits > 2), ..answer }
+                Answer { visits: answer.visits.map(|visits| visits + u32::from(visits > 2)), ..answer }
             }),
             ("a round less", |file, working, result| {
                 let answer = right(file, working, result);
-                Answer { rounds: answer.rounds.min(2), ..answer }
+                Answer { rounds: answer.rounds.map(|rounds| rounds.min(2)), ..answer }
             }),
             ("a refusal with a count", |file, working, result| {
+                let mut answer = right(file, working, result);
+                if [6, 10, 11, 12].contains(&answer.refusal) {
+                    answer.visits[0] = 1;
+                }
+                answer
+            }),
+            ("the counts of one ask left for the next", |file, working, result| {
+                let mut answer = right(file, working, result);
+                for index in 1..asks(&answer) {
+                    answer.visits[index] += answer.visits[index - 1];
+                }
+                answer
+            }),
+            ("rounds that go on", |file, working, result| {
+                let mut answer = right(file, working, result);
+                for index in 1..asks(&answer) {
+                    answer.rounds[index] += answer.rounds[index - 1];
+                }
+                answer
+            }),
+            ("counts past the last ask", |file, working, result| {
+                let mut answer = right(file, working, result);
+                let last = asks(&answer);
+                if (2..MOST_ASKS).contains(&last) {
+                    answer.kept[last] = answer.kept[last - 1];
+                }
+                answer
+            }),
+            ("the last position never filled", |file, working, result| {
+                let mut answer = right(file, working, result);
+                (answer.kept[15], answer.visits[15], answer.rounds[15]) = (0, 0, 0);
+                answer
+            }),
+            ("every ask answered with the options of the first", |file, working, result| {
+                let mut options = None;
+                let lines = file.split(|&byte| byte == b'\n').map(|line| {
+                    let fields: Vec<&[u8]> = line.split(|&byte| byte == b',').collect();
+                    match fields[..] {
+                        [b"ask", query, own] => [b"ask", query, options.get_or_insert(own)].join(&b','),
+                        _ => line.to_vec(),
+                    }
+                });
+                right(&lines.collect::<Vec<_>>().join(&b'\n'), working, result)
+            }),
+            ("the count of the last list as the place of 8", |file, working, result| {
                 let answer = right(file, working, result);
-                let full = [6, 10, 11, 12].contains(&answer.refusal);
-                Answer { visits: answer.visits.max(u32::from(full)), ..answer }
+                match filter(file, LONG_ENOUGH, limits::ROOM).lists() {
+                    [.., last] if answer.refusal == 8 => Answer { place: last.lines.len() as u32, ..answer },
+                    _ => answer,
+                }
+            }),
+            ("a seventeenth ask line is 1", |file, working, result| {
+                let answer = right(file, working, result);
+                Answer { refusal: if answer.refusal == 13 { 1 } else { answer.refusal }, ..answer }
+            }),
+            ("lists in another sequence", |file, working, result| {
+                let answer = right(file, working, result);
+                let first = answer.kept[0] as usize;
+                result[..all_kept(&answer)].rotate_left(first);
+                answer
             }),
             ("any limit is 6", |file, working, result| {
                 let answer = right(file, working, result);
-                Answer { refusal: if answer.refusal > 9 { 6 } else { answer.refusal }, ..answer }
+                Answer { refusal: if (10..=12).contains(&answer.refusal) { 6 } else { answer.refusal }, ..answer }
             }),
             ("a hide line that hides nothing", |file, working, result| {
                 let lines = file.split(|&byte| byte == b'\n');
@@ -166,12 +233,12 @@ mod tests {
             }),
             ("a list in another order", |file, working, result| {
                 let answer = right(file, working, result);
-                result[..answer.kept as usize].reverse();
+                result[..answer.kept[0] as usize].reverse();
                 answer
             }),
             ("a word past the list", |file, working, result| {
                 let answer = right(file, working, result);
-                if let Some(word) = result.get_mut(answer.kept as usize) {
+                if let Some(word) = result.get_mut(all_kept(&answer)) {
                     *word ^= 1;
                 }
                 answer
@@ -185,7 +252,7 @@ mod tests {
             }),
             ("a working word past the end cleared", |file, mut working, result| {
                 let answer = right(file, working.each_mut().map(|words| &mut **words), result);
-                if let (1..=6 | 10..=12, Some(word)) = (answer.refusal, working[5].get_mut(16_384)) {
+                if let (1..=6 | 10..=13, Some(word)) = (answer.refusal, working[5].get_mut(16_384)) {
                     *word = 0;
                 }
                 answer

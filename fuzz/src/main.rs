@@ -163,11 +163,7 @@ impl Trial<'_> {
         by_interface: bool,
     ) -> Option<Failure> {
         let outcome = filter_file(&case.file);
-        let kept = match &outcome {
-            Outcome::Kept { lines, .. } => lines.len(),
-            Outcome::Refused { .. } => 0,
-        };
-        let lengths = lengths(&case, kept);
+        let lengths = lengths(&case, outcome.lines().len());
         let lent = with_lengths(&outcome, &case.file, lengths);
         let mut why = difference(wimplejade::answer, &mut self.lender, &case.file, lengths, &lent);
         if by_interface {
@@ -225,10 +221,7 @@ fn given_files(paths: &[PathBuf]) -> io::Result<bool> {
 
 fn given_differences(file: &[u8]) -> Option<String> {
     let case = Case::new("", file.to_vec());
-    let kept = match filter_file(file) {
-        Outcome::Kept { lines, .. } => lines.len(),
-        Outcome::Refused { .. } => 0,
-    };
+    let kept = filter_file(file).lines().len();
     let mut random = Random::new(1);
     (0..20).find_map(|_| differ(file, Lengths::of(&case, kept, &mut random)))
 }
@@ -239,8 +232,11 @@ struct Progress {
     /// How many files there are, the edges among them.
     files: u64,
     started: Instant,
-    /// How often each answer was given: 0 is a list, 1 to 12 the refusals.
-    answers: [AtomicU64; 13],
+    /// How often each answer was given: 0 is lists, 1 to 13 the refusals.
+    answers: [AtomicU64; 14],
+    /// The lists of all files, and the most of one file.
+    lists: AtomicU64,
+    most_lists: AtomicU64,
     most_rounds: AtomicU64,
     most_kept: AtomicU64,
     /// The file that each job is at.
@@ -260,6 +256,8 @@ impl Progress {
             files: options.files + if options.from == 0 { edges::edges().len() as u64 } else { 0 },
             started: Instant::now(),
             answers: Default::default(),
+            lists: AtomicU64::new(0),
+            most_lists: AtomicU64::new(0),
             most_rounds: AtomicU64::new(0),
             most_kept: AtomicU64::new(0),
             at: (0..options.jobs).map(|_| AtomicU64::new(options.from)).collect(),
@@ -270,15 +268,14 @@ impl Progress {
     }
 
     fn count(&self, outcome: &Outcome) {
-        let number = match outcome {
-            Outcome::Refused { number, .. } => *number as usize,
-            Outcome::Kept { lines, rounds, .. } => {
-                self.most_rounds.fetch_max(u64::from(*rounds), Ordering::Relaxed);
-                self.most_kept.fetch_max(lines.len() as u64, Ordering::Relaxed);
-                0
-            }
-        };
-        self.answers[number].fetch_add(1, Ordering::Relaxed);
+        for list in outcome.lists() {
+            self.most_rounds.fetch_max(u64::from(list.rounds), Ordering::Relaxed);
+            self.most_kept.fetch_max(list.lines.len() as u64, Ordering::Relaxed);
+        }
+        let lists = outcome.lists().len() as u64;
+        self.lists.fetch_add(lists, Ordering::Relaxed);
+        self.most_lists.fetch_max(lists, Ordering::Relaxed);
+        self.answers[outcome.number() as usize].fetch_add(1, Ordering::Relaxed);
     }
 
     fn done(&self) -> u64 {
@@ -313,7 +310,9 @@ impl Progress {
             (1..self.answers.len()).map(|number| format!("{number}: {}", count(number))).collect();
         println!("accepted: {}; refused: {}", count(0), refused.join(", "));
         println!(
-            "most rounds {}, most kept {}",
+            "lists {}; of a file at most {}; of a list most rounds {}, most kept {}",
+            self.lists.load(Ordering::Relaxed),
+            self.most_lists.load(Ordering::Relaxed),
             self.most_rounds.load(Ordering::Relaxed),
             self.most_kept.load(Ordering::Relaxed)
         );

@@ -190,11 +190,11 @@ fn references(fields: &[Line]) -> Vec<usize> {
 mod tests {
     use super::*;
     use compare::export::export;
-    use compare::{filter_file, Outcome};
+    use compare::filter_file;
 
     #[test]
     fn a_long_file_becomes_short() {
-        let fails = |file: &[u8]| matches!(filter_file(file), Outcome::Kept { rounds: 3.., .. });
+        let fails = |file: &[u8]| filter_file(file).lists().iter().any(|list| list.rounds > 2);
         let file = export(1, 20_000);
         assert!(fails(&file));
         let small = shrink(&file, fails);

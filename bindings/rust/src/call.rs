@@ -1,8 +1,9 @@
 //! The C function of the archive, and the safe call over it.
 
-use crate::Refusal;
+use crate::{Refusal, MOST_ASKS};
 
-/// The answer as the library gives it. After a refusal `kept`, `visits` and `rounds` are 0.
+/// The answer as the library gives it. The counts of the ask on line 1 stand at index 0, and so on; past the last ask line,
+/// and after a refusal, they are 0.
 #[repr(C)]
 #[derive(Clone, Copy, Debug, PartialEq, Eq)]
 #[must_use]
@@ -11,12 +12,12 @@ pub struct Answer {
     pub refusal: u32,
     /// The place of the refusal.
     pub place: u32,
-    /// How many lines are kept.
-    pub kept: u32,
-    /// The filed trigger entries whose name was met.
-    pub visits: u32,
-    /// The rounds of the run.
-    pub rounds: u32,
+    /// How many lines each ask keeps.
+    pub kept: [u32; MOST_ASKS],
+    /// The filed trigger entries whose name was met, for each ask.
+    pub visits: [u32; MOST_ASKS],
+    /// The rounds of the run of each ask.
+    pub rounds: [u32; MOST_ASKS],
 }
 
 extern "C" {
@@ -40,24 +41,53 @@ extern "C" {
     ) -> Answer;
 }
 
-/// The counts of an accepted call.
+/// The counts of an accepted call. Those of the ask on line 1 stand at index 0, and so on; past the last ask line they are 0.
 #[derive(Clone, Copy, Debug, PartialEq, Eq)]
 #[must_use]
 #[non_exhaustive]
 pub struct Counts {
-    /// How many lines are kept: so many words of the result slice are line numbers.
-    pub kept: u32,
-    /// The filed trigger entries whose name was met.
-    pub visits: u32,
-    /// The rounds of the run.
-    pub rounds: u32,
+    /// How many lines each ask keeps.
+    pub kept: [u32; MOST_ASKS],
+    /// The filed trigger entries whose name was met, for each ask.
+    pub visits: [u32; MOST_ASKS],
+    /// The rounds of the run of each ask, at least 1.
+    pub rounds: [u32; MOST_ASKS],
+}
+
+impl Counts {
+    /// How many ask lines the file has: those that have rounds.
+    #[must_use]
+    pub fn asks(&self) -> usize {
+        self.rounds.iter().take_while(|&&rounds| rounds > 0).count()
+    }
+
+    /// How many lines are kept in all: so many words of the result slice are line numbers.
+    #[must_use]
+    pub fn words(&self) -> usize {
+        self.kept.iter().map(|&kept| kept as usize).sum()
+    }
+
+    /// The kept line numbers of each ask, in their sequence, as parts of the call's result slice.
+    ///
+    /// # Panics
+    ///
+    /// The slice is shorter than the kept lines, so it is not that of the call.
+    pub fn lists<'r>(&self, result: &'r [u32]) -> impl ExactSizeIterator<Item = &'r [u32]> + 'r {
+        let (kept, mut rest) = (self.kept, result);
+        (0..self.asks()).map(move |index| {
+            let (list, after) = rest.split_at(kept[index] as usize);
+            rest = after;
+            list
+        })
+    }
 }
 
 /// Filters a file with lent slices.
 ///
-/// The six working slices may hold anything. The kept line numbers are written from the start of the result slice, and
-/// nothing beyond them. After the call the first [`WORKING_WORDS`](crate::WORKING_WORDS) words of each working slice are
-/// 0 and the rest is untouched; after [`Refusal::Working`] nothing at all is touched.
+/// The six working slices may hold anything. The kept line numbers of all asks, one list after the other, are written from
+/// the start of the result slice, and nothing beyond them; [`Counts::lists`] parts them. After the call the first
+/// [`WORKING_WORDS`](crate::WORKING_WORDS) words of each working slice are 0 and the rest is untouched; after
+/// [`Refusal::Working`] nothing at all is touched.
 ///
 /// # Errors
 ///
@@ -66,7 +96,7 @@ pub fn filter(file: &[u8], working: [&mut [u32]; 6], result: &mut [u32]) -> Resu
     let answer = answer(file, working, result);
     match answer.refusal {
         0 => Ok(Counts { kept: answer.kept, visits: answer.visits, rounds: answer.rounds }),
-        number => Err(Refusal::of(number, answer.place).expect("a refusal is one of twelve")),
+        number => Err(Refusal::of(number, answer.place).expect("a refusal is one of thirteen")),
     }
 }
 

@@ -1,22 +1,38 @@
 //! The proved fact filter.
 //!
-//! A file holds terms, facts over them, definitions, declarations, and the roots of a query. The filter keeps the facts
-//! that the roots can touch, as F*'s context pruning does, with option 4 also the definitions and declarations that come
-//! with them, and with options 4 and 8 those that their bodies need. `docs/FORMAT.md` of the repository describes the file; the filter itself is proved in Rattle and linked here
-//! as an archive, for x86-64 Linux.
+//! A file holds terms, facts over them, definitions, declarations, and the roots of queries. For each of its ask lines the
+//! filter keeps the facts that the roots of the asked query can touch, as F*'s context pruning does, with option 4 also the
+//! definitions and declarations that come with them, and with options 4 and 8 those that their bodies need.
+//! `docs/FORMAT.md` of the repository describes the file; the filter itself is proved in Rattle and linked here as an
+//! archive, for x86-64 Linux.
 //!
 //! ```
 //! let file = b"ask,0,0\nfree,p\nleaf\nall,1,1,1,0\nassume,fact,0,2\nroot,0,goal,0\n";
 //!
 //! let mut filter = wimplejade::Filter::new();
-//! let kept = filter.run(file)?;
-//! assert_eq!((kept.visits, kept.rounds), (1, 2));
-//! for record in &kept {
+//! for record in filter.run(file)? {
 //!     assert_eq!((record.line, record.name, record.name_str()), (5, &b"fact"[..], "fact"));
 //! }
 //!
 //! let refusal = filter.run(b"ask,0,16\n").unwrap_err();
 //! assert_eq!(refusal.to_string(), "line 1: a field is no number, or one out of its range");
+//! # Ok::<(), wimplejade::Refusal>(())
+//! ```
+//!
+//! A file may begin with up to [`MOST_ASKS`] ask lines. One run answers them all: there is a [`List`] for each, in their
+//! sequence, with the counts of its run.
+//!
+//! ```
+//! let file = b"ask,0,0\nask,1,0\nfree,p\nfree,q\nop,eq,0,0\nassume,on_p,0,2\nop,eq,1,1\nassume,on_q,0,3\n\
+//!     root,0,goal,0\nroot,1,goal,1\n";
+//!
+//! let mut filter = wimplejade::Filter::new();
+//! let kept = filter.run(file)?;
+//! for (list, name) in kept.lists().iter().zip(["on_p", "on_q"]) {
+//!     assert_eq!((list.records.len(), list.visits, list.rounds), (1, 2, 2));
+//!     assert_eq!(list.records[0].name_str(), name);
+//! }
+//! assert_eq!(kept.list(2).map(|list| list.records[0].line), Some(8));
 //! # Ok::<(), wimplejade::Refusal>(())
 //! ```
 //!
@@ -30,7 +46,7 @@
 //! measured. [`STACK_BYTES`], 2 MB, is enough for every file; a thread that Rust starts has as much unless it is told
 //! otherwise. A thread with less may end the process, as every overflow of the stack does.
 //!
-//! A file that looks like an export takes 10 to 300 microseconds, the worst file known 0.22 seconds.
+//! A file that looks like an export, with one ask line, takes 10 to 300 microseconds, the worst file known 0.22 seconds.
 
 #![deny(missing_docs)]
 
@@ -45,9 +61,15 @@ use std::fmt;
 /// Words that each working slice must have.
 pub const WORKING_WORDS: usize = 16_384;
 
-/// The most lines that an accepted file can keep. It is proved that a call over a result slice of so many words, or more,
-/// is never refused with [`Refusal::Room`].
-pub const MOST_KEPT: usize = 1_024;
+/// The ask lines that a file may have.
+pub const MOST_ASKS: usize = 16;
+
+/// The record lines that a file may have: so many lines one list can have.
+pub const MOST_RECORDS: usize = 1_024;
+
+/// The most lines that an accepted file can keep, in all lists. It is proved that a call over a result slice of so many
+/// words, or more, is never refused with [`Refusal::Room`].
+pub const MOST_KEPT: usize = MOST_ASKS * MOST_RECORDS;
 
 /// The bytes that a file may have.
 pub const MOST_BYTES: usize = 65_535;
@@ -55,7 +77,7 @@ pub const MOST_BYTES: usize = 65_535;
 /// Stack, in bytes, that is enough for every call.
 pub const STACK_BYTES: usize = 2 << 20;
 
-/// A filter with the slices that a call needs, some 400 KB. It can run any number of files, one after the other.
+/// A filter with the slices that a call needs, some 460 KB. It can run any number of files, one after the other.
 #[derive(Clone, Debug)]
 pub struct Filter {
     working: [Vec<u32>; 6],
@@ -69,18 +91,22 @@ impl Filter {
         Filter { working: std::array::from_fn(|_| vec![0; WORKING_WORDS]), result: vec![0; MOST_KEPT] }
     }
 
-    /// Filters a file.
+    /// Filters a file, for all its ask lines.
     ///
     /// # Errors
     ///
-    /// The file is refused: see [`Refusal`]. [`Refusal::Working`] and [`Refusal::Room`] do not occur, since the slices
-    /// are long enough.
+    /// The file is refused, for all its ask lines: see [`Refusal`]. [`Refusal::Working`] and [`Refusal::Room`] do not
+    /// occur, since the slices are long enough.
     pub fn run<'f>(&mut self, file: &'f [u8]) -> Result<Kept<'f>, Refusal> {
         let counts = filter(file, self.working.each_mut().map(Vec::as_mut_slice), &mut self.result)?;
         let lines: Vec<&[u8]> = file.split(|&byte| byte == b'\n').collect();
         let record = |&line: &u32| Record { line, name: name(lines[line as usize - 1]) };
-        let records = self.result[..counts.kept as usize].iter().map(record).collect();
-        Ok(Kept { records, visits: counts.visits, rounds: counts.rounds })
+        let list = |(index, kept): (usize, &[u32])| List {
+            records: kept.iter().map(record).collect(),
+            visits: counts.visits[index],
+            rounds: counts.rounds[index],
+        };
+        Ok(Kept { lists: counts.lists(&self.result).enumerate().map(list).collect() })
     }
 }
 
@@ -95,11 +121,74 @@ fn name(line: &[u8]) -> &[u8] {
     line.split(|&byte| byte == b',').nth(1).expect("a kept line is an assume, def or fun line")
 }
 
-/// What a file keeps. It can be iterated over, which gives its records in their order.
+/// What a file keeps: a list for each of its ask lines.
+///
+/// It can be iterated over, which gives the records of all lists end to end: for a file with one ask line, those that it
+/// keeps.
+#[derive(Clone, Debug, PartialEq, Eq)]
+#[must_use]
+pub struct Kept<'f> {
+    lists: Vec<List<'f>>,
+}
+
+impl<'f> Kept<'f> {
+    /// The list of each ask line, in their sequence. There is at least one, and that of line 1 is the first.
+    pub fn lists(&self) -> &[List<'f>] {
+        &self.lists
+    }
+
+    /// The list of the ask line at a position, which is counted from 1 as lines are: the ask of position 2 stands on line 2.
+    #[must_use]
+    pub fn list(&self, position: usize) -> Option<&List<'f>> {
+        self.lists.get(position.checked_sub(1)?)
+    }
+
+    /// The records of all lists, end to end.
+    pub fn records(&self) -> impl Iterator<Item = &Record<'f>> + '_ {
+        self.into_iter()
+    }
+
+    /// The line numbers of the records of all lists, end to end.
+    pub fn lines(&self) -> impl Iterator<Item = u32> + '_ {
+        self.records().map(|record| record.line)
+    }
+
+    /// The names of the records of all lists, end to end.
+    pub fn names(&self) -> impl Iterator<Item = &'f [u8]> + '_ {
+        self.records().map(|record| record.name)
+    }
+}
+
+/// As the program `factfilter` prints it: the lists one after the other.
+impl fmt::Display for Kept<'_> {
+    fn fmt(&self, out: &mut fmt::Formatter) -> fmt::Result {
+        self.lists.iter().try_for_each(|list| list.fmt(out))
+    }
+}
+
+impl<'f> IntoIterator for Kept<'f> {
+    type Item = Record<'f>;
+    type IntoIter = std::iter::Flatten<std::vec::IntoIter<List<'f>>>;
+
+    fn into_iter(self) -> Self::IntoIter {
+        self.lists.into_iter().flatten()
+    }
+}
+
+impl<'k, 'f> IntoIterator for &'k Kept<'f> {
+    type Item = &'k Record<'f>;
+    type IntoIter = std::iter::Flatten<std::slice::Iter<'k, List<'f>>>;
+
+    fn into_iter(self) -> Self::IntoIter {
+        self.lists.iter().flatten()
+    }
+}
+
+/// What one ask keeps. It can be iterated over, which gives its records in their order.
 #[derive(Clone, Debug, PartialEq, Eq)]
 #[must_use]
 #[non_exhaustive]
-pub struct Kept<'f> {
+pub struct List<'f> {
     /// The kept records in their order: the reached facts by name in byte order, then the ambient facts, last filed first;
     /// with option 4 the definitions and then the declarations, each group in the order of F*'s pruning. Those that option 8
     /// adds stand at the end of their group, by name in byte order.
@@ -110,7 +199,7 @@ pub struct Kept<'f> {
     pub rounds: u32,
 }
 
-impl<'f> Kept<'f> {
+impl<'f> List<'f> {
     /// The line numbers of the kept records, in their order.
     pub fn lines(&self) -> impl ExactSizeIterator<Item = u32> + '_ {
         self.records.iter().map(|record| record.line)
@@ -123,7 +212,7 @@ impl<'f> Kept<'f> {
 }
 
 /// As the program `factfilter` prints it.
-impl fmt::Display for Kept<'_> {
+impl fmt::Display for List<'_> {
     fn fmt(&self, out: &mut fmt::Formatter) -> fmt::Result {
         for record in self {
             writeln!(out, "kept,{},{}", record.line, record.name_str())?;
@@ -132,7 +221,7 @@ impl fmt::Display for Kept<'_> {
     }
 }
 
-impl<'f> IntoIterator for Kept<'f> {
+impl<'f> IntoIterator for List<'f> {
     type Item = Record<'f>;
     type IntoIter = std::vec::IntoIter<Record<'f>>;
 
@@ -141,9 +230,9 @@ impl<'f> IntoIterator for Kept<'f> {
     }
 }
 
-impl<'k, 'f> IntoIterator for &'k Kept<'f> {
-    type Item = &'k Record<'f>;
-    type IntoIter = std::slice::Iter<'k, Record<'f>>;
+impl<'l, 'f> IntoIterator for &'l List<'f> {
+    type Item = &'l Record<'f>;
+    type IntoIter = std::slice::Iter<'l, Record<'f>>;
 
     fn into_iter(self) -> Self::IntoIter {
         self.records.iter()

@@ -9,8 +9,8 @@ use std::fmt;
 #[derive(Clone, Copy, Debug, PartialEq, Eq, Hash)]
 #[non_exhaustive]
 pub enum Refusal {
-    /// 1: not a line of the file's form: an unknown kind or op word, fields lacking or left over, `ask` not exactly on
-    /// line 1, no final newline, an empty file.
+    /// 1: not a line of the file's form: an unknown kind or op word, fields lacking or left over, a first line other than
+    /// `ask`, an `ask` or `hide` line elsewhere than at the start, no final newline, an empty file.
     Form {
         /// The line, from 1.
         line: u32,
@@ -42,9 +42,9 @@ pub enum Refusal {
     },
     /// 7: a working slice has fewer than [`WORKING_WORDS`](crate::WORKING_WORDS) words.
     Working,
-    /// 8: the result slice has fewer words than lines are kept.
+    /// 8: the result slice has fewer words than lines are kept in all lists.
     Room {
-        /// How many lines are kept.
+        /// How many lines are kept in all lists.
         kept: u32,
     },
     /// 9: the file has more than [`MOST_BYTES`](crate::MOST_BYTES) bytes.
@@ -64,10 +64,15 @@ pub enum Refusal {
         /// The line, from 1.
         line: u32,
     },
+    /// 13: with this line the file has more than [`MOST_ASKS`](crate::MOST_ASKS) ask lines.
+    FullAsks {
+        /// The line, from 1.
+        line: u32,
+    },
 }
 
 impl Refusal {
-    /// The refusal of a number from 1 to 12 at a place.
+    /// The refusal of a number from 1 to 13 at a place.
     pub(crate) fn of(number: u32, place: u32) -> Option<Self> {
         Some(match number {
             1 => Refusal::Form { line: place },
@@ -82,11 +87,12 @@ impl Refusal {
             10 => Refusal::FullTerms { line: place },
             11 => Refusal::FullRecords { line: place },
             12 => Refusal::FullTriggers { line: place },
+            13 => Refusal::FullAsks { line: place },
             _ => return None,
         })
     }
 
-    /// The number of the refusal, from 1 to 12.
+    /// The number of the refusal, from 1 to 13.
     #[must_use]
     pub fn number(&self) -> u32 {
         match self {
@@ -102,10 +108,11 @@ impl Refusal {
             Refusal::FullTerms { .. } => 10,
             Refusal::FullRecords { .. } => 11,
             Refusal::FullTriggers { .. } => 12,
+            Refusal::FullAsks { .. } => 13,
         }
     }
 
-    /// The place of the refusal: the line, for 8 the number of kept lines, for 7 and 9 it is 0.
+    /// The place of the refusal: the line, for 8 the number of kept lines in all lists, for 7 and 9 it is 0.
     #[must_use]
     pub fn place(&self) -> u32 {
         self.line().unwrap_or(match self {
@@ -126,7 +133,8 @@ impl Refusal {
             | Refusal::FullNames { line }
             | Refusal::FullTerms { line }
             | Refusal::FullRecords { line }
-            | Refusal::FullTriggers { line } => Some(*line),
+            | Refusal::FullTriggers { line }
+            | Refusal::FullAsks { line } => Some(*line),
             Refusal::Working | Refusal::Room { .. } | Refusal::Size => None,
         }
     }
@@ -153,6 +161,7 @@ impl fmt::Display for Refusal {
             Refusal::FullTriggers { .. } => {
                 write!(out, "the file has more than 2,048 trigger entries or 6,144 name uses")
             }
+            Refusal::FullAsks { .. } => write!(out, "the file has more than 16 ask lines"),
         }
     }
 }
@@ -165,14 +174,14 @@ mod tests {
 
     #[test]
     fn each_number_is_one_refusal() {
-        for number in 1..=12 {
-            let refusal = Refusal::of(number, 12).unwrap();
+        for number in 1..=13 {
+            let refusal = Refusal::of(number, 20).unwrap();
             assert_eq!(refusal.number(), number);
-            assert_eq!(refusal.place(), if [7, 9].contains(&number) { 0 } else { 12 });
-            assert_eq!(refusal.line(), (![7, 8, 9].contains(&number)).then_some(12));
+            assert_eq!(refusal.place(), if [7, 9].contains(&number) { 0 } else { 20 });
+            assert_eq!(refusal.line(), (![7, 8, 9].contains(&number)).then_some(20));
         }
         assert_eq!(Refusal::of(0, 0), None);
-        assert_eq!(Refusal::of(13, 0), None);
+        assert_eq!(Refusal::of(14, 0), None);
     }
 
     #[test]
@@ -185,6 +194,7 @@ mod tests {
             (10, "4,096 term lines or 16,384 references"),
             (11, "1,024 record lines"),
             (12, "2,048 trigger entries or 6,144 name uses"),
+            (13, "16 ask lines"),
         ] {
             let words = Refusal::of(number, 7).unwrap().to_string();
             assert_eq!(words, format!("line 7: the file has more than {full}"));

@@ -4,10 +4,67 @@ use mathlib.Core.Path.{refl}
 use mathlib.Core.List.{List, [], _∷_}
 use Rattle.model.proofs.Printing.{Small, prints, All-print}
 
--- added-defs-after-noted-defs-in-byte-order to bodies-noted-stays-in-its-place
+-- 16-asks-pass to added-funs-after-noted-funs-in-byte-order
 files-1 : List Small
 files-1 =
     record {
+      name = "16-asks-pass";
+      file = "ask,0,0\nask,0,0\nask,0,0\nask,0,0\nask,0,0\nask,0,0\nask,0,0\nask,0,0\nask,0,0\nask,0,0\nask,0,0\n"
+          ∷ "ask,0,0\nask,0,0\nask,0,0\nask,0,0\nask,1,0\nfree,p\nfree,q\nop,eq,0,0\nassume,a,0,2\nop,eq,1,1\n"
+          ∷ "assume,b,0,3\nroot,0,r,0\nroot,1,r,1\n"
+          ∷ [];
+      printed = "fact,20,triggers,{p},{p} free={p}\nfact,22,triggers,{q},{q} free={q}\nkept,20,a\nsum,1,2,2\nkept,20,a\n"
+          ∷ "sum,1,2,2\nkept,20,a\nsum,1,2,2\nkept,20,a\nsum,1,2,2\nkept,20,a\nsum,1,2,2\nkept,20,a\nsum,1,2,2\n"
+          ∷ "kept,20,a\nsum,1,2,2\nkept,20,a\nsum,1,2,2\nkept,20,a\nsum,1,2,2\nkept,20,a\nsum,1,2,2\nkept,20,a\n"
+          ∷ "sum,1,2,2\nkept,20,a\nsum,1,2,2\nkept,20,a\nsum,1,2,2\nkept,20,a\nsum,1,2,2\nkept,20,a\nsum,1,2,2\n"
+          ∷ "kept,22,b\nsum,1,2,2\n"
+          ∷ [];
+    }
+    ∷ record {
+      name = "17-asks-are-13";
+      file = "ask,0,0\nask,0,0\nask,0,0\nask,0,0\nask,0,0\nask,0,0\nask,0,0\nask,0,0\nask,0,0\nask,0,0\nask,0,0\n"
+          ∷ "ask,0,0\nask,0,0\nask,0,0\nask,0,0\nask,0,0\nask,0,0\nfree,p\nfree,q\nop,eq,0,0\nassume,a,0,2\n"
+          ∷ "op,eq,1,1\nassume,b,0,3\nroot,0,r,0\nroot,1,r,1\n"
+          ∷ [];
+      printed = "refused,13,17\n" ∷ [];
+    }
+    ∷ record {
+      name = "17th-after-hide-is-1";
+      file = "ask,0,0\nask,0,0\nask,0,0\nask,0,0\nask,0,0\nask,0,0\nask,0,0\nask,0,0\nask,0,0\nask,0,0\nask,0,0\n"
+          ∷ "ask,0,0\nask,0,0\nask,0,0\nask,0,0\nask,0,0\nhide,p\nask,0,0\n"
+          ∷ [];
+      printed = "refused,1,18\n" ∷ [];
+    }
+    ∷ record {
+      name = "17th-is-13-before-its-field-count";
+      file = "ask,0,0\nask,0,0\nask,0,0\nask,0,0\nask,0,0\nask,0,0\nask,0,0\nask,0,0\nask,0,0\nask,0,0\nask,0,0\n"
+          ∷ "ask,0,0\nask,0,0\nask,0,0\nask,0,0\nask,0,0\nask\n"
+          ∷ [];
+      printed = "refused,13,17\n" ∷ [];
+    }
+    ∷ record {
+      name = "17th-is-13-before-its-fields";
+      file = "ask,0,0\nask,0,0\nask,0,0\nask,0,0\nask,0,0\nask,0,0\nask,0,0\nask,0,0\nask,0,0\nask,0,0\nask,0,0\n"
+          ∷ "ask,0,0\nask,0,0\nask,0,0\nask,0,0\nask,0,0\nask,x,99\n"
+          ∷ [];
+      printed = "refused,13,17\n" ∷ [];
+    }
+    ∷ record {
+      name = "17th-without-0A-is-1";
+      file = "ask,0,0\nask,0,0\nask,0,0\nask,0,0\nask,0,0\nask,0,0\nask,0,0\nask,0,0\nask,0,0\nask,0,0\nask,0,0\n"
+          ∷ "ask,0,0\nask,0,0\nask,0,0\nask,0,0\nask,0,0\nask,0,0"
+          ∷ [];
+      printed = "refused,1,17\n" ∷ [];
+    }
+    ∷ record {
+      name = "18-asks-are-13-at-the-17th";
+      file = "ask,0,0\nask,0,0\nask,0,0\nask,0,0\nask,0,0\nask,0,0\nask,0,0\nask,0,0\nask,0,0\nask,0,0\nask,0,0\n"
+          ∷ "ask,0,0\nask,0,0\nask,0,0\nask,0,0\nask,0,0\nask,0,0\nask,0,0\nfree,p\nfree,q\nop,eq,0,0\nassume,a,0,2\n"
+          ∷ "op,eq,1,1\nassume,b,0,3\nroot,0,r,0\nroot,1,r,1\n"
+          ∷ [];
+      printed = "refused,13,17\n" ∷ [];
+    }
+    ∷ record {
       name = "added-defs-after-noted-defs-in-byte-order";
       file = "ask,0,12\nfree,B\nfree,a\nfree,Z\nfree,m\nop,other,0,1,2\ndef,n,4\ndef,B,3\ndef,a,3\ndef,Z,3\nfree,n\n"
           ∷ "free,k\nop,other,5,6\ndef,k,3\nroot,0,r,7\n"
@@ -21,7 +78,17 @@ files-1 =
           ∷ [];
       printed = "kept,6,g\nkept,10,zz\nkept,9,A\nkept,7,a\nkept,8,ab\nsum,5,0,1\n" ∷ [];
     }
-    ∷ record {
+    ∷ []
+
+-- a wrong one is named in the error
+pass-1 : All-print files-1
+unfolding prints files-1
+pass-1 = (refl, (refl, (refl, (refl, (refl, (refl, (refl, (refl, (refl, tt)))))))))
+
+-- ambient-not-scanned to asks-empty-disjunct-met-in-one
+files-2 : List Small
+files-2 =
+    record {
       name = "ambient-not-scanned";
       file = "ask,0,0\nfree,p\nassume,amb,0,0\nall,0,1,1,0\nassume,z,0,1\n" ∷ [];
       printed = "fact,3,ambient,0 free={p}\nfact,5,triggers,{p} free={p}\nkept,3,amb\nsum,1,0,1\n" ∷ [];
@@ -44,6 +111,15 @@ files-1 =
       printed = "fact,5,ambient,1 free={Tm_refine_1 x}\nfact,7,triggers,{x} free={x}\nkept,7,a\nkept,5,h\nsum,2,1,2\n" ∷ [];
     }
     ∷ record {
+      name = "ambient-root-scanned-for-each-ask";
+      file = "ask,5,0\nask,6,1\nask,7,0\nfree,p\nfree,Tm_refine_1\ncall,HasType,0,1\nassume,h,0,2\nop,eq,0,0\n"
+          ∷ "assume,a,0,3\n"
+          ∷ [];
+      printed = "fact,7,ambient,1 free={Tm_refine_1 p}\nfact,9,triggers,{p},{p} free={p}\nkept,9,a\nkept,7,h\nsum,2,2,2\n"
+          ∷ "sum,0,0,1\nkept,9,a\nkept,7,h\nsum,2,2,2\n"
+          ∷ [];
+    }
+    ∷ record {
       name = "ambients-last-filed-first";
       file = "ask,0,0\nfree,p\nop,other,0\nall,0,1,1,0\nassume,b,0,1\nassume,ab,0,2\nassume,c,1,1\nassume,a,0,2\n"
           ∷ "assume,B,0,2\nassume,a-,0,1\nassume,~,0,2\nassume,a!,0,2\nroot,0,r,0\n"
@@ -61,6 +137,182 @@ files-1 =
           ∷ [];
       printed = "fact,6,ambient,1 free={Tm_refine_1 p}\nfact,7,ambient,0 free={}\nfact,8,ambient,1 free={Tm_refine_1 p}\n"
           ∷ "fact,10,triggers,{p} free={p}\nkept,10,z\nsum,1,1,2\n"
+          ∷ [];
+    }
+    ∷ record {
+      name = "ask-after-hide-is-1";
+      file = "ask,0,0\nhide,p\nask,1,0\nfree,p\nfree,q\nop,eq,0,0\nassume,a,0,2\nop,eq,1,1\nassume,b,0,3\nroot,0,r,0\n"
+          ∷ "root,1,r,1\n"
+          ∷ [];
+      printed = "refused,1,3\n" ∷ [];
+    }
+    ∷ record {
+      name = "ask-after-record-is-1";
+      file = "ask,0,0\nfun,p\nask,1,0\n" ∷ [];
+      printed = "refused,1,3\n" ∷ [];
+    }
+    ∷ record {
+      name = "ask-without-roots";
+      file = "ask,7,0\nask,0,0\nfree,p\nfree,q\nop,eq,0,0\nassume,a,0,2\nop,eq,1,1\nassume,b,0,3\nroot,0,r,0\n"
+          ∷ "root,1,r,1\n"
+          ∷ [];
+      printed = "fact,6,triggers,{p},{p} free={p}\nfact,8,triggers,{q},{q} free={q}\nsum,0,0,1\nkept,6,a\nsum,1,2,2\n" ∷ [];
+    }
+    ∷ record {
+      name = "asks-and-nothing-else";
+      file = "ask,0,0\nask,255,15\nask,7,4\n" ∷ [];
+      printed = "sum,0,0,1\nsum,0,0,1\nsum,0,0,1\n" ∷ [];
+    }
+    ∷ record {
+      name = "asks-bodies-for-each";
+      file = "ask,0,12\nask,0,4\nask,1,12\nask,0,12\nask,1,4\nfree,top\nfree,mid\nfree,low\nfree,p\nop,other,1,3\n"
+          ∷ "def,top,4\ndef,mid,2\nfun,p\nfun,low\nall,0,1,1,3\nassume,on_p,0,5\nroot,0,goal,0\nroot,1,goal,3\n"
+          ∷ [];
+      printed = "fact,16,triggers,{p} free={p top}\nkept,16,on_p\nkept,11,top\nkept,12,mid\nkept,13,p\nkept,14,low\n"
+          ∷ "sum,5,1,2\nkept,16,on_p\nkept,11,top\nkept,13,p\nsum,3,1,2\nkept,16,on_p\nkept,11,top\nkept,12,mid\n"
+          ∷ "kept,13,p\nkept,14,low\nsum,5,1,2\nkept,16,on_p\nkept,11,top\nkept,12,mid\nkept,13,p\nkept,14,low\n"
+          ∷ "sum,5,1,2\nkept,16,on_p\nkept,11,top\nkept,13,p\nsum,3,1,2\n"
+          ∷ [];
+    }
+    ∷ record {
+      name = "asks-decls-noted-for-each";
+      file = "ask,0,5\nask,1,5\nask,2,5\nask,0,5\nfree,a\nfree,b\nfree,c\nfun,a\nfun,b\nfun,c\nop,other,0,1\n"
+          ∷ "root,0,r,3\nop,other,1,2\nroot,1,r,4\nop,other,2,0\nroot,2,r,5\n"
+          ∷ [];
+      printed = "kept,9,b\nkept,8,a\nsum,2,0,1\nkept,10,c\nkept,9,b\nsum,2,0,1\nkept,10,c\nkept,8,a\nsum,2,0,1\n"
+          ∷ "kept,9,b\nkept,8,a\nsum,2,0,1\n"
+          ∷ [];
+    }
+    ∷ record {
+      name = "asks-empty-disjunct-met-in-one";
+      file = "ask,0,0\nask,1,0\nask,0,0\nfree,p\nfree,q\nall,1,2,0,2,0,1\nassume,a,0,2\nroot,0,goal,0\n" ∷ [];
+      printed = "fact,7,triggers,{},{p q} free={p q}\nkept,7,a\nsum,1,2,3\nsum,0,0,1\nkept,7,a\nsum,1,2,3\n" ∷ [];
+    }
+    ∷ []
+
+-- a wrong one is named in the error
+pass-2 : All-print files-2
+unfolding prints files-2
+pass-2 = (refl, (refl, (refl, (refl, (refl, (refl, (refl, (refl, (refl, (refl, (refl, (refl, (refl, (refl, tt))))))))))))))
+
+-- asks-every-options-number to asks-refused-after-them
+files-3 : List Small
+files-3 =
+    record {
+      name = "asks-every-options-number";
+      file = "ask,1,0\nask,1,1\nask,1,2\nask,1,3\nask,1,4\nask,1,5\nask,1,6\nask,1,7\nask,1,8\nask,1,9\nask,1,10\n"
+          ∷ "ask,1,11\nask,1,12\nask,1,13\nask,1,14\nask,1,15\nfree,p\nfree,q\nfree,r\nall,1,1,1,0\nassume,on_p,0,3\n"
+          ∷ "all,2,1,1,1\nassume,typed_on_q,1,4\nop,other,2\nassume,loose,0,5\nfree,Tm_refine_1\ncall,HasType,0,6\n"
+          ∷ "assume,refined,0,7\ndef,r,1\nfun,q\nfun,Tm_refine_1\nroot,1,goal,2\n"
+          ∷ [];
+      printed = "fact,21,triggers,{p} free={p q}\nfact,23,triggers,{q} free={q r}\nfact,25,ambient,0 free={r}\n"
+          ∷ "fact,28,ambient,1 free={Tm_refine_1 p}\nkept,21,on_p\nkept,28,refined\nkept,25,loose\nsum,3,2,2\n"
+          ∷ "sum,0,1,2\nkept,21,on_p\nkept,23,typed_on_q\nkept,28,refined\nkept,25,loose\nsum,4,2,2\n"
+          ∷ "kept,23,typed_on_q\nsum,1,1,2\nkept,21,on_p\nkept,28,refined\nkept,25,loose\nkept,29,r\n"
+          ∷ "kept,31,Tm_refine_1\nkept,30,q\nsum,6,2,2\nkept,29,r\nsum,1,1,2\nkept,21,on_p\nkept,23,typed_on_q\n"
+          ∷ "kept,28,refined\nkept,25,loose\nkept,29,r\nkept,31,Tm_refine_1\nkept,30,q\nsum,7,2,2\n"
+          ∷ "kept,23,typed_on_q\nkept,29,r\nkept,30,q\nsum,3,1,2\nkept,21,on_p\nkept,28,refined\nkept,25,loose\n"
+          ∷ "sum,3,2,2\nsum,0,1,2\nkept,21,on_p\nkept,23,typed_on_q\nkept,28,refined\nkept,25,loose\nsum,4,2,2\n"
+          ∷ "kept,23,typed_on_q\nsum,1,1,2\nkept,21,on_p\nkept,28,refined\nkept,25,loose\nkept,29,r\n"
+          ∷ "kept,31,Tm_refine_1\nkept,30,q\nsum,6,2,2\nkept,29,r\nkept,30,q\nsum,2,1,2\nkept,21,on_p\n"
+          ∷ "kept,23,typed_on_q\nkept,28,refined\nkept,25,loose\nkept,29,r\nkept,31,Tm_refine_1\nkept,30,q\n"
+          ∷ "sum,7,2,2\nkept,23,typed_on_q\nkept,29,r\nkept,30,q\nsum,3,1,2\n"
+          ∷ [];
+    }
+    ∷ record {
+      name = "asks-first-fault-decides";
+      file = "ask,0,0\nask,0,0\nask,0,16\nfree,a b\n" ∷ [];
+      printed = "refused,3,3\n" ∷ [];
+    }
+    ∷ record {
+      name = "asks-hidden-for-each";
+      file = "ask,0,4\nask,1,4\nhide,h\nfree,g\nfree,h\nfree,k\ndef,g,1\nall,2,1,1,1\nassume,on_h,0,3\nall,1,1,1,0\n"
+          ∷ "assume,on_g,0,4\nroot,0,goal,0\nroot,1,goal,1\nroot,2,goal,2\n"
+          ∷ [];
+      printed = "fact,9,triggers,{} free={k}\nfact,11,triggers,{g} free={g}\nkept,11,on_g\nkept,7,g\nsum,2,1,2\n"
+          ∷ "sum,0,0,1\n"
+          ∷ [];
+    }
+    ∷ record {
+      name = "asks-long-list-then-short";
+      file = "ask,0,0\nask,1,0\nask,2,0\nfree,p\nfree,q\nfree,s\nall,1,1,1,0\nassume,p_to_q,0,3\nall,2,1,1,1\n"
+          ∷ "assume,q_to_s,0,4\nall,0,1,1,2\nassume,s_to_p,1,5\nroot,0,goal,0\nroot,1,goal,1\nroot,2,goal,2\n"
+          ∷ [];
+      printed = "fact,8,triggers,{p} free={p q}\nfact,10,triggers,{q} free={q s}\nfact,12,triggers,{s} free={p s}\n"
+          ∷ "kept,8,p_to_q\nkept,10,q_to_s\nsum,2,3,4\nkept,10,q_to_s\nsum,1,2,3\nsum,0,1,2\n"
+          ∷ [];
+    }
+    ∷ record {
+      name = "asks-macro-opened-for-each";
+      file = "ask,0,0\nask,2,0\nask,0,0\nask,1,0\nfree,g\nfree,h\nfree,k\ndef,g,1\nall,2,1,1,1\nassume,on_h,0,3\n"
+          ∷ "all,1,1,1,0\nassume,on_g,0,4\nroot,0,goal,0\nroot,1,goal,1\nroot,2,goal,2\n"
+          ∷ [];
+      printed = "fact,10,triggers,{h} free={h k}\nfact,12,triggers,{g} free={g h}\nkept,12,on_g\nkept,10,on_h\n"
+          ∷ "sum,2,2,2\nsum,0,0,1\nkept,12,on_g\nkept,10,on_h\nsum,2,2,2\nkept,10,on_h\nsum,1,1,2\n"
+          ∷ [];
+    }
+    ∷ record {
+      name = "asks-of-a-query-and-of-none";
+      file = "ask,9,0\nask,1,0\nask,9,4\nask,9,1\nfree,p\nfree,q\nfree,r\nall,1,1,1,0\nassume,on_p,0,3\nall,2,1,1,1\n"
+          ∷ "assume,typed_on_q,1,4\nop,other,2\nassume,loose,0,5\nfree,Tm_refine_1\ncall,HasType,0,6\n"
+          ∷ "assume,refined,0,7\ndef,r,1\nfun,q\nfun,Tm_refine_1\nroot,1,goal,2\n"
+          ∷ [];
+      printed = "fact,9,triggers,{p} free={p q}\nfact,11,triggers,{q} free={q r}\nfact,13,ambient,0 free={r}\n"
+          ∷ "fact,16,ambient,1 free={Tm_refine_1 p}\nkept,9,on_p\nkept,16,refined\nkept,13,loose\nsum,3,2,3\n"
+          ∷ "kept,9,on_p\nkept,16,refined\nkept,13,loose\nsum,3,2,2\nkept,9,on_p\nkept,16,refined\nkept,13,loose\n"
+          ∷ "kept,17,r\nkept,19,Tm_refine_1\nkept,18,q\nsum,6,2,3\nsum,0,0,1\n"
+          ∷ [];
+    }
+    ∷ record {
+      name = "asks-one-fact-in-each-list";
+      file = "ask,0,0\nask,1,0\nask,2,0\nfree,p\nfree,q\nall,0,2,1,0,1,1\nassume,either,0,2\nroot,0,goal,0\n"
+          ∷ "root,1,goal,1\nop,and,0,1\nroot,2,goal,3\n"
+          ∷ [];
+      printed = "fact,7,triggers,{p},{q} free={p q}\nkept,7,either\nsum,1,2,3\nkept,7,either\nsum,1,2,3\nkept,7,either\n"
+          ∷ "sum,1,2,2\n"
+          ∷ [];
+    }
+    ∷ record {
+      name = "asks-pretyping-on-then-off";
+      file = "ask,2,2\nask,2,0\nask,2,2\nfree,p\nfree,q\nfree,s\nall,1,1,1,0\nassume,p_to_q,0,3\nall,2,1,1,1\n"
+          ∷ "assume,q_to_s,0,4\nall,0,1,1,2\nassume,s_to_p,1,5\nroot,0,goal,0\nroot,1,goal,1\nroot,2,goal,2\n"
+          ∷ [];
+      printed = "fact,8,triggers,{p} free={p q}\nfact,10,triggers,{q} free={q s}\nfact,12,triggers,{s} free={p s}\n"
+          ∷ "kept,8,p_to_q\nkept,10,q_to_s\nkept,12,s_to_p\nsum,3,3,4\nsum,0,1,2\nkept,8,p_to_q\nkept,10,q_to_s\n"
+          ∷ "kept,12,s_to_p\nsum,3,3,4\n"
+          ∷ [];
+    }
+    ∷ record {
+      name = "asks-refused-after-them";
+      file = "ask,0,0\nask,1,4\nask,2,8\nleaf\nfree,a b\n" ∷ [];
+      printed = "refused,2,5\n" ∷ [];
+    }
+    ∷ []
+
+-- a wrong one is named in the error
+pass-3 : All-print files-3
+unfolding prints files-3
+pass-3 = (refl, (refl, (refl, (refl, (refl, (refl, (refl, (refl, (refl, tt)))))))))
+
+-- asks-same-twice-with-declarations to contract-01-equation-without-pattern
+files-4 : List Small
+files-4 =
+    record {
+      name = "asks-same-twice-with-declarations";
+      file = "ask,1,4\nask,1,4\nfree,top\nfree,mid\nfree,low\nfree,p\nop,other,1,3\ndef,top,4\ndef,mid,2\nfun,p\n"
+          ∷ "fun,low\nall,0,1,1,3\nassume,on_p,0,5\nroot,0,goal,0\nroot,1,goal,3\n"
+          ∷ [];
+      printed = "fact,13,triggers,{p} free={p top}\nkept,13,on_p\nkept,8,top\nkept,10,p\nsum,3,1,2\nkept,13,on_p\n"
+          ∷ "kept,8,top\nkept,10,p\nsum,3,1,2\n"
+          ∷ [];
+    }
+    ∷ record {
+      name = "asks-short-list-then-long";
+      file = "ask,2,0\nask,1,0\nask,0,0\nfree,p\nfree,q\nfree,s\nall,1,1,1,0\nassume,p_to_q,0,3\nall,2,1,1,1\n"
+          ∷ "assume,q_to_s,0,4\nall,0,1,1,2\nassume,s_to_p,1,5\nroot,0,goal,0\nroot,1,goal,1\nroot,2,goal,2\n"
+          ∷ [];
+      printed = "fact,8,triggers,{p} free={p q}\nfact,10,triggers,{q} free={q s}\nfact,12,triggers,{s} free={p s}\n"
+          ∷ "sum,0,1,2\nkept,10,q_to_s\nsum,1,2,3\nkept,8,p_to_q\nkept,10,q_to_s\nsum,2,3,4\n"
           ∷ [];
     }
     ∷ record {
@@ -99,17 +351,7 @@ files-1 =
           ∷ [];
       printed = "kept,5,z\nkept,6,y\nkept,8,m\nkept,7,a\nsum,4,0,1\n" ∷ [];
     }
-    ∷ []
-
--- a wrong one is named in the error
-pass-1 : All-print files-1
-unfolding prints files-1
-pass-1 = (refl, (refl, (refl, (refl, (refl, (refl, (refl, (refl, (refl, (refl, (refl, (refl, (refl, (refl, tt))))))))))))))
-
--- bodies-of-what-is-not-kept to contract-15-squash-with-pattern
-files-2 : List Small
-files-2 =
-    record {
+    ∷ record {
       name = "bodies-of-what-is-not-kept";
       file = "ask,0,12\nfree,f\ndef,g,0\nfun,f\nfree,g\nroot,1,r,1\ndef,h,1\nop,eq,1,1\nassume,unreached,0,2\nfree,p\n"
           ∷ "root,0,r,3\n"
@@ -146,7 +388,17 @@ files-2 =
       file = "ask,0,1\nfree,p\nfree,q\nop,eq,0,1\nassume,e,0,2\nroot,0,r,0\n" ∷ [];
       printed = "fact,5,triggers,{p},{q} free={p q}\nkept,5,e\nsum,1,2,3\n" ∷ [];
     }
-    ∷ record {
+    ∷ []
+
+-- a wrong one is named in the error
+pass-4 : All-print files-4
+unfolding prints files-4
+pass-4 = (refl, (refl, (refl, (refl, (refl, (refl, (refl, (refl, (refl, (refl, (refl, (refl, (refl, (refl, tt))))))))))))))
+
+-- contract-02-no-ambients-root-lost to contract-20-nested-and
+files-5 : List Small
+files-5 =
+    record {
       name = "contract-02-no-ambients-root-lost";
       file = "ask,0,1\nfree,x\nfree,Tm_refine_1\ncall,HasType,0,1\nassume,h,0,2\nall,0,1,1,0\nassume,a,0,3\n" ∷ [];
       printed = "fact,5,ambient,1 free={Tm_refine_1 x}\nfact,7,triggers,{x} free={x}\nsum,0,0,1\n" ∷ [];
@@ -220,17 +472,7 @@ files-2 =
           ∷ [];
       printed = "fact,7,triggers,{p} free={Prims.squash p t}\nsum,0,0,1\n" ∷ [];
     }
-    ∷ []
-
--- a wrong one is named in the error
-pass-2 : All-print files-2
-unfolding prints files-2
-pass-2 = (refl, (refl, (refl, (refl, (refl, (refl, (refl, (refl, (refl, (refl, (refl, (refl, (refl, (refl, (refl, (refl, (refl, (refl, (refl, (refl, tt))))))))))))))))))))
-
--- contract-16-token-without-tok to contract-33-body-not-followed
-files-3 : List Small
-files-3 =
-    record {
+    ∷ record {
       name = "contract-16-token-without-tok";
       file = "ask,0,0\nfree,__uu__PartialApp\nfree,f\ncall,ApplyTT,0,1\ncall,Valid,2\nassume,a,0,3\ncall,f@tok\n"
           ∷ "call,ApplyTT,0,4\nroot,0,r,5\n"
@@ -261,7 +503,17 @@ files-3 =
           ∷ [];
       printed = "fact,8,triggers free={p q}\nfact,9,triggers,{p},{q} free={p q}\nkept,9,e\nsum,1,2,3\n" ∷ [];
     }
-    ∷ record {
+    ∷ []
+
+-- a wrong one is named in the error
+pass-5 : All-print files-5
+unfolding prints files-5
+pass-5 = (refl, (refl, (refl, (refl, (refl, (refl, (refl, (refl, (refl, (refl, (refl, (refl, (refl, (refl, (refl, (refl, (refl, (refl, (refl, tt)))))))))))))))))))
+
+-- contract-21-and-empty-group to decls-same-name-as-root
+files-6 : List Small
+files-6 =
+    record {
       name = "contract-21-and-empty-group";
       file = "ask,0,0\nfree,p\nfree,q\nall,0,1,0\nall,0,1,2,0,1\nop,and,2,3\nassume,c,0,4\nroot,0,r,0\n" ∷ [];
       printed = "fact,7,triggers,{},{p q} free={p q}\nkept,7,c\nsum,1,2,3\n" ∷ [];
@@ -326,17 +578,7 @@ files-3 =
       file = "ask,0,4\nfree,f\nfun,f\ndef,g,0\ncall,g\nroot,0,r,1\n" ∷ [];
       printed = "kept,4,g\nsum,1,0,1\n" ∷ [];
     }
-    ∷ []
-
--- a wrong one is named in the error
-pass-3 : All-print files-3
-unfolding prints files-3
-pass-3 = (refl, (refl, (refl, (refl, (refl, (refl, (refl, (refl, (refl, (refl, (refl, (refl, (refl, (refl, (refl, (refl, (refl, (refl, tt))))))))))))))))))
-
--- decls-by-ambient-and-root to dropped-facts
-files-4 : List Small
-files-4 =
-    record {
+    ∷ record {
       name = "decls-by-ambient-and-root";
       file = "ask,0,4\nfree,a\nfree,b\nfree,c\nfree,d\ndef,d,0\nfun,c\ndef,b,0\nfun,a\nop,other,1,2\nassume,amb,0,4\n"
           ∷ "op,other,0,3\nroot,0,r,5\nroot,1,r,2\n"
@@ -377,7 +619,17 @@ files-4 =
       file = "ask,0,4\nfree,g\nfun,g\nroot,0,g,0\nroot,0,g,0\n" ∷ [];
       printed = "kept,3,g\nsum,1,0,1\n" ∷ [];
     }
-    ∷ record {
+    ∷ []
+
+-- a wrong one is named in the error
+pass-6 : All-print files-6
+unfolding prints files-6
+pass-6 = (refl, (refl, (refl, (refl, (refl, (refl, (refl, (refl, (refl, (refl, (refl, (refl, (refl, (refl, (refl, (refl, (refl, (refl, (refl, (refl, tt))))))))))))))))))))
+
+-- def-kept-for-an-ambient-is-followed to earlier-line-before-13
+files-7 : List Small
+files-7 =
+    record {
       name = "def-kept-for-an-ambient-is-followed";
       file = "ask,0,12\nfree,f\ndef,g,0\nfun,f\nfree,g\nlabel,1\nassume,m,0,2\n" ∷ [];
       printed = "fact,7,ambient,0 free={g}\nkept,7,m\nkept,3,g\nkept,4,f\nsum,3,0,1\n" ∷ [];
@@ -406,16 +658,23 @@ files-4 =
           ∷ "kept,7,assumption_a\nsum,1,1,2\n"
           ∷ [];
     }
+    ∷ record {
+      name = "earlier-line-before-13";
+      file = "ask,0,0\nask,0,0\nask,0,0\nask,0,0\nask,0,0\nask,0,0\nask,0,0\nask,0,0\nask,0,16\nask,0,0\nask,0,0\n"
+          ∷ "ask,0,0\nask,0,0\nask,0,0\nask,0,0\nask,0,0\nask,0,0\n"
+          ∷ [];
+      printed = "refused,3,9\n" ∷ [];
+    }
     ∷ []
 
 -- a wrong one is named in the error
-pass-4 : All-print files-4
-unfolding prints files-4
-pass-4 = (refl, (refl, (refl, (refl, (refl, (refl, (refl, (refl, (refl, (refl, (refl, (refl, tt))))))))))))
+pass-7 : All-print files-7
+unfolding prints files-7
+pass-7 = (refl, (refl, (refl, (refl, (refl, (refl, tt))))))
 
 -- every-kind
-files-5 : List Small
-files-5 =
+files-8 : List Small
+files-8 =
     record {
       name = "every-kind";
       file = "ask,0,4\nfree,SFuel\nfree,ZFuel\nfree,HasType\nfree,HasTypeZ\nfree,HasTypeFuel\nfree,Valid\n"
@@ -458,13 +717,13 @@ files-5 =
     ∷ []
 
 -- a wrong one is named in the error
-pass-5 : All-print files-5
-unfolding prints files-5
-pass-5 = (refl, tt)
+pass-8 : All-print files-8
+unfolding prints files-8
+pass-8 = (refl, tt)
 
 -- fact-not-reached-named-in-a-body-is-not-kept to hide-after-term-is-1
-files-6 : List Small
-files-6 =
+files-9 : List Small
+files-9 =
     record {
       name = "fact-not-reached-named-in-a-body-is-not-kept";
       file = "ask,0,12\nfree,x\ndef,g,0\nfree,y\nop,eq,1,1\nassume,x,0,2\nfree,g\nroot,0,r,3\n" ∷ [];
@@ -543,13 +802,13 @@ files-6 =
     ∷ []
 
 -- a wrong one is named in the error
-pass-6 : All-print files-6
-unfolding prints files-6
-pass-6 = (refl, (refl, (refl, (refl, (refl, (refl, (refl, (refl, (refl, (refl, (refl, (refl, tt))))))))))))
+pass-9 : All-print files-9
+unfolding prints files-9
+pass-9 = (refl, (refl, (refl, (refl, (refl, (refl, (refl, (refl, (refl, (refl, (refl, (refl, tt))))))))))))
 
 -- hide-def-is-not-opened to hide-misplaced-before-its-fields
-files-7 : List Small
-files-7 =
+files-10 : List Small
+files-10 =
     record {
       name = "hide-def-is-not-opened";
       file = "ask,0,4\nhide,g\nfree,g\nfree,q\ndef,g,1\nop,eq,1,1\nassume,a,0,2\nfun,q\nroot,0,r,0\n" ∷ [];
@@ -634,13 +893,13 @@ files-7 =
     ∷ []
 
 -- a wrong one is named in the error
-pass-7 : All-print files-7
-unfolding prints files-7
-pass-7 = (refl, (refl, (refl, (refl, (refl, (refl, (refl, (refl, (refl, (refl, (refl, (refl, tt))))))))))))
+pass-10 : All-print files-10
+unfolding prints files-10
+pass-10 = (refl, (refl, (refl, (refl, (refl, (refl, (refl, (refl, (refl, (refl, (refl, (refl, tt))))))))))))
 
 -- hide-name-is-taken-once to macro-box-each
-files-8 : List Small
-files-8 =
+files-11 : List Small
+files-11 =
     record {
       name = "hide-name-is-taken-once";
       file = "ask,0,4\nhide,f\nhide,f\nfree,f\nfree,p\nfun,f\nroot,0,f,0\nroot,0,f,1\ndef,f,1\n" ∷ [];
@@ -748,13 +1007,13 @@ files-8 =
     ∷ []
 
 -- a wrong one is named in the error
-pass-8 : All-print files-8
-unfolding prints files-8
-pass-8 = (refl, (refl, (refl, (refl, (refl, (refl, (refl, (refl, (refl, (refl, (refl, (refl, (refl, (refl, (refl, (refl, tt))))))))))))))))
+pass-11 : All-print files-11
+unfolding prints files-11
+pass-11 = (refl, (refl, (refl, (refl, (refl, (refl, (refl, (refl, (refl, (refl, (refl, (refl, (refl, (refl, (refl, (refl, tt))))))))))))))))
 
 -- macro-box-fun-does-not-replace to not-retained-round
-files-9 : List Small
-files-9 =
+files-12 : List Small
+files-12 =
     record {
       name = "macro-box-fun-does-not-replace";
       file = "ask,0,4\ncall,is-BoxInt\ncall,BoxInt\nfun,is-BoxInt\nfun,BoxInt\nleaf\nall,2,1,1,1\nassume,a,0,3\n"
@@ -825,6 +1084,11 @@ files-9 =
           ∷ [];
     }
     ∷ record {
+      name = "misplaced-ask-is-1-before-its-fields";
+      file = "ask,0,0\nfun,p\nask,999,99\n" ∷ [];
+      printed = "refused,1,3\n" ∷ [];
+    }
+    ∷ record {
       name = "name-bytes";
       file = "ask,0,4\nfree,!\nfree,~\nfree,\"\nfree,ask\nfree,65535\ncall,leaf,0,1,2,3,4\nfun,~\nfun,!\nfun,\"\n"
           ∷ "fun,ask\nfun,65535\ndef,leaf,0\nroot,0,root,5\n"
@@ -837,6 +1101,11 @@ files-9 =
       printed = "fact,7,ambient,0 free={g}\nsum,0,0,1\n" ∷ [];
     }
     ∷ record {
+      name = "no-ask-on-line-1-is-1";
+      file = "free,p\nask,0,0\n" ∷ [];
+      printed = "refused,1,1\n" ∷ [];
+    }
+    ∷ record {
       name = "not-retained-round";
       file = "ask,0,0\nfree,p\nall,0,1,1,0\nassume,z,1,1\nroot,0,r,0\n" ∷ [];
       printed = "fact,4,triggers,{p} free={p}\nsum,0,1,2\n" ∷ [];
@@ -844,13 +1113,13 @@ files-9 =
     ∷ []
 
 -- a wrong one is named in the error
-pass-9 : All-print files-9
-unfolding prints files-9
-pass-9 = (refl, (refl, (refl, (refl, (refl, (refl, (refl, (refl, (refl, (refl, (refl, (refl, (refl, (refl, tt))))))))))))))
+pass-12 : All-print files-12
+unfolding prints files-12
+pass-12 = (refl, (refl, (refl, (refl, (refl, (refl, (refl, (refl, (refl, (refl, (refl, (refl, (refl, (refl, (refl, (refl, tt))))))))))))))))
 
--- ok-free-255 to r-all-g-65536
-files-10 : List Small
-files-10 =
+-- ok-free-255 to r-5-def-fun
+files-13 : List Small
+files-13 =
     record {
       name = "ok-free-255";
       file = "ask,0,0\n"
@@ -897,6 +1166,15 @@ files-10 =
       name = "options-15-pass";
       file = "ask,0,15\nfree,f\ndef,g,0\nfun,f\nfree,g\nroot,0,r,1\n" ∷ [];
       printed = "kept,3,g\nkept,4,f\nsum,2,0,1\n" ∷ [];
+    }
+    ∷ record {
+      name = "options-of-each-ask";
+      file = "ask,0,0\nask,0,1\nask,0,2\nask,0,4\nfree,p\nfree,q\nlabel,1\nop,eq,0,0\nassume,a,1,3\nassume,m,0,2\n"
+          ∷ "fun,p\nroot,0,r,0\n"
+          ∷ [];
+      printed = "fact,9,triggers,{p},{p} free={p}\nfact,10,ambient,0 free={q}\nkept,10,m\nsum,1,2,2\nsum,0,2,2\n"
+          ∷ "kept,9,a\nkept,10,m\nsum,2,2,2\nkept,10,m\nkept,11,p\nsum,2,2,2\n"
+          ∷ [];
     }
     ∷ record {
       name = "order-fact-and-roots";
@@ -951,7 +1229,17 @@ files-10 =
       file = "ask,0,0\nleaf\ndef,a,0\nfun,a\n" ∷ [];
       printed = "refused,5,4\n" ∷ [];
     }
-    ∷ record {
+    ∷ []
+
+-- a wrong one is named in the error
+pass-13 : All-print files-13
+unfolding prints files-13
+pass-13 = (refl, (refl, (refl, (refl, (refl, (refl, (refl, (refl, (refl, (refl, (refl, (refl, (refl, (refl, (refl, (refl, (refl, (refl, tt))))))))))))))))))
+
+-- r-5-fun-assume to r-free-00
+files-14 : List Small
+files-14 =
+    record {
       name = "r-5-fun-assume";
       file = "ask,0,0\nleaf\nfun,a\nassume,a,0,0\n" ∷ [];
       printed = "refused,5,4\n" ∷ [];
@@ -966,17 +1254,7 @@ files-10 =
       file = "ask,0,0\nleaf\nall,0,65536\n" ∷ [];
       printed = "refused,3,3\n" ∷ [];
     }
-    ∷ []
-
--- a wrong one is named in the error
-pass-10 : All-print files-10
-unfolding prints files-10
-pass-10 = (refl, (refl, (refl, (refl, (refl, (refl, (refl, (refl, (refl, (refl, (refl, (refl, (refl, (refl, (refl, (refl, (refl, (refl, (refl, (refl, tt))))))))))))))))))))
-
--- r-all-g-huge-lacking to r-leaf-comma
-files-11 : List Small
-files-11 =
-    record {
+    ∷ record {
       name = "r-all-g-huge-lacking";
       file = "ask,0,0\nleaf\nall,0,65535\n" ∷ [];
       printed = "refused,1,3\n" ∷ [];
@@ -1061,7 +1339,17 @@ files-11 =
       file = "ask,0,0\nfree,\0\n" ∷ [];
       printed = "refused,2,2\n" ∷ [];
     }
-    ∷ record {
+    ∷ []
+
+-- a wrong one is named in the error
+pass-14 : All-print files-14
+unfolding prints files-14
+pass-14 = (refl, (refl, (refl, (refl, (refl, (refl, (refl, (refl, (refl, (refl, (refl, (refl, (refl, (refl, (refl, (refl, (refl, (refl, (refl, (refl, tt))))))))))))))))))))
+
+-- r-free-256 to retain-no-effect
+files-15 : List Small
+files-15 =
+    record {
       name = "r-free-256";
       file = "ask,0,0\n"
           ∷ "free,xxxxxxxxxxxxxxxxxxxxxxxxxxxxxxxxxxxxxxxxxxxxxxxxxxxxxxxxxxxxxxxxxxxxxxxxxxxxxxxxxxxxxxxxxxxxxxxxxxxxxxxxxxxxxxxxxxxxxxxxxxxxxxxxxxxxxxxxxxxxxxxxxxxxxxxxxxxxxxxxxxxxxxxxxxxxxxxxxxxxxxxxxxxxxxxxxxxxxxxxxxxxxxxxxxxxxxxxxxxxxxxxxxxxxxxxxxxxxxxxxxxxxxxxxxxxxxxx\n"
@@ -1078,17 +1366,7 @@ files-11 =
       file = "ask,0,0\nleaf,\n" ∷ [];
       printed = "refused,1,2\n" ∷ [];
     }
-    ∷ []
-
--- a wrong one is named in the error
-pass-11 : All-print files-11
-unfolding prints files-11
-pass-11 = (refl, (refl, (refl, (refl, (refl, (refl, (refl, (refl, (refl, (refl, (refl, (refl, (refl, (refl, (refl, (refl, (refl, (refl, (refl, (refl, tt))))))))))))))))))))
-
--- r-let-alone to rounds-empty-disjuncts-only
-files-12 : List Small
-files-12 =
-    record {
+    ∷ record {
       name = "r-let-alone";
       file = "ask,0,0\nlet\n" ∷ [];
       printed = "refused,1,2\n" ∷ [];
@@ -1173,6 +1451,21 @@ files-12 =
       file = "ask,0,0\nretain\nretain,a,b,a\nleaf\nassume,a,0,0\n" ∷ [];
       printed = "fact,5,ambient,0 free={}\nkept,5,a\nsum,1,0,1\n" ∷ [];
     }
+    ∷ []
+
+-- a wrong one is named in the error
+pass-15 : All-print files-15
+unfolding prints files-15
+pass-15 = (refl, (refl, (refl, (refl, (refl, (refl, (refl, (refl, (refl, (refl, (refl, (refl, (refl, (refl, (refl, (refl, (refl, (refl, (refl, (refl, tt))))))))))))))))))))
+
+-- roots-of-own-query-for-funs to rule-0-excluded-in-group
+files-16 : List Small
+files-16 =
+    record {
+      name = "roots-of-own-query-for-funs";
+      file = "ask,0,4\nask,1,4\nask,2,4\nfun,p\nfun,q\nfree,p\nfree,q\nroot,0,r,0\nroot,1,r,1\n" ∷ [];
+      printed = "kept,4,p\nsum,1,0,1\nkept,5,q\nsum,1,0,1\nsum,0,0,1\n" ∷ [];
+    }
     ∷ record {
       name = "rounds-disjunct-in-two-rounds";
       file = "ask,0,0\nfree,p\nfree,q\nleaf\nall,1,1,1,0\nassume,a,0,3\nall,2,1,2,0,1\nassume,b,0,4\nroot,0,r,0\n" ∷ [];
@@ -1188,17 +1481,7 @@ files-12 =
       file = "ask,0,0\nfree,p\nall,0,3,0,0,0\nassume,a,0,1\nroot,0,r,0\n" ∷ [];
       printed = "fact,4,triggers,{},{},{} free={p}\nsum,0,0,1\n" ∷ [];
     }
-    ∷ []
-
--- a wrong one is named in the error
-pass-12 : All-print files-12
-unfolding prints files-12
-pass-12 = (refl, (refl, (refl, (refl, (refl, (refl, (refl, (refl, (refl, (refl, (refl, (refl, (refl, (refl, (refl, (refl, (refl, (refl, (refl, (refl, tt))))))))))))))))))))
-
--- rounds-equal-disjuncts-count-apart to rule-0-two-groups
-files-13 : List Small
-files-13 =
-    record {
+    ∷ record {
       name = "rounds-equal-disjuncts-count-apart";
       file = "ask,0,0\nfree,p\nleaf\nall,1,3,1,0,1,0,1,0\nassume,a,0,2\nroot,0,r,0\n" ∷ [];
       printed = "fact,5,triggers,{p},{p},{p} free={p}\nkept,5,a\nsum,1,3,2\n" ∷ [];
@@ -1280,7 +1563,17 @@ files-13 =
       file = "ask,0,0\nfree,p\ncall,HasType,0,0\ncall,Valid\nall,0,3,1,1,1,2,2,0,2\nassume,a,0,3\n" ∷ [];
       printed = "fact,6,triggers,{p},{},{p} free={p}\nsum,0,0,1\n" ∷ [];
     }
-    ∷ record {
+    ∷ []
+
+-- a wrong one is named in the error
+pass-16 : All-print files-16
+unfolding prints files-16
+pass-16 = (refl, (refl, (refl, (refl, (refl, (refl, (refl, (refl, (refl, (refl, (refl, (refl, (refl, (refl, (refl, (refl, (refl, (refl, tt))))))))))))))))))
+
+-- rule-0-no-group-assumption to rule-3-arities
+files-17 : List Small
+files-17 =
+    record {
       name = "rule-0-no-group-assumption";
       file = "ask,0,0\nfree,p\nfree,q\nall,0,0\nassume,assumption_1,0,2\n" ∷ [];
       printed = "fact,5,triggers,{p} free={p}\nsum,0,0,1\n" ∷ [];
@@ -1295,17 +1588,7 @@ files-13 =
       file = "ask,0,0\nfree,p\nfree,q\nall,0,2,1,0,2,0,1\nassume,x,0,2\n" ∷ [];
       printed = "fact,5,triggers,{p},{p q} free={p q}\nsum,0,0,1\n" ∷ [];
     }
-    ∷ []
-
--- a wrong one is named in the error
-pass-13 : All-print files-13
-unfolding prints files-13
-pass-13 = (refl, (refl, (refl, (refl, (refl, (refl, (refl, (refl, (refl, (refl, (refl, (refl, (refl, (refl, (refl, (refl, (refl, tt)))))))))))))))))
-
--- rule-0-under-names to rule-3-hastype-3
-files-14 : List Small
-files-14 =
-    record {
+    ∷ record {
       name = "rule-0-under-names";
       file = "ask,0,0\nfree,p\nfree,q\nall,1,1,1,0\nassume,assumption_1,0,2\nassume,equation_1,0,2\n"
           ∷ "assume,l_quant_interp_1,0,2\nlabel,2\nlabel,3\nassume,a,0,4\n"
@@ -1397,7 +1680,17 @@ files-14 =
           ∷ "kept,16,a0\nkept,13,a3\nkept,7,a1\nsum,4,1,2\n"
           ∷ [];
     }
-    ∷ record {
+    ∷ []
+
+-- a wrong one is named in the error
+pass-17 : All-print files-17
+unfolding prints files-17
+pass-17 = (refl, (refl, (refl, (refl, (refl, (refl, (refl, (refl, (refl, (refl, (refl, (refl, (refl, (refl, (refl, (refl, tt))))))))))))))))
+
+-- rule-3-free-squash to rule-4-tok-tok
+files-18 : List Small
+files-18 =
+    record {
       name = "rule-3-free-squash";
       file = "ask,0,0\nfree,p\nfree,q\nfree,Prims.squash\ncall,HasType,0,2\nassume,x,0,3\n" ∷ [];
       printed = "fact,6,triggers,{p} free={Prims.squash p}\nsum,0,0,1\n" ∷ [];
@@ -1407,17 +1700,7 @@ files-14 =
       file = "ask,0,0\nfree,p\nfree,q\ncall,Tm_refine_1,0\ncall,HasType,0,2,2\nassume,x,0,3\n" ∷ [];
       printed = "fact,6,ambient,0 free={Tm_refine_1 p}\nkept,6,x\nsum,1,0,1\n" ∷ [];
     }
-    ∷ []
-
--- a wrong one is named in the error
-pass-14 : All-print files-14
-unfolding prints files-14
-pass-14 = (refl, (refl, (refl, (refl, (refl, (refl, (refl, (refl, (refl, (refl, (refl, (refl, (refl, (refl, (refl, tt)))))))))))))))
-
--- rule-3-refinements to rule-4-tok-tok
-files-15 : List Small
-files-15 =
-    record {
+    ∷ record {
       name = "rule-3-refinements";
       file = "ask,0,0\nfree,x\nfree,Tm_refine_\ncall,HasType,0,1\nassume,a,0,2\ncall,Tm_refine_0,0,0,0\n"
           ∷ "call,HasType,0,3\nassume,b,0,4\nfree,Tm_refine\ncall,HasType,0,5\nassume,c,0,6\nlabel,1\n"
@@ -1481,13 +1764,13 @@ files-15 =
     ∷ []
 
 -- a wrong one is named in the error
-pass-15 : All-print files-15
-unfolding prints files-15
-pass-15 = (refl, (refl, (refl, (refl, (refl, (refl, (refl, (refl, tt))))))))
+pass-18 : All-print files-18
+unfolding prints files-18
+pass-18 = (refl, (refl, (refl, (refl, (refl, (refl, (refl, (refl, (refl, (refl, tt))))))))))
 
 -- rule-4-tokens to rule-7
-files-16 : List Small
-files-16 =
+files-19 : List Small
+files-19 =
     record {
       name = "rule-4-tokens";
       file = "ask,0,0\nfree,__uu__PartialApp\nfree,x\nfree,f@to\ncall,ApplyTT,0,2\ncall,Valid,3\nassume,a,0,4\nleaf\n"
@@ -1565,13 +1848,13 @@ files-16 =
     ∷ []
 
 -- a wrong one is named in the error
-pass-16 : All-print files-16
-unfolding prints files-16
-pass-16 = (refl, (refl, (refl, (refl, (refl, (refl, (refl, (refl, tt))))))))
+pass-19 : All-print files-19
+unfolding prints files-19
+pass-19 = (refl, (refl, (refl, (refl, (refl, (refl, (refl, (refl, tt))))))))
 
 -- rule-7-nested to without-hide-needs-both-names
-files-17 : List Small
-files-17 =
+files-20 : List Small
+files-20 =
     record {
       name = "rule-7-nested";
       file = "ask,0,0\nfree,p\nfree,q\nall,0,1,1,1\nop,and,2\nop,and,3\nassume,x,0,4\n" ∷ [];
@@ -1628,9 +1911,28 @@ files-17 =
           ∷ [];
     }
     ∷ record {
+      name = "second-ask-lacks-options-is-1";
+      file = "ask,0,0\nask,1\n" ∷ [];
+      printed = "refused,1,2\n" ∷ [];
+    }
+    ∷ record {
+      name = "second-ask-q-256-is-3";
+      file = "ask,0,0\nask,256,0\n" ∷ [];
+      printed = "refused,3,2\n" ∷ [];
+    }
+    ∷ record {
       name = "starting-macro-has-no-body-to-follow";
       file = "ask,0,12\nfree,is-BoxInt\nroot,0,r,0\nfun,BoxInt\n" ∷ [];
       printed = "sum,0,0,1\n" ∷ [];
+    }
+    ∷ record {
+      name = "two-asks-two-answers";
+      file = "ask,0,0\nask,1,0\nfree,p\nfree,q\nop,eq,0,0\nassume,a,0,2\nop,eq,1,1\nassume,b,0,3\nroot,0,r,0\n"
+          ∷ "root,1,r,1\n"
+          ∷ [];
+      printed = "fact,6,triggers,{p},{p} free={p}\nfact,8,triggers,{q},{q} free={q}\nkept,6,a\nsum,1,2,2\nkept,8,b\n"
+          ∷ "sum,1,2,2\n"
+          ∷ [];
     }
     ∷ record {
       name = "without-hide-needs-both-names";
@@ -1640,6 +1942,6 @@ files-17 =
     ∷ []
 
 -- a wrong one is named in the error
-pass-17 : All-print files-17
-unfolding prints files-17
-pass-17 = (refl, (refl, (refl, (refl, (refl, (refl, (refl, (refl, tt))))))))
+pass-20 : All-print files-20
+unfolding prints files-20
+pass-20 = (refl, (refl, (refl, (refl, (refl, (refl, (refl, (refl, (refl, (refl, (refl, tt)))))))))))
