@@ -45,7 +45,7 @@ pub record Bodies-followed (a : Ask) (s : State) (lines : List ℕ) : Type 0 whe
   pub funs-by-name : Ascending (map (λ (d : Decl). d .name) added-funs)
   -- "With 4 and 8 together"
   pub smallest : T (prune-decls a) → T (follow-bodies a) → Smallest a s lines
-  -- "the old option remains as it is", and 8 counts with 4 alone
+  -- "the old option remains as it is"; 8 counts only together with 4
   pub as-it-was : T (not (prune-decls a && follow-bodies a)) → lines ≡ kept-list a s
 
 -- the list is so

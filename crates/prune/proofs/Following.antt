@@ -17,7 +17,7 @@ use Rattle.words.proofs.Slices.{same-self, same-then, same-set}
 use Rattle.terms.proofs.Laws.{equal}
 use Rattle.scan.proofs.Numbers.{count-upto, count-some, count-less}
 use Rattle.prune.specs.Listing.{followed-stamp}
-use Rattle.prune.specs.Follow.{Grown, Follows}
+use Rattle.prune.specs.Follow.{Stamps-grown, Stamps-closed}
 use Rattle.prune.specs.Loops.{stamp-column, queue-column, most-stamps, stamp-of, Queue, queue, follow-name, follow-names, unnoted, Queue-room}
 
 -- the name at a place of the queue
@@ -170,7 +170,7 @@ pub record Following (named : ℕ) (body : ℕ → List ℕ) (w₀ : List ℕ) (
   pub low : (p : ℕ) → p < q .to → queued (q .run) p < named
   pub on : (p : ℕ) → p < q .to → 0 < stamp-of (q .run) (queued (q .run) p)
   pub each : (n : ℕ) → n < named → stamp-of w₀ n ≡ 0 → 0 < stamp-of (q .run) n → (p : ℕ) × (p < q .to) × (queued (q .run) p ≡ n)
-  pub grown : Grown named body (stamp-of w₀) (stamp-of (q .run))
+  pub grown : Stamps-grown named body (stamp-of w₀) (stamp-of (q .run))
 
 pub following-start : (named : ℕ) (body : ℕ → List ℕ) (w : List ℕ) → working-words ≤ length w → Following named body w (queue w 0)
 following-start named body w long = record {
@@ -365,7 +365,7 @@ module _ {named : ℕ} {body : ℕ → List ℕ} {w₀ : List ℕ} (few : named 
         }
 
   -- all is followed
-  pub queue-end : {w : List ℕ} {to j : ℕ} → Queue-to named body w₀ w to j → to ≤ j → Follows named body (stamp-of w₀) (stamp-of w)
+  pub queue-end : {w : List ℕ} {to j : ℕ} → Queue-to named body w₀ w to j → to ≤ j → Stamps-closed named body (stamp-of w₀) (stamp-of w)
   queue-end {w} f h = record {
     grown = f .noted .following .grown;
     closed = λ n m g l i. ⊎-elim

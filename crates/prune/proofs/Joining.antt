@@ -32,7 +32,7 @@ use Rattle.scan.proofs.Numbers.{set-intro, set-elim, set-ascending}
 use Rattle.scan.proofs.Background.{def-at, defs-elim, defs-intro}
 use Rattle.scan.proofs.Joining.{uses-low}
 use Rattle.prune.specs.Listing.{from, record-behind, picked, kind-at, fact-records, kept-items, stamped, kind-records, item-stamp, followed-stamp, added-at, added-records, group-records, groups-records, kept-records}
-use Rattle.prune.specs.Follow.{body-at, Follows, Stamps, Stamped}
+use Rattle.prune.specs.Follow.{body-at, Stamps-closed, Stamps, Stamped}
 use Rattle.prune.specs.Loops.{most-stamps}
 use Rattle.prune.specs.Kept.{reached-of, kept-of}
 use Rattle.prune.proofs.Ranges.{collect-keep, from-below}
@@ -164,7 +164,7 @@ module _ {file names recs lists : List ℕ} {k : Counts} (x : Filled file names 
 
     -- ---- bodies followed
 
-    module _ {after : ℕ → ℕ} (f : Follows (k .names) (body-at names recs lists) (λ n. item n) after) where
+    module _ {after : ℕ → ℕ} (f : Stamps-closed (k .names) (body-at names recs lists) (λ n. item n) after) where
       -- the names with a stamp then
       abbrev noted-names : List Name
       noted-names = set-of name (λ m. ltb 0 (after m)) (k .names)

@@ -16,7 +16,7 @@ use Rattle.records.specs.Filing.{newest}
 use Rattle.scan.specs.Held.{upto}
 use Rattle.scan.proofs.Numbers.{upto-elim}
 use Rattle.prune.specs.Listing.{from, picked, kind-at, stamp-records, kind-records, decl-records, followed-stamp, added-at, added-records, group-records, groups-records}
-use Rattle.prune.specs.Follow.{Grown, Follows}
+use Rattle.prune.specs.Follow.{Stamps-grown, Stamps-closed}
 use Rattle.prune.specs.Loops.{below-column, highest-column, most-stamps, Linked}
 use Rattle.prune.proofs.Ranges.{from-below}
 use Rattle.prune.proofs.Takers.{one-zero}
@@ -25,7 +25,7 @@ use Rattle.prune.proofs.Takers.{one-zero}
 abbrev pub Raised : ℕ → ℕ → Type 0
 Raised before after = (after ≡ before) ⊎ ((before ≡ 0) × (after ≡ followed-stamp))
 
-pub grown-raised : {named : ℕ} {body : ℕ → List ℕ} {before after : ℕ → ℕ} → Grown named body before after
+pub grown-raised : {named : ℕ} {body : ℕ → List ℕ} {before after : ℕ → ℕ} → Stamps-grown named body before after
     → (n : ℕ) → n < named → Raised (before n) (after n)
 grown-raised {before = before} {after} g n h =
     ⊎-elim
@@ -93,8 +93,8 @@ module _ (names recs : List ℕ) (named : ℕ) (stamp : ℕ → ℕ) (low : (r :
   groups-none s = ap₂ _++_ (group-none def-kind s) (group-none fun-kind s)
 
 -- bodies followed from stamps that are the same
-pub follows-same : {named : ℕ} {body : ℕ → List ℕ} {f g after : ℕ → ℕ} → ((n : ℕ) → n < named → g n ≡ f n) → Follows named body f after
-    → Follows named body g after
+pub follows-same : {named : ℕ} {body : ℕ → List ℕ} {f g after : ℕ → ℕ} → ((n : ℕ) → n < named → g n ≡ f n) → Stamps-closed named body f after
+    → Stamps-closed named body g after
 follows-same same h = record {
   grown = record {
     old = λ n l p. let e = same n l in h .grown .old n l (omega arith) ∙ sym e;

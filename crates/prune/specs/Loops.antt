@@ -19,7 +19,7 @@ use Rattle.records.specs.Filing.{Records, newest}
 use Rattle.scan.specs.Held.{upto}
 use Rattle.scan.specs.Steps.{marks}
 use Rattle.prune.specs.Listing.{fact-records, followed-stamp, kept-records}
-use Rattle.prune.specs.Follow.{body-at, Follows, Stamped}
+use Rattle.prune.specs.Follow.{body-at, Stamps-closed, Stamped}
 
 -- the columns behind those of the run: the kept list; by rank, the next lower rank of the same stamp, and one; by stamp, counted
 -- from 0, its highest rank and one; by name, its stamp; the queue of the names that bodies add; and how many words they have
@@ -127,7 +127,7 @@ pub record Bodies (names recs lists : List ℕ) (k : Counts) : Type 0 where
 
 -- bodies followed from the stamps in the slice
 pub record Stamps-followed (names recs lists : List ℕ) (k : Counts) (before after : List ℕ) : Type 0 where
-  pub follows : Follows (k .names) (body-at names recs lists) (stamp-of before) (stamp-of after)
+  pub follows : Stamps-closed (k .names) (body-at names recs lists) (stamp-of before) (stamp-of after)
   pub same : Same-but stamp-column (most-names + most-names) before after
 
 -- what listing the kept records asks: tables in range, and room whatever the stamps of the ask

@@ -285,6 +285,25 @@ fn list_kind(
     to
 }
 
+// Lists the definitions and then the declarations of the names with the stamps up to `stamps`.
+fn list_decls(
+    names: &[u32],
+    recs: &[u32],
+    run: &mut [u32],
+    named: usize,
+    stamps: usize,
+    m: usize,
+) -> usize
+    requires { ⌜ Index (now names) named × (working-words ≤ length (now recs)) × (working-words ≤ length (now run))
+        × Linked (stamp-in (now names) (now run)) named (now run) × (stamps ≤ most-stamps)
+        × (m + length (decl-records (now names) (now recs) named (stamp-in (now names) (now run)) stamps) ≤ most-records) ⌝ }
+    ensures { λ to. ⌜ Kept-behind (now (run .entry)) m (decl-records (now (names .entry)) (now (recs .entry)) named
+        (stamp-in (now (names .entry)) (now (run .entry))) stamps) (now (run .exit)) to ⌝ }
+{
+    let defs = list_kind(names, recs, run, named, records::DEF, stamps, m);
+    list_kind(names, recs, run, named, records::FUN, stamps, defs)
+}
+
 // Follows a name that has no stamp: it gets that of the names that bodies add, and stands behind the queue.
 fn follow_name(run: &mut [u32], n: usize, to: usize) -> usize
     requires { ⌜ (n < most-names) × Queue-room (queue (now run) to) ⌝ }
@@ -436,25 +455,6 @@ fn list_groups(
 {
     let defs = list_group(names, recs, run, named, records::DEF, stamps, m);
     list_group(names, recs, run, named, records::FUN, stamps, defs)
-}
-
-// Lists the definitions and then the declarations of the names with the stamps up to `stamps`.
-fn list_decls(
-    names: &[u32],
-    recs: &[u32],
-    run: &mut [u32],
-    named: usize,
-    stamps: usize,
-    m: usize,
-) -> usize
-    requires { ⌜ Index (now names) named × (working-words ≤ length (now recs)) × (working-words ≤ length (now run))
-        × Linked (stamp-in (now names) (now run)) named (now run) × (stamps ≤ most-stamps)
-        × (m + length (decl-records (now names) (now recs) named (stamp-in (now names) (now run)) stamps) ≤ most-records) ⌝ }
-    ensures { λ to. ⌜ Kept-behind (now (run .entry)) m (decl-records (now (names .entry)) (now (recs .entry)) named
-        (stamp-in (now (names .entry)) (now (run .entry))) stamps) (now (run .exit)) to ⌝ }
-{
-    let defs = list_kind(names, recs, run, named, records::DEF, stamps, m);
-    list_kind(names, recs, run, named, records::FUN, stamps, defs)
 }
 
 // Puts the line of each kept record in its place.
