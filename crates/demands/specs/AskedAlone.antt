@@ -50,7 +50,7 @@ Asked-alone =
     → (file′ : List ℕ) → lines file′ ≡ line ∷ others
     → (s′ : State) × Lines-read file′ s′ × Same-answer i k s s′
 
--- so of calls: over the same slices the file with only that ask line is answered too, with what the other answers at the place
+-- so of outcomes: over the same slices the file with only that ask line is answered too, with what the other answers at the place
 abbrev pub Answered-alone : Type 0
 Answered-alone =
     (file : List ℕ) (works : List Lent) (room : ℕ) (ps : List Position) → outcome file works room ≡ lists ps
