@@ -18,15 +18,16 @@ use Rattle.model.specs.Bodies.{all-followed, added-names, of-names, added-for, 
 use Rattle.model.specs.declared.Order.the-variants.{Before}
 use Rattle.model.proofs.ListLaws.{T-and, T-dec, any-intro, any-elim, cond-true, cond-false, cond-case, option-elim, keep-intro, keep-elim, keep-all, keep-none, keep-append, collect-intro, collect-elim, collect-append, map-intro, map-elim, reverse-elim}
 use Rattle.model.proofs.SetLaws.{Ascending, empty, keep-no-name, ascending-head, ascending-tail, ascending-keep, order-trans, order-irrefl, same-eq, same-refl, mem-intro, mem-elim, mem-from-list}
-use Rattle.laws.proofs.BodyLaws.{followed-law, all-closed, all-has, added-or, added-elim, added-set}
+use Rattle.laws.proofs.BodyLaws.{followed-law, all-closed, all-has, added-or, added-elim, added-set, added-free}
 use Rattle.demands.specs.LinesRead.{Lines-read, records-for, Distinct, none}
 use Rattle.demands.specs.Demand2.{kept-list, followed-list}
 use Rattle.demands.specs.Demand3.{run-of}
 use Rattle.demands.specs.FileOrder.{line-of}
 use Rattle.demands.specs.Order.{listed-facts}
-use Rattle.demands.specs.Bodies.{Closed-lines, Smallest, Bodies-followed, List-followed, Followed-fixed, Plain-stands, Followed-once, But-for-bodies, Following-meets-nothing}
+use Rattle.demands.specs.Bodies.{Closed-lines, Smallest, Bodies-followed, List-followed, Followed-fixed, Plain-stands, Followed-once, But-for-bodies, Following-meets-nothing, Added-never-excluded}
 use Rattle.demands.proofs.Distinct.{keep-one-name, distinct-append, distinct-map, distinct-of-map, distinct-to-map, ascending-distinct, distinct-reverse}
 use Rattle.demands.proofs.ListedLaws.{kept-facts-elim, kept-facts-once, kept-fact-line, kept-decls-elim, first-met-once, picked-once}
+use Rattle.demands.proofs.NeverFree.{excluded-never-free}
 use Rattle.demands.proofs.WellFormed.{accepted-well-formed}
 use Rattle.demands.proofs.RecordLines.{read-file-lines, fact-by-line, fact-or-definition, fact-or-declaration, definition-or-declaration, definition-by-line, declaration-by-line}
 use Rattle.demands.proofs.Pruned.{distinct-definitions, distinct-declarations}
@@ -670,3 +671,9 @@ pub following-meets-nothing : Following-meets-nothing
 following-meets-nothing a b h file s accepted =
     let same-run : run-of a s ≡ run-of b s = run-alike a b (records-for a s) (s .roots) h in
     (same-run, ap (λ (r : Run). kept a (records-for a s) (s .roots) (r .reached)) same-run ∙ kept-alike a b (records-for a s) (s .roots) (run-of b s .reached) h)
+
+-- no name that bodies add is excluded
+pub added-never-excluded : Added-never-excluded
+added-never-excluded file s accepted a name i out =
+    let (d, j, k) = added-free (definitions (records-for a s)) (kept-names a (facts (records-for a s)) (s .roots) (run-of a s .reached)) i in
+    excluded-never-free file s accepted name out .in-definition d j k

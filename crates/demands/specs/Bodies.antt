@@ -6,10 +6,12 @@ use mathlib.Core.Bool.{Bool, not, _&&_}
 use mathlib.Core.List.{List, _++_, map, List·Memᴰ}
 use lib.Dec.{T, eqb}
 use Rattle.model.specs.Lists.{any, keep}
-use Rattle.model.specs.Names.{Ascending}
-use Rattle.model.specs.Summaries.{Fact}
-use Rattle.model.specs.Reading.{Ask, no-ambients, pretyping-axioms, prune-decls, follow-bodies, Decl, Summary, State}
-use Rattle.model.specs.Rounds.{definitions, declarations}
+use Rattle.model.specs.Names.{Name, Ascending}
+use Rattle.model.specs.Summaries.{exclude-names, Fact}
+use Rattle.model.specs.Reading.{Ask, no-ambients, pretyping-axioms, prune-decls, follow-bodies, Decl, Summary, State, excluded}
+use Rattle.model.specs.Rounds.{facts, definitions, declarations}
+use Rattle.model.specs.Kept.{kept-names}
+use Rattle.model.specs.Bodies.{added-names}
 use Rattle.demands.specs.LinesRead.{Lines-read, records-for, Distinct}
 use Rattle.demands.specs.Demand2.{kept-list, followed-list}
 use Rattle.demands.specs.Demand3.{run-of}
@@ -79,3 +81,10 @@ abbrev pub Following-meets-nothing : Type 0
 Following-meets-nothing =
     (a b : Ask) → But-for-bodies a b → (file : List ℕ) (s : State) → Lines-read file s
     → (run-of a s ≡ run-of b s) × (kept-list a s ≡ kept-list b s)
+
+-- no name that bodies add is excluded
+abbrev pub Added-never-excluded : Type 0
+Added-never-excluded =
+    (file : List ℕ) (s : State) → Lines-read file s → (a : Ask) (name : Name)
+    → List·Memᴰ name (added-names (definitions (records-for a s)) (kept-names a (facts (records-for a s)) (s .roots) (run-of a s .reached)))
+    → List·Memᴰ name (excluded exclude-names s) → ⊥
