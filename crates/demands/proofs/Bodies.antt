@@ -2,7 +2,7 @@
 -- by name, each line stands once, and no other list is so.
 use Prim.Native.Nat.{ℕ, zero, suc}
 use mathlib.Core.Path.{_≡_, refl, sym, _∙_, ap, ap₂}
-use mathlib.Core.Logic.{_⊎_, ⊎-elim}
+use mathlib.Core.Logic.{_⊎_, inl, inr, ⊎-elim}
 use mathlib.Core.Bool.{Bool, true, false, cond, not, _&&_}
 use mathlib.Core.List.{List, [], _∷_, _++_, map, map-append, append-nil, append-assoc, reverse, List·Memᴰ, List·Memᴰ·head, List·Memᴰ·not-nil, List·Memᴰ·append-cases, Memᴰ·append-left, Memᴰ·append-right, Memᴰ·cast}
 use lib.Dec.{T, T-not, not-T, eqb, eqb→eq, eqb-refl}
@@ -24,7 +24,7 @@ use Rattle.demands.specs.Demand2.{kept-list, followed-list}
 use Rattle.demands.specs.Demand3.{run-of}
 use Rattle.demands.specs.FileOrder.{line-of}
 use Rattle.demands.specs.Order.{listed-facts}
-use Rattle.demands.specs.Bodies.{Closed-lines, Smallest, Bodies-followed, List-followed, Followed-fixed, Plain-stands, Followed-once, But-for-bodies, Following-meets-nothing, Added-never-excluded}
+use Rattle.demands.specs.Bodies.{Closed-lines, Smallest, Bodies-followed, List-followed, Followed-fixed, Plain-stands, Followed-once, But-for-bodies, Following-meets-nothing, Added-never-excluded, Added-lines-never-excluded}
 use Rattle.demands.proofs.Distinct.{keep-one-name, distinct-append, distinct-map, distinct-of-map, distinct-to-map, ascending-distinct, distinct-reverse}
 use Rattle.demands.proofs.ListedLaws.{kept-facts-elim, kept-facts-once, kept-fact-line, kept-decls-elim, first-met-once, picked-once}
 use Rattle.demands.proofs.NeverFree.{excluded-never-free}
@@ -257,6 +257,22 @@ module _ (file : List ℕ) (s : State) (accepted : Lines-read file s) (a : Ask) 
         absurd (fact-or-definition (records-for a s) lines-once j i (p ∙ sym e))
     listed-name d i (definition c j t p) e = rw (definition-by-line (records-for a s) lines-once i j (e ∙ sym p)) t
     listed-name d i (declaration c j t p) e = absurd (definition-or-declaration (records-for a s) lines-once i j (e ∙ sym p))
+
+    -- so is that of a declaration
+    listed-fun-name : (d : Decl) → List·Memᴰ d E → {n : ℕ} → On-list n → d .line ≡ n → T (mem (d .name) every)
+    listed-fun-name d i (fact m) e =
+        let (f, j, p) = kept-fact-line a (facts (records-for a s)) (run-of a s .reached) m in
+        absurd (fact-or-declaration (records-for a s) lines-once j i (p ∙ sym e))
+    listed-fun-name d i (definition c j t p) e = absurd (definition-or-declaration (records-for a s) lines-once j i (p ∙ sym e))
+    listed-fun-name d i (declaration c j t p) e = rw (declaration-by-line (records-for a s) lines-once i j (e ∙ sym p)) t
+
+    -- one that stands on the list stands on that without the added ones, or its name is added
+    plain-or-added : (d : Decl) → List·Memᴰ d (D ++ E) → List·Memᴰ (d .line) (followed-list a s)
+        → List·Memᴰ (d .line) (kept-list a s) ⊎ List·Memᴰ (d .name) (added-names D walked)
+    plain-or-added d i m =
+        ⊎-elim (λ j. inl (plain-part d i j)) inr
+        (added-or D walked (d .name)
+        (⊎-elim (λ j. listed-name d j (on-list m) refl) (λ j. listed-fun-name d j (on-list m) refl) (List·Memᴰ·append-cases D i)))
 
     -- a closed set that has the list without the added ones has each definition and declaration whose name is followed
     has-named : (has : ℕ → Bool) → Closed-lines (records-for a s) (λ n. T (has n)) → ((n : ℕ) → List·Memᴰ n (kept-list a s) → T (has n))
@@ -677,3 +693,12 @@ pub added-never-excluded : Added-never-excluded
 added-never-excluded file s accepted a name i out =
     let (d, j, k) = added-free (definitions (records-for a s)) (kept-names a (facts (records-for a s)) (s .roots) (run-of a s .reached)) i in
     excluded-never-free file s accepted name out .in-definition d j k
+
+-- no definition or declaration that bodies add has an excluded name
+pub added-lines-never-excluded : Added-lines-never-excluded
+added-lines-never-excluded file s accepted a d i m new out =
+    ⊎-elim
+    (λ t. let (u, v) = T-and (prune-decls a) (follow-bodies a) .0 t in
+    ⊎-elim new (λ j. added-never-excluded file s accepted a (d .name) j out) (plain-or-added file s accepted a u v d i m))
+    (λ t. new (rw (not-followed file s accepted a t) at m))
+    (T-dec (prune-decls a && follow-bodies a))

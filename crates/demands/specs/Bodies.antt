@@ -88,3 +88,10 @@ Added-never-excluded =
     (file : List ℕ) (s : State) → Lines-read file s → (a : Ask) (name : Name)
     → List·Memᴰ name (added-names (definitions (records-for a s)) (kept-names a (facts (records-for a s)) (s .roots) (run-of a s .reached)))
     → List·Memᴰ name (excluded exclude-names s) → ⊥
+
+-- no definition or declaration that stands on the list, and not on the one without the added ones, has an excluded name
+abbrev pub Added-lines-never-excluded : Type 0
+Added-lines-never-excluded =
+    (file : List ℕ) (s : State) → Lines-read file s → (a : Ask) (d : Decl)
+    → List·Memᴰ d (definitions (records-for a s) ++ declarations (records-for a s)) → List·Memᴰ (d .line) (followed-list a s)
+    → (List·Memᴰ (d .line) (kept-list a s) → ⊥) → List·Memᴰ (d .name) (excluded exclude-names s) → ⊥
