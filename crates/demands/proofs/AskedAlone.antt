@@ -21,7 +21,7 @@ use Rattle.demands.specs.LineForm.{Allowed}
 use Rattle.demands.specs.Demand1.{Lines-judged, all-lengths}
 use Rattle.demands.specs.Counts.{ask-words, hide-words, is-word, begins}
 use Rattle.demands.specs.Moved.{moved-position}
-use Rattle.demands.specs.AskedAlone.{Accepted-day, Alone-file, Same-answer, Asked-alone, Answered-alone, Asked-together}
+use Rattle.demands.specs.AskedAlone.{Accepted-day, Alone-file, Same-answer, Asked-alone, Answered-alone, Asked-together, Answered-together}
 use Rattle.demands.specs.Bytes.{line-bytes, Parted, none, unended, ended}
 use Rattle.laws.proofs.ReadingLaws.{not-read, parse-ok, line-read, lines-read, none-read, added-line, file-read}
 use Rattle.demands.proofs.Refusals.{lines-on, lines-append}
@@ -352,4 +352,15 @@ answered-alone file works room ps e asks others day i k line at count file′ ar
       p,
       list-given file′ works room (p ∷ []) .1 (judged, (s′, accepted′, rw is at (filtered-answers s′), all)),
       answered-at i k s s′ same (answers-filtered s pairs),
+    )
+
+-- files of one ask line each make one that is answered with what they come to
+pub answered-together : Answered-together
+answered-together file works room judged asks others day some few each fits =
+    let (s, accepted, same) = asked-together file asks others day some few each in (
+      filtered s,
+      list-given file works room (filtered s) .1 (judged, (s, accepted, filtered-answers s, fits s accepted)),
+      λ i k line s′ at count alone.
+          let here = same i k line s′ at count alone in
+          (here .asked, here .alone, answered-at i k s s′ here refl),
     )
