@@ -77,7 +77,7 @@ Answered-together =
     → (asks others : List Line) → Day (lines file) asks others → 1 ≤ length asks → length asks ≤ 16
     → ((line : Line) → List·Memᴰ line asks → (s′ : State) × (read-lines exclude-names 1 start (line ∷ others) ≡ read s′))
     → ((s : State) → Lines-read file s → all-lengths s ≤ room)
-    → (ps : List Position) × (outcome file works room ≡ lists ps)
+    → (ps : List Position) × (outcome file works room ≡ lists ps) × (length ps ≡ length asks)
     × ((i k : ℕ) (line : Line) (s′ : State) → At asks i line → length asks ≡ k + 1
     → read-lines exclude-names 1 start (line ∷ others) ≡ read s′
     → (a : Ask) × (s′ .asks ≡ a ∷ []) × At ps i (moved-position (λ n. n + k) (position (records-for a s′) (s′ .roots) a)))
