@@ -8,27 +8,28 @@ use mathlib.Core.Bool.{Bool, true, false, not}
 use mathlib.Core.List.{List, [], _∷_, _++_, map, append-nil, append-assoc, cons-ne-nil, List·Memᴰ, List·Memᴰ·head, List·Memᴰ·tail, List·Memᴰ·not-nil, List·Memᴰ·cases-cons, Memᴰ·append-left, Memᴰ·append-right}
 use lib.Dec.{T, eqb}
 use lib.ListN.{length, getD, length-append}
-use Rattle.model.specs.Lists.{any, all, sum, collect, fold-left, holds, is-nil}
+use Rattle.model.specs.Lists.{any, all, keep, sum, collect, fold-left, holds, is-nil}
 use Rattle.model.specs.Lines.{Line, lines, Field, fields}
 use Rattle.model.specs.Summaries.{exclude-names}
 use Rattle.model.specs.Reading.{ok, Head, ask, Content, head, term, assume, fun, def, retain, root, content, Ask, State, start, Reading, read, refused-at, in-head, in-asks, Place, an-ask, place, may-stand, fixed-count, parse, head-asks, hidden-by, heads, nodes, spelled, trimmed, limits, summarize-decl, root-of, add-line, repeats, read-line, read-lines}
 use Rattle.model.specs.Outcome.{Position, position, filtered}
-use Rattle.model.proofs.ListLaws.{collect-append}
+use Rattle.model.proofs.ListLaws.{collect-append, keep-all, keep-none, keep-append}
 use Rattle.model.proofs.ResultLaws.{ok-eq}
-use Rattle.demands.specs.LinesRead.{At, Pairwise, ends, pair}
+use Rattle.demands.specs.LinesRead.{Lines-read, At, Pairwise, ends, pair}
 use Rattle.demands.specs.Demand2.{followed-list}
 use Rattle.demands.specs.LineForm.{Allowed}
 use Rattle.demands.specs.Demand1.{Lines-judged, all-lengths}
 use Rattle.demands.specs.Counts.{ask-words, hide-words, is-word, begins}
+use Rattle.demands.specs.Asks.{ask-on}
 use Rattle.demands.specs.Moved.{moved-position}
-use Rattle.demands.specs.AskedAlone.{Accepted-day, Alone-file, Same-answer, Asked-alone, Answered-alone, Asked-together}
+use Rattle.demands.specs.AskedAlone.{Day, Accepted-day, Alone-file, Same-answer, Asked-alone, Answered-alone, Asked-together, Answered-together}
 use Rattle.demands.specs.Bytes.{line-bytes, Parted, none, unended, ended}
 use Rattle.laws.proofs.ReadingLaws.{not-read, parse-ok, line-read, lines-read, none-read, added-line, file-read}
 use Rattle.demands.proofs.Refusals.{lines-on, lines-append}
 use Rattle.demands.proofs.LineForm.{parse-fields}
 use Rattle.demands.proofs.LineFields.{place-by, known-place, Head-by, one-ask, line-fields}
 use Rattle.demands.proofs.Heads.{headed-line}
-use Rattle.demands.proofs.Asks.{asks-stay, split-file}
+use Rattle.demands.proofs.Asks.{asks-stay, split-file, asks-exact}
 use Rattle.demands.proofs.Moved.{map-length, lines-apart}
 use Rattle.demands.proofs.Shifted.{same-count, shifted, shifted-reading, lines-shifted}
 use Rattle.demands.proofs.Queries.{at-map}
@@ -352,4 +353,29 @@ answered-alone file works room ps e asks others day i k line at count file′ ar
       p,
       list-given file′ works room (p ∷ []) .1 (judged, (s′, accepted′, rw is at (filtered-answers s′), all)),
       answered-at i k s s′ same (answers-filtered s pairs),
+    )
+
+-- a file of such lines has as many answers as ask lines
+answered-length : (file : List ℕ) (s : State) → Lines-read file s → (asks others : List Line) → Day (lines file) asks others → length (filtered s) ≡ length asks
+unfolding filtered
+answered-length file s e asks others day =
+    let among : keep (begins ask-words) (asks ++ others) ≡ asks =
+    keep-append (begins ask-words) asks others
+    ∙ ap (_++ keep (begins ask-words) others) (keep-all (begins ask-words) asks (day .are-asks))
+    ∙ ap (asks ++_) (keep-none (begins ask-words) others (day .no-asks))
+    ∙ append-nil asks in
+    map-length (position (s .decls) (s .roots)) (s .asks)
+    ∙ ap length (asks-exact (lines file) s (file-read exclude-names file s e) ∙ ap (λ ls. map ask-on (keep (begins ask-words) ls)) (day .are) ∙ ap (map ask-on) among)
+    ∙ map-length ask-on asks
+
+-- files of one ask line each make one that is answered with what they come to
+pub answered-together : Answered-together
+answered-together file works room judged asks others day some few each fits =
+    let (s, accepted, same) = asked-together file asks others day some few each in (
+      filtered s,
+      list-given file works room (filtered s) .1 (judged, (s, accepted, filtered-answers s, fits s accepted)),
+      answered-length file s accepted asks others day,
+      λ i k line s′ at count alone.
+          let here = same i k line s′ at count alone in
+          (here .asked, here .alone, answered-at i k s s′ here refl),
     )

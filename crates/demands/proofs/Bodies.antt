@@ -1,8 +1,8 @@
 -- Change 8: where bodies are followed the kept set is the smallest closed one, the added ones stand at the end of their group
 -- by name, each line stands once, and no other list is so.
-use Prim.Native.Nat.{ℕ, suc}
+use Prim.Native.Nat.{ℕ, zero, suc}
 use mathlib.Core.Path.{_≡_, refl, sym, _∙_, ap, ap₂}
-use mathlib.Core.Logic.{_⊎_, ⊎-elim}
+use mathlib.Core.Logic.{_⊎_, inl, inr, ⊎-elim}
 use mathlib.Core.Bool.{Bool, true, false, cond, not, _&&_}
 use mathlib.Core.List.{List, [], _∷_, _++_, map, map-append, append-nil, append-assoc, reverse, List·Memᴰ, List·Memᴰ·head, List·Memᴰ·not-nil, List·Memᴰ·append-cases, Memᴰ·append-left, Memᴰ·append-right, Memᴰ·cast}
 use lib.Dec.{T, T-not, not-T, eqb, eqb→eq, eqb-refl}
@@ -10,22 +10,24 @@ use lib.ListN.{length}
 use Rattle.model.specs.Lists.{any, keep, collect}
 use Rattle.model.specs.Names.{Name, order, same, mem, from-list}
 use Rattle.model.specs.Summaries.{exclude-names, Fact}
-use Rattle.model.specs.Reading.{Ask, prune-decls, follow-bodies, Decl, Summary, State, taken-by}
-use Rattle.model.specs.Rounds.{facts, definitions, declarations}
-use Rattle.model.specs.Kept.{kept-names, first-met, kept-decls, kept}
+use Rattle.model.specs.Reading.{Ask, pretyping-axioms, prune-decls, follow-bodies, Root, Decl, Summary, State, taken-by}
+use Rattle.model.specs.Pruning.{Map}
+use Rattle.model.specs.Rounds.{facts, definitions, declarations, macros, retainable, Run, first-run, fresh, after-round, next-scanned, rounds-from, asks-for, goal-roots, ambient-roots, first-scanned, most-rounds, run}
+use Rattle.model.specs.Kept.{ambients, kept-facts, kept-names, first-met, kept-decls, kept}
 use Rattle.model.specs.Bodies.{all-followed, added-names, of-names, added-for, kept-followed}
 use Rattle.model.specs.declared.Order.the-variants.{Before}
 use Rattle.model.proofs.ListLaws.{T-and, T-dec, any-intro, any-elim, cond-true, cond-false, cond-case, option-elim, keep-intro, keep-elim, keep-all, keep-none, keep-append, collect-intro, collect-elim, collect-append, map-intro, map-elim, reverse-elim}
 use Rattle.model.proofs.SetLaws.{Ascending, empty, keep-no-name, ascending-head, ascending-tail, ascending-keep, order-trans, order-irrefl, same-eq, same-refl, mem-intro, mem-elim, mem-from-list}
-use Rattle.laws.proofs.BodyLaws.{followed-law, all-closed, all-has, added-or, added-elim, added-set}
+use Rattle.laws.proofs.BodyLaws.{followed-law, all-closed, all-has, added-or, added-elim, added-set, added-free}
 use Rattle.demands.specs.LinesRead.{Lines-read, records-for, Distinct, none}
 use Rattle.demands.specs.Demand2.{kept-list, followed-list}
 use Rattle.demands.specs.Demand3.{run-of}
 use Rattle.demands.specs.FileOrder.{line-of}
 use Rattle.demands.specs.Order.{listed-facts}
-use Rattle.demands.specs.Bodies.{Closed-lines, Smallest, Bodies-followed, List-followed, Followed-fixed, Plain-stands, Followed-once}
+use Rattle.demands.specs.Bodies.{Closed-lines, Smallest, Bodies-followed, List-followed, Followed-fixed, Plain-stands, Followed-once, But-for-bodies, Following-meets-nothing, Added-never-excluded, Added-lines-never-excluded}
 use Rattle.demands.proofs.Distinct.{keep-one-name, distinct-append, distinct-map, distinct-of-map, distinct-to-map, ascending-distinct, distinct-reverse}
 use Rattle.demands.proofs.ListedLaws.{kept-facts-elim, kept-facts-once, kept-fact-line, kept-decls-elim, first-met-once, picked-once}
+use Rattle.demands.proofs.NeverFree.{excluded-never-free}
 use Rattle.demands.proofs.WellFormed.{accepted-well-formed}
 use Rattle.demands.proofs.RecordLines.{read-file-lines, fact-by-line, fact-or-definition, fact-or-declaration, definition-or-declaration, definition-by-line, declaration-by-line}
 use Rattle.demands.proofs.Pruned.{distinct-definitions, distinct-declarations}
@@ -255,6 +257,22 @@ module _ (file : List ℕ) (s : State) (accepted : Lines-read file s) (a : Ask) 
         absurd (fact-or-definition (records-for a s) lines-once j i (p ∙ sym e))
     listed-name d i (definition c j t p) e = rw (definition-by-line (records-for a s) lines-once i j (e ∙ sym p)) t
     listed-name d i (declaration c j t p) e = absurd (definition-or-declaration (records-for a s) lines-once i j (e ∙ sym p))
+
+    -- so is that of a declaration
+    listed-fun-name : (d : Decl) → List·Memᴰ d E → {n : ℕ} → On-list n → d .line ≡ n → T (mem (d .name) every)
+    listed-fun-name d i (fact m) e =
+        let (f, j, p) = kept-fact-line a (facts (records-for a s)) (run-of a s .reached) m in
+        absurd (fact-or-declaration (records-for a s) lines-once j i (p ∙ sym e))
+    listed-fun-name d i (definition c j t p) e = absurd (definition-or-declaration (records-for a s) lines-once j i (p ∙ sym e))
+    listed-fun-name d i (declaration c j t p) e = rw (declaration-by-line (records-for a s) lines-once i j (e ∙ sym p)) t
+
+    -- one that stands on the list stands on that without the added ones, or its name is added
+    plain-or-added : (d : Decl) → List·Memᴰ d (D ++ E) → List·Memᴰ (d .line) (followed-list a s)
+        → List·Memᴰ (d .line) (kept-list a s) ⊎ List·Memᴰ (d .name) (added-names D walked)
+    plain-or-added d i m =
+        ⊎-elim (λ j. inl (plain-part d i j)) inr
+        (added-or D walked (d .name)
+        (⊎-elim (λ j. listed-name d j (on-list m) refl) (λ j. listed-fun-name d j (on-list m) refl) (List·Memᴰ·append-cases D i)))
 
     -- a closed set that has the list without the added ones has each definition and declaration whose name is followed
     has-named : (has : ℕ → Bool) → Closed-lines (records-for a s) (λ n. T (has n)) → ((n : ℕ) → List·Memᴰ n (kept-list a s) → T (has n))
@@ -615,3 +633,72 @@ plain-stands file s accepted a =
     is-new n ds i among = not-T (on n) (λ t.
         let (d, j, e) = map-elim decl-line ds i in
         p .new d (among d j) (Memᴰ·cast e (on-elim n (kept-list a s) t)))
+
+-- ---- option 8 changes no run
+
+module _ (a b : Ask) (same-axioms : pretyping-axioms a ≡ pretyping-axioms b) (ms : Map (List Name)) (fs : List Fact) where
+  -- a round reaches the same facts
+  fresh-alike : (r : Run) (scanned : List Name) → fresh a ms fs r scanned ≡ fresh b ms fs r scanned
+  unfolding fresh retainable
+  fresh-alike r scanned = rw same-axioms
+
+  -- it ends in the same state
+  after-alike : (r : Run) (scanned : List Name) → after-round a ms fs r scanned ≡ after-round b ms fs r scanned
+  unfolding after-round
+  after-alike r scanned = rw (fresh-alike r scanned)
+
+  -- the next one scans the same
+  next-alike : (r : Run) (scanned : List Name) → next-scanned a ms fs r scanned ≡ next-scanned b ms fs r scanned
+  unfolding next-scanned
+  next-alike r scanned = rw (fresh-alike r scanned)
+
+  -- all rounds come to the same
+  rounds-alike : (fuel : ℕ) (r : Run) (scanned : List Name) → rounds-from a ms fs fuel r scanned ≡ rounds-from b ms fs fuel r scanned
+  unfolding rounds-from
+  rounds-alike zero r scanned = refl
+  rounds-alike (suc fuel) r scanned =
+      rw (after-alike r scanned, next-alike r scanned, rounds-alike fuel (after-round b ms fs r scanned) (next-scanned b ms fs r scanned))
+
+-- the roots of the same queries
+goals-alike : (a b : Ask) (roots : List Root) → But-for-bodies a b → goal-roots a roots ≡ goal-roots b roots
+unfolding goal-roots asks-for
+goals-alike a b roots h = rw (h .queries)
+
+-- the same first round
+first-alike : (a b : Ask) (fs : List Fact) (roots : List Root) → But-for-bodies a b → first-scanned a fs roots ≡ first-scanned b fs roots
+unfolding first-scanned ambient-roots
+first-alike a b fs roots h = rw (goals-alike a b roots h, h .ambients)
+
+-- the same run, over any records and roots
+run-alike : (a b : Ask) (decls : List Summary) (roots : List Root) → But-for-bodies a b → run a decls roots ≡ run b decls roots
+unfolding run
+run-alike a b decls roots h =
+    rw (first-alike a b (facts decls) roots h)
+    (rounds-alike a b (h .pretyping) (macros decls) (facts decls) (most-rounds (facts decls)) first-run (first-scanned b (facts decls) roots))
+
+-- the same list without what bodies add
+kept-alike : (a b : Ask) (decls : List Summary) (roots : List Root) (reached : List Name) → But-for-bodies a b
+    → kept a decls roots reached ≡ kept b decls roots reached
+unfolding kept kept-names kept-facts ambients
+kept-alike a b decls roots reached h = rw (goals-alike a b roots h, h .ambients, h .pruning)
+
+-- option 8 changes neither the run nor the list without what bodies add
+pub following-meets-nothing : Following-meets-nothing
+following-meets-nothing a b h file s accepted =
+    let same-run : run-of a s ≡ run-of b s = run-alike a b (records-for a s) (s .roots) h in
+    (same-run, ap (λ (r : Run). kept a (records-for a s) (s .roots) (r .reached)) same-run ∙ kept-alike a b (records-for a s) (s .roots) (run-of b s .reached) h)
+
+-- no name that bodies add is excluded
+pub added-never-excluded : Added-never-excluded
+added-never-excluded file s accepted a name i out =
+    let (d, j, k) = added-free (definitions (records-for a s)) (kept-names a (facts (records-for a s)) (s .roots) (run-of a s .reached)) i in
+    excluded-never-free file s accepted name out .in-definition d j k
+
+-- no definition or declaration that bodies add has an excluded name
+pub added-lines-never-excluded : Added-lines-never-excluded
+added-lines-never-excluded file s accepted a d i m new out =
+    ⊎-elim
+    (λ t. let (u, v) = T-and (prune-decls a) (follow-bodies a) .0 t in
+    ⊎-elim new (λ j. added-never-excluded file s accepted a (d .name) j out) (plain-or-added file s accepted a u v d i m))
+    (λ t. new (rw (not-followed file s accepted a t) at m))
+    (T-dec (prune-decls a && follow-bodies a))

@@ -1,8 +1,8 @@
 -- Demand 3: "Whenever the call accepts a file, the reached facts are a closed set and every closed set contains them; .."
 use Rattle.model.specs.Rounds.{facts}
 use Rattle.demands.specs.LinesRead.{records-for}
-use Rattle.demands.specs.Demand3.{run-of, Reached-closed, Reached-least, Reached-listed, Visits-exact, Rounds-exact, Rounds-bound}
-use Rattle.laws.proofs.FuelLaws.{run-ends, run-bound}
+use Rattle.demands.specs.Demand3.{run-of, Reached-closed, Reached-least, Reached-listed, Visits-exact, Rounds-exact, Rounds-bound, Rounds-some}
+use Rattle.laws.proofs.FuelLaws.{run-ends, run-bound, run-some}
 use Rattle.demands.proofs.RoundsLaws.{run-met, run-visits, run-closed, run-least}
 use Rattle.demands.proofs.ListedLaws.{kept-not-ambient, reached-facts-intro, reached-facts-elim, reached-ascending}
 use Rattle.demands.proofs.WellFormed.{accepted-well-formed}
@@ -39,3 +39,7 @@ rounds-exact file s e a = run-ends a (records-for a s) (s .roots)
 -- "at most one more than the distinct trigger names filed"
 pub rounds-bound : Rounds-bound
 rounds-bound file s e a = run-bound a (records-for a s) (s .roots)
+
+-- every run has a round
+pub rounds-some : Rounds-some
+rounds-some file s e a = run-some a (records-for a s) (s .roots)

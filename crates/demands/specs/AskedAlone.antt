@@ -12,6 +12,7 @@ use Rattle.model.specs.Summaries.{exclude-names}
 use Rattle.model.specs.Reading.{Ask, State, start, read, read-lines}
 use Rattle.model.specs.Outcome.{Lent, Position, lists, position, outcome}
 use Rattle.demands.specs.LinesRead.{Lines-read, records-for, At}
+use Rattle.demands.specs.Demand1.{Lines-judged, all-lengths}
 use Rattle.demands.specs.Counts.{ask-words, begins}
 use Rattle.demands.specs.Moved.{moved-position}
 
@@ -50,7 +51,7 @@ Asked-alone =
     → (file′ : List ℕ) → lines file′ ≡ line ∷ others
     → (s′ : State) × Lines-read file′ s′ × Same-answer i k s s′
 
--- so of calls: over the same slices the file with only that ask line is answered too, with what the other answers at the place
+-- so of outcomes: over the same slices the file with only that ask line is answered too, with what the other answers at the place
 abbrev pub Answered-alone : Type 0
 Answered-alone =
     (file : List ℕ) (works : List Lent) (room : ℕ) (ps : List Position) → outcome file works room ≡ lists ps
@@ -68,3 +69,15 @@ Asked-together =
     → (s : State) × Lines-read file s
     × ((i k : ℕ) (line : Line) (s′ : State) → At asks i line → length asks ≡ k + 1
     → read-lines exclude-names 1 start (line ∷ others) ≡ read s′ → Same-answer i k s s′)
+
+-- so of outcomes: over slices that are long enough they are answered, each place with what the file alone comes to
+abbrev pub Answered-together : Type 0
+Answered-together =
+    (file : List ℕ) (works : List Lent) (room : ℕ) → Lines-judged file works
+    → (asks others : List Line) → Day (lines file) asks others → 1 ≤ length asks → length asks ≤ 16
+    → ((line : Line) → List·Memᴰ line asks → (s′ : State) × (read-lines exclude-names 1 start (line ∷ others) ≡ read s′))
+    → ((s : State) → Lines-read file s → all-lengths s ≤ room)
+    → (ps : List Position) × (outcome file works room ≡ lists ps) × (length ps ≡ length asks)
+    × ((i k : ℕ) (line : Line) (s′ : State) → At asks i line → length asks ≡ k + 1
+    → read-lines exclude-names 1 start (line ∷ others) ≡ read s′
+    → (a : Ask) × (s′ .asks ≡ a ∷ []) × At ps i (moved-position (λ n. n + k) (position (records-for a s′) (s′ .roots) a)))

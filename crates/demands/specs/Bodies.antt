@@ -6,12 +6,15 @@ use mathlib.Core.Bool.{Bool, not, _&&_}
 use mathlib.Core.List.{List, _++_, map, List·Memᴰ}
 use lib.Dec.{T, eqb}
 use Rattle.model.specs.Lists.{any, keep}
-use Rattle.model.specs.Names.{Ascending}
-use Rattle.model.specs.Summaries.{Fact}
-use Rattle.model.specs.Reading.{Ask, prune-decls, follow-bodies, Decl, Summary, State}
-use Rattle.model.specs.Rounds.{definitions, declarations}
+use Rattle.model.specs.Names.{Name, Ascending}
+use Rattle.model.specs.Summaries.{exclude-names, Fact}
+use Rattle.model.specs.Reading.{Ask, no-ambients, pretyping-axioms, prune-decls, follow-bodies, Decl, Summary, State, excluded}
+use Rattle.model.specs.Rounds.{facts, definitions, declarations}
+use Rattle.model.specs.Kept.{kept-names}
+use Rattle.model.specs.Bodies.{added-names}
 use Rattle.demands.specs.LinesRead.{Lines-read, records-for, Distinct}
 use Rattle.demands.specs.Demand2.{kept-list, followed-list}
+use Rattle.demands.specs.Demand3.{run-of}
 use Rattle.demands.specs.Order.{listed-facts}
 
 -- a set of lines that has, with a def, every def and fun whose name is free in its body
@@ -65,3 +68,30 @@ Plain-stands =
 -- each line stands once
 abbrev pub Followed-once : Type 0
 Followed-once = (file : List ℕ) (s : State) → Lines-read file s → (a : Ask) → Distinct (followed-list a s)
+
+-- two asks that differ in option 8 at most
+pub record But-for-bodies (a b : Ask) : Type 0 where
+  pub queries : a .queries ≡ b .queries
+  pub ambients : no-ambients a ≡ no-ambients b
+  pub pretyping : pretyping-axioms a ≡ pretyping-axioms b
+  pub pruning : prune-decls a ≡ prune-decls b
+
+-- option 8 changes neither the run, so neither the visits nor the rounds, nor the list without what bodies add
+abbrev pub Following-meets-nothing : Type 0
+Following-meets-nothing =
+    (a b : Ask) → But-for-bodies a b → (file : List ℕ) (s : State) → Lines-read file s
+    → (run-of a s ≡ run-of b s) × (kept-list a s ≡ kept-list b s)
+
+-- no name that bodies add is excluded
+abbrev pub Added-never-excluded : Type 0
+Added-never-excluded =
+    (file : List ℕ) (s : State) → Lines-read file s → (a : Ask) (name : Name)
+    → List·Memᴰ name (added-names (definitions (records-for a s)) (kept-names a (facts (records-for a s)) (s .roots) (run-of a s .reached)))
+    → List·Memᴰ name (excluded exclude-names s) → ⊥
+
+-- no definition or declaration that stands on the list, and not on the one without the added ones, has an excluded name
+abbrev pub Added-lines-never-excluded : Type 0
+Added-lines-never-excluded =
+    (file : List ℕ) (s : State) → Lines-read file s → (a : Ask) (d : Decl)
+    → List·Memᴰ d (definitions (records-for a s) ++ declarations (records-for a s)) → List·Memᴰ (d .line) (followed-list a s)
+    → (List·Memᴰ (d .line) (kept-list a s) → ⊥) → List·Memᴰ (d .name) (excluded exclude-names s) → ⊥

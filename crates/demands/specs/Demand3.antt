@@ -85,3 +85,7 @@ abbrev pub Rounds-bound : Type 0
 Rounds-bound =
     (file : List ℕ) (s : State) → Lines-read file s → (a : Ask)
     → run-of a s .rounds ≤ suc (length (from-list (filed (facts (records-for a s)))))
+
+-- every run has a round: by its rounds an answer tells an ask from a position past the last
+abbrev pub Rounds-some : Type 0
+Rounds-some = (file : List ℕ) (s : State) → Lines-read file s → (a : Ask) → 1 ≤ run-of a s .rounds

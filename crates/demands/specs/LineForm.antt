@@ -78,7 +78,7 @@ due kind.Def fs = in-order (a-name ∷ a-term ∷ []) fs
 due kind.Retain fs = may a-name
 due kind.Root fs = in-order (a-number 255 ∷ a-name ∷ a-term ∷ []) fs
 
--- the refusal of a number above its limit; `count`, below, is the number of term lines so far
+-- the refusal of a field that is no number, or one above its limit; `count`, below, is the number of term lines so far
 unfoldable pub number-fault : ℕ → Option ℕ → Option Refusal
 number-fault limit none = some refusal.Number
 number-fault limit (some n) = cond (leb n limit) none (some refusal.Number)

@@ -138,3 +138,12 @@ module _ (ds : List Decl) where
   pub added-set : (names : List Name) → Ascending (added-names ds names)
   unfolding added-names
   added-set names = ascending-diff names (all-set names)
+
+  -- an added name is free in the body of a definition
+  pub added-free : (names : List Name) {k : Name} → List·Memᴰ k (added-names ds names) → (d : Decl) × List·Memᴰ d ds × List·Memᴰ k (d .free-names)
+  unfolding all-followed
+  added-free names {k} i =
+      let (t, new) = added-elim names i in
+      ⊎-elim (λ j. absurd (new j)) (λ p. p)
+      (followed-law (λ n. List·Memᴰ n names ⊎ ((d : Decl) × List·Memᴰ d ds × List·Memᴰ n (d .free-names)))
+      (λ d j h n u. inr (d, j, mem-elim u)) (suc (length ds)) (from-list names) (λ n u. inl (mem-elim (mem-from-list n names .0 u))) k t)

@@ -87,6 +87,12 @@ module _ (a : Ask) (ms : Map (List Name)) (fs : List Fact) where
   rounds-few (last t) = omega arith
   rounds-few (more {r} {scanned} t e) = let l = unmet-falls r scanned t in let i = rounds-few e in omega arith
 
+  -- there is one more at least
+  pub rounds-grow : {r end : Run} {scanned : List Name} → Ends a ms fs r scanned end → r .rounds < end .rounds
+  unfolding after-round
+  rounds-grow (last t) = omega arith
+  rounds-grow (more {r} {scanned} t e) = let i = rounds-grow e in omega arith
+
 module _ (a : Ask) (decls : List Summary) (roots : List Root) where
   -- the history of the records of a file is that of the rounds, and the run is its last state
   pub history-follows : Is-history a (macros decls) (facts decls) first-run (first-scanned a (facts decls) roots) (history a decls roots) (run a decls roots)
@@ -100,3 +106,7 @@ module _ (a : Ask) (decls : List Summary) (roots : List Root) where
   -- its rounds are at most one more than the distinct trigger names filed
   pub run-bound : run a decls roots .rounds ≤ suc (length (from-list (filed (facts decls))))
   run-bound = omega (arith, rounds-few a (macros decls) (facts decls) run-ends, unmet-filed (facts decls) [])
+
+  -- it has a round
+  pub run-some : 1 ≤ run a decls roots .rounds
+  run-some = rounds-grow a (macros decls) (facts decls) run-ends

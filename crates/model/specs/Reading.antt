@@ -1,5 +1,5 @@
 -- Reading a file, line after line: document 01, "The file" and "Who can cause a refusal", the refusals 1 to 6;
--- document 02, Change 1: 10 to 12, Change 6: hide lines, Change 7: several ask lines, 13.
+-- document 02, Change 1: 10 to 12, Change 6: hide lines, Change 7: several ask lines, 13, Change 8: options up to 15.
 use Prim.Native.Nat.{ℕ, zero, suc, _+_, _/_, _%_}
 use Prim.Native.String.{String}
 use mathlib.Core.Bool.{Bool, true, false, cond, not, _&&_}
@@ -300,7 +300,7 @@ may-stand s an-ask = in-asks s
 may-stand s a-hide = in-head s && not (is-nil (s .asks))
 may-stand s another = not (is-nil (s .asks))
 
--- whether such a line is a position of the answer
+-- whether such a line takes a position of the answer
 unfoldable pub is-position : Place → Bool
 is-position an-ask = true
 is-position a-hide = false

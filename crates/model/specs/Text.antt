@@ -1,4 +1,5 @@
--- Texts: a number in decimal, fields parted by commas, and the printed form of an answer: document 01, F10.
+-- Texts: a number in decimal, fields parted by commas, and the printed form of an answer: document 01, F10; document 02, Change
+-- 7: a `sum` line after each list.
 use Prim.Native.Nat.{ℕ, zero, suc, _+_, _/_, _%_}
 use mathlib.Core.Bool.{cond}
 use mathlib.Core.List.{List, [], _∷_, _++_, map}

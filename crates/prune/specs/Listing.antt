@@ -1,4 +1,5 @@
--- The kept list on numbers of records. A rank is a name's place in byte order; an item is a kept fact or a root of the query.
+-- The kept list on numbers of records. A rank is a name's place in byte order; an item is a kept fact or a root of the
+-- ask's query.
 use Prim.Native.Nat.{ℕ, zero, suc, _+_, _-_}
 use mathlib.Core.Bool.{Bool, cond, _&&_}
 use mathlib.Core.List.{List, [], _∷_, _++_, map}
@@ -45,7 +46,7 @@ kind-at names recs kind r = cond (eqb (taker names r) 0) 0 (cond (eqb (record-ki
 unfoldable pub ambient-at : List ℕ → ℕ → ℕ
 ambient-at recs i = cond (eqb (record-kind recs i) assume-kind) (cond (is-ambient (kind-of-code (summary-code recs i))) (i + 1) 0) 0
 
--- whether a record is a root of the query
+-- whether a record is a root of the ask's query
 unfoldable pub is-goal : List ℕ → Asked → ℕ → Bool
 is-goal recs a i = eqb (record-kind recs i) root-kind && eqb (record-flag recs i) (a .query)
 
@@ -61,11 +62,11 @@ ambient-records recs k a = cond (no-ambients (ask-of a)) [] (picked (ambient-at 
 unfoldable pub fact-records : List ℕ → List ℕ → List ℕ → Counts → Asked → List ℕ
 fact-records names recs run k a = reached-records names run (k .names) ++ ambient-records recs k a
 
--- the roots of the query by line
+-- the roots of the ask's query by line
 abbrev pub goal-records : List ℕ → Counts → Asked → List ℕ
 goal-records recs k a = keep (is-goal recs a) (from 0 (k .records))
 
--- the items: the kept facts as listed, then the roots of the query
+-- the items: the kept facts as listed, then the roots of the ask's query
 unfoldable pub kept-items : List ℕ → List ℕ → List ℕ → Counts → Asked → List ℕ
 kept-items names recs run k a = fact-records names recs run k a ++ goal-records recs k a
 

@@ -16,7 +16,8 @@ ghost use Rattle.prune.specs.Kept.{Run-over, Pruned};
 
 // The columns of the run's slice behind those of the run: the kept list; by rank, the next lower rank of the same stamp, and one;
 // by stamp, counted from 0, its highest rank and one; by name, its stamp. A stamp is the place of the item that first has a name,
-// counted from 1. A rank is a name's place in byte order. Last the queue of the names that bodies add.
+// counted from 1, or one more than there is room for if a body adds the name. A rank is a name's place in byte order. Last the
+// queue of the names that bodies add.
 pub const KEPT: usize = 5120;
 
 const BELOW: usize = 6144;
@@ -160,7 +161,7 @@ fn note_facts(recs: &[u32], lists: &[u32], run: &mut [u32], k: Counts, count: us
     }
 }
 
-// Whether a record is a root of the query.
+// Whether a record is a root of the ask's query.
 fn is_goal(recs: &[u32], a: Asked, i: usize) -> bool
     requires { ⌜ (working-words ≤ length (now recs)) × (i < most-records) ⌝ }
     ensures { λ r. ⌜ r ≡ is-goal (now (recs .entry)) a i ⌝ }
@@ -171,7 +172,7 @@ fn is_goal(recs: &[u32], a: Asked, i: usize) -> bool
     words::at(recs, records::FLAG + i) == a.query
 }
 
-// Notes the names of the roots of the query, by line, and gives the last stamp.
+// Notes the names of the roots of the ask's query, by line, and gives the last stamp.
 fn note_roots(recs: &[u32], lists: &[u32], run: &mut [u32], k: Counts, a: Asked, m: usize) -> usize
     requires { ⌜ Notes (now recs) (now lists) (now run) k × (m ≤ most-records) ⌝ }
     ensures noted { λ s. ⌜ now (run .exit) ≡ noted (m + 1) (now (run .entry))

@@ -1,4 +1,4 @@
--- What a run of the ask over the tables comes to.
+-- What a run of an ask over the tables comes to.
 use Prim.Native.Nat.{ℕ, _+_, _<_}
 use mathlib.Core.Path.{_≡_}
 use mathlib.Core.List.{List}
@@ -19,7 +19,7 @@ use Rattle.scan.specs.Tables.{held-of}
 use Rattle.scan.specs.Starts.{zeroed-to, first-scan, starts-at, pushed}
 use Rattle.scan.specs.declared.Scan.{Scan}
 
--- the run of `model` of the ask over the records
+-- the run of `model` of an ask over the records
 unfoldable pub tables-run : List ℕ → List ℕ → List ℕ → List ℕ → Counts → Asked → Run
 tables-run file names recs lists k a =
     run (ask-of a) (decls-of (name-of file names) recs lists (k .records)) (roots-of (name-of file names) recs lists (k .records))

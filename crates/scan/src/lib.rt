@@ -403,7 +403,7 @@ impl Scan {
     }
 }
 
-// Runs the ask over the tables that the reader filled.
+// Runs an ask over the tables that the reader filled.
 pub fn run_ask(
     file: &[u8],
     names: &[u32],
