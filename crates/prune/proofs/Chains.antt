@@ -14,7 +14,8 @@ use Rattle.words.proofs.Slices.{same-then, same-wider, same-set}
 use Rattle.terms.proofs.Laws.{equal}
 use Rattle.records.specs.Filing.{newest}
 use Rattle.records.proofs.Chaining.{newest-cong, newest-here, newest-other}
-use Rattle.prune.specs.Loops.{below-column, highest-column, stamp-column, most-stamps, stamp-in, Index, Linked, Links}
+use Rattle.prune.specs.Listing.{most-stamps}
+use Rattle.prune.specs.Loops.{below-column, highest-column, stamp-column, stamp-in, Index, Linked, Links}
 
 -- ---- chains stay
 

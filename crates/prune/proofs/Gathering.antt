@@ -19,14 +19,15 @@ use Rattle.words.specs.Slices.{Same-but, Zeroed}
 use Rattle.words.proofs.Slices.{same-then, same-wider}
 use Rattle.options.specs.OptionsOf.{ask-of}
 use Rattle.records.specs.States.{uses-at}
-use Rattle.prune.specs.Listing.{from, is-goal, reached-records, fact-records, goal-records, kept-items, decl-records, groups-records, item-stamp, kept-records}
+use Rattle.prune.specs.Listing.{most-stamps, from, is-goal, reached-records, fact-records, goal-records, kept-items, decl-records, added-records, groups-records, item-stamp, kept-records}
 use Rattle.prune.specs.Follow.{Stamped}
-use Rattle.prune.specs.Loops.{kept-column, stamp-column, prune-room, most-stamps, stamp-of, stamp-in, stamp-words, Index, Kept-behind, noted, Notes, Linked, Links, Bodies, Stamps-followed, Listable, Records-listed}
-use Rattle.prune.proofs.Writing.{sets-below, lists-length, lists-same}
+use Rattle.prune.specs.Loops.{kept-column, queue-column, stamp-column, prune-room, stamp-of, stamp-in, stamp-words, Index, Behind, Kept-behind, noted, Notes, Linked, Links, queued, Bodies, Stamps-followed, queue-part, Queue-records, Listable, Records-listed}
+use Rattle.prune.proofs.Writing.{sets-below, lists-length, column-same, lists-same}
 use Rattle.prune.proofs.Noting.{notes-then, words-in, noted-length, noted-append, noted-out, noted-stamped, stamps-words, stamped-low}
 use Rattle.prune.proofs.Chains.{linked-same}
-use Rattle.prune.proofs.Members.{reached-small, ambients-small, goals-small}
-use Rattle.prune.proofs.Raised.{grown-raised, linked-raised, groups-none, follows-same}
+use Rattle.prune.proofs.Groups.{few-added, groups-same}
+use Rattle.prune.proofs.Members.{reached-small, added-small, ambients-small, goals-small}
+use Rattle.prune.proofs.Raised.{Raised, grown-raised, linked-raised, groups-by, groups-none, follows-same}
 
 -- ---- a list just written
 
@@ -68,7 +69,7 @@ kept-off names recs w k a stamp e = rw e (append-nil (fact-records names recs w 
 kept-on : (names recs w : List ℕ) (k : Counts) (a : Asked) (stamp : ℕ → ℕ) → prune-decls (ask-of a) ≡ true
     → kept-records names recs w k a stamp
     ≡ fact-records names recs w k a
-    ++ groups-records names recs (k .names) (λ r. stamp (ranked names r)) (length (kept-items names recs w k a))
+    ++ groups-by names recs (k .names) (λ r. stamp (ranked names r)) (length (kept-items names recs w k a))
 unfolding kept-records
 kept-on names recs w k a stamp e = rw e
 
@@ -300,18 +301,21 @@ module _ {names recs lists w : List ℕ} {k : Counts} {a : Asked} (t : Listable 
             module _ {x : Bool} (e : x ≡ prune-decls (ask-of a)) (on : x ≡ true) where
               -- all kept records, by stamps in a slice
               kept-by : (u : List ℕ)
-                  → kept-records names recs w k a (stamp-of u) ≡ fact-records names recs w k a ++ groups-records names recs (k .names) (stamp-in names u) s
+                  → kept-records names recs w k a (stamp-of u)
+                  ≡ fact-records names recs w k a ++ groups-by names recs (k .names) (stamp-in names u) s
               kept-by u =
                   kept-on names recs w k a (stamp-of u) (sym e ∙ on)
-                  ∙ ap (λ (m : ℕ). fact-records names recs w k a ++ groups-records names recs (k .names) (stamp-in names u) m) (sym stamps-count)
+                  ∙ ap (λ (m : ℕ). fact-records names recs w k a ++ groups-by names recs (k .names) (stamp-in names u) m)
+                  (sym stamps-count)
 
               groups-fit : (u : List ℕ) → Stamped names recs lists w k a (stamp-of u)
-                  → f + length (groups-records names recs (k .names) (stamp-in names u) s) ≤ most-records
+                  → f + length (groups-by names recs (k .names) (stamp-in names u) s) ≤ most-records
               groups-fit u stamped =
                   let y = facts-count in
                   let b = t .fits (stamp-of u) stamped in
                   let g = ap length (kept-by u) in
-                  let h = length-append (fact-records names recs w k a) (groups-records names recs (k .names) (stamp-in names u) s) in
+                  let ds = groups-by names recs (k .names) (stamp-in names u) s in
+                  let h = length-append (fact-records names recs w k a) ds in
                   omega arith
 
               -- ---- without option 8
@@ -320,7 +324,8 @@ module _ {names recs lists w : List ℕ} {k : Counts} {a : Asked} (t : Listable 
                 noted-only : Stamped names recs lists w k a (stamp-of w₅)
                 noted-only q = record { noted = λ b. item-stamps; followed = λ b. absurd (rw (sym i ∙ off) at b) }
 
-                decls-are : groups-records names recs (k .names) (stamp-in names w₅) s ≡ decl-records names recs (k .names) (stamp-in names w₅) s
+                decls-are : groups-by names recs (k .names) (stamp-in names w₅) s
+                    ≡ decl-records names recs (k .names) (stamp-in names w₅) s
                 decls-are = groups-none names recs (k .names) (stamp-in names w₅) (λ r h. linked-low (ranked names r) (t .index .numbers r h)) s
 
                 -- what listing them asks
@@ -341,11 +346,9 @@ module _ {names recs lists w : List ℕ} {k : Counts} {a : Asked} (t : Listable 
               module _ {y : Bool} (i : y ≡ follow-bodies (ask-of a)) (with-8 : y ≡ true) where
                 -- what following asks
                 pub follow-asks : Bodies names recs lists k × (working-words ≤ length w₅)
-                    × ((n : ℕ) → n < k .names → stamp-of w₅ n ≤ most-stamps)
                 follow-asks = (
                   record { room = t .index .room; few = t .index .few; took = t .took; recorded = t .notes .recorded },
                   linked-room,
-                  linked-low,
                 )
 
                 module _ {w₆ : List ℕ} (o : Stamps-followed names recs lists k w₅ w₆) where
@@ -355,28 +358,101 @@ module _ {names recs lists w : List ℕ} {k : Counts} {a : Asked} (t : Listable 
                     followed = λ b. follows-same (λ n h. sym (item-stamps n h)) (o .follows);
                   }
 
-                  followed-linked : Linked (stamp-in names w₆) (k .names) w₆
-                  followed-linked =
-                      linked-raised (k .names) (λ r h. grown-raised (o .follows .grown) (ranked names r) (t .index .numbers r h)) all-linked (t .index .few)
-                      (λ j g h. o .same .same-words j (λ y b. omega arith))
-
                   followed-room : working-words ≤ length w₆
                   followed-room = let y = o .same .same-length in let b = linked-room in omega arith
 
-                  -- what listing them asks
-                  pub groups-ask : Index names (k .names) × (working-words ≤ length recs) × (working-words ≤ length w₆)
-                      × Linked (stamp-in names w₆) (k .names) w₆ × (s ≤ most-stamps)
-                      × (f + length (groups-records names recs (k .names) (stamp-in names w₆) s) ≤ most-records)
-                  groups-ask = (t .index, t .notes .recorded .room, followed-room, followed-linked, few-stamps, groups-fit w₆ followed-stamps)
+                  -- what the sweep asks
+                  pub sweep-asks : Index names (k .names) × (working-words ≤ length w₆)
+                  sweep-asks = (t .index, followed-room)
 
-                  pub listed-followed : {w₇ : List ℕ} {to : ℕ} → Kept-behind w₆ f (groups-records names recs (k .names) (stamp-in names w₆) s) w₇ to
-                      → Records-listed names recs lists w w₇ k a to
-                  listed-followed d =
-                      let few = few-facts in
-                      let room = followed-room in
-                      let r = linked-room in
-                      listed-with (stamp-of w₆) (groups-records names recs (k .names) (stamp-in names w₆) s) followed-stamps (kept-by w₆)
-                      (same-then linked-since (same-wider kept-column prune-room (omega arith) (omega arith) (o .same)))
-                      (part-agree w₅ w₆ f kept-column (kept-column + f) (omega arith) (omega arith) (omega arith)
-                      (λ j g h. o .same .same-words j (λ y b. omega arith)) ∙ linked-there)
-                      d
+                  -- ---- the added records swept
+
+                  module _ {w₇ : List ℕ} {added : ℕ}
+                      (put : Behind queue-column w₆ 0 (added-records names (k .names) (stamp-in names w₆)) w₇ added) where
+                    swept-count : added ≡ length (added-records names (k .names) (stamp-in names w₆))
+                    swept-count = let c = put .count in omega arith
+
+                    swept-few : 0 + length (added-records names (k .names) (stamp-in names w₆)) ≤ most-names
+                    swept-few = few-added (t .index) (stamp-in names w₆)
+
+                    -- only the column of the queue changes
+                    swept-same : Same-but queue-column most-names w₆ w₇
+                    swept-same = column-same put swept-few
+
+                    swept-room : working-words ≤ length w₇
+                    swept-room = let y = swept-same .same-length in let b = followed-room in omega arith
+
+                    swept-stamps : (r : ℕ) → r < k .names → stamp-in names w₇ r ≡ stamp-in names w₆ r
+                    swept-stamps r h =
+                        let b = t .index .numbers r h in
+                        let f = t .index .few in
+                        swept-same .same-words (stamp-column + ranked names r) (λ y d. omega arith)
+
+                    -- they stand in it
+                    swept-there : queue-part w₇ added ≡ added-records names (k .names) (stamp-in names w₆)
+                    swept-there =
+                        let f = swept-few in
+                        let r = followed-room in
+                        ap₂ (λ (v : List ℕ) (n : ℕ). part v queue-column (queue-column + n)) (put .written) swept-count
+                        ∙ part-sets w₆ queue-column (added-records names (k .names) (stamp-in names w₆)) (omega arith)
+
+                    swept-records : Queue-records w₇ added
+                    swept-records =
+                        let c = swept-count in
+                        let f = swept-few in
+                        let r = swept-room in
+                        let many = t .notes .recorded .few in
+                        record {
+                          few = omega arith;
+                          low = λ j h.
+                              let b = added-small names (stamp-in names w₆) (k .names) (k .records)
+                              (λ r h. t .took (ranked names r) (t .index .numbers r h))
+                              (subst (λ (l : List ℕ). List·Memᴰ (queued w₇ j) l) swept-there
+                              (part-intro w₇ queue-column (queue-column + added) (queue-column + j) (omega arith) (omega arith)
+                              (omega arith))) in
+                              omega arith;
+                        }
+
+                    swept-linked : Linked (stamp-in names w₇) (k .names) w₇
+                    swept-linked =
+                        linked-raised (k .names)
+                        (λ r h. subst (λ (x : ℕ). Raised (stamp-in names w₅ r) x) (sym (swept-stamps r h))
+                        (grown-raised (o .follows .grown) (ranked names r) (t .index .numbers r h)))
+                        all-linked (t .index .few)
+                        (λ j g h. swept-same .same-words j (λ y b. omega arith) ∙ o .same .same-words j (λ y b. omega arith))
+
+                    abbrev groups : List ℕ
+                    groups = groups-records names recs (k .names) (stamp-in names w₇) (queue-part w₇ added) s
+
+                    groups-are : groups ≡ groups-by names recs (k .names) (stamp-in names w₆) s
+                    groups-are = groups-same names recs (k .names) swept-stamps swept-there s
+
+                    -- what listing them asks
+                    pub groups-ask : Index names (k .names) × (working-words ≤ length recs) × (working-words ≤ length w₇)
+                        × Linked (stamp-in names w₇) (k .names) w₇ × (s ≤ most-stamps) × Queue-records w₇ added
+                        × (f + length groups ≤ most-records)
+                    groups-ask = (
+                      t .index,
+                      t .notes .recorded .room,
+                      swept-room,
+                      swept-linked,
+                      few-stamps,
+                      swept-records,
+                      rw groups-are (groups-fit w₆ followed-stamps),
+                    )
+
+                    pub listed-followed : {w₈ : List ℕ} {to : ℕ} → Kept-behind w₇ f groups w₈ to
+                        → Records-listed names recs lists w w₈ k a to
+                    listed-followed d =
+                        let few = few-facts in
+                        let room = swept-room in
+                        let r = linked-room in
+                        listed-with (stamp-of w₆) groups followed-stamps
+                        (kept-by w₆ ∙ ap (fact-records names recs w k a ++_) (sym groups-are))
+                        (same-then linked-since
+                        (same-then (same-wider kept-column prune-room (omega arith) (omega arith) (o .same))
+                        (same-wider kept-column prune-room (omega arith) (omega arith) swept-same)))
+                        (part-agree w₅ w₇ f kept-column (kept-column + f) (omega arith) (omega arith) (omega arith)
+                        (λ j g h. swept-same .same-words j (λ y b. omega arith) ∙ o .same .same-words j (λ y b. omega arith))
+                        ∙ linked-there)
+                        d

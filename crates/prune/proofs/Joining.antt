@@ -17,7 +17,7 @@ use Rattle.model.specs.Kept.{kept-facts, kept-names, kept-decls}
 use Rattle.model.specs.Bodies.{all-followed, added-names, of-names, added-for, kept-followed}
 use Rattle.model.specs.declared.Asked.{Asked}
 use Rattle.model.specs.declared.Counts.{Counts}
-use Rattle.model.proofs.ListLaws.{T-ext, T-dec, true-T, T-true, T-false, cond-ap, cond-true, cond-false, any-append, keep-cong, map-elim, map-intro, concat-elim, collect-cong, collect-map, map-collect}
+use Rattle.model.proofs.ListLaws.{T-ext, T-dec, true-T, T-true, T-false, cond-ap, cond-true, cond-false, any-append, keep-cong, map-elim, map-intro, concat-elim, keep-collect, collect-cong, collect-map, map-collect}
 use Rattle.model.proofs.SetLaws.{Within, ascending-ext, mem-intro, mem-elim, mem-diff, mem-from-list}
 use Rattle.laws.proofs.BodyLaws.{all-closed, all-has, all-least, all-set, added-elim, added-set}
 use Rattle.names.specs.Table.{name-of, ranked}
@@ -31,17 +31,16 @@ use Rattle.scan.specs.Steps.{is-reached}
 use Rattle.scan.proofs.Numbers.{set-intro, set-elim, set-ascending}
 use Rattle.scan.proofs.Background.{def-at, defs-elim, defs-intro}
 use Rattle.scan.proofs.Joining.{uses-low}
-use Rattle.prune.specs.Listing.{from, record-behind, picked, kind-at, fact-records, kept-items, stamped, kind-records, item-stamp, followed-stamp, added-at, added-records, group-records, groups-records, kept-records}
+use Rattle.prune.specs.Listing.{most-stamps, from, record-behind, picked, taker, kind-at, fact-records, kept-items, stamped, kind-records, item-stamp, followed-stamp, added-at, added-records, of-kind, group-records, groups-records, kept-records}
 use Rattle.prune.specs.Follow.{body-at, Stamps-closed, Stamps, Stamped}
-use Rattle.prune.specs.Loops.{most-stamps}
 use Rattle.prune.specs.Kept.{reached-of, kept-of}
 use Rattle.prune.proofs.Ranges.{collect-keep, from-below}
 use Rattle.prune.proofs.Order.{name-stamp}
 use Rattle.prune.proofs.Noting.{stamped-low}
-use Rattle.prune.proofs.Bodies.{def-is}
+use Rattle.prune.proofs.Queueing.{def-is}
 use Rattle.prune.proofs.Filed.{fun-at}
-use Rattle.prune.proofs.Takers.{one-zero, items-small}
-use Rattle.prune.proofs.Raised.{Raised, grown-raised, kinds-raised, none-added}
+use Rattle.prune.proofs.Takers.{one-zero, kind-one, items-small}
+use Rattle.prune.proofs.Raised.{Raised, grown-raised, kinds-raised, groups-by, none-added}
 use Rattle.prune.proofs.Linking.{in-all, by-rank, stamps-same, decls-are, def-found, fun-found, kept-facts-are, names-are}
 
 -- the kept facts stand first
@@ -247,15 +246,19 @@ module _ {file names recs lists : List ℕ} {k : Counts} (x : Filled file names 
       -- the definitions, or the declarations, of these names
       pub additions-are : (ds : List Decl) (decl : ℕ → Decl) (kind : ℕ)
           → ((r : ℕ) → r < k .names → keep (λ d. same (d .name) (rank-name r)) ds ≡ map decl (record-behind (kind-at names recs kind r)))
-          → of-names (added-names D walked) ds ≡ map decl (added-records names recs (k .names) (λ r. after (ranked names r)) kind)
-      unfolding of-names picked added-at
+          → of-names (added-names D walked) ds
+          ≡ map decl (of-kind recs kind (added-records names (k .names) (λ r. after (ranked names r))))
+      unfolding of-names picked added-at of-kind keep
       additions-are ds decl kind h =
           ap (collect found) added-are
           ∙ collect-map found rank-name (keep test (from 0 (k .names)))
           ∙ collect-keep (λ r. found (rank-name r)) test (from 0 (k .names))
-          ∙ collect-cong (λ r. cond (test r) (found (rank-name r)) []) (λ r. map decl (record-behind (cond (test r) (kind-at names recs kind r) 0)))
-          (from 0 (k .names)) (λ r m. each r (from-below (k .names) m))
-          ∙ sym (map-collect decl (λ r. record-behind (cond (test r) (kind-at names recs kind r) 0)) (from 0 (k .names)))
+          ∙ collect-cong (λ r. cond (test r) (found (rank-name r)) []) (λ r. map decl (row r)) (from 0 (k .names))
+          (λ r m. ap (λ z. cond (test r) z []) (h r (from-below (k .names) m)) ∙ each r)
+          ∙ sym (map-collect decl row (from 0 (k .names)))
+          ∙ ap (map decl)
+          (sym (keep-collect (λ i. eqb (record-kind recs i) kind) (λ r. record-behind (cond (test r) (taker names r) 0))
+          (from 0 (k .names))))
         where
           found : Name → List Decl
           found n = keep (λ d. same (d .name) n) ds
@@ -263,13 +266,16 @@ module _ {file names recs lists : List ℕ} {k : Counts} (x : Filled file names 
           test : ℕ → Bool
           test r = eqb (after (ranked names r)) followed-stamp
 
-          each : (r : ℕ) → r < k .names → cond (test r) (found (rank-name r)) [] ≡ map decl (record-behind (cond (test r) (kind-at names recs kind r) 0))
-          each r l =
-              ap (λ z. cond (test r) z []) (h r l) ∙ go (test r)
+          row : ℕ → List ℕ
+          row r = keep (λ i. eqb (record-kind recs i) kind) (record-behind (cond (test r) (taker names r) 0))
+
+          each : (r : ℕ) → cond (test r) (map decl (record-behind (kind-at names recs kind r))) [] ≡ map decl (row r)
+          each r = go (test r)
             where
-              go : (b : Bool) → cond b (map decl (record-behind (kind-at names recs kind r))) [] ≡ map decl (record-behind (cond b (kind-at names recs kind r) 0))
-              go true = refl
-              go false = sym (ap (map decl) (one-zero 0 refl))
+              go : (b : Bool) → cond b (map decl (record-behind (kind-at names recs kind r))) []
+                  ≡ map decl (keep (λ i. eqb (record-kind recs i) kind) (record-behind (cond b (taker names r) 0)))
+              go true = ap (map decl) (kind-one names recs kind r)
+              go false = ap (map decl) (sym (ap (keep (λ i. eqb (record-kind recs i) kind)) (one-zero 0 refl)))
 
   -- ---- the kept list
 
@@ -300,25 +306,26 @@ module _ {file names recs lists : List ℕ} {k : Counts} (x : Filled file names 
       module _ (ds : List Decl) (decl : ℕ → Decl) (kind : ℕ)
           (found : (r : ℕ) → r < k .names → keep (λ d. same (d .name) (rank-name r)) ds ≡ map decl (record-behind (kind-at names recs kind r))) where
         -- those of the names that bodies add
-        added-decls : of-names added ds ≡ map decl (added-records names recs (k .names) (λ r. stamp (ranked names r)) kind)
-        unfolding item-stamp added-for of-names collect
+        added-decls : of-names added ds
+            ≡ map decl (of-kind recs kind (added-records names (k .names) (λ r. stamp (ranked names r))))
+        unfolding item-stamp added-for of-names collect of-kind keep
         added-decls = ⊎-elim
             (λ t.
             ap (λ l. of-names l ds) (cond-true (follow-bodies (ask-of a)) (added-names D met) [] t)
             ∙ additions-are (kept-items names recs run k a) small few (st .followed t) ds decl kind found)
             (λ t.
             ap (λ l. of-names l ds) (cond-false (follow-bodies (ask-of a)) (added-names D met) [] t)
-            ∙ sym (ap (map decl) (none-added names recs (k .names) (λ r. stamp (ranked names r))
+            ∙ sym (ap (λ l. map decl (of-kind recs kind l)) (none-added names recs (k .names) (λ r. stamp (ranked names r))
             (λ r h.
             let e = st .noted t (ranked names r) (x .table .numbers r h) in
             let b = item-low (kept-items names recs run k a) small few (ranked names r) in
-            omega arith)
-            kind)))
+            omega arith))))
             (T-dec (follow-bodies (ask-of a)))
 
         -- a group
         group-are : kept-decls met ds ++ of-names added ds
-            ≡ map decl (group-records names recs (k .names) (λ r. stamp (ranked names r)) kind (length (kept-items names recs run k a)))
+            ≡ map decl (group-records names recs (k .names) (λ r. stamp (ranked names r))
+            (added-records names (k .names) (λ r. stamp (ranked names r))) (length (kept-items names recs run k a)) kind)
         unfolding group-records
         group-are =
             let s = length (kept-items names recs run k a) in
@@ -326,19 +333,21 @@ module _ {file names recs lists : List ℕ} {k : Counts} (x : Filled file names 
             (decls-are x (kept-items names recs run k a) small ds decl kind found ∙ ap (map decl) (sym (kinds-raised (k .names) raised names recs kind s few)))
             added-decls
             ∙ sym (map-append decl (kind-records names recs (k .names) (λ r. stamp (ranked names r)) kind s)
-            (added-records names recs (k .names) (λ r. stamp (ranked names r)) kind))
+            (of-kind recs kind (added-records names (k .names) (λ r. stamp (ranked names r)))))
 
       -- the lines of both groups
       group-lines : map (λ d. d .line)
           ((kept-decls met D ++ of-names added D)
           ++ (kept-decls met (declarations (decls-of name recs lists (k .records))) ++ of-names added (declarations (decls-of name recs lists (k .records)))))
-          ≡ map (record-line recs) (groups-records names recs (k .names) (λ r. stamp (ranked names r)) (length (kept-items names recs run k a)))
+          ≡ map (record-line recs)
+          (groups-by names recs (k .names) (λ r. stamp (ranked names r)) (length (kept-items names recs run k a)))
       unfolding groups-records decl-at
       group-lines =
           let funs = declarations (decls-of name recs lists (k .records)) in
           let s = length (kept-items names recs run k a) in
-          let ds = group-records names recs (k .names) (λ r. stamp (ranked names r)) def-kind s in
-          let fs = group-records names recs (k .names) (λ r. stamp (ranked names r)) fun-kind s in
+          let ms = added-records names (k .names) (λ r. stamp (ranked names r)) in
+          let ds = group-records names recs (k .names) (λ r. stamp (ranked names r)) ms s def-kind in
+          let fs = group-records names recs (k .names) (λ r. stamp (ranked names r)) ms s fun-kind in
           map-append (λ d. d .line) (kept-decls met D ++ of-names added D) (kept-decls met funs ++ of-names added funs)
           ∙ ap₂ _++_
           (ap (map (λ d. d .line)) (group-are D (def-at name recs lists) def-kind (def-found x)) ∙ map-map (λ d. d .line) (def-at name recs lists) ds)
@@ -353,7 +362,7 @@ module _ {file names recs lists : List ℕ} {k : Counts} (x : Filled file names 
       kept-lines stamp stamped =
           let funs = declarations (decls-of name recs lists (k .records)) in
           let fs = fact-records names recs run k a in
-          let gs = groups-records names recs (k .names) (λ r. stamp (ranked names r)) (length (kept-items names recs run k a)) in
+          let gs = groups-by names recs (k .names) (λ r. stamp (ranked names r)) (length (kept-items names recs run k a)) in
           let b = prune-decls (ask-of a) in
           map-append (record-line recs) fs (cond b gs [])
           ∙ ap₂ _++_

@@ -6,6 +6,7 @@ pub mod Facts
 pub mod Noting
 pub mod Chains
 pub mod Stamps
+pub mod Queueing
 pub mod Following
 pub mod Bodies
 pub mod Groups

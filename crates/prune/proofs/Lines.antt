@@ -16,14 +16,14 @@ use Rattle.prune.proofs.Writing.{Going, going-start, going-end, going-l
 -- the records from place j on are left
 pub record Lines-to (recs w : List ℕ) (count : ℕ) (v : List ℕ) (j : ℕ) : Type 0 where
   pub high : j ≤ count
-  pub going : Going w 0 (map (record-line recs) (part w kept-column (kept-column + count))) v j
+  pub going : Going kept-column w 0 (map (record-line recs) (part w kept-column (kept-column + count))) v j
       (map (record-line recs) (part w (kept-column + j) (kept-column + count)))
   pub left : (i : ℕ) → kept-column + j ≤ i → getD v i 0 ≡ getD w i 0
 
 pub lines-start : (recs w : List ℕ) (count : ℕ) → Lines-to recs w count w 0
 lines-start recs w count = record {
   high = omega arith;
-  going = going-start w 0 (map (record-line recs) (part w kept-column (kept-column + count)));
+  going = going-start kept-column w 0 (map (record-line recs) (part w kept-column (kept-column + count)));
   left = λ i h. refl;
 }
 

@@ -15,7 +15,7 @@ use Rattle.scan.specs.Held.{upto}
 use Rattle.scan.specs.Steps.{is-reached}
 use Rattle.scan.proofs.Numbers.{upto-elim}
 use Rattle.scan.proofs.Background.{only}
-use Rattle.prune.specs.Listing.{from, record-behind, picked, taker, reached-at, ambient-at, is-goal, reached-records, ambient-records, goal-records}
+use Rattle.prune.specs.Listing.{from, record-behind, picked, taker, reached-at, ambient-at, is-goal, reached-records, ambient-records, goal-records, followed-stamp, added-at, added-records}
 use Rattle.prune.proofs.Ranges.{from-below}
 use Rattle.prune.proofs.Picking.{ambient-small}
 
@@ -48,6 +48,16 @@ pub reached-small : (names w : List ℕ) (named n : ℕ) → ((r : ℕ) → r < 
 reached-small names w named n low m =
     picked-small (reached-at names w) (from 0 named) n
     (λ r i. let a = reached-low names w r in let c = low r (from-below named i) in omega arith) m
+
+added-low : (names : List ℕ) (stamp : ℕ → ℕ) (r : ℕ) → added-at names stamp r ≤ taker names r
+unfolding added-at
+added-low names stamp r = cond-case (λ x. x ≤ taker names r) (eqb (stamp r) followed-stamp) (omega arith) (omega arith)
+
+pub added-small : (names : List ℕ) (stamp : ℕ → ℕ) (named n : ℕ) → ((r : ℕ) → r < named → taker names r ≤ n) → {x : ℕ}
+    → List·Memᴰ x (added-records names named stamp) → x < n
+added-small names stamp named n low m =
+    picked-small (added-at names stamp) (from 0 named) n
+    (λ r i. let a = added-low names stamp r in let c = low r (from-below named i) in omega arith) m
 
 pub ambients-small : (recs : List ℕ) (k : Counts) (a : Asked) {x : ℕ} → List·Memᴰ x (ambient-records recs k a) → x < k .records
 unfolding ambient-records

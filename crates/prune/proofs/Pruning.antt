@@ -12,9 +12,9 @@ use Rattle.model.specs.declared.Counts.{Counts}
 use Rattle.model.proofs.PartLaws.{part-intro}
 use Rattle.words.proofs.Slices.{same-then}
 use Rattle.records.specs.Columns.{record-line}
-use Rattle.prune.specs.Listing.{is-goal, fact-records, goal-records, kept-items, kept-records}
+use Rattle.prune.specs.Listing.{most-stamps, is-goal, fact-records, goal-records, kept-items, kept-records}
 use Rattle.prune.specs.Follow.{Stamped}
-use Rattle.prune.specs.Loops.{kept-column, most-stamps, Kept-behind, Listable, Records-listed}
+use Rattle.prune.specs.Loops.{kept-column, Kept-behind, Listable, Records-listed}
 use Rattle.prune.specs.Kept.{kept-of, Run-over, Pruned}
 use Rattle.prune.proofs.Writing.{lists-same}
 use Rattle.prune.proofs.Gathering.{part-sets, kept-few}

@@ -15,9 +15,9 @@ use Rattle.records.specs.Columns.{def-kind, fun-kind}
 use Rattle.records.specs.Filing.{newest}
 use Rattle.scan.specs.Held.{upto}
 use Rattle.scan.proofs.Numbers.{upto-elim}
-use Rattle.prune.specs.Listing.{from, picked, kind-at, stamp-records, kind-records, decl-records, followed-stamp, added-at, added-records, group-records, groups-records}
+use Rattle.prune.specs.Listing.{most-stamps, from, picked, kind-at, stamp-records, kind-records, decl-records, followed-stamp, added-at, added-records, of-kind, group-records, groups-records}
 use Rattle.prune.specs.Follow.{Stamps-grown, Stamps-closed}
-use Rattle.prune.specs.Loops.{below-column, highest-column, most-stamps, Linked}
+use Rattle.prune.specs.Loops.{below-column, highest-column, Linked}
 use Rattle.prune.proofs.Ranges.{from-below}
 use Rattle.prune.proofs.Takers.{one-zero}
 
@@ -77,20 +77,28 @@ unfolding picked collect
 picked-none pick [] h = refl
 picked-none pick (r ∷ l) h = ap₂ _++_ (one-zero (pick r) (h r (List·Memᴰ·head refl))) (picked-none pick l (λ q m. h q (List·Memᴰ·tail m)))
 
+-- definitions and declarations with what bodies add, by the stamps of the ranks
+abbrev pub groups-by : List ℕ → List ℕ → ℕ → (ℕ → ℕ) → ℕ → List ℕ
+groups-by names recs named stamp s = groups-records names recs named stamp (added-records names named stamp) s
+
 module _ (names recs : List ℕ) (named : ℕ) (stamp : ℕ → ℕ) (low : (r : ℕ) → r < named → stamp r ≤ most-stamps) where
-  pub none-added : (kind : ℕ) → added-records names recs named stamp kind ≡ []
+  pub none-added : added-records names named stamp ≡ []
   unfolding added-at
-  none-added kind =
-      picked-none (added-at names recs stamp kind) (from 0 named)
+  none-added =
+      picked-none (added-at names stamp) (from 0 named)
       (λ r m. let b = low r (from-below named m) in rw (ne-eqb (stamp r) followed-stamp (λ e. omega arith)))
 
-  group-none : (kind s : ℕ) → group-records names recs named stamp kind s ≡ kind-records names recs named stamp kind s
-  unfolding group-records
-  group-none kind s = ap (kind-records names recs named stamp kind s ++_) (none-added kind) ∙ append-nil (kind-records names recs named stamp kind s)
+  group-none : (s kind : ℕ)
+      → group-records names recs named stamp (added-records names named stamp) s kind
+      ≡ kind-records names recs named stamp kind s
+  unfolding group-records of-kind keep
+  group-none s kind =
+      ap (λ (l : List ℕ). kind-records names recs named stamp kind s ++ of-kind recs kind l) none-added
+      ∙ append-nil (kind-records names recs named stamp kind s)
 
-  pub groups-none : (s : ℕ) → groups-records names recs named stamp s ≡ decl-records names recs named stamp s
+  pub groups-none : (s : ℕ) → groups-by names recs named stamp s ≡ decl-records names recs named stamp s
   unfolding groups-records decl-records
-  groups-none s = ap₂ _++_ (group-none def-kind s) (group-none fun-kind s)
+  groups-none s = ap₂ _++_ (group-none s def-kind) (group-none s fun-kind)
 
 -- bodies followed from stamps that are the same
 pub follows-same : {named : ℕ} {body : ℕ → List ℕ} {f g after : ℕ → ℕ} → ((n : ℕ) → n < named → g n ≡ f n) → Stamps-closed named body f after

@@ -17,8 +17,8 @@ use Rattle.records.proofs.Chaining.{newest-low}
 use Rattle.scan.specs.Held.{upto}
 use Rattle.scan.proofs.Numbers.{upto-elim}
 use Rattle.scan.proofs.Visited.{newest-at}
-use Rattle.prune.specs.Listing.{record-behind, picked, kind-at, stamp-records, kind-records, decl-records}
-use Rattle.prune.specs.Loops.{kept-column, below-column, highest-column, stamp-column, most-stamps, stamp-in, Index, Kept-behind, Linked}
+use Rattle.prune.specs.Listing.{most-stamps, record-behind, picked, kind-at, stamp-records, kind-records, decl-records}
+use Rattle.prune.specs.Loops.{kept-column, below-column, highest-column, stamp-column, stamp-in, Index, Kept-behind, Linked}
 use Rattle.prune.proofs.Chains.{linked-same}
 use Rattle.prune.proofs.Picking.{collect-next, collect-end}
 use Rattle.prune.proofs.Writing.{Going, going-start, going-length, going-below, going-above, going-end, going-list, lists-both, list-room, pick-none, pick-one, pick-room}
@@ -53,7 +53,7 @@ module _ (f : ℕ → ℕ) (n : ℕ) where
 pub record Listed-to (names recs : List ℕ) (f : ℕ → ℕ) (named kind s : ℕ) (w : List ℕ) (m : ℕ) (v : List ℕ) (to p : ℕ) : Type 0 where
   pub high : p ≤ named
   pub on : 0 < p → f (p - 1) ≡ s
-  pub going : Going w m (stamp-records names recs named f kind s) v to (stamp-records names recs p f kind s)
+  pub going : Going kept-column w m (stamp-records names recs named f kind s) v to (stamp-records names recs p f kind s)
 
 module _ (names recs : List ℕ) (kind : ℕ) (f : ℕ → ℕ) where
   -- the ranks of a stamp are those up to the newest
@@ -81,7 +81,8 @@ module _ {names recs : List ℕ} {f : ℕ → ℕ} {named kind : ℕ} {w : List 
       record {
         high = omega arith;
         on = λ g. subst (λ (x : ℕ). f (x - 1) ≡ s) (sym q) (newest-has f s named (omega arith));
-        going = subst (λ (l : List ℕ). Going w m whole w m l) (up-to-newest names recs kind f s named p q) (going-start w m whole);
+        going = subst (λ (l : List ℕ). Going kept-column w m whole w m l) (up-to-newest names recs kind f s named p q)
+            (going-start kept-column w m whole);
       }
 
   module _ {s m : ℕ} {v : List ℕ} {to p : ℕ} (fits : m + length (stamp-records names recs named f kind s) ≤ most-records)
@@ -138,10 +139,6 @@ module _ (names recs : List ℕ) (named : ℕ) {f g : ℕ → ℕ} (same : (r : 
       collect-cong (λ j. stamp-records names recs named g kind (j + 1)) (λ j. stamp-records names recs named f kind (j + 1)) (upto s)
       (λ j m. stamp-same kind (j + 1))
 
-  pub decls-same : (s : ℕ) → decl-records names recs named g s ≡ decl-records names recs named f s
-  unfolding decl-records
-  decls-same s = rw (kinds-same def-kind s, kinds-same fun-kind s)
-
 -- ---- stamp after stamp
 
 -- words of the slice outside the kept list are those of the start
@@ -150,7 +147,7 @@ pub record Apart (w v : List ℕ) : Type 0 where
   pub low : (j : ℕ) → j < kept-column → getD v j 0 ≡ getD w j 0
   pub high : (j : ℕ) → below-column ≤ j → getD v j 0 ≡ getD w j 0
 
-going-apart : {w : List ℕ} {m : ℕ} {whole v : List ℕ} {to : ℕ} {rest : List ℕ} → Going w m whole v to rest
+going-apart : {w : List ℕ} {m : ℕ} {whole v : List ℕ} {to : ℕ} {rest : List ℕ} → Going kept-column w m whole v to rest
     → m + length whole ≤ most-records → Apart w v
 going-apart g f = record { size = going-length g; low = going-below g; high = going-above g f }
 
@@ -166,12 +163,13 @@ module _ {names w v : List ℕ} {named : ℕ} (index : Index names named) (apart
 -- the stamps from s downward are left
 pub record Kinds-to (names recs : List ℕ) (named kind stamps : ℕ) (w : List ℕ) (m : ℕ) (v : List ℕ) (to s : ℕ) : Type 0 where
   pub high : s ≤ stamps
-  pub going : Going w m (kind-records names recs named (stamp-in names w) kind stamps) v to
+  pub going : Going kept-column w m (kind-records names recs named (stamp-in names w) kind stamps) v to
       (kind-records names recs named (stamp-in names w) kind s)
 
 pub kinds-start : (names recs : List ℕ) (named kind stamps : ℕ) (w : List ℕ) (m : ℕ) → Kinds-to names recs named kind stamps w m w m stamps
 kinds-start names recs named kind stamps w m =
-    record { high = omega arith; going = going-start w m (kind-records names recs named (stamp-in names w) kind stamps) }
+    let whole : List ℕ = kind-records names recs named (stamp-in names w) kind stamps in
+    record { high = omega arith; going = going-start kept-column w m whole }
 
 module _ {names recs : List ℕ} {named kind stamps : ℕ} {w : List ℕ} {m : ℕ} {v : List ℕ} {to s : ℕ} (index : Index names named)
     (fits : m + length (kind-records names recs named (stamp-in names w) kind stamps) ≤ most-records)
@@ -205,7 +203,8 @@ module _ {names recs : List ℕ} {named kind stamps : ℕ} {w : List ℕ} {m : �
 -- ---- definitions, then declarations
 
 pub lists-apart : {w : List ℕ} {m : ℕ} {l v : List ℕ} {to : ℕ} → Kept-behind w m l v to → m + length l ≤ most-records → Apart w v
-lists-apart {w} {m} {l} {v} {to} p f = going-apart {rest = []} (going-list {rest = []} (going-start w m l) (sym (append-nil l)) p) f
+lists-apart {w} {m} {l} p f =
+    going-apart {rest = []} (going-list {rest = []} (going-start kept-column w m l) (sym (append-nil l)) p) f
 
 module _ (names recs : List ℕ) {named : ℕ} (s : ℕ) (w : List ℕ) (m : ℕ) (index : Index names named)
     (fits : m + length (decl-records names recs named (stamp-in names w) s) ≤ most-records) where

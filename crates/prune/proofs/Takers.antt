@@ -25,9 +25,9 @@ use Rattle.macros.specs.Macros.{Filled}
 use Rattle.scan.specs.Held.{upto}
 use Rattle.scan.specs.Steps.{is-reached}
 use Rattle.scan.proofs.Numbers.{set-intro, set-elim, upto-elim}
-use Rattle.prune.specs.Listing.{from, record-behind, taker, reached-at, kind-at, reached-records, fact-records, kept-items, stamp-records, kind-records, followed-stamp, added-at, added-records, group-records, groups-records, kept-records}
+use Rattle.prune.specs.Listing.{from, record-behind, taker, reached-at, kind-at, reached-records, fact-records, kept-items, stamp-records, kind-records, added-records, of-kind, group-records, groups-records, kept-records}
 use Rattle.prune.specs.Kept.{reached-of}
-use Rattle.prune.proofs.Members.{picked-elim, reached-small, ambients-small, goals-small}
+use Rattle.prune.proofs.Members.{picked-elim, reached-small, added-small, ambients-small, goals-small}
 use Rattle.prune.proofs.Ranges.{keep-keep, keep-only, from-below}
 
 -- ---- a record listed by its number and one
@@ -62,6 +62,21 @@ kind-taker : (names recs : List ℕ) (kind r : ℕ) {i : ℕ} → kind-at names 
 unfolding kind-at
 kind-taker names recs kind r e =
     cond-suc (eqb (record-kind recs (taker names r - 1)) kind) (taker names r) (cond-zero (eqb (taker names r) 0) _ e)
+
+-- a taker listed if it is of a kind is a record of the kind of a rank
+pub kind-one : (names recs : List ℕ) (kind r : ℕ)
+    → record-behind (kind-at names recs kind r) ≡ keep (λ i. eqb (record-kind recs i) kind) (record-behind (taker names r))
+unfolding kind-at record-behind keep
+kind-one names recs kind r = go (taker names r)
+  where
+    go : (t : ℕ) → record-behind (cond (eqb t 0) 0 (cond (eqb (record-kind recs (t - 1)) kind) t 0))
+        ≡ keep (λ i. eqb (record-kind recs i) kind) (record-behind t)
+    go zero = refl
+    go (suc i) = rw (nonzero i) (go-kind (eqb (record-kind recs (suc i - 1)) kind))
+      where
+        go-kind : (b : Bool) → record-behind (cond b (suc i) 0) ≡ cond b ((suc i - 1) ∷ []) []
+        go-kind true = rw (nonzero i)
+        go-kind false = refl
 
 module _ {file names recs lists : List ℕ} {k : Counts} (x : Filled file names recs lists k) where
   -- what took a name is a record
@@ -196,18 +211,14 @@ module _ {file names recs lists : List ℕ} {k : Counts} (x : Filled file names 
       let (r, c, d) = picked-elim (kind-at names recs kind) (keep (λ r. eqb (stamp r) (j + 1)) (upto (k .names))) b in
       taker-low r i (upto-elim (k .names) (keep-elim (λ r. eqb (stamp r) (j + 1)) (upto (k .names)) c .0)) (kind-taker names recs kind r d)
 
-  -- those that bodies add
-  additions-small : (stamp : ℕ → ℕ) (kind i : ℕ) → List·Memᴰ i (added-records names recs (k .names) stamp kind) → i < k .records
-  unfolding added-at
-  additions-small stamp kind i m =
-      let (r, a, b) = picked-elim (added-at names recs stamp kind) (from 0 (k .names)) m in
-      taker-low r i (from-below (k .names) a) (kind-taker names recs kind r (cond-suc (eqb (stamp r) followed-stamp) (kind-at names recs kind r) b))
-
   -- a group
-  group-small : (stamp : ℕ → ℕ) (kind s i : ℕ) → List·Memᴰ i (group-records names recs (k .names) stamp kind s) → i < k .records
-  unfolding group-records
+  group-small : (stamp : ℕ → ℕ) (kind s i : ℕ)
+      → List·Memᴰ i (group-records names recs (k .names) stamp (added-records names (k .names) stamp) s kind) → i < k .records
+  unfolding group-records of-kind
   group-small stamp kind s i m =
-      ⊎-elim (kinds-small stamp kind s i) (additions-small stamp kind i)
+      let added = added-records names (k .names) stamp in
+      ⊎-elim (kinds-small stamp kind s i)
+      (λ n. added-small names stamp (k .names) (k .records) low (keep-elim (λ i. eqb (record-kind recs i) kind) added n .0))
       (List·Memᴰ·append-cases (kind-records names recs (k .names) stamp kind s) m)
 
   -- the kept records
@@ -219,5 +230,6 @@ module _ {file names recs lists : List ℕ} {k : Counts} (x : Filled file names 
       ⊎-elim (facts-small a run i)
       (λ n.
       ⊎-elim (group-small by-rank def-kind s i) (group-small by-rank fun-kind s i)
-      (List·Memᴰ·append-cases (group-records names recs (k .names) by-rank def-kind s) (option-elim (prune-decls (ask-of a)) n)))
+      (List·Memᴰ·append-cases (group-records names recs (k .names) by-rank (added-records names (k .names) by-rank) s def-kind)
+      (option-elim (prune-decls (ask-of a)) n)))
       (List·Memᴰ·append-cases (fact-records names recs run k a) m)

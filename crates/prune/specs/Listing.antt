@@ -96,31 +96,41 @@ decl-records names recs named stamp s = kind-records names recs named stamp def-
 unfoldable pub item-stamp : List ℕ → List ℕ → List ℕ → List ℕ → Counts → Asked → ℕ → ℕ
 item-stamp names recs lists run k a n = stamped 1 (map (uses-at recs lists) (kept-items names recs run k a)) n
 
+-- the room for stamps: the kept facts and the roots
+abbrev pub most-stamps : ℕ
+most-stamps = 2048
+
 -- the stamp of a name that a body adds, above those of the items
 abbrev pub followed-stamp : ℕ
-followed-stamp = 2049
+followed-stamp = most-stamps + 1
 
--- the definition, or the declaration, of the name of a rank, and one, where a body adds the name; or 0
-unfoldable pub added-at : List ℕ → List ℕ → (ℕ → ℕ) → ℕ → ℕ → ℕ
-added-at names recs stamp kind r = cond (eqb (stamp r) followed-stamp) (kind-at names recs kind r) 0
+-- the record that took the name of a rank, and one, where a body adds the name; or 0
+unfoldable pub added-at : List ℕ → (ℕ → ℕ) → ℕ → ℕ
+added-at names stamp r = cond (eqb (stamp r) followed-stamp) (taker names r) 0
 
-module _ (names recs : List ℕ) (named : ℕ) (stamp : ℕ → ℕ) (kind : ℕ) where
-  -- the definitions, or the declarations, of the names that bodies add, in byte order
-  abbrev pub added-records : List ℕ
-  added-records = picked (added-at names recs stamp kind) (from 0 named)
+-- the records of the names that bodies add, in byte order of name
+abbrev pub added-records : List ℕ → ℕ → (ℕ → ℕ) → List ℕ
+added-records names named stamp = picked (added-at names stamp) (from 0 named)
 
-  -- those of the stamps up to s, then those
+-- the records of a kind
+unfoldable pub of-kind : List ℕ → ℕ → List ℕ → List ℕ
+of-kind recs kind l = keep (λ i. eqb (record-kind recs i) kind) l
+
+module _ (names recs : List ℕ) (named : ℕ) (stamp : ℕ → ℕ) (added : List ℕ) (s : ℕ) where
+  -- the definitions, or the declarations: those of the stamps up to s, then those of the added records
   unfoldable pub group-records : ℕ → List ℕ
-  group-records s = kind-records names recs named stamp kind s ++ added-records
+  group-records kind = kind-records names recs named stamp kind s ++ of-kind recs kind added
 
--- definitions, then declarations, with those that bodies add
-unfoldable pub groups-records : List ℕ → List ℕ → ℕ → (ℕ → ℕ) → ℕ → List ℕ
-groups-records names recs named stamp s = group-records names recs named stamp def-kind s ++ group-records names recs named stamp fun-kind s
+  -- definitions, then declarations
+  unfoldable pub groups-records : List ℕ
+  groups-records = group-records def-kind ++ group-records fun-kind
 
 -- the kept records by the stamps of the names: the facts, and with option 4 definitions and then declarations
 unfoldable pub kept-records : List ℕ → List ℕ → List ℕ → Counts → Asked → (ℕ → ℕ) → List ℕ
 kept-records names recs run k a stamp =
+    let by-rank : ℕ → ℕ = λ r. stamp (ranked names r) in
     fact-records names recs run k a
     ++ cond (prune-decls (ask-of a))
-    (groups-records names recs (k .names) (λ r. stamp (ranked names r)) (length (kept-items names recs run k a)))
+    (groups-records names recs (k .names) by-rank (added-records names (k .names) by-rank)
+    (length (kept-items names recs run k a)))
     []

@@ -1,9 +1,9 @@
 -- What the loops of `prune` leave in the run's slice.
-use Prim.Native.Nat.{ℕ, _+_, _≤_, _<_}
+use Prim.Native.Nat.{ℕ, _+_, _-_, _≤_, _<_}
 use mathlib.Core.Path.{_≡_}
 use mathlib.Core.Bool.{cond}
 use mathlib.Core.List.{List, [], _∷_, map}
-use lib.Dec.{eqb}
+use lib.Dec.{T, eqb}
 use lib.ListN.{length, getD, set}
 use lib.Seq.{sets}
 use Rattle.model.specs.Lists.{count, fold-left, part}
@@ -16,13 +16,15 @@ use Rattle.words.specs.Slices.{Same-but}
 use Rattle.records.specs.Columns.{taken-at}
 use Rattle.records.specs.States.{uses-at}
 use Rattle.records.specs.Filing.{Records, newest}
+use Rattle.macros.specs.Macros.{is-def}
 use Rattle.scan.specs.Held.{upto}
 use Rattle.scan.specs.Steps.{marks}
-use Rattle.prune.specs.Listing.{fact-records, followed-stamp, kept-records}
+use Rattle.prune.specs.Listing.{most-stamps, fact-records, followed-stamp, kept-records}
 use Rattle.prune.specs.Follow.{body-at, Stamps-closed, Stamped}
 
--- the columns behind those of the run: the kept list; by rank, the next lower rank of the same stamp, and one; by stamp, counted
--- from 0, its highest rank and one; by name, its stamp; the queue of the names that bodies add; and how many words they have
+-- the columns behind those of the run: the kept list; by rank, the next lower rank of the same stamp, and one; by stamp,
+-- counted from 0, its highest rank and one; by name, its stamp; the queue of the definitions whose bodies are followed, and
+-- after it the records of the names that bodies add; and how many words they have
 abbrev pub kept-column : ℕ
 kept-column = 5120
 
@@ -40,10 +42,6 @@ queue-column = 12288
 
 abbrev pub prune-room : ℕ
 prune-room = 9216
-
--- the room for stamps: the kept facts and the roots
-abbrev pub most-stamps : ℕ
-most-stamps = 2048
 
 -- the stamp of a name, as it stands in the slice
 abbrev pub stamp-of : List ℕ → ℕ → ℕ
@@ -64,10 +62,14 @@ pub record Index (names : List ℕ) (named : ℕ) : Type 0 where
   pub numbers : (r : ℕ) → r < named → ranked names r < named
   pub takers : (n : ℕ) → n < named → taken-at names n ≤ most-records
 
--- records written behind the first m of the kept list
-pub record Kept-behind (w : List ℕ) (m : ℕ) (l : List ℕ) (v : List ℕ) (to : ℕ) : Type 0 where
-  pub written : v ≡ sets w (kept-column + m) l
+-- records written behind the first m of a column
+pub record Behind (column : ℕ) (w : List ℕ) (m : ℕ) (l : List ℕ) (v : List ℕ) (to : ℕ) : Type 0 where
+  pub written : v ≡ sets w (column + m) l
   pub count : to ≡ m + length l
+
+-- behind the first m of the kept list
+abbrev pub Kept-behind : List ℕ → ℕ → List ℕ → List ℕ → ℕ → Type 0
+Kept-behind w m l v to = Behind kept-column w m l v to
 
 -- words marked list after list, each with the place of the first list that has it, counted from s
 unfoldable pub noted : ℕ → List ℕ → List (List ℕ) → List ℕ
@@ -98,16 +100,42 @@ pub record Queue : Type 0 where
 abbrev pub queue : List ℕ → ℕ → Queue
 queue w to = record { run = w; to = to }
 
--- a name that has no stamp followed: it gets that of the names that bodies add, and stands behind the queue
-unfoldable pub follow-name : Queue → ℕ → Queue
-follow-name q n =
-    cond (eqb (stamp-of (q .run) n) 0)
-    (queue (set (set (q .run) (stamp-column + n) followed-stamp) (queue-column + q .to) n) (q .to + 1))
-    q
+-- the record at a place of the queue
+abbrev pub queued : List ℕ → ℕ → ℕ
+queued w p = getD w (queue-column + p) 0
 
--- names followed one after the other
-unfoldable pub follow-names : Queue → List ℕ → Queue
-follow-names q ns = fold-left follow-name q ns
+module _ (names recs : List ℕ) where
+  -- the definition of a name, if it has one, put behind the queue
+  unfoldable pub queue-def : Queue → ℕ → Queue
+  queue-def q n =
+      cond (is-def recs (taken-at names n)) (queue (set (q .run) (queue-column + q .to) (taken-at names n - 1)) (q .to + 1)) q
+
+  -- a name that has no stamp followed: it gets that of the names that bodies add, and its definition stands behind the queue
+  unfoldable pub follow-name : Queue → ℕ → Queue
+  follow-name q n =
+      cond (eqb (stamp-of (q .run) n) 0) (queue-def (queue (set (q .run) (stamp-column + n) followed-stamp) (q .to)) n) q
+
+  -- names followed one after the other
+  unfoldable pub follow-names : Queue → List ℕ → Queue
+  follow-names q ns = fold-left follow-name q ns
+
+  -- the queue holds the definitions of certain names, and nothing else
+  pub record Queue-of (certain : ℕ → Type 0) (q : Queue) : Type 0 where
+    pub each : (n : ℕ) → certain n → T (is-def recs (taken-at names n))
+        → (p : ℕ) × (p < q .to) × (queued (q .run) p ≡ taken-at names n - 1)
+    pub only : (p : ℕ) → p < q .to
+        → (n : ℕ) × certain n × T (is-def recs (taken-at names n)) × (queued (q .run) p ≡ taken-at names n - 1)
+
+-- a name whose taker can be looked up
+pub record Readable (names recs : List ℕ) (n : ℕ) : Type 0 where
+  pub room : working-words ≤ length names
+  pub rows : working-words ≤ length recs
+  pub low : n < most-names
+  pub took : taken-at names n ≤ most-records
+
+-- a name of the first so many that has a stamp
+abbrev pub Noted : ℕ → List ℕ → ℕ → Type 0
+Noted named w n = (n < named) × (0 < stamp-of w n)
 
 -- how many names have no stamp
 unfoldable pub unnoted : List ℕ → ℕ
@@ -117,6 +145,12 @@ unnoted w = count (λ n. eqb (stamp-of w n) 0) (upto most-names)
 pub record Queue-room (q : Queue) : Type 0 where
   pub fits : q .to + unnoted (q .run) ≤ most-names
   pub long : working-words ≤ length (q .run)
+
+-- the definitions of the names with a stamp put on the queue
+pub record Queue-noted (names recs : List ℕ) (named : ℕ) (before : List ℕ) (q : Queue) : Type 0 where
+  pub holds : Queue-of names recs (Noted named (q .run)) q
+  pub room : Queue-room q
+  pub same : Same-but queue-column most-names before (q .run)
 
 -- what following asks of the tables
 pub record Bodies (names recs lists : List ℕ) (k : Counts) : Type 0 where
@@ -129,6 +163,15 @@ pub record Bodies (names recs lists : List ℕ) (k : Counts) : Type 0 where
 pub record Stamps-followed (names recs lists : List ℕ) (k : Counts) (before after : List ℕ) : Type 0 where
   pub follows : Stamps-closed (k .names) (body-at names recs lists) (stamp-of before) (stamp-of after)
   pub same : Same-but stamp-column (most-names + most-names) before after
+
+-- the first records in the column of the queue
+abbrev pub queue-part : List ℕ → ℕ → List ℕ
+queue-part w count = part w queue-column (queue-column + count)
+
+-- they are records
+pub record Queue-records (w : List ℕ) (count : ℕ) : Type 0 where
+  pub few : count ≤ most-names
+  pub low : (j : ℕ) → j < count → queued w j < most-records
 
 -- what listing the kept records asks: tables in range, and room whatever the stamps of the ask
 pub record Listable (names recs lists run : List ℕ) (k : Counts) (a : Asked) : Type 0 where

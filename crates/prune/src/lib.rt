@@ -8,16 +8,16 @@ ghost use Rattle.model.specs.Lists.{part};
 ghost use Rattle.model.specs.Reading.{most-names, most-records};
 ghost use Rattle.model.specs.Outcome.{working-words};
 ghost use Rattle.records.specs.Columns.{record-line};
+ghost use Rattle.records.specs.States.{uses-at};
 ghost use Rattle.scan.specs.Steps.{marks};
-ghost use Rattle.prune.specs.Listing.{taker, reached-at, kind-at, ambient-at, is-goal, reached-records, ambient-records, fact-records, goal-records, stamp-records, kind-records, decl-records, added-at, added-records, group-records, groups-records};
-ghost use Rattle.prune.specs.Follow.{body-at};
-ghost use Rattle.prune.specs.Loops.{kept-column, most-stamps, stamp-of, stamp-in, stamp-words, Index, Kept-behind, noted, Notes, Linked, Links, queue, follow-name, follow-names, Queue-room, Bodies, Stamps-followed, Listable, Records-listed};
+ghost use Rattle.prune.specs.Listing.{most-stamps, taker, reached-at, kind-at, ambient-at, is-goal, reached-records, ambient-records, fact-records, goal-records, stamp-records, kind-records, decl-records, added-at, added-records, of-kind, group-records, groups-records};
+ghost use Rattle.prune.specs.Loops.{kept-column, queue-column, stamp-in, stamp-words, Index, Behind, Kept-behind, noted, Notes, Linked, Links, queue, queue-def, follow-name, follow-names, Readable, Queue-room, Queue-noted, Bodies, Stamps-followed, queue-part, Queue-records, Listable, Records-listed};
 ghost use Rattle.prune.specs.Kept.{Run-over, Pruned};
 
 // The columns of the run's slice behind those of the run: the kept list; by rank, the next lower rank of the same stamp, and one;
 // by stamp, counted from 0, its highest rank and one; by name, its stamp. A stamp is the place of the item that first has a name,
 // counted from 1, or one more than there is room for if a body adds the name. A rank is a name's place in byte order. Last the
-// queue of the names that bodies add.
+// queue of the definitions whose bodies are followed; once it is worked off, the records of the names that bodies add.
 pub const KEPT: usize = 5120;
 
 const BELOW: usize = 6144;
@@ -32,7 +32,7 @@ const QUEUE: usize = 12288;
 const MOST_STAMPS: usize = 2048;
 
 // The stamp of a name that a body adds.
-const FOLLOWED: usize = 2049;
+const FOLLOWED: usize = MOST_STAMPS + 1;
 
 // The assume, fun or def that took the name of a rank, and one; 0 if none did.
 fn taker(names: &[u32], named: usize, r: usize) -> usize
@@ -305,120 +305,149 @@ fn list_decls(
     list_kind(names, recs, run, named, records::FUN, stamps, defs)
 }
 
-// Follows a name that has no stamp: it gets that of the names that bodies add, and stands behind the queue.
-fn follow_name(run: &mut [u32], n: usize, to: usize) -> usize
-    requires { ⌜ (n < most-names) × Queue-room (queue (now run) to) ⌝ }
-    ensures { λ r. ⌜ queue (now (run .exit)) r ≡ follow-name (queue (now (run .entry)) to) n ⌝ }
+// Puts the definition of a name, if it has one, behind the queue.
+fn queue_def(names: &[u32], recs: &[u32], run: &mut [u32], n: usize, to: usize) -> usize
+    requires { ⌜ Readable (now names) (now recs) n × (working-words ≤ length (now run)) × (to < most-names) ⌝ }
+    ensures { λ r. ⌜ queue (now (run .exit)) r ≡ queue-def (now (names .entry)) (now (recs .entry))
+        (queue (now (run .entry)) to) n ⌝ }
+{
+    let taken = words::at(names, records::TAKEN + n);
+    if !macros::is_def(recs, taken) {
+        return to;
+    }
+    run[QUEUE + to] = (taken - 1) as u32;
+    to + 1
+}
+
+// Puts the definitions of the names with a stamp on the queue.
+fn queue_noted(names: &[u32], recs: &[u32], run: &mut [u32], named: usize) -> usize
+    requires { ⌜ (named ≤ most-names) × ((n : ℕ) → n < named → Readable (now names) (now recs) n)
+        × (working-words ≤ length (now run)) ⌝ }
+    ensures { λ r. ⌜ Queue-noted (now (names .entry)) (now (recs .entry)) named (now (run .entry))
+        (queue (now (run .exit)) r) ⌝ }
+{
+    let mut end = 0;
+    let mut n = 0;
+    while n < named {
+        let m = n;
+        n += 1;
+        if words::at(run, STAMP + m) == 0 {
+            continue;
+        }
+        end = queue_def(names, recs, run, m, end);
+    }
+    end
+}
+
+// Follows a name that has no stamp: it gets that of the names that bodies add, and its definition stands behind the queue.
+fn follow_name(names: &[u32], recs: &[u32], run: &mut [u32], n: usize, to: usize) -> usize
+    requires { ⌜ Readable (now names) (now recs) n × Queue-room (queue (now run) to) ⌝ }
+    ensures { λ r. ⌜ queue (now (run .exit)) r ≡ follow-name (now (names .entry)) (now (recs .entry))
+        (queue (now (run .entry)) to) n ⌝ }
 {
     if words::at(run, STAMP + n) != 0 {
         return to;
     }
     run[STAMP + n] = FOLLOWED as u32;
-    run[QUEUE + to] = n as u32;
-    to + 1
+    queue_def(names, recs, run, n, to)
 }
 
-// Follows the free names of the body of a name's definition, if it has one.
+// Follows the free names of a definition's body.
 fn follow_body(
     names: &[u32],
     recs: &[u32],
     lists: &[u32],
     run: &mut [u32],
     k: Counts,
-    n: usize,
+    i: usize,
     m: usize,
 ) -> usize
-    requires { ⌜ Bodies (now names) (now recs) (now lists) k × (n < k .names) × Queue-room (queue (now run) m) ⌝ }
-    ensures { λ r. ⌜ queue (now (run .exit)) r ≡ follow-names (queue (now (run .entry)) m)
-        (body-at (now (names .entry)) (now (recs .entry)) (now (lists .entry)) n) ⌝ }
+    requires { ⌜ Bodies (now names) (now recs) (now lists) k × (i < k .records) × Queue-room (queue (now run) m) ⌝ }
+    ensures { λ r. ⌜ queue (now (run .exit)) r ≡ follow-names (now (names .entry)) (now (recs .entry))
+        (queue (now (run .entry)) m) (uses-at (now (recs .entry)) (now (lists .entry)) i) ⌝ }
 {
-    let taken = words::at(names, records::TAKEN + n);
-    if !macros::is_def(recs, taken) {
-        return m;
-    }
-    let a = words::at(recs, records::USES_START + (taken - 1));
-    let e = words::at(recs, records::USES_END + (taken - 1));
+    let a = words::at(recs, records::USES_START + i);
+    let e = words::at(recs, records::USES_END + i);
     let mut to = m;
     let mut j = a;
     while j < e {
-        to = follow_name(run, words::at(lists, j), to);
+        to = follow_name(names, recs, run, words::at(lists, j), to);
         j += 1;
     }
     to
 }
 
-// Follows the bodies of the names with a stamp, then those of the names that these add, each once.
+// Follows the bodies of the definitions of the names with a stamp and of those that these lead to, each once.
 fn follow(names: &[u32], recs: &[u32], lists: &[u32], run: &mut [u32], k: Counts)
-    requires { ⌜ Bodies (now names) (now recs) (now lists) k × (working-words ≤ length (now run))
-        × ((n : ℕ) → n < k .names → stamp-of (now run) n ≤ most-stamps) ⌝ }
+    requires { ⌜ Bodies (now names) (now recs) (now lists) k × (working-words ≤ length (now run)) ⌝ }
     ensures { λ r. ⌜ Stamps-followed (now (names .entry)) (now (recs .entry)) (now (lists .entry)) k (now (run .entry))
         (now (run .exit)) ⌝ }
 {
-    let named = k.names;
-    let mut end = 0;
-    let mut n = 0;
-    while n < named {
-        let m = n;
-        n += 1;
-        let stamp = words::at(run, STAMP + m);
-        if stamp == 0 {
-            continue;
-        }
-        if stamp == FOLLOWED {
-            continue;
-        }
-        end = follow_body(names, recs, lists, run, k, m, end);
-    }
+    let noted = queue_noted(names, recs, run, k.names);
+    let mut end = noted;
     let mut j = 0;
     while j < end {
-        let m = words::at(run, QUEUE + j);
+        let i = words::at(run, QUEUE + j);
         j += 1;
-        end = follow_body(names, recs, lists, run, k, m, end);
+        end = follow_body(names, recs, lists, run, k, i, end);
     }
 }
 
-// The definition, or the declaration, of the name of a rank, and one, if a body adds the name; else 0.
-fn added_at(names: &[u32], recs: &[u32], run: &[u32], named: usize, kind: usize, r: usize) -> usize
-    requires { ⌜ Index (now names) named × (working-words ≤ length (now recs)) × (working-words ≤ length (now run)) × (r < named) ⌝ }
-    ensures { λ t. ⌜ (t ≡ added-at (now (names .entry)) (now (recs .entry)) (stamp-in (now (names .entry)) (now (run .entry))) kind r)
+// The record that took the name of a rank, and one, if a body adds the name; else 0.
+fn added_at(names: &[u32], run: &[u32], named: usize, r: usize) -> usize
+    requires { ⌜ Index (now names) named × (working-words ≤ length (now run)) × (r < named) ⌝ }
+    ensures { λ t. ⌜ (t ≡ added-at (now (names .entry)) (stamp-in (now (names .entry)) (now (run .entry))) r)
         × (t ≤ most-records) ⌝ }
 {
     let n = words::at(names, names::INDEX + r);
     if words::at(run, STAMP + n) != FOLLOWED {
         return 0;
     }
-    kind_at(names, recs, named, kind, r)
+    taker(names, named, r)
 }
 
-// Lists the definitions, or the declarations, of the names that bodies add, in byte order.
-fn list_added(
-    names: &[u32],
-    recs: &[u32],
-    run: &mut [u32],
-    named: usize,
-    kind: usize,
-    m: usize,
-) -> usize
-    requires { ⌜ Index (now names) named × (working-words ≤ length (now recs)) × (working-words ≤ length (now run))
-        × (m + length (added-records (now names) (now recs) named (stamp-in (now names) (now run)) kind) ≤ most-records) ⌝ }
-    ensures { λ to. ⌜ Kept-behind (now (run .entry)) m (added-records (now (names .entry)) (now (recs .entry)) named
-        (stamp-in (now (names .entry)) (now (run .entry))) kind) (now (run .exit)) to ⌝ }
+// Puts the records of the names that bodies add in the column of the queue, in byte order of name.
+fn sweep_added(names: &[u32], run: &mut [u32], named: usize) -> usize
+    requires { ⌜ Index (now names) named × (working-words ≤ length (now run)) ⌝ }
+    ensures { λ count. ⌜ Behind queue-column (now (run .entry)) 0 (added-records (now (names .entry)) named
+        (stamp-in (now (names .entry)) (now (run .entry)))) (now (run .exit)) count ⌝ }
 {
-    let mut to = m;
+    let mut count = 0;
     let mut r = 0;
     while r < named {
-        let t = added_at(names, recs, run, named, kind, r);
+        let t = added_at(names, run, named, r);
         r += 1;
         if t == 0 {
             continue;
         }
-        run[KEPT + to] = (t - 1) as u32;
+        run[QUEUE + count] = (t - 1) as u32;
+        count += 1;
+    }
+    count
+}
+
+// Lists the definitions, or the declarations, among the records in the column of the queue.
+fn list_added(recs: &[u32], run: &mut [u32], kind: usize, added: usize, m: usize) -> usize
+    requires { ⌜ (working-words ≤ length (now recs)) × (working-words ≤ length (now run)) × Queue-records (now run) added
+        × (m + length (of-kind (now recs) kind (queue-part (now run) added)) ≤ most-records) ⌝ }
+    ensures { λ to. ⌜ Kept-behind (now (run .entry)) m (of-kind (now (recs .entry)) kind (queue-part (now (run .entry)) added))
+        (now (run .exit)) to ⌝ }
+{
+    let mut to = m;
+    let mut j = 0;
+    while j < added {
+        let i = words::at(run, QUEUE + j);
+        j += 1;
+        if words::at(recs, records::KIND + i) != kind {
+            continue;
+        }
+        run[KEPT + to] = i as u32;
         to += 1;
     }
     to
 }
 
-// Lists the definitions, or the declarations, those noted and then those that bodies add.
+// Lists the definitions, or the declarations, those noted and then those among the records in the column of the queue.
 fn list_group(
     names: &[u32],
     recs: &[u32],
@@ -426,36 +455,41 @@ fn list_group(
     named: usize,
     kind: usize,
     stamps: usize,
+    added: usize,
     m: usize,
 ) -> usize
     requires { ⌜ Index (now names) named × (working-words ≤ length (now recs)) × (working-words ≤ length (now run))
-        × Linked (stamp-in (now names) (now run)) named (now run) × (stamps ≤ most-stamps)
-        × (m + length (group-records (now names) (now recs) named (stamp-in (now names) (now run)) kind
-        stamps) ≤ most-records) ⌝ }
+        × Linked (stamp-in (now names) (now run)) named (now run) × (stamps ≤ most-stamps) × Queue-records (now run) added
+        × (m + length (group-records (now names) (now recs) named (stamp-in (now names) (now run))
+        (queue-part (now run) added) stamps kind) ≤ most-records) ⌝ }
     ensures { λ to. ⌜ Kept-behind (now (run .entry)) m (group-records (now (names .entry)) (now (recs .entry)) named
-        (stamp-in (now (names .entry)) (now (run .entry))) kind stamps) (now (run .exit)) to ⌝ }
+        (stamp-in (now (names .entry)) (now (run .entry))) (queue-part (now (run .entry)) added) stamps kind)
+        (now (run .exit)) to ⌝ }
 {
     let noted = list_kind(names, recs, run, named, kind, stamps, m);
-    list_added(names, recs, run, named, kind, noted)
+    list_added(recs, run, kind, added, noted)
 }
 
-// Lists the definitions and then the declarations, with those that bodies add.
+// Lists the definitions and then the declarations, with those among the records in the column of the queue.
 fn list_groups(
     names: &[u32],
     recs: &[u32],
     run: &mut [u32],
     named: usize,
     stamps: usize,
+    added: usize,
     m: usize,
 ) -> usize
     requires { ⌜ Index (now names) named × (working-words ≤ length (now recs)) × (working-words ≤ length (now run))
-        × Linked (stamp-in (now names) (now run)) named (now run) × (stamps ≤ most-stamps)
-        × (m + length (groups-records (now names) (now recs) named (stamp-in (now names) (now run)) stamps) ≤ most-records) ⌝ }
+        × Linked (stamp-in (now names) (now run)) named (now run) × (stamps ≤ most-stamps) × Queue-records (now run) added
+        × (m + length (groups-records (now names) (now recs) named (stamp-in (now names) (now run))
+        (queue-part (now run) added) stamps) ≤ most-records) ⌝ }
     ensures { λ to. ⌜ Kept-behind (now (run .entry)) m (groups-records (now (names .entry)) (now (recs .entry)) named
-        (stamp-in (now (names .entry)) (now (run .entry))) stamps) (now (run .exit)) to ⌝ }
+        (stamp-in (now (names .entry)) (now (run .entry))) (queue-part (now (run .entry)) added) stamps)
+        (now (run .exit)) to ⌝ }
 {
-    let defs = list_group(names, recs, run, named, records::DEF, stamps, m);
-    list_group(names, recs, run, named, records::FUN, stamps, defs)
+    let defs = list_group(names, recs, run, named, records::DEF, stamps, added, m);
+    list_group(names, recs, run, named, records::FUN, stamps, added, defs)
 }
 
 // Puts the line of each kept record in its place.
@@ -500,7 +534,8 @@ fn list_records(
         return list_decls(names, recs, run, k.names, stamps, facts);
     }
     follow(names, recs, lists, run, k);
-    list_groups(names, recs, run, k.names, stamps, facts)
+    let added = sweep_added(names, run, k.names);
+    list_groups(names, recs, run, k.names, stamps, added, facts)
 }
 
 // Lists the kept lines.

@@ -1,195 +1,114 @@
--- `prune::follow` meets its contract. The loops' invariants: the bodies of the names below `n` that had a stamp are followed; then,
--- from the stamps of any slice for which that holds of all names, those of the first `j` names of the queue.
+-- `prune::follow` meets its contract. The loop's invariant: from the stamps of any slice from which the queue is begun, the
+-- bodies of its first `j` definitions are followed.
 use native.Mathlib.Omega.{arith}
 use Prim.Native.Nat.{ℕ, _-_}
-use mathlib.Core.Path.{sym, _∙_}
 use mathlib.Core.List.{List}
 use Rattle.model.specs.Reading.{most-names}
-use Rattle.prune.specs.Follow.{body-at}
-use Rattle.prune.proofs.Following.{Noted-to, Queue-to, noted-start, noted-none, noted-added, noted-next, queue-start, queued-small, queue-next, queue-end}
-use Rattle.prune.proofs.Bodies.{body-small}
+use Rattle.prune.proofs.Following.{Queue-to, queue-start, queue-next, queue-end}
+use Rattle.prune.proofs.Bodies.{body-small, readable, queued-record}
 use Rattle.prune.proofs.follow.Statement.{statement}
 use Rattle.prune.proofs.follow.Tie as tie
 
 abbrev Inv-loop : tie.InvT-loop
-Inv-loop names recs lists run₀ k named end₀ n₀ run end n = Noted-to (k .names) (body-at names recs lists) run₀ run end n
+Inv-loop names recs lists run₀ k noted end₀ j₀ run end j =
+    (w : List ℕ) → Queue-to names recs lists (k .names) w run₀ end₀ 0 → Queue-to names recs lists (k .names) w run end j
 
 abbrev μ-loop : tie.MeasureT-loop
-μ-loop names recs lists run₀ k named end₀ n₀ run end n = named - n
+μ-loop names recs lists run₀ k noted end₀ j₀ run end j = most-names - j
 
-abbrev Inv-loop2 : tie.InvT-loop2
-Inv-loop2 names recs lists run₀ k named end₀ n j₀ run end j =
-    (w : List ℕ) → Queue-to (k .names) (body-at names recs lists) w run₀ end₀ 0 → Queue-to (k .names) (body-at names recs lists) w run end j
+queue-noted-requires : tie.Need-queue-noted-requires Inv-loop μ-loop
+queue-noted-requires c κs =
+    let entry = c .before .before .before .before .before in
+    (entry .pre .0 .few, readable (entry .pre .0), entry .pre .1)
 
-abbrev μ-loop2 : tie.MeasureT-loop2
-μ-loop2 names recs lists run₀ k named end₀ n j₀ run end j = most-names - j
+loop-holds : tie.Need-loop-holds Inv-loop μ-loop
+loop-holds c = λ w q. q
 
-loop-holds : tie.Need-loop-holds Inv-loop μ-loop Inv-loop2 μ-loop2
-loop-holds c =
-    let entry = c .before .before .before .before in
-    noted-start _ _ _ (entry .pre .1)
-
-add-n : tie.Need-add-n Inv-loop μ-loop Inv-loop2 μ-loop2
-add-n c =
-    let entry = c .before .before .before .before .before .before in
-    omega (arith, entry .pre .0 .few, c .loop-test .taken)
-
-add-at : tie.Need-add-at Inv-loop μ-loop Inv-loop2 μ-loop2
+add-at : tie.Need-add-at Inv-loop μ-loop
 add-at c =
     let loop-test = c .before in
-    let entry = loop-test .before .before .before .before .before .before in
-    omega (arith, entry .pre .0 .few, loop-test .loop-test .taken)
+    let loop = loop-test .before in
+    let queue-noted = loop .before .before .before in
+    let entry = queue-noted .before .before .before .before .before .before in
+    let start = queue-start (entry .pre .0 .few) (body-small (entry .pre .0)) (queue-noted .queue-noted .ensures) in
+    let inv = loop .loop .inv (entry .args .run .now) start in
+    omega (arith, inv .following .room .fits, loop-test .loop-test .taken)
 
-at-requires : tie.Need-at-requires Inv-loop μ-loop Inv-loop2 μ-loop2
+at-requires : tie.Need-at-requires Inv-loop μ-loop
 at-requires c κs =
     let loop-test = c .before in
     let loop = loop-test .before in
-    let entry = loop .before .before .before .before .before in
-    omega (arith, entry .pre .0 .few, loop-test .loop-test .taken, loop .loop .inv .following .room .long)
+    let queue-noted = loop .before .before .before in
+    let entry = queue-noted .before .before .before .before .before .before in
+    let start = queue-start (entry .pre .0 .few) (body-small (entry .pre .0)) (queue-noted .queue-noted .ensures) in
+    let inv = loop .loop .inv (entry .args .run .now) start in
+    omega (arith, inv .following .room .fits, inv .following .room .long, loop-test .loop-test .taken)
 
-loop-less : tie.Need-loop-less Inv-loop μ-loop Inv-loop2 μ-loop2
-loop-less c =
-    let loop-test = c .before .before .before in
-    omega (arith, loop-test .loop-test .taken)
+add-j : tie.Need-add-j Inv-loop μ-loop
+add-j c =
+    let loop-test = c .before .before in
+    let loop = loop-test .before in
+    let queue-noted = loop .before .before .before in
+    let entry = queue-noted .before .before .before .before .before .before in
+    let start = queue-start (entry .pre .0 .few) (body-small (entry .pre .0)) (queue-noted .queue-noted .ensures) in
+    let inv = loop .loop .inv (entry .args .run .now) start in
+    omega (arith, inv .following .room .fits, loop-test .loop-test .taken)
 
-loop-again : tie.Need-loop-again Inv-loop μ-loop Inv-loop2 μ-loop2
-loop-again c =
+follow-body-requires : tie.Need-follow-body-requires Inv-loop μ-loop
+follow-body-requires c κs =
     let at = c .before in
     let loop-test = at .before .before in
     let loop = loop-test .before in
-    let entry = loop .before .before .before .before .before in
-    noted-none (entry .pre .0 .few) (body-small (entry .pre .0)) (loop .loop .inv) (loop-test .loop-test .taken)
-    (sym (at .at .ensures) ∙ c .if1 .taken)
+    let queue-noted = loop .before .before .before in
+    let entry = queue-noted .before .before .before .before .before .before in
+    let start = queue-start (entry .pre .0 .few) (body-small (entry .pre .0)) (queue-noted .queue-noted .ensures) in
+    let inv = loop .loop .inv (entry .args .run .now) start in
+    (entry .pre .0, queued-record (entry .pre .0) inv (loop-test .loop-test .taken) (at .at .ensures), inv .following .room)
 
-loop-less-2 : tie.Need-loop-less-2 Inv-loop μ-loop Inv-loop2 μ-loop2
-loop-less-2 c =
-    let loop-test = c .before .before .before .before in
-    omega (arith, loop-test .loop-test .taken)
-
-loop-again-2 : tie.Need-loop-again-2 Inv-loop μ-loop Inv-loop2 μ-loop2
-loop-again-2 c =
-    let at = c .before .before in
-    let loop-test = at .before .before in
+loop-less : tie.Need-loop-less Inv-loop μ-loop
+loop-less c =
+    let loop-test = c .before .before .before .before .before .before in
     let loop = loop-test .before in
-    let entry = loop .before .before .before .before .before in
-    noted-added (entry .pre .0 .few) (body-small (entry .pre .0)) (loop .loop .inv) (loop-test .loop-test .taken)
-    (entry .pre .2 _ (loop-test .loop-test .taken)) (sym (at .at .ensures) ∙ c .if2 .taken)
+    let queue-noted = loop .before .before .before in
+    let entry = queue-noted .before .before .before .before .before .before in
+    let start = queue-start (entry .pre .0 .few) (body-small (entry .pre .0)) (queue-noted .queue-noted .ensures) in
+    let inv = loop .loop .inv (entry .args .run .now) start in
+    omega (arith, inv .following .room .fits, loop-test .loop-test .taken)
 
-follow-body-requires : tie.Need-follow-body-requires Inv-loop μ-loop Inv-loop2 μ-loop2
-follow-body-requires c κs =
-    let loop-test = c .before .before .before .before .before in
-    let loop = loop-test .before in
-    let entry = loop .before .before .before .before .before in
-    (entry .pre .0, loop-test .loop-test .taken, loop .loop .inv .following .room)
-
-loop-less-3 : tie.Need-loop-less-3 Inv-loop μ-loop Inv-loop2 μ-loop2
-loop-less-3 c =
-    let loop-test = c .before .before .before .before .before .before .before .before in
-    omega (arith, loop-test .loop-test .taken)
-
-loop-again-3 : tie.Need-loop-again-3 Inv-loop μ-loop Inv-loop2 μ-loop2
-loop-again-3 c =
+loop-again : tie.Need-loop-again Inv-loop μ-loop
+loop-again c =
     let follow-body = c .before .before in
-    let if1 = follow-body .before .before .before in
-    let at = if1 .before in
+    let at = follow-body .before .before in
     let loop-test = at .before .before in
     let loop = loop-test .before in
-    let entry = loop .before .before .before .before .before in
-    noted-next (entry .pre .0 .few) (body-small (entry .pre .0)) (loop .loop .inv) (loop-test .loop-test .taken)
-    (λ z. if1 .if1 .left (at .at .ensures ∙ z)) (follow-body .follow-body .ensures)
-
-loop2-holds : tie.Need-loop2-holds Inv-loop μ-loop Inv-loop2 μ-loop2
-loop2-holds c = λ w q. q
-
-add-at-2 : tie.Need-add-at-2 Inv-loop μ-loop Inv-loop2 μ-loop2
-add-at-2 c =
-    let loop2-test = c .before in
-    let loop2 = loop2-test .before in
-    let loop-test = loop2 .before in
-    let loop = loop-test .before in
-    let entry = loop .before .before .before .before .before in
-    let inv = loop2 .loop2 .inv (entry .args .run .now) (queue-start (entry .pre .0 .few) (body-small (entry .pre .0)) (loop .loop .inv) (loop-test .loop-test .left)) in
-    omega (arith, inv .noted .following .room .fits, loop2-test .loop2-test .taken)
-
-at-requires-2 : tie.Need-at-requires-2 Inv-loop μ-loop Inv-loop2 μ-loop2
-at-requires-2 c κs =
-    let loop2-test = c .before in
-    let loop2 = loop2-test .before in
-    let loop-test = loop2 .before in
-    let loop = loop-test .before in
-    let entry = loop .before .before .before .before .before in
-    let inv = loop2 .loop2 .inv (entry .args .run .now) (queue-start (entry .pre .0 .few) (body-small (entry .pre .0)) (loop .loop .inv) (loop-test .loop-test .left)) in
-    omega (arith, inv .noted .following .room .fits, inv .noted .following .room .long, loop2-test .loop2-test .taken)
-
-add-j : tie.Need-add-j Inv-loop μ-loop Inv-loop2 μ-loop2
-add-j c =
-    let loop2-test = c .before .before in
-    let loop2 = loop2-test .before in
-    let loop-test = loop2 .before in
-    let loop = loop-test .before in
-    let entry = loop .before .before .before .before .before in
-    let inv = loop2 .loop2 .inv (entry .args .run .now) (queue-start (entry .pre .0 .few) (body-small (entry .pre .0)) (loop .loop .inv) (loop-test .loop-test .left)) in
-    omega (arith, inv .noted .following .room .fits, loop2-test .loop2-test .taken)
-
-follow-body-requires-2 : tie.Need-follow-body-requires-2 Inv-loop μ-loop Inv-loop2 μ-loop2
-follow-body-requires-2 c κs =
-    let at2 = c .before in
-    let loop2-test = at2 .before .before in
-    let loop2 = loop2-test .before in
-    let loop-test = loop2 .before in
-    let loop = loop-test .before in
-    let entry = loop .before .before .before .before .before in
-    let inv = loop2 .loop2 .inv (entry .args .run .now) (queue-start (entry .pre .0 .few) (body-small (entry .pre .0)) (loop .loop .inv) (loop-test .loop-test .left)) in (
-      entry .pre .0,
-      queued-small (entry .pre .0 .few) (body-small (entry .pre .0)) inv (loop2-test .loop2-test .taken) (at2 .at2 .ensures),
-      inv .noted .following .room,
-    )
-
-loop2-less : tie.Need-loop2-less Inv-loop μ-loop Inv-loop2 μ-loop2
-loop2-less c =
-    let loop2-test = c .before .before .before .before .before .before in
-    let loop2 = loop2-test .before in
-    let loop-test = loop2 .before in
-    let loop = loop-test .before in
-    let entry = loop .before .before .before .before .before in
-    let inv = loop2 .loop2 .inv (entry .args .run .now) (queue-start (entry .pre .0 .few) (body-small (entry .pre .0)) (loop .loop .inv) (loop-test .loop-test .left)) in
-    omega (arith, inv .noted .following .room .fits, loop2-test .loop2-test .taken)
-
-loop2-again : tie.Need-loop2-again Inv-loop μ-loop Inv-loop2 μ-loop2
-loop2-again c =
-    let follow-body2 = c .before .before in
-    let at2 = follow-body2 .before .before in
-    let loop2-test = at2 .before .before in
-    let loop2 = loop2-test .before in
-    let entry = loop2 .before .before .before .before .before .before .before in
+    let entry = loop .before .before .before .before .before .before .before .before .before in
     λ w q.
-    queue-next (entry .pre .0 .few) (body-small (entry .pre .0)) (loop2 .loop2 .inv w q) (loop2-test .loop2-test .taken) (at2 .at2 .ensures)
-    (follow-body2 .follow-body2 .ensures)
+    queue-next (entry .pre .0 .few) (body-small (entry .pre .0)) (loop .loop .inv w q) (loop-test .loop-test .taken)
+    (at .at .ensures) (follow-body .follow-body .ensures)
 
-same-length : tie.Need-same-length Inv-loop μ-loop Inv-loop2 μ-loop2
+same-length : tie.Need-same-length Inv-loop μ-loop
 same-length c =
-    let loop2 = c .before in
-    let loop-test = loop2 .before in
-    let loop = loop-test .before in
-    let entry = loop .before .before .before .before .before in
-    let inv = loop2 .loop2 .inv (entry .args .run .now) (queue-start (entry .pre .0 .few) (body-small (entry .pre .0)) (loop .loop .inv) (loop-test .loop-test .left)) in
-    inv .noted .following .same .same-length
+    let loop = c .before in
+    let queue-noted = loop .before .before .before in
+    let entry = queue-noted .before .before .before .before .before .before in
+    let start = queue-start (entry .pre .0 .few) (body-small (entry .pre .0)) (queue-noted .queue-noted .ensures) in
+    let inv = loop .loop .inv (entry .args .run .now) start in
+    inv .following .same .same-length
 
-returns : tie.Need-returns Inv-loop μ-loop Inv-loop2 μ-loop2
+returns : tie.Need-returns Inv-loop μ-loop
 returns c =
-    let loop2 = c .before in
-    let loop-test = loop2 .before in
-    let loop = loop-test .before in
-    let entry = loop .before .before .before .before .before in
-    let inv = loop2 .loop2 .inv (entry .args .run .now) (queue-start (entry .pre .0 .few) (body-small (entry .pre .0)) (loop .loop .inv) (loop-test .loop-test .left)) in
+    let loop = c .before in
+    let queue-noted = loop .before .before .before in
+    let entry = queue-noted .before .before .before .before .before .before in
+    let start = queue-start (entry .pre .0 .few) (body-small (entry .pre .0)) (queue-noted .queue-noted .ensures) in
+    let inv = loop .loop .inv (entry .args .run .now) start in
     record {
-      follows = queue-end (entry .pre .0 .few) (body-small (entry .pre .0)) inv (c .loop2-test .left);
-      same = inv .noted .following .same;
+      follows = queue-end (entry .pre .0 .few) (body-small (entry .pre .0)) inv (c .loop-test .left);
+      same = inv .following .same;
     }
 
 pub follow-spec : {M : Type 1} → statement M
 follow-spec =
     tie.close
-    (tie.spec Inv-loop μ-loop Inv-loop2 μ-loop2 loop-holds add-n add-at at-requires loop-less loop-again loop-less-2 loop-again-2
-    follow-body-requires loop-less-3 loop-again-3 loop2-holds add-at-2 at-requires-2 add-j follow-body-requires-2 loop2-less
-    loop2-again same-length returns)
+    (tie.spec Inv-loop μ-loop queue-noted-requires loop-holds add-at at-requires add-j follow-body-requires loop-less
+    loop-again same-length returns)

@@ -1,117 +1,140 @@
 -- `prune::list_added` meets its contract. The loop's invariant: what is left to list.
 use native.Mathlib.Omega.{arith}
 use Prim.Native.Nat.{_-_}
-use Rattle.prune.specs.Listing.{added-at}
-use Rattle.prune.specs.Loops.{stamp-in}
 use Rattle.prune.proofs.Writing.{going-length}
-use Rattle.prune.proofs.Walking.{Rising, rising-start, rising-none, rising-one, rising-room, rising-end}
-use Rattle.prune.proofs.Groups.{added-still}
+use Rattle.prune.proofs.Groups.{Kind-to, kind-start, kind-record, kind-skip, kind-take, kind-room, kind-end}
 use Rattle.prune.proofs.list_added.Statement.{statement}
 use Rattle.prune.proofs.list_added.Tie as tie
 
 abbrev Inv-loop : tie.InvT-loop
-Inv-loop names recs run₀ named kind m to₀ r₀ run to r = Rising run₀ m (added-at names recs (stamp-in names run₀) kind) named run to r
+Inv-loop recs run₀ kind added m to₀ j₀ run to j = Kind-to recs run₀ kind added m run to j
 
 abbrev μ-loop : tie.MeasureT-loop
-μ-loop names recs run₀ named kind m to₀ r₀ run to r = named - r
+μ-loop recs run₀ kind added m to₀ j₀ run to j = added - j
 
 loop-holds : tie.Need-loop-holds Inv-loop μ-loop
-loop-holds c = rising-start _ _ _ _
+loop-holds c = kind-start
 
-added-at-requires : tie.Need-added-at-requires Inv-loop μ-loop
-added-at-requires c κs =
+add-at : tie.Need-add-at Inv-loop μ-loop
+add-at c =
+    let loop-test = c .before in
+    let entry = loop-test .before .before .before .before in
+    omega (arith, entry .pre .2 .few, loop-test .loop-test .taken)
+
+at-requires : tie.Need-at-requires Inv-loop μ-loop
+at-requires c κs =
     let loop-test = c .before in
     let loop = loop-test .before in
-    let entry = loop .before .before .before .before in
-    (entry .pre .0, entry .pre .1, omega (arith, entry .pre .2, going-length (loop .loop .inv .going)), loop-test .loop-test .taken)
+    let entry = loop .before .before .before in
+    omega (arith, entry .pre .2 .few, loop-test .loop-test .taken, entry .pre .1, going-length (loop .loop .inv .going))
 
-add-r : tie.Need-add-r Inv-loop μ-loop
-add-r c =
+add-j : tie.Need-add-j Inv-loop μ-loop
+add-j c =
     let loop-test = c .before .before in
-    let entry = loop-test .before .before .before .before .before in
-    omega (arith, entry .pre .0 .few, loop-test .loop-test .taken)
+    let entry = loop-test .before .before .before .before in
+    omega (arith, entry .pre .2 .few, loop-test .loop-test .taken)
+
+add-at-2 : tie.Need-add-at-2 Inv-loop μ-loop
+add-at-2 c =
+    let loop-test = c .before .before in
+    let loop = loop-test .before in
+    let entry = loop .before .before .before in
+    let low = kind-record (entry .pre .1) (entry .pre .2) (entry .pre .3) (loop .loop .inv) (loop-test .loop-test .taken)
+    (c .at .ensures) in
+    omega (arith, low)
+
+at-requires-2 : tie.Need-at-requires-2 Inv-loop μ-loop
+at-requires-2 c κs =
+    let loop-test = c .before .before in
+    let loop = loop-test .before in
+    let entry = loop .before .before .before in
+    let low = kind-record (entry .pre .1) (entry .pre .2) (entry .pre .3) (loop .loop .inv) (loop-test .loop-test .taken)
+    (c .at .ensures) in
+    omega (arith, low, entry .pre .0)
 
 loop-less : tie.Need-loop-less Inv-loop μ-loop
 loop-less c =
-    let loop-test = c .before .before .before in
+    let loop-test = c .before .before .before .before in
     omega (arith, loop-test .loop-test .taken)
 
 loop-again : tie.Need-loop-again Inv-loop μ-loop
 loop-again c =
-    let added-at = c .before in
-    let loop-test = added-at .before .before in
+    let at2 = c .before in
+    let at = at2 .before in
+    let loop-test = at .before .before in
     let loop = loop-test .before in
-    let entry = loop .before .before .before .before in
-    let same = added-still (entry .args .names .now) (entry .args .recs .now) (entry .args .kind) _ (entry .pre .0) (loop .loop .inv .going) (entry .pre .3)
-    (loop-test .loop-test .taken) (added-at .added-at .ensures .0) in
-    rising-none (loop .loop .inv) (loop-test .loop-test .taken) same (c .if1 .taken)
-
-sub-run : tie.Need-sub-run Inv-loop μ-loop
-sub-run c = omega (arith, c .if1 .left)
+    let entry = loop .before .before .before in
+    kind-skip (entry .pre .1) (entry .pre .2) (entry .pre .3) (loop .loop .inv) (loop-test .loop-test .taken) (at .at .ensures)
+    (at2 .at2 .ensures) (c .if1 .taken)
 
 cast-run : tie.Need-cast-run Inv-loop μ-loop
 cast-run c =
-    let added-at = c .before in
-    omega (arith, added-at .added-at .ensures .1)
+    let at = c .before .before in
+    let loop-test = at .before .before in
+    let loop = loop-test .before in
+    let entry = loop .before .before .before in
+    let low = kind-record (entry .pre .1) (entry .pre .2) (entry .pre .3) (loop .loop .inv) (loop-test .loop-test .taken)
+    (at .at .ensures) in
+    omega (arith, low)
 
 add-run : tie.Need-add-run Inv-loop μ-loop
 add-run c =
-    let added-at = c .before in
-    let loop-test = added-at .before .before in
+    let at2 = c .before in
+    let at = at2 .before in
+    let loop-test = at .before .before in
     let loop = loop-test .before in
-    let entry = loop .before .before .before .before in
-    let same = added-still (entry .args .names .now) (entry .args .recs .now) (entry .args .kind) _ (entry .pre .0) (loop .loop .inv .going) (entry .pre .3)
-    (loop-test .loop-test .taken) (added-at .added-at .ensures .0) in
-    let room = rising-room (loop .loop .inv) (loop-test .loop-test .taken) same (c .if1 .left) (entry .pre .3) in
+    let entry = loop .before .before .before in
+    let room = kind-room (entry .pre .1) (entry .pre .2) (entry .pre .3) (loop .loop .inv) (loop-test .loop-test .taken)
+    (at .at .ensures) (at2 .at2 .ensures) (c .if1 .left) in
     omega (arith, room)
 
 mul-run : tie.Need-mul-run Inv-loop μ-loop
 mul-run c =
-    let added-at = c .before in
-    let loop-test = added-at .before .before in
+    let at2 = c .before in
+    let at = at2 .before in
+    let loop-test = at .before .before in
     let loop = loop-test .before in
-    let entry = loop .before .before .before .before in
-    let same = added-still (entry .args .names .now) (entry .args .recs .now) (entry .args .kind) _ (entry .pre .0) (loop .loop .inv .going) (entry .pre .3)
-    (loop-test .loop-test .taken) (added-at .added-at .ensures .0) in
-    let room = rising-room (loop .loop .inv) (loop-test .loop-test .taken) same (c .if1 .left) (entry .pre .3) in
+    let entry = loop .before .before .before in
+    let room = kind-room (entry .pre .1) (entry .pre .2) (entry .pre .3) (loop .loop .inv) (loop-test .loop-test .taken)
+    (at .at .ensures) (at2 .at2 .ensures) (c .if1 .left) in
     omega (arith, room)
 
 slice-write-run : tie.Need-slice-write-run Inv-loop μ-loop
 slice-write-run c =
-    let added-at = c .before in
-    let loop-test = added-at .before .before in
+    let at2 = c .before in
+    let at = at2 .before in
+    let loop-test = at .before .before in
     let loop = loop-test .before in
-    let entry = loop .before .before .before .before in
-    let same = added-still (entry .args .names .now) (entry .args .recs .now) (entry .args .kind) _ (entry .pre .0) (loop .loop .inv .going) (entry .pre .3)
-    (loop-test .loop-test .taken) (added-at .added-at .ensures .0) in
-    let room = rising-room (loop .loop .inv) (loop-test .loop-test .taken) same (c .if1 .left) (entry .pre .3) in
-    omega (arith, room, entry .pre .2, going-length (loop .loop .inv .going))
+    let entry = loop .before .before .before in
+    let room = kind-room (entry .pre .1) (entry .pre .2) (entry .pre .3) (loop .loop .inv) (loop-test .loop-test .taken)
+    (at .at .ensures) (at2 .at2 .ensures) (c .if1 .left) in
+    omega (arith, room, entry .pre .1, going-length (loop .loop .inv .going))
 
 add-to : tie.Need-add-to Inv-loop μ-loop
 add-to c =
-    let added-at = c .before in
-    let loop-test = added-at .before .before in
+    let at2 = c .before in
+    let at = at2 .before in
+    let loop-test = at .before .before in
     let loop = loop-test .before in
-    let entry = loop .before .before .before .before in
-    let same = added-still (entry .args .names .now) (entry .args .recs .now) (entry .args .kind) _ (entry .pre .0) (loop .loop .inv .going) (entry .pre .3)
-    (loop-test .loop-test .taken) (added-at .added-at .ensures .0) in
-    let room = rising-room (loop .loop .inv) (loop-test .loop-test .taken) same (c .if1 .left) (entry .pre .3) in
+    let entry = loop .before .before .before in
+    let room = kind-room (entry .pre .1) (entry .pre .2) (entry .pre .3) (loop .loop .inv) (loop-test .loop-test .taken)
+    (at .at .ensures) (at2 .at2 .ensures) (c .if1 .left) in
     omega (arith, room)
 
 loop-less-2 : tie.Need-loop-less-2 Inv-loop μ-loop
 loop-less-2 c =
-    let loop-test = c .before .before .before in
+    let loop-test = c .before .before .before .before in
     omega (arith, loop-test .loop-test .taken)
 
 loop-again-2 : tie.Need-loop-again-2 Inv-loop μ-loop
 loop-again-2 c =
-    let added-at = c .before in
-    let loop-test = added-at .before .before in
+    let at2 = c .before in
+    let at = at2 .before in
+    let loop-test = at .before .before in
     let loop = loop-test .before in
-    let entry = loop .before .before .before .before in
-    let same = added-still (entry .args .names .now) (entry .args .recs .now) (entry .args .kind) _ (entry .pre .0) (loop .loop .inv .going) (entry .pre .3)
-    (loop-test .loop-test .taken) (added-at .added-at .ensures .0) in
-    rising-one (loop .loop .inv) (loop-test .loop-test .taken) same (c .if1 .left)
+    let entry = loop .before .before .before in
+    kind-take (entry .pre .1) (entry .pre .2) (entry .pre .3) (loop .loop .inv) (loop-test .loop-test .taken) (at .at .ensures)
+    (at2 .at2 .ensures) (c .if1 .left)
 
 same-length : tie.Need-same-length Inv-loop μ-loop
 same-length c =
@@ -121,10 +144,11 @@ same-length c =
 returns : tie.Need-returns Inv-loop μ-loop
 returns c =
     let loop = c .before in
-    rising-end (loop .loop .inv) (c .loop-test .left)
+    let entry = loop .before .before .before in
+    kind-end (entry .pre .1) (entry .pre .2) (entry .pre .3) (loop .loop .inv) (c .loop-test .left)
 
 pub list-added-spec : {M : Type 1} → statement M
 list-added-spec =
     tie.close
-    (tie.spec Inv-loop μ-loop loop-holds added-at-requires add-r loop-less loop-again sub-run cast-run add-run mul-run
-    slice-write-run add-to loop-less-2 loop-again-2 same-length returns)
+    (tie.spec Inv-loop μ-loop loop-holds add-at at-requires add-j add-at-2 at-requires-2 loop-less loop-again cast-run
+    add-run mul-run slice-write-run add-to loop-less-2 loop-again-2 same-length returns)

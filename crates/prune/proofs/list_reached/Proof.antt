@@ -2,7 +2,9 @@
 use native.Mathlib.Omega.{arith}
 use Prim.Native.Nat.{_-_}
 use mathlib.Core.Path.{_∙_}
+use Rattle.model.specs.Reading.{most-records}
 use Rattle.prune.specs.Listing.{reached-at}
+use Rattle.prune.specs.Loops.{kept-column}
 use Rattle.prune.proofs.Picking.{reached-same}
 use Rattle.prune.proofs.Writing.{going-length, going-below}
 use Rattle.prune.proofs.Walking.{Rising, rising-start, rising-none, rising-one, rising-room, rising-end}
@@ -10,13 +12,13 @@ use Rattle.prune.proofs.list_reached.Statement.{statement}
 use Rattle.prune.proofs.list_reached.Tie as tie
 
 abbrev Inv-loop : tie.InvT-loop
-Inv-loop names run₀ named to₀ r₀ run to r = Rising run₀ 0 (reached-at names run₀) named run to r
+Inv-loop names run₀ named to₀ r₀ run to r = Rising kept-column run₀ 0 (reached-at names run₀) named run to r
 
 abbrev μ-loop : tie.MeasureT-loop
 μ-loop names run₀ named to₀ r₀ run to r = named - r
 
 loop-holds : tie.Need-loop-holds Inv-loop μ-loop
-loop-holds c = rising-start _ _ _ _
+loop-holds c = rising-start _ _ _ _ _
 
 reached-at-requires : tie.Need-reached-at-requires Inv-loop μ-loop
 reached-at-requires c κs =
@@ -62,7 +64,8 @@ add-run c =
     let entry = loop .before .before .before in
     let same = reached-at .reached-at .ensures .0 ∙ reached-same _ _ _ _
     (entry .pre .0 .takers _ (entry .pre .0 .numbers _ (loop-test .loop-test .taken))) (going-below (loop .loop .inv .going)) in
-    let room = rising-room (loop .loop .inv) (loop-test .loop-test .taken) same (c .if1 .left) (omega (arith, entry .pre .2)) in
+    let room = rising-room (loop .loop .inv) (loop-test .loop-test .taken) same {most = most-records} (c .if1 .left)
+    (omega (arith, entry .pre .2)) in
     omega (arith, room)
 
 mul-run : tie.Need-mul-run Inv-loop μ-loop
@@ -73,7 +76,8 @@ mul-run c =
     let entry = loop .before .before .before in
     let same = reached-at .reached-at .ensures .0 ∙ reached-same _ _ _ _
     (entry .pre .0 .takers _ (entry .pre .0 .numbers _ (loop-test .loop-test .taken))) (going-below (loop .loop .inv .going)) in
-    let room = rising-room (loop .loop .inv) (loop-test .loop-test .taken) same (c .if1 .left) (omega (arith, entry .pre .2)) in
+    let room = rising-room (loop .loop .inv) (loop-test .loop-test .taken) same {most = most-records} (c .if1 .left)
+    (omega (arith, entry .pre .2)) in
     omega (arith, room)
 
 slice-write-run : tie.Need-slice-write-run Inv-loop μ-loop
@@ -84,7 +88,8 @@ slice-write-run c =
     let entry = loop .before .before .before in
     let same = reached-at .reached-at .ensures .0 ∙ reached-same _ _ _ _
     (entry .pre .0 .takers _ (entry .pre .0 .numbers _ (loop-test .loop-test .taken))) (going-below (loop .loop .inv .going)) in
-    let room = rising-room (loop .loop .inv) (loop-test .loop-test .taken) same (c .if1 .left) (omega (arith, entry .pre .2)) in
+    let room = rising-room (loop .loop .inv) (loop-test .loop-test .taken) same {most = most-records} (c .if1 .left)
+    (omega (arith, entry .pre .2)) in
     omega (arith, room, entry .pre .1, going-length (loop .loop .inv .going))
 
 add-to : tie.Need-add-to Inv-loop μ-loop
@@ -95,7 +100,8 @@ add-to c =
     let entry = loop .before .before .before in
     let same = reached-at .reached-at .ensures .0 ∙ reached-same _ _ _ _
     (entry .pre .0 .takers _ (entry .pre .0 .numbers _ (loop-test .loop-test .taken))) (going-below (loop .loop .inv .going)) in
-    let room = rising-room (loop .loop .inv) (loop-test .loop-test .taken) same (c .if1 .left) (omega (arith, entry .pre .2)) in
+    let room = rising-room (loop .loop .inv) (loop-test .loop-test .taken) same {most = most-records} (c .if1 .left)
+    (omega (arith, entry .pre .2)) in
     omega (arith, room)
 
 loop-less-2 : tie.Need-loop-less-2 Inv-loop μ-loop

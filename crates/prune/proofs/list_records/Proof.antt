@@ -3,7 +3,7 @@ use native.Mathlib.Omega.{arith}
 use borrow.Author.Needs.{needs}
 use borrow.Author.Tests.{not-true, not-false}
 use Rattle.prune.proofs.Writing.{lists-length}
-use Rattle.prune.proofs.Gathering.{few-facts, listed-facts, cleared-notes, facts-in, noted-notes, link-asks, decls-ask, listed-noted, follow-asks, groups-ask, listed-followed}
+use Rattle.prune.proofs.Gathering.{few-facts, listed-facts, cleared-notes, facts-in, noted-notes, link-asks, decls-ask, listed-noted, follow-asks, sweep-asks, groups-ask, listed-followed}
 use Rattle.prune.proofs.list_records.Statement.{statement}
 use Rattle.prune.proofs.list_records.Tie as tie
 
@@ -127,9 +127,27 @@ follow-requires c κs =
     (note-roots .note-roots .ensures .0) (note-roots .note-roots .ensures .1) (link-names .link-names .ensures)
     (options-of .options-of .ensures .0 (entry .args .a .query) .prune-decls-is) (not-false _ (if1 .if1 .left)) (options-of .options-of .ensures .0 (entry .args .a .query) .follow-bodies-is) (not-false _ (if2 .if2 .left))
 
+sweep-added-requires : tie.Need-sweep-added-requires
+sweep-added-requires c κs =
+    let follow = c .before .before .before in
+    let if2 = follow .before .before in
+    let link-names = if2 .before .before .before .before in
+    let note-roots = link-names .before .before .before .before in
+    let note-facts = note-roots .before .before .before .before in
+    let clear = note-facts .before .before .before .before in
+    let if1 = clear .before .before in
+    let options-of = if1 .before .before in
+    let list-facts = options-of .before .before .before in
+    let entry = list-facts .before .before .before .before .before .before in
+    sweep-asks (entry .pre) (list-facts .list-facts .ensures) (clear .clear .ensures) (note-facts .note-facts .ensures)
+    (note-roots .note-roots .ensures .0) (note-roots .note-roots .ensures .1) (link-names .link-names .ensures)
+    (options-of .options-of .ensures .0 (entry .args .a .query) .prune-decls-is) (not-false _ (if1 .if1 .left)) (options-of .options-of .ensures .0 (entry .args .a .query) .follow-bodies-is) (not-false _ (if2 .if2 .left))
+    (follow .follow .ensures)
+
 list-groups-requires : tie.Need-list-groups-requires
 list-groups-requires c κs =
-    let follow = c .before .before .before in
+    let sweep-added = c .before .before .before in
+    let follow = sweep-added .before .before .before .before in
     let if2 = follow .before .before in
     let link-names = if2 .before .before .before .before in
     let note-roots = link-names .before .before .before .before in
@@ -142,12 +160,13 @@ list-groups-requires c κs =
     groups-ask (entry .pre) (list-facts .list-facts .ensures) (clear .clear .ensures) (note-facts .note-facts .ensures)
     (note-roots .note-roots .ensures .0) (note-roots .note-roots .ensures .1) (link-names .link-names .ensures)
     (options-of .options-of .ensures .0 (entry .args .a .query) .prune-decls-is) (not-false _ (if1 .if1 .left)) (options-of .options-of .ensures .0 (entry .args .a .query) .follow-bodies-is) (not-false _ (if2 .if2 .left))
-    (follow .follow .ensures)
+    (follow .follow .ensures) (sweep-added .sweep-added .ensures)
 
 same-length-3 : tie.Need-same-length-3
 same-length-3 c =
     let list-groups = c .before .before in
-    let follow = list-groups .before .before .before .before in
+    let sweep-added = list-groups .before .before .before .before in
+    let follow = sweep-added .before .before .before .before in
     let if2 = follow .before .before in
     let link-names = if2 .before .before .before .before in
     let note-roots = link-names .before .before .before .before in
@@ -160,12 +179,13 @@ same-length-3 c =
     listed-followed (entry .pre) (list-facts .list-facts .ensures) (clear .clear .ensures) (note-facts .note-facts .ensures)
     (note-roots .note-roots .ensures .0) (note-roots .note-roots .ensures .1) (link-names .link-names .ensures)
     (options-of .options-of .ensures .0 (entry .args .a .query) .prune-decls-is) (not-false _ (if1 .if1 .left)) (options-of .options-of .ensures .0 (entry .args .a .query) .follow-bodies-is) (not-false _ (if2 .if2 .left))
-    (follow .follow .ensures) (list-groups .list-groups .ensures) .same .same-length
+    (follow .follow .ensures) (sweep-added .sweep-added .ensures) (list-groups .list-groups .ensures) .same .same-length
 
 returns-3 : tie.Need-returns-3
 returns-3 c =
     let list-groups = c .before .before in
-    let follow = list-groups .before .before .before .before in
+    let sweep-added = list-groups .before .before .before .before in
+    let follow = sweep-added .before .before .before .before in
     let if2 = follow .before .before in
     let link-names = if2 .before .before .before .before in
     let note-roots = link-names .before .before .before .before in
@@ -178,11 +198,11 @@ returns-3 c =
     listed-followed (entry .pre) (list-facts .list-facts .ensures) (clear .clear .ensures) (note-facts .note-facts .ensures)
     (note-roots .note-roots .ensures .0) (note-roots .note-roots .ensures .1) (link-names .link-names .ensures)
     (options-of .options-of .ensures .0 (entry .args .a .query) .prune-decls-is) (not-false _ (if1 .if1 .left)) (options-of .options-of .ensures .0 (entry .args .a .query) .follow-bodies-is) (not-false _ (if2 .if2 .left))
-    (follow .follow .ensures) (list-groups .list-groups .ensures)
+    (follow .follow .ensures) (sweep-added .sweep-added .ensures) (list-groups .list-groups .ensures)
 
 pub list-records-spec : {M : Type 1} → statement M
 list-records-spec =
     tie.close
     (tie.spec list-facts-requires options-of-requires same-length returns clear-requires note-facts-requires
-    note-roots-requires link-names-requires list-decls-requires same-length-2 returns-2 follow-requires list-groups-requires
-    same-length-3 returns-3)
+    note-roots-requires link-names-requires list-decls-requires same-length-2 returns-2 follow-requires
+    sweep-added-requires list-groups-requires same-length-3 returns-3)
