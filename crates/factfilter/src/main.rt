@@ -6,8 +6,8 @@ use model::Answer;
 use model::Verdict;
 ghost use Prim.Native.Nat.{_≤_};
 ghost use lib.ListN.{length};
-ghost use Rattle.model.specs.Lists.{sum};
-ghost use Rattle.model.specs.Outcome.{most-kept};
+ghost use Rattle.model.specs.Outcome.{Outcome, most-kept};
+ghost use Rattle.printing.specs.Answers.{Told};
 ghost use Rattle.factfilter.specs.Input.{bytes-read};
 ghost use Rattle.factfilter.specs.Filters.{Filters};
 
@@ -38,7 +38,7 @@ fn read_input(buffer: &mut [u8]) -> Input
 
 // Prints the lines of an answer; whether each was written.
 fn print(file: &[u8], a: Answer, out: &[u32]) -> bool
-    requires { ⌜ (length (now file) ≤ 65536) × (sum (a .kept) ≤ length (now out)) ⌝ }
+    requires { ⌜ (length (now file) ≤ 65536) × ((o : Outcome) × Told a (now out) o) ⌝ }
 {
     let mut starts = [0u32; 65536];
     let mut text = [0u8; 65664];

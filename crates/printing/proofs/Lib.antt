@@ -1,4 +1,5 @@
 pub mod Texts
 pub mod Lines
-pub mod Answers
 pub mod Sums
+pub mod Lists
+pub mod Answers

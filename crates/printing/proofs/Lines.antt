@@ -31,7 +31,13 @@ pub record Starting (file starts : List ℕ) (many from : ℕ) : Type 0 where
 -- before the first line
 pub starting-start : (file starts : List ℕ) → Starting file starts 0 0
 starting-start file starts =
-    record { inside = λ k h. absurd (omega arith); each = λ k h. absurd (omega arith); here = refl; few = omega arith; bounded = omega arith }
+    record {
+      inside = λ k h. absurd (omega arith);
+      each = λ k h. absurd (omega arith);
+      here = refl;
+      few = omega arith;
+      bounded = omega arith;
+    }
 
 -- the first of the lines from a position on
 line-here : (file : List ℕ) (from e : ℕ) → from < length file → e ≡ mark-at 0x0a file from (length file)
@@ -40,30 +46,37 @@ unfolding first-bytes
 line-here file from e h d = go (leb (length file) e) refl
   where
     go : (t : Bool) → leb (length file) e ≡ t
-        → (first-bytes (lines (drop from file)) ≡ part file from e) × (drop 1 (lines (drop from file)) ≡ lines (drop (e + 1) file))
+        → (first-bytes (lines (drop from file)) ≡ part file from e)
+        × (drop 1 (lines (drop from file)) ≡ lines (drop (e + 1) file))
     go true t =
-        let last : e ≡ length file = omega (arith, leb-true (length file) e t, mark-to e 0x0a file from (length file) d (omega arith) (omega arith)) in
+        let long = leb-true (length file) e t in
+        let last : e ≡ length file = omega (arith, mark-to e 0x0a file from (length file) d (omega arith) (omega arith)) in
         (rw (line-last file from e h d last), rw (line-last file from e h d last, line-none file (e + 1) (omega arith)))
     go false t =
         let l = line-ended file from e h d (leb-false (length file) e t) in
         (rw l, rw l)
 
 -- one line more
-pub starting-next : (file starts : List ℕ) (many from e : ℕ) → Starting file starts many from → from < length file → many < length starts
-    → e ≡ mark-at 0x0a file from (length file) → Starting file (set starts many from) (many + 1) (e + 1)
+pub starting-next : (file starts : List ℕ) (many from e : ℕ) → Starting file starts many from
+    → from < length file → many < length starts → e ≡ mark-at 0x0a file from (length file)
+    → Starting file (set starts many from) (many + 1) (e + 1)
 starting-next file starts many from e s h room d =
     let same = getD-set-same starts many from 0 room in
-    let other : (k : ℕ) → k < many → getD (set starts many from) k 0 ≡ getD starts k 0 = λ k l. getD-set-other starts many k from 0 (λ q. absurd (omega arith)) in
+    let other : (k : ℕ) → k < many → getD (set starts many from) k 0 ≡ getD starts k 0 =
+    λ k l. getD-set-other starts many k from 0 (λ q. absurd (omega arith)) in
+    let word : ℕ → ℕ = λ k. getD (set starts many from) k 0 in
     record {
-      inside = below-more (λ k. getD (set starts many from) k 0 < length file) many (λ k l. rw (other k l) (s .inside k l)) (rw same h);
-      each = below-more (λ k. drop k (lines file) ≡ lines (drop (getD (set starts many from) k 0) file)) many (λ k l. rw (other k l) (s .each k l)) (rw same (s .here));
+      inside = below-more (λ k. word k < length file) many (λ k l. rw (other k l) (s .inside k l)) (rw same h);
+      each = below-more (λ k. drop k (lines file) ≡ lines (drop (word k) file)) many (λ k l. rw (other k l) (s .each k l))
+          (rw same (s .here));
       here = sym (drop-drop 1 many (lines file)) ∙ ap (drop 1) (s .here) ∙ line-here file from e h d .1;
       few = omega (arith, s .few, mark-from e 0x0a file from (length file) d);
       bounded = omega (arith, s .few);
     }
 
 -- all lines
-pub starting-end : (file starts : List ℕ) (many from : ℕ) → Starting file starts many from → length file ≤ from → many ≤ length starts → Starts file starts many
+pub starting-end : (file starts : List ℕ) (many from : ℕ) → Starting file starts many from
+    → length file ≤ from → many ≤ length starts → Starts file starts many
 starting-end file starts many from s h room =
     let none : drop many (lines file) ≡ [] = s .here ∙ line-none file from h in
     record {
@@ -87,7 +100,8 @@ fields-cut [] = refl
 fields-cut (b ∷ bs) = go (eqb b 0x2c) (before 0x2c bs) (fields bs) (fields-cut bs)
   where
     go : (t : Bool) (n : ℕ) (fs : List Field) → fs ≡ take n bs ∷ after (drop n bs)
-        → cond t ([] ∷ fields bs) (field-cons b fs) ≡ take (cond t 0 (1 + n)) (b ∷ bs) ∷ after (drop (cond t 0 (1 + n)) (b ∷ bs))
+        → cond t ([] ∷ fields bs) (field-cons b fs)
+        ≡ take (cond t 0 (1 + n)) (b ∷ bs) ∷ after (drop (cond t 0 (1 + n)) (b ∷ bs))
     go true n fs e = refl
     go false n fs e = rw (e, one-add n)
 
@@ -97,7 +111,8 @@ unfolding mark-at
 comma-on s a e = part-drop s a e (before 0x2c (part s a e))
 
 -- the bytes before the first comma of a part
-comma-before : (s : List ℕ) (a e : ℕ) → mark-at 0x2c s a e ≤ e → take (before 0x2c (part s a e)) (part s a e) ≡ part s a (mark-at 0x2c s a e)
+comma-before : (s : List ℕ) (a e : ℕ) → mark-at 0x2c s a e ≤ e
+    → take (before 0x2c (part s a e)) (part s a e) ≡ part s a (mark-at 0x2c s a e)
 unfolding mark-at
 comma-before s a e h = part-take s a e (before 0x2c (part s a e)) h
 
@@ -112,11 +127,13 @@ second-none s a e m d h =
     rw (part-nil s e e (omega arith), fields-cut (part s a e), comma-on s a e, ← d, part-nil s m e h)
 
 -- the field between two commas, or the first and the end
-pub second-some : (s : List ℕ) (a e m n : ℕ) → e ≤ length s → m ≡ mark-at 0x2c s a e → m < e → n ≡ mark-at 0x2c s (m + 1) e → n ≤ e
+pub second-some : (s : List ℕ) (a e m n : ℕ) → e ≤ length s → m ≡ mark-at 0x2c s a e → m < e
+    → n ≡ mark-at 0x2c s (m + 1) e → n ≤ e
     → part s (m + 1) n ≡ second (fields (part s a e))
 unfolding second after
 second-some s a e m n inside d h k l =
-    rw (fields-cut (part s a e), comma-on s a e, ← d, part-cons s m e h inside, fields-cut (part s (m + 1) e), comma-before s (m + 1) e (rw k at l), ← k)
+    let to-comma = comma-before s (m + 1) e (rw k at l) in
+    rw (fields-cut (part s a e), comma-on s a e, ← d, part-cons s m e h inside, fields-cut (part s (m + 1) e), to-comma, ← k)
 
 -- ---- the name on a line
 

@@ -1,19 +1,18 @@
--- Sums of the first numbers of a list, and the room of a result slice.
-use Prim.Native.Nat.{ℕ, zero, suc, _+_, _-_, _≤_}
+-- Sums of the first numbers of a list, and counts padded with zeros.
+use Prim.Native.Nat.{ℕ, zero, suc, _+_, _-_, _≤_, _<_}
 use native.Mathlib.Numerals.{add-one}
 use native.Mathlib.Omega.{arith}
 use mathlib.Core.Path.{_≡_, refl, sym, ap, _∙_}
-use mathlib.Core.Bool.{Bool, true, false, cond}
-use mathlib.Core.List.{List, [], _∷_, _++_, map}
+use mathlib.Core.Bool.{Bool, true, false}
+use mathlib.Core.List.{List, [], _∷_, _++_}
 use lib.Dec.{leb}
 use lib.ListN.{length, take, getD, replicate, length-append}
 use lib.Seq.{take-all}
-use borrow.Author.Tests.{leb-true}
-use Rattle.model.specs.Lists.{sum, collect}
+use borrow.Author.Tests.{leb-true, leb-false}
+use Rattle.model.specs.Lists.{sum}
 use Rattle.model.specs.Reading.{most-asks}
-use Rattle.model.specs.Outcome.{Lent, front, Position, Outcome, refusal-at, lists, answered, all-kept, fitting, outcome, padded, answer}
-use Rattle.model.specs.declared.Answer.{Answer}
-use Rattle.model.specs.declared.Refusal.the-variants.{Room}
+use Rattle.model.specs.Outcome.{padded}
+use Rattle.model.proofs.ListLaws.{zero-at}
 
 -- one number more
 sum-suc : (l : List ℕ) (i : ℕ) → sum (take (suc i) l) ≡ sum (take i l) + getD l i 0
@@ -46,41 +45,52 @@ sum-none l = refl
 pub sum-all : (l : List ℕ) (i n : ℕ) → n ≡ sum (take i l) → length l ≤ i → n ≡ sum l
 sum-all l i n e h = e ∙ ap sum (take-all i l h)
 
--- ---- room
-
--- zeros at the end add nothing
-sum-append : (a b : List ℕ) → sum (a ++ b) ≡ sum a + sum b
-unfolding sum
-sum-append [] b = omega arith
-sum-append (n ∷ a) b = omega (arith, sum-append a b)
-
-sum-zeros : (n : ℕ) → sum (replicate n 0) ≡ 0
-unfolding sum
-sum-zeros zero = refl
-sum-zeros (suc n) = omega (arith, sum-zeros n)
-
-sum-padded : (l : List ℕ) → sum (padded l) ≡ sum l
-unfolding padded
-sum-padded l = omega (arith, sum-append l (replicate (most-asks - length l) 0), sum-zeros (most-asks - length l))
-
--- the counts of the lists sum to the length of all of them
-counts-sum : (ps : List Position) → sum (map (λ p. length (p .kept)) ps) ≡ length (all-kept ps)
-unfolding sum all-kept collect
-counts-sum [] = refl
-counts-sum (p ∷ ps) = rw length-append (omega (arith, counts-sum ps))
-
--- no more lines are kept than the result slice has room for, or 8
-fitting-fits : (room : ℕ) (o : Outcome) → sum (answer (fitting room o) .kept) ≤ room
-unfolding answer fitting
-fitting-fits room (refusal-at r place) = omega (arith, sum-padded [], sum-zeros 0)
-fitting-fits room (lists ps) = go (leb (length (all-kept ps)) room) refl
+-- a place before the end of the numbers, with one place more for each, is at one of them
+pub sum-inside : (l : List ℕ) (i n j : ℕ) → n ≡ sum (take i l) → n + i ≤ j → j < sum l + length l → i < length l
+sum-inside l i n j e h k = go (leb (length l) i) refl
   where
-    go : (t : Bool) → leb (length (all-kept ps)) room ≡ t
-        → sum (answer (cond t (lists ps) (refusal-at Room (length (all-kept ps)))) .kept) ≤ room
-    go true t = omega (arith, leb-true (length (all-kept ps)) room t, sum-padded (map (λ p. length (p .kept)) ps), counts-sum ps)
-    go false t = omega (arith, sum-padded [], sum-zeros 0)
+    go : (b : Bool) → leb (length l) i ≡ b → i < length l
+    go false b = leb-false (length l) i b
+    go true b = absurd (omega (arith, sum-all l i n e (leb-true (length l) i b), leb-true (length l) i b))
 
--- no call keeps more lines than its result slice has room for
-pub kept-room : (file : List ℕ) (works : List Lent) (room : ℕ) (a : Answer) → a ≡ answer (outcome file works room) → sum (a .kept) ≤ room
-unfolding outcome
-kept-room file works room a e = rw e (fitting-fits room (answered (front file works)))
+-- ---- counts padded with zeros
+
+-- a count at a place is that before the zeros
+pub padded-at : (l : List ℕ) (i : ℕ) → getD (padded l) i 0 ≡ getD l i 0
+unfolding padded
+padded-at l i = go l (most-asks - length l) i
+  where
+    go : (l : List ℕ) (n i : ℕ) → getD (l ++ replicate n 0) i 0 ≡ getD l i 0
+    go [] n i = zero-at n i
+    go (x ∷ l) n zero = refl
+    go (x ∷ l) n (suc i) = go l n i
+
+-- zeros sum to 0
+zeros-first : (n i : ℕ) → sum (take i (replicate n 0)) ≡ 0
+unfolding sum
+zeros-first zero zero = refl
+zeros-first zero (suc i) = refl
+zeros-first (suc n) zero = refl
+zeros-first (suc n) (suc i) = omega (arith, zeros-first n i)
+
+-- the first counts sum to the same without the zeros
+pub padded-first : (l : List ℕ) (i : ℕ) → sum (take i (padded l)) ≡ sum (take i l)
+unfolding padded sum
+padded-first l i = go l (most-asks - length l) i
+  where
+    go : (l : List ℕ) (n i : ℕ) → sum (take i (l ++ replicate n 0)) ≡ sum (take i l)
+    go [] n zero = refl
+    go [] n (suc i) = zeros-first n (suc i)
+    go (x ∷ l) n zero = refl
+    go (x ∷ l) n (suc i) = omega (arith, go l n i)
+
+-- so do all
+pub padded-sum : (l : List ℕ) → sum (padded l) ≡ sum l
+padded-sum l =
+    let n = length l + length (padded l) in
+    sym (ap sum (take-all n (padded l) (omega arith))) ∙ padded-first l n ∙ ap sum (take-all n l (omega arith))
+
+-- there are no fewer with the zeros
+pub padded-long : (l : List ℕ) → length l ≤ length (padded l)
+unfolding padded
+padded-long l = omega (arith, length-append l (replicate (most-asks - length l) 0))

@@ -5,7 +5,7 @@ use native.Mathlib.Nat.{add-zero, mod-lt, mod-eq-of-lt, div-lt-iff-lt-mul, le-di
 use native.Mathlib.Omega.{arith}
 use mathlib.Core.Path.{_≡_, refl, sym, ap, _∙_}
 use mathlib.Core.Bool.{Bool, true, false}
-use mathlib.Core.List.{List, [], _++_, append-assoc, append-nil}
+use mathlib.Core.List.{List, _++_, append-assoc, append-nil}
 use lib.Dec.{leb}
 use lib.ListN.{length, take, getD, set, length-append, length-set, length-take}
 use lib.Seq.{take-suc, take-suc-set, take-all}
@@ -35,8 +35,8 @@ putting-start at new before =
     }
 
 -- one more is put
-pub putting-next : (at : ℕ) (new before text : List ℕ) (i : ℕ) → Putting at new before text i → i < length new → at + length new ≤ length before
-    → Putting at new before (set text (at + i) (getD new i 0)) (i + 1)
+pub putting-next : (at : ℕ) (new before text : List ℕ) (i : ℕ) → Putting at new before text i
+    → i < length new → at + length new ≤ length before → Putting at new before (set text (at + i) (getD new i 0)) (i + 1)
 putting-next at new before text i p h room =
     let n : at + (i + 1) ≡ suc (at + i) = omega arith in
     let k : at + i < length text = omega (arith, p .same-length) in
@@ -48,14 +48,15 @@ putting-next at new before text i p h room =
     }
 
 -- all are put
-pub putting-end : (at : ℕ) (new before text : List ℕ) (i : ℕ) → Putting at new before text i → length new ≤ i → at + length new ≤ length before
-    → Bytes-put at new before text (at + length new)
+pub putting-end : (at : ℕ) (new before text : List ℕ) (i : ℕ) → Putting at new before text i
+    → length new ≤ i → at + length new ≤ length before → Bytes-put at new before text (at + length new)
 putting-end at new before text i p h room =
     let e : i ≡ length new = omega (arith, p .few) in
     record { ends = refl; written = rw (← e, p .written, take-all i new h); inside = omega (arith, p .same-length) }
 
 -- one text after another
-pub puts-then : {at : ℕ} {a b t0 t1 t2 : List ℕ} {d e : ℕ} → Bytes-put at a t0 t1 d → Bytes-put d b t1 t2 e → Bytes-put at (a ++ b) t0 t2 e
+pub puts-then : {at : ℕ} {a b t0 t1 t2 : List ℕ} {d e : ℕ}
+    → Bytes-put at a t0 t1 d → Bytes-put d b t1 t2 e → Bytes-put at (a ++ b) t0 t2 e
 puts-then {at} {a} {b} {t0} p q =
     record {
       ends = rw (length-append a b) (omega (arith, p .ends, q .ends));
@@ -65,7 +66,12 @@ puts-then {at} {a} {b} {t0} p q =
 
 -- the same bytes
 pub puts-same : {at : ℕ} {a b t0 t1 : List ℕ} {e : ℕ} → Bytes-put at a t0 t1 e → a ≡ b → Bytes-put at b t0 t1 e
-puts-same {at} {t0 = t0} p q = record { ends = p .ends ∙ ap (λ l. at + length l) q; written = p .written ∙ ap (take at t0 ++_) q; inside = p .inside }
+puts-same {at} {t0 = t0} p q =
+    record {
+      ends = p .ends ∙ ap (λ l. at + length l) q;
+      written = p .written ∙ ap (take at t0 ++_) q;
+      inside = p .inside;
+    }
 
 -- a text that is put from the start
 pub held : {a b t0 t1 : List ℕ} {e : ℕ} → Bytes-put 0 a t0 t1 e → a ≡ b → Text-begins b t1 e
@@ -94,9 +100,12 @@ digits-shown (suc fuel) (suc (suc j)) n h (some, below, above) =
     let q : suc j - 1 ≡ j = omega arith in
     let least : 10 ^ suc j ≤ n = rw p at (above (omega arith)) in
     let ten : 10 ≤ n = omega (arith, least, pow-le-pow-right {n = 10} (omega arith) {i = 1} {j = suc j} (omega arith)) in
-    let less : n / 10 < 10 ^ suc j = div-lt-iff-lt-mul {k = 10} {x = n} {y = 10 ^ suc j} (omega arith) .1 (rw (pow-suc 10 (suc j)) at below) in
-    let more : 10 ^ j ≤ n / 10 = le-div-iff-mul-le {k = 10} {x = 10 ^ j} {y = n} (omega arith) .1 (rw (pow-suc 10 j) at least) in
-    rw (le-ltb n 10 ten, glyph-digit (n % 10) (mod-lt n (omega arith)), digits-shown fuel (suc j) (n / 10) (omega arith) (omega arith, less, λ _. rw q more))
+    let less : n / 10 < 10 ^ suc j =
+    div-lt-iff-lt-mul {k = 10} {x = n} {y = 10 ^ suc j} (omega arith) .1 (rw (pow-suc 10 (suc j)) at below) in
+    let more : 10 ^ j ≤ n / 10 =
+    le-div-iff-mul-le {k = 10} {x = 10 ^ j} {y = n} (omega arith) .1 (rw (pow-suc 10 j) at least) in
+    let front = digits-shown fuel (suc j) (n / 10) (omega arith) (omega arith, less, λ _. rw q more) in
+    rw (le-ltb n 10 ten, glyph-digit (n % 10) (mod-lt n (omega arith)), front)
 
 -- what `io::decimal` gives is the number in decimal
 pub shown : (k n : ℕ) → k ≤ 20 → io.Fewest 10 1 n k → io.digits 10 k n ≡ show n
@@ -110,7 +119,8 @@ few-digits k n (some, below, above) h = go (leb k 10) refl
     go : (t : Bool) → leb k 10 ≡ t → k ≤ 10
     go true t = leb-true k 10 t
     go false t =
-        let large : 10 ^ 10 ≤ 10 ^ (k - 1) = pow-le-pow-right {n = 10} (omega arith) {i = 10} {j = k - 1} (omega (arith, leb-false k 10 t)) in
+        let large : 10 ^ 10 ≤ 10 ^ (k - 1) =
+        pow-le-pow-right {n = 10} (omega arith) {i = 10} {j = k - 1} (omega (arith, leb-false k 10 t)) in
         let most : 10 ^ (k - 1) ≤ n = above (omega (arith, leb-false k 10 t)) in
         absurd (omega arith)
 
@@ -124,7 +134,8 @@ kept-parts file n name q = ap (λ l. (((bytes "kept," ++ show n) ++ bytes ",") +
 
 -- the parts of the line after a list
 pub sum-parts : (kept visits rounds : ℕ)
-    → (((((bytes "sum," ++ show kept) ++ bytes ",") ++ show visits) ++ bytes ",") ++ show rounds) ++ bytes "\n" ≡ sum-line kept visits rounds
+    → (((((bytes "sum," ++ show kept) ++ bytes ",") ++ show visits) ++ bytes ",") ++ show rounds) ++ bytes "\n"
+    ≡ sum-line kept visits rounds
 unfolding sum-line line comma bytes
 sum-parts kept visits rounds = simp append-assoc
 

@@ -1,4 +1,4 @@
--- A line of the printed form of a list in a lent slice, and a refusal in words.
+-- Lines of text in a lent slice, where the lines of a file start, and a refusal in words.
 use Prim.Native.Nat.{ℕ, _+_, _≤_, _<_}
 use mathlib.Core.Path.{_≡_}
 use mathlib.Core.Bool.{Bool, true, false, cond}
@@ -7,8 +7,7 @@ use lib.ListN.{length, take, drop, getD}
 use denote.Ref.{RefT}
 use Rattle.model.specs.Names.{bytes}
 use Rattle.model.specs.Lines.{lines}
-use Rattle.model.specs.Outcome.{Position}
-use Rattle.model.specs.Text.{show, printed-list}
+use Rattle.model.specs.Text.{show}
 use Rattle.model.specs.declared.Refusal.{Refusal}
 use Rattle.model.specs.declared.Refusal.the-variants as refusal
 use Rattle.text.specs.Parts.{Is-part}
@@ -76,9 +75,3 @@ has-line refusal.FullAsks = true
 unfoldable pub reason-line : Refusal → ℕ → List ℕ
 reason-line r place =
     cond (has-line r) (bytes "line " ++ show place ++ bytes ": " ++ reason r) (reason r) ++ (0x0a ∷ [])
-
--- a text begins with a line of the printed form of one list, by its place from 0, for whatever the counts and the words are of
-pub record Listed-line (file : List ℕ) (kept visits rounds : ℕ) (out : List ℕ) (i : ℕ) (text : List ℕ) (n : ℕ) : Type 0 where
-  pub inside : n ≤ length text
-  pub prints : (p : Position) → kept ≡ length (p .kept) → visits ≡ p .visits → rounds ≡ p .rounds → take kept out ≡ p .kept
-      → i < length (printed-list file p) → Text-begins (getD (printed-list file p) i []) text n

@@ -4,13 +4,24 @@ use libc::STDOUT_FILENO;
 use model::Answer;
 use model::Refusal;
 use model::Verdict;
-ghost use Prim.Native.Nat.{_+_, _≤_, _<_};
+ghost use Prim.Native.Nat.{ℕ, _+_, _≤_, _<_};
 ghost use mathlib.Core.Path.{_≡_};
-ghost use lib.ListN.{length};
+ghost use mathlib.Core.List.{List, []};
+ghost use lib.ListN.{length, getD};
 ghost use Rattle.model.specs.Lists.{part, sum};
 ghost use Rattle.model.specs.Lines.{fields};
-ghost use Rattle.model.specs.Text.{show, second, name-on, kept-line, sum-line, refused-line};
-ghost use Rattle.printing.specs.Printed.{Bytes-put, Text-begins, Starts, Same-from, Lies-in, reason, has-line, reason-line, Listed-line};
+ghost use Rattle.model.specs.Outcome.{Outcome};
+ghost use Rattle.model.specs.Text.{show, second, name-on, kept-line, sum-line, refused-line, printed};
+ghost use Rattle.printing.specs.Printed.{Bytes-put, Text-begins, Starts, Same-from, Lies-in};
+ghost use Rattle.printing.specs.Printed.{reason, has-line, reason-line};
+ghost use Rattle.printing.specs.Answers.{Told, Line-told, Found-line};
+
+// A line of the printed lists: the position of its list, where the list starts in the result slice, which of its lines it is.
+struct Line {
+    position: usize,
+    start: usize,
+    index: usize,
+}
 
 // Writes bytes from a place on; where they end.
 fn put(text: &mut [u8], at: usize, bytes: &[u8]) -> usize
@@ -112,7 +123,7 @@ fn sum_line(kept: u32, visits: u32, rounds: u32, text: &mut [u8]) -> usize
 }
 
 // Writes the line of a refusal; its length.
-pub fn refused_line(r: Refusal, place: u32, text: &mut [u8]) -> usize
+fn refused_line(r: Refusal, place: u32, text: &mut [u8]) -> usize
     requires { ⌜ 128 ≤ length (now text) ⌝ }
     ensures { λ n. ⌜ Text-begins (refused-line r place) (now (text .exit)) n ⌝ }
 {
@@ -123,111 +134,130 @@ pub fn refused_line(r: Refusal, place: u32, text: &mut [u8]) -> usize
     put(text, at, b"\n")
 }
 
-// Writes a line of the printed form of one list: its kept lines, then their sum. Its length.
-pub fn list_line(
-    file: &[u8],
-    starts: &[u32],
-    many: usize,
-    kept: u32,
-    visits: u32,
-    rounds: u32,
-    out: &[u32],
-    i: usize,
-    text: &mut [u8],
-) -> usize
-    requires { ⌜ Starts (now file) (now starts) many × (length (now file) + 128 ≤ length (now text))
-        × (kept ≤ length (now out)) ⌝ }
-    ensures { λ n. ⌜ Listed-line (now (file .entry)) kept visits rounds (now (out .entry)) i (now (text .exit)) n ⌝ }
+// Finds a line of the printed lists, by its place from 0, from the counts of the lists: each has a line more, its sum.
+fn find_line(kept: [u32; 16], j: usize) -> Line
+    requires { ⌜ j < sum kept + length kept ⌝ }
+    ensures { λ r. ⌜ Found-line kept j r ⌝ }
 {
-    if i < kept as usize {
-        return kept_line(file, starts, many, out[i], text);
+    let mut position: usize = 0;
+    let mut start: usize = 0;
+    let mut index = j;
+    while index > kept[position] as usize {
+        let count = kept[position] as usize;
+        start += count;
+        index -= count + 1;
+        position += 1;
     }
-    sum_line(kept, visits, rounds, text)
+    Line {
+        position,
+        start,
+        index,
+    }
 }
 
-// Prints a list: its kept lines, then their sum; whether each line was written.
-fn print_list(
-    file: &[u8],
-    starts: &[u32],
-    many: usize,
-    kept: u32,
-    visits: u32,
-    rounds: u32,
-    out: &[u32],
-    text: &mut [u8],
-) -> bool
-    requires { ⌜ Starts (now file) (now starts) many × (length (now file) + 128 ≤ length (now text))
-        × (kept ≤ length (now out)) ⌝ }
-{
-    let count = kept as usize;
-    let mut i: usize = 0;
-    while i <= count {
-        let n = list_line(file, starts, many, kept, visits, rounds, out, i, text);
-        if !io::write_all(STDOUT_FILENO, &text[..n]) {
-            return false;
-        }
-        i += 1;
-    }
-    true
-}
-
-// Prints the lists of an accepted answer; whether each line was written. A position that was asked has a round.
-fn print_lists(
+// Writes a line of the printed lists, by its place from 0; its length.
+fn list_line(
     file: &[u8],
     starts: &[u32],
     many: usize,
     a: Answer,
     out: &[u32],
+    j: usize,
     text: &mut [u8],
-) -> bool
+) -> usize
     requires { ⌜ Starts (now file) (now starts) many × (length (now file) + 128 ≤ length (now text))
-        × (sum (a .kept) ≤ length (now out)) ⌝ }
+        × (a .verdict ≡ Verdict.Accepted) × Line-told (now file) a (now out) j ⌝ }
+    ensures { λ n. ⌜ ((o : Outcome) → Told a (now (out .entry)) o → j < length (printed (now (file .entry)) o)
+        → Text-begins (getD (printed (now (file .entry)) o) j []) (now (text .exit)) n) ⌝ }
 {
     let kept = a.kept;
+    let l = find_line(kept, j);
+    let p = l.position;
+    let count = kept[p];
+    if l.index < count as usize {
+        let at = l.start + l.index;
+        return kept_line(file, starts, many, out[at], text);
+    }
     let visits = a.visits;
     let rounds = a.rounds;
-    let mut from: usize = 0;
-    let mut p: usize = 0;
-    while p < model::MOST_ASKS {
-        let count = kept[p];
-        let turns = rounds[p];
-        if turns == 0 {
-            return true;
-        }
-        if !print_list(
-            file,
-            starts,
-            many,
-            count,
-            visits[p],
-            turns,
-            &out[from..],
-            text,
-        ) {
-            return false;
-        }
-        from += count as usize;
-        p += 1;
-    }
-    true
+    sum_line(count, visits[p], rounds[p], text)
 }
 
-// Prints an answer, its lists or its refusal; whether each line was written.
-pub fn print(file: &[u8], a: Answer, out: &[u32], starts: &mut [u32], text: &mut [u8]) -> bool
-    requires { ⌜ (length (now file) ≤ length (now starts)) × (length (now file) < 4294967296)
-        × (length (now file) + 128 ≤ length (now text)) × (sum (a .kept) ≤ length (now out)) ⌝ }
+// Writes a line of the printed form of an answer, by its place from 0; its length.
+fn answer_line(
+    file: &[u8],
+    starts: &[u32],
+    many: usize,
+    a: Answer,
+    out: &[u32],
+    j: usize,
+    text: &mut [u8],
+) -> usize
+    requires { ⌜ Starts (now file) (now starts) many × (length (now file) + 128 ≤ length (now text))
+        × Line-told (now file) a (now out) j ⌝ }
+    ensures { λ n. ⌜ ((o : Outcome) → Told a (now (out .entry)) o → j < length (printed (now (file .entry)) o)
+        → Text-begins (getD (printed (now (file .entry)) o) j []) (now (text .exit)) n) ⌝ }
 {
     let v = a.verdict;
     match v {
-        Verdict::Accepted => {
-            let many = line_starts(file, starts);
-            print_lists(file, starts, many, a, out, text)
-        }
-        Verdict::Refused(r) => {
-            let n = refused_line(r, a.place, text);
-            io::write_all(STDOUT_FILENO, &text[..n])
-        }
+        Verdict::Accepted => list_line(file, starts, many, a, out, j, text),
+        Verdict::Refused(r) => refused_line(r, a.place, text),
     }
+}
+
+// How many lines a list is printed in: its kept lines, then their sum.
+fn list_length(kept: u32) -> usize
+    ensures { λ r. ⌜ (r ≡ kept + 1) × (r ≤ 4294967296) ⌝ }
+{
+    kept as usize + 1
+}
+
+// How many lines the lists of an answer are printed in. A position that was asked has a round.
+fn list_count(a: Answer) -> usize
+    requires { ⌜ a .verdict ≡ Verdict.Accepted ⌝ }
+    ensures { λ r. ⌜ ((file out : List ℕ) (o : Outcome) → Told a out o → r ≡ length (printed file o)) ⌝ }
+{
+    let kept = a.kept;
+    let rounds = a.rounds;
+    let mut n: usize = 0;
+    let mut p: usize = 0;
+    while p < model::MOST_ASKS {
+        if rounds[p] == 0 {
+            return n;
+        }
+        n += list_length(kept[p]);
+        p += 1;
+    }
+    n
+}
+
+// How many lines the printed form of an answer has.
+fn line_count(a: Answer) -> usize
+    ensures { λ r. ⌜ ((file out : List ℕ) (o : Outcome) → Told a out o → r ≡ length (printed file o)) ⌝ }
+{
+    let v = a.verdict;
+    match v {
+        Verdict::Accepted => list_count(a),
+        Verdict::Refused(_) => 1,
+    }
+}
+
+// Prints an answer, line by line; whether each line was written.
+pub fn print(file: &[u8], a: Answer, out: &[u32], starts: &mut [u32], text: &mut [u8]) -> bool
+    requires { ⌜ (length (now file) ≤ length (now starts)) × (length (now file) < 4294967296)
+        × (length (now file) + 128 ≤ length (now text)) × ((o : Outcome) × Told a (now out) o) ⌝ }
+{
+    let many = line_starts(file, starts);
+    let count = line_count(a);
+    let mut j: usize = 0;
+    while j < count {
+        let n = answer_line(file, starts, many, a, out, j, text);
+        if !io::write_all(STDOUT_FILENO, &text[..n]) {
+            return false;
+        }
+        j += 1;
+    }
+    true
 }
 
 // The sum of the counts of an answer.

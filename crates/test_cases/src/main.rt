@@ -6,10 +6,10 @@ use model::Answer;
 use model::Refusal;
 use model::Verdict;
 ghost use Prim.Native.Nat.{_+_, _≤_, _<_};
-ghost use mathlib.Core.Path.{_≡_};
 ghost use lib.ListN.{length};
-ghost use Rattle.model.specs.Lists.{sum};
-ghost use Rattle.test_cases.specs.Heads.{most-file, most-work, most-room, Sized, At-most, Lends, Head-fits, Name-placed};
+ghost use Rattle.model.specs.Outcome.{Outcome};
+ghost use Rattle.printing.specs.Answers.{Told};
+ghost use Rattle.test_cases.specs.Heads.{most-file, Sized, At-most, Lends, Head-fits, Name-placed};
 
 // The longest head line, file, working slice and result slice of a case.
 const MOST_HEAD: usize = 512;
@@ -135,7 +135,7 @@ fn put_wrong(good: bool, slice: &[u8]) -> usize
 
 // Prints the lines of an answer.
 fn print(file: &[u8], a: Answer, out: &[u32])
-    requires { ⌜ (length (now file) ≤ most-file) × (sum (a .kept) ≤ length (now out)) ⌝ }
+    requires { ⌜ (length (now file) ≤ most-file) × ((o : Outcome) × Told a (now out) o) ⌝ }
 {
     let mut starts = [0u32; MOST_FILE];
     let mut text = [0u8; 131200];
@@ -155,7 +155,7 @@ fn call(
     s: Sizes,
 ) -> Answer
     requires { ⌜ Lends (now w0) (now w1) (now w2) (now w3) (now w4) (now w5) (now out) s ⌝ }
-    ensures { λ a. ⌜ sum (a .kept) ≤ s .room ⌝ }
+    ensures { λ a. ⌜ ((o : Outcome) × Told a (now (out .exit)) o) ⌝ }
 {
     let n0 = s.n0;
     let n1 = s.n1;

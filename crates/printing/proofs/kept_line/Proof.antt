@@ -44,7 +44,9 @@ returns c =
     let at-put-number = at-put2 .before .before .before .before .before in
     let at-put = at-put-number .before .before .before .before in
     let at-name-on = at-put .before .before .before in
-    let text = puts-then (puts-then (puts-then (puts-then (at-put .put .ensures) (at-put-number .put-number .ensures .0)) (at-put2 .put2 .ensures)) (at-put3 .put3 .ensures)) (at-put4 .put4 .ensures) in
+    let number = puts-then (at-put .put .ensures) (at-put-number .put-number .ensures .0) in
+    let name = puts-then (puts-then number (at-put2 .put2 .ensures)) (at-put3 .put3 .ensures) in
+    let text = puts-then name (at-put4 .put4 .ensures) in
     held text (kept-parts _ _ _ (at-name-on .name-on .ensures .0))
 
 pub kept-line-spec : {M : Type 1} → statement M

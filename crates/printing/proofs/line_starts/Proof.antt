@@ -12,7 +12,8 @@ use Rattle.printing.proofs.line_starts.Statement.{statement}
 use Rattle.printing.proofs.line_starts.Tie as tie
 
 abbrev Inv-loop : tie.InvT-loop
-Inv-loop file starts₀ many₀ from₀ starts many from = (length starts ≡ length starts₀) × Starting file starts many from × Same-from many starts₀ starts
+Inv-loop file starts₀ many₀ from₀ starts many from =
+    (length starts ≡ length starts₀) × Starting file starts many from × Same-from many starts₀ starts
 
 abbrev μ-loop : tie.MeasureT-loop
 μ-loop file starts₀ many₀ from₀ starts many from = length file - from
@@ -27,7 +28,9 @@ mul-starts : tie.Need-mul-starts Inv-loop μ-loop
 mul-starts c = search needs
 
 slice-write-starts : tie.Need-slice-write-starts Inv-loop μ-loop
-slice-write-starts c = omega (arith, c .before .loop .inv .0, c .before .loop .inv .1 .few, c .before .before .before .before .pre .0)
+slice-write-starts c =
+    let loop = c .before .loop in
+    omega (arith, loop .inv .0, loop .inv .1 .few, c .before .before .before .before .pre .0)
 
 add-many : tie.Need-add-many Inv-loop μ-loop
 add-many c = omega (arith, c .before .loop .inv .1 .few)
@@ -51,8 +54,13 @@ loop-again c =
     let at-loop = c .before .before in
     let at-pre = at-loop .before .before .before in
     let loop = at-loop .loop in
-    let room = at-pre .pre .0 in
-    (length-set (loop .starts) (loop .many) (loop .from) ∙ loop .inv .0, starting-next _ _ _ _ _ (loop .inv .1) (omega arith) (omega (arith, loop .inv .1 .few, loop .inv .0)) (c .find .ensures), λ k h. getD-set-other (loop .starts) (loop .many) k (loop .from) 0 (λ q. absurd (omega arith)) ∙ loop .inv .2 k (omega arith))
+    let room = at-pre .pre .0 in (
+      length-set (loop .starts) (loop .many) (loop .from) ∙ loop .inv .0,
+      starting-next _ _ _ _ _ (loop .inv .1) (omega arith) (omega (arith, loop .inv .1 .few, loop .inv .0)) (c .find .ensures),
+      λ k h.
+          getD-set-other (loop .starts) (loop .many) k (loop .from) 0 (λ q. absurd (omega arith))
+          ∙ loop .inv .2 k (omega arith),
+    )
 
 same-length : tie.Need-same-length Inv-loop μ-loop
 same-length c = c .before .loop .inv .0
@@ -60,7 +68,9 @@ same-length c = c .before .loop .inv .0
 returns : tie.Need-returns Inv-loop μ-loop
 returns c =
     let loop = c .before .loop in
-    (starting-end _ _ _ _ (loop .inv .1) (c .loop-test .left) (omega (arith, loop .inv .1 .bounded, loop .inv .0, c .before .before .before .before .pre .0)), loop .inv .2)
+    let room = c .before .before .before .before .pre .0 in
+    let inv = loop .inv in
+    (starting-end _ _ _ _ (inv .1) (c .loop-test .left) (omega (arith, inv .1 .bounded, inv .0)), inv .2)
 
 pub line-starts-spec : {M : Type 1} → statement M
 line-starts-spec =

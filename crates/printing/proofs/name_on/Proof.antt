@@ -12,7 +12,8 @@ slice-aggregate-result : tie.Need-slice-aggregate-result
 slice-aggregate-result c = search needs
 
 returns : tie.Need-returns
-returns c = (name-zero _ _ (c .before .if1 .taken), omega arith, (0, 0, record { bytes = refl; block = refl; offset = omega arith }))
+returns c =
+    (name-zero _ _ (c .before .if1 .taken), omega arith, (0, 0, record { bytes = refl; block = refl; offset = omega arith }))
 
 slice-aggregate-result-2 : tie.Need-slice-aggregate-result-2
 slice-aggregate-result-2 c = search needs
@@ -20,7 +21,8 @@ slice-aggregate-result-2 c = search needs
 returns-2 : tie.Need-returns-2
 returns-2 c =
     let args = c .before .before .before .before .before in
-    (name-none _ _ _ _ (args .pre) (c .before .if2 .taken), omega arith, (0, 0, record { bytes = refl; block = refl; offset = omega arith }))
+    let none = name-none _ _ _ _ (args .pre) (c .before .if2 .taken) in
+    (none, omega arith, (0, 0, record { bytes = refl; block = refl; offset = omega arith }))
 
 sub-start : tie.Need-sub-start
 sub-start c = search needs
@@ -50,7 +52,8 @@ second-field-requires c κs =
 returns-3 : tie.Need-returns-3
 returns-3 c =
     let args = c .before .before .before .before .before .before .before in
-    (c .second-field .ensures .0 ∙ name-there _ _ _ _ _ (args .pre) (omega arith) (omega arith) (c .before .find .ensures), c .second-field .ensures .1, c .second-field .ensures .2)
+    let (field, short, lies) = c .second-field .ensures in
+    (field ∙ name-there _ _ _ _ _ (args .pre) (omega arith) (omega arith) (c .before .find .ensures), short, lies)
 
 pub name-on-spec : {M : Type 1} → statement M
 name-on-spec =

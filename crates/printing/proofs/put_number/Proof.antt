@@ -28,7 +28,8 @@ returns c =
     let at-put = c .before .before in
     let at-decimal = at-put .before .before .before in
     let few = few-digits _ _ (at-decimal .decimal .ensures .1 .0) (omega arith) in
-    (puts-same (at-put .put .ensures) (at-decimal .decimal .ensures .1 .1 ∙ shown _ _ (omega arith) (at-decimal .decimal .ensures .1 .0)), omega (arith, at-put .put .ensures .ends))
+    let (fewest, digits) = at-decimal .decimal .ensures .1 in
+    (puts-same (at-put .put .ensures) (digits ∙ shown _ _ (omega arith) fewest), omega (arith, at-put .put .ensures .ends))
 
 pub put-number-spec : {M : Type 1} → statement M
 put-number-spec =

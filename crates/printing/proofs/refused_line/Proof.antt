@@ -44,7 +44,9 @@ returns c =
     let at-put-number = at-put2 .before .before .before .before .before in
     let at-refusal-number = at-put-number .before in
     let at-put = at-refusal-number .before .before .before .before in
-    let text = puts-then (puts-then (puts-then (puts-then (at-put .put .ensures) (at-put-number .put-number .ensures .0)) (at-put2 .put2 .ensures)) (at-put-number2 .put-number2 .ensures .0)) (at-put3 .put3 .ensures) in
+    let number = puts-then (at-put .put .ensures) (at-put-number .put-number .ensures .0) in
+    let place = puts-then (puts-then number (at-put2 .put2 .ensures)) (at-put-number2 .put-number2 .ensures .0) in
+    let text = puts-then place (at-put3 .put3 .ensures) in
     held text (refused-parts _ _ _ (at-refusal-number .refusal-number .ensures))
 
 pub refused-line-spec : {M : Type 1} → statement M

@@ -51,8 +51,10 @@ returns c =
     let at-put2 = at-put-number2 .before .before .before .before in
     let at-put-number = at-put2 .before .before .before .before .before in
     let at-put = at-put-number .before .before .before .before in
-    let first = puts-then (puts-then (puts-then (at-put .put .ensures) (at-put-number .put-number .ensures .0)) (at-put2 .put2 .ensures)) (at-put-number2 .put-number2 .ensures .0) in
-    let text = puts-then (puts-then (puts-then first (at-put3 .put3 .ensures)) (at-put-number3 .put-number3 .ensures .0)) (at-put4 .put4 .ensures) in
+    let kept = puts-then (at-put .put .ensures) (at-put-number .put-number .ensures .0) in
+    let visits = puts-then (puts-then kept (at-put2 .put2 .ensures)) (at-put-number2 .put-number2 .ensures .0) in
+    let rounds = puts-then (puts-then visits (at-put3 .put3 .ensures)) (at-put-number3 .put-number3 .ensures .0) in
+    let text = puts-then rounds (at-put4 .put4 .ensures) in
     held text (sum-parts _ _ _)
 
 pub sum-line-spec : {M : Type 1} → statement M

@@ -1,9 +1,7 @@
 -- `test_cases::call` meets its contract.
-use lib.ListN.{length-take}
 use Rattle.printing.proofs.Texts.{counted}
-use Rattle.printing.proofs.Sums.{kept-room}
+use Rattle.printing.proofs.Answers.{call-told, told-more}
 use borrow.Author.Needs.{needs}
-use native.Mathlib.Omega.{arith}
 use Rattle.test_cases.proofs.call.Statement.{statement}
 use Rattle.test_cases.proofs.call.Tie as tie
 
@@ -17,19 +15,25 @@ slice-relend-prefix-filter-2 : tie.Need-slice-relend-prefix-filter-2
 slice-relend-prefix-filter-2 c = search needs
 
 slice-aggregate-filter-2 : tie.Need-slice-aggregate-filter-2
-slice-aggregate-filter-2 c = counted _ _ (c .before .before .before .before .before .before .before .before .before .before .pre .lent-1)
+slice-aggregate-filter-2 c =
+    let at-entry = c .before .before .before .before .before .before .before .before .before .before in
+    counted _ _ (at-entry .pre .lent-1)
 
 slice-relend-prefix-filter-3 : tie.Need-slice-relend-prefix-filter-3
 slice-relend-prefix-filter-3 c = search needs
 
 slice-aggregate-filter-3 : tie.Need-slice-aggregate-filter-3
-slice-aggregate-filter-3 c = counted _ _ (c .before .before .before .before .before .before .before .before .before .before .before .pre .lent-2)
+slice-aggregate-filter-3 c =
+    let at-entry = c .before .before .before .before .before .before .before .before .before .before .before in
+    counted _ _ (at-entry .pre .lent-2)
 
 slice-relend-prefix-filter-4 : tie.Need-slice-relend-prefix-filter-4
 slice-relend-prefix-filter-4 c = search needs
 
 slice-aggregate-filter-4 : tie.Need-slice-aggregate-filter-4
-slice-aggregate-filter-4 c = counted _ _ (c .before .before .before .before .before .before .before .before .before .before .before .before .pre .lent-3)
+slice-aggregate-filter-4 c =
+    let at-entry = c .before .before .before .before .before .before .before .before .before .before .before .before in
+    counted _ _ (at-entry .pre .lent-3)
 
 slice-relend-prefix-filter-5 : tie.Need-slice-relend-prefix-filter-5
 slice-relend-prefix-filter-5 c = search needs
@@ -44,7 +48,8 @@ slice-relend-prefix-filter-6 c = search needs
 
 slice-aggregate-filter-6 : tie.Need-slice-aggregate-filter-6
 slice-aggregate-filter-6 c =
-    let at-pre = c .before .before .before .before .before .before .before .before .before .before .before .before .before .before in
+    let at-slices = c .before .before .before .before .before .before .before in
+    let at-pre = at-slices .before .before .before .before .before .before .before in
     counted _ _ (at-pre .pre .lent-5)
 
 slice-relend-prefix-filter-7 : tie.Need-slice-relend-prefix-filter-7
@@ -52,7 +57,8 @@ slice-relend-prefix-filter-7 c = search needs
 
 slice-aggregate-filter-7 : tie.Need-slice-aggregate-filter-7
 slice-aggregate-filter-7 c =
-    let at-pre = c .before .before .before .before .before .before .before .before .before .before .before .before .before .before .before in
+    let at-slices = c .before .before .before .before .before .before .before in
+    let at-pre = at-slices .before .before .before .before .before .before .before .before in
     counted _ _ (at-pre .pre .lent-out)
 
 filter-requires : tie.Need-filter-requires
@@ -81,10 +87,10 @@ same-length-7 c = search needs
 
 returns : tie.Need-returns
 returns c =
-    let at-filter = c .before .before .before .before .before .before .before .before .before .before .before .before .before .before in
-    let at-pre = at-filter .before .before .before .before .before .before .before .before .before .before .before .before .before .before .before .before in
-    let fits = simp length-take at (kept-room _ _ _ _ (at-filter .filter .ensures .exact .gives .answered)) in
-    omega (arith, at-pre .pre .lent-out)
+    let at-slices = c .before .before .before .before .before .before .before in
+    let at-filter = at-slices .before .before .before .before .before .before .before in
+    let gives = at-filter .filter .ensures .exact .gives in
+    (_, told-more _ _ _ _ (call-told _ _ _ _ _ _ (gives .answered) (gives .result)))
 
 pub call-spec : {M : Type 1} → statement M
 call-spec =

@@ -1,5 +1,6 @@
 -- `test_cases::print` is safe and ends.
 use borrow.Author.Needs.{needs}
+use native.Mathlib.Omega.{arith}
 use Rattle.test_cases.proofs.print.Statement.{statement}
 use Rattle.test_cases.proofs.print.Tie as tie
 
@@ -10,7 +11,7 @@ slice-aggregate-print-2 : tie.Need-slice-aggregate-print-2
 slice-aggregate-print-2 c = search needs
 
 print-requires : tie.Need-print-requires
-print-requires c κs = search needs
+print-requires c κs = (omega arith, omega arith, omega arith, c .before .before .before .before .pre .1)
 
 returns : tie.Need-returns
 returns c = tt

@@ -1,5 +1,6 @@
 -- `test_cases::run` is safe and ends.
 use mathlib.Core.Path.{refl}
+use Rattle.printing.proofs.Answers.{told-room}
 use borrow.Author.Needs.{needs}
 use native.Mathlib.Omega.{arith}
 use Rattle.test_cases.proofs.run.Statement.{statement}
@@ -77,14 +78,16 @@ slice-aggregate-print c = search needs
 print-requires : tie.Need-print-requires
 print-requires c κs =
     let at-call = c .before .before .before .before .before .before .before .before in
-    let at-pre = at-call .before .before .before .before .before .before .before .before .before .before .before .before .before .before .before .before .before .before .before .before .before .before .before .before .before .before .before .before .before .before in
-    (at-pre .pre .0, omega (arith, at-call .call .ensures))
+    let at-soil = at-call .before .before .before .before .before .before .before .before .before .before in
+    let at-array = at-soil .before .before .before .before .before .before .before .before .before .before in
+    let at-pre = at-array .before .before .before .before .before .before .before .before .before .before in
+    (at-pre .pre .0, at-call .call .ensures)
 
 sum-counts-requires : tie.Need-sum-counts-requires
 sum-counts-requires c κs =
     let at-call = c .before .before .before .before .before .before .before .before .before .before in
-    let at-pre = at-call .before .before .before .before .before .before .before .before .before .before .before .before .before .before .before .before .before .before .before .before .before .before .before .before .before .before .before .before .before .before in
-    omega (arith, at-call .call .ensures, at-pre .pre .1 .result)
+    let (o, told) = at-call .call .ensures in
+    omega (arith, told-room _ _ o told)
 
 slice-aggregate-put-slices : tie.Need-slice-aggregate-put-slices
 slice-aggregate-put-slices c = search needs
