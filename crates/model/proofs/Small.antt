@@ -4,7 +4,7 @@ use mathlib.Core.Path.{refl}
 use mathlib.Core.List.{List, [], _∷_}
 use Rattle.model.proofs.Printing.{Small, prints, All-print}
 
--- 16-asks-pass to added-funs-after-noted-funs-in-byte-order
+-- 16-asks-pass to 17th-also-is-13-before-an-empty-q
 files-1 : List Small
 files-1 =
     record {
@@ -21,6 +21,34 @@ files-1 =
           ∷ [];
     }
     ∷ record {
+      name = "16-lines-of-a-chain-pass";
+      file = "ask,1,0\nalso,0\nalso,0\nalso,0\nalso,0\nalso,0\nalso,0\nalso,0\nalso,0\nalso,0\nalso,0\nalso,0\n"
+          ∷ "also,0\nalso,0\nalso,0\nalso,0\nfree,p\nfree,q\nop,eq,0,0\nassume,a,0,2\nop,eq,1,1\nassume,b,0,3\n"
+          ∷ "root,0,r,0\nroot,1,r,1\n"
+          ∷ [];
+      printed = "fact,20,triggers,{p},{p} free={p}\nfact,22,triggers,{q},{q} free={q}\nkept,22,b\nsum,1,2,2\nkept,20,a\n"
+          ∷ "kept,22,b\nsum,2,2,2\nkept,20,a\nkept,22,b\nsum,2,0,1\nkept,20,a\nkept,22,b\nsum,2,0,1\nkept,20,a\n"
+          ∷ "kept,22,b\nsum,2,0,1\nkept,20,a\nkept,22,b\nsum,2,0,1\nkept,20,a\nkept,22,b\nsum,2,0,1\nkept,20,a\n"
+          ∷ "kept,22,b\nsum,2,0,1\nkept,20,a\nkept,22,b\nsum,2,0,1\nkept,20,a\nkept,22,b\nsum,2,0,1\nkept,20,a\n"
+          ∷ "kept,22,b\nsum,2,0,1\nkept,20,a\nkept,22,b\nsum,2,0,1\nkept,20,a\nkept,22,b\nsum,2,0,1\nkept,20,a\n"
+          ∷ "kept,22,b\nsum,2,0,1\nkept,20,a\nkept,22,b\nsum,2,0,1\nkept,20,a\nkept,22,b\nsum,2,0,1\n"
+          ∷ [];
+    }
+    ∷ record {
+      name = "16-lines-with-two-chains-pass";
+      file = "ask,1,0\nalso,0\nalso,0\nalso,0\nalso,0\nalso,0\nalso,0\nalso,0\nalso,0\nalso,0\nalso,0\nalso,0\n"
+          ∷ "also,0\nalso,0\nalso,0\nask,1,0\nfree,p\nfree,q\nop,eq,0,0\nassume,a,0,2\nop,eq,1,1\nassume,b,0,3\n"
+          ∷ "root,0,r,0\nroot,1,r,1\n"
+          ∷ [];
+      printed = "fact,20,triggers,{p},{p} free={p}\nfact,22,triggers,{q},{q} free={q}\nkept,22,b\nsum,1,2,2\nkept,20,a\n"
+          ∷ "kept,22,b\nsum,2,2,2\nkept,20,a\nkept,22,b\nsum,2,0,1\nkept,20,a\nkept,22,b\nsum,2,0,1\nkept,20,a\n"
+          ∷ "kept,22,b\nsum,2,0,1\nkept,20,a\nkept,22,b\nsum,2,0,1\nkept,20,a\nkept,22,b\nsum,2,0,1\nkept,20,a\n"
+          ∷ "kept,22,b\nsum,2,0,1\nkept,20,a\nkept,22,b\nsum,2,0,1\nkept,20,a\nkept,22,b\nsum,2,0,1\nkept,20,a\n"
+          ∷ "kept,22,b\nsum,2,0,1\nkept,20,a\nkept,22,b\nsum,2,0,1\nkept,20,a\nkept,22,b\nsum,2,0,1\nkept,20,a\n"
+          ∷ "kept,22,b\nsum,2,0,1\nkept,20,a\nkept,22,b\nsum,2,0,1\nkept,22,b\nsum,1,2,2\n"
+          ∷ [];
+    }
+    ∷ record {
       name = "17-asks-are-13";
       file = "ask,0,0\nask,0,0\nask,0,0\nask,0,0\nask,0,0\nask,0,0\nask,0,0\nask,0,0\nask,0,0\nask,0,0\nask,0,0\n"
           ∷ "ask,0,0\nask,0,0\nask,0,0\nask,0,0\nask,0,0\nask,0,0\nfree,p\nfree,q\nop,eq,0,0\nassume,a,0,2\n"
@@ -34,6 +62,72 @@ files-1 =
           ∷ "ask,0,0\nask,0,0\nask,0,0\nask,0,0\nask,0,0\nhide,p\nask,0,0\n"
           ∷ [];
       printed = "refused,1,18\n" ∷ [];
+    }
+    ∷ record {
+      name = "17th-also-after-16-asks-is-13";
+      file = "ask,0,0\nask,0,0\nask,0,0\nask,0,0\nask,0,0\nask,0,0\nask,0,0\nask,0,0\nask,0,0\nask,0,0\nask,0,0\n"
+          ∷ "ask,0,0\nask,0,0\nask,0,0\nask,0,0\nask,0,0\nalso,0\n"
+          ∷ [];
+      printed = "refused,13,17\n" ∷ [];
+    }
+    ∷ record {
+      name = "17th-also-after-hide-is-1";
+      file = "ask,0,0\nalso,0\nalso,0\nalso,0\nalso,0\nalso,0\nalso,0\nalso,0\nalso,0\nalso,0\nalso,0\nalso,0\n"
+          ∷ "also,0\nalso,0\nalso,0\nalso,0\nhide,p\nalso,0\n"
+          ∷ [];
+      printed = "refused,1,18\n" ∷ [];
+    }
+    ∷ record {
+      name = "17th-also-is-13";
+      file = "ask,0,0\nalso,0\nalso,0\nalso,0\nalso,0\nalso,0\nalso,0\nalso,0\nalso,0\nalso,0\nalso,0\nalso,0\n"
+          ∷ "also,0\nalso,0\nalso,0\nalso,0\nalso,0\n"
+          ∷ [];
+      printed = "refused,13,17\n" ∷ [];
+    }
+    ∷ record {
+      name = "17th-also-is-13-before-an-empty-q";
+      file = "ask,0,0\nalso,0\nalso,0\nalso,0\nalso,0\nalso,0\nalso,0\nalso,0\nalso,0\nalso,0\nalso,0\nalso,0\n"
+          ∷ "also,0\nalso,0\nalso,0\nalso,0\nalso,\n"
+          ∷ [];
+      printed = "refused,13,17\n" ∷ [];
+    }
+    ∷ []
+
+-- a wrong one is named in the error
+pass-1 : All-print files-1
+unfolding prints files-1
+pass-1 = (refl, (refl, (refl, (refl, (refl, (refl, (refl, (refl, (refl, tt)))))))))
+
+-- 17th-also-is-13-before-its-fields to also-after-hide-is-1
+files-2 : List Small
+files-2 =
+    record {
+      name = "17th-also-is-13-before-its-fields";
+      file = "ask,0,0\nalso,0\nalso,0\nalso,0\nalso,0\nalso,0\nalso,0\nalso,0\nalso,0\nalso,0\nalso,0\nalso,0\n"
+          ∷ "also,0\nalso,0\nalso,0\nalso,0\nalso,x,y\n"
+          ∷ [];
+      printed = "refused,13,17\n" ∷ [];
+    }
+    ∷ record {
+      name = "17th-also-without-0A-is-1";
+      file = "ask,0,0\nalso,0\nalso,0\nalso,0\nalso,0\nalso,0\nalso,0\nalso,0\nalso,0\nalso,0\nalso,0\nalso,0\n"
+          ∷ "also,0\nalso,0\nalso,0\nalso,0\nalso,0"
+          ∷ [];
+      printed = "refused,1,17\n" ∷ [];
+    }
+    ∷ record {
+      name = "17th-ask-after-a-chain-is-13";
+      file = "ask,0,0\nalso,0\nalso,0\nalso,0\nalso,0\nalso,0\nalso,0\nalso,0\nalso,0\nalso,0\nalso,0\nalso,0\n"
+          ∷ "also,0\nalso,0\nalso,0\nalso,0\nask,0,0\n"
+          ∷ [];
+      printed = "refused,13,17\n" ∷ [];
+    }
+    ∷ record {
+      name = "17th-ask-after-a-chain-is-13-before-its-fields";
+      file = "ask,0,0\nalso,0\nalso,0\nalso,0\nalso,0\nalso,0\nalso,0\nalso,0\nalso,0\nalso,0\nalso,0\nalso,0\n"
+          ∷ "also,0\nalso,0\nalso,0\nalso,0\nask\n"
+          ∷ [];
+      printed = "refused,13,17\n" ∷ [];
     }
     ∷ record {
       name = "17th-is-13-before-its-field-count";
@@ -78,20 +172,262 @@ files-1 =
           ∷ [];
       printed = "kept,6,g\nkept,10,zz\nkept,9,A\nkept,7,a\nkept,8,ab\nsum,5,0,1\n" ∷ [];
     }
+    ∷ record {
+      name = "also-after-fun-is-1";
+      file = "ask,0,0\nalso,0\nfun,f\nalso,0\n" ∷ [];
+      printed = "refused,1,4\n" ∷ [];
+    }
+    ∷ record {
+      name = "also-after-hide-is-1";
+      file = "ask,0,0\nhide,q\nalso,1\nfree,p\nfree,q\nop,eq,0,0\nassume,a,0,2\nop,eq,1,1\nassume,b,0,3\nroot,0,r,0\n"
+          ∷ "root,1,r,1\n"
+          ∷ [];
+      printed = "refused,1,3\n" ∷ [];
+    }
     ∷ []
 
 -- a wrong one is named in the error
-pass-1 : All-print files-1
-unfolding prints files-1
-pass-1 = (refl, (refl, (refl, (refl, (refl, (refl, (refl, (refl, (refl, tt)))))))))
+pass-2 : All-print files-2
+unfolding prints files-2
+pass-2 = (refl, (refl, (refl, (refl, (refl, (refl, (refl, (refl, (refl, (refl, (refl, (refl, tt))))))))))))
 
--- ambient-not-scanned to asks-empty-disjunct-met-in-one
-files-2 : List Small
-files-2 =
+-- also-after-term-is-1 to also-on-line-1-is-1
+files-3 : List Small
+files-3 =
     record {
+      name = "also-after-term-is-1";
+      file = "ask,0,0\nfree,p\nalso,1\n" ∷ [];
+      printed = "refused,1,3\n" ∷ [];
+    }
+    ∷ record {
+      name = "also-ambients-stand-in-each-list";
+      file = "ask,0,0\nalso,1\nfree,p\nop,other,0\nassume,first,0,1\nassume,second,1,1\nop,eq,0,0\nassume,a,0,2\n"
+          ∷ "root,1,r,0\n"
+          ∷ [];
+      printed = "fact,5,ambient,0 free={p}\nfact,6,ambient,0 free={p}\nfact,8,triggers,{p},{p} free={p}\nkept,6,second\n"
+          ∷ "kept,5,first\nsum,2,0,1\nkept,8,a\nkept,6,second\nkept,5,first\nsum,3,2,2\n"
+          ∷ [];
+    }
+    ∷ record {
+      name = "also-and-nothing-else";
+      file = "ask,0,0\nalso,0\nalso,255\n" ∷ [];
+      printed = "sum,0,0,1\nsum,0,0,1\nsum,0,0,1\n" ∷ [];
+    }
+    ∷ record {
+      name = "also-bodies-of-the-chain";
+      file = "ask,0,12\nalso,1\nfree,f\nfree,h\ndef,g,0\ndef,k,1\nfun,f\nfun,h\ncall,k\ncall,g\nroot,0,r,2\n"
+          ∷ "root,1,r,3\n"
+          ∷ [];
+      printed = "kept,6,k\nkept,8,h\nsum,2,0,1\nkept,5,g\nkept,6,k\nkept,7,f\nkept,8,h\nsum,4,0,1\n" ∷ [];
+    }
+    ∷ record {
+      name = "also-defs-and-funs-of-all-roots";
+      file = "ask,0,4\nalso,1\nalso,0\nfree,p\nfree,q\nfree,s\nroot,1,r,1\ndef,d,0\ncall,d\nroot,0,r,3\nfun,p\nfun,q\n"
+          ∷ "op,eq,1,2\nassume,a,0,4\nfun,s\n"
+          ∷ [];
+      printed = "fact,14,triggers,{q},{s} free={q s}\nkept,8,d\nsum,1,0,1\nkept,14,a\nkept,8,d\nkept,15,s\nkept,12,q\n"
+          ∷ "sum,4,2,3\nkept,14,a\nkept,8,d\nkept,15,s\nkept,12,q\nsum,4,0,1\n"
+          ∷ [];
+    }
+    ∷ record {
+      name = "also-earlier-line-before-13";
+      file = "ask,0,0\nalso,0\nalso,256\nalso,0\nalso,0\nalso,0\nalso,0\nalso,0\nalso,0\nalso,0\nalso,0\nalso,0\n"
+          ∷ "also,0\nalso,0\nalso,0\nalso,0\nalso,0\nalso,0\nalso,0\n"
+          ∷ [];
+      printed = "refused,3,3\n" ∷ [];
+    }
+    ∷ record {
+      name = "also-empty-disjunct-met-in-the-stretch";
+      file = "ask,0,0\nalso,1\nfree,p\nfree,q\nall,0,2,0,1,1\nassume,a,0,2\nroot,0,r,0\nroot,1,r,1\n" ∷ [];
+      printed = "fact,6,triggers,{},{q} free={p q}\nsum,0,0,1\nkept,6,a\nsum,1,1,2\n" ∷ [];
+    }
+    ∷ record {
+      name = "also-first-query-without-roots";
+      file = "ask,9,0\nalso,8\nalso,1\nfree,p\nfree,q\nop,eq,0,0\nassume,a,0,2\nop,eq,1,1\nassume,b,0,3\nroot,0,r,0\n"
+          ∷ "root,1,r,1\n"
+          ∷ [];
+      printed = "fact,7,triggers,{p},{p} free={p}\nfact,9,triggers,{q},{q} free={q}\nsum,0,0,1\nsum,0,0,1\nkept,9,b\n"
+          ∷ "sum,1,2,2\n"
+          ∷ [];
+    }
+    ∷ record {
+      name = "also-has-the-options-of-its-ask";
+      file = "ask,0,4\nalso,1\nask,0,3\nalso,1\nfree,p\nfree,q\nop,eq,1,1\nassume,typed,1,2\nop,other,0\n"
+          ∷ "assume,loose,0,3\nfun,p\nfun,q\nroot,0,r,0\nroot,1,r,1\n"
+          ∷ [];
+      printed = "fact,8,triggers,{q},{q} free={q}\nfact,10,ambient,0 free={p}\nkept,10,loose\nkept,11,p\nsum,2,0,1\n"
+          ∷ "kept,10,loose\nkept,12,q\nkept,11,p\nsum,3,2,2\nsum,0,0,1\nkept,8,typed\nsum,1,2,2\n"
+          ∷ [];
+    }
+    ∷ record {
+      name = "also-hidden-name-is-hidden-in-the-stretch";
+      file = "ask,0,4\nalso,1\nhide,q\nfree,p\nfree,q\nop,eq,0,1\nassume,a,0,2\nop,eq,1,1\nassume,b,0,3\nfun,p\n"
+          ∷ "fun,q\nroot,0,r,1\nroot,1,r,2\n"
+          ∷ [];
+      printed = "fact,7,triggers,{p},{} free={p}\nfact,9,triggers,{},{} free={}\nsum,0,0,1\nkept,7,a\nkept,10,p\n"
+          ∷ "sum,2,1,2\n"
+          ∷ [];
+    }
+    ∷ record {
+      name = "also-in-capitals-is-1";
+      file = "ask,0,0\nAlso,0\n" ∷ [];
+      printed = "refused,1,2\n" ∷ [];
+    }
+    ∷ record {
+      name = "also-line-follows-bodies";
+      file = "ask,0,12\nalso,1\nfree,f\ndef,g,0\nfun,f\nfree,g\nroot,1,r,1\n" ∷ [];
+      printed = "sum,0,0,1\nkept,4,g\nkept,5,f\nsum,2,0,1\n" ∷ [];
+    }
+    ∷ record {
+      name = "also-list-is-in-name-order-again";
+      file = "ask,1,0\nalso,0\nfree,p\nfree,q\nop,eq,0,0\nassume,a,0,2\nop,eq,1,1\nassume,b,0,3\nroot,0,r,0\n"
+          ∷ "root,1,r,1\n"
+          ∷ [];
+      printed = "fact,6,triggers,{p},{p} free={p}\nfact,8,triggers,{q},{q} free={q}\nkept,8,b\nsum,1,2,2\nkept,6,a\n"
+          ∷ "kept,8,b\nsum,2,2,2\n"
+          ∷ [];
+    }
+    ∷ record {
+      name = "also-name-by-name";
+      file = "ask,0,0\nalso,1\nalso,2\nfree,p\nfree,q\nfree,s\nleaf\nall,3,1,3,0,1,2\nassume,a,0,4\nroot,0,r,0\n"
+          ∷ "root,1,r,1\nroot,2,r,2\n"
+          ∷ [];
+      printed = "fact,9,triggers,{p q s} free={p q s}\nsum,0,1,1\nsum,0,1,1\nkept,9,a\nsum,1,1,2\n" ∷ [];
+    }
+    ∷ record {
+      name = "also-name-met-before-is-opened-in-the-stretch";
+      file = "ask,0,0\nalso,1\nfree,g\nfree,h\nfree,k\ndef,g,1\ndef,h,2\nop,eq,2,2\nassume,a,0,3\nroot,0,r,0\n"
+          ∷ "root,1,r,1\n"
+          ∷ [];
+      printed = "fact,9,triggers,{k},{k} free={k}\nsum,0,0,1\nkept,9,a\nsum,1,2,2\n" ∷ [];
+    }
+    ∷ record {
+      name = "also-of-two-chains-apart";
+      file = "ask,0,0\nalso,1\nask,1,0\nalso,0\nfree,p\nfree,q\nfree,s\nall,2,1,2,0,1\nassume,a,0,3\nall,0,1,1,2\n"
+          ∷ "assume,b,0,4\nroot,0,r,0\nroot,1,r,1\n"
+          ∷ [];
+      printed = "fact,9,triggers,{p q} free={p q s}\nfact,11,triggers,{s} free={p s}\nsum,0,1,1\nkept,9,a\nkept,11,b\n"
+          ∷ "sum,2,2,3\nsum,0,1,1\nkept,9,a\nkept,11,b\nsum,2,2,3\n"
+          ∷ [];
+    }
+    ∷ record {
+      name = "also-on-line-1-is-1";
+      file = "also,0\nask,0,0\n" ∷ [];
+      printed = "refused,1,1\n" ∷ [];
+    }
+    ∷ []
+
+-- a wrong one is named in the error
+pass-3 : All-print files-3
+unfolding prints files-3
+pass-3 = (refl, (refl, (refl, (refl, (refl, (refl, (refl, (refl, (refl, (refl, (refl, (refl, (refl, (refl, (refl, (refl, (refl, tt)))))))))))))))))
+
+-- also-pretyping-reached-in-the-stretch to ambient-root-scanned-for-each-ask
+files-4 : List Small
+files-4 =
+    record {
+      name = "also-pretyping-reached-in-the-stretch";
+      file = "ask,0,2\nalso,1\nfree,p\nfree,q\nop,eq,1,1\nassume,a,1,2\nroot,0,r,0\nroot,1,r,1\n" ∷ [];
+      printed = "fact,6,triggers,{q},{q} free={q}\nsum,0,0,1\nkept,6,a\nsum,1,2,2\n" ∷ [];
+    }
+    ∷ record {
+      name = "also-q-256-is-3";
+      file = "ask,0,0\nalso,256\n" ∷ [];
+      printed = "refused,3,2\n" ∷ [];
+    }
+    ∷ record {
+      name = "also-query-comes-back-after-another";
+      file = "ask,0,0\nalso,1\nalso,0\nalso,1\nfree,p\nfree,q\nop,eq,0,0\nassume,a,0,2\nop,eq,1,1\nassume,b,0,3\n"
+          ∷ "root,0,r,0\nroot,1,r,1\n"
+          ∷ [];
+      printed = "fact,8,triggers,{p},{p} free={p}\nfact,10,triggers,{q},{q} free={q}\nkept,8,a\nsum,1,2,2\nkept,8,a\n"
+          ∷ "kept,10,b\nsum,2,2,2\nkept,8,a\nkept,10,b\nsum,2,0,1\nkept,8,a\nkept,10,b\nsum,2,0,1\n"
+          ∷ [];
+    }
+    ∷ record {
+      name = "also-trimmed-token-met-in-the-stretch";
+      file = "ask,0,0\nalso,1\nfree,__uu__PartialApp\nfree,f@tok\ncall,ApplyTT,0,1\ncall,Valid,2\nassume,t,0,3\n"
+          ∷ "free,f\nop,eq,1,1\nassume,a,0,5\nroot,1,r,4\n"
+          ∷ [];
+      printed = "fact,7,triggers,{f@tok},{f} free={__uu__PartialApp f@tok}\n"
+          ∷ "fact,10,triggers,{f@tok},{f@tok} free={f@tok}\nsum,0,0,1\nkept,10,a\nkept,7,t\nsum,2,4,3\n"
+          ∷ [];
+    }
+    ∷ record {
+      name = "also-twice-same-query";
+      file = "ask,0,0\nalso,1\nalso,1\nfree,p\nfree,q\nop,eq,0,0\nassume,a,0,2\nop,eq,1,1\nassume,b,0,3\nroot,0,r,0\n"
+          ∷ "root,1,r,1\n"
+          ∷ [];
+      printed = "fact,7,triggers,{p},{p} free={p}\nfact,9,triggers,{q},{q} free={q}\nkept,7,a\nsum,1,2,2\nkept,7,a\n"
+          ∷ "kept,9,b\nsum,2,2,2\nkept,7,a\nkept,9,b\nsum,2,0,1\n"
+          ∷ [];
+    }
+    ∷ record {
+      name = "also-up-a-chain-of-facts";
+      file = "ask,2,0\nalso,1\nalso,0\nfree,p\nfree,q\nfree,s\nfree,t\nall,1,1,1,0\nassume,a,0,4\nall,2,1,1,1\n"
+          ∷ "assume,b,0,5\nall,3,1,1,2\nassume,c,0,6\nroot,0,r,0\nroot,1,r,1\nroot,2,r,2\n"
+          ∷ [];
+      printed = "fact,9,triggers,{p} free={p q}\nfact,11,triggers,{q} free={q s}\nfact,13,triggers,{s} free={s t}\n"
+          ∷ "kept,13,c\nsum,1,1,2\nkept,11,b\nkept,13,c\nsum,2,1,2\nkept,9,a\nkept,11,b\nkept,13,c\nsum,3,1,2\n"
+          ∷ [];
+    }
+    ∷ record {
+      name = "also-visits-sum-to-the-fresh-ones";
+      file = "ask,0,0\nalso,1\nask,2,0\nfree,p\nfree,q\nfree,s\nfree,t\nall,2,1,2,0,1\nassume,a,0,4\nall,3,1,1,0\n"
+          ∷ "assume,b,0,5\nall,0,1,2,2,3\nassume,c,0,6\nroot,0,r,0\nroot,1,r,1\nroot,2,r,0\nroot,2,r,1\n"
+          ∷ [];
+      printed = "fact,9,triggers,{p q} free={p q s}\nfact,11,triggers,{p} free={p t}\n"
+          ∷ "fact,13,triggers,{s t} free={p s t}\nkept,11,b\nsum,1,3,2\nkept,9,a\nkept,11,b\nkept,13,c\nsum,3,2,3\n"
+          ∷ "kept,9,a\nkept,11,b\nkept,13,c\nsum,3,5,3\n"
+          ∷ [];
+    }
+    ∷ record {
+      name = "also-with-a-leading-zero-is-3";
+      file = "ask,0,0\nalso,00\n" ∷ [];
+      printed = "refused,3,2\n" ∷ [];
+    }
+    ∷ record {
+      name = "also-with-an-empty-q-is-3";
+      file = "ask,0,0\nalso,\n" ∷ [];
+      printed = "refused,3,2\n" ∷ [];
+    }
+    ∷ record {
+      name = "also-with-option-1-no-ambients";
+      file = "ask,0,1\nalso,1\nfree,p\nfree,Tm_refine_1\ncall,HasType,0,1\nassume,h,0,2\nop,eq,0,0\nassume,a,0,3\n"
+          ∷ "root,1,r,0\n"
+          ∷ [];
+      printed = "fact,6,ambient,1 free={Tm_refine_1 p}\nfact,8,triggers,{p},{p} free={p}\nsum,0,0,1\nkept,8,a\n"
+          ∷ "sum,1,2,2\n"
+          ∷ [];
+    }
+    ∷ record {
+      name = "also-with-two-numbers-is-1";
+      file = "ask,0,0\nalso,0,0\n" ∷ [];
+      printed = "refused,1,2\n" ∷ [];
+    }
+    ∷ record {
+      name = "also-without-0A-is-1";
+      file = "ask,0,0\nalso,0" ∷ [];
+      printed = "refused,1,2\n" ∷ [];
+    }
+    ∷ record {
+      name = "also-without-q-is-1";
+      file = "ask,0,0\nalso\n" ∷ [];
+      printed = "refused,1,2\n" ∷ [];
+    }
+    ∷ record {
       name = "ambient-not-scanned";
       file = "ask,0,0\nfree,p\nassume,amb,0,0\nall,0,1,1,0\nassume,z,0,1\n" ∷ [];
       printed = "fact,3,ambient,0 free={p}\nfact,5,triggers,{p} free={p}\nkept,3,amb\nsum,1,0,1\n" ∷ [];
+    }
+    ∷ record {
+      name = "ambient-root-is-scanned-in-the-ask-stretch";
+      file = "ask,0,0\nalso,1\nfree,p\nfree,Tm_refine_1\ncall,HasType,0,1\nassume,h,0,2\nop,eq,0,0\nassume,a,0,3\n"
+          ∷ "root,1,r,0\n"
+          ∷ [];
+      printed = "fact,6,ambient,1 free={Tm_refine_1 p}\nfact,8,triggers,{p},{p} free={p}\nkept,8,a\nkept,6,h\nsum,2,2,2\n"
+          ∷ "kept,8,a\nkept,6,h\nsum,2,0,1\n"
+          ∷ [];
     }
     ∷ record {
       name = "ambient-root-macro";
@@ -119,7 +455,17 @@ files-2 =
           ∷ "sum,0,0,1\nkept,9,a\nkept,7,h\nsum,2,2,2\n"
           ∷ [];
     }
-    ∷ record {
+    ∷ []
+
+-- a wrong one is named in the error
+pass-4 : All-print files-4
+unfolding prints files-4
+pass-4 = (refl, (refl, (refl, (refl, (refl, (refl, (refl, (refl, (refl, (refl, (refl, (refl, (refl, (refl, (refl, (refl, (refl, (refl, (refl, tt)))))))))))))))))))
+
+-- ambients-last-filed-first to asks-first-fault-decides
+files-5 : List Small
+files-5 =
+    record {
       name = "ambients-last-filed-first";
       file = "ask,0,0\nfree,p\nop,other,0\nall,0,1,1,0\nassume,b,0,1\nassume,ab,0,2\nassume,c,1,1\nassume,a,0,2\n"
           ∷ "assume,B,0,2\nassume,a-,0,1\nassume,~,0,2\nassume,a!,0,2\nroot,0,r,0\n"
@@ -137,6 +483,20 @@ files-2 =
           ∷ [];
       printed = "fact,6,ambient,1 free={Tm_refine_1 p}\nfact,7,ambient,0 free={}\nfact,8,ambient,1 free={Tm_refine_1 p}\n"
           ∷ "fact,10,triggers,{p} free={p}\nkept,10,z\nsum,1,1,2\n"
+          ∷ [];
+    }
+    ∷ record {
+      name = "ask-after-also-and-hide-is-1";
+      file = "ask,0,0\nalso,0\nhide,p\nask,0,0\n" ∷ [];
+      printed = "refused,1,4\n" ∷ [];
+    }
+    ∷ record {
+      name = "ask-after-also-starts-anew";
+      file = "ask,0,0\nalso,1\nask,1,0\nfree,p\nfree,q\nop,eq,0,0\nassume,a,0,2\nop,eq,1,1\nassume,b,0,3\nroot,0,r,0\n"
+          ∷ "root,1,r,1\n"
+          ∷ [];
+      printed = "fact,7,triggers,{p},{p} free={p}\nfact,9,triggers,{q},{q} free={q}\nkept,7,a\nsum,1,2,2\nkept,7,a\n"
+          ∷ "kept,9,b\nsum,2,2,2\nkept,9,b\nsum,1,2,2\n"
           ∷ [];
     }
     ∷ record {
@@ -188,17 +548,7 @@ files-2 =
       file = "ask,0,0\nask,1,0\nask,0,0\nfree,p\nfree,q\nall,1,2,0,2,0,1\nassume,a,0,2\nroot,0,goal,0\n" ∷ [];
       printed = "fact,7,triggers,{},{p q} free={p q}\nkept,7,a\nsum,1,2,3\nsum,0,0,1\nkept,7,a\nsum,1,2,3\n" ∷ [];
     }
-    ∷ []
-
--- a wrong one is named in the error
-pass-2 : All-print files-2
-unfolding prints files-2
-pass-2 = (refl, (refl, (refl, (refl, (refl, (refl, (refl, (refl, (refl, (refl, (refl, (refl, (refl, (refl, tt))))))))))))))
-
--- asks-every-options-number to asks-refused-after-them
-files-3 : List Small
-files-3 =
-    record {
+    ∷ record {
       name = "asks-every-options-number";
       file = "ask,1,0\nask,1,1\nask,1,2\nask,1,3\nask,1,4\nask,1,5\nask,1,6\nask,1,7\nask,1,8\nask,1,9\nask,1,10\n"
           ∷ "ask,1,11\nask,1,12\nask,1,13\nask,1,14\nask,1,15\nfree,p\nfree,q\nfree,r\nall,1,1,1,0\nassume,on_p,0,3\n"
@@ -224,7 +574,17 @@ files-3 =
       file = "ask,0,0\nask,0,0\nask,0,16\nfree,a b\n" ∷ [];
       printed = "refused,3,3\n" ∷ [];
     }
-    ∷ record {
+    ∷ []
+
+-- a wrong one is named in the error
+pass-5 : All-print files-5
+unfolding prints files-5
+pass-5 = (refl, (refl, (refl, (refl, (refl, (refl, (refl, (refl, (refl, (refl, (refl, (refl, (refl, tt)))))))))))))
+
+-- asks-hidden-for-each to bodies-8-alone
+files-6 : List Small
+files-6 =
+    record {
       name = "asks-hidden-for-each";
       file = "ask,0,4\nask,1,4\nhide,h\nfree,g\nfree,h\nfree,k\ndef,g,1\nall,2,1,1,1\nassume,on_h,0,3\nall,1,1,1,0\n"
           ∷ "assume,on_g,0,4\nroot,0,goal,0\nroot,1,goal,1\nroot,2,goal,2\n"
@@ -287,17 +647,7 @@ files-3 =
       file = "ask,0,0\nask,1,4\nask,2,8\nleaf\nfree,a b\n" ∷ [];
       printed = "refused,2,5\n" ∷ [];
     }
-    ∷ []
-
--- a wrong one is named in the error
-pass-3 : All-print files-3
-unfolding prints files-3
-pass-3 = (refl, (refl, (refl, (refl, (refl, (refl, (refl, (refl, (refl, tt)))))))))
-
--- asks-same-twice-with-declarations to contract-01-equation-without-pattern
-files-4 : List Small
-files-4 =
-    record {
+    ∷ record {
       name = "asks-same-twice-with-declarations";
       file = "ask,1,4\nask,1,4\nfree,top\nfree,mid\nfree,low\nfree,p\nop,other,1,3\ndef,top,4\ndef,mid,2\nfun,p\n"
           ∷ "fun,low\nall,0,1,1,3\nassume,on_p,0,5\nroot,0,goal,0\nroot,1,goal,3\n"
@@ -320,7 +670,17 @@ files-4 =
       file = "ask,0,8\nfree,f\ndef,g,0\nfun,f\nfree,g\nroot,0,r,1\n" ∷ [];
       printed = "sum,0,0,1\n" ∷ [];
     }
-    ∷ record {
+    ∷ []
+
+-- a wrong one is named in the error
+pass-6 : All-print files-6
+unfolding prints files-6
+pass-6 = (refl, (refl, (refl, (refl, (refl, (refl, (refl, (refl, (refl, (refl, tt))))))))))
+
+-- bodies-circle-of-three to contract-08-and-without-groups
+files-7 : List Small
+files-7 =
+    record {
       name = "bodies-circle-of-three";
       file = "ask,0,12\nfree,a\nfree,b\nfree,c\nfree,f\nop,other,1,3\ndef,a,4\ndef,b,2\ndef,c,0\nfun,f\nroot,0,r,1\n" ∷ [];
       printed = "kept,8,b\nkept,7,a\nkept,9,c\nkept,10,f\nsum,4,0,1\n" ∷ [];
@@ -388,17 +748,7 @@ files-4 =
       file = "ask,0,1\nfree,p\nfree,q\nop,eq,0,1\nassume,e,0,2\nroot,0,r,0\n" ∷ [];
       printed = "fact,5,triggers,{p},{q} free={p q}\nkept,5,e\nsum,1,2,3\n" ∷ [];
     }
-    ∷ []
-
--- a wrong one is named in the error
-pass-4 : All-print files-4
-unfolding prints files-4
-pass-4 = (refl, (refl, (refl, (refl, (refl, (refl, (refl, (refl, (refl, (refl, (refl, (refl, (refl, (refl, tt))))))))))))))
-
--- contract-02-no-ambients-root-lost to contract-20-nested-and
-files-5 : List Small
-files-5 =
-    record {
+    ∷ record {
       name = "contract-02-no-ambients-root-lost";
       file = "ask,0,1\nfree,x\nfree,Tm_refine_1\ncall,HasType,0,1\nassume,h,0,2\nall,0,1,1,0\nassume,a,0,3\n" ∷ [];
       printed = "fact,5,ambient,1 free={Tm_refine_1 x}\nfact,7,triggers,{x} free={x}\nsum,0,0,1\n" ∷ [];
@@ -433,7 +783,17 @@ files-5 =
       file = "ask,0,0\nfree,p\nop,and,0,0\nassume,a,0,1\nroot,0,r,0\n" ∷ [];
       printed = "fact,4,triggers free={p}\nsum,0,0,1\n" ∷ [];
     }
-    ∷ record {
+    ∷ []
+
+-- a wrong one is named in the error
+pass-7 : All-print files-7
+unfolding prints files-7
+pass-7 = (refl, (refl, (refl, (refl, (refl, (refl, (refl, (refl, (refl, (refl, (refl, (refl, (refl, (refl, (refl, (refl, (refl, (refl, tt))))))))))))))))))
+
+-- contract-09-token-excluded to contract-26-ambient-no-root
+files-8 : List Small
+files-8 =
+    record {
       name = "contract-09-token-excluded";
       file = "ask,0,0\nfree,__uu__PartialApp\nfree,HasType\ncall,ApplyTT,0,1\ncall,Valid,2\nassume,a,0,3\ndef,g,1\n"
           ∷ "call,g,1\nroot,0,r,4\n"
@@ -503,17 +863,7 @@ files-5 =
           ∷ [];
       printed = "fact,8,triggers free={p q}\nfact,9,triggers,{p},{q} free={p q}\nkept,9,e\nsum,1,2,3\n" ∷ [];
     }
-    ∷ []
-
--- a wrong one is named in the error
-pass-5 : All-print files-5
-unfolding prints files-5
-pass-5 = (refl, (refl, (refl, (refl, (refl, (refl, (refl, (refl, (refl, (refl, (refl, (refl, (refl, (refl, (refl, (refl, (refl, (refl, (refl, tt)))))))))))))))))))
-
--- contract-21-and-empty-group to decls-same-name-as-root
-files-6 : List Small
-files-6 =
-    record {
+    ∷ record {
       name = "contract-21-and-empty-group";
       file = "ask,0,0\nfree,p\nfree,q\nall,0,1,0\nall,0,1,2,0,1\nop,and,2,3\nassume,c,0,4\nroot,0,r,0\n" ∷ [];
       printed = "fact,7,triggers,{},{p q} free={p q}\nkept,7,c\nsum,1,2,3\n" ∷ [];
@@ -543,7 +893,17 @@ files-6 =
       file = "ask,0,0\nfree,p\nop,other,0\nassume,y,0,1\nall,0,1,1,0\nassume,a,0,2\n" ∷ [];
       printed = "fact,4,ambient,0 free={p}\nfact,6,triggers,{p} free={p}\nkept,4,y\nsum,1,0,1\n" ∷ [];
     }
-    ∷ record {
+    ∷ []
+
+-- a wrong one is named in the error
+pass-8 : All-print files-8
+unfolding prints files-8
+pass-8 = (refl, (refl, (refl, (refl, (refl, (refl, (refl, (refl, (refl, (refl, (refl, (refl, (refl, (refl, (refl, (refl, (refl, (refl, tt))))))))))))))))))
+
+-- contract-27-retained-name to dropped-facts
+files-9 : List Small
+files-9 =
+    record {
       name = "contract-27-retained-name";
       file = "ask,0,0\nfree,p\nall,0,1,1,0\nassume,a,0,1\nretain,a\n" ∷ [];
       printed = "fact,4,triggers,{p} free={p}\nsum,0,0,1\n" ∷ [];
@@ -619,17 +979,7 @@ files-6 =
       file = "ask,0,4\nfree,g\nfun,g\nroot,0,g,0\nroot,0,g,0\n" ∷ [];
       printed = "kept,3,g\nsum,1,0,1\n" ∷ [];
     }
-    ∷ []
-
--- a wrong one is named in the error
-pass-6 : All-print files-6
-unfolding prints files-6
-pass-6 = (refl, (refl, (refl, (refl, (refl, (refl, (refl, (refl, (refl, (refl, (refl, (refl, (refl, (refl, (refl, (refl, (refl, (refl, (refl, (refl, tt))))))))))))))))))))
-
--- def-kept-for-an-ambient-is-followed to earlier-line-before-13
-files-7 : List Small
-files-7 =
-    record {
+    ∷ record {
       name = "def-kept-for-an-ambient-is-followed";
       file = "ask,0,12\nfree,f\ndef,g,0\nfun,f\nfree,g\nlabel,1\nassume,m,0,2\n" ∷ [];
       printed = "fact,7,ambient,0 free={g}\nkept,7,m\nkept,3,g\nkept,4,f\nsum,3,0,1\n" ∷ [];
@@ -650,6 +1000,11 @@ files-7 =
       printed = "kept,4,a\nkept,5,b\nsum,2,0,1\n" ∷ [];
     }
     ∷ record {
+      name = "disjunct-met-half-by-ask-half-by-also";
+      file = "ask,0,0\nalso,1\nfree,p\nfree,q\nleaf\nall,2,1,2,0,1\nassume,a,0,3\nroot,0,r,0\nroot,1,r,1\n" ∷ [];
+      printed = "fact,7,triggers,{p q} free={p q}\nsum,0,1,1\nkept,7,a\nsum,1,1,2\n" ∷ [];
+    }
+    ∷ record {
       name = "dropped-facts";
       file = "ask,0,0\nfree,p\nop,true,0\nassume,a,0,1\nassume,equation_a,0,1\nassume,l_quant_interp_a,0,1\n"
           ∷ "assume,assumption_a,0,1\nroot,0,r,0\n"
@@ -658,7 +1013,17 @@ files-7 =
           ∷ "kept,7,assumption_a\nsum,1,1,2\n"
           ∷ [];
     }
-    ∷ record {
+    ∷ []
+
+-- a wrong one is named in the error
+pass-9 : All-print files-9
+unfolding prints files-9
+pass-9 = (refl, (refl, (refl, (refl, (refl, (refl, (refl, (refl, (refl, (refl, (refl, (refl, (refl, (refl, (refl, (refl, (refl, (refl, (refl, (refl, tt))))))))))))))))))))
+
+-- earlier-line-before-13
+files-10 : List Small
+files-10 =
+    record {
       name = "earlier-line-before-13";
       file = "ask,0,0\nask,0,0\nask,0,0\nask,0,0\nask,0,0\nask,0,0\nask,0,0\nask,0,0\nask,0,16\nask,0,0\nask,0,0\n"
           ∷ "ask,0,0\nask,0,0\nask,0,0\nask,0,0\nask,0,0\nask,0,0\n"
@@ -668,13 +1033,13 @@ files-7 =
     ∷ []
 
 -- a wrong one is named in the error
-pass-7 : All-print files-7
-unfolding prints files-7
-pass-7 = (refl, (refl, (refl, (refl, (refl, (refl, tt))))))
+pass-10 : All-print files-10
+unfolding prints files-10
+pass-10 = (refl, tt)
 
 -- every-kind
-files-8 : List Small
-files-8 =
+files-11 : List Small
+files-11 =
     record {
       name = "every-kind";
       file = "ask,0,4\nfree,SFuel\nfree,ZFuel\nfree,HasType\nfree,HasTypeZ\nfree,HasTypeFuel\nfree,Valid\n"
@@ -717,13 +1082,13 @@ files-8 =
     ∷ []
 
 -- a wrong one is named in the error
-pass-8 : All-print files-8
-unfolding prints files-8
-pass-8 = (refl, tt)
+pass-11 : All-print files-11
+unfolding prints files-11
+pass-11 = (refl, tt)
 
--- fact-not-reached-named-in-a-body-is-not-kept to hide-after-term-is-1
-files-9 : List Small
-files-9 =
+-- fact-not-reached-named-in-a-body-is-not-kept to hide-256-bytes
+files-12 : List Small
+files-12 =
     record {
       name = "fact-not-reached-named-in-a-body-is-not-kept";
       file = "ask,0,12\nfree,x\ndef,g,0\nfree,y\nop,eq,1,1\nassume,x,0,2\nfree,g\nroot,0,r,3\n" ∷ [];
@@ -789,6 +1154,25 @@ files-9 =
           ∷ [];
       printed = "refused,2,3\n" ∷ [];
     }
+    ∷ []
+
+-- a wrong one is named in the error
+pass-12 : All-print files-12
+unfolding prints files-12
+pass-12 = (refl, (refl, (refl, (refl, (refl, (refl, (refl, (refl, (refl, (refl, tt))))))))))
+
+-- hide-after-also to hide-in-a-scanned-fact
+files-13 : List Small
+files-13 =
+    record {
+      name = "hide-after-also";
+      file = "ask,0,0\nalso,1\nhide,q\nfree,p\nfree,q\nop,eq,0,0\nassume,a,0,2\nop,eq,1,1\nassume,b,0,3\nroot,0,r,0\n"
+          ∷ "root,1,r,1\n"
+          ∷ [];
+      printed = "fact,7,triggers,{p},{p} free={p}\nfact,9,triggers,{},{} free={}\nkept,7,a\nsum,1,2,2\nkept,7,a\n"
+          ∷ "sum,1,0,1\n"
+          ∷ [];
+    }
     ∷ record {
       name = "hide-after-record-is-1";
       file = "ask,0,0\nhide,p\nfun,p\nhide,q\n" ∷ [];
@@ -799,17 +1183,14 @@ files-9 =
       file = "ask,0,0\nhide,p\nfree,p\nhide,q\n" ∷ [];
       printed = "refused,1,4\n" ∷ [];
     }
-    ∷ []
-
--- a wrong one is named in the error
-pass-9 : All-print files-9
-unfolding prints files-9
-pass-9 = (refl, (refl, (refl, (refl, (refl, (refl, (refl, (refl, (refl, (refl, (refl, (refl, tt))))))))))))
-
--- hide-def-is-not-opened to hide-misplaced-before-its-fields
-files-10 : List Small
-files-10 =
-    record {
+    ∷ record {
+      name = "hide-between-also-lines-is-1";
+      file = "ask,0,0\nalso,1\nhide,q\nalso,0\nfree,p\nfree,q\nop,eq,0,0\nassume,a,0,2\nop,eq,1,1\nassume,b,0,3\n"
+          ∷ "root,0,r,0\nroot,1,r,1\n"
+          ∷ [];
+      printed = "refused,1,4\n" ∷ [];
+    }
+    ∷ record {
       name = "hide-def-is-not-opened";
       file = "ask,0,4\nhide,g\nfree,g\nfree,q\ndef,g,1\nop,eq,1,1\nassume,a,0,2\nfun,q\nroot,0,r,0\n" ∷ [];
       printed = "fact,7,triggers,{q},{q} free={q}\nsum,0,0,1\n" ∷ [];
@@ -863,7 +1244,17 @@ files-10 =
           ∷ [];
       printed = "fact,8,triggers,{p} free={p}\nfact,10,triggers,{},{z} free={z}\nkept,8,a\nsum,1,1,2\n" ∷ [];
     }
-    ∷ record {
+    ∷ []
+
+-- a wrong one is named in the error
+pass-13 : All-print files-13
+unfolding prints files-13
+pass-13 = (refl, (refl, (refl, (refl, (refl, (refl, (refl, (refl, (refl, (refl, (refl, tt)))))))))))
+
+-- hide-in-rule-2 to hide-without-name-is-1
+files-14 : List Small
+files-14 =
+    record {
       name = "hide-in-rule-2";
       file = "ask,0,0\nhide,w\nfree,w\nfree,p\nop,other,0,1\nassume,assumption_a,0,2\nroot,0,r,1\n" ∷ [];
       printed = "fact,6,triggers,{p} free={p}\nkept,6,assumption_a\nsum,1,1,2\n" ∷ [];
@@ -890,17 +1281,7 @@ files-10 =
       file = "ask,0,0\nleaf\nhide,\n" ∷ [];
       printed = "refused,1,3\n" ∷ [];
     }
-    ∷ []
-
--- a wrong one is named in the error
-pass-10 : All-print files-10
-unfolding prints files-10
-pass-10 = (refl, (refl, (refl, (refl, (refl, (refl, (refl, (refl, (refl, (refl, (refl, (refl, tt))))))))))))
-
--- hide-name-is-taken-once to macro-box-each
-files-11 : List Small
-files-11 =
-    record {
+    ∷ record {
       name = "hide-name-is-taken-once";
       file = "ask,0,4\nhide,f\nhide,f\nfree,f\nfree,p\nfun,f\nroot,0,f,0\nroot,0,f,1\ndef,f,1\n" ∷ [];
       printed = "refused,5,9\n" ∷ [];
@@ -991,7 +1372,17 @@ files-11 =
       file = "ask,0,0\nhide\n" ∷ [];
       printed = "refused,1,2\n" ∷ [];
     }
-    ∷ record {
+    ∷ []
+
+-- a wrong one is named in the error
+pass-14 : All-print files-14
+unfolding prints files-14
+pass-14 = (refl, (refl, (refl, (refl, (refl, (refl, (refl, (refl, (refl, (refl, (refl, (refl, (refl, (refl, (refl, (refl, (refl, (refl, (refl, (refl, tt))))))))))))))))))))
+
+-- macro-box-each to misplaced-ask-is-1-before-its-fields
+files-15 : List Small
+files-15 =
+    record {
       name = "macro-box-each";
       file = "ask,0,0\nfree,is-BoxBool\nfree,is-BoxInt\nfree,is-BoxString\nfree,is-BoxReal\nfree,is-BoxProp\n"
           ∷ "free,BoxBool\nfree,BoxInt\nfree,BoxString\nfree,BoxReal\nfree,BoxProp\nleaf\nall,10,1,1,5\n"
@@ -1004,17 +1395,7 @@ files-11 =
           ∷ "sum,5,5,2\n"
           ∷ [];
     }
-    ∷ []
-
--- a wrong one is named in the error
-pass-11 : All-print files-11
-unfolding prints files-11
-pass-11 = (refl, (refl, (refl, (refl, (refl, (refl, (refl, (refl, (refl, (refl, (refl, (refl, (refl, (refl, (refl, (refl, tt))))))))))))))))
-
--- macro-box-fun-does-not-replace to not-retained-round
-files-12 : List Small
-files-12 =
-    record {
+    ∷ record {
       name = "macro-box-fun-does-not-replace";
       file = "ask,0,4\ncall,is-BoxInt\ncall,BoxInt\nfun,is-BoxInt\nfun,BoxInt\nleaf\nall,2,1,1,1\nassume,a,0,3\n"
           ∷ "root,0,r,0\n"
@@ -1061,6 +1442,11 @@ files-12 =
       printed = "fact,5,triggers,{g} free={g}\nkept,5,a\nkept,3,g\nsum,2,1,2\n" ∷ [];
     }
     ∷ record {
+      name = "macro-opened-in-the-stretch";
+      file = "ask,0,0\nalso,1\nfree,g\nfree,k\ndef,g,1\nop,eq,1,1\nassume,a,0,2\nroot,1,r,0\n" ∷ [];
+      printed = "fact,7,triggers,{k},{k} free={k}\nsum,0,0,1\nkept,7,a\nsum,1,2,2\n" ∷ [];
+    }
+    ∷ record {
       name = "macro-opens-to-excluded-name";
       file = "ask,0,0\nfree,__uu__PartialApp\nfree,HasType@tok\ncall,ApplyTT,0,1\ncall,Valid,2\nassume,a,0,3\n"
           ∷ "call,HasType\ndef,g,4\ncall,g\nroot,0,r,5\n"
@@ -1084,11 +1470,26 @@ files-12 =
           ∷ [];
     }
     ∷ record {
+      name = "misplaced-also-is-1-before-its-fields";
+      file = "ask,0,0\nleaf\nalso,999\n" ∷ [];
+      printed = "refused,1,3\n" ∷ [];
+    }
+    ∷ record {
       name = "misplaced-ask-is-1-before-its-fields";
       file = "ask,0,0\nfun,p\nask,999,99\n" ∷ [];
       printed = "refused,1,3\n" ∷ [];
     }
-    ∷ record {
+    ∷ []
+
+-- a wrong one is named in the error
+pass-15 : All-print files-15
+unfolding prints files-15
+pass-15 = (refl, (refl, (refl, (refl, (refl, (refl, (refl, (refl, (refl, (refl, (refl, (refl, (refl, (refl, (refl, tt)))))))))))))))
+
+-- name-bytes to order-of-facts
+files-16 : List Small
+files-16 =
+    record {
       name = "name-bytes";
       file = "ask,0,4\nfree,!\nfree,~\nfree,\"\nfree,ask\nfree,65535\ncall,leaf,0,1,2,3,4\nfun,~\nfun,!\nfun,\"\n"
           ∷ "fun,ask\nfun,65535\ndef,leaf,0\nroot,0,root,5\n"
@@ -1110,17 +1511,7 @@ files-12 =
       file = "ask,0,0\nfree,p\nall,0,1,1,0\nassume,z,1,1\nroot,0,r,0\n" ∷ [];
       printed = "fact,4,triggers,{p} free={p}\nsum,0,1,2\n" ∷ [];
     }
-    ∷ []
-
--- a wrong one is named in the error
-pass-12 : All-print files-12
-unfolding prints files-12
-pass-12 = (refl, (refl, (refl, (refl, (refl, (refl, (refl, (refl, (refl, (refl, (refl, (refl, (refl, (refl, (refl, (refl, tt))))))))))))))))
-
--- ok-free-255 to r-5-def-fun
-files-13 : List Small
-files-13 =
-    record {
+    ∷ record {
       name = "ok-free-255";
       file = "ask,0,0\n"
           ∷ "free,xxxxxxxxxxxxxxxxxxxxxxxxxxxxxxxxxxxxxxxxxxxxxxxxxxxxxxxxxxxxxxxxxxxxxxxxxxxxxxxxxxxxxxxxxxxxxxxxxxxxxxxxxxxxxxxxxxxxxxxxxxxxxxxxxxxxxxxxxxxxxxxxxxxxxxxxxxxxxxxxxxxxxxxxxxxxxxxxxxxxxxxxxxxxxxxxxxxxxxxxxxxxxxxxxxxxxxxxxxxxxxxxxxxxxxxxxxxxxxxxxxxxxxxxxxxxxxx\n"
@@ -1198,7 +1589,17 @@ files-13 =
           ∷ "kept,11,y\nsum,8,2,2\n"
           ∷ [];
     }
-    ∷ record {
+    ∷ []
+
+-- a wrong one is named in the error
+pass-16 : All-print files-16
+unfolding prints files-16
+pass-16 = (refl, (refl, (refl, (refl, (refl, (refl, (refl, (refl, (refl, (refl, (refl, (refl, (refl, (refl, (refl, (refl, (refl, tt)))))))))))))))))
+
+-- order-three-orders to r-call-alone
+files-17 : List Small
+files-17 =
+    record {
       name = "order-three-orders";
       file = "ask,0,4\nfree,n1\nfree,n2\nfree,n3\nfree,n4\nfree,n5\nfree,n6\nleaf\nop,and,0,1,2,3,4,5\nfun,n3\n"
           ∷ "def,n4,6\ndef,n2,6\nfun,n1\nfun,n5\ndef,n6,6\nroot,0,r,7\n"
@@ -1220,6 +1621,24 @@ files-13 =
       printed = "kept,5,g\nkept,6,f\nsum,2,0,1\n" ∷ [];
     }
     ∷ record {
+      name = "query-twice-in-a-chain-adds-none";
+      file = "ask,0,0\nalso,0\nfree,p\nfree,q\nop,eq,0,0\nassume,a,0,2\nop,eq,1,1\nassume,b,0,3\nroot,0,r,0\n"
+          ∷ "root,1,r,1\n"
+          ∷ [];
+      printed = "fact,6,triggers,{p},{p} free={p}\nfact,8,triggers,{q},{q} free={q}\nkept,6,a\nsum,1,2,2\nkept,6,a\n"
+          ∷ "sum,1,0,1\n"
+          ∷ [];
+    }
+    ∷ record {
+      name = "query-without-roots-adds-none";
+      file = "ask,0,0\nalso,9\nfree,p\nfree,q\nop,eq,0,0\nassume,a,0,2\nop,eq,1,1\nassume,b,0,3\nroot,0,r,0\n"
+          ∷ "root,1,r,1\n"
+          ∷ [];
+      printed = "fact,6,triggers,{p},{p} free={p}\nfact,8,triggers,{q},{q} free={q}\nkept,6,a\nsum,1,2,2\nkept,6,a\n"
+          ∷ "sum,1,0,1\n"
+          ∷ [];
+    }
+    ∷ record {
       name = "r-3-beats-later-no-0a";
       file = "ask,0,0\nlabel,x\nleaf" ∷ [];
       printed = "refused,3,2\n" ∷ [];
@@ -1229,17 +1648,7 @@ files-13 =
       file = "ask,0,0\nleaf\ndef,a,0\nfun,a\n" ∷ [];
       printed = "refused,5,4\n" ∷ [];
     }
-    ∷ []
-
--- a wrong one is named in the error
-pass-13 : All-print files-13
-unfolding prints files-13
-pass-13 = (refl, (refl, (refl, (refl, (refl, (refl, (refl, (refl, (refl, (refl, (refl, (refl, (refl, (refl, (refl, (refl, (refl, (refl, tt))))))))))))))))))
-
--- r-5-fun-assume to r-free-00
-files-14 : List Small
-files-14 =
-    record {
+    ∷ record {
       name = "r-5-fun-assume";
       file = "ask,0,0\nleaf\nfun,a\nassume,a,0,0\n" ∷ [];
       printed = "refused,5,4\n" ∷ [];
@@ -1304,7 +1713,17 @@ files-14 =
       file = "ask,0,0\ncall\n" ∷ [];
       printed = "refused,1,2\n" ∷ [];
     }
-    ∷ record {
+    ∷ []
+
+-- a wrong one is named in the error
+pass-17 : All-print files-17
+unfolding prints files-17
+pass-17 = (refl, (refl, (refl, (refl, (refl, (refl, (refl, (refl, (refl, (refl, (refl, (refl, (refl, (refl, (refl, (refl, (refl, (refl, (refl, (refl, tt))))))))))))))))))))
+
+-- r-call-comma to r-some-bad-body-first
+files-18 : List Small
+files-18 =
+    record {
       name = "r-call-comma";
       file = "ask,0,0\nleaf\ncall,f,\n" ∷ [];
       printed = "refused,3,3\n" ∷ [];
@@ -1339,17 +1758,7 @@ files-14 =
       file = "ask,0,0\nfree,\0\n" ∷ [];
       printed = "refused,2,2\n" ∷ [];
     }
-    ∷ []
-
--- a wrong one is named in the error
-pass-14 : All-print files-14
-unfolding prints files-14
-pass-14 = (refl, (refl, (refl, (refl, (refl, (refl, (refl, (refl, (refl, (refl, (refl, (refl, (refl, (refl, (refl, (refl, (refl, (refl, (refl, (refl, tt))))))))))))))))))))
-
--- r-free-256 to retain-no-effect
-files-15 : List Small
-files-15 =
-    record {
+    ∷ record {
       name = "r-free-256";
       file = "ask,0,0\n"
           ∷ "free,xxxxxxxxxxxxxxxxxxxxxxxxxxxxxxxxxxxxxxxxxxxxxxxxxxxxxxxxxxxxxxxxxxxxxxxxxxxxxxxxxxxxxxxxxxxxxxxxxxxxxxxxxxxxxxxxxxxxxxxxxxxxxxxxxxxxxxxxxxxxxxxxxxxxxxxxxxxxxxxxxxxxxxxxxxxxxxxxxxxxxxxxxxxxxxxxxxxxxxxxxxxxxxxxxxxxxxxxxxxxxxxxxxxxxxxxxxxxxxxxxxxxxxxxxxxxxxxx\n"
@@ -1416,7 +1825,17 @@ files-15 =
       file = "ask,0,0\nleaf\nsome,x\n" ∷ [];
       printed = "refused,3,3\n" ∷ [];
     }
-    ∷ record {
+    ∷ []
+
+-- a wrong one is named in the error
+pass-18 : All-print files-18
+unfolding prints files-18
+pass-18 = (refl, (refl, (refl, (refl, (refl, (refl, (refl, (refl, (refl, (refl, (refl, (refl, (refl, (refl, (refl, (refl, (refl, (refl, (refl, (refl, tt))))))))))))))))))))
+
+-- r-some-count-01 to rounds-reached-again-with-another
+files-19 : List Small
+files-19 =
+    record {
       name = "r-some-count-01";
       file = "ask,0,0\nleaf\nsome,0,1,01,0\n" ∷ [];
       printed = "refused,3,3\n" ∷ [];
@@ -1451,20 +1870,15 @@ files-15 =
       file = "ask,0,0\nretain\nretain,a,b,a\nleaf\nassume,a,0,0\n" ∷ [];
       printed = "fact,5,ambient,0 free={}\nkept,5,a\nsum,1,0,1\n" ∷ [];
     }
-    ∷ []
-
--- a wrong one is named in the error
-pass-15 : All-print files-15
-unfolding prints files-15
-pass-15 = (refl, (refl, (refl, (refl, (refl, (refl, (refl, (refl, (refl, (refl, (refl, (refl, (refl, (refl, (refl, (refl, (refl, (refl, (refl, (refl, tt))))))))))))))))))))
-
--- roots-of-own-query-for-funs to rule-0-excluded-in-group
-files-16 : List Small
-files-16 =
-    record {
+    ∷ record {
       name = "roots-of-own-query-for-funs";
       file = "ask,0,4\nask,1,4\nask,2,4\nfun,p\nfun,q\nfree,p\nfree,q\nroot,0,r,0\nroot,1,r,1\n" ∷ [];
       printed = "kept,4,p\nsum,1,0,1\nkept,5,q\nsum,1,0,1\nsum,0,0,1\n" ∷ [];
+    }
+    ∷ record {
+      name = "roots-of-the-chain-go-by-line";
+      file = "ask,0,4\nalso,1\nfun,p\nfun,q\nfree,p\nfree,q\nroot,1,r,0\nroot,0,r,1\n" ∷ [];
+      printed = "kept,4,q\nsum,1,0,1\nkept,4,q\nkept,3,p\nsum,2,0,1\n" ∷ [];
     }
     ∷ record {
       name = "rounds-disjunct-in-two-rounds";
@@ -1520,11 +1934,31 @@ files-16 =
           ∷ [];
     }
     ∷ record {
+      name = "rounds-of-the-stretch-are-not-the-fresh-ones";
+      file = "ask,0,0\nalso,1\nfree,p\nfree,q\nfree,s\nop,eq,0,1\nassume,a,0,3\nop,eq,1,2\nassume,b,0,4\nfree,t\n"
+          ∷ "free,u\nop,eq,5,6\nassume,c,0,7\nroot,0,r,0\nroot,1,r,5\n"
+          ∷ [];
+      printed = "fact,7,triggers,{p},{q} free={p q}\nfact,9,triggers,{q},{s} free={q s}\n"
+          ∷ "fact,13,triggers,{t},{u} free={t u}\nkept,7,a\nkept,9,b\nsum,2,4,4\nkept,7,a\nkept,9,b\nkept,13,c\n"
+          ∷ "sum,3,2,3\n"
+          ∷ [];
+    }
+    ∷ record {
       name = "rounds-reached-again-with-another";
       file = "ask,0,0\nfree,p\nfree,q\nop,eq,0,1\nassume,e,0,2\nleaf\nall,3,1,1,1\nassume,f,0,4\nroot,0,r,0\n" ∷ [];
       printed = "fact,5,triggers,{p},{q} free={p q}\nfact,8,triggers,{q} free={q}\nkept,5,e\nkept,8,f\nsum,2,3,3\n" ∷ [];
     }
-    ∷ record {
+    ∷ []
+
+-- a wrong one is named in the error
+pass-19 : All-print files-19
+unfolding prints files-19
+pass-19 = (refl, (refl, (refl, (refl, (refl, (refl, (refl, (refl, (refl, (refl, (refl, (refl, (refl, (refl, (refl, (refl, (refl, (refl, (refl, (refl, tt))))))))))))))))))))
+
+-- rounds-root-of-other-query to rule-11
+files-20 : List Small
+files-20 =
+    record {
       name = "rounds-root-of-other-query";
       file = "ask,3,0\nfree,p\nfree,q\nleaf\nall,2,1,2,0,1\nassume,a,0,3\nroot,3,r,0\nroot,2,r,1\n" ∷ [];
       printed = "fact,6,triggers,{p q} free={p q}\nsum,0,1,1\n" ∷ [];
@@ -1563,17 +1997,7 @@ files-16 =
       file = "ask,0,0\nfree,p\ncall,HasType,0,0\ncall,Valid\nall,0,3,1,1,1,2,2,0,2\nassume,a,0,3\n" ∷ [];
       printed = "fact,6,triggers,{p},{},{p} free={p}\nsum,0,0,1\n" ∷ [];
     }
-    ∷ []
-
--- a wrong one is named in the error
-pass-16 : All-print files-16
-unfolding prints files-16
-pass-16 = (refl, (refl, (refl, (refl, (refl, (refl, (refl, (refl, (refl, (refl, (refl, (refl, (refl, (refl, (refl, (refl, (refl, (refl, tt))))))))))))))))))
-
--- rule-0-no-group-assumption to rule-3-arities
-files-17 : List Small
-files-17 =
-    record {
+    ∷ record {
       name = "rule-0-no-group-assumption";
       file = "ask,0,0\nfree,p\nfree,q\nall,0,0\nassume,assumption_1,0,2\n" ∷ [];
       printed = "fact,5,triggers,{p} free={p}\nsum,0,0,1\n" ∷ [];
@@ -1636,7 +2060,17 @@ files-17 =
       file = "ask,0,0\nfree,p\nfree,q\nop,true,0\nassume,x,0,2\n" ∷ [];
       printed = "fact,5,drop free={p}\nsum,0,0,1\n" ∷ [];
     }
-    ∷ record {
+    ∷ []
+
+-- a wrong one is named in the error
+pass-20 : All-print files-20
+unfolding prints files-20
+pass-20 = (refl, (refl, (refl, (refl, (refl, (refl, (refl, (refl, (refl, (refl, (refl, (refl, (refl, (refl, (refl, (refl, (refl, (refl, tt))))))))))))))))))
+
+-- rule-11-words to rule-3-type-is-all
+files-21 : List Small
+files-21 =
+    record {
       name = "rule-11-words";
       file = "ask,0,0\nfree,p\nop,true\nassume,a,0,1\nop,true,0,0,0\nassume,b,0,2\nop,and\nassume,c,0,3\nop,other\n"
           ∷ "assume,d,0,4\nop,iff\nassume,e,0,5\nop,eq\nassume,f,0,6\nlabel,1\nassume,g,0,7\n"
@@ -1680,17 +2114,7 @@ files-17 =
           ∷ "kept,16,a0\nkept,13,a3\nkept,7,a1\nsum,4,1,2\n"
           ∷ [];
     }
-    ∷ []
-
--- a wrong one is named in the error
-pass-17 : All-print files-17
-unfolding prints files-17
-pass-17 = (refl, (refl, (refl, (refl, (refl, (refl, (refl, (refl, (refl, (refl, (refl, (refl, (refl, (refl, (refl, (refl, tt))))))))))))))))
-
--- rule-3-free-squash to rule-4-tok-tok
-files-18 : List Small
-files-18 =
-    record {
+    ∷ record {
       name = "rule-3-free-squash";
       file = "ask,0,0\nfree,p\nfree,q\nfree,Prims.squash\ncall,HasType,0,2\nassume,x,0,3\n" ∷ [];
       printed = "fact,6,triggers,{p} free={Prims.squash p}\nsum,0,0,1\n" ∷ [];
@@ -1736,7 +2160,17 @@ files-18 =
       file = "ask,0,0\nfree,x\nall,0,1,1,0\ncall,HasType,0,1\nassume,a,0,2\n" ∷ [];
       printed = "fact,5,triggers,{x} free={x}\nsum,0,0,1\n" ∷ [];
     }
-    ∷ record {
+    ∷ []
+
+-- a wrong one is named in the error
+pass-21 : All-print files-21
+unfolding prints files-21
+pass-21 = (refl, (refl, (refl, (refl, (refl, (refl, (refl, (refl, (refl, (refl, (refl, (refl, (refl, tt)))))))))))))
+
+-- rule-4-markers to rule-5-hastype
+files-22 : List Small
+files-22 =
+    record {
       name = "rule-4-markers";
       file = "ask,0,0\nfree,__uu__PartialApp\ncall,__uu__PartialApp\nfree,x\ncall,__uu__PartialApp,2\ncall,f@tok\n"
           ∷ "call,ApplyTT,0,4\ncall,Valid,5\nassume,a,0,6\ncall,ApplyTT,1,4\ncall,Valid,7\nassume,b,0,8\n"
@@ -1761,17 +2195,7 @@ files-18 =
           ∷ [];
       printed = "fact,8,triggers,{a@tok@tok},{a@tok} free={__uu__PartialApp a@tok@tok}\nsum,0,0,1\n" ∷ [];
     }
-    ∷ []
-
--- a wrong one is named in the error
-pass-18 : All-print files-18
-unfolding prints files-18
-pass-18 = (refl, (refl, (refl, (refl, (refl, (refl, (refl, (refl, (refl, (refl, tt))))))))))
-
--- rule-4-tokens to rule-7
-files-19 : List Small
-files-19 =
-    record {
+    ∷ record {
       name = "rule-4-tokens";
       file = "ask,0,0\nfree,__uu__PartialApp\nfree,x\nfree,f@to\ncall,ApplyTT,0,2\ncall,Valid,3\nassume,a,0,4\nleaf\n"
           ∷ "call,ApplyTT,0,5\ncall,Valid,6\nassume,b,0,7\ncall,g@tok,1\ncall,ApplyTT,0,8\ncall,Valid,9\n"
@@ -1813,7 +2237,17 @@ files-19 =
       file = "ask,0,0\nfree,p\nfree,q\ncall,HasType,1,0\nassume,x,0,2\n" ∷ [];
       printed = "fact,5,triggers,{q} free={p q}\nsum,0,0,1\n" ∷ [];
     }
-    ∷ record {
+    ∷ []
+
+-- a wrong one is named in the error
+pass-22 : All-print files-22
+unfolding prints files-22
+pass-22 = (refl, (refl, (refl, (refl, (refl, (refl, tt))))))
+
+-- rule-6 to rule-9-half-right
+files-23 : List Small
+files-23 =
+    record {
       name = "rule-6";
       file = "ask,0,0\nfree,p\nfree,q\ncall,Term_constr_id,1\nop,eq,0,2\nassume,equation_x,0,3\n" ∷ [];
       printed = "fact,6,triggers,{q} free={Term_constr_id p q}\nsum,0,0,1\n" ∷ [];
@@ -1845,17 +2279,7 @@ files-19 =
       file = "ask,0,0\nfree,p\nfree,q\nall,0,1,1,1\nlabel,2\nall,0,2,1,0,0\nop,and,0,3,4,2\nassume,x,0,5\n" ∷ [];
       printed = "fact,8,triggers,{q},{p},{},{q} free={p q}\nsum,0,0,1\n" ∷ [];
     }
-    ∷ []
-
--- a wrong one is named in the error
-pass-19 : All-print files-19
-unfolding prints files-19
-pass-19 = (refl, (refl, (refl, (refl, (refl, (refl, (refl, (refl, tt))))))))
-
--- rule-7-nested to without-hide-needs-both-names
-files-20 : List Small
-files-20 =
-    record {
+    ∷ record {
       name = "rule-7-nested";
       file = "ask,0,0\nfree,p\nfree,q\nall,0,1,1,1\nop,and,2\nop,and,3\nassume,x,0,4\n" ∷ [];
       printed = "fact,7,triggers free={p q}\nsum,0,0,1\n" ∷ [];
@@ -1892,7 +2316,17 @@ files-20 =
       file = "ask,0,0\nfree,p\nfree,q\ncall,Prims.hasEq,0,1\ncall,Valid,2\nop,iff,0,3\nassume,x,0,4\n" ∷ [];
       printed = "fact,7,triggers,{p},{Prims.hasEq p q} free={Prims.hasEq p q}\nsum,0,0,1\n" ∷ [];
     }
-    ∷ record {
+    ∷ []
+
+-- a wrong one is named in the error
+pass-23 : All-print files-23
+unfolding prints files-23
+pass-23 = (refl, (refl, (refl, (refl, (refl, (refl, (refl, (refl, (refl, tt)))))))))
+
+-- rule-9-has-eq to without-hide-needs-both-names
+files-24 : List Small
+files-24 =
+    record {
       name = "rule-9-has-eq";
       file = "ask,0,0\nfree,u\nfree,s\nfree,t\ncall,Prims.hasEq,0,1\ncall,Valid,3\ncall,Prims.hasEq,0,2\n"
           ∷ "call,Valid,5\nop,iff,4,6\nassume,a,0,7\nop,iff,6,4\nassume,b,0,8\nop,iff,4,0\nassume,c,0,9\nop,iff,3,5\n"
@@ -1926,6 +2360,18 @@ files-20 =
       printed = "sum,0,0,1\n" ∷ [];
     }
     ∷ record {
+      name = "stretch-that-triggers-only-a-reached-fact-has-two-rounds";
+      file = "ask,0,0\nalso,1\nfree,__uu__PartialApp\nfree,f@tok\ncall,ApplyTT,0,1\ncall,Valid,2\nassume,t,0,3\n"
+          ∷ "free,f\nroot,0,r,1\nroot,1,r,4\n"
+          ∷ [];
+      printed = "fact,7,triggers,{f@tok},{f} free={__uu__PartialApp f@tok}\nkept,7,t\nsum,1,1,2\nkept,7,t\nsum,1,1,2\n" ∷ [];
+    }
+    ∷ record {
+      name = "stretch-that-triggers-only-pretyping-has-two-rounds";
+      file = "ask,0,0\nalso,1\nfree,p\nfree,q\nop,eq,1,1\nassume,a,1,2\nroot,0,r,0\nroot,1,r,1\n" ∷ [];
+      printed = "fact,6,triggers,{q},{q} free={q}\nsum,0,0,1\nsum,0,2,2\n" ∷ [];
+    }
+    ∷ record {
       name = "two-asks-two-answers";
       file = "ask,0,0\nask,1,0\nfree,p\nfree,q\nop,eq,0,0\nassume,a,0,2\nop,eq,1,1\nassume,b,0,3\nroot,0,r,0\n"
           ∷ "root,1,r,1\n"
@@ -1942,6 +2388,6 @@ files-20 =
     ∷ []
 
 -- a wrong one is named in the error
-pass-20 : All-print files-20
-unfolding prints files-20
-pass-20 = (refl, (refl, (refl, (refl, (refl, (refl, (refl, (refl, (refl, (refl, (refl, tt)))))))))))
+pass-24 : All-print files-24
+unfolding prints files-24
+pass-24 = (refl, (refl, (refl, (refl, (refl, (refl, (refl, (refl, tt))))))))

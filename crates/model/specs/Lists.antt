@@ -36,6 +36,12 @@ module _ {A : Type 0} where
   concat [] = []
   concat (l ∷ ls) = l ++ concat ls
 
+  -- the last element, as a list of one
+  unfoldable pub last : List A → List A
+  last [] = []
+  last (x ∷ []) = x ∷ []
+  last (x ∷ y ∷ xs) = last (y ∷ xs)
+
   -- whether the list has no element
   unfoldable pub is-nil : List A → Bool
   is-nil [] = true

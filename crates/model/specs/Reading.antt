@@ -1,5 +1,6 @@
 -- Reading a file, line after line: document 01, "The file" and "Who can cause a refusal", the refusals 1 to 6;
--- document 02, Change 1: 10 to 12, Change 6: hide lines, Change 7: several ask lines, 13, Change 8: options up to 15.
+-- document 02, Change 1: 10 to 12, Change 6: hide lines, Change 7: several ask lines, 13, Change 8: options up to 15,
+-- Change 11: also lines.
 use Prim.Native.Nat.{ℕ, zero, suc, _+_, _/_, _%_}
 use Prim.Native.String.{String}
 use mathlib.Core.Bool.{Bool, true, false, cond, not, _&&_}
@@ -7,7 +8,7 @@ use mathlib.Core.List.{List, [], _∷_, _++_, map}
 use mathlib.Core.Option.{Option, none, some}
 use lib.ListN.{length}
 use lib.Dec.{leb, ltb, eqb}
-use Rattle.model.specs.Lists.{any, sum, collect, fold-left, is-nil, holds}
+use Rattle.model.specs.Lists.{any, sum, collect, fold-left, is-nil, holds, last}
 use Rattle.model.specs.Names.{Name, bytes, same, mem}
 use Rattle.model.specs.Lines.{Line, lines, Field, fields, is-name, number}
 use Rattle.model.specs.Terms.{Node, FreeV, Leaf, Call, App, Forall, Exists, Let, Labeled, Term, add-term, references}
@@ -56,6 +57,7 @@ op-words = ("true", TrueOp) ∷ ("iff", Iff) ∷ ("eq", Eq) ∷ ("and", And) ∷
 unfoldable pub kinds : List (String × LineKind)
 kinds =
     ("ask", kind.Ask)
+    ∷ ("also", kind.Also)
     ∷ ("hide", kind.Hide)
     ∷ ("free", kind.Free)
     ∷ ("leaf", kind.Leaf)
@@ -116,6 +118,7 @@ groups count (suc g) fs = do
 -- what a line of the head of a file says, in the order of its fields
 pub data Head : Type 0 where
   ask : ℕ → ℕ → Head
+  also : ℕ → Head
   hide : Name → Head
 
 -- what a line says, in the order of its fields
@@ -149,6 +152,9 @@ content kind.Ask count fs = do
   (q, fs₁) ← next (number-field most-query) fs
   (options, fs₂) ← next (number-field most-options) fs₁
   end (head (ask q options)) fs₂
+content kind.Also count fs = do
+  (q, fs₁) ← next (number-field most-query) fs
+  end (head (also q)) fs₁
 content kind.Hide count fs = do
   (name, fs₁) ← next name-field fs
   end (head (hide name)) fs₁
@@ -214,7 +220,8 @@ pub record Root : Type 0 where
   pub name : Name
   pub free-names : List Name
 
--- what one ask line asks for: the queries whose roots are the goal, and the options number
+-- what a position asks for: the query of its line, and on an also line those before it in its chain, the last first; and the
+-- options number
 pub record Ask : Type 0 where
   pub queries : List ℕ
   pub options : ℕ
@@ -235,8 +242,8 @@ prune-decls a = eqb (a .options / 4 % 2) 1
 unfoldable pub follow-bodies : Ask → Bool
 follow-bodies a = eqb (a .options / 8 % 2) 1
 
--- what reading carries from line to line. `asks`: one for each ask line. `hidden`: a name for each hide line. `names`: in order
--- of first spelling. `decls` and `roots`: in file order
+-- what reading carries from line to line. `asks`: one for each ask and also line. `hidden`: a name for each hide line. `names`:
+-- in order of first spelling. `decls` and `roots`: in file order
 pub record State : Type 0 where
   pub asks : List Ask
   pub hidden : List Name
@@ -263,22 +270,24 @@ start =
       uses = 0;
     }
 
--- whether nothing but ask and hide lines was read so far
+-- whether nothing but ask, also and hide lines was read so far
 unfoldable pub in-head : State → Bool
 in-head s = is-nil (s .terms) && is-nil (s .decls) && is-nil (s .roots)
 
--- whether nothing but ask lines was read so far
+-- whether nothing but ask and also lines was read so far
 unfoldable pub in-asks : State → Bool
 in-asks s = in-head s && is-nil (s .hidden)
 
--- what decides where a line of a kind may stand: an ask, a hide, or any other
+-- what decides where a line of a kind may stand: an ask, an also, a hide, or any other
 pub data Place : Type 0 where
   an-ask : Place
+  an-also : Place
   a-hide : Place
   another : Place
 
 unfoldable pub place : LineKind → Place
 place kind.Ask = an-ask
+place kind.Also = an-also
 place kind.Hide = a-hide
 place kind.Free = another
 place kind.Leaf = another
@@ -294,19 +303,21 @@ place kind.Def = another
 place kind.Retain = another
 place kind.Root = another
 
--- whether such a line may stand next: asks first, at least one; then hide lines; then any other
+-- whether such a line may stand next: an ask first, then ask and also lines; then hide lines; then any other
 unfoldable pub may-stand : State → Place → Bool
 may-stand s an-ask = in-asks s
+may-stand s an-also = in-asks s && not (is-nil (s .asks))
 may-stand s a-hide = in-head s && not (is-nil (s .asks))
 may-stand s another = not (is-nil (s .asks))
 
 -- whether such a line takes a position of the answer
 unfoldable pub is-position : Place → Bool
 is-position an-ask = true
+is-position an-also = true
 is-position a-hide = false
 is-position another = false
 
--- the ask lines that a file may have
+-- the ask and also lines that a file may have
 abbrev pub most-asks : ℕ
 most-asks = 16
 
@@ -320,6 +331,7 @@ kind-field s f = do
 -- the fields of the next line, the kind counted, where their count is fixed
 unfoldable pub fixed-count : State → LineKind → Option ℕ
 fixed-count s kind.Ask = some 3
+fixed-count s kind.Also = some 2
 fixed-count s kind.Hide = some 2
 fixed-count s kind.Free = some 2
 fixed-count s kind.Leaf = some 1
@@ -341,14 +353,20 @@ parse s all = do
   (k, fs) ← next (kind-field s) all
   cond (holds (λ c. not (eqb (length all) c)) (fixed-count s k)) (refused refusal.Form) (content k (length (s .terms)) fs)
 
--- the ask that a line of the head states
-unfoldable pub head-asks : Head → List Ask
-head-asks (ask q options) = record { queries = q ∷ []; options = options } ∷ []
-head-asks (hide name) = []
+-- an ask with one query more
+unfoldable pub with-query : ℕ → Ask → Ask
+with-query q a = record { queries = q ∷ a .queries; options = a .options }
+
+-- the position that a line of the head is, behind these: an also line goes on from the last
+unfoldable pub head-asks : List Ask → Head → List Ask
+head-asks asks (ask q options) = record { queries = q ∷ []; options = options } ∷ []
+head-asks asks (also q) = map (with-query q) (last asks)
+head-asks asks (hide name) = []
 
 -- the name that a line of the head hides, and spells
 unfoldable pub hidden-by : Head → List Name
 hidden-by (ask q options) = []
+hidden-by (also q) = []
 hidden-by (hide name) = name ∷ []
 
 -- the line of the head that a line is
@@ -507,7 +525,7 @@ module _ (exclude : List Name) where
       let decls = summarize-decl out (s .terms) n c in
       let roots = root-of out (s .terms) n c in
       record {
-        asks = s .asks ++ collect head-asks (heads c);
+        asks = s .asks ++ collect (head-asks (s .asks)) (heads c);
         hidden = s .hidden ++ collect hidden-by (heads c);
         terms = fold-left add-term (s .terms) (nodes c);
         names = fold-left spell (s .names) (spelled c ++ trimmed out (s .terms) c);

@@ -21,8 +21,8 @@ pub enum Verdict {
     Refused(Refusal),
 }
 
-// The answer of a call, its counts by the position of an ask, 0 past the last. A refusal has its place, and every count 0;
-// lists have place 0.
+// The answer of a call, its counts by the position of an ask or also line, 0 past the last. A refusal has its place, and every
+// count 0; lists have place 0.
 pub struct Answer {
     pub verdict: Verdict,
     pub place: u32,
@@ -50,6 +50,7 @@ pub enum Op {
 // The kind of a line.
 pub enum LineKind {
     Ask,
+    Also,
     Hide,
     Free,
     Leaf,
@@ -93,17 +94,17 @@ pub const MOST_QUERY: u32 = 255;
 
 pub const MOST_OPTIONS: u32 = 15;
 
-// The ask lines that a file may have.
+// The ask and also lines that a file may have.
 pub const MOST_ASKS: usize = 16;
 
-// The lines that a call can keep: for each ask every record line of a file.
+// The lines that a call can keep: for each position every record line of a file.
 pub const MOST_KEPT: usize = MOST_ASKS * MOST_RECORDS;
 
 // The words of a working slice that a call uses.
 pub const WORKING_WORDS: usize = 16384;
 
-// How much of the tables the lines read so far fill: asks, hide lines, names, references, terms, records (the hide lines among
-// them), trigger entries, name uses; and the next mark.
+// How much of the tables the lines read so far fill: asks (the also lines among them), hide lines, names, references, terms,
+// records (the hide lines among them), trigger entries, name uses; and the next mark.
 pub struct Counts {
     pub asks: usize,
     pub hides: usize,
@@ -116,9 +117,10 @@ pub struct Counts {
     pub mark: usize,
 }
 
-// What a run is asked: a query and an options number.
+// What a run is asked: the queries of the positions from `first` on before `end`, and an options number.
 pub struct Asked {
-    pub query: usize,
+    pub first: usize,
+    pub end: usize,
     pub options: usize,
 }
 
