@@ -10,7 +10,7 @@ use lib.ListN.{length}
 use Rattle.model.specs.Lists.{any, keep, collect}
 use Rattle.model.specs.Names.{Name, order, same, mem, from-list}
 use Rattle.model.specs.Summaries.{exclude-names, Fact}
-use Rattle.model.specs.Reading.{Ask, pretyping-axioms, prune-decls, follow-bodies, Root, Decl, Summary, State, taken-by}
+use Rattle.model.specs.Reading.{Ask, pretyping-axioms, prune-decls, follow-bodies, Root, Decl, Summary, State, taken-by, no-ambients}
 use Rattle.model.specs.Pruning.{Map}
 use Rattle.model.specs.Rounds.{facts, definitions, declarations, macros, retainable, Run, first-run, fresh, after-round, next-scanned, rounds-from, asks-for, goal-roots, ambient-roots, first-scanned, most-rounds, run}
 use Rattle.model.specs.Kept.{ambients, kept-facts, kept-names, first-met, kept-decls, kept}
@@ -24,6 +24,7 @@ use Rattle.demands.specs.Demand2.{kept-list, followed-list}
 use Rattle.demands.specs.Demand3.{run-of}
 use Rattle.demands.specs.FileOrder.{line-of}
 use Rattle.demands.specs.Order.{listed-facts}
+use Rattle.model.specs.Also.{with-queries, also-scanned, stretch-start, stretch, chain}
 use Rattle.demands.specs.Bodies.{Closed-lines, Smallest, Bodies-followed, List-followed, Followed-fixed, Plain-stands, Followed-once, But-for-bodies, Following-meets-nothing, Added-never-excluded, Added-lines-never-excluded}
 use Rattle.demands.proofs.Distinct.{keep-one-name, distinct-append, distinct-map, distinct-of-map, distinct-to-map, ascending-distinct, distinct-reverse}
 use Rattle.demands.proofs.ListedLaws.{kept-facts-elim, kept-facts-once, kept-fact-line, kept-decls-elim, first-met-once, picked-once}
@@ -682,11 +683,21 @@ kept-alike : (a b : Ask) (decls : List Summary) (roots : List Root) (reached : L
 unfolding kept kept-names kept-facts ambients
 kept-alike a b decls roots reached h = rw (goals-alike a b roots h, h .ambients, h .pruning)
 
+-- the same chain, line for line
+chain-alike : (a b : Ask) (decls : List Summary) (roots : List Root) → But-for-bodies a b → (qs : List ℕ) → chain a decls roots qs ≡ chain b decls roots qs
+unfolding chain stretch with-queries no-ambients pretyping-axioms prune-decls
+chain-alike a b decls roots h [] = refl
+chain-alike a b decls roots h (q ∷ []) =
+    run-alike (with-queries a (q ∷ [])) (with-queries b (q ∷ [])) decls roots (record { queries = refl; ambients = h .ambients; pretyping = h .pretyping; pruning = h .pruning })
+chain-alike a b decls roots h (q ∷ p ∷ qs) =
+    ap (λ (r : Run). stretch a decls roots r q) (chain-alike a b decls roots h (p ∷ qs))
+    ∙ rounds-alike a b (h .pretyping) (macros decls) (facts decls) (most-rounds (facts decls)) (stretch-start (chain b decls roots (p ∷ qs))) (also-scanned q roots)
+
 -- option 8 changes neither the run nor the list without what bodies add
 pub following-meets-nothing : Following-meets-nothing
 following-meets-nothing a b h file s accepted =
     let same-run : run-of a s ≡ run-of b s = run-alike a b (records-for a s) (s .roots) h in
-    (same-run, ap (λ (r : Run). kept a (records-for a s) (s .roots) (r .reached)) same-run ∙ kept-alike a b (records-for a s) (s .roots) (run-of b s .reached) h)
+    (same-run, ap (λ (r : Run). kept a (records-for a s) (s .roots) (r .reached)) same-run ∙ kept-alike a b (records-for a s) (s .roots) (run-of b s .reached) h, chain-alike a b (records-for a s) (s .roots) h)
 
 -- no name that bodies add is excluded
 pub added-never-excluded : Added-never-excluded

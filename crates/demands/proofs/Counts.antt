@@ -12,13 +12,13 @@ use Rattle.model.specs.Terms.{Node, Term, add-term, references}
 use Rattle.model.specs.Summaries.{exclude-names, Fact, entries}
 use Rattle.model.specs.Reading.{Content, head, term, assume, fun, def, retain, root, ok, Decl, Summary, Sum-assume, Sum-definefun, Sum-declfun, Sum-retain, State, start, read, entries-of, uses-of, head-asks, hidden-by, heads, nodes, spelled, trimmed, summarize-decl, root-of, excluded, parse, add-line, read-lines}
 use Rattle.model.specs.Rounds.{facts, definitions}
-use Rattle.model.proofs.ListLaws.{cond-ap, keep-append, count-append, sum-map-append}
+use Rattle.model.proofs.ListLaws.{keep-append, count-append, sum-map-append}
 use Rattle.demands.specs.Demand1.{Reached-line, Says}
 use Rattle.demands.specs.Counts.{state-with, lines-to, ask-words, term-words, record-words, begins, term-fields, name-fields, Counted, token-trimmed, Names-added, Counts-exact}
 use Rattle.laws.proofs.ReadingLaws.{line-read, lines-read, none-read, kept-by-lines}
 use Rattle.demands.proofs.TermNumbers.{named-below}
-use Rattle.demands.proofs.LineFields.{line-fields}
-use Rattle.demands.proofs.Heads.{asks-by}
+use Rattle.demands.proofs.LineFields.{line-fields, line-stands}
+use Rattle.demands.proofs.Heads.{asks-counted}
 use Rattle.demands.proofs.StateLaws.{spelled-exact, State-laws, laws-start, laws-added, laws-line}
 
 -- the trigger entries of the records are those of the facts
@@ -104,7 +104,7 @@ adds-line exclude n s line c e =
     let l = line-fields s (fields (line .bytes)) e in
     let out = excluded exclude s in
     record {
-      ask-lines = rw (one-counted (begins ask-words) line) (omega (arith, length-append (s .asks) (collect head-asks (heads c)), ap length (asks-by (l .headed)) ∙ cond-ap length (begins ask-words line) _ []));
+      ask-lines = rw (one-counted (begins ask-words) line) (omega (arith, length-append (s .asks) (collect (head-asks (s .asks)) (heads c)), asks-counted s (l .headed) (line-stands s (fields (line .bytes)) e)));
       term-lines = rw (one-counted (begins term-words) line) (omega (arith, terms-more (s .terms) (nodes c), l .term-lines));
       term-references = rw (one-referring line) (omega (arith, l .term-references));
       record-lines = rw (one-counted (begins record-words) line) (omega (

@@ -32,7 +32,7 @@ use Rattle.demands.specs.Hidden.{Excluded-exact, One-hides, Room-for, do
 use Rattle.laws.proofs.ReadingLaws.{within, lines-read, none-read, added-line, line-read, file-read, kept-by-lines}
 use Rattle.demands.proofs.Refusals.{lines-on, lines-append}
 use Rattle.demands.proofs.LineForm.{parse-fields}
-use Rattle.demands.proofs.LineFields.{Head-by, one-ask, one-hide, no-head}
+use Rattle.demands.proofs.LineFields.{Head-by, one-ask, one-also, one-hide, no-head}
 use Rattle.demands.proofs.Heads.{headed-line}
 use Rattle.demands.proofs.Asks.{on-lines, asked-lines}
 use Rattle.demands.proofs.ListedLaws.{kept-fact-line}
@@ -51,9 +51,10 @@ abbrev hidden-names : List Line → List Name
 hidden-names ls = map name-field-of (keep (begins hide-words) ls)
 
 -- a line hides its name where it is a hide line
-hides-by : {name second : Field} {b c : Bool} {l : List Head} → Head-by name second b c l → collect hidden-by l ≡ cond c (name ∷ []) []
+hides-by : {name second : Field} {b d c : Bool} {l : List Head} → Head-by name second b d c l → collect hidden-by l ≡ cond c (name ∷ []) []
 unfolding collect hidden-by
 hides-by (one-ask low few) = refl
+hides-by (one-also low) = refl
 hides-by one-hide = refl
 hides-by no-head = refl
 

@@ -2,6 +2,8 @@ pub mod Distinct
 pub mod Facts
 pub mod RoundsLaws
 pub mod HistoryLaws
+pub mod Settled
+pub mod Stretches
 pub mod ListedLaws
 pub mod Demand3
 pub mod LineWalk
@@ -14,6 +16,7 @@ pub mod Heads
 pub mod WellFormed
 pub mod StateLaws
 pub mod Counts
+pub mod Also
 pub mod Queries
 pub mod Asks
 pub mod NeverFree

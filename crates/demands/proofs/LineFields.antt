@@ -14,7 +14,7 @@ use Rattle.model.specs.Lists.{any, concat, collect, holds}
 use Rattle.model.specs.Names.{Name, bytes, by-byte, order, is-same, same}
 use Rattle.model.specs.Lines.{Field, is-name}
 use Rattle.model.specs.Terms.{Node, FreeV, Leaf, Forall, Exists, Labeled, Term, references}
-use Rattle.model.specs.Reading.{Result, ok, refused, _>>=_, need, name-field, number-field, term-field, op-words, word, kinds, next, many, rest, end, groups, Head, ask, hide, Content, head, term, assume, fun, def, root, quantifier, most-query, most-options, content, State, Place, an-ask, a-hide, another, place, may-stand, is-position, most-asks, parse, hidden-by, heads, nodes, spelled-by, spelled, summarize-decl, root-of}
+use Rattle.model.specs.Reading.{Result, ok, refused, _>>=_, need, name-field, number-field, term-field, op-words, word, kinds, next, many, rest, end, groups, Head, ask, also, hide, Content, head, term, assume, fun, def, root, quantifier, most-query, most-options, content, State, Place, an-ask, an-also, a-hide, another, place, may-stand, is-position, most-asks, parse, hidden-by, heads, nodes, spelled-by, spelled, summarize-decl, root-of}
 use Rattle.model.specs.declared.LineKind.{LineKind}
 use Rattle.model.specs.declared.LineKind.the-variants as kind
 use Rattle.model.specs.declared.Refusal.the-variants as refusal
@@ -22,7 +22,7 @@ use Rattle.model.proofs.ListLaws.{true-T, T-and}
 use Rattle.model.proofs.SetLaws.{same-eq}
 use Rattle.model.proofs.ResultLaws.{cond-ok, ok-eq}
 use Rattle.demands.specs.LineForm.{Sort, a-name, a-term, nothing, may, value, group-due, quantifier-due, in-order, then-terms, due, sort-due, is-a-name, is-a-term, fields-due, fields-of}
-use Rattle.demands.specs.Counts.{term-words, record-words, ask-words, hide-words, is-word}
+use Rattle.demands.specs.Counts.{term-words, record-words, ask-words, also-words, hide-words, is-word}
 use Rattle.laws.proofs.ReadingLaws.{number-ok, is-past, parse-ok}
 use Rattle.demands.proofs.TermNumbers.{Gives, value as gives-value, no-value, any-value, given, gives-bind}
 use Rattle.demands.proofs.LineWalk.{number-value}
@@ -150,6 +150,7 @@ word-case P ((w, b) ∷ ws) h f {a} e = go (same f (bytes w)) refl (word-case P 
 -- the word of a kind
 kind-word : LineKind → String
 kind-word kind.Ask = "ask"
+kind-word kind.Also = "also"
 kind-word kind.Hide = "hide"
 kind-word kind.Free = "free"
 kind-word kind.Leaf = "leaf"
@@ -170,18 +171,24 @@ word-exact : (f : Field) {k : LineKind} → word kinds f ≡ some k → f ≡ by
 unfolding kinds kind-word
 word-exact f e =
     word-case (λ f k. f ≡ bytes (kind-word k)) kinds
-    (refl, (refl, (refl, (refl, (refl, (refl, (refl, (refl, (refl, (refl, (refl, (refl, (refl, (refl, (refl, tt))))))))))))))) f e
+    (refl, (refl, (refl, (refl, (refl, (refl, (refl, (refl, (refl, (refl, (refl, (refl, (refl, (refl, (refl, (refl, tt)))))))))))))))) f e
 
--- where a line may stand, by whether it is an ask or a hide
-unfoldable pub place-by : Bool → Bool → Place
-place-by true is-hide = an-ask
-place-by false true = a-hide
-place-by false false = another
+-- where a line may stand, by whether it counts as an ask, is an also or is a hide
+unfoldable pub place-by : Bool → Bool → Bool → Place
+place-by true true is-hide = an-also
+place-by true false is-hide = an-ask
+place-by false is-also true = a-hide
+place-by false is-also false = another
+
+-- the place of a line by its first field
+abbrev pub place-of : Field → Place
+place-of f = place-by (is-word ask-words f) (is-word also-words f) (is-word hide-words f)
 
 -- a line of a kind may stand where its word says
-kind-place : (k : LineKind) → place k ≡ place-by (is-word ask-words (bytes (kind-word k))) (is-word hide-words (bytes (kind-word k)))
-unfolding place place-by kind-word is-word ask-words hide-words any same order by-byte is-same bytes
+kind-place : (k : LineKind) → place k ≡ place-of (bytes (kind-word k))
+unfolding place place-by kind-word is-word ask-words also-words hide-words any same order by-byte is-same bytes
 kind-place kind.Ask = refl
+kind-place kind.Also = refl
 kind-place kind.Hide = refl
 kind-place kind.Free = refl
 kind-place kind.Leaf = refl
@@ -198,24 +205,30 @@ kind-place kind.Retain = refl
 kind-place kind.Root = refl
 
 -- so it does by its first field
-pub known-place : (f : Field) {k : LineKind} → word kinds f ≡ some k → place k ≡ place-by (is-word ask-words f) (is-word hide-words f)
-known-place f {k} known = kind-place k ∙ ap (λ g. place-by (is-word ask-words g) (is-word hide-words g)) (sym (word-exact f known))
+pub known-place : (f : Field) {k : LineKind} → word kinds f ≡ some k → place k ≡ place-of f
+known-place f {k} known = kind-place k ∙ ap place-of (sym (word-exact f known))
 
--- the line of the head that a line is, by whether it is an ask or a hide, and by the two fields after its kind: the values of
--- both, a query and options in their ranges; or the first, its name; any other is none
-pub data Head-by (first second : Field) : Bool → Bool → List Head → Type 0 where
-  one-ask : value first ≤ most-query → value second ≤ most-options → Head-by first second true false (ask (value first) (value second) ∷ [])
-  one-hide : Head-by first second false true (hide first ∷ [])
-  no-head : Head-by first second false false []
+-- the line of the head that a line is, by whether it counts as an ask, is an also or is a hide, and by the two fields after its
+-- kind: the values of both, a query and options in their ranges; that of the first, a query; or the first, its name; any other
+-- is none
+pub data Head-by (first second : Field) : Bool → Bool → Bool → List Head → Type 0 where
+  one-ask : value first ≤ most-query → value second ≤ most-options → Head-by first second true false false (ask (value first) (value second) ∷ [])
+  one-also : value first ≤ most-query → Head-by first second true true false (also (value first) ∷ [])
+  one-hide : Head-by first second false false true (hide first ∷ [])
+  no-head : Head-by first second false false false []
 
 -- an ask by its two numbers
-said-ask : (f g : Field) {q o : ℕ} → value f ≡ q → value g ≡ o → q ≤ most-query → o ≤ most-options → Head-by f g true false (ask q o ∷ [])
+said-ask : (f g : Field) {q o : ℕ} → value f ≡ q → value g ≡ o → q ≤ most-query → o ≤ most-options → Head-by f g true false false (ask q o ∷ [])
 said-ask f g e d low few = rw (← e, ← d) (one-ask (rw e low) (rw d few))
 
--- what a line says, by whether it counts as an ask, as a hide, as a term line or as a record line, by the two fields after its
--- kind, by its names and by the terms that it names
-pub record Formed (is-ask is-hide is-term is-record : Bool) (first second : Field) (named terms : List Field) (c : Content) : Type 0 where
-  pub headed : Head-by first second is-ask is-hide (heads c)
+-- an also by its number
+said-also : (f g : Field) {q : ℕ} → value f ≡ q → q ≤ most-query → Head-by f g true true false (also q ∷ [])
+said-also f g e low = rw (← e) (one-also (rw e low))
+
+-- what a line says, by whether it counts as an ask, is an also, a hide, a term line or a record line, by the two fields after
+-- its kind, by its names and by the terms that it names
+pub record Formed (is-ask is-also is-hide is-term is-record : Bool) (first second : Field) (named terms : List Field) (c : Content) : Type 0 where
+  pub headed : Head-by first second is-ask is-also is-hide (heads c)
   pub names : named ≡ spelled c
   pub term-lines : length (nodes c) ≡ cond is-term 1 0
   pub term-references : length (collect references (nodes c)) ≡ cond is-term (length terms) 0
@@ -223,23 +236,23 @@ pub record Formed (is-ask is-hide is-term is-record : Bool) (first second : Fiel
       → length (collect hidden-by (heads c)) + (length (summarize-decl exclude terms n c) + length (root-of exclude terms n c)) ≡ cond is-record 1 0
 
 -- the same of the fields of a line of a kind
-abbrev Formed-as : Bool → Bool → Bool → Bool → LineKind → List Field → Content → Type 0
-Formed-as is-ask is-hide is-term is-record k fs c =
-    Formed is-ask is-hide is-term is-record (getD fs 0 []) (getD fs 1 []) (fields-due is-a-name (due k) fs) (fields-due is-a-term (due k) fs) c
+abbrev Formed-as : Bool → Bool → Bool → Bool → Bool → LineKind → List Field → Content → Type 0
+Formed-as is-ask is-also is-hide is-term is-record k fs c =
+    Formed is-ask is-also is-hide is-term is-record (getD fs 0 []) (getD fs 1 []) (fields-due is-a-name (due k) fs) (fields-due is-a-term (due k) fs) c
 
 -- a term line
 term-formed : {first second : Field} {named terms : List Field} {node : Node} → named ≡ spelled-by node → length terms ≡ length (references node)
-    → Formed false false true false first second named terms (term node)
+    → Formed false false false true false first second named terms (term node)
 unfolding heads hidden-by spelled nodes collect summarize-decl root-of
 term-formed {node} e h =
     record { headed = no-head; names = e; term-lines = refl; term-references = rw append-nil (sym h); record-lines = λ exclude terms n. refl }
 
 -- a line that is no term line
-other-formed : {is-ask is-hide is-record : Bool} {first second : Field} {named terms : List Field} {c : Content} → Head-by first second is-ask is-hide (heads c)
+other-formed : {is-ask is-also is-hide is-record : Bool} {first second : Field} {named terms : List Field} {c : Content} → Head-by first second is-ask is-also is-hide (heads c)
     → nodes c ≡ []
     → ((exclude : List Name) (terms : List Term) (n : ℕ)
     → length (collect hidden-by (heads c)) + (length (summarize-decl exclude terms n c) + length (root-of exclude terms n c)) ≡ cond is-record 1 0)
-    → named ≡ spelled c → Formed is-ask is-hide false is-record first second named terms c
+    → named ≡ spelled c → Formed is-ask is-also is-hide false is-record first second named terms c
 unfolding collect
 other-formed a e h names = record { headed = a; names = names; term-lines = rw e; term-references = rw e; record-lines = h }
 
@@ -247,7 +260,7 @@ other-formed a e h names = record { headed = a; names = names; term-lines = rw e
 quantifier-made : (k : LineKind) → due k ≡ quantifier-due
     → (node : Node) (body g : ℕ) (gs : List (List ℕ)) → spelled-by node ≡ [] → references node ≡ body ∷ concat gs
     → (f f₁ : Field) (fs after : List Field) → value f₁ ≡ g → terms-due 0 g fs ≡ length (concat gs) + terms-due 0 0 after → after ≡ []
-    → Formed-as false false true false k (f ∷ f₁ ∷ fs) (term node)
+    → Formed-as false false false true false k (f ∷ f₁ ∷ fs) (term node)
 unfolding quantifier-due fields-due sort-due holds is-a-name is-a-term group-due
 quantifier-made k e node body g gs spells names f f₁ fs after v w left =
     term-formed (rw (e, spells) (no-name-due fs 0 (value f₁))) (rw (e, v, names) (ap suc (w ∙ rw left (omega arith))))
@@ -256,7 +269,7 @@ module _ (count : ℕ) where
   -- an `all` or a `some`
   quantifier-formed : (k : LineKind) → due k ≡ quantifier-due → (make : ℕ → List (List ℕ) → Node)
       → ((body : ℕ) (gs : List (List ℕ)) → (spelled-by (make body gs) ≡ []) × (references (make body gs) ≡ body ∷ concat gs))
-      → (fs : List Field) → Gives (Formed-as false false true false k fs) (quantifier make count fs)
+      → (fs : List Field) → Gives (Formed-as false false false true false k fs) (quantifier make count fs)
   unfolding quantifier
   quantifier-formed k e make h =
       gives-field _ (λ f. any-value (term-field count f)) _ (λ f body u.
@@ -266,15 +279,18 @@ module _ (count : ℕ) where
 
   -- a line of each kind
   kind-formed : (k : LineKind) (fs : List Field)
-      → Gives (Formed-as (is-word ask-words (bytes (kind-word k))) (is-word hide-words (bytes (kind-word k)))
+      → Gives (Formed-as (is-word ask-words (bytes (kind-word k))) (is-word also-words (bytes (kind-word k))) (is-word hide-words (bytes (kind-word k)))
       (is-word term-words (bytes (kind-word k))) (is-word record-words (bytes (kind-word k))) k fs)
       (content k count fs)
-  unfolding kind-word is-word ask-words hide-words term-words record-words any same order by-byte is-same bytes
+  unfolding kind-word is-word ask-words also-words hide-words term-words record-words any same order by-byte is-same bytes
       content due in-order then-terms fields-due sort-due holds is-a-name is-a-term
       heads hidden-by spelled spelled-by references nodes collect summarize-decl root-of
   kind-formed kind.Ask =
       gives-field _ (gives-at-most most-query) _ (λ f q u. gives-field _ (gives-at-most most-options) _ (λ g o v.
       gives-ended _ (head (ask q o)) (other-formed (said-ask f g (u .0) (v .0) (u .1) (v .1)) refl (λ exclude terms n. refl) refl)))
+  kind-formed kind.Also =
+      gives-field _ (gives-at-most most-query) _ (λ f q u.
+      gives-ended _ (head (also q)) (other-formed (said-also f [] (u .0) (u .1)) refl (λ exclude terms n. refl) refl))
   kind-formed kind.Hide =
       gives-field _ gives-name _ (λ f name e. gives-ended _ (head (hide name)) (other-formed (rw e one-hide) refl (λ exclude terms n. refl) (rw e)))
   kind-formed kind.Free = gives-field _ gives-name _ (λ f name e. gives-ended _ (term (FreeV name)) (term-formed (rw e) refl))
@@ -314,7 +330,7 @@ fields-known of-sort f fs e = rw (e, fields-of)
 
 -- an accepted line says what its fields are
 pub line-fields : (s : State) (fs : List Field) {c : Content} → parse s fs ≡ ok c
-    → Formed (is-word ask-words (getD fs 0 [])) (is-word hide-words (getD fs 0 [])) (is-word term-words (getD fs 0 [])) (is-word record-words (getD fs 0 []))
+    → Formed (is-word ask-words (getD fs 0 [])) (is-word also-words (getD fs 0 [])) (is-word hide-words (getD fs 0 [])) (is-word term-words (getD fs 0 [])) (is-word record-words (getD fs 0 []))
     (getD fs 1 []) (getD fs 2 []) (fields-of is-a-name fs) (fields-of is-a-term fs) c
 line-fields s fs e =
     let p = parse-ok s fs e in
@@ -323,25 +339,25 @@ line-fields s fs e =
     (given (kind-formed (length (s .terms)) (p .kind) (p .others)) (p .says))
 
 -- and it may stand where its first field says
-pub line-stands : (s : State) (fs : List Field) {c : Content} → parse s fs ≡ ok c
-    → T (may-stand s (place-by (is-word ask-words (getD fs 0 [])) (is-word hide-words (getD fs 0 []))))
+pub line-stands : (s : State) (fs : List Field) {c : Content} → parse s fs ≡ ok c → T (may-stand s (place-of (getD fs 0 [])))
 line-stands s fs e =
     let p = parse-ok s fs e in
     rw (p .split, ← (known-place (p .kind-word) (p .known))) (p .stands)
 
--- a line is a position exactly where it is an ask
-pub position-by : (is-ask is-hide : Bool) → is-position (place-by is-ask is-hide) ≡ is-ask
+-- a line is a position exactly where it counts as an ask
+pub position-by : (is-ask is-also is-hide : Bool) → is-position (place-by is-ask is-also is-hide) ≡ is-ask
 unfolding is-position place-by
-position-by true is-hide = refl
-position-by false true = refl
-position-by false false = refl
+position-by true true is-hide = refl
+position-by true false is-hide = refl
+position-by false is-also true = refl
+position-by false is-also false = refl
 
 -- where it is one, there are fewer than sixteen before it
 pub line-number : (s : State) (fs : List Field) {c : Content} → parse s fs ≡ ok c → T (is-word ask-words (getD fs 0 [])) → length (s .asks) < 16
 line-number s fs e t =
     let p = parse-ok s fs e in
     let f = p .kind-word in
-    let at : is-position (place (p .kind)) ≡ is-word ask-words f = ap is-position (known-place f (p .known)) ∙ position-by (is-word ask-words f) (is-word hide-words f) in
+    let at : is-position (place (p .kind)) ≡ is-word ask-words f = ap is-position (known-place f (p .known)) ∙ position-by (is-word ask-words f) (is-word also-words f) (is-word hide-words f) in
     let is : T (is-position (place (p .kind))) = rw (at) (rw (p .split) at t) in
     nleb→lt most-asks (length (s .asks)) (not-T (leb most-asks (length (s .asks))) (λ u.
     T-not (is-past s (p .kind)) (p .in-number) (T-and (is-position (place (p .kind))) (leb most-asks (length (s .asks))) .1 (is, u))))

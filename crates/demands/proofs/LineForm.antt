@@ -32,6 +32,7 @@ quantifier-walk make count fs =
 content-walk : (k : LineKind) (count : ℕ) (fs : List Field) → why (content k count fs) ≡ walk count (due k) fs
 unfolding content due in-order then-terms
 content-walk kind.Ask count fs = walk-next (number-judged count 255) _ _ refl (λ f q h. walk-next (number-judged count 15) _ _ refl (λ f₁ options h₁. walk-end count _ _ refl)) fs
+content-walk kind.Also count fs = walk-next (number-judged count 255) _ _ refl (λ f q h. walk-end count _ _ refl) fs
 content-walk kind.Hide count fs = walk-next (name-judged count) _ _ refl (λ f name h. walk-end count _ _ refl) fs
 content-walk kind.Free count fs = walk-next (name-judged count) _ _ refl (λ f name h. walk-end count _ _ refl) fs
 content-walk kind.Leaf count fs = walk-end count _ _ refl fs
@@ -197,6 +198,7 @@ counted-done ss {n} e fs =
 pub fixed-counts : Fixed-counts
 unfolding fixed-count due
 fixed-counts s kind.Ask n e fs = counted-done _ e fs
+fixed-counts s kind.Also n e fs = counted-done _ e fs
 fixed-counts s kind.Hide n e fs = counted-done _ e fs
 fixed-counts s kind.Free n e fs = counted-done _ e fs
 fixed-counts s kind.Leaf n e fs = counted-done _ e fs

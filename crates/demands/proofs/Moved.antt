@@ -3,15 +3,17 @@ use Prim.Native.Nat.{ℕ, zero, suc, _+_}
 use mathlib.Core.Path.{_≡_, refl, sym, _∙_, ap, ap₂}
 use mathlib.Core.Bool.{Bool, true, false, cond, not, _&&_}
 use mathlib.Core.List.{List, [], _∷_, _++_, map, map-map, map-append, reverse}
-use lib.ListN.{length}
+use lib.Dec.{eqb}
+use lib.ListN.{length, drop}
 use Rattle.model.specs.Lists.{keep, collect, is-nil}
 use Rattle.model.specs.Names.{Name, same, mem, from-list, union}
 use Rattle.model.specs.Summaries.{Fact}
 use Rattle.model.specs.Reading.{Ask, Decl, Summary, Sum-assume, Sum-definefun, Sum-declfun, Sum-retain, Root, no-ambients, prune-decls}
 use Rattle.model.specs.Pruning.{Map, init-macro-freenames}
-use Rattle.model.specs.Rounds.{Run, first-run, most-rounds, facts, definitions, declarations, macros, listed, filed, triggers-in, retainable, met-after, triggered, fresh, after-round, next-scanned, rounds-from, is-ambient, is-ambient-root, asks-for, goal-roots, ambient-roots, first-scanned, run, visits}
+use Rattle.model.specs.Rounds.{Run, first-run, most-rounds, facts, definitions, declarations, macros, listed, filed, triggers-in, retainable, met-after, triggered, fresh, after-round, next-scanned, rounds-from, is-ambient, is-ambient-root, asks-for, goal-roots, ambient-roots, first-scanned, run}
 use Rattle.model.specs.Kept.{reached-facts, ambients, kept-facts, kept-names, first-met, kept-decls, kept}
 use Rattle.model.specs.Bodies.{with-bodies, followed, all-followed, added-names, of-names, added-for, kept-followed}
+use Rattle.model.specs.Also.{with-queries, also-scanned, stretch-start, stretch, chain, stretch-visits}
 use Rattle.model.specs.Outcome.{position}
 use Rattle.model.proofs.ListLaws.{cond-ap, collect-map, collect-cong, map-collect, map-reverse}
 use Rattle.demands.specs.Moved.{moved-fact, moved-decl, moved, moved-root, moved-position, Lines-apart, Kept-apart}
@@ -135,6 +137,31 @@ module _ (to : ℕ → ℕ) where
           moved-rounds (facts decls) a (macros decls) (most-rounds (facts decls)) first-run (first-scanned a (facts decls) roots),
         )
 
+  -- a stretch and a chain
+  module _ (decls : List Summary) (roots : List Root) where
+    moved-also : (q : ℕ) → also-scanned q (map (moved-root to) roots) ≡ also-scanned q roots
+    unfolding also-scanned moved-root
+    moved-also q =
+        ap (collect (λ (r : Root). r .free-names)) (keep-map (moved-root to) (λ (r : Root). eqb (r .query) q) roots)
+        ∙ free-in-roots (keep (λ (r : Root). eqb (r .query) q) roots)
+
+    moved-stretch : (a : Ask) (r : Run) (q : ℕ) → stretch a (map (moved to) decls) (map (moved-root to) roots) r q ≡ stretch a decls roots r q
+    unfolding stretch
+    moved-stretch a r q =
+        rw (
+          moved-facts decls,
+          moved-macros decls,
+          moved-filed (facts decls),
+          moved-also q,
+          moved-rounds (facts decls) a (macros decls) (most-rounds (facts decls)) (stretch-start r) (also-scanned q roots),
+        )
+
+    moved-chain : (a : Ask) (qs : List ℕ) → chain a (map (moved to) decls) (map (moved-root to) roots) qs ≡ chain a decls roots qs
+    unfolding chain
+    moved-chain a [] = refl
+    moved-chain a (q ∷ []) = moved-run decls roots (with-queries a (q ∷ []))
+    moved-chain a (q ∷ p ∷ qs) = rw (moved-chain a (p ∷ qs)) (moved-stretch a (chain a decls roots (p ∷ qs)) q)
+
   -- the kept facts
   moved-kept-facts : (a : Ask) (fs : List Fact) (reached : List Name) → kept-facts a (map (moved-fact to) fs) reached ≡ map (moved-fact to) (kept-facts a fs reached)
   unfolding kept-facts reached-facts ambients moved-fact
@@ -249,10 +276,12 @@ module _ (to : ℕ → ℕ) where
 
 -- what an ask comes to
 pub lines-apart : Lines-apart
-unfolding position moved-position visits
+unfolding position moved-position stretch-visits
 lines-apart to decls roots a =
     rw (
       moved-run to decls roots a,
+      moved-chain to decls roots a (a .queries),
+      moved-chain to decls roots a (drop 1 (a .queries)),
       moved-list to a decls roots (run a decls roots .reached),
       moved-facts to decls,
       moved-filed to (facts decls),

@@ -64,6 +64,7 @@ unfolding content
 name-first kind.Ask count fs =
     gives-bind (any-value (next (number-field 255) fs)) (λ q u.
     gives-bind (any-value (next (number-field 15) (q .1))) (λ o v. gives-end _ no-name (o .1)))
+name-first kind.Also count fs = gives-bind (any-value (next (number-field 255) fs)) (λ q u. gives-end _ no-name (q .1))
 name-first kind.Hide count fs = gives-bind (any-value (next name-field fs)) (λ n u. gives-end _ no-name (n .1))
 name-first kind.Free count fs = gives-bind (any-value (next name-field fs)) (λ n u. gives-end _ no-name (n .1))
 name-first kind.Leaf count fs = gives-end _ no-name fs

@@ -2,12 +2,13 @@
 use Prim.Native.Nat.{ℕ, _+_}
 use native.Mathlib.Omega.{arith}
 use mathlib.Core.Path.{_≡_, refl, sym, _∙_, ap}
+use mathlib.Core.Bool.{Bool, true, false, cond, _||_, or-false}
 use mathlib.Core.Logic.{_↔_}
-use mathlib.Core.List.{List, [], _∷_, _++_, map, map-append, append-nil, List·Memᴰ}
+use mathlib.Core.List.{List, [], _∷_, _++_, map, map-append, append-nil, List·Memᴰ, List·Memᴰ·head, List·Memᴰ·tail}
 use mathlib.Core.Option.{some, Option·some-injective}
 use lib.Dec.{T, not-T, eqb, eqb→eq, eqb-refl}
-use lib.ListN.{length}
-use Rattle.model.specs.Lists.{keep, collect, fold-left}
+use lib.ListN.{length, drop}
+use Rattle.model.specs.Lists.{any, keep, collect, fold-left}
 use Rattle.model.specs.Names.{Name, bytes, by-byte, order, is-same, same}
 use Rattle.model.specs.Lines.{Line, Field, fields, number}
 use Rattle.model.specs.Summaries.{exclude-names, free-top-level-names}
@@ -15,10 +16,11 @@ use Rattle.model.specs.Reading.{ok, next, name-field, number-field, term-field,
 use Rattle.model.specs.Rounds.{asks-for, goal-roots, first-scanned, run}
 use Rattle.model.specs.Kept.{kept-names}
 use Rattle.model.specs.Bodies.{kept-followed}
+use Rattle.model.specs.Also.{with-queries, also-scanned, stretch, chain}
 use Rattle.model.specs.Outcome.{position, filtered}
 use Rattle.model.specs.declared.LineKind.{LineKind}
 use Rattle.model.specs.declared.LineKind.the-variants as kind
-use Rattle.model.proofs.ListLaws.{any-intro, any-elim, keep-append, cond-false}
+use Rattle.model.proofs.ListLaws.{any-intro, any-elim, keep-cong, keep-append, cond-false}
 use Rattle.model.proofs.ResultLaws.{ok-eq, bind-ok}
 use Rattle.demands.specs.LinesRead.{At}
 use Rattle.demands.specs.Queries.{Other-root, Alike, end as no-lines, same as same-line, roots as root-lines, Other-queries-do-not-matter, Filtered-alike}
@@ -168,11 +170,65 @@ kept-roots : (a : Ask) (decls : List Summary) (roots roots′ : List Root) (reac
 unfolding kept-followed kept-names
 kept-roots a decls roots roots′ reached e = rw e
 
+-- to keep by a test what a weaker test keeps is to keep by it
+keep-weaker : {A : Type 0} (weak test : A → Bool) (l : List A) → ((x : A) → T (test x) → T (weak x)) → keep test (keep weak l) ≡ keep test l
+unfolding keep
+keep-weaker weak test [] h = refl
+keep-weaker weak test (x ∷ l) h = go (weak x) (test x) refl (h x) (keep-weaker weak test l h)
+  where
+    go : (b c : Bool) → test x ≡ c → (T c → T b) → keep test (keep weak l) ≡ keep test l
+        → keep test (cond b (x ∷ keep weak l) (keep weak l)) ≡ cond c (x ∷ keep test l) (keep test l)
+    go true true e f r = rw e (ap (x ∷_) r)
+    go true false e f r = rw e r
+    go false true e f r = absurd (f tt)
+    go false false e f r = r
+
+module _ (a : Ask) (decls : List Summary) (roots roots′ : List Root) (same : goal-roots a roots ≡ goal-roots a roots′) where
+  -- the roots of one of the queries
+  same-query : (q : ℕ) → T (asks-for a q) → keep (λ (r : Root). eqb (r .query) q) roots ≡ keep (λ (r : Root). eqb (r .query) q) roots′
+  unfolding goal-roots
+  same-query q t =
+      let weak : Root → Bool = λ r. asks-for a (r .query) in
+      let test : Root → Bool = λ r. eqb (r .query) q in
+      let h : (r : Root) → T (test r) → T (weak r) = λ r u. rw (eqb→eq (r .query) q u) t in
+      sym (keep-weaker weak test roots h) ∙ ap (keep test) same ∙ keep-weaker weak test roots′ h
+
+  -- the roots of a chain's first query
+  same-first : (q : ℕ) → T (asks-for a q) → goal-roots (with-queries a (q ∷ [])) roots ≡ goal-roots (with-queries a (q ∷ [])) roots′
+  unfolding goal-roots asks-for any with-queries
+  same-first q t =
+      let one : (rs : List Root) → keep (λ (r : Root). eqb (r .query) q || false) rs ≡ keep (λ (r : Root). eqb (r .query) q) rs =
+      λ rs. keep-cong (λ (r : Root). eqb (r .query) q || false) (λ (r : Root). eqb (r .query) q) rs (λ r m. or-false (eqb (r .query) q)) in
+      one roots ∙ same-query q t ∙ sym (one roots′)
+
+  -- where a chain of them stands
+  same-chain : (qs : List ℕ) → ((q : ℕ) → List·Memᴰ q qs → T (asks-for a q)) → chain a decls roots qs ≡ chain a decls roots′ qs
+  unfolding chain stretch also-scanned
+  same-chain [] h = refl
+  same-chain (q ∷ []) h = run-roots (with-queries a (q ∷ [])) decls roots roots′ (same-first q (h q (List·Memᴰ·head refl)))
+  same-chain (q ∷ p ∷ qs) h =
+      rw (same-chain (p ∷ qs) (λ k i. h k (List·Memᴰ·tail i)), same-query q (h q (List·Memᴰ·head refl)))
+
+-- the queries of an ask but the last are asked for
+earlier-asked : (a : Ask) (q : ℕ) → List·Memᴰ q (drop 1 (a .queries)) → T (asks-for a q)
+unfolding asks-for
+earlier-asked a q i = any-intro (eqb q) (dropped (a .queries) i) (eqb-refl q)
+  where
+    dropped : (l : List ℕ) → List·Memᴰ q (drop 1 l) → List·Memᴰ q l
+    dropped [] i = i
+    dropped (x ∷ l) i = List·Memᴰ·tail i
+
 -- what an ask comes to depends on the roots of its queries only
 position-roots : (a : Ask) (decls : List Summary) (roots roots′ : List Root) → goal-roots a roots ≡ goal-roots a roots′
     → position decls roots a ≡ position decls roots′ a
-unfolding position
-position-roots a decls roots roots′ e = rw (run-roots a decls roots roots′ e, kept-roots a decls roots roots′ _ e)
+unfolding position asks-for
+position-roots a decls roots roots′ e =
+    rw (
+      run-roots a decls roots roots′ e,
+      kept-roots a decls roots roots′ (run a decls roots′ .reached) e,
+      same-chain a decls roots roots′ e (drop 1 (a .queries)) (earlier-asked a),
+      same-chain a decls roots roots′ e (a .queries) (λ q i. any-intro (eqb q) i (eqb-refl q)),
+    )
 
 -- root lines of other queries do not matter
 pub other-queries-do-not-matter : Other-queries-do-not-matter

@@ -19,14 +19,14 @@ use Rattle.model.specs.declared.LineKind.{LineKind}
 use Rattle.model.specs.declared.LineKind.the-variants as kind
 use Rattle.model.specs.declared.Refusal.{Refusal}
 use Rattle.model.specs.declared.Refusal.the-variants as refusal
-use Rattle.model.proofs.ListLaws.{T-dec, T-false, cond-false}
+use Rattle.model.proofs.ListLaws.{T-dec, T-false}
 use Rattle.model.proofs.ResultLaws.{result-cases}
-use Rattle.demands.specs.Counts.{ask-words, hide-words, is-word, begins}
+use Rattle.demands.specs.Counts.{ask-words, also-words, hide-words, is-word, begins}
 use Rattle.demands.specs.Moved.{moved-fact, moved-decl, moved, moved-root}
 use Rattle.laws.proofs.ReadingLaws.{is-past, unended-line, unparsed-line, repeated-line, fresh-line}
 use Rattle.demands.proofs.LineForm.{parse-unknown, after-kind, parse-known}
 use Rattle.demands.proofs.LineFields.{place-by, position-by, known-place, line-fields}
-use Rattle.demands.proofs.Heads.{asks-by, asks-none, headed-line}
+use Rattle.demands.proofs.Heads.{none-by, asks-none, headed-line}
 use Rattle.demands.proofs.Moved.{map-length, nil-map}
 use Rattle.demands.proofs.SameNames.{same-kind}
 
@@ -49,6 +49,7 @@ relaid to asks hidden names s =
 pub same-count : (s t : State) (k : LineKind) → fixed-count s k ≡ fixed-count t k
 unfolding fixed-count
 same-count s t kind.Ask = refl
+same-count s t kind.Also = refl
 same-count s t kind.Hide = refl
 same-count s t kind.Free = refl
 same-count s t kind.Leaf = refl
@@ -134,7 +135,7 @@ module _ (to : ℕ → ℕ) where
         (same-free : (t : ℕ) → free-top-level-names (exclude ++ hidden) (s .terms) t ≡ free-top-level-names (exclude ++ s .hidden) (s .terms) t) where
       -- a line adds the same on its other line
       pub add-relaid : add-line exclude (to n) (relaid to asks hidden names s) c
-          ≡ relaid to (asks ++ collect head-asks (heads c)) (hidden ++ collect hidden-by (heads c))
+          ≡ relaid to (asks ++ collect (head-asks asks) (heads c)) (hidden ++ collect hidden-by (heads c))
           (fold-left spell names (spelled c ++ trimmed (excluded exclude s) (s .terms) c)) (add-line exclude n s c)
       unfolding add-line excluded
       add-relaid =
@@ -162,10 +163,10 @@ module _ (to : ℕ → ℕ) where
 
     module _ (s : State) (asked : T (not (is-nil asks))) (asked′ : T (not (is-nil (s .asks)))) where
       -- a line that is no ask may stand where it did
-      stands-relaid : (is-hide : Bool) → may-stand (relaid to asks hidden names s) (place-by false is-hide) ≡ may-stand s (place-by false is-hide)
+      stands-relaid : (is-also is-hide : Bool) → may-stand (relaid to asks hidden names s) (place-by false is-also is-hide) ≡ may-stand s (place-by false is-also is-hide)
       unfolding may-stand place-by in-head
-      stands-relaid true = rw (nil-map (moved to) (s .decls), nil-map (moved-root to) (s .roots), T-false (is-nil asks) asked, T-false (is-nil (s .asks)) asked′)
-      stands-relaid false = rw (T-false (is-nil asks) asked, T-false (is-nil (s .asks)) asked′)
+      stands-relaid is-also true = rw (nil-map (moved to) (s .decls), nil-map (moved-root to) (s .roots), T-false (is-nil asks) asked, T-false (is-nil (s .asks)) asked′)
+      stands-relaid is-also false = rw (T-false (is-nil asks) asked, T-false (is-nil (s .asks)) asked′)
 
       -- its fields say the same, or are refused by the same
       pub parse-relaid : (fs : List Field) → T (not (is-word ask-words (getD fs 0 []))) → parse (relaid to asks hidden names s) fs ≡ parse s fs
@@ -175,16 +176,16 @@ module _ (to : ℕ → ℕ) where
           S : State
           S = relaid to asks hidden names s
 
-          of-kind : (k : LineKind) → place k ≡ place-by false (is-word hide-words f) → may-stand S (place k) ≡ may-stand s (place k)
-          of-kind k at = rw at (stands-relaid (is-word hide-words f))
+          of-kind : (k : LineKind) → place k ≡ place-by false (is-word also-words f) (is-word hide-words f) → may-stand S (place k) ≡ may-stand s (place k)
+          of-kind k at = rw at (stands-relaid (is-word also-words f) (is-word hide-words f))
 
-          no-position : (k : LineKind) → place k ≡ place-by false (is-word hide-words f) → is-position (place k) ≡ false
-          no-position k at = ap is-position at ∙ position-by false (is-word hide-words f)
+          no-position : (k : LineKind) → place k ≡ place-by false (is-word also-words f) (is-word hide-words f) → is-position (place k) ≡ false
+          no-position k at = ap is-position at ∙ position-by false (is-word also-words f) (is-word hide-words f)
 
           go : (o : Option LineKind) → word kinds f ≡ o → parse S (f ∷ fs) ≡ parse s (f ∷ fs)
           go none e = parse-unknown S f fs e ∙ sym (parse-unknown s f fs e)
           go (some k) e =
-              let at : place k ≡ place-by false (is-word hide-words f) = known-place f e ∙ ap (λ b. place-by b (is-word hide-words f)) (T-false (is-word ask-words f) t) in
+              let at : place k ≡ place-by false (is-word also-words f) (is-word hide-words f) = known-place f e ∙ ap (λ b. place-by b (is-word also-words f) (is-word hide-words f)) (T-false (is-word ask-words f) t) in
               let judged : cond (may-stand S (place k)) (cond (is-past S k) (refused refusal.FullAsks) (after-kind S f fs e)) (refused refusal.Form)
               ≡ cond (may-stand s (place k)) (cond (is-past s k) (refused refusal.FullAsks) (after-kind s f fs e)) (refused refusal.Form) =
               rw (of-kind k at, no-position k at, same-count S s k) in
@@ -221,9 +222,9 @@ module _ (k : ℕ) (asks : List Ask) (exclude : List Name) where
   limits-shifted s = rw (map-length (moved (λ n. n + k)) (s .decls), map-length (moved-root (λ n. n + k)) (s .roots))
 
   -- a line that asks nothing adds the same
-  add-shifted : (n : ℕ) (s : State) (c : Content) → collect head-asks (heads c) ≡ [] → add-line exclude (n + k) (shifted k asks s) c ≡ shifted k asks (add-line exclude n s c)
+  add-shifted : (n : ℕ) (s : State) (c : Content) → ((asks : List Ask) → collect (head-asks asks) (heads c) ≡ []) → add-line exclude (n + k) (shifted k asks s) c ≡ shifted k asks (add-line exclude n s c)
   add-shifted n s c nothing =
-      add-relaid (λ n. n + k) asks (s .hidden) (s .names) exclude n s c (λ t. refl) ∙ unfold add-line in (rw (nothing, append-nil asks))
+      add-relaid (λ n. n + k) asks (s .hidden) (s .names) exclude n s c (λ t. refl) ∙ unfold add-line in (rw (nothing asks, append-nil asks))
 
   module _ (n : ℕ) (s : State) (line : Line) (no-ask : T (not (begins ask-words line))) (asked : T (not (is-nil asks))) (asked′ : T (not (is-nil (s .asks)))) where
     abbrev S : State
@@ -235,9 +236,9 @@ module _ (k : ℕ) (asks : List Ask) (exclude : List Name) where
     parse-shifted = parse-relaid (λ n. n + k) asks (s .hidden) (s .names) s asked asked′ (fields (line .bytes)) no-ask
 
     -- nothing is asked
-    none-asked : (c : Content) → parse s (fields (line .bytes)) ≡ ok c → collect head-asks (heads c) ≡ []
+    none-asked : (c : Content) → parse s (fields (line .bytes)) ≡ ok c → (asks : List Ask) → collect (head-asks asks) (heads c) ≡ []
     unfolding begins
-    none-asked c e = asks-by (line-fields s (fields (line .bytes)) e .headed) ∙ cond-false (is-word ask-words (getD (fields (line .bytes)) 0 [])) _ [] no-ask
+    none-asked c e asks = none-by asks (line-fields s (fields (line .bytes)) e .headed) no-ask
 
     -- a line comes to the same
     pub line-shifted : read-line exclude (n + k) S line ≡ shifted-result k asks (read-line exclude n s line)

@@ -129,6 +129,7 @@ module _ (count : ℕ) where
   unfolding content terms-named references
   gives-content kind.Ask fs =
       gives-bind (any-value (next (number-field most-query) fs)) (λ q u. gives-bind (any-value (next (number-field most-options) (q .1))) (λ o v. gives-end _ none-below (o .1)))
+  gives-content kind.Also fs = gives-bind (any-value (next (number-field most-query) fs)) (λ q u. gives-end _ none-below (q .1))
   gives-content kind.Hide fs = gives-bind (any-value (next name-field fs)) (λ n u. gives-end _ none-below (n .1))
   gives-content kind.Free fs = gives-bind (any-value (next name-field fs)) (λ n u. gives-end _ none-below (n .1))
   gives-content kind.Leaf fs = gives-end _ none-below fs

@@ -15,6 +15,7 @@ use Rattle.model.specs.Bodies.{added-names}
 use Rattle.demands.specs.LinesRead.{Lines-read, records-for, Distinct}
 use Rattle.demands.specs.Demand2.{kept-list, followed-list}
 use Rattle.demands.specs.Demand3.{run-of}
+use Rattle.demands.specs.Also.{chain-at}
 use Rattle.demands.specs.Order.{listed-facts}
 
 -- a set of lines that has, with a def, every def and fun whose name is free in its body
@@ -76,11 +77,12 @@ pub record But-for-bodies (a b : Ask) : Type 0 where
   pub pretyping : pretyping-axioms a ≡ pretyping-axioms b
   pub pruning : prune-decls a ≡ prune-decls b
 
--- option 8 changes neither the run, so neither the visits nor the rounds, nor the list without what bodies add
+-- option 8 changes neither the run nor any line of a chain, so neither the visits nor the rounds, nor the list without what
+-- bodies add
 abbrev pub Following-meets-nothing : Type 0
 Following-meets-nothing =
     (a b : Ask) → But-for-bodies a b → (file : List ℕ) (s : State) → Lines-read file s
-    → (run-of a s ≡ run-of b s) × (kept-list a s ≡ kept-list b s)
+    → (run-of a s ≡ run-of b s) × (kept-list a s ≡ kept-list b s) × ((qs : List ℕ) → chain-at a s qs ≡ chain-at b s qs)
 
 -- no name that bodies add is excluded
 abbrev pub Added-never-excluded : Type 0

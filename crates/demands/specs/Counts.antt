@@ -33,9 +33,13 @@ term-words = "free" ∷ "leaf" ∷ "call" ∷ "op" ∷ "all" ∷ "some" ∷ "let
 unfoldable pub record-words : List String
 record-words = "hide" ∷ "assume" ∷ "fun" ∷ "def" ∷ "retain" ∷ "root" ∷ []
 
--- ask lines, which are no record lines
+-- ask lines, which are no record lines; document 02, Change 11: "Also lines count as ask lines"
 unfoldable pub ask-words : List String
-ask-words = "ask" ∷ []
+ask-words = "ask" ∷ "also" ∷ []
+
+-- those of them that are also lines
+unfoldable pub also-words : List String
+also-words = "also" ∷ []
 
 -- hide lines
 unfoldable pub hide-words : List String
@@ -57,9 +61,9 @@ term-fields line = fields-of is-a-term (fields (line .bytes))
 unfoldable pub name-fields : Line → List Name
 name-fields line = fields-of is-a-name (fields (line .bytes))
 
--- the counts after these lines are those of documents 01 and 02: ask lines, "term lines", "term references in term lines",
--- "record lines", "trigger entries (fact, disjunct, name) .., where an empty disjunct counts as one", "name uses (free names
--- summed over assume, def and root lines)"
+-- the counts after these lines are those of documents 01 and 02: ask and also lines, "term lines", "term references in term
+-- lines", "record lines", "trigger entries (fact, disjunct, name) .., where an empty disjunct counts as one", "name uses (free
+-- names summed over assume, def and root lines)"
 pub record Counted (read-so-far : List Line) (s : State) : Type 0 where
   pub ask-lines : length (s .asks) ≡ count (begins ask-words) read-so-far
   pub term-lines : length (s .terms) ≡ count (begins term-words) read-so-far

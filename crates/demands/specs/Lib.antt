@@ -6,6 +6,7 @@ pub mod Demand3
 pub mod History
 pub mod Queries
 pub mod LineForm
+pub mod Also
 pub mod Demand1
 pub mod Slices
 pub mod Room

@@ -63,6 +63,7 @@ then-terms s (f ∷ fs) = may a-term
 -- what stands next in a line of this kind, after these fields
 unfoldable pub due : LineKind → List Field → Due
 due kind.Ask fs = in-order (a-number 255 ∷ a-number 15 ∷ []) fs
+due kind.Also fs = in-order (a-number 255 ∷ []) fs
 due kind.Hide fs = in-order (a-name ∷ []) fs
 due kind.Free fs = in-order (a-name ∷ []) fs
 due kind.Leaf fs = in-order [] fs
@@ -147,7 +148,7 @@ Refused-fields =
     (k : LineKind) (count : ℕ) (fs : List Field) (r : Refusal)
     → (content k count fs ≡ refused r) ↔ Faulty k count [] fs r
 
--- a line of this kind may stand next, and if it is an ask there are fewer than 16 before it
+-- a line of this kind may stand next, and if it is an ask or an also there are fewer than 16 of both before it
 pub record Allowed (s : State) (k : LineKind) : Type 0 where
   pub stands : T (may-stand s (place k))
   pub in-number : T (is-position (place k)) → length (s .asks) < 16
@@ -164,7 +165,7 @@ pub data Faulty-line (s : State) : List Field → Refusal → Type 0 where
   -- one that may not stand here: document 02, Change 6, "a line where it may not stand is 1 as an unknown kind"
   misplaced : {f : Field} {fs : List Field} {k : LineKind} → word kinds f ≡ some k → T (not (may-stand s (place k)))
       → Faulty-line s (f ∷ fs) refusal.Form
-  -- an ask that may stand here, after 16 of them: document 02, Change 7, "right after its kind"
+  -- an ask or an also that may stand here, after 16 of both: document 02, Change 7, "right after its kind"
   too-many : {f : Field} {fs : List Field} {k : LineKind} → word kinds f ≡ some k → T (may-stand s (place k))
       → T (is-position (place k)) → 16 ≤ length (s .asks) → Faulty-line s (f ∷ fs) refusal.FullAsks
   -- a field count other than the fixed one

@@ -39,7 +39,7 @@ unmet-less fs before after {n} w m u v =
     (mem-elim (mem-from-list n (filed fs) .1 (mem-intro m))) v (not-T (not (mem n after)) (λ x. T-not (mem n after) x u))
 
 -- no more names are unmet than are filed
-unmet-filed : (fs : List Fact) (met : List Name) → length (unmet fs met) ≤ length (from-list (filed fs))
+pub unmet-filed : (fs : List Fact) (met : List Name) → length (unmet fs met) ≤ length (from-list (filed fs))
 unfolding unmet
 unmet-filed fs met =
     let names = from-list (filed fs) in
@@ -80,6 +80,11 @@ module _ (a : Ask) (ms : Map (List Name)) (fs : List Fact) where
   follows-ends : {r end : Run} {scanned : List Name} {h : List Run} → Is-history a ms fs r scanned h end → Ends a ms fs r scanned end
   follows-ends (last-state t) = last t
   follows-ends (more-states t e) = more t (follows-ends e)
+
+  -- with more fuel than names are unmet, the rounds end for their own reason
+  pub rounds-end : (fuel : ℕ) (r : Run) (scanned : List Name) → length (unmet fs (r .met)) < fuel
+      → Ends a ms fs r scanned (rounds-from a ms fs fuel r scanned)
+  rounds-end fuel r scanned h = follows-ends (states-follow fuel r scanned h)
 
   -- the rounds are at most one more than the names that are unmet before them
   pub rounds-few : {r end : Run} {scanned : List Name} → Ends a ms fs r scanned end → end .rounds ≤ r .rounds + suc (length (unmet fs (r .met)))

@@ -6,5 +6,7 @@ pub mod FuelLaws
 pub mod HistoryLaws
 pub mod ReachedLaws
 pub mod ReadingLaws
+pub mod AskLaws
+pub mod StretchLaws
 pub mod OptionLaws
 pub mod BodyLaws

@@ -11,7 +11,7 @@ use Rattle.model.specs.Summaries.{Fact}
 use Rattle.model.specs.Pruning.{Map, try-find}
 use Rattle.model.specs.Rounds.{Run, met-from, met-after}
 use Rattle.model.proofs.ListLaws.{keep-intro, keep-elim, collect-intro, collect-elim}
-use Rattle.model.proofs.SetLaws.{Within, Ascending, mem-intro, mem-elim, mem-union, mem-from-list, ascending-union}
+use Rattle.model.proofs.SetLaws.{Within, Ascending, mem-intro, mem-elim, mem-union, mem-from-list, ascending-union, ascending-from-list}
 
 -- what an item with this free name meets: the name, and what it opens to
 unfoldable pub opened : Map (List Name) → Name → List Name
@@ -89,6 +89,11 @@ module _ (ms : Map (List Name)) where
     pub with-more : (set set′ : Fact → Bool) → ((f : Fact) → List·Memᴰ f fs → T (set f) → T (set′ f)) → Within (met-with ms fs first set) (met-with ms fs first set′)
     with-more set set′ h k t =
         ⊎-elim (with-first set′ k) (λ p. let (f, m, u, v) = p in with-fact set′ m (h f m u) k v) (with-elim set k t)
+
+-- the names met are a set
+pub ascending-with : (ms : Map (List Name)) (fs : List Fact) (first : List Name) (set : Fact → Bool) → Ascending (met-with ms fs first set)
+unfolding met-with met-from
+ascending-with ms fs first set = ascending-from-list _
 
 -- what is met before a round is met at its end
 pub met-grows : (ms : Map (List Name)) (r : Run) (scanned : List Name) → Within (r .met) (met-after ms r scanned)
