@@ -352,7 +352,7 @@ module _ {file names refs rows recs lists names₁ rows′ lists₁ names′ rec
   unfolding heads head-asks hidden-by hides-at collect nodes spelled trimmed summarize-decl root-of entries-of uses-of sum fold-left summary-at root-at names-then fact-kind fact-names entries summarize-assumption
   fact-there =
       rw (puts .counts) (record-added st few appends (fact-new st line known {w = 0} (sym free) flag t (omega arith)) (record {
-        no-ask = refl;
+        no-ask = λ earlier. refl;
         hidden = refl;
         no-term = refl;
         spells = still .names ∙ filed-lists .spelled ∙ sym (spelled-before file names (k .names) i

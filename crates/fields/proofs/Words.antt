@@ -161,6 +161,16 @@ module _ {s : State} {k : Counts} (p : Placing s k) where
   unfolding stands place may-stand
   stands-ask e = e
 
+  -- an also line: behind an ask, where none but such lines are
+  pub stands-also : true ≡ in-asks s → not (eqb (k .asks) 0) ≡ stands s kinded.Also
+  unfolding stands place may-stand
+  stands-also e = rw (← e, p .no-asks)
+
+  -- and nowhere else
+  pub stands-also-not : false ≡ in-asks s → false ≡ stands s kinded.Also
+  unfolding stands place may-stand
+  stands-also-not e = rw (← e)
+
   -- there is a hide line
   pub asks-past : (k .hides ≡ 0 → ⊥) → false ≡ in-asks s
   unfolding in-asks
@@ -175,6 +185,11 @@ module _ {s : State} {k : Counts} (p : Placing s k) where
   pub over-ask : leb most-asks (k .asks) ≡ over s kinded.Ask
   unfolding over place is-position
   over-ask = rw (p .asks)
+
+  -- an also line more than may be
+  pub over-also : leb most-asks (k .asks) ≡ over s kinded.Also
+  unfolding over place is-position
+  over-also = rw (p .asks)
 
   -- a hide line: none before the first ask
   pub stands-hide-first : k .asks ≡ 0 → false ≡ stands s kinded.Hide
@@ -225,7 +240,7 @@ pub stands-none : (s : State) (x : Refusal) → true ≡ stands s (kinded.No x)
 unfolding stands
 stands-none s x = refl
 
--- only an ask is a position
+-- only an ask or also line is a position
 pub over-hide : (s : State) → false ≡ over s kinded.Hide
 unfolding over place is-position
 over-hide s = refl
@@ -271,6 +286,7 @@ kind-tested : (s : State) (r : Kind) → (kind-result r >>= judged-kind s)
     ≡ cond (stands s r) (cond (over s r) (refused refusal.FullAsks) (kind-result r)) (refused refusal.Form)
 unfolding kind-result stands over
 kind-tested s kinded.Ask = placed-kind s kind.Ask (may-stand s (place kind.Ask))
+kind-tested s kinded.Also = placed-kind s kind.Also (may-stand s (place kind.Also))
 kind-tested s kinded.Hide = placed-kind s kind.Hide (may-stand s (place kind.Hide))
 kind-tested s (kinded.Term t) = placed-kind s (term-kind t) (may-stand s (place (term-kind t)))
 kind-tested s (kinded.Record r) = placed-kind s (record-line-kind r) (may-stand s (place (record-line-kind r)))
@@ -317,6 +333,7 @@ op-none {key} f k h = ap as-op (look-none (Unit {0}) key op-words h) ∙ op-key 
 fixed-some : (s : State) (k : LineKind) → count-of (fixed-count s k) ≡ 0 → fixed-count s k ≡ none
 unfolding fixed-count count-of
 fixed-some s kind.Ask e = absurd (omega arith)
+fixed-some s kind.Also e = absurd (omega arith)
 fixed-some s kind.Hide e = absurd (omega arith)
 fixed-some s kind.Free e = absurd (omega arith)
 fixed-some s kind.Leaf e = absurd (omega arith)
@@ -336,6 +353,7 @@ fixed-some s kind.Root e = absurd (omega arith)
 fixed-none : (s : State) (k : Kind) → count-of (fixed-of s k) ≡ 0 → fixed-of s k ≡ none
 unfolding fixed-of
 fixed-none s kinded.Ask e = fixed-some s kind.Ask e
+fixed-none s kinded.Also e = fixed-some s kind.Also e
 fixed-none s kinded.Hide e = fixed-some s kind.Hide e
 fixed-none s (kinded.Term t) e = fixed-some s (term-kind t) e
 fixed-none s (kinded.Record r) e = fixed-some s (record-line-kind r) e
@@ -385,6 +403,7 @@ parse-law s {count} f fs r d e = rw (← e, ← d) (go r)
     go : (r : Kind) → (kind-result r >>= (λ k. and-after fs k) >>= λ (k, gs). cond (wrong s (f ∷ fs) k) (refused refusal.Form) (content k terms gs))
         ≡ (kind-result r >>= λ k. cond (well-counted s r (f ∷ fs)) (content k terms fs) (refused refusal.Form))
     go kinded.Ask = turned (wrong s (f ∷ fs) kind.Ask) (refused refusal.Form) (content kind.Ask terms fs)
+    go kinded.Also = turned (wrong s (f ∷ fs) kind.Also) (refused refusal.Form) (content kind.Also terms fs)
     go kinded.Hide = turned (wrong s (f ∷ fs) kind.Hide) (refused refusal.Form) (content kind.Hide terms fs)
     go (kinded.Term t) = turned (wrong s (f ∷ fs) (term-kind t)) (refused refusal.Form) (content (term-kind t) terms fs)
     go (kinded.Record r) = turned (wrong s (f ∷ fs) (record-line-kind r)) (refused refusal.Form) (content (record-line-kind r) terms fs)

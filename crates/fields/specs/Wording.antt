@@ -83,6 +83,7 @@ record-line-kind recorded.Root = kind.Root
 -- the kind of a line, or its refusal
 unfoldable pub kind-result : Kind → Result LineKind
 kind-result kinded.Ask = ok kind.Ask
+kind-result kinded.Also = ok kind.Also
 kind-result kinded.Hide = ok kind.Hide
 kind-result (kinded.Term t) = ok (term-kind t)
 kind-result (kinded.Record r) = ok (record-line-kind r)
@@ -91,6 +92,7 @@ kind-result (kinded.No x) = refused x
 -- whether a line of the kind may stand next; what has no kind is refused for that
 unfoldable pub stands : State → Kind → Bool
 stands s kinded.Ask = may-stand s (place kind.Ask)
+stands s kinded.Also = may-stand s (place kind.Also)
 stands s kinded.Hide = may-stand s (place kind.Hide)
 stands s (kinded.Term t) = may-stand s (place (term-kind t))
 stands s (kinded.Record r) = may-stand s (place (record-line-kind r))
@@ -99,6 +101,7 @@ stands s (kinded.No x) = true
 -- whether a line of the kind is a position more than a file may have
 unfoldable pub over : State → Kind → Bool
 over s kinded.Ask = is-position (place kind.Ask) && leb most-asks (length (s .asks))
+over s kinded.Also = is-position (place kind.Also) && leb most-asks (length (s .asks))
 over s kinded.Hide = is-position (place kind.Hide) && leb most-asks (length (s .asks))
 over s (kinded.Term t) = is-position (place (term-kind t)) && leb most-asks (length (s .asks))
 over s (kinded.Record r) = is-position (place (record-line-kind r)) && leb most-asks (length (s .asks))
@@ -115,6 +118,7 @@ pub record Placing (s : State) (k : Counts) : Type 0 where
 -- the fields of the next line, the kind counted, where their count is fixed
 unfoldable pub fixed-of : State → Kind → Option ℕ
 fixed-of s kinded.Ask = fixed-count s kind.Ask
+fixed-of s kinded.Also = fixed-count s kind.Also
 fixed-of s kinded.Hide = fixed-count s kind.Hide
 fixed-of s (kinded.Term t) = fixed-count s (term-kind t)
 fixed-of s (kinded.Record r) = fixed-count s (record-line-kind r)

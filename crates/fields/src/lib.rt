@@ -42,6 +42,7 @@ pub enum RecordKind {
 // The kind of a line, or the refusal of a line that has none.
 pub enum Kind {
     Ask,
+    Also,
     Hide,
     Term(TermKind),
     Record(RecordKind),
@@ -56,6 +57,8 @@ enum OpWord {
 
 // The keys of the kinds and of the op words: a 1, then the bytes of the word.
 const ASK: u64 = 0x1_61_73_6b;
+
+const ALSO: u64 = 0x1_61_6c_73_6f;
 
 const HIDE: u64 = 0x1_68_69_64_65;
 
@@ -121,6 +124,7 @@ fn kind_of(key: u64) -> Kind
 {
     match key {
         ASK => Kind::Ask,
+        ALSO => Kind::Also,
         HIDE => Kind::Hide,
         FREE => Kind::Term(TermKind::Free),
         LEAF => Kind::Term(TermKind::Leaf),
@@ -139,7 +143,7 @@ fn kind_of(key: u64) -> Kind
     }
 }
 
-// Whether the lines counted are asks and hide lines alone.
+// Whether the lines counted are ask, also and hide lines alone.
 fn in_head(k: Counts) -> bool
     ensures { λ r. ⌜ ((s : State) → Placing s k → r ≡ in-head s) ⌝ }
 {
@@ -149,7 +153,7 @@ fn in_head(k: Counts) -> bool
     k.records == k.hides
 }
 
-// Whether the lines counted are asks alone.
+// Whether the lines counted are ask and also lines alone.
 fn in_asks(k: Counts) -> bool
     ensures { λ r. ⌜ ((s : State) → Placing s k → r ≡ in-asks s) ⌝ }
 {
@@ -159,13 +163,19 @@ fn in_asks(k: Counts) -> bool
     in_head(k)
 }
 
-// Whether a line of a kind may stand after the lines counted: asks first, at least one; then hide lines; then any other. What
-// has no kind is refused for that.
+// Whether a line of a kind may stand after the lines counted: an ask first, then ask and also lines; then hide lines; then any
+// other. What has no kind is refused for that.
 fn may_stand(k: Counts, kind: Kind) -> bool
     ensures { λ r. ⌜ ((s : State) → Placing s k → r ≡ stands s kind) ⌝ }
 {
     match kind {
         Kind::Ask => in_asks(k),
+        Kind::Also => {
+            if in_asks(k) {
+                return k.asks != 0;
+            }
+            false
+        }
         Kind::Hide => {
             if k.asks == 0 {
                 return false;
@@ -178,12 +188,13 @@ fn may_stand(k: Counts, kind: Kind) -> bool
     }
 }
 
-// Whether a line of a kind is an ask and as many as may be are counted.
+// Whether a line of a kind is an ask or also line and as many as may be are counted.
 fn too_many(k: Counts, kind: Kind) -> bool
     ensures { λ r. ⌜ ((s : State) → Placing s k → r ≡ over s kind) ⌝ }
 {
     match kind {
         Kind::Ask => model::MOST_ASKS <= k.asks,
+        Kind::Also => model::MOST_ASKS <= k.asks,
         Kind::Hide => false,
         Kind::Term(_) => false,
         Kind::Record(_) => false,
@@ -256,6 +267,7 @@ fn fixed_count(kind: Kind) -> usize
 {
     match kind {
         Kind::Ask => 3,
+        Kind::Also => 2,
         Kind::Hide => 2,
         Kind::Term(t) => term_count(t),
         Kind::Record(r) => record_count(r),

@@ -1,6 +1,7 @@
 -- The options by division and remainder.
 use Prim.Native.Nat.{ℕ, _/_, _%_, _≤_}
 use mathlib.Core.Path.{_≡_, refl}
+use mathlib.Core.List.{List, []}
 use lib.Dec.{eqb}
 use Rattle.model.specs.Reading.{no-ambients, pretyping-axioms, prune-decls, follow-bodies, most-options}
 use Rattle.laws.proofs.OptionLaws.{options-sum}
@@ -16,10 +17,10 @@ taken-apart n = record {
   «follow_bodies» = eqb (n / 8 % 2) 1;
 }
 
-pub options-are : (q n : ℕ) → Options-of (asks q n) (taken-apart n)
+pub options-are : (qs : List ℕ) (n : ℕ) → Options-of (asks qs n) (taken-apart n)
 unfolding no-ambients pretyping-axioms prune-decls follow-bodies
-options-are q n = record { no-ambients-is = refl; pretyping-axioms-is = refl; prune-decls-is = refl; follow-bodies-is = refl }
+options-are qs n = record { no-ambients-is = refl; pretyping-axioms-is = refl; prune-decls-is = refl; follow-bodies-is = refl }
 
 pub options-add : (n : ℕ) → n ≤ most-options → options-value (taken-apart n) ≡ n
 unfolding options-value no-ambients pretyping-axioms prune-decls follow-bodies
-options-add n h = options-sum (asks 0 n) h
+options-add n h = options-sum (asks [] n) h

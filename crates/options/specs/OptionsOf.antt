@@ -2,18 +2,13 @@
 use Prim.Native.Nat.{ℕ, _+_}
 use mathlib.Core.Path.{_≡_}
 use mathlib.Core.Bool.{cond}
-use mathlib.Core.List.{[], _∷_}
+use mathlib.Core.List.{List}
 use Rattle.model.specs.Reading.{Ask, no-ambients, pretyping-axioms, prune-decls, follow-bodies}
-use Rattle.model.specs.declared.Asked.{Asked}
 use Rattle.options.specs.declared.Options.{Options}
 
--- the ask of a query and an options number
-abbrev pub asks : ℕ → ℕ → Ask
-asks query options = record { queries = query ∷ []; options = options }
-
--- what a run is asked
-abbrev pub ask-of : Asked → Ask
-ask-of a = asks (a .query) (a .options)
+-- the ask of some queries and an options number
+abbrev pub asks : List ℕ → ℕ → Ask
+asks queries options = record { queries = queries; options = options }
 
 -- the options that are on, each at its value
 unfoldable pub options-value : Options → ℕ

@@ -1,5 +1,6 @@
 ghost use Prim.Native.Nat.{ℕ, _≤_};
 ghost use mathlib.Core.Path.{_≡_};
+ghost use mathlib.Core.List.{List};
 ghost use Rattle.model.specs.Reading.{most-options};
 ghost use Rattle.options.specs.OptionsOf.{asks, options-value, Options-of};
 
@@ -13,7 +14,7 @@ pub struct Options {
 
 // The options of an options number: what remains by 2 after the halvings of each one's place.
 pub fn options_of(number: usize) -> Options
-    ensures on { λ r. ⌜ ((q : ℕ) → Options-of (asks q number) r) ⌝ }
+    ensures on { λ r. ⌜ ((qs : List ℕ) → Options-of (asks qs number) r) ⌝ }
     ensures sum { λ r. ⌜ (number ≤ most-options → options-value r ≡ number) ⌝ }
 {
     Options {

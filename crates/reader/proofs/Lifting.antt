@@ -1,4 +1,4 @@
--- Term lines and `ask` as `read-line` has them.
+-- Term lines, `ask` and `also` as `read-line` has them.
 use Prim.Native.Nat.{ℕ, _+_}
 use native.Mathlib.Omega.{arith}
 use mathlib.Core.Path.{_≡_, refl, ap, _∙_}
@@ -9,7 +9,7 @@ use Rattle.model.specs.Summaries.{exclude-names}
 use Rattle.model.specs.Lists.{collect, fold-left, sum}
 use Rattle.model.specs.Names.{Name}
 use Rattle.model.specs.Terms.{Node, Term, add-term, references}
-use Rattle.model.specs.Reading.{Result, refused, Content, head, ask, term, content, State, spell, spelled, spelled-by, trimmed, heads, nodes, summarize-decl, root-of, taken-by, add-line}
+use Rattle.model.specs.Reading.{Result, refused, Content, Head, head, term, content, State, spell, spelled, spelled-by, trimmed, heads, nodes, summarize-decl, root-of, taken-by, add-line}
 use Rattle.model.specs.Outcome.{working-words}
 use Rattle.model.specs.declared.Counts.{Counts}
 use Rattle.model.specs.declared.LineKind.{LineKind}
@@ -26,7 +26,7 @@ use Rattle.records.specs.Adding.{Standing, judge}
 use Rattle.records.proofs.Recording.{hidden-stay, decls-stay, roots-stay}
 use Rattle.records.proofs.Judging.{judged-beyond, judged-within, repeats-none}
 use Rattle.records.proofs.Appending.{terms-length, standing-within}
-use Rattle.records.proofs.Asking.{ask-standing, ask-state}
+use Rattle.records.proofs.Asking.{head-standing, head-state, head-same}
 use Rattle.records.specs.Writing.{with-ask}
 use Rattle.filing.specs.Lines.{judged, Reads, goes-on, stops, Line-read}
 use Rattle.filing.proofs.Naming.{same-records, standing-spelled, reads-refused, past-none, past-records}
@@ -141,25 +141,25 @@ module _ {file names refs rows recs lists names′ refs′ rows′ : List ℕ} {
     };
   }
 
--- ---- an ask
+-- ---- an ask or an also
 
--- an ask takes no name
-ask-takes : (exclude : List Name) (ts : List Term) (n q options : ℕ) → collect taken-by (summarize-decl exclude ts n (head (ask q options))) ≡ []
+-- a line of the head takes no name
+head-takes : (exclude : List Name) (ts : List Term) (n : ℕ) (h : Head) → collect taken-by (summarize-decl exclude ts n (head h)) ≡ []
 unfolding collect summarize-decl
-ask-takes exclude ts n q options = refl
+head-takes exclude ts n h = refl
 
 module _ {file names refs rows recs lists recs′ : List ℕ} {k : Counts} (n : ℕ) (st : Standing file names refs rows recs lists k) where
-  -- what reading an ask comes to
+  -- what reading it comes to
   pub ask-read : {said : Result Content} {f : Step} → Asks recs recs′ k said f
       → Line-read file names refs rows recs lists names refs rows recs′ lists k n said f
   unfolding judged
-  ask-read (asks {q} {options} e a) = record {
+  ask-read (asks {h} e a) = record {
     reads = goes-on {k′ = with-ask k}
         (ap (λ r. judged n (state-of file names refs rows recs lists k) r) e
-        ∙ judged-within n (state-of file names refs rows recs lists k) (head (ask q options))
-        (repeats-none n (state-of file names refs rows recs lists k) (head (ask q options)) (ask-takes _ _ n q options))
-        (ask-state st a n) (standing-within (ask-standing st a)))
-        (ask-standing st a);
-    past = past-records names refs rows lists (same-wider 0 working-words (omega arith) (omega arith) (a .same));
+        ∙ judged-within n (state-of file names refs rows recs lists k) (head h)
+        (repeats-none n (state-of file names refs rows recs lists k) (head h) (head-takes _ _ n h))
+        (head-state st recs′ n h a) (standing-within (head-standing st recs′ h a)))
+        (head-standing st recs′ h a);
+    past = past-records names refs rows lists (same-wider 0 working-words (omega arith) (omega arith) (head-same recs recs′ k h a));
   }
   ask-read (not-asked {x} e z) = rw z (record { reads = reads-refused x e; past = past-none names refs rows recs lists })

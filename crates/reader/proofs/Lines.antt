@@ -5,13 +5,13 @@ use mathlib.Core.Path.{_≡_, refl, sym, ap, ap₂, _∙_}
 use mathlib.Core.Bool.{Bool, true, false, cond, not, _&&_, true≢false}
 use mathlib.Core.Logic.{⊎-elim}
 use mathlib.Core.List.{List, [], _∷_}
-use lib.Dec.{eqb, nleb→lt}
+use lib.Dec.{T-not, eqb, nleb→lt}
 use lib.ListN.{length, drop, length-map}
 use borrow.Author.Tests.{eq-eqb, ne-eqb}
 use Rattle.model.specs.Summaries.{exclude-names}
 use Rattle.model.specs.Lists.{fold-left, holds, is-nil, part}
 use Rattle.model.specs.Lines.{lines, Field, fields}
-use Rattle.model.specs.Reading.{Result, ok, refused, _>>=_, next, place, is-position, most-asks, kind-field, content, parse, State, start, read, refused-at, go-on, read-line, read-lines, read-file, Content}
+use Rattle.model.specs.Reading.{Result, ok, refused, _>>=_, next, place, in-asks, may-stand, is-position, most-asks, kind-field, content, parse, State, start, read, refused-at, go-on, read-line, read-lines, read-file, Content}
 use Rattle.model.specs.Outcome.{most-bytes, working-words}
 use Rattle.model.specs.declared.Counts.{Counts}
 use Rattle.model.specs.declared.LineKind.the-variants as kind
@@ -20,6 +20,7 @@ use Rattle.model.specs.declared.Refusal.the-variants as refusal
 use Rattle.model.specs.declared.Step.{Step}
 use Rattle.model.specs.declared.Step.the-variants as step
 use Rattle.model.proofs.ResultLaws.{ok-eq, not-ok}
+use Rattle.model.proofs.ListLaws.{T-and, true-T}
 use Rattle.laws.proofs.ReadingLaws.{kind-ok}
 use Rattle.text.specs.declared.Cursor.{Cursor}
 use Rattle.text.specs.declared.FieldStep.{FieldStep}
@@ -43,7 +44,7 @@ use Rattle.records.proofs.Standing.{Beside, standing-start, hidden-longer, decl
 use Rattle.macros.proofs.Filling.{standing-filled}
 use Rattle.names.proofs.Coded.{table-kept}
 use Rattle.terms.proofs.Table.{terms-named}
-use Rattle.records.specs.Adding.{Standing, judge}
+use Rattle.records.specs.Adding.{Standing}
 use Rattle.records.proofs.Judging.{line-judged}
 use Rattle.records.proofs.Recording.{records-length}
 use Rattle.terms.proofs.Laws.{equal}
@@ -110,6 +111,10 @@ module _ (count : ℕ) (fs : List Field) {k : Kind} where
   unfolding kind-content kind-result
   kind-ask e = rw e
 
+  pub kind-also : k ≡ kinded.Also → kind-content k count fs ≡ content kind.Also count fs
+  unfolding kind-content kind-result
+  kind-also e = rw e
+
   pub kind-hide : k ≡ kinded.Hide → kind-content k count fs ≡ content kind.Hide count fs
   unfolding kind-content kind-result
   kind-hide e = rw e
@@ -131,6 +136,7 @@ miscounted : (s : State) (k : Kind) (all : List Field) → false ≡ well-counte
     → _≡_ {A = Result Content} (kind-result k >>= λ l. refused refusal.Form) (refused refusal.Form)
 unfolding kind-result well-counted fixed-of holds
 miscounted s kinded.Ask all c = refl
+miscounted s kinded.Also all c = refl
 miscounted s kinded.Hide all c = refl
 miscounted s (kinded.Term t) all c = refl
 miscounted s (kinded.Record r) all c = refl
@@ -203,6 +209,18 @@ ask-fits s {k} f {r} p e a =
     let d : kind-field s f ≡ ok kind.Ask = sym (rw a at e) in
     let few = kind-ok s f d .2 in
     omega (arith, p .asks, nleb→lt most-asks (length (s .asks)) few)
+
+-- an also line that may stand has room, and a position before it
+pub also-fits : (s : State) {k : Counts} (f : Field) {r : Kind} → Placing s k → kind-result r ≡ kind-field s f → r ≡ kinded.Also
+    → (0 < k .asks) × (k .asks < ask-room)
+unfolding kind-result place is-position may-stand
+also-fits s {k} f {r} p e a =
+    let d : kind-field s f ≡ ok kind.Also = sym (rw a at e) in
+    let (known, stands, few) = kind-ok s f d in
+    let some = T-and (in-asks s) (not (is-nil (s .asks))) .0 stands .1 in (
+      ⊎-elim (λ (z : k .asks ≡ 0). absurd (T-not (is-nil (s .asks)) some (true-T (p .no-asks ∙ eq-eqb (k .asks) 0 z)))) (λ z. omega arith) (equal (k .asks) 0),
+      omega (arith, p .asks, nleb→lt most-asks (length (s .asks)) few),
+    )
 
 -- ---- the loop over lines
 

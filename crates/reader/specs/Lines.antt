@@ -1,11 +1,12 @@
--- What a line says by its kind, and what reading an `ask`, and a file, comes to: the tables with it, or the refusal that `model` gives.
+-- What a line says by its kind, and what reading a position, and a file, comes to: the tables with it, or the refusal that
+-- `model` gives.
 use Prim.Native.Nat.{ℕ, _≤_, _<_}
 use mathlib.Core.Path.{_≡_}
 use mathlib.Core.List.{List}
 use lib.ListN.{length, getD}
 use Rattle.model.specs.Summaries.{exclude-names}
 use Rattle.model.specs.Lines.{Field}
-use Rattle.model.specs.Reading.{Result, ok, refused, _>>=_, Content, head, ask, content, read-file, read, refused-at}
+use Rattle.model.specs.Reading.{Result, ok, refused, _>>=_, Content, Head, head, content, read-file, read, refused-at}
 use Rattle.model.specs.Outcome.{most-bytes, working-words}
 use Rattle.model.specs.declared.Counts.{Counts}
 use Rattle.model.specs.declared.Refusal.{Refusal}
@@ -15,7 +16,7 @@ use Rattle.fields.specs.declared.Kind.{Kind}
 use Rattle.fields.specs.Wording.{kind-result}
 use Rattle.records.specs.States.{state-of}
 use Rattle.macros.specs.Macros.{Filled}
-use Rattle.records.specs.Writing.{with-ask, Asked-at}
+use Rattle.records.specs.Writing.{with-ask, Position-at}
 use Rattle.filing.specs.Lines.{Past}
 use Rattle.reader.specs.declared.Reading.{Reading}
 use Rattle.reader.specs.declared.Reading.the-variants as answer
@@ -24,9 +25,9 @@ use Rattle.reader.specs.declared.Reading.the-variants as answer
 unfoldable pub kind-content : Kind → ℕ → List Field → Result Content
 kind-content k count fs = kind-result k >>= λ l. content l count fs
 
--- what reading an `ask` comes to: it stands behind the records, or its refusal
+-- what reading an `ask` or an `also` comes to: it stands behind the records, or its refusal
 pub data Asks (recs recs′ : List ℕ) (k : Counts) (said : Result Content) : Step → Type 0 where
-  asks : {q options : ℕ} → said ≡ ok (head (ask q options)) → Asked-at recs recs′ k q options → Asks recs recs′ k said (step.On (with-ask k))
+  asks : {h : Head} → said ≡ ok (head h) → Position-at recs recs′ k h → Asks recs recs′ k said (step.On (with-ask k))
   not-asked : {x : Refusal} → said ≡ refused x → recs′ ≡ recs → Asks recs recs′ k said (step.Refused x)
 
 -- what reading a file asks: the lengths that a call has checked, and cleared names and rows

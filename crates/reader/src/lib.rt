@@ -38,10 +38,27 @@ fn read_ask(file: &[u8], recs: &mut [u32], k: Counts, c: Cursor) -> Step
                 if last.at <= last.end {
                     return Step::Refused(Refusal::Form);
                 }
-                Step::On(records::add_ask(recs, k, q, options))
+                Step::On(records::add_ask(recs, k, records::ASK, q, options))
             }
             NumberStep::Refused(r) => Step::Refused(r),
         },
+        NumberStep::Refused(r) => Step::Refused(r),
+    }
+}
+
+// Reads an `also`, from its query on.
+fn read_also(file: &[u8], recs: &mut [u32], k: Counts, c: Cursor) -> Step
+    requires { ⌜ Placed (now file) c × (0 < k .asks) × (k .asks < ask-room) × (working-words ≤ length (now recs)) ⌝ }
+    ensures { λ r. ⌜ Asks (now (recs .entry)) (now (recs .exit)) k
+        (content kind.Also (k .terms) (fields-left (now (file .entry)) c)) r ⌝ }
+{
+    match c.number(file, model::MOST_QUERY) {
+        NumberStep::Number(q, last) => {
+            if last.at <= last.end {
+                return Step::Refused(Refusal::Form);
+            }
+            Step::On(records::add_ask(recs, k, records::ALSO, q, 0))
+        }
         NumberStep::Refused(r) => Step::Refused(r),
     }
 }
@@ -60,13 +77,15 @@ fn read_kind(
     c: Cursor,
 ) -> Step
     requires { ⌜ Standing (now file) (now names) (now refs) (now rows) (now recs) (now lists) k × Placed (now file) c
-        × (n < 4294967296) × (kind ≡ Kind.Ask → k .asks < ask-room) ⌝ }
+        × (n < 4294967296) × (kind ≡ Kind.Ask → k .asks < ask-room)
+        × (kind ≡ Kind.Also → (0 < k .asks) × (k .asks < ask-room)) ⌝ }
     ensures { λ r. ⌜ Line-read (now (file .entry)) (now (names .entry)) (now (refs .entry)) (now (rows .entry))
         (now (recs .entry)) (now (lists .entry)) (now (names .exit)) (now (refs .exit)) (now (rows .exit)) (now (recs .exit))
         (now (lists .exit)) k n (kind-content kind (k .terms) (fields-left (now (file .entry)) c)) r ⌝ }
 {
     match kind {
         Kind::Ask => read_ask(file, recs, k, c),
+        Kind::Also => read_also(file, recs, k, c),
         Kind::Hide => filing::read_hide(file, names, refs, rows, recs, lists, k, n, c),
         Kind::Term(t) => nodes::read_term(file, names, refs, rows, k, t, c),
         Kind::Record(r) => filing::read_record(file, names, refs, rows, recs, lists, k, n, r, c),

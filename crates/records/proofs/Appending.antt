@@ -11,7 +11,7 @@ use Rattle.model.specs.Lists.{sum, collect, fold-left, part}
 use Rattle.model.specs.Names.{Name}
 use Rattle.model.specs.Summaries.{exclude-names, entries}
 use Rattle.model.specs.Terms.{Node, Term, add-term, unlabeled, free-top-level-names}
-use Rattle.model.specs.Reading.{Content, heads, head-asks, hidden-by, nodes, spelled, trimmed, spell, summarize-decl, root-of, entries-of, uses-of, add-line, repeats, most-names, most-records, most-entries, most-uses, excluded}
+use Rattle.model.specs.Reading.{Ask, Content, heads, head-asks, hidden-by, nodes, spelled, trimmed, spell, summarize-decl, root-of, entries-of, uses-of, add-line, repeats, most-names, most-records, most-entries, most-uses, excluded}
 use Rattle.model.specs.declared.Counts.{Counts}
 use Rattle.model.specs.declared.Refusal.{Refusal}
 use Rattle.model.specs.declared.Refusal.the-variants as refusal
@@ -31,10 +31,10 @@ use Rattle.rules.specs.Views.{terms-in}
 use Rattle.triggers.specs.Entries.{disjuncts-of, entries-base, last-flag, no-name}
 use Rattle.triggers.proofs.Marked.{terms-marked}
 use Rattle.model.specs.declared.Step.the-variants as step
-use Rattle.records.specs.Columns.{record-kind, assume-kind, retain-kind, root-kind, hide-kind, entry-word, entry-name, entry-fact, ask-query-column, ask-options-column, ask-query, ask-options}
-use Rattle.records.specs.States.{summary-at, root-at, hides-at, decls-of, roots-of, hides-of, hidden-of, excluded-of, asks-of, state-of}
+use Rattle.records.specs.Columns.{record-kind, assume-kind, retain-kind, root-kind, hide-kind, entry-word, entry-name, entry-fact, ask-query-column, ask-options-column, ask-kind-column, ask-query, ask-options, ask-kind}
+use Rattle.records.specs.States.{summary-at, root-at, hides-at, decls-of, roots-of, hides-of, hidden-of, excluded-of, also-at, ask-at, asks-of, state-of}
 use Rattle.records.specs.Filing.{Records, Chained, Filing, Taken}
-use Rattle.records.specs.Writing.{with-line, Rowed}
+use Rattle.records.specs.Writing.{with-line, Rowed, Ask-stays}
 use Rattle.records.specs.Adding.{Standing, Adds, stops, added}
 use Rattle.records.proofs.Recording.{Agree, hides-known, hides-stay, decls-stay, roots-stay, records-length}
 use Rattle.records.proofs.Keeping.{filing-more}
@@ -80,15 +80,20 @@ standing-within {file} {names} {refs} {rows} {recs} {lists} {k} st = record {
   uses = st .recorded .few-uses;
 }
 
+-- what is asked at a position whose words stay, and those of the positions before it
+pub ask-stays : (recs recs′ : List ℕ) (n : ℕ) → ((i : ℕ) → i ≤ n → Ask-stays recs recs′ i) → ask-at recs′ n ≡ ask-at recs n
+unfolding ask-at also-at
+ask-stays recs recs′ zero same = let (q, o, k) = same 0 (omega arith) in rw (q, o)
+ask-stays recs recs′ (suc n) same =
+    let (q, o, k) = same (suc n) (omega arith) in
+    rw (ask-stays recs recs′ n (λ i l. same i (omega arith)), q, o, k)
+
 -- asks whose words stay
-pub asks-stay : (recs recs′ : List ℕ) (n : ℕ)
-    → ((i : ℕ) → i < n → (ask-query recs′ i ≡ ask-query recs i) × (ask-options recs′ i ≡ ask-options recs i))
-    → asks-of recs′ n ≡ asks-of recs n
+pub asks-stay : (recs recs′ : List ℕ) (n : ℕ) → ((i : ℕ) → i < n → Ask-stays recs recs′ i) → asks-of recs′ n ≡ asks-of recs n
 unfolding asks-of
 asks-stay recs recs′ zero same = refl
 asks-stay recs recs′ (suc n) same =
-    let (q, o) = same n (omega arith) in
-    rw (asks-stay recs recs′ n (λ i l. same i (omega arith)), q, o)
+    rw (asks-stay recs recs′ n (λ i l. same i (omega arith)), ask-stays recs recs′ n (λ i l. same i (omega arith)))
 
 -- ---- the excluded names with a record that is no hide line
 
@@ -151,7 +156,7 @@ pub record Appends (file names rows recs lists names′ rows′ recs′ lists′
 -- a line says what the record after those counted is: the names that it hides and spells, what it adds to the background by the
 -- excluded names, the roots, the counts
 pub record Says (file names names′ recs′ lists′ : List ℕ) (out : List Name) (terms : List Term) (k k′ : Counts) (kind line : ℕ) (c : Content) : Type 0 where
-  pub no-ask : collect head-asks (heads c) ≡ []
+  pub no-ask : (earlier : List Ask) → collect (head-asks earlier) (heads c) ≡ []
   pub hidden : map (name-of file names′) (hides-at recs′ (k .records) kind) ≡ collect hidden-by (heads c)
   pub no-term : nodes c ≡ []
   pub spells : table-names file names′ (k′ .names) ≡ fold-left spell (table-names file names (k .names)) (spelled c ++ trimmed out terms c)
@@ -260,7 +265,11 @@ module _ {file names refs rows recs lists names′ rows′ recs′ lists′ : Li
 
   -- the asks are those before
   asks-there : asks-of recs′ (k .asks) ≡ asks-of recs (k .asks)
-  asks-there = asks-stay recs recs′ (k .asks) (λ i l. (a .row .past (ask-query-column + i) (omega arith), a .row .past (ask-options-column + i) (omega arith)))
+  asks-there = asks-stay recs recs′ (k .asks) (λ i l. (
+    a .row .past (ask-query-column + i) (omega arith),
+    a .row .past (ask-options-column + i) (omega arith),
+    a .row .past (ask-kind-column + i) (omega arith),
+  ))
 
   -- the tables are the state with the line
   state-then : {c : Content} → Says file names names′ recs′ lists′ (excluded-of (name-of file names) recs (k .records)) (terms-in file names refs rows (k .references) (k .terms)) k
@@ -271,7 +280,7 @@ module _ {file names refs rows recs lists names′ rows′ recs′ lists′ : Li
   state-then s =
       let zero-more : k .references + 0 ≡ k .references = omega arith in
       rw (
-        s .no-ask,
+        s .no-ask (asks-of recs (k .asks)),
         append-nil (asks-of recs (k .asks)),
         s .no-term,
         zero-more,

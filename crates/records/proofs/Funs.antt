@@ -98,7 +98,7 @@ module _ {file names refs rows recs lists : List ℕ} {k : Counts} (st : Standin
       (same-self (k .uses) (k .uses - k .uses) lists)
       (omega arith) (st .recorded .few-uses) (λ j a b. absurd (omega arith)) (not-taken st few row′ (λ n l. refl) (omega arith)) in
       rw e (record-added st few more retain-new (record {
-        no-ask = refl;
+        no-ask = λ earlier. refl;
         hidden = refl;
         no-term = refl;
         spells = refl;
@@ -147,7 +147,7 @@ module _ {file names refs rows recs lists : List ℕ} {k : Counts} (st : Standin
       (same-self (k .uses) (k .uses - k .uses) lists)
       (omega arith) (st .recorded .few-uses) (λ j a b. absurd (omega arith)) taken in
       rw e (record-added st few more (fun-new z) (record {
-        no-ask = refl;
+        no-ask = λ earlier. refl;
         hidden = refl;
         no-term = refl;
         spells = kept st words .names ∙ sym (spelled-again file names (k .names) i known);

@@ -67,7 +67,7 @@ module _ {file names refs rows recs lists : List ℕ} {k : Counts} (st : Standin
       (omega arith) (st .recorded .few-uses) (λ j a b. absurd (omega arith))
       (not-taken st few row′ (λ n l. but .same-words (taken-column + n) (λ a b. omega arith)) (omega arith)) (omega arith, rw (row′ .name-is) excludes) in
       rw e (record-added st few more hide-new (record {
-        no-ask = refl;
+        no-ask = λ earlier. refl;
         hidden = rw (row′ .name-is, same .name i known);
         no-term = refl;
         spells = same .names ∙ sym (spelled-again file names (k .names) i known);

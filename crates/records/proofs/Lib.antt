@@ -1,5 +1,6 @@
 pub mod Rows
 pub mod Chaining
+pub mod Chains
 pub mod Recording
 pub mod Keeping
 pub mod Judging

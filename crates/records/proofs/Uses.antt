@@ -181,7 +181,7 @@ module _ {file names refs rows recs lists : List ℕ} {k : Counts} (st : Standin
         let more = plain st words (u .row-words) (fresh-taken put (u .fresh)) (omega arith) row′ (λ q. omega arith) (omega arith) (λ q. known) (u .lists-words)
         (omega (arith, u .size)) (u .fits) (u .words) taken in
         rw e (record-added st few more (def-new free) (record {
-          no-ask = refl;
+          no-ask = λ earlier. refl;
           hidden = refl;
           no-term = refl;
           spells = kept st words .names ∙ sym (spelled-again file names (k .names) i known);
@@ -233,7 +233,7 @@ module _ {file names refs rows recs lists : List ℕ} {k : Counts} (st : Standin
       let more = plain st words (u .row-words) (u .fresh) (omega arith) row′ (λ q. omega arith) (omega arith) (λ q. known) (u .lists-words)
       (omega (arith, u .size)) (u .fits) (u .words) taken in
       rw e (record-added st few more root-new (record {
-        no-ask = refl;
+        no-ask = λ earlier. refl;
         hidden = refl;
         no-term = refl;
         spells = kept st words .names ∙ sym (spelled-again file names (k .names) i known);

@@ -91,13 +91,16 @@ ask-query-column = 11264
 abbrev pub ask-options-column : ℕ
 ask-options-column = 11280
 
+abbrev pub ask-kind-column : ℕ
+ask-kind-column = 11296
+
 -- the positions that have room
 abbrev pub ask-room : ℕ
 ask-room = 16
 
 -- the words of the asks
 abbrev pub ask-columns : ℕ
-ask-columns = 32
+ask-columns = 48
 
 -- the query of an ask
 abbrev pub ask-query : List ℕ → ℕ → ℕ
@@ -106,6 +109,17 @@ ask-query recs i = getD recs (ask-query-column + i) 0
 -- its options number
 abbrev pub ask-options : List ℕ → ℕ → ℕ
 ask-options recs i = getD recs (ask-options-column + i) 0
+
+-- the kind of its line
+abbrev pub ask-kind : List ℕ → ℕ → ℕ
+ask-kind recs i = getD recs (ask-kind-column + i) 0
+
+-- the kinds of the lines of positions
+abbrev pub asked-kind : ℕ
+asked-kind = 0
+
+abbrev pub also-kind : ℕ
+also-kind = 1
 
 -- the kinds of records
 abbrev pub assume-kind : ℕ

@@ -1,17 +1,19 @@
 -- The tables as the state of `model`: the asks, the hidden names, the background, the roots and the counts.
 use Prim.Native.Nat.{ℕ, zero, suc, _+_}
+use mathlib.Core.Bool.{Bool, false, cond}
 use mathlib.Core.List.{List, [], _∷_, _++_, map}
-use lib.Dec.{eqb}
+use lib.Dec.{eqb, ltb}
 use Rattle.model.specs.Lists.{part}
 use Rattle.model.specs.Names.{Name, from-list}
 use Rattle.model.specs.Summaries.{Fact, exclude-names}
-use Rattle.model.specs.Reading.{Decl, Summary, Sum-assume, Sum-definefun, Sum-declfun, Sum-retain, Root, Ask, State}
+use Rattle.model.specs.Reading.{Decl, Summary, Sum-assume, Sum-definefun, Sum-declfun, Sum-retain, Root, Ask, State, with-query}
+use Rattle.model.specs.declared.Asked.{Asked}
 use Rattle.model.specs.declared.Counts.{Counts}
 use Rattle.names.specs.Table.{name-of, table-names}
 use Rattle.rules.specs.Views.{terms-in}
 use Rattle.triggers.specs.Entries.{disjuncts-of, entries-base}
 use Rattle.options.specs.OptionsOf.{asks}
-use Rattle.records.specs.Columns.{record-kind, record-line, record-name, record-flag, uses-start, uses-end, entries-start, entries-end, summary-code, kind-of-code, ask-query, ask-options}
+use Rattle.records.specs.Columns.{record-kind, record-line, record-name, record-flag, uses-start, uses-end, entries-start, entries-end, summary-code, kind-of-code, ask-query, ask-options, ask-kind, also-kind}
 
 -- the numbers of the free names of a record
 abbrev pub uses-at : List ℕ → List ℕ → ℕ → List ℕ
@@ -92,10 +94,40 @@ module _ (name : ℕ → Name) (recs lists : List ℕ) where
   roots-of zero = []
   roots-of (suc n) = roots-of n ++ root-at name recs lists n (record-kind recs n)
 
+-- whether a position is that of an also line; the first is none
+unfoldable pub also-at : List ℕ → ℕ → Bool
+also-at recs zero = false
+also-at recs (suc n) = eqb (ask-kind recs (suc n)) also-kind
+
+-- what is asked at a position: that of its ask line, or one query more than at the position before
+unfoldable pub ask-at : List ℕ → ℕ → Ask
+ask-at recs zero = asks (ask-query recs 0 ∷ []) (ask-options recs 0)
+ask-at recs (suc n) =
+    let more = with-query (ask-query recs (suc n)) (ask-at recs n) in
+    cond (also-at recs (suc n)) more (asks (ask-query recs (suc n) ∷ []) (ask-options recs (suc n)))
+
 -- the asks before the n-th position
 unfoldable pub asks-of : List ℕ → ℕ → List Ask
 asks-of recs zero = []
-asks-of recs (suc n) = asks-of recs n ++ (asks (ask-query recs n) (ask-options recs n) ∷ [])
+asks-of recs (suc n) = asks-of recs n ++ (ask-at recs n ∷ [])
+
+-- the queries of the positions from `first` on before the n-th, the last first
+unfoldable pub queries-of : List ℕ → ℕ → ℕ → List ℕ
+queries-of recs first zero = []
+queries-of recs first (suc n) = let before = queries-of recs first n in cond (ltb n first) [] (ask-query recs n ∷ before)
+
+-- what a run is asked
+abbrev pub ask-of : List ℕ → Asked → Ask
+ask-of recs a = asks (queries-of recs (a .first) (a .end)) (a .options)
+
+-- where the chain of a position starts: at the last ask line
+unfoldable pub first-at : List ℕ → ℕ → ℕ
+first-at recs zero = zero
+first-at recs (suc n) = let before = first-at recs n in cond (also-at recs (suc n)) before (suc n)
+
+-- what a run is asked at a position
+abbrev pub asked-at : List ℕ → ℕ → Asked
+asked-at recs i = record { first = first-at recs i; end = i + 1; options = ask-options recs (first-at recs i) }
 
 -- the tables as the state of `model`
 unfoldable pub state-of : List ℕ → List ℕ → List ℕ → List ℕ → List ℕ → List ℕ → Counts → State

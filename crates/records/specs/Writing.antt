@@ -3,9 +3,9 @@ use Prim.Native.Nat.{ℕ, _+_, _*_, _≤_, _<_}
 use mathlib.Core.Path.{_≡_}
 use mathlib.Core.List.{List, [], _∷_}
 use lib.ListN.{length, getD, set}
-use Rattle.model.specs.Reading.{most-records}
+use Rattle.model.specs.Reading.{Head, ask, also, hide, most-records}
 use Rattle.model.specs.declared.Counts.{Counts}
-use Rattle.records.specs.Columns.{record-word, record-kind, record-line, record-name, record-term, record-flag, uses-start, uses-end, entries-start, entries-end, summary-code, ask-query-column, ask-columns, ask-query, ask-options}
+use Rattle.records.specs.Columns.{record-word, record-kind, record-line, record-name, record-term, record-flag, uses-start, uses-end, entries-start, entries-end, summary-code, ask-query-column, ask-columns, ask-room, ask-query, ask-options, ask-kind, asked-kind, also-kind}
 use Rattle.words.specs.Slices.{Same-but}
 
 -- words into the columns of a record's row, from the c-th column on
@@ -53,12 +53,25 @@ with-ask k = record {
   mark = k .mark;
 }
 
--- the ask after those counted written, and no other word
-pub record Asked-at (recs recs′ : List ℕ) (k : Counts) (query options : ℕ) : Type 0 where
+-- the words of a position stay
+abbrev pub Ask-stays : List ℕ → List ℕ → ℕ → Type 0
+Ask-stays recs recs′ i =
+    (ask-query recs′ i ≡ ask-query recs i) × (ask-options recs′ i ≡ ask-options recs i) × (ask-kind recs′ i ≡ ask-kind recs i)
+
+-- the ask after those counted written, and no word of another position
+pub record Asked-at (recs recs′ : List ℕ) (k : Counts) (kind query options : ℕ) : Type 0 where
+  pub inside : k .asks < ask-room
   pub same : Same-but ask-query-column ask-columns recs recs′
-  pub others : (i : ℕ) → i < k .asks → (ask-query recs′ i ≡ ask-query recs i) × (ask-options recs′ i ≡ ask-options recs i)
+  pub others : (i : ℕ) → i < ask-room → (i ≡ k .asks → ⊥) → Ask-stays recs recs′ i
+  pub kind-is : ask-kind recs′ (k .asks) ≡ kind
   pub query-is : ask-query recs′ (k .asks) ≡ query
   pub options-is : ask-options recs′ (k .asks) ≡ options
+
+-- the position of a line of the head written: an also line stands behind another, and has no options of its own
+unfoldable pub Position-at : List ℕ → List ℕ → Counts → Head → Type 0
+Position-at recs recs′ k (ask q options) = Asked-at recs recs′ k asked-kind q options
+Position-at recs recs′ k (also q) = (0 < k .asks) × Asked-at recs recs′ k also-kind q 0
+Position-at recs recs′ k (hide name) = ⊥
 
 -- numbers that fit a word
 pub record Small (k k′ : Counts) (kind line name term flag code : ℕ) : Type 0 where

@@ -8,9 +8,11 @@ ghost use mathlib.Core.Path.{_≡_};
 ghost use mathlib.Core.List.{[]};
 ghost use lib.ListN.{length};
 ghost use Rattle.model.specs.Reading.{head, hide, fun, def, retain, root, most-names, most-records};
+ghost use Rattle.model.specs.Rounds.{asks-for};
 ghost use Rattle.model.specs.Outcome.{working-words};
 ghost use Rattle.names.specs.Table.{name-of};
-ghost use Rattle.records.specs.Columns.{ask-room, ask-query, ask-options};
+ghost use Rattle.records.specs.Columns.{ask-room};
+ghost use Rattle.records.specs.States.{also-at, ask-of, asked-at};
 ghost use Rattle.records.specs.Writing.{put-row, with-record, with-hide, Small, Rowed, with-ask, Asked-at};
 ghost use Rattle.records.specs.Adding.{Standing, Adds, Untouched};
 
@@ -35,10 +37,17 @@ pub const ENTRIES_END: usize = 8192;
 
 pub const SUMMARY: usize = 9216;
 
-// Behind the records, by the position of an ask: its query, its options.
-pub const ASK_QUERY: usize = 11264;
+// Behind the records, by the position of an ask: its query, its options, the kind of its line.
+const ASK_QUERY: usize = 11264;
 
-pub const ASK_OPTIONS: usize = 11280;
+const ASK_OPTIONS: usize = 11280;
+
+const ASK_KIND: usize = 11296;
+
+// The kinds of the lines of positions: an ask has a chain of its own, an also goes on with that of the position before.
+pub const ASK: u32 = 0;
+
+pub const ALSO: u32 = 1;
 
 // The codes of a fact's kind; their number is added to that of triggers.
 pub const DROP: usize = 0;
@@ -141,29 +150,62 @@ pub fn put_record(
     put_row(recs, k.records, &row);
 }
 
-// Adds an ask, by its query and its options number.
-pub fn add_ask(recs: &mut [u32], k: Counts, query: u32, options: u32) -> Counts
+// Adds an ask, by the kind of its line, its query and its options number.
+pub fn add_ask(recs: &mut [u32], k: Counts, kind: u32, query: u32, options: u32) -> Counts
     requires { ⌜ (k .asks < ask-room) × (working-words ≤ length (now recs)) ⌝ }
     ensures counts { λ r. ⌜ r ≡ with-ask k ⌝ }
-    ensures ask { λ r. ⌜ Asked-at (now (recs .entry)) (now (recs .exit)) k query options ⌝ }
+    ensures ask { λ r. ⌜ Asked-at (now (recs .entry)) (now (recs .exit)) k kind query options ⌝ }
 {
     let i = k.asks;
     recs[ASK_QUERY + i] = query;
     recs[ASK_OPTIONS + i] = options;
+    recs[ASK_KIND + i] = kind;
     let mut next = k;
     next.asks = i + 1;
     next
 }
 
-// The ask at a position.
+// Whether a position is that of an also line.
+fn is_also(recs: &[u32], i: usize) -> bool
+    requires { ⌜ (i < ask-room) × (working-words ≤ length (now recs)) ⌝ }
+    ensures { λ r. ⌜ r ≡ also-at (now (recs .entry)) i ⌝ }
+{
+    if i == 0 {
+        return false;
+    }
+    recs[ASK_KIND + i] == ALSO
+}
+
+// The ask at a position: its chain starts at the last ask line.
 pub fn ask_at(recs: &[u32], i: usize) -> Asked
     requires { ⌜ (i < ask-room) × (working-words ≤ length (now recs)) ⌝ }
-    ensures { λ r. ⌜ r ≡ record { query = ask-query (now (recs .entry)) i; options = ask-options (now (recs .entry)) i } ⌝ }
+    ensures { λ r. ⌜ r ≡ asked-at (now (recs .entry)) i ⌝ }
 {
-    Asked {
-        query: words::at(recs, ASK_QUERY + i),
-        options: words::at(recs, ASK_OPTIONS + i),
+    let mut first = i;
+    while is_also(recs, first) {
+        first -= 1;
     }
+    Asked {
+        first,
+        end: i + 1,
+        options: words::at(recs, ASK_OPTIONS + first),
+    }
+}
+
+// Whether a query is one of an ask's.
+pub fn asks_for(recs: &[u32], a: Asked, q: usize) -> bool
+    requires { ⌜ (a .end ≤ ask-room) × (working-words ≤ length (now recs)) ⌝ }
+    ensures { λ r. ⌜ r ≡ asks-for (ask-of (now (recs .entry)) a) q ⌝ }
+{
+    let first = a.first;
+    let mut i = a.end;
+    while first < i {
+        i -= 1;
+        if words::at(recs, ASK_QUERY + i) == q {
+            return true;
+        }
+    }
+    false
 }
 
 // Adds a `hide` record, its name by number: the name is excluded from now on.

@@ -69,8 +69,12 @@ unfolding kind-result term-kind record-line-kind need look kinds key-of key-from
 returns-15 c = rw (c .match .keys15)
 
 returns-16 : tie.Need-returns-16
+unfolding kind-result term-kind record-line-kind need look kinds key-of key-from bytes
+returns-16 c = rw (c .match .keys16)
+
+returns-17 : tie.Need-returns-17
 unfolding kind-result need kinds Apart key-of key-from bytes
-returns-16 c = ap (need Form) (look-none (Unit {0}) _ kinds (c .match .rest))
+returns-17 c = ap (need Form) (look-none (Unit {0}) _ kinds (c .match .rest))
 
 pub kind-of-spec : {M : Type 1} → statement M
 kind-of-spec =
@@ -91,4 +95,5 @@ kind-of-spec =
     returns-13
     returns-14
     returns-15
-    returns-16)
+    returns-16
+    returns-17)

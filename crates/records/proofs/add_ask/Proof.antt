@@ -25,6 +25,15 @@ mul-recs-2 c = search needs
 slice-write-recs-2 : tie.Need-slice-write-recs-2
 slice-write-recs-2 c = simp length-set (omega arith)
 
+add-recs-3 : tie.Need-add-recs-3
+add-recs-3 c = search needs
+
+mul-recs-3 : tie.Need-mul-recs-3
+mul-recs-3 c = search needs
+
+slice-write-recs-3 : tie.Need-slice-write-recs-3
+slice-write-recs-3 c = simp length-set (omega arith)
+
 add-next : tie.Need-add-next
 add-next c = search needs
 
@@ -32,7 +41,7 @@ same-length : tie.Need-same-length
 same-length c = search needs
 
 returns : tie.Need-returns
-returns c = (refl, ask-put _ _ _ _ (c .pre .0) (c .pre .1))
+returns c = (refl, ask-put _ _ _ _ _ (c .pre .0) (c .pre .1))
 
 pub add-ask-spec : {M : Type 1} → statement M
 add-ask-spec =
@@ -44,6 +53,9 @@ add-ask-spec =
     add-recs-2
     mul-recs-2
     slice-write-recs-2
+    add-recs-3
+    mul-recs-3
+    slice-write-recs-3
     add-next
     same-length
     returns)
