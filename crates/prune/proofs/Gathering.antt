@@ -17,8 +17,7 @@ use Rattle.model.proofs.PartLaws.{part-agree, part-split, part-intro}
 use Rattle.names.specs.Table.{ranked}
 use Rattle.words.specs.Slices.{Same-but, Zeroed}
 use Rattle.words.proofs.Slices.{same-then, same-wider}
-use Rattle.options.specs.OptionsOf.{ask-of}
-use Rattle.records.specs.States.{uses-at}
+use Rattle.records.specs.States.{uses-at, ask-of}
 use Rattle.prune.specs.Listing.{most-stamps, from, is-goal, reached-records, fact-records, goal-records, kept-items, decl-records, added-records, groups-records, item-stamp, kept-records}
 use Rattle.prune.specs.Follow.{Stamped}
 use Rattle.prune.specs.Loops.{kept-column, queue-column, stamp-column, prune-room, stamp-of, stamp-in, stamp-words, Index, Behind, Kept-behind, noted, Notes, Linked, Links, queued, Bodies, Stamps-followed, queue-part, Queue-records, Listable, Records-listed}
@@ -60,13 +59,13 @@ kept-few test i (suc n) =
     cond-case (λ (l : List ℕ). length l ≤ suc n) (test i) (omega arith) (omega arith)
 
 -- without option 4 the kept records are the facts
-kept-off : (names recs w : List ℕ) (k : Counts) (a : Asked) (stamp : ℕ → ℕ) → prune-decls (ask-of a) ≡ false
+kept-off : (names recs w : List ℕ) (k : Counts) (a : Asked) (stamp : ℕ → ℕ) → prune-decls (ask-of recs a) ≡ false
     → kept-records names recs w k a stamp ≡ fact-records names recs w k a
 unfolding kept-records
 kept-off names recs w k a stamp e = rw e (append-nil (fact-records names recs w k a))
 
 -- with it, the records of their names too
-kept-on : (names recs w : List ℕ) (k : Counts) (a : Asked) (stamp : ℕ → ℕ) → prune-decls (ask-of a) ≡ true
+kept-on : (names recs w : List ℕ) (k : Counts) (a : Asked) (stamp : ℕ → ℕ) → prune-decls (ask-of recs a) ≡ true
     → kept-records names recs w k a stamp
     ≡ fact-records names recs w k a
     ++ groups-by names recs (k .names) (λ r. stamp (ranked names r)) (length (kept-items names recs w k a))
@@ -115,7 +114,7 @@ module _ {names recs lists w : List ℕ} {k : Counts} {a : Asked} (t : Listable 
     facts-same = lists-same p (let y = t .few-facts in omega arith)
 
     -- without option 4 that is all
-    pub listed-facts : {x : Bool} → x ≡ prune-decls (ask-of a) → x ≡ false → Records-listed names recs lists w w₁ k a f
+    pub listed-facts : {x : Bool} → x ≡ prune-decls (ask-of recs a) → x ≡ false → Records-listed names recs lists w w₁ k a f
     listed-facts e z =
         let off = sym e ∙ z in
         let q = kept-off names recs w k a (λ n. 0) off in
@@ -298,7 +297,7 @@ module _ {names recs lists w : List ℕ} {k : Counts} {a : Asked} (t : Listable 
 
             -- ---- the records of the names
 
-            module _ {x : Bool} (e : x ≡ prune-decls (ask-of a)) (on : x ≡ true) where
+            module _ {x : Bool} (e : x ≡ prune-decls (ask-of recs a)) (on : x ≡ true) where
               -- all kept records, by stamps in a slice
               kept-by : (u : List ℕ)
                   → kept-records names recs w k a (stamp-of u)
@@ -320,7 +319,7 @@ module _ {names recs lists w : List ℕ} {k : Counts} {a : Asked} (t : Listable 
 
               -- ---- without option 8
 
-              module _ {y : Bool} (i : y ≡ follow-bodies (ask-of a)) (off : y ≡ false) where
+              module _ {y : Bool} (i : y ≡ follow-bodies (ask-of recs a)) (off : y ≡ false) where
                 noted-only : Stamped names recs lists w k a (stamp-of w₅)
                 noted-only q = record { noted = λ b. item-stamps; followed = λ b. absurd (rw (sym i ∙ off) at b) }
 
@@ -343,7 +342,7 @@ module _ {names recs lists w : List ℕ} {k : Counts} {a : Asked} (t : Listable 
 
               -- ---- with it
 
-              module _ {y : Bool} (i : y ≡ follow-bodies (ask-of a)) (with-8 : y ≡ true) where
+              module _ {y : Bool} (i : y ≡ follow-bodies (ask-of recs a)) (with-8 : y ≡ true) where
                 -- what following asks
                 pub follow-asks : Bodies names recs lists k × (working-words ≤ length w₅)
                 follow-asks = (

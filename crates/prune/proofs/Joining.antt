@@ -23,8 +23,7 @@ use Rattle.laws.proofs.BodyLaws.{all-closed, all-has, all-least, all-set, added
 use Rattle.names.specs.Table.{name-of, ranked}
 use Rattle.names.proofs.Laws.{distinct}
 use Rattle.records.specs.Columns.{record-kind, record-line, record-name, assume-kind, fun-kind, def-kind, taken-at}
-use Rattle.options.specs.OptionsOf.{ask-of}
-use Rattle.records.specs.States.{uses-at, free-at, fact-at, decl-at, decls-of, roots-of}
+use Rattle.records.specs.States.{uses-at, free-at, fact-at, decl-at, decls-of, roots-of, ask-of}
 use Rattle.macros.specs.Macros.{is-def, Filled}
 use Rattle.scan.specs.Held.{set-of}
 use Rattle.scan.specs.Steps.{is-reached}
@@ -289,7 +288,7 @@ module _ {file names recs lists : List ℕ} {k : Counts} (x : Filled file names 
     met = concat (map free (kept-items names recs run k a))
 
     abbrev added : List Name
-    added = added-for (ask-of a) D met
+    added = added-for (ask-of recs a) D met
 
     -- the stamps of the items by rank, and stamps of the ask
     abbrev items-stamp : ℕ → ℕ
@@ -301,7 +300,7 @@ module _ {file names recs lists : List ℕ} {k : Counts} (x : Filled file names 
       raised r h = ⊎-elim
           (λ t. grown-raised (st .followed t .grown) (ranked names r) (x .table .numbers r h))
           (λ t. inl (st .noted t (ranked names r) (x .table .numbers r h)))
-          (T-dec (follow-bodies (ask-of a)))
+          (T-dec (follow-bodies (ask-of recs a)))
 
       module _ (ds : List Decl) (decl : ℕ → Decl) (kind : ℕ)
           (found : (r : ℕ) → r < k .names → keep (λ d. same (d .name) (rank-name r)) ds ≡ map decl (record-behind (kind-at names recs kind r))) where
@@ -311,16 +310,16 @@ module _ {file names recs lists : List ℕ} {k : Counts} (x : Filled file names 
         unfolding item-stamp added-for of-names collect of-kind keep
         added-decls = ⊎-elim
             (λ t.
-            ap (λ l. of-names l ds) (cond-true (follow-bodies (ask-of a)) (added-names D met) [] t)
+            ap (λ l. of-names l ds) (cond-true (follow-bodies (ask-of recs a)) (added-names D met) [] t)
             ∙ additions-are (kept-items names recs run k a) small few (st .followed t) ds decl kind found)
             (λ t.
-            ap (λ l. of-names l ds) (cond-false (follow-bodies (ask-of a)) (added-names D met) [] t)
+            ap (λ l. of-names l ds) (cond-false (follow-bodies (ask-of recs a)) (added-names D met) [] t)
             ∙ sym (ap (λ l. map decl (of-kind recs kind l)) (none-added names recs (k .names) (λ r. stamp (ranked names r))
             (λ r h.
             let e = st .noted t (ranked names r) (x .table .numbers r h) in
             let b = item-low (kept-items names recs run k a) small few (ranked names r) in
             omega arith))))
-            (T-dec (follow-bodies (ask-of a)))
+            (T-dec (follow-bodies (ask-of recs a)))
 
         -- a group
         group-are : kept-decls met ds ++ of-names added ds
@@ -363,7 +362,7 @@ module _ {file names recs lists : List ℕ} {k : Counts} (x : Filled file names 
           let funs = declarations (decls-of name recs lists (k .records)) in
           let fs = fact-records names recs run k a in
           let gs = groups-by names recs (k .names) (λ r. stamp (ranked names r)) (length (kept-items names recs run k a)) in
-          let b = prune-decls (ask-of a) in
+          let b = prune-decls (ask-of recs a) in
           map-append (record-line recs) fs (cond b gs [])
           ∙ ap₂ _++_
           (sym (ap (map (λ f. f .line)) (kept-facts-are x a run only-facts) ∙ map-map (λ f. f .line) (fact-at name recs lists) fs))
@@ -371,7 +370,7 @@ module _ {file names recs lists : List ℕ} {k : Counts} (x : Filled file names 
           ∙ ⊎-elim
           (λ t. cond-true b _ [] t ∙ sym (cond-true b _ [] t ∙ ap
           (λ ns. map (λ d. d .line)
-          ((kept-decls ns D ++ of-names (added-for (ask-of a) D ns) D) ++ (kept-decls ns funs ++ of-names (added-for (ask-of a) D ns) funs)))
+          ((kept-decls ns D ++ of-names (added-for (ask-of recs a) D ns) D) ++ (kept-decls ns funs ++ of-names (added-for (ask-of recs a) D ns) funs)))
           (names-are x a run only-facts) ∙ group-lines stamp (stamped t)))
           (λ t. cond-false b _ [] t ∙ sym (cond-false b _ [] t)) (T-dec b))
 
@@ -383,5 +382,5 @@ module _ {file names recs lists : List ℕ} {k : Counts} (x : Filled file names 
       let fs = fact-records names recs run k a in
       let e = ap length (kept-facts-are x a run only-facts) in
       let n = length-map fs (fact-at name recs lists) in
-      let h = front-facts (ask-of a) (decls-of name recs lists (k .records)) (roots-of name recs lists (k .records)) (reached-of file names recs run k) in
+      let h = front-facts (ask-of recs a) (decls-of name recs lists (k .records)) (roots-of name recs lists (k .records)) (reached-of file names recs run k) in
       omega arith

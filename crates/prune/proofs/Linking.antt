@@ -1,18 +1,17 @@
 -- What the kept list has of facts, definitions and declarations, on numbers of records, is that of `model`.
-use Prim.Native.Nat.{ℕ, zero, suc, _+_, _≤_, _<_}
+use Prim.Native.Nat.{ℕ, zero, suc, _+_, _<_}
 use native.Mathlib.Omega.{arith}
 use mathlib.Core.Path.{_≡_, refl, sym, ap, ap₂, _∙_, subst}
-use mathlib.Core.Logic.{⊎-elim}
 use mathlib.Core.Bool.{Bool, true, false, cond, _&&_}
 use mathlib.Core.List.{List, [], _∷_, _++_, map, map-append, reverse, List·Memᴰ, List·Memᴰ·head, List·Memᴰ·tail}
-use lib.Dec.{T, eqb, eqb→eq, ltb}
+use lib.Dec.{T, eqb, eqb→eq}
 use lib.ListN.{length, length-map}
-use borrow.Author.Tests.{eq-eqb, ne-eqb, lt-ltb, le-ltb}
+use borrow.Author.Tests.{eq-eqb}
 use Rattle.model.specs.Lists.{keep, concat, collect}
 use Rattle.model.specs.Names.{Name, same, mem}
 use Rattle.model.specs.Summaries.{Fact}
 use Rattle.model.specs.Reading.{Decl, no-ambients}
-use Rattle.model.specs.Rounds.{facts, definitions, declarations, is-ambient, goal-roots}
+use Rattle.model.specs.Rounds.{facts, definitions, declarations, is-ambient, asks-for, goal-roots}
 use Rattle.model.specs.Kept.{reached-facts, ambients, kept-facts, kept-names, first-met, kept-decls}
 use Rattle.model.specs.declared.Asked.{Asked}
 use Rattle.model.specs.declared.Counts.{Counts}
@@ -20,16 +19,13 @@ use Rattle.model.proofs.ListLaws.{T-ext, true-T, cond-ap, any-intro, any-elim, 
 use Rattle.model.proofs.SetLaws.{mem-intro, mem-elim, mem-keep, mem-from-list, Ascending, ascending-from-list, ascending-keep, ascending-ext}
 use Rattle.names.specs.Table.{name-of, ranked}
 use Rattle.names.proofs.Laws.{listed, listed-intro, listed-ascending, distinct}
-use Rattle.terms.proofs.Laws.{equal}
-use Rattle.records.specs.Columns.{record-kind, record-name, record-flag, summary-code, kind-of-code, assume-kind, fun-kind, def-kind, retain-kind, root-kind}
-use Rattle.options.specs.OptionsOf.{ask-of}
-use Rattle.records.specs.States.{uses-at, free-at, fact-at, decl-at, decls-of, roots-of}
+use Rattle.records.specs.Columns.{record-kind, record-name, record-flag, summary-code, kind-of-code, assume-kind, fun-kind, def-kind}
+use Rattle.records.specs.States.{uses-at, free-at, fact-at, decl-at, decls-of, roots-of, ask-of}
 use Rattle.macros.specs.Macros.{Filled}
 use Rattle.scan.specs.Held.{upto}
 use Rattle.scan.specs.Steps.{is-reached}
 use Rattle.scan.proofs.Numbers.{set-elim, set-ascending, upto-elim}
 use Rattle.scan.proofs.Background.{is-fact, is-definition, is-root, def-at, root-of}
-use Rattle.scan.proofs.Queries.{goal-one}
 use Rattle.scan.proofs.Joining.{uses-low}
 use Rattle.prune.specs.Listing.{from, record-behind, picked, reached-at, kind-at, ambient-at, is-goal, reached-records, ambient-records, fact-records, goal-records, kept-items, is-among, stamped, stamp-records, kind-records}
 use Rattle.prune.specs.Kept.{reached-of}
@@ -142,11 +138,11 @@ module _ {file names recs lists : List ℕ} {k : Counts} (x : Filled file names 
             ∙ ap (map fact) (reached-one x run only-facts r h)
 
   -- the ambients
-  ambients-are : (a : Asked) → ambients (ask-of a) (facts (decls-of name recs lists (k .records))) ≡ map fact (ambient-records recs k a)
+  ambients-are : (a : Asked) → ambients (ask-of recs a) (facts (decls-of name recs lists (k .records))) ≡ map fact (ambient-records recs k a)
   unfolding ambients ambient-records picked fact-at
   ambients-are a =
-      ap (cond (no-ambients (ask-of a)) []) listed-down
-      ∙ sym (cond-ap (map fact) (no-ambients (ask-of a)) [] (picked (ambient-at recs) (upto (k .records))))
+      ap (cond (no-ambients (ask-of recs a)) []) listed-down
+      ∙ sym (cond-ap (map fact) (no-ambients (ask-of recs a)) [] (picked (ambient-at recs) (upto (k .records))))
     where
       ambient : ℕ → Bool
       ambient i = is-ambient (kind-of-code (summary-code recs i))
@@ -170,15 +166,14 @@ module _ {file names recs lists : List ℕ} {k : Counts} (x : Filled file names 
 
   -- ---- roots
 
-  -- the roots of the query
-  goals-are : (a : Asked) → goal-roots (ask-of a) (roots-of name recs lists (k .records)) ≡ map (root-of name recs lists) (goal-records recs k a)
-  unfolding is-goal
+  -- the roots of the queries
+  goals-are : (a : Asked) → goal-roots (ask-of recs a) (roots-of name recs lists (k .records)) ≡ map (root-of name recs lists) (goal-records recs k a)
+  unfolding is-goal goal-roots
   goals-are a =
       let numbers = from 0 (k .records) in
-      goal-one a (roots-of name recs lists (k .records))
-      ∙ ap (keep (λ r. eqb (r .query) (a .query))) (roots-are name recs lists (k .records))
-      ∙ keep-map (λ r. eqb (r .query) (a .query)) (root-of name recs lists) (keep (is-root recs) numbers)
-      ∙ ap (map (root-of name recs lists)) (keep-keep (λ i. eqb (record-flag recs i) (a .query)) (is-root recs) numbers)
+      ap (keep (λ r. asks-for (ask-of recs a) (r .query))) (roots-are name recs lists (k .records))
+      ∙ keep-map (λ r. asks-for (ask-of recs a) (r .query)) (root-of name recs lists) (keep (is-root recs) numbers)
+      ∙ ap (map (root-of name recs lists)) (keep-keep (λ i. asks-for (ask-of recs a) (record-flag recs i)) (is-root recs) numbers)
 
   -- ---- stamps
 
@@ -310,14 +305,14 @@ module _ {file names recs lists : List ℕ} {k : Counts} (x : Filled file names 
 
   module _ (a : Asked) (run : List ℕ) (only-facts : (i : ℕ) → i < k .records → T (is-reached run i) → record-kind recs i ≡ assume-kind) where
     -- the kept facts
-    pub kept-facts-are : kept-facts (ask-of a) (facts (decls-of name recs lists (k .records))) (reached-of file names recs run k)
+    pub kept-facts-are : kept-facts (ask-of recs a) (facts (decls-of name recs lists (k .records))) (reached-of file names recs run k)
         ≡ map fact (fact-records names recs run k a)
     unfolding kept-facts fact-records
     kept-facts-are =
         ap₂ _++_ (reached-are run only-facts) (ambients-are a) ∙ sym (map-append fact (reached-records names run (k .names)) (ambient-records recs k a))
 
     -- the names met are those free in the items
-    pub names-are : kept-names (ask-of a) (facts (decls-of name recs lists (k .records))) (roots-of name recs lists (k .records)) (reached-of file names recs run k)
+    pub names-are : kept-names (ask-of recs a) (facts (decls-of name recs lists (k .records))) (roots-of name recs lists (k .records)) (reached-of file names recs run k)
         ≡ concat (map free (kept-items names recs run k a))
     unfolding kept-names kept-items fact-at
     names-are =

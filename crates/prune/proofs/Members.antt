@@ -10,7 +10,7 @@ use Rattle.model.specs.Reading.{no-ambients}
 use Rattle.model.specs.declared.Asked.{Asked}
 use Rattle.model.specs.declared.Counts.{Counts}
 use Rattle.model.proofs.ListLaws.{cond-case, keep-elim, collect-elim}
-use Rattle.options.specs.OptionsOf.{ask-of}
+use Rattle.records.specs.States.{ask-of}
 use Rattle.scan.specs.Held.{upto}
 use Rattle.scan.specs.Steps.{is-reached}
 use Rattle.scan.proofs.Numbers.{upto-elim}
@@ -61,7 +61,7 @@ added-small names stamp named n low m =
 
 pub ambients-small : (recs : List ℕ) (k : Counts) (a : Asked) {x : ℕ} → List·Memᴰ x (ambient-records recs k a) → x < k .records
 unfolding ambient-records
-ambients-small recs k a {x} m = go (no-ambients (ask-of a)) m
+ambients-small recs k a {x} m = go (no-ambients (ask-of recs a)) m
   where
     go : (b : Bool) → List·Memᴰ x (cond b [] (picked (ambient-at recs) (upto (k .records)))) → x < k .records
     go true m = absurd (List·Memᴰ·not-nil m)

@@ -9,11 +9,12 @@ use lib.ListN.{getD}
 use borrow.Author.Tests.{eq-eqb, ne-eqb, lt-ltb, le-ltb}
 use Rattle.model.specs.Lists.{keep, collect}
 use Rattle.model.specs.Reading.{most-records}
-use Rattle.model.specs.Rounds.{is-ambient}
+use Rattle.model.specs.Rounds.{is-ambient, asks-for}
 use Rattle.model.specs.declared.Asked.{Asked}
 use Rattle.model.proofs.ListLaws.{cond-case}
 use Rattle.names.specs.Table.{ranked}
 use Rattle.records.specs.Columns.{record-kind, record-flag, summary-code, kind-of-code, assume-kind, root-kind, taken-at}
+use Rattle.records.specs.States.{ask-of}
 use Rattle.scan.specs.Held.{upto}
 use Rattle.scan.specs.Steps.{is-reached, reached-column}
 use Rattle.prune.specs.Listing.{from, record-behind, picked, taker, reached-at, kind-at, ambient-at, is-goal}
@@ -102,16 +103,16 @@ module _ (recs : List ℕ) (i x : ℕ) (e : x ≡ record-kind recs i) where
     unfolding ambient-at
     ambient-is g h = rw (← e, eq-eqb x assume-kind a, ← q, code-in y g h)
 
--- ---- a root of the query
+-- ---- a root of one of the queries
 
 module _ (recs : List ℕ) (a : Asked) (i x : ℕ) (e : x ≡ record-kind recs i) where
   pub goal-other : (x ≡ root-kind → ⊥) → false ≡ is-goal recs a i
   unfolding is-goal
   goal-other d = rw (← e, ne-eqb x root-kind d)
 
-  pub goal-root : x ≡ root-kind → (y : ℕ) → y ≡ record-flag recs i → eqb y (a .query) ≡ is-goal recs a i
+  pub goal-root : x ≡ root-kind → (y : ℕ) (b : Bool) → y ≡ record-flag recs i → b ≡ asks-for (ask-of recs a) y → b ≡ is-goal recs a i
   unfolding is-goal
-  goal-root p y q = rw (← e, eq-eqb x root-kind p, ← q)
+  goal-root p y b q r = rw (← e, eq-eqb x root-kind p, ← q) r
 
 -- ---- ranks upward
 

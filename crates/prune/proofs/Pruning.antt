@@ -63,6 +63,7 @@ module _ {file names recs lists w : List ℕ} {k : Counts} {a : Asked} (t : Run-
         };
         took = λ n h. low n (omega arith);
         notes = record { recorded = t .filled .recorded; few = few; room = t .room };
+        asked = t .asked;
         few-facts = facts-fit;
         fits = records-fit;
       }

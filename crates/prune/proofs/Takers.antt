@@ -20,7 +20,7 @@ use Rattle.names.specs.Table.{name-of, ranked}
 use Rattle.names.proofs.Laws.{distinct}
 use Rattle.terms.proofs.Laws.{equal}
 use Rattle.records.specs.Columns.{record-kind, record-name, assume-kind, fun-kind, def-kind, retain-kind, taken-at}
-use Rattle.options.specs.OptionsOf.{ask-of}
+use Rattle.records.specs.States.{ask-of}
 use Rattle.macros.specs.Macros.{Filled}
 use Rattle.scan.specs.Held.{upto}
 use Rattle.scan.specs.Steps.{is-reached}
@@ -231,5 +231,5 @@ module _ {file names recs lists : List ℕ} {k : Counts} (x : Filled file names 
       (λ n.
       ⊎-elim (group-small by-rank def-kind s i) (group-small by-rank fun-kind s i)
       (List·Memᴰ·append-cases (group-records names recs (k .names) by-rank (added-records names (k .names) by-rank) s def-kind)
-      (option-elim (prune-decls (ask-of a)) n)))
+      (option-elim (prune-decls (ask-of recs a)) n)))
       (List·Memᴰ·append-cases (fact-records names recs run k a) m)

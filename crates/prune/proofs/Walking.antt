@@ -8,7 +8,7 @@ use lib.ListN.{length, set}
 use Rattle.model.specs.Reading.{no-ambients, most-records}
 use Rattle.model.specs.declared.Asked.{Asked}
 use Rattle.model.specs.declared.Counts.{Counts}
-use Rattle.options.specs.OptionsOf.{ask-of}
+use Rattle.records.specs.States.{ask-of}
 use Rattle.scan.specs.Held.{upto}
 use Rattle.prune.specs.Listing.{from, picked, ambient-at, ambient-records}
 use Rattle.prune.specs.Loops.{kept-column, Behind, Kept-behind}
@@ -75,7 +75,7 @@ module _ {w : List ℕ} {m : ℕ} {pick : ℕ → ℕ} {n : ℕ} {v : List ℕ} 
 
 -- ---- option 1
 
-module _ (recs : List ℕ) (k : Counts) (a : Asked) {x : Bool} (e : x ≡ no-ambients (ask-of a)) where
+module _ (recs : List ℕ) (k : Counts) (a : Asked) {x : Bool} (e : x ≡ no-ambients (ask-of recs a)) where
   -- no ambients with it
   pub ambients-off : (w : List ℕ) (m : ℕ) → x ≡ true → Kept-behind w m (ambient-records recs k a) w m
   unfolding ambient-records

@@ -8,8 +8,7 @@ use Rattle.model.specs.Reading.{prune-decls, follow-bodies}
 use Rattle.model.specs.declared.Asked.{Asked}
 use Rattle.model.specs.declared.Counts.{Counts}
 use Rattle.records.specs.Columns.{taken-at}
-use Rattle.records.specs.States.{uses-at}
-use Rattle.options.specs.OptionsOf.{ask-of}
+use Rattle.records.specs.States.{uses-at, ask-of}
 use Rattle.macros.specs.Macros.{is-def}
 use Rattle.prune.specs.Listing.{item-stamp, followed-stamp}
 
@@ -33,9 +32,9 @@ pub record Stamps-closed (named : ℕ) (body : ℕ → List ℕ) (before after :
 
 -- the stamps of an ask: with option 8 bodies are followed, without it those of the items stay
 pub record Stamps (names recs lists run : List ℕ) (k : Counts) (a : Asked) (stamp : ℕ → ℕ) : Type 0 where
-  pub noted : T (not (follow-bodies (ask-of a))) → (n : ℕ) → n < k .names → stamp n ≡ item-stamp names recs lists run k a n
-  pub followed : T (follow-bodies (ask-of a)) → Stamps-closed (k .names) (body-at names recs lists) (item-stamp names recs lists run k a) stamp
+  pub noted : T (not (follow-bodies (ask-of recs a))) → (n : ℕ) → n < k .names → stamp n ≡ item-stamp names recs lists run k a n
+  pub followed : T (follow-bodies (ask-of recs a)) → Stamps-closed (k .names) (body-at names recs lists) (item-stamp names recs lists run k a) stamp
 
 -- without option 4 they do not matter
 abbrev pub Stamped : List ℕ → List ℕ → List ℕ → List ℕ → Counts → Asked → (ℕ → ℕ) → Type 0
-Stamped names recs lists run k a stamp = T (prune-decls (ask-of a)) → Stamps names recs lists run k a stamp
+Stamped names recs lists run k a stamp = T (prune-decls (ask-of recs a)) → Stamps names recs lists run k a stamp

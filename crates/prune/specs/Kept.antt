@@ -13,9 +13,8 @@ use Rattle.model.specs.declared.Asked.{Asked}
 use Rattle.model.specs.declared.Counts.{Counts}
 use Rattle.names.specs.Table.{name-of}
 use Rattle.words.specs.Slices.{Same-but}
-use Rattle.records.specs.Columns.{record-kind, record-name, assume-kind}
-use Rattle.options.specs.OptionsOf.{ask-of}
-use Rattle.records.specs.States.{decls-of, roots-of}
+use Rattle.records.specs.Columns.{record-kind, record-name, assume-kind, ask-room}
+use Rattle.records.specs.States.{decls-of, roots-of, ask-of}
 use Rattle.macros.specs.Macros.{Filled}
 use Rattle.scan.specs.Held.{set-of}
 use Rattle.scan.specs.Steps.{is-reached, run-end}
@@ -28,7 +27,7 @@ reached-of file names recs run k = set-of (λ i. name-of file names (record-name
 -- the kept lines of the tables after a run
 unfoldable pub kept-of : List ℕ → List ℕ → List ℕ → List ℕ → List ℕ → Counts → Asked → List ℕ
 kept-of file names recs lists run k a =
-    kept-followed (ask-of a)
+    kept-followed (ask-of recs a)
     (decls-of (name-of file names) recs lists (k .records))
     (roots-of (name-of file names) recs lists (k .records))
     (reached-of file names recs run k)
@@ -37,6 +36,7 @@ kept-of file names recs lists run k a =
 pub record Run-over (file names recs lists run : List ℕ) (k : Counts) (a : Asked) : Type 0 where
   pub filled : Filled file names recs lists k
   pub room : working-words ≤ length run
+  pub asked : a .end ≤ ask-room
   pub only-facts : (i : ℕ) → i < k .records → T (is-reached run i) → record-kind recs i ≡ assume-kind
   pub fits : length (kept-of file names recs lists run k a) ≤ most-records
 

@@ -1,5 +1,5 @@
--- The kept list on numbers of records. A rank is a name's place in byte order; an item is a kept fact or a root of the
--- ask's query.
+-- The kept list on numbers of records. A rank is a name's place in byte order; an item is a kept fact or a root of
+-- one of the ask's queries.
 use Prim.Native.Nat.{ℕ, zero, suc, _+_, _-_}
 use mathlib.Core.Bool.{Bool, cond, _&&_}
 use mathlib.Core.List.{List, [], _∷_, _++_, map}
@@ -7,13 +7,12 @@ use lib.Dec.{eqb}
 use lib.ListN.{length}
 use Rattle.model.specs.Lists.{any, keep, collect}
 use Rattle.model.specs.Reading.{no-ambients, prune-decls}
-use Rattle.model.specs.Rounds.{is-ambient}
+use Rattle.model.specs.Rounds.{is-ambient, asks-for}
 use Rattle.model.specs.declared.Asked.{Asked}
 use Rattle.model.specs.declared.Counts.{Counts}
 use Rattle.names.specs.Table.{ranked}
 use Rattle.records.specs.Columns.{record-kind, record-flag, summary-code, kind-of-code, assume-kind, fun-kind, def-kind, root-kind, taken-at}
-use Rattle.options.specs.OptionsOf.{ask-of}
-use Rattle.records.specs.States.{uses-at}
+use Rattle.records.specs.States.{uses-at, ask-of}
 use Rattle.scan.specs.Held.{upto}
 use Rattle.scan.specs.Steps.{is-reached}
 
@@ -46,9 +45,9 @@ kind-at names recs kind r = cond (eqb (taker names r) 0) 0 (cond (eqb (record-ki
 unfoldable pub ambient-at : List ℕ → ℕ → ℕ
 ambient-at recs i = cond (eqb (record-kind recs i) assume-kind) (cond (is-ambient (kind-of-code (summary-code recs i))) (i + 1) 0) 0
 
--- whether a record is a root of the ask's query
+-- whether a record is a root of one of the ask's queries
 unfoldable pub is-goal : List ℕ → Asked → ℕ → Bool
-is-goal recs a i = eqb (record-kind recs i) root-kind && eqb (record-flag recs i) (a .query)
+is-goal recs a i = eqb (record-kind recs i) root-kind && asks-for (ask-of recs a) (record-flag recs i)
 
 -- the reached facts by name in byte order
 abbrev pub reached-records : List ℕ → List ℕ → ℕ → List ℕ
@@ -56,17 +55,17 @@ reached-records names run named = picked (reached-at names run) (from 0 named)
 
 -- the ambients, last filed first; none with option 1
 unfoldable pub ambient-records : List ℕ → Counts → Asked → List ℕ
-ambient-records recs k a = cond (no-ambients (ask-of a)) [] (picked (ambient-at recs) (upto (k .records)))
+ambient-records recs k a = cond (no-ambients (ask-of recs a)) [] (picked (ambient-at recs) (upto (k .records)))
 
 -- the kept facts
 unfoldable pub fact-records : List ℕ → List ℕ → List ℕ → Counts → Asked → List ℕ
 fact-records names recs run k a = reached-records names run (k .names) ++ ambient-records recs k a
 
--- the roots of the ask's query by line
+-- the roots of the ask's queries by line
 abbrev pub goal-records : List ℕ → Counts → Asked → List ℕ
 goal-records recs k a = keep (is-goal recs a) (from 0 (k .records))
 
--- the items: the kept facts as listed, then the roots of the ask's query
+-- the items: the kept facts as listed, then the roots of the ask's queries
 unfoldable pub kept-items : List ℕ → List ℕ → List ℕ → Counts → Asked → List ℕ
 kept-items names recs run k a = fact-records names recs run k a ++ goal-records recs k a
 
@@ -130,7 +129,7 @@ unfoldable pub kept-records : List ℕ → List ℕ → List ℕ → Counts → 
 kept-records names recs run k a stamp =
     let by-rank : ℕ → ℕ = λ r. stamp (ranked names r) in
     fact-records names recs run k a
-    ++ cond (prune-decls (ask-of a))
+    ++ cond (prune-decls (ask-of recs a))
     (groups-records names recs (k .names) by-rank (added-records names (k .names) by-rank)
     (length (kept-items names recs run k a)))
     []

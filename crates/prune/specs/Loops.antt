@@ -13,7 +13,7 @@ use Rattle.model.specs.declared.Asked.{Asked}
 use Rattle.model.specs.declared.Counts.{Counts}
 use Rattle.names.specs.Table.{ranked}
 use Rattle.words.specs.Slices.{Same-but}
-use Rattle.records.specs.Columns.{taken-at}
+use Rattle.records.specs.Columns.{taken-at, ask-room}
 use Rattle.records.specs.States.{uses-at}
 use Rattle.records.specs.Filing.{Records, newest}
 use Rattle.macros.specs.Macros.{is-def}
@@ -178,6 +178,7 @@ pub record Listable (names recs lists run : List ℕ) (k : Counts) (a : Asked) :
   pub index : Index names (k .names)
   pub took : (n : ℕ) → n < k .names → taken-at names n ≤ k .records
   pub notes : Notes recs lists run k
+  pub asked : a .end ≤ ask-room
   pub few-facts : length (fact-records names recs run k a) ≤ most-records
   pub fits : (stamp : ℕ → ℕ) → Stamped names recs lists run k a stamp → length (kept-records names recs run k a stamp) ≤ most-records
 

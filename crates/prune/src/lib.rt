@@ -7,7 +7,7 @@ ghost use lib.ListN.{length, getD};
 ghost use Rattle.model.specs.Lists.{part};
 ghost use Rattle.model.specs.Reading.{most-names, most-records};
 ghost use Rattle.model.specs.Outcome.{working-words};
-ghost use Rattle.records.specs.Columns.{record-line};
+ghost use Rattle.records.specs.Columns.{record-line, ask-room};
 ghost use Rattle.records.specs.States.{uses-at};
 ghost use Rattle.scan.specs.Steps.{marks};
 ghost use Rattle.prune.specs.Listing.{most-stamps, taker, reached-at, kind-at, ambient-at, is-goal, reached-records, ambient-records, fact-records, goal-records, stamp-records, kind-records, decl-records, added-at, added-records, of-kind, group-records, groups-records};
@@ -161,20 +161,20 @@ fn note_facts(recs: &[u32], lists: &[u32], run: &mut [u32], k: Counts, count: us
     }
 }
 
-// Whether a record is a root of the ask's query.
+// Whether a record is a root of one of the ask's queries.
 fn is_goal(recs: &[u32], a: Asked, i: usize) -> bool
-    requires { ⌜ (working-words ≤ length (now recs)) × (i < most-records) ⌝ }
+    requires { ⌜ (working-words ≤ length (now recs)) × (i < most-records) × (a .end ≤ ask-room) ⌝ }
     ensures { λ r. ⌜ r ≡ is-goal (now (recs .entry)) a i ⌝ }
 {
     if words::at(recs, records::KIND + i) != records::ROOT {
         return false;
     }
-    words::at(recs, records::FLAG + i) == a.query
+    records::asks_for(recs, a, words::at(recs, records::FLAG + i))
 }
 
-// Notes the names of the roots of the ask's query, by line, and gives the last stamp.
+// Notes the names of the roots of the ask's queries, by line, and gives the last stamp.
 fn note_roots(recs: &[u32], lists: &[u32], run: &mut [u32], k: Counts, a: Asked, m: usize) -> usize
-    requires { ⌜ Notes (now recs) (now lists) (now run) k × (m ≤ most-records) ⌝ }
+    requires { ⌜ Notes (now recs) (now lists) (now run) k × (m ≤ most-records) × (a .end ≤ ask-room) ⌝ }
     ensures noted { λ s. ⌜ now (run .exit) ≡ noted (m + 1) (now (run .entry))
         (map (stamp-words (now (recs .entry)) (now (lists .entry))) (goal-records (now (recs .entry)) k a)) ⌝ }
     ensures stamps { λ s. ⌜ s ≡ m + length (goal-records (now (recs .entry)) k a) ⌝ }

@@ -1,18 +1,18 @@
 -- What round 1 scans, and what a run of the ask comes to.
 use Prim.Native.Nat.{ℕ, zero, suc, _+_, _≤_, _<_}
 use native.Mathlib.Omega.{arith}
-use mathlib.Core.Path.{_≡_, refl, sym, ap, _∙_, subst}
+use mathlib.Core.Path.{_≡_, refl, sym, _∙_, subst}
 use mathlib.Core.Bool.{Bool, true, false, cond, not, _&&_}
 use mathlib.Core.Logic.{_⊎_, inl, inr, ⊎-elim}
 use mathlib.Core.List.{List, [], map, List·Memᴰ, List·Memᴰ·not-nil, List·Memᴰ·append-cases, Memᴰ·append-left, Memᴰ·append-right}
 use lib.ListN.{length, getD}
-use lib.Dec.{T, eqb, eqb→eq, ltb→lt, nltb→le, lt→ltb}
+use lib.Dec.{T, eqb, eqb→eq, nltb→le}
 use borrow.Author.Tests.{eq-eqb, ne-eqb}
 use Rattle.model.specs.Lists.{any, collect, keep}
 use Rattle.model.specs.Names.{Name, mem}
 use Rattle.model.specs.Summaries.{Fact}
 use Rattle.model.specs.Reading.{Root, no-ambients}
-use Rattle.model.specs.Rounds.{facts, first-run, run, round-met, round-of, goal-roots, ambient-roots, is-ambient-root, first-scanned}
+use Rattle.model.specs.Rounds.{facts, first-run, run, round-met, round-of, asks-for, goal-roots, ambient-roots, is-ambient-root, first-scanned}
 use Rattle.model.specs.declared.AsumKind.the-variants.{Ambient}
 use Rattle.model.specs.declared.Asked.{Asked}
 use Rattle.model.specs.declared.Counts.{Counts}
@@ -20,11 +20,10 @@ use Rattle.model.proofs.ListLaws.{true-T, T-false, T-and, collect-intro, collec
 use Rattle.model.proofs.SetLaws.{mem-intro, mem-elim, mem-from-list}
 use Rattle.laws.proofs.FuelLaws.{history-follows, run-ends}
 use Rattle.names.specs.Table.{name-of}
-use Rattle.terms.proofs.Laws.{equal, below}
+use Rattle.terms.proofs.Laws.{equal}
 use Rattle.words.specs.Slices.{Same-but}
-use Rattle.records.specs.Columns.{record-kind, record-flag, summary-code, assume-kind, retain-kind, root-kind, kind-of-code, code-of}
-use Rattle.options.specs.OptionsOf.{ask-of}
-use Rattle.records.specs.States.{uses-at, free-at, fact-at, decls-of, roots-of}
+use Rattle.records.specs.Columns.{record-kind, record-flag, summary-code, assume-kind, root-kind, kind-of-code, code-of}
+use Rattle.records.specs.States.{uses-at, free-at, fact-at, decls-of, roots-of, ask-of}
 use Rattle.macros.specs.Macros.{Filled}
 use Rattle.scan.specs.Tables.{held-of}
 use Rattle.scan.specs.Steps.{Going, going, reached-column, work-column, run-end, is-met, is-reached, items, Ready, Rounds}
@@ -32,10 +31,9 @@ use Rattle.scan.specs.Starts.{zeroed-to, first-scan, starts-at, pushed}
 use Rattle.scan.specs.Runs.{tables-run, tables-history, Ran}
 use Rattle.scan.specs.declared.Scan.{Scan}
 use Rattle.scan.proofs.Numbers.{set-none}
-use Rattle.scan.proofs.Queries.{goal-one-elim, goal-one-intro}
 use Rattle.scan.proofs.Starting.{clear-length, clear-far, Pushed, pushed-is, Begun, begun}
 use Rattle.scan.proofs.Rounds.{At}
-use Rattle.scan.proofs.Running.{Over, rounds-over, rounds-length, rounds-far}
+use Rattle.scan.proofs.Running.{Over, rounds-over, rounds-same}
 use Rattle.scan.proofs.Timing.{met-round, reached-round}
 use Rattle.scan.proofs.Background.{facts-elim, facts-intro, root-of, roots-elim, roots-intro}
 use Rattle.scan.proofs.Joining.{laid, holds}
@@ -55,28 +53,28 @@ module _ (recs : List ℕ) (a : Asked) (i : ℕ) where
   abbrev ambient : Bool
   ambient = eqb (summary-code recs i) (code-of (Ambient true))
 
-  root-starts : record-kind recs i ≡ root-kind → record-flag recs i ≡ a .query → T (starts-at recs a i)
+  root-starts : record-kind recs i ≡ root-kind → T (asks-for (ask-of recs a) (record-flag recs i)) → T (starts-at recs a i)
   unfolding starts-at
-  root-starts e f = rw (eq-eqb (record-kind recs i) root-kind e) (true-T (eq-eqb (record-flag recs i) (a .query) f))
+  root-starts e t = rw (eq-eqb (record-kind recs i) root-kind e) t
 
-  fact-starts : record-kind recs i ≡ assume-kind → T ambient → T (not (no-ambients (ask-of a))) → T (starts-at recs a i)
+  fact-starts : record-kind recs i ≡ assume-kind → T ambient → T (not (no-ambients (ask-of recs a))) → T (starts-at recs a i)
   unfolding starts-at
-  fact-starts e f t = rw e (T-and ambient (not (no-ambients (ask-of a))) .1 (f, t))
+  fact-starts e f t = rw e (T-and ambient (not (no-ambients (ask-of recs a))) .1 (f, t))
 
   starts-elim : T (starts-at recs a i)
-      → ((record-kind recs i ≡ root-kind) × (record-flag recs i ≡ a .query))
-      ⊎ ((record-kind recs i ≡ assume-kind) × T ambient × T (not (no-ambients (ask-of a))))
+      → ((record-kind recs i ≡ root-kind) × T (asks-for (ask-of recs a) (record-flag recs i)))
+      ⊎ ((record-kind recs i ≡ assume-kind) × T ambient × T (not (no-ambients (ask-of recs a))))
   unfolding starts-at
   starts-elim t = go (equal (record-kind recs i) root-kind)
     where
       go : (record-kind recs i ≡ root-kind) ⊎ (record-kind recs i ≡ root-kind → ⊥)
-          → ((record-kind recs i ≡ root-kind) × (record-flag recs i ≡ a .query))
-          ⊎ ((record-kind recs i ≡ assume-kind) × T ambient × T (not (no-ambients (ask-of a))))
-      go (inl e) = inl (e, eqb→eq (record-flag recs i) (a .query) (rw (eq-eqb (record-kind recs i) root-kind e) at t))
+          → ((record-kind recs i ≡ root-kind) × T (asks-for (ask-of recs a) (record-flag recs i)))
+          ⊎ ((record-kind recs i ≡ assume-kind) × T ambient × T (not (no-ambients (ask-of recs a))))
+      go (inl e) = inl (e, rw (eq-eqb (record-kind recs i) root-kind e) at t)
       go (inr e) =
           let is-fact = eqb (record-kind recs i) assume-kind in
-          let (f, b) = T-and is-fact (ambient && not (no-ambients (ask-of a))) .0 (rw (ne-eqb (record-kind recs i) root-kind e) at t) in
-          let (c, d) = T-and ambient (not (no-ambients (ask-of a))) .0 b in
+          let (f, b) = T-and is-fact (ambient && not (no-ambients (ask-of recs a))) .0 (rw (ne-eqb (record-kind recs i) root-kind e) at t) in
+          let (c, d) = T-and ambient (not (no-ambients (ask-of recs a))) .0 b in
           inr (eqb→eq (record-kind recs i) assume-kind f, c, d)
 
 -- ---- the names that round 1 scans
@@ -92,26 +90,26 @@ module _ {file names recs lists : List ℕ} {k : Counts} (x : Filled file names 
   roots = roots-of name recs lists (k .records)
 
   -- a free name by number
-  free-in : (i : ℕ) {y : Name} → List·Memᴰ y (free-at name recs lists i) → List·Memᴰ y (map name (uses-at recs lists i))
+  pub free-in : (i : ℕ) {y : Name} → List·Memᴰ y (free-at name recs lists i) → List·Memᴰ y (map name (uses-at recs lists i))
   unfolding free-at
   free-in i {y} m = mem-elim (mem-from-list y (map name (uses-at recs lists i)) .0 (mem-intro m))
 
-  free-out : (i : ℕ) {y : Name} → List·Memᴰ y (map name (uses-at recs lists i)) → List·Memᴰ y (free-at name recs lists i)
+  pub free-out : (i : ℕ) {y : Name} → List·Memᴰ y (map name (uses-at recs lists i)) → List·Memᴰ y (free-at name recs lists i)
   unfolding free-at
   free-out i {y} m = mem-elim (mem-from-list y (map name (uses-at recs lists i)) .1 (mem-intro m))
 
-  ambient-in : {f : Fact} → List·Memᴰ f (ambient-roots (ask-of a) fs) → List·Memᴰ f fs × T (is-ambient-root (f .kind)) × T (not (no-ambients (ask-of a)))
+  ambient-in : {f : Fact} → List·Memᴰ f (ambient-roots (ask-of recs a) fs) → List·Memᴰ f fs × T (is-ambient-root (f .kind)) × T (not (no-ambients (ask-of recs a)))
   unfolding ambient-roots
-  ambient-in {f} m = go (no-ambients (ask-of a)) refl m
+  ambient-in {f} m = go (no-ambients (ask-of recs a)) refl m
     where
-      go : (b : Bool) → no-ambients (ask-of a) ≡ b → List·Memᴰ f (cond b [] (keep (λ f. is-ambient-root (f .kind)) fs))
-          → List·Memᴰ f fs × T (is-ambient-root (f .kind)) × T (not (no-ambients (ask-of a)))
+      go : (b : Bool) → no-ambients (ask-of recs a) ≡ b → List·Memᴰ f (cond b [] (keep (λ f. is-ambient-root (f .kind)) fs))
+          → List·Memᴰ f fs × T (is-ambient-root (f .kind)) × T (not (no-ambients (ask-of recs a)))
       go true e m = absurd (List·Memᴰ·not-nil m)
       go false e m = let (u, v) = keep-elim (λ (f : Fact). is-ambient-root (f .kind)) fs m in (u, v, rw e tt)
 
-  ambient-out : {f : Fact} → List·Memᴰ f fs → T (is-ambient-root (f .kind)) → T (not (no-ambients (ask-of a))) → List·Memᴰ f (ambient-roots (ask-of a) fs)
+  ambient-out : {f : Fact} → List·Memᴰ f fs → T (is-ambient-root (f .kind)) → T (not (no-ambients (ask-of recs a))) → List·Memᴰ f (ambient-roots (ask-of recs a) fs)
   unfolding ambient-roots
-  ambient-out {f} m t n = go (no-ambients (ask-of a)) n
+  ambient-out {f} m t n = go (no-ambients (ask-of recs a)) n
     where
       go : (b : Bool) → T (not b) → List·Memᴰ f (cond b [] (keep (λ f. is-ambient-root (f .kind)) fs))
       go false n = keep-intro (λ (f : Fact). is-ambient-root (f .kind)) m t
@@ -120,47 +118,48 @@ module _ {file names recs lists : List ℕ} {k : Counts} (x : Filled file names 
   abbrev Starts : Name → Type 0
   Starts y = (i : ℕ) × (i < k .records) × T (starts-at recs a i) × List·Memᴰ y (map name (uses-at recs lists i))
 
-  first-in : (y : Name) → List·Memᴰ y (first-scanned (ask-of a) fs roots) → Starts y
-  unfolding first-scanned fact-at
+  first-in : (y : Name) → List·Memᴰ y (first-scanned (ask-of recs a) fs roots) → Starts y
+  unfolding first-scanned goal-roots fact-at
   first-in y m =
       ⊎-elim
       (λ p.
-      let (z, u, v) = collect-elim (λ (r : Root). r .free-names) (goal-roots (ask-of a) roots) p in
-      let (s, q) = goal-one-elim a roots u in
+      let (z, u, v) = collect-elim (λ (r : Root). r .free-names) (goal-roots (ask-of recs a) roots) p in
+      let (s, q) = keep-elim (λ (r : Root). asks-for (ask-of recs a) (r .query)) roots u in
       let (i, l, c, e) = roots-elim name recs lists (k .records) s in
       root-in i z l (eqb→eq (record-kind recs i) root-kind c) e q v)
       (λ p.
-      let (f, u, v) = collect-elim (λ (f : Fact). f .free-names) (ambient-roots (ask-of a) fs) p in
+      let (f, u, v) = collect-elim (λ (f : Fact). f .free-names) (ambient-roots (ask-of recs a) fs) p in
       let (s, t, n) = ambient-in u in
       let (i, l, c, e) = facts-elim name recs lists (k .records) s in
       fact-in i f l (eqb→eq (record-kind recs i) assume-kind c) e t n v)
-      (List·Memᴰ·append-cases (collect (λ (r : Root). r .free-names) (goal-roots (ask-of a) roots)) m)
+      (List·Memᴰ·append-cases (collect (λ (r : Root). r .free-names) (goal-roots (ask-of recs a) roots)) m)
     where
-      root-in : (i : ℕ) (z : Root) → i < k .records → record-kind recs i ≡ root-kind → z ≡ root-of name recs lists i → z .query ≡ a .query
+      root-in : (i : ℕ) (z : Root) → i < k .records → record-kind recs i ≡ root-kind → z ≡ root-of name recs lists i → T (asks-for (ask-of recs a) (z .query))
           → List·Memᴰ y (z .free-names) → Starts y
       root-in i z l c e q v = (
         i,
         l,
-        root-starts recs a i c (ap (λ (r : Root). r .query) (sym e) ∙ q),
+        root-starts recs a i c (subst (λ (r : Root). T (asks-for (ask-of recs a) (r .query))) e q),
         free-in i (subst (λ (r : Root). List·Memᴰ y (r .free-names)) e v),
       )
 
       fact-in : (i : ℕ) (f : Fact) → i < k .records → record-kind recs i ≡ assume-kind → f ≡ fact-at name recs lists i → T (is-ambient-root (f .kind))
-          → T (not (no-ambients (ask-of a))) → List·Memᴰ y (f .free-names) → Starts y
+          → T (not (no-ambients (ask-of recs a))) → List·Memᴰ y (f .free-names) → Starts y
       fact-in i f l c e t n v =
           let w = subst (λ b. T b) (root-code (summary-code recs i)) (subst (λ (f : Fact). T (is-ambient-root (f .kind))) e t) in
           (i, l, fact-starts recs a i c w n, free-in i (subst (λ (f : Fact). List·Memᴰ y (f .free-names)) e v))
 
   first-all : (i : ℕ) → i < k .records → T (starts-at recs a i) → (y : Name) → List·Memᴰ y (map name (uses-at recs lists i))
-      → List·Memᴰ y (first-scanned (ask-of a) fs roots)
-  unfolding first-scanned fact-at
+      → List·Memᴰ y (first-scanned (ask-of recs a) fs roots)
+  unfolding first-scanned goal-roots fact-at
   first-all i l t y m =
       ⊎-elim
-      (λ (e, q). Memᴰ·append-left (collect (λ (f : Fact). f .free-names) (ambient-roots (ask-of a) fs))
+      (λ (e, q). Memᴰ·append-left (collect (λ (f : Fact). f .free-names) (ambient-roots (ask-of recs a) fs))
       (collect-intro (λ (r : Root). r .free-names)
-      (goal-one-intro a (roots-intro name recs lists (k .records) i l (true-T (eq-eqb (record-kind recs i) root-kind e))) q)
+      (keep-intro (λ (r : Root). asks-for (ask-of recs a) (r .query))
+      (roots-intro name recs lists (k .records) i l (true-T (eq-eqb (record-kind recs i) root-kind e))) q)
       (free-out i m)))
-      (λ (e, q, n). Memᴰ·append-right (collect (λ (r : Root). r .free-names) (goal-roots (ask-of a) roots))
+      (λ (e, q, n). Memᴰ·append-right (collect (λ (r : Root). r .free-names) (goal-roots (ask-of recs a) roots))
       (collect-intro (λ (f : Fact). f .free-names)
       (ambient-out (facts-intro name recs lists (k .records) i l (true-T (eq-eqb (record-kind recs i) assume-kind e)))
       (subst (λ b. T b) (sym (root-code (summary-code recs i))) q) n)
@@ -181,7 +180,7 @@ module _ {file names recs lists : List ℕ} {k : Counts} (x : Filled file names 
     pub first-ready : Ready (held-of names recs lists k a) g
     first-ready = first .ready
 
-    first-at : At (held-of names recs lists k a) name g first-run (first-scanned (ask-of a) fs roots)
+    first-at : At (held-of names recs lists k a) name g first-run (first-scanned (ask-of recs a) fs roots)
     unfolding held-of mem any
     first-at = record {
       met-is = λ n l. sym (T-false (is-met (g .run) n) (first .none-met n l));
@@ -204,7 +203,7 @@ module _ {file names recs lists : List ℕ} {k : Counts} (x : Filled file names 
     module _ {s : Scan} {v : List ℕ} (rounds : Rounds (held-of names recs lists k a) g (going s v)) where
       over : Over (held-of names recs lists k a) name fs (tables-run file names recs lists k a) (going s v)
       unfolding tables-run
-      over = rounds-over (laid x .fits a) (holds x a) rounds first-ready first-at (run-ends (ask-of a) (decls-of name recs lists (k .records)) roots)
+      over = rounds-over (laid x .fits a) (holds x a) rounds first-ready first-at (run-ends (ask-of recs a) (decls-of name recs lists (k .records)) roots)
 
       -- only the columns of the run change
       same : Same-but 0 run-end w v
@@ -212,15 +211,8 @@ module _ {file names recs lists : List ℕ} {k : Counts} (x : Filled file names 
           let pushed-as = pushed-is (starts-at recs a) (k .records) (going first-scan (zeroed-to work-column w)) (omega arith)
           (omega (arith, x .recorded .few)) (rw (clear-length work-column w) long) in
           let p = subst (λ g. Pushed (starts-at recs a) (k .records) (going first-scan (zeroed-to work-column w)) g) (sym is) pushed-as in
-          record {
-            same-length = rounds-length (laid x .fits a) rounds first-ready ∙ p .same-length ∙ clear-length work-column w;
-            same-words = λ i h.
-                let far = outside i h in
-                rounds-far (laid x .fits a) rounds first-ready i far ∙ p .far i far ∙ clear-far work-column w i (omega arith);
-          }
-        where
-          outside : (i : ℕ) → (0 ≤ i → i < 0 + run-end → ⊥) → run-end ≤ i
-          outside i h = ⊎-elim (λ l. absurd (h (omega arith) (omega arith))) (λ l. l) (below i run-end)
+          rounds-same (laid x .fits a) rounds first-ready (p .same-length ∙ clear-length work-column w)
+          (λ i far. p .far i far ∙ clear-far work-column w i (omega arith))
 
       -- the columns hold the rounds
       times : ((n : ℕ) → n < k .names → T (is-met v n) → getD v n 0 ≡ round-met (tables-history file names recs lists k a) (name n))
@@ -228,7 +220,7 @@ module _ {file names recs lists : List ℕ} {k : Counts} (x : Filled file names 
           → getD v (reached-column + i) 0 ≡ round-of (tables-history file names recs lists k a) (fact-at name recs lists i))
       unfolding tables-history round-met round-of held-of is-met is-reached
       times =
-          let follows = history-follows (ask-of a) (decls-of name recs lists (k .records)) roots in
+          let follows = history-follows (ask-of recs a) (decls-of name recs lists (k .records)) roots in
           let few = x .recorded .few in (
             λ n l t. met-round (laid x .fits a) (holds x a) rounds first-ready first-at follows refl n l
                 (let z = nltb→le 0 (getD (g .run) n 0) (first .none-met n l) in omega arith) t,

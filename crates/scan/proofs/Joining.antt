@@ -20,8 +20,7 @@ use Rattle.names.specs.Table.{name-of}
 use Rattle.names.proofs.Laws.{distinct}
 use Rattle.triggers.specs.Entries.{Entries, disjuncts-of, last-flag, no-name, entries-base}
 use Rattle.records.specs.Columns.{record-kind, uses-end, entries-start, entries-end, assume-kind, entry-word, entry-name, entry-fact, taken-at, macro-at}
-use Rattle.options.specs.OptionsOf.{ask-of}
-use Rattle.records.specs.States.{uses-at, entries-at, free-at, fact-at, decls-of}
+use Rattle.records.specs.States.{uses-at, entries-at, free-at, fact-at, decls-of, ask-of}
 use Rattle.records.specs.Filing.{Records, Filing}
 use Rattle.macros.specs.Macros.{opened-word, Filled}
 use Rattle.scan.specs.Held.{Fits, Holds, upto}
@@ -168,7 +167,7 @@ module _ {file names recs lists : List ℕ} {k : Counts} (x : Filled file names 
       let v : entry-name lists e ≡ w % last-flag = ap (λ o. o % last-flag) s in
       (e, m, g .facts i e h lo hi, ⊎-elim (λ o. o) (λ o. absurd (omega arith)) (r .entry-words e m), c ∙ ap name (sym v))
 
-  pub holds : (a : Asked) → Holds (held-of names recs lists k a) (name-of file names) (ask-of a) (macros (decls-of (name-of file names) recs lists (k .records)))
+  pub holds : (a : Asked) → Holds (held-of names recs lists k a) (name-of file names) (ask-of recs a) (macros (decls-of (name-of file names) recs lists (k .records)))
       (facts (decls-of (name-of file names) recs lists (k .records))) (fact-at (name-of file names) recs lists)
   unfolding held-of retained retainable fact-at free-at disjuncts-of
   holds a = record {

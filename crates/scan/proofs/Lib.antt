@@ -15,7 +15,8 @@ pub mod Chaining
 pub mod Phases
 pub mod Listing
 pub mod Background
-pub mod Queries
 pub mod Opening
 pub mod Joining
 pub mod Asking
+pub mod GoingOn
+pub mod Stretching

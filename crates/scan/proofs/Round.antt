@@ -85,7 +85,7 @@ module _ (h : Held) (fits : Fits h) (g : Going) (ready : Ready h g) where
   unfolding visited-then
   small-fact e m = let (s, b, c) = visited-elim h (round-of g) (met-then h g) (h .named) m in (fits .fact-small e s, fits .fact-is e s)
 
-  then-room : Room (round h g)
+  pub then-room : Room (round h g)
   then-room = room-then met-room fired
 
   -- they are those that the round reached
@@ -168,7 +168,7 @@ module _ (h : Held) (fits : Fits h) (g : Going) (ready : Ready h g) where
   unfolding met-phase met-then
   then-triggered = fired .triggered-is
 
-  met-stays : (n : ℕ) → T (is-met (g .run) n) → T (is-met (met-then h g) n)
+  pub met-stays : (n : ℕ) → T (is-met (g .run) n) → T (is-met (met-then h g) n)
   unfolding met-then
   met-stays n t = met-old (round-of g) (g .run) (scanned-by h (items g)) n t
 
@@ -192,7 +192,7 @@ module _ (h : Held) (fits : Fits h) (g : Going) (ready : Ready h g) where
       stays : (n : ℕ) → n < h .named → T (not (is-met (round h g .run) n)) → T (not (is-met (g .run) n))
       stays n l u = not-T (is-met (g .run) n) (λ y. T-not (is-met (round h g .run) n) u (rw (is-met-then n (small l)) (met-stays n y)))
 
-  then-low : (n : ℕ) → n < h .named → getD (round h g .run) n 0 ≤ round h g .scan .rounds
+  pub then-low : (n : ℕ) → n < h .named → getD (round h g .run) n 0 ≤ round h g .scan .rounds
   unfolding met-phase met-then
   then-low n l =
       let few-n = fits .few-names in

@@ -1,7 +1,9 @@
 -- Round after round to the end of the run of `model`.
-use Prim.Native.Nat.{ℕ, _≤_, _<_}
+use Prim.Native.Nat.{ℕ, _+_, _≤_, _<_}
+use native.Mathlib.Omega.{arith}
 use mathlib.Core.Path.{_≡_, refl, sym, _∙_, subst}
 use mathlib.Core.Bool.{Bool, true, false, not, _&&_}
+use mathlib.Core.Logic.{⊎-elim}
 use mathlib.Core.List.{List}
 use lib.Dec.{T, T-not, ltb, ltb→lt}
 use lib.ListN.{length, getD}
@@ -13,6 +15,8 @@ use Rattle.model.specs.Pruning.{Map}
 use Rattle.model.specs.Rounds.{Run, triggered, after-round, next-scanned, visits}
 use Rattle.model.proofs.ListLaws.{true-T, false-T, count-cong}
 use Rattle.laws.specs.Fuel.{Ends, last, more}
+use Rattle.terms.proofs.Laws.{below}
+use Rattle.words.specs.Slices.{Same-but}
 use Rattle.scan.specs.Held.{Held, Fits, Holds, upto}
 use Rattle.scan.specs.Steps.{Going, run-end, is-met, is-reached, round, Ready, Rounds, last as last-round, more as more-rounds}
 use Rattle.scan.proofs.Round.{then-ready, then-length, then-far, then-visits, then-facts}
@@ -41,7 +45,7 @@ pub record Over (h : Held) (name : ℕ → Name) (fs : List Fact) (end : Run) (g
 module _ {h : Held} {name : ℕ → Name} {a : Ask} {ms : Map (List Name)} {fs : List Fact} {fact : ℕ → Fact} (fits : Fits h)
     (holds : Holds h name a ms fs fact) where
   -- the filed names that are met are those of the entries whose names are marked
-  count-visits : (w : List ℕ) (met : List Name) → Agrees h name w met
+  pub count-visits : (w : List ℕ) (met : List Name) → Agrees h name w met
       → visits met fs ≡ count (λ e. ltb (h .entry-name e) (h .named) && is-met w (h .entry-name e)) (upto (h .entries))
   unfolding visits
   count-visits w met agrees =
@@ -77,10 +81,22 @@ module _ {h : Held} {name : ℕ → Name} {a : Ask} {ms : Map (List Name)} {fs :
 
 -- what rounds leave of the slice
 module _ {h : Held} (fits : Fits h) where
-  pub rounds-length : {g end : Going} → Rounds h g end → Ready h g → length (end .run) ≡ length (g .run)
+  rounds-length : {g end : Going} → Rounds h g end → Ready h g → length (end .run) ≡ length (g .run)
   rounds-length (last-round {g} t) ready = then-length h fits g ready
   rounds-length (more-rounds {g} t r) ready = rounds-length r (then-ready h fits g ready t) ∙ then-length h fits g ready
 
-  pub rounds-far : {g end : Going} → Rounds h g end → Ready h g → (k : ℕ) → run-end ≤ k → getD (end .run) k 0 ≡ getD (g .run) k 0
+  rounds-far : {g end : Going} → Rounds h g end → Ready h g → (k : ℕ) → run-end ≤ k → getD (end .run) k 0 ≡ getD (g .run) k 0
   rounds-far (last-round {g} t) ready k l = then-far h fits g ready k l
   rounds-far (more-rounds {g} t r) ready k l = rounds-far r (then-ready h fits g ready t) k l ∙ then-far h fits g ready k l
+
+  -- only the columns of the run change
+  pub rounds-same : {g end : Going} → Rounds h g end → Ready h g → {w : List ℕ} → length (g .run) ≡ length w
+      → ((i : ℕ) → run-end ≤ i → getD (g .run) i 0 ≡ getD w i 0) → Same-but 0 run-end w (end .run)
+  rounds-same rounds ready len far =
+      record {
+        same-length = rounds-length rounds ready ∙ len;
+        same-words = λ i h. let l = outside i h in rounds-far rounds ready i l ∙ far i l;
+      }
+    where
+      outside : (i : ℕ) → (0 ≤ i → i < 0 + run-end → ⊥) → run-end ≤ i
+      outside i h = ⊎-elim (λ l. absurd (h (omega arith) (omega arith))) (λ l. l) (below i run-end)

@@ -6,18 +6,19 @@ use mathlib.Core.Path.{_≡_, refl, sym, _∙_, ap, subst}
 use mathlib.Core.Bool.{Bool, true, false, cond, not, _&&_}
 use mathlib.Core.Logic.{_⊎_, inl, inr, ⊎-elim}
 use mathlib.Core.List.{List, [], _∷_, _++_, List·Memᴰ, List·Memᴰ·head, List·Memᴰ·append-cases, List·Memᴰ·not-nil, List·Memᴰ·cases-cons, Memᴰ·append-left, Memᴰ·append-right}
-use lib.Dec.{T, T-not, eqb, ltb}
+use lib.Dec.{T, T-not, ltb}
 use lib.ListN.{length, getD, set, length-set}
 use lib.Seq.{getD-set-same, getD-set-other}
 use borrow.Author.Tests.{eq-eqb, ne-eqb, le-ltb, ltb-true}
 use Rattle.model.specs.Lists.{count}
 use Rattle.model.specs.Reading.{most-records, no-ambients}
+use Rattle.model.specs.Rounds.{asks-for}
 use Rattle.model.specs.declared.Asked.{Asked}
 use Rattle.model.proofs.ListLaws.{true-T, false-T}
 use Rattle.model.proofs.PartLaws.{part-nil, part-snoc, part-agree}
 use Rattle.terms.proofs.Laws.{equal}
 use Rattle.records.specs.Columns.{record-kind, record-flag, summary-code, assume-kind, root-kind, code-of}
-use Rattle.options.specs.OptionsOf.{ask-of}
+use Rattle.records.specs.States.{ask-of}
 use Rattle.scan.specs.Held.{Held, Fits, upto}
 use Rattle.scan.specs.Steps.{Going, going, reached-column, work-column, run-end, work-room, is-met, is-reached, items, unreached, unmet, Ready}
 use Rattle.scan.specs.Starts.{zeroed-to, first-scan, starts-at, push, pushed}
@@ -59,9 +60,9 @@ clear-far (suc n) w i k = getD-set-other (zeroed-to n w) n i 0 0 (λ e. omega ar
 -- ---- which records round 1 scans
 
 module _ (recs : List ℕ) (a : Asked) (i x : ℕ) (e : x ≡ record-kind recs i) where
-  pub starts-root : (y : ℕ) → x ≡ root-kind → y ≡ record-flag recs i → eqb y (a .query) ≡ starts-at recs a i
+  pub starts-root : (y : ℕ) → {b : Bool} → x ≡ root-kind → y ≡ record-flag recs i → b ≡ asks-for (ask-of recs a) y → b ≡ starts-at recs a i
   unfolding starts-at
-  starts-root y p q = rw (← e, eq-eqb x root-kind p, q)
+  starts-root y p q f = f ∙ rw (← e, eq-eqb x root-kind p, q)
 
   pub starts-other : (x ≡ root-kind → ⊥) → (x ≡ assume-kind → ⊥) → false ≡ starts-at recs a i
   unfolding starts-at
@@ -71,7 +72,7 @@ module _ (recs : List ℕ) (a : Asked) (i x : ℕ) (e : x ≡ record-kind recs i
   unfolding starts-at code-of
   starts-no y p q d = rw (← e, ne-eqb x root-kind (λ z. omega arith), eq-eqb x assume-kind p, ← q, ne-eqb y 2 d)
 
-  pub starts-ambient : (y : ℕ) (off : Bool) → x ≡ assume-kind → y ≡ summary-code recs i → y ≡ 2 → off ≡ no-ambients (ask-of a)
+  pub starts-ambient : (y : ℕ) (off : Bool) → x ≡ assume-kind → y ≡ summary-code recs i → y ≡ 2 → off ≡ no-ambients (ask-of recs a)
       → not off ≡ starts-at recs a i
   unfolding starts-at code-of
   starts-ambient y off p q d o = rw (← e, ne-eqb x root-kind (λ z. omega arith), eq-eqb x assume-kind p, ← q, eq-eqb y 2 d, o)
@@ -227,15 +228,15 @@ none-reached : (w : List ℕ) (i : ℕ) → _≡_ {A = ℕ} (getD w (reached-col
 unfolding is-reached
 none-reached w i e = false-T (le-ltb 0 (getD w (reached-column + i) 0) (omega arith))
 
-no-items : (w : List ℕ) (i : ℕ) → List·Memᴰ i (items (going first-scan w)) → ⊥
+pub no-items : (w : List ℕ) (i : ℕ) → List·Memᴰ i (items (going first-scan w)) → ⊥
 unfolding items
 no-items w i m = List·Memᴰ·not-nil (rw (part-nil w work-column work-column (omega arith)) at m)
 
-few-unreached : (w : List ℕ) → unreached w ≤ most-records
+pub few-unreached : (w : List ℕ) → unreached w ≤ most-records
 unfolding unreached
 few-unreached w = count-upto (λ i. not (is-reached w i)) most-records
 
-few-unmet : (n : ℕ) (w : List ℕ) → unmet n w ≤ n
+pub few-unmet : (n : ℕ) (w : List ℕ) → unmet n w ≤ n
 unfolding unmet
 few-unmet n w = count-upto (λ m. not (is-met w m)) n
 

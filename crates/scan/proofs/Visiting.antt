@@ -14,8 +14,7 @@ use Rattle.model.specs.declared.Counts.{Counts}
 use Rattle.model.proofs.ListLaws.{false-T}
 use Rattle.triggers.specs.Entries.{entries-base}
 use Rattle.records.specs.Columns.{record-flag, entries-start, entries-end, entry-fact}
-use Rattle.options.specs.OptionsOf.{ask-of}
-use Rattle.records.specs.States.{entries-at}
+use Rattle.records.specs.States.{entries-at, ask-of}
 use Rattle.scan.specs.Tables.{retained, held-of, Laid}
 use Rattle.scan.specs.Steps.{Going, going, reached-column, work-column, is-met, is-reached, fires-in, fires-on, counted, reach-record, visit, unreached, work-room, Room}
 use Rattle.scan.specs.declared.Scan.{Scan}
@@ -28,7 +27,7 @@ pub flag-off : (recs : List ℕ) (a : Asked) (i x : ℕ) → x ≡ record-flag r
 unfolding retained
 flag-off recs a i x e d = rw (← e, ne-eqb x 1 d)
 
-pub flag-on : (recs : List ℕ) (a : Asked) (i x : ℕ) (b : Bool) → x ≡ record-flag recs i → x ≡ 1 → b ≡ pretyping-axioms (ask-of a) → b ≡ retained recs a i
+pub flag-on : (recs : List ℕ) (a : Asked) (i x : ℕ) (b : Bool) → x ≡ record-flag recs i → x ≡ 1 → b ≡ pretyping-axioms (ask-of recs a) → b ≡ retained recs a i
 unfolding retained
 flag-on recs a i x b e d o = rw (← e, eq-eqb x 1 d, o)
 

@@ -3,3 +3,4 @@ pub mod Steps
 pub mod Tables
 pub mod Starts
 pub mod Runs
+pub mod Chains

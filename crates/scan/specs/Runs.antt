@@ -11,8 +11,7 @@ use Rattle.model.specs.declared.Counts.{Counts}
 use Rattle.names.specs.Table.{name-of}
 use Rattle.words.specs.Slices.{Same-but}
 use Rattle.records.specs.Columns.{record-kind, record-name, assume-kind}
-use Rattle.options.specs.OptionsOf.{ask-of}
-use Rattle.records.specs.States.{fact-at, decls-of, roots-of}
+use Rattle.records.specs.States.{fact-at, decls-of, roots-of, ask-of}
 use Rattle.scan.specs.Held.{set-of}
 use Rattle.scan.specs.Steps.{reached-column, work-column, run-end, is-met, is-reached, going, Rounds}
 use Rattle.scan.specs.Tables.{held-of}
@@ -22,12 +21,14 @@ use Rattle.scan.specs.declared.Scan.{Scan}
 -- the run of `model` of an ask over the records
 unfoldable pub tables-run : List ℕ → List ℕ → List ℕ → List ℕ → Counts → Asked → Run
 tables-run file names recs lists k a =
-    run (ask-of a) (decls-of (name-of file names) recs lists (k .records)) (roots-of (name-of file names) recs lists (k .records))
+    run (ask-of recs a) (decls-of (name-of file names) recs lists (k .records))
+    (roots-of (name-of file names) recs lists (k .records))
 
 -- its history
 unfoldable pub tables-history : List ℕ → List ℕ → List ℕ → List ℕ → Counts → Asked → List Run
 tables-history file names recs lists k a =
-    history (ask-of a) (decls-of (name-of file names) recs lists (k .records)) (roots-of (name-of file names) recs lists (k .records))
+    history (ask-of recs a) (decls-of (name-of file names) recs lists (k .records))
+    (roots-of (name-of file names) recs lists (k .records))
 
 -- a state and the run's slice after it. A name of the run may have no number: a macro of the start opens to it
 pub record Ran (file names recs lists : List ℕ) (k : Counts) (a : Asked) (before after : List ℕ) (s : Scan) : Type 0 where

@@ -6,7 +6,7 @@ use mathlib.Core.List.{List, [], _∷_, _++_, List·Memᴰ}
 use lib.Dec.{T, ltb, eqb}
 use lib.ListN.{length, getD, set}
 use Rattle.model.specs.Lists.{any, all, count, collect, fold-left, part}
-use Rattle.model.specs.Reading.{most-names, most-records, most-entries}
+use Rattle.model.specs.Reading.{most-names, most-records, most-entries, most-asks}
 use Rattle.triggers.specs.Entries.{last-flag, no-name}
 use Rattle.scan.specs.Held.{Held, upto, waiting}
 use Rattle.scan.specs.declared.Scan.{Scan}
@@ -170,11 +170,11 @@ pub record Steady (g : Going) : Type 0 where
   pub few-rounds : g .scan .rounds < 4294967296
   pub few-visits : g .scan .visits ≤ 3 * most-entries
 
--- what a round asks of the state and the slice, and what holds before each: each round but the last meets a name
+-- what a round asks of the state and the slice, and what holds before each: each round but the last of a line meets a name
 pub record Ready (h : Held) (g : Going) : Type 0 where
   pub room : Room g
   pub ends : g .scan .from ≤ g .scan .to
-  pub few-rounds : g .scan .rounds + unmet (h .named) (g .run) ≤ most-names
+  pub few-rounds : g .scan .rounds + unmet (h .named) (g .run) ≤ most-names + most-asks
   pub low : (n : ℕ) → n < h .named → getD (g .run) n 0 ≤ g .scan .rounds
   pub visits-are : g .scan .visits ≡ count (λ e. ltb (h .entry-name e) (h .named) && is-met (g .run) (h .entry-name e)) (upto (h .entries))
   pub items-small : (i : ℕ) → List·Memᴰ i (items g) → i < h .records

@@ -11,8 +11,7 @@ use Rattle.model.specs.declared.Asked.{Asked}
 use Rattle.model.specs.declared.Counts.{Counts}
 use Rattle.triggers.specs.Entries.{Entries, disjuncts-of-words, no-name}
 use Rattle.records.specs.Columns.{record-kind, record-name, record-flag, uses-start, uses-end, entries-start, entries-end, assume-kind, entry-name, entry-fact, next-entry, macro-at, first-entry}
-use Rattle.options.specs.OptionsOf.{ask-of}
-use Rattle.records.specs.States.{uses-at, entries-at}
+use Rattle.records.specs.States.{uses-at, entries-at, ask-of}
 use Rattle.records.specs.Filing.{newest}
 use Rattle.macros.specs.Macros.{opened-word, opens-at}
 use Rattle.scan.specs.Held.{Held, Fits}
@@ -21,7 +20,7 @@ use Rattle.scan.specs.declared.Scan.{Scan}
 
 -- whether a record is retainable: its flag is 0, or option 2 is on
 unfoldable pub retained : List ℕ → Asked → ℕ → Bool
-retained recs a i = not (eqb (record-flag recs i) 1) || pretyping-axioms (ask-of a)
+retained recs a i = not (eqb (record-flag recs i) 1) || pretyping-axioms (ask-of recs a)
 
 -- the numbers in the slices
 unfoldable pub held-of : List ℕ → List ℕ → List ℕ → Counts → Asked → Held

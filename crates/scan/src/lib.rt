@@ -8,21 +8,27 @@ ghost use lib.ListN.{length, getD};
 ghost use Rattle.model.specs.Lists.{part};
 ghost use Rattle.model.specs.Reading.{most-names, most-records, most-entries};
 ghost use Rattle.model.specs.Outcome.{working-words};
-ghost use Rattle.records.specs.Columns.{macro-at};
+ghost use Rattle.records.specs.Columns.{macro-at, ask-room};
+ghost use Rattle.records.specs.States.{ask-of};
 ghost use Rattle.macros.specs.Macros.{opens-at, Filled};
 ghost use Rattle.scan.specs.Held.{waiting};
 ghost use Rattle.scan.specs.Tables.{retained, held-of, record-meets, Goes, Laid};
 ghost use Rattle.scan.specs.Steps.{mark, marks, entry-met, fires-in, going, visit, visits-of, visit-phase, met-phase, round, Rounds, Steady, Ready, work-column, run-end, work-room};
 ghost use Rattle.scan.specs.Starts.{zeroed-to, first-scan, starts-at, pushed};
 ghost use Rattle.scan.specs.Runs.{Ran};
+ghost use Rattle.scan.specs.Chains.{before-last, Chain-stands, Went-on};
 
-// The columns of the run's slice: by name, from word 0 on, the round first met; by record the round reached; the worklist.
+// The columns of the run's slice: by name, from word 0 on, the round first met; by record the round reached; the worklist. Along a
+// chain the rounds are counted on.
 pub const REACHED: usize = 2048;
 
 const WORK: usize = 3072;
 
-// The state of a run: the part of the worklist that the next round scans, the visits, the rounds, and whether the last round
-// triggered a fact.
+// The options number of option 1 alone: an ask with no ambient roots.
+const NO_AMBIENTS: usize = 1;
+
+// The state of a run, or of a chain of stretches: the part of the worklist that the next round scans, the visits and the rounds
+// so far, and whether the last round triggered a fact.
 pub struct Scan {
     pub from: usize,
     pub to: usize,
@@ -173,14 +179,14 @@ fn retained(recs: &[u32], a: Asked, i: usize) -> bool
     options.pretyping_axioms
 }
 
-// Whether round 1 scans a record: a root of the query or, without option 1, an ambient root.
+// Whether the first round scans a record: a root of the ask's queries or, without option 1, an ambient root.
 fn starts(recs: &[u32], a: Asked, i: usize) -> bool
-    requires { ⌜ (i < most-records) × (working-words ≤ length (now recs)) ⌝ }
+    requires { ⌜ (i < most-records) × (a .end ≤ ask-room) × (working-words ≤ length (now recs)) ⌝ }
     ensures { λ r. ⌜ r ≡ starts-at (now (recs .entry)) a i ⌝ }
 {
     let kind = words::at(recs, records::KIND + i);
     if kind == records::ROOT {
-        return words::at(recs, records::FLAG + i) == a.query;
+        return records::asks_for(recs, a, words::at(recs, records::FLAG + i));
     }
     if kind != records::ASSUME {
         return false;
@@ -212,10 +218,10 @@ impl Scan {
         }
     }
 
-    // Puts the records that round 1 scans behind the worklist.
+    // Puts the records that the first round scans behind the worklist.
     fn add_roots(self, recs: &[u32], run: &mut [u32], k: Counts, a: Asked) -> Scan
-        requires { ⌜ (k .records ≤ most-records) × (working-words ≤ length (now recs)) × (run-end ≤ length (now run))
-            × (self .to + k .records ≤ work-room) ⌝ }
+        requires { ⌜ (k .records ≤ most-records) × (a .end ≤ ask-room) × (working-words ≤ length (now recs))
+            × (run-end ≤ length (now run)) × (self .to + k .records ≤ work-room) ⌝ }
         ensures { λ r. ⌜ going r (now (run .exit)) ≡ pushed (starts-at (now (recs .entry)) a) (k .records)
             (going self (now (run .entry))) ⌝ }
     {
@@ -413,11 +419,41 @@ pub fn run_ask(
     k: Counts,
     a: Asked,
 ) -> Scan
-    requires { ⌜ Filled (now file) (now names) (now recs) (now lists) k × (run-end ≤ length (now run)) ⌝ }
+    requires { ⌜ Filled (now file) (now names) (now recs) (now lists) k × (a .end ≤ ask-room)
+        × (run-end ≤ length (now run)) ⌝ }
     ensures { λ r. ⌜ Ran (now (file .entry)) (now (names .entry)) (now (recs .entry)) (now (lists .entry)) k a (now (run .entry))
         (now (run .exit)) r ⌝ }
 {
     let begun = Scan::start(run);
     let rooted = begun.add_roots(recs, run, k, a);
+    rooted.go_on(names, recs, lists, run, k, a)
+}
+
+// Goes on from the finished run of an ask without its last query, with the roots of that query and no ambient roots.
+pub fn run_also(
+    file: &[u8],
+    names: &[u32],
+    recs: &[u32],
+    lists: &[u32],
+    run: &mut [u32],
+    k: Counts,
+    a: Asked,
+    before: Scan,
+) -> Scan
+    requires { ⌜ Filled (now file) (now names) (now recs) (now lists) k × (a .end ≤ ask-room) × (a .first + 1 < a .end)
+        × Chain-stands (now file) (now names) (now recs) (now lists) k (ask-of (now recs) (before-last a)) (now run) before ⌝ }
+    ensures { λ r. ⌜ Went-on (now (file .entry)) (now (names .entry)) (now (recs .entry)) (now (lists .entry)) k a
+        (now (run .entry)) before (now (run .exit)) r ⌝ }
+{
+    let end = a.end;
+    let last = Asked {
+        first: end - 1,
+        end,
+        options: NO_AMBIENTS,
+    };
+    let mut rested = before;
+    rested.from = 0;
+    rested.to = 0;
+    let rooted = rested.add_roots(recs, run, k, last);
     rooted.go_on(names, recs, lists, run, k, a)
 }

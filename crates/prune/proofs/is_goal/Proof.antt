@@ -21,14 +21,17 @@ add-at-2 c = search needs
 at-requires-2 : tie.Need-at-requires-2
 at-requires-2 c κs = search needs
 
+asks-for-requires : tie.Need-asks-for-requires
+asks-for-requires c κs = search needs
+
 returns-2 : tie.Need-returns-2
 returns-2 c =
     let at2 = c .before in
     let if1 = at2 .before in
     let at = if1 .before in
-    goal-root _ _ _ _ (at .at .ensures) (if1 .if1 .left) _ (at2 .at2 .ensures)
+    goal-root _ _ _ _ (at .at .ensures) (if1 .if1 .left) _ _ (at2 .at2 .ensures) (c .asks-for .ensures)
 
 pub is-goal-spec : {M : Type 1} → statement M
 is-goal-spec =
     tie.close
-    (tie.spec add-at at-requires returns add-at-2 at-requires-2 returns-2)
+    (tie.spec add-at at-requires returns add-at-2 at-requires-2 asks-for-requires returns-2)

@@ -21,7 +21,7 @@ returns : tie.Need-returns Inv-loop μ-loop
 returns c =
     let options-of = c .before in
     let entry = options-of .before .before .before in
-    ambients-off (entry .args .recs .now) (entry .args .k) (entry .args .a) (options-of .options-of .ensures .0 (entry .args .a .query) .no-ambients-is) _ _ (c .if1 .taken)
+    ambients-off (entry .args .recs .now) (entry .args .k) (entry .args .a) (options-of .options-of .ensures .0 _ .no-ambients-is) _ _ (c .if1 .taken)
 
 loop-holds : tie.Need-loop-holds Inv-loop μ-loop
 loop-holds c = falling-start _ _ _ _
@@ -66,7 +66,7 @@ add-run c =
     let if1 = loop .before in
     let options-of = if1 .before in
     let entry = options-of .before .before .before in
-    let fits = ambients-fit (entry .args .recs .now) (entry .args .k) (entry .args .a) (options-of .options-of .ensures .0 (entry .args .a .query) .no-ambients-is) (entry .args .m)
+    let fits = ambients-fit (entry .args .recs .now) (entry .args .k) (entry .args .a) (options-of .options-of .ensures .0 _ .no-ambients-is) (entry .args .m)
     (if1 .if1 .left) (entry .pre .3) in
     let room = falling-room (loop .loop .inv) (loop-test .loop-test .taken) (ambient-at .ambient-at .ensures) (c .if2 .left) fits in
     omega (arith, room)
@@ -79,7 +79,7 @@ mul-run c =
     let if1 = loop .before in
     let options-of = if1 .before in
     let entry = options-of .before .before .before in
-    let fits = ambients-fit (entry .args .recs .now) (entry .args .k) (entry .args .a) (options-of .options-of .ensures .0 (entry .args .a .query) .no-ambients-is) (entry .args .m)
+    let fits = ambients-fit (entry .args .recs .now) (entry .args .k) (entry .args .a) (options-of .options-of .ensures .0 _ .no-ambients-is) (entry .args .m)
     (if1 .if1 .left) (entry .pre .3) in
     let room = falling-room (loop .loop .inv) (loop-test .loop-test .taken) (ambient-at .ambient-at .ensures) (c .if2 .left) fits in
     omega (arith, room)
@@ -92,7 +92,7 @@ slice-write-run c =
     let if1 = loop .before in
     let options-of = if1 .before in
     let entry = options-of .before .before .before in
-    let fits = ambients-fit (entry .args .recs .now) (entry .args .k) (entry .args .a) (options-of .options-of .ensures .0 (entry .args .a .query) .no-ambients-is) (entry .args .m)
+    let fits = ambients-fit (entry .args .recs .now) (entry .args .k) (entry .args .a) (options-of .options-of .ensures .0 _ .no-ambients-is) (entry .args .m)
     (if1 .if1 .left) (entry .pre .3) in
     let room = falling-room (loop .loop .inv) (loop-test .loop-test .taken) (ambient-at .ambient-at .ensures) (c .if2 .left) fits in
     omega (arith, room, entry .pre .1, going-length (loop .loop .inv .going))
@@ -105,7 +105,7 @@ add-to c =
     let if1 = loop .before in
     let options-of = if1 .before in
     let entry = options-of .before .before .before in
-    let fits = ambients-fit (entry .args .recs .now) (entry .args .k) (entry .args .a) (options-of .options-of .ensures .0 (entry .args .a .query) .no-ambients-is) (entry .args .m)
+    let fits = ambients-fit (entry .args .recs .now) (entry .args .k) (entry .args .a) (options-of .options-of .ensures .0 _ .no-ambients-is) (entry .args .m)
     (if1 .if1 .left) (entry .pre .3) in
     let room = falling-room (loop .loop .inv) (loop-test .loop-test .taken) (ambient-at .ambient-at .ensures) (c .if2 .left) fits in
     omega (arith, room)
@@ -133,7 +133,7 @@ returns-2 c =
     let if1 = loop .before in
     let options-of = if1 .before in
     let entry = options-of .before .before .before in
-    ambients-listed (entry .args .recs .now) (entry .args .k) (entry .args .a) (options-of .options-of .ensures .0 (entry .args .a .query) .no-ambients-is) (if1 .if1 .left)
+    ambients-listed (entry .args .recs .now) (entry .args .k) (entry .args .a) (options-of .options-of .ensures .0 _ .no-ambients-is) (if1 .if1 .left)
     (falling-end (loop .loop .inv) (c .loop-test .left))
 
 pub list-ambients-spec : {M : Type 1} → statement M

@@ -23,7 +23,7 @@ add-i c =
 is-goal-requires : tie.Need-is-goal-requires Inv-loop μ-loop
 is-goal-requires c κs =
     let entry = c .before .before .before .before .before in
-    (entry .pre .0 .recorded .room, omega (arith, entry .pre .0 .recorded .few, c .loop-test .taken))
+    (entry .pre .0 .recorded .room, omega (arith, entry .pre .0 .recorded .few, c .loop-test .taken), entry .pre .2)
 
 loop-less : tie.Need-loop-less Inv-loop μ-loop
 loop-less c =

@@ -10,7 +10,7 @@ use Rattle.scan.proofs.run_ask.Statement.{statement}
 use Rattle.scan.proofs.run_ask.Tie as tie
 
 start-requires : tie.Need-start-requires
-start-requires c κs = c .before .before .before .before .before .before .pre .1
+start-requires c κs = c .before .before .before .before .before .before .pre .2
 
 add-roots-requires : tie.Need-add-roots-requires
 add-roots-requires c κs =
@@ -19,7 +19,7 @@ add-roots-requires c κs =
     let same = ap (λ (g : Going). length (g .run)) begun ∙ clear-length _ _ in
     let none = ap (λ (g : Going). g .scan .to) begun in
     let few = pre .0 .recorded .few in
-    (few, pre .0 .recorded .room, omega (arith, pre .1), omega arith)
+    (few, pre .1, pre .0 .recorded .room, omega (arith, pre .2), omega arith)
 
 go-on-requires : tie.Need-go-on-requires
 go-on-requires c κs =
@@ -27,7 +27,7 @@ go-on-requires c κs =
     let start = add-roots .before .before .before .before in
     let entry = start .before .before .before .before .before .before .before in
     let pre = entry .pre in
-    (laid (pre .0), first-ready (pre .0) (entry .args .a) _ (pre .1) (roots-on _ _ (start .start .ensures) (add-roots .add-roots .ensures)))
+    (laid (pre .0), first-ready (pre .0) (entry .args .a) _ (pre .2) (roots-on _ _ (start .start .ensures) (add-roots .add-roots .ensures)))
 
 returns : tie.Need-returns
 returns c =
@@ -36,7 +36,7 @@ returns c =
     let start = add-roots .before .before .before .before in
     let entry = start .before .before .before .before .before .before .before in
     let pre = entry .pre in
-    ran (pre .0) (entry .args .a) _ (pre .1) (roots-on _ _ (start .start .ensures) (add-roots .add-roots .ensures)) (go-on .go-on .ensures)
+    ran (pre .0) (entry .args .a) _ (pre .2) (roots-on _ _ (start .start .ensures) (add-roots .add-roots .ensures)) (go-on .go-on .ensures)
 
 same-length : tie.Need-same-length
 same-length c = returns c .same .same-length

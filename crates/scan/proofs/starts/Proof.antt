@@ -16,8 +16,14 @@ add-at-2 c = search needs
 at-requires-2 : tie.Need-at-requires-2
 at-requires-2 c κs = search needs
 
+asks-for-requires : tie.Need-asks-for-requires
+asks-for-requires c κs = let pre = c .before .before .before .before .pre in (pre .1, pre .2)
+
 returns : tie.Need-returns
-returns c = starts-root _ _ _ _ (c .before .before .before .at .ensures) _ (c .before .before .if1 .taken) (c .before .at2 .ensures)
+returns c =
+    let at2 = c .before in
+    let if1 = at2 .before in
+    starts-root _ _ _ _ (if1 .before .at .ensures) _ (if1 .if1 .taken) (at2 .at2 .ensures) (c .asks-for .ensures)
 
 returns-2 : tie.Need-returns-2
 returns-2 c = starts-other _ _ _ _ (c .before .before .at .ensures) (c .before .if1 .left) (c .if2 .taken)
@@ -46,10 +52,10 @@ returns-4 c =
     let if2 = at3 .before in
     let at = if2 .before .before in
     let entry = at .before .before in
-    starts-ambient _ _ _ _ (at .at .ensures) _ _ (if2 .if2 .left) (at3 .at3 .ensures) (if3 .if3 .left) (options-of .options-of .ensures .0 (entry .args .a .query) .no-ambients-is)
+    starts-ambient _ _ _ _ (at .at .ensures) _ _ (if2 .if2 .left) (at3 .at3 .ensures) (if3 .if3 .left) (options-of .options-of .ensures .0 _ .no-ambients-is)
 
 pub starts-spec : {M : Type 1} → statement M
 starts-spec =
     tie.close
-    (tie.spec add-at at-requires add-at-2 at-requires-2 returns returns-2 add-at-3 at-requires-3 returns-3 options-of-requires
+    (tie.spec add-at at-requires add-at-2 at-requires-2 asks-for-requires returns returns-2 add-at-3 at-requires-3 returns-3 options-of-requires
     returns-4)

@@ -20,7 +20,7 @@ add-i : tie.Need-add-i Inv-loop μ-loop
 add-i c = let pre = c .before .before .before .before .pre in omega arith
 
 starts-requires : tie.Need-starts-requires Inv-loop μ-loop
-starts-requires c κs = let pre = c .before .before .before .before .pre in (omega (arith, c .loop-test .taken), pre .1)
+starts-requires c κs = let pre = c .before .before .before .before .pre in (omega (arith, c .loop-test .taken), pre .1, pre .2)
 
 loop-less : tie.Need-loop-less Inv-loop μ-loop
 loop-less c = omega arith
