@@ -53,7 +53,7 @@ reason refusal.Size = bytes "the file has more than 65,535 bytes"
 reason refusal.FullTerms = bytes "the file has more than 4,096 term lines or 16,384 references"
 reason refusal.FullRecords = bytes "the file has more than 1,024 record lines"
 reason refusal.FullTriggers = bytes "the file has more than 2,048 trigger entries or 6,144 name uses"
-reason refusal.FullAsks = bytes "the file has more than 16 ask lines"
+reason refusal.FullAsks = bytes "the file has more than 16 ask and also lines"
 
 -- whether the place of a refusal is a line
 unfoldable pub has-line : Refusal → Bool

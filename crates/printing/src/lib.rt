@@ -304,7 +304,7 @@ fn put_reason(text: &mut [u8], at: usize, r: Refusal) -> usize
             at,
             b"the file has more than 2,048 trigger entries or 6,144 name uses",
         ),
-        Refusal::FullAsks => put(text, at, b"the file has more than 16 ask lines"),
+        Refusal::FullAsks => put(text, at, b"the file has more than 16 ask and also lines"),
     }
 }
 
