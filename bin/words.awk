@@ -1,4 +1,4 @@
-# Says in words why a line is refused with 1 to 5 or 10: which condition it is, which field, what stands there.
+# Says in words why a line is refused with 1 to 5, 10 or 13: which condition it is, which field, what stands there.
 #
 #     od -An -v -tu1 FILE | awk -v number=NUMBER -v place=PLACE -f words.awk
 #
@@ -9,6 +9,7 @@ BEGIN {
     # What stands in the fields after the kind: a query, options, a flag, a name, a word of an op, a term; `*` any count of the
     # last.
     form["ask"] = "query options"
+    form["also"] = "query"
     form["hide"] = "name"
     form["free"] = "name"
     form["leaf"] = ""
@@ -26,6 +27,7 @@ BEGIN {
     many_terms = split("free leaf call op all some let label", words_of, " ")
     for (i = 1; i <= many_terms; i++) is_term[words_of[i]] = 1
     is_taken["assume"] = is_taken["fun"] = is_taken["def"] = 1
+    is_position["ask"] = is_position["also"] = 1
     many_words = split("true iff eq and other", words_of, " ")
     for (i = 1; i <= many_words; i++) is_word[words_of[i]] = 1
 
@@ -72,8 +74,9 @@ function end_line(ended) {
         judge(ended)
     } else {
         kind = text(1)
-        if (kind != "ask") past_asks = 1
-        if (kind != "ask" && kind != "hide") past_head = 1
+        if (kind in is_position) position_lines++
+        else past_positions = 1
+        if (!(kind in is_position) && kind != "hide") past_head = 1
         if (kind in is_term) term_lines++
         if (kind in is_taken) taken[text(2)] = line
     }
@@ -118,10 +121,14 @@ function judge(ended,   kind) {
         unknown_kind(kind)
     } else if (line == 1 && kind != "ask") {
         fault(1, 1, quoted(1) " stands where ask has to: line 1 is ask,QUERY,OPTIONS")
-    } else if (kind == "ask" && past_asks) {
-        fault(1, 1, "ask may stand only on line 1 or directly after another ask line")
+    } else if (kind == "ask" && past_positions) {
+        fault(1, 1, "ask may stand only on line 1 or directly after an ask or also line")
+    } else if (kind == "also" && past_positions) {
+        fault(1, 1, "also may stand only directly after an ask or also line")
     } else if (kind == "hide" && past_head) {
-        fault(1, 1, "hide may stand only directly after ask or another hide line")
+        fault(1, 1, "hide may stand only directly after an ask, also or hide line")
+    } else if (kind in is_position && position_lines >= 16) {
+        fault(13, 0, "the file has more than 16 ask and also lines")
     } else if (form[kind] !~ /\*|groups/ && fields != 1 + split(form[kind], parts, " ")) {
         fault(1, 0, "a line of kind " kind " has " counted(1 + split(form[kind], parts, " "), "field") ", this one " fields)
     } else if (judge_fields(kind)) {

@@ -26,17 +26,20 @@ pub struct Sample {
 /// The seed of the files that look like exports.
 pub const EXPORT_SEED: u64 = 1;
 
-/// The longest file that looks like an export, with one ask line and with as many as there may be.
+/// The longest file that looks like an export, with one ask line, with as many as there may be, and with one and as many also
+/// lines as there may be.
 pub const ONE_ASK: &str = "export-like, 65 KB";
 pub const SIXTEEN_ASKS: &str = "export-like, 65 KB, sixteen asks";
+pub const FIFTEEN_ALSO: &str = "export-like, 65 KB, one ask and fifteen also lines";
 
 /// Files that look like what F* exports.
 pub fn exports() -> Vec<Sample> {
-    let files: [(&str, Vec<u8>); 4] = [
+    let files: [(&str, Vec<u8>); 5] = [
         ("export-like, 2 KB", export(EXPORT_SEED, 2_000)),
         ("export-like, 16 KB", export(EXPORT_SEED, 16_000)),
         (ONE_ASK, export(EXPORT_SEED, limits::BYTES)),
         (SIXTEEN_ASKS, sixteen_asks()),
+        (FIFTEEN_ALSO, fifteen_also()),
     ];
     files.map(|(name, file)| Sample { name: name.to_owned(), sort: Sort::Export, file }).into()
 }
@@ -54,6 +57,16 @@ fn sixteen_asks() -> Vec<u8> {
         }
     }
     [lines[0].repeat(limits::ASKS - 1), lines.concat()].concat()
+}
+
+/// The file of sixteen asks with an also line of the same query in place of each ask line but the first: so the one run is
+/// that of the ask line, and every list is as long as the first.
+fn fifteen_also() -> Vec<u8> {
+    let file = sixteen_asks();
+    let lines: Vec<&[u8]> = file.split_inclusive(|&byte| byte == b'\n').collect();
+    let query = lines[0].split(|&byte| byte == b',').nth(1).unwrap_or_default();
+    let also = [b"also,", query, b"\n"].concat();
+    [lines[0], &also.repeat(limits::ASKS - 1), &lines[limits::ASKS..].concat()].concat()
 }
 
 /// Every `.in` of a folder, by name.
@@ -242,17 +255,27 @@ mod tests {
         }
     }
 
+    /// The names, the visits and the rounds of each list of a file.
+    fn answer_to(name: &str) -> Vec<(Vec<Vec<u8>>, u32, u32)> {
+        let sample = exports().into_iter().find(|sample| sample.name == name).unwrap();
+        let answer = filter_file(&sample.file);
+        let names = |names: &[&[u8]]| names.iter().map(|name| name.to_vec()).collect::<Vec<_>>();
+        answer.lists().iter().map(|list| (names(&list.names), list.visits, list.rounds)).collect()
+    }
+
     #[test]
     fn sixteen_asks_are_one_again_and_again() {
-        let answer_to = |name: &str| {
-            let sample = exports().into_iter().find(|sample| sample.name == name).unwrap();
-            let answer = filter_file(&sample.file);
-            let names = |names: &[&[u8]]| names.iter().map(|name| name.to_vec()).collect::<Vec<_>>();
-            answer.lists().iter().map(|list| (names(&list.names), list.visits, list.rounds)).collect::<Vec<_>>()
-        };
         let one = answer_to(ONE_ASK);
         assert_eq!(one.len(), 1);
         assert_eq!(answer_to(SIXTEEN_ASKS), vec![one[0].clone(); limits::ASKS]);
+    }
+
+    #[test]
+    fn also_lines_give_the_list_of_one_ask_again_and_again() {
+        let (names, visits, rounds) = answer_to(ONE_ASK).remove(0);
+        let mut lists = vec![(names.clone(), 0, 1); limits::ASKS];
+        lists[0] = (names, visits, rounds);
+        assert_eq!(answer_to(FIFTEEN_ALSO), lists);
     }
 
     #[test]

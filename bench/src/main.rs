@@ -95,8 +95,11 @@ fn run(options: &Options) -> io::Result<()> {
     }
     let table = format!("{}\n\n{}", conditions(), table::markdown(&rows));
     println!("{table}");
-    if let Some(times) = sixteen_asks_for_one(&rows) {
+    if let Some(times) = instructions_for(&rows, files::SIXTEEN_ASKS, files::ONE_ASK) {
         println!("sixteen asks: {times:.2} times the instructions of one ask; wanted are at most {WANTED_FOR_SIXTEEN}");
+    }
+    if let Some(times) = instructions_for(&rows, files::FIFTEEN_ALSO, files::SIXTEEN_ASKS) {
+        println!("one ask and fifteen also lines: {times:.2} times the instructions of sixteen asks");
     }
 
     if let Some(path) = &options.document {
@@ -122,10 +125,10 @@ fn run(options: &Options) -> io::Result<()> {
 /// The most instructions that sixteen asks over the longest file may take, as so many times those of one.
 const WANTED_FOR_SIXTEEN: f64 = 2.5;
 
-/// How many times the library's instructions of one ask sixteen of them take, over the longest file that looks like an export.
-fn sixteen_asks_for_one(rows: &[Row]) -> Option<f64> {
+/// How many times the library's instructions of another file it takes for a file.
+fn instructions_for(rows: &[Row], file: &str, other: &str) -> Option<f64> {
     let library = |name: &str| Some(rows.iter().find(|row| row.name == name)?.instructions?.library as f64);
-    Some(library(files::SIXTEEN_ASKS)? / library(files::ONE_ASK)?)
+    Some(library(file)? / library(other)?)
 }
 
 /// Looks for the worst file, writes it, and says what it takes.

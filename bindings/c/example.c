@@ -1,4 +1,4 @@
-/* Filters one file, or standard input, and prints what factfilter prints, a list for each ask line:
+/* Filters one file, or standard input, and prints what factfilter prints, a list for each ask and also line:
  *
  *     example [FILE]
  *

@@ -73,6 +73,21 @@ int main(void)
         check(answer.kept[index] == 0 && answer.visits[index] == 0 && answer.rounds[index] == 0, "counts past the last");
     }
 
+    text = "ask,0,0\nalso,1\nalso,0\nask,1,0\nfree,p\nfree,q\nop,eq,0,0\nassume,on_p,0,2\nop,eq,1,1\nassume,on_q,0,3\n"
+           "root,0,goal,0\nroot,1,goal,1\n";
+    answer = wimplejade_run((const uint8_t *)text, strlen(text), &slices);
+    check(wimplejade_asks(&answer) == 4, "an ask line, two also lines and an ask line");
+    check(list_is(&answer, 1, 1, 8) && list_is(&answer, 2, 2, 8) && list_is(&answer, 3, 2, 8) && list_is(&answer, 4, 1, 10),
+          "the lists of two chains");
+    struct wimplejade_list stretch = wimplejade_list_at(&answer, slices.result, 2);
+    check(stretch.lines[1] == 10 && stretch.visits == 2 && stretch.rounds == 2, "a stretch");
+    stretch = wimplejade_list_at(&answer, slices.result, 3);
+    check(stretch.lines[1] == 10 && stretch.visits == 0 && stretch.rounds == 1, "a stretch that adds nothing");
+
+    text = "ask,0,0\nhide,p\nalso,0\n";
+    answer = wimplejade_run((const uint8_t *)text, strlen(text), &slices);
+    check(answer.refusal == WIMPLEJADE_FORM && answer.place == 3 && wimplejade_asks(&answer) == 0, "an also line after hide");
+
     text = "ask,0,0\nhide,p\nask,0,0\n";
     answer = wimplejade_run((const uint8_t *)text, strlen(text), &slices);
     check(answer.refusal == WIMPLEJADE_FORM && answer.place == 3 && wimplejade_asks(&answer) == 0, "an ask line after hide");

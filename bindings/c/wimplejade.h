@@ -16,15 +16,15 @@ extern "C" {
 
 /* The version; the archive has to be of the same one. While the first number is 0, a change of the second may change the
  * functions, the answer or the file. */
-#define WIMPLEJADE_VERSION "0.3.0"
+#define WIMPLEJADE_VERSION "0.4.0"
 #define WIMPLEJADE_VERSION_MAJOR 0
-#define WIMPLEJADE_VERSION_MINOR 3
+#define WIMPLEJADE_VERSION_MINOR 4
 #define WIMPLEJADE_VERSION_PATCH 0
 
 /* The words that each working slice must have at least. */
 #define WIMPLEJADE_WORKING_WORDS 16384
 
-/* The ask lines that a file may have. */
+/* The ask and also lines that a file may have, together: so many lists an answer can have. */
 #define WIMPLEJADE_MOST_ASKS 16
 
 /* The record lines that a file may have: so many lines one list can have. */
@@ -38,7 +38,7 @@ extern "C" {
 #define WIMPLEJADE_MOST_BYTES 65535
 
 /* The stack, in bytes, that is enough for every call: 2 MB. A call takes 256 bytes for each level of the deepest term, of which
- * there can be 4,096: `make stack` measures 1,050,080 bytes. */
+ * there can be 4,096: `make stack` measures 1,050,144 bytes. */
 #define WIMPLEJADE_STACK_BYTES (2u << 20)
 
 /* Why a call is refused; the comment says what `place` is then. A line is counted from 1. A line that passes several
@@ -57,11 +57,12 @@ enum wimplejade_refusal {
     WIMPLEJADE_FULL_TERMS = 10,    /* more than 4,096 term lines or 16,384 references in them; the line */
     WIMPLEJADE_FULL_RECORDS = 11,  /* more than 1,024 record lines; the line */
     WIMPLEJADE_FULL_TRIGGERS = 12, /* more than 2,048 trigger entries or 6,144 name uses; the line */
-    WIMPLEJADE_FULL_ASKS = 13      /* more than WIMPLEJADE_MOST_ASKS ask lines; the line */
+    WIMPLEJADE_FULL_ASKS = 13      /* more than WIMPLEJADE_MOST_ASKS ask and also lines; the line */
 };
 
-/* The answer of a call: the counts of each ask line, that of line 1 at index 0. Past the last ask line, and after a refusal,
- * they are 0; the rounds of an ask are 1 at least. */
+/* The answer of a call: the counts of each ask and also line, those of line 1 at index 0. Past the last of these lines, and
+ * after a refusal, they are 0; the rounds of a line are 1 at least. The visits and the rounds of an also line are those of its
+ * own stretch: what the line adds to the one before. */
 struct wimplejade_answer {
     uint32_t refusal; /* one of enum wimplejade_refusal */
     uint32_t place;
@@ -70,11 +71,11 @@ struct wimplejade_answer {
     uint32_t rounds[WIMPLEJADE_MOST_ASKS]; /* the rounds of the run */
 };
 
-/* Filters a file, for all its ask lines.
+/* Filters a file, for all its ask and also lines.
  *
  * A slice is passed as a pointer and the number of its elements: bytes of the file, 32-bit words of the others.
- * `working0` to `working5` are the six working slices. `result` takes the kept line numbers: the list of each ask line, in its
- * order, directly after that of the ask line before.
+ * `working0` to `working5` are the six working slices. `result` takes the kept line numbers: the list of each ask and also
+ * line, in its order, directly after that of the line before.
  *
  * The call always returns, whatever the file holds and however short a slice is. It writes nothing but the slices as
  * said here, allocates nothing, keeps nothing between calls, and reads and writes no file.

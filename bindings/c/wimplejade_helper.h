@@ -1,5 +1,6 @@
-/* What callers of wimplejade.h would each write again, in plain C: the slices in one struct, the list of an ask, a refusal in
- * words, the name on a kept line. Nothing of it is proved, and nothing else needs it: all of it is here, as static functions.
+/* What callers of wimplejade.h would each write again, in plain C: the slices in one struct, the list at a position, a
+ * refusal in words, the name on a kept line. Nothing of it is proved, and nothing else needs it: all of it is here, as static
+ * functions.
  */
 #ifndef WIMPLEJADE_HELPER_H
 #define WIMPLEJADE_HELPER_H
@@ -27,7 +28,7 @@ static inline struct wimplejade_answer wimplejade_run(const uint8_t *file, size_
         slices->result, WIMPLEJADE_MOST_KEPT);
 }
 
-/* How many ask lines were answered: none after a refusal. */
+/* How many ask and also lines were answered: none after a refusal. */
 static inline uint32_t wimplejade_asks(const struct wimplejade_answer *answer)
 {
     uint32_t asks = 0;
@@ -37,7 +38,7 @@ static inline uint32_t wimplejade_asks(const struct wimplejade_answer *answer)
     return asks;
 }
 
-/* What one ask keeps: `kept` line numbers, a part of the result slice, and the counts of its run. */
+/* What one ask or also line keeps: `kept` line numbers, a part of the result slice, and the counts of its run or stretch. */
 struct wimplejade_list {
     const uint32_t *lines;
     uint32_t kept;
@@ -45,8 +46,8 @@ struct wimplejade_list {
     uint32_t rounds;
 };
 
-/* The list of the ask line at a position, which is counted from 1 as lines are: the ask of position 2 stands on line 2.
- * `result` is the start of the call's result slice. Where no ask line is answered at the position, all counts are 0. */
+/* The list of the ask or also line at a position, which is counted from 1 as lines are: position 2 is line 2. `result` is the
+ * start of the call's result slice. Where no line is answered at the position, all counts are 0. */
 static inline struct wimplejade_list wimplejade_list_at(const struct wimplejade_answer *answer, const uint32_t *result,
                                                         uint32_t position)
 {
@@ -80,7 +81,7 @@ static inline const char *wimplejade_words(uint32_t refusal)
     case WIMPLEJADE_FULL_TERMS: return "the file has more than 4,096 term lines or 16,384 references";
     case WIMPLEJADE_FULL_RECORDS: return "the file has more than 1,024 record lines";
     case WIMPLEJADE_FULL_TRIGGERS: return "the file has more than 2,048 trigger entries or 6,144 name uses";
-    case WIMPLEJADE_FULL_ASKS: return "the file has more than 16 ask lines";
+    case WIMPLEJADE_FULL_ASKS: return "the file has more than 16 ask and also lines";
     default: return "a refusal that this header does not know";
     }
 }

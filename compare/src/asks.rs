@@ -15,7 +15,7 @@ fn asking(count: usize) -> Text {
 }
 
 /// Facts of each sort, definitions that lead on, declarations, and roots of three queries.
-fn add_background(text: &mut Text) {
+pub(crate) fn add_background(text: &mut Text) {
     let [p, q, r, s] = ["p", "q", "r", "s"].map(|name| text.free(name));
     let chain = text.all(q, &[vec![p]]);
     text.assume("on_p", 0, chain);

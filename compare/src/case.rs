@@ -6,6 +6,7 @@ use std::io::{self, Write};
 
 use crate::limits;
 use crate::reader;
+use crate::text::{Position, Text};
 use crate::{filter_in, Order, LONG_ENOUGH};
 
 /// A file and the lengths of the slices lent for it.
@@ -58,7 +59,8 @@ const PROBED_BYTES: usize = 5_000;
 
 /// An accepted file once more for each of its names, with a root that has that name alone, and with roots for all names
 /// but that one. This shows each name of each disjunct in the answers. Every ask line asks for these roots, with its own
-/// options; the file's own roots are of other queries.
+/// options, and so does every also line: where one follows an ask line, that asks for a query without roots, so that the
+/// first stretch meets the names. The file's own roots are of other queries.
 ///
 /// There are none for a file with very many names or bytes, or without facts.
 pub fn probes(case: &Case) -> Vec<Case> {
@@ -67,12 +69,20 @@ pub fn probes(case: &Case) -> Vec<Case> {
     }
     let Ok(background) = reader::read(&case.file) else { return Vec::new() };
     let count = background.names.len();
-    let query = (0..=limits::QUERY).rev().find(|query| background.roots.iter().all(|root| root.query != *query));
-    let (Some(query), 1..=PROBED_NAMES, false) = (query, count, background.facts.is_empty()) else {
+    let is_rootless = |query: &u32| background.roots.iter().all(|root| root.query != *query);
+    let mut rootless = (0..=limits::QUERY).rev().filter(is_rootless);
+    let queries = (rootless.next(), rootless.next());
+    let ((Some(query), Some(none)), 1..=PROBED_NAMES, false) = (queries, count, background.facts.is_empty()) else {
         return Vec::new();
     };
-    let asks = background.asks.iter().map(|ask| format!("ask,{query},{}\n", ask.options()));
-    let mut lines = asks.collect::<String>().into_bytes();
+    let asks = &background.asks;
+    let position = |(index, ask): (usize, &reader::Ask)| match asks.get(index + 1) {
+        _ if ask.is_also() => Position::Also(query),
+        Some(next) if next.is_also() => Position::Ask(none, ask.options()),
+        _ => Position::Ask(query, ask.options()),
+    };
+    let positions: Vec<Position> = asks.iter().enumerate().map(position).collect();
+    let mut lines = Text::positions(&positions).finish();
     let rest = case.file.split_inclusive(|&byte| byte == b'\n').skip(background.asks.len());
     rest.for_each(|line| lines.extend_from_slice(line));
 
@@ -153,6 +163,17 @@ mod tests {
         assert!(probes.iter().all(|probe| probe.file.starts_with(b"ask,255,0\nask,255,4\nfree,p\n")));
         let answer = "case,x-with-0\nkept,6,a\nsum,1,2,2\nkept,6,a\nkept,4,p\nsum,2,2,2\nslices,ok\n";
         assert_eq!(probes[0].answer(Order::Source), answer);
+    }
+
+    #[test]
+    fn probes_are_met_in_a_stretch() {
+        let file = b"ask,0,0\nalso,9\nalso,0\nask,1,0\nfree,p\nop,eq,0,0\nassume,a,0,1\nroot,0,r,0\n";
+        let probes = probes(&Case::new("x", file.to_vec()));
+        assert!(probes
+            .iter()
+            .all(|probe| probe.file.starts_with(b"ask,254,0\nalso,255\nalso,255\nask,255,0\nfree,p\n")));
+        let lists = "sum,0,0,1\nkept,7,a\nsum,1,2,2\nkept,7,a\nsum,1,0,1\nkept,7,a\nsum,1,2,2\n";
+        assert_eq!(probes[0].answer(Order::Source), format!("case,x-with-0\n{lists}slices,ok\n"));
     }
 
     #[test]

@@ -5,6 +5,7 @@
 
 use crate::asks;
 use crate::case::Case;
+use crate::chains;
 use crate::limits;
 use crate::several;
 use crate::terms::TermId;
@@ -18,7 +19,7 @@ pub struct Edge {
 }
 
 /// The refusals that say what was full: names; term lines or references; record lines; trigger entries or name uses; ask
-/// lines.
+/// and also lines.
 pub const FULL_NAMES: u32 = 6;
 pub const FULL_TERMS: u32 = 10;
 pub const FULL_RECORDS: u32 = 11;
@@ -53,6 +54,10 @@ pub fn edges() -> Vec<Edge> {
     asks::limits_with_asks(&mut edges);
     asks::rooms(&mut edges);
     asks::runs(&mut edges);
+    chains::counts(&mut edges);
+    chains::lines(&mut edges);
+    chains::limits_and_rooms(&mut edges);
+    chains::stretches(&mut edges);
     edges
 }
 

@@ -23,7 +23,7 @@ pub enum Fault {
     FullRecords = 11,
     /// The trigger entries or the name uses pass theirs.
     FullTriggers = 12,
-    /// The ask lines pass theirs.
+    /// The ask and also lines pass theirs.
     FullAsks = 13,
 }
 

@@ -8,7 +8,7 @@ use crate::limits;
 use crate::random::Random;
 use crate::several;
 use crate::terms::TermId;
-use crate::text::Text;
+use crate::text::{Position, Text};
 use crate::{filter_file, LONG_ENOUGH};
 
 /// Names with a meaning of their own.
@@ -79,9 +79,9 @@ fn options(random: &mut Random) -> u32 {
     (if random.chance(30) { random.within(12..=most) } else { random.within(0..=most) }) as u32
 }
 
-/// Queries and options to ask for: mostly one, often a few that may repeat, now and then as many as there may be or too
-/// many.
-fn asks(random: &mut Random) -> Vec<(u32, u32)> {
+/// Ask and also lines: mostly one, often a few whose queries may repeat, now and then as many as there may be or too many.
+/// Some files have no chains, some have one, some have several of any lengths.
+fn positions(random: &mut Random) -> Vec<Position> {
     let count = match random.below(100) {
         0..=59 => 1,
         60..=86 => random.within(2..=4),
@@ -89,16 +89,29 @@ fn asks(random: &mut Random) -> Vec<(u32, u32)> {
         95..=97 => limits::ASKS,
         _ => random.within(limits::ASKS + 1..=limits::ASKS + 2),
     };
-    let mut asks: Vec<(u32, u32)> = Vec::new();
+    let (also, queries) = (random.pick(&[0, 0, 50, 80, 100]), random.pick(&[3, 8]));
+    let mut positions: Vec<Position> = Vec::new();
     for _ in 0..count {
-        let query = match asks.last() {
-            Some(&(query, _)) if random.chance(40) => query,
-            _ if random.chance(90) => random.below(3) as u32,
+        let query = match positions.last() {
+            Some(position) if random.chance(20) => position.query(),
+            Some(_) if random.chance(10) => random.pick(&positions).query(),
+            _ if random.chance(90) => random.below(queries) as u32,
             _ => random.below(256) as u32,
         };
-        asks.push((query, options(random)));
+        let is_also = !positions.is_empty() && random.chance(also);
+        positions.push(if is_also { Position::Also(query) } else { Position::Ask(query, options(random)) });
     }
-    asks
+    positions
+}
+
+/// An ask or an also line.
+fn position(random: &mut Random) -> Position {
+    let query = random.below(3) as u32;
+    if random.chance(50) {
+        Position::Also(query)
+    } else {
+        Position::Ask(query, options(random))
+    }
 }
 
 /// A well-formed file.
@@ -121,7 +134,7 @@ fn small(random: &mut Random) -> Vec<u8> {
 struct Grower<'r> {
     random: &'r mut Random,
     text: Text,
-    /// The queries that are asked for.
+    /// The queries of the ask and also lines.
     queries: Vec<u32>,
     /// The plain names to draw from.
     pool: Vec<String>,
@@ -131,7 +144,7 @@ struct Grower<'r> {
 
 impl<'r> Grower<'r> {
     fn new(random: &'r mut Random) -> Self {
-        let asks = asks(random);
+        let positions = positions(random);
         let pool: Vec<String> = (0..random.within(1..=60))
             .flat_map(|index| match random.pick(&STEMS) {
                 // A token and the name that it trims to.
@@ -140,8 +153,8 @@ impl<'r> Grower<'r> {
                 stem => vec![format!("{stem}{index}")],
             })
             .collect();
-        let queries = asks.iter().map(|&(query, _)| query).collect();
-        let mut grower = Grower { random, text: Text::asks(&asks), queries, pool, taken: HashSet::new() };
+        let queries = positions.iter().map(|position| position.query()).collect();
+        let mut grower = Grower { random, text: Text::positions(&positions), queries, pool, taken: HashSet::new() };
         if grower.random.chance(40) {
             grower.hides();
         }
@@ -492,9 +505,10 @@ impl<'r> Grower<'r> {
         self.text.root(query, name, term);
     }
 
-    /// Facts of which each brings the next, some by way of a def.
+    /// Facts of which each brings the next, some by way of a def; often by names that nothing else brings.
     fn chain(&mut self) {
-        let start = self.symbol();
+        let own = self.random.chance(40);
+        let start = if own { format!("start{}", self.text.terms()) } else { self.symbol() };
         let mut term = self.named(&start);
         if self.random.chance(60) {
             let query = self.random.pick(&self.queries);
@@ -502,7 +516,11 @@ impl<'r> Grower<'r> {
         }
         let long = self.random.chance(4);
         for step in 0..self.random.within(if long { 20..=200 } else { 1..=8 }) {
-            let symbol = if long { format!("step{step}") } else { self.symbol() };
+            let symbol = match (long, own) {
+                (true, _) => format!("step{step}"),
+                (false, true) => format!("step{}", self.text.terms()),
+                (false, false) => self.symbol(),
+            };
             let next = self.named(&symbol);
             let mut groups = vec![vec![term]];
             if self.random.chance(30) {
@@ -561,10 +579,10 @@ fn damage_bytes(file: &mut Vec<u8>, random: &mut Random) {
 }
 
 /// Words that stand in files, good in some places.
-const WORDS: [&str; 36] = [
-    "ask", "hide", "free", "leaf", "call", "op", "all", "some", "let", "label", "assume", "fun", "def", "retain",
-    "root", "true", "iff", "eq", "and", "other", "xor", "Free", "", "0", "1", "2", "255", "256", "65535", "65536",
-    "00", "01", "-1", "8", "15", "16",
+const WORDS: [&str; 37] = [
+    "ask", "also", "hide", "free", "leaf", "call", "op", "all", "some", "let", "label", "assume", "fun", "def",
+    "retain", "root", "true", "iff", "eq", "and", "other", "xor", "Free", "", "0", "1", "2", "255", "256", "65535",
+    "65536", "00", "01", "-1", "8", "15", "16",
 ];
 
 fn damage_fields(file: &mut Vec<u8>, random: &mut Random) {
@@ -600,7 +618,7 @@ fn damage_fields(file: &mut Vec<u8>, random: &mut Random) {
 }
 
 /// Lines of the head of a file, good ones and bad ones.
-const HEAD_LINES: [&str; 20] = [
+const HEAD_LINES: [&str; 30] = [
     "hide,p",
     "hide,p",
     "hide,f@tok",
@@ -620,30 +638,41 @@ const HEAD_LINES: [&str; 20] = [
     "ask,256,0",
     "ask,0,16",
     "ask,0,0,",
+    "also,0",
+    "also,1",
+    "also,2",
+    "also,255",
+    "also",
+    "also,",
+    "also,256",
+    "also,0,0",
+    "also,00",
+    "Also,0",
     "leaf",
 ];
 
 fn damage_lines(file: &mut Vec<u8>, random: &mut Random) {
     let mut lines: Vec<Vec<u8>> = file.split(|&byte| byte == b'\n').map(<[u8]>::to_vec).collect();
     let (at, other) = (random.below(lines.len()), random.below(lines.len()));
-    let head = lines.iter().take_while(|line| line.starts_with(b"ask") || line.starts_with(b"hide")).count();
+    let is_position = |line: &&Vec<u8>| line.starts_with(b"ask") || line.starts_with(b"also");
+    let head = lines.iter().take_while(|line| is_position(line) || line.starts_with(b"hide")).count();
     let repeats = |line: &&Vec<u8>| [&b"assume"[..], b"fun", b"def"].iter().any(|kind| line.starts_with(kind));
     match random.below(13) {
         0 => {
             lines.remove(at);
         }
         10 => lines[0] = format!("ask,{},{}", random.below(3), random.within(4..=20)).into_bytes(),
-        // As many ask lines as there may be, or one or two more; the last of them may be anything.
+        // As many ask and also lines as there may be, or one or two more; the last of them may be anything.
         11 => {
-            let asks = lines.iter().take_while(|line| line.starts_with(b"ask")).count();
-            for _ in asks..random.within(limits::ASKS - 1..=limits::ASKS + 1) {
-                lines.insert(0, format!("ask,{},{}", random.below(3), options(random)).into_bytes());
+            let positions = lines.iter().take_while(is_position).count();
+            let more = random.within(limits::ASKS - 1..=limits::ASKS + 1).saturating_sub(positions);
+            for _ in 0..more {
+                lines.insert(positions, position(random).to_string().into_bytes());
             }
-            let asks = lines.iter().take_while(|line| line.starts_with(b"ask")).count();
-            lines.insert(asks, random.pick(&HEAD_LINES).as_bytes().to_vec());
+            lines.insert(positions + more, random.pick(&HEAD_LINES).as_bytes().to_vec());
         }
-        // An ask line anywhere.
-        12 => lines.insert(at, format!("ask,{},{}", random.below(3), options(random)).into_bytes()),
+        // An ask or also line anywhere.
+        12 => lines.insert(at, position(random).to_string().into_bytes()),
         1 => lines.insert(other, lines[at].clone()),
         // A line in the head of the file, and one anywhere.
         8 => lines.insert(random.within(0..=head), random.pick(&HEAD_LINES).as_bytes().to_vec()),
@@ -687,8 +716,8 @@ pub fn raw(random: &mut Random) -> Vec<u8> {
 
 /// A file that comes near one limit or two, and then a few lines more.
 pub fn near_a_limit(random: &mut Random) -> Vec<u8> {
-    let asks = if random.chance(70) { vec![(0, options(random))] } else { asks(random) };
-    let mut text = Text::asks(&asks);
+    let positions = if random.chance(70) { vec![Position::Ask(0, options(random))] } else { positions(random) };
+    let mut text = Text::positions(&positions);
     let hides = if random.chance(30) { random.pick(&[1, 2, 500, limits::RECORDS - 2, limits::RECORDS]) } else { 0 };
     for _ in 0..hides {
         text.hide(random.pick(&["p", "t", "t@tok", "Valid", "n1", "z1", "wide"]));
@@ -773,6 +802,7 @@ pub fn near_a_limit(random: &mut Random) -> Vec<u8> {
         "free,z9 ",
         "hide,z9",
         "ask,0,0",
+        "also,0",
     ];
     for _ in 0..random.within(2..=10) {
         text.line(if random.chance(90) { random.pick(&good) } else { random.pick(&bad) });
@@ -830,10 +860,40 @@ mod tests {
     }
 
     #[test]
-    fn every_number_of_asks_is_generated() {
-        let mut random = Random::new(7);
-        let counts: HashSet<usize> = (0..1_000).map(|_| asks(&mut random).len()).collect();
+    fn every_number_of_ask_and_also_lines_is_generated() {
+        let (mut random, mut counts, mut longest) = (Random::new(7), HashSet::new(), HashSet::new());
+        for _ in 0..6_000 {
+            let positions = positions(&mut random);
+            assert!(matches!(positions[0], Position::Ask(..)));
+            counts.insert(positions.len());
+            let chains = positions.split(|position| matches!(position, Position::Ask(..)));
+            longest.insert(chains.map(<[Position]>::len).max().unwrap_or_default());
+        }
         assert_eq!(counts, (1..=limits::ASKS + 2).collect());
+        assert_eq!(longest, (0..=limits::ASKS + 1).collect());
+    }
+
+    /// Stretches of every sort: of a query that is new to its chain or not, with roots or without, that meet names or none,
+    /// of several rounds, that reach a fact.
+    #[test]
+    fn stretches_of_every_sort_are_generated() {
+        let (mut random, mut again, mut rootless, mut idle, mut long, mut reaching) = (Random::new(8), 0, 0, 0, 0, 0);
+        for _ in 0..1_000 {
+            let file = formed(&mut random);
+            let Outcome::Kept(lists) = filter_file(&file) else { continue };
+            let background = crate::reader::read(&file).unwrap_or_default();
+            for (index, ask) in background.asks.iter().enumerate().filter(|(_, ask)| ask.is_also()) {
+                let (own, before) = ask.queries.split_last().unwrap();
+                let list = &lists[index];
+                again += usize::from(before.contains(own));
+                rootless += usize::from(background.roots.iter().all(|root| root.query != *own));
+                idle += usize::from(list.rounds == 1 && !before.contains(own));
+                long += usize::from(list.rounds > 2);
+                reaching += usize::from(list.lines.len() > lists[index - 1].lines.len());
+            }
+        }
+        let counts = [again, rootless, idle, long, reaching];
+        assert!(counts.iter().all(|&count| count > 30), "{counts:?}");
     }
 
     #[test]

@@ -1,12 +1,14 @@
-//! The fact filter of document 01 with Changes 1, 3 and 6 to 8 of document 02, written independently in plain Rust with the
-//! standard collections.
+//! The fact filter of document 01 with Changes 1, 3, 6 to 8 and 11 of document 02, written independently in plain Rust with
+//! the standard collections.
 //!
 //! It reads a file of terms, facts and roots, and keeps for each ask the facts that the roots of its query can touch, with
-//! the definitions and declarations that come with them. [`filter`] is the whole call; [`summaries`] says how each fact is
-//! triggered. Both answer with the refusals of these documents.
+//! the definitions and declarations that come with them; an also line adds the roots of a query to those of the line before.
+//! [`filter`] is the whole call; [`summaries`] says how each fact is triggered. Both answer with the refusals of these
+//! documents.
 
 mod asks;
 pub mod case;
+mod chains;
 pub mod edges;
 pub mod export;
 mod fields;
@@ -42,11 +44,11 @@ pub enum Outcome<'a> {
         number: u32,
         place: u32,
     },
-    /// The list of each ask line, in their sequence.
+    /// The list of each ask and also line, in their sequence.
     Kept(Vec<List<'a>>),
 }
 
-/// What one ask keeps.
+/// What one ask or also line keeps. The counts of an also line are those of its stretch.
 #[derive(Clone, Debug, PartialEq, Eq)]
 pub struct List<'a> {
     /// The kept lines in order.
@@ -142,12 +144,11 @@ pub fn filter_in(order: Order, file: &[u8], works: [usize; 6], room: usize) -> O
         Ok(background) => background,
         Err(refusal) => return refusal.into(),
     };
-    let list = |ask: &reader::Ask| {
-        let kept = prune::prune(&background, ask, order);
+    let list = |kept: prune::Kept| {
         let (lines, names) = kept.records.iter().map(|&(line, name)| (line, background.names.bytes(name))).unzip();
         List { lines, names, visits: kept.visits, rounds: kept.rounds }
     };
-    let lists: Vec<List> = background.asks.iter().map(list).collect();
+    let lists: Vec<List> = prune::prune(&background, order).into_iter().map(list).collect();
     let kept: usize = lists.iter().map(|list| list.lines.len()).sum();
     if kept > room {
         return Outcome::Refused { number: 8, place: kept as u32 };

@@ -6,7 +6,7 @@ pub const BYTES: usize = 65_535;
 pub const NAMES: usize = 2_048;
 /// Bytes of a name.
 pub const NAME_BYTES: usize = 255;
-/// Ask lines.
+/// Ask and also lines together.
 pub const ASKS: usize = 16;
 /// Term lines.
 pub const TERMS: usize = 4_096;

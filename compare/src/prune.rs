@@ -19,35 +19,50 @@ const BOX_MACROS: [(&[u8], &[u8]); 5] = [
 /// Lines with their names, in order.
 type Records = Vec<(u32, NameId)>;
 
-/// What an ask keeps, and the counts of its run.
+/// What a position keeps, and the counts of its run or, on an also line, of its stretch.
 pub struct Kept {
     pub records: Records,
     pub visits: u32,
     pub rounds: u32,
 }
 
-/// The answer to an ask over a file.
-pub fn prune(background: &Background, ask: &Ask, order: Order) -> Kept {
+/// The answer to each ask and also line of a file, in their sequence.
+pub fn prune(background: &Background, order: Order) -> Vec<Kept> {
+    let mut chain = None;
+    let mut answers = Vec::new();
+    for ask in &background.asks {
+        let before = chain.take().filter(|_| ask.is_also());
+        let scan = chain.insert(before.unwrap_or_else(|| Scan::new(background, ask.pretyping_axioms)));
+        scan.stretch(ask);
+        let records = records(background, ask, &scan.reached, order);
+        answers.push(Kept { records, visits: scan.visits, rounds: scan.rounds });
+    }
+    answers
+}
+
+/// The free names of the roots of some queries, by line.
+fn roots_of<'b>(background: &'b Background, queries: &'b [u32]) -> impl Iterator<Item = &'b NameSet> {
+    background.roots.iter().filter(|root| queries.contains(&root.query)).map(|root| &root.free)
+}
+
+/// Whether a fact is ambient and counts for an ask.
+fn is_ambient(ask: &Ask, fact: &Fact) -> bool {
+    !ask.no_ambients && matches!(fact.kind, Kind::Ambient { .. })
+}
+
+/// What is kept where these facts are reached.
+fn records(background: &Background, ask: &Ask, reached: &HashSet<usize>, order: Order) -> Records {
     let Background { names, facts, .. } = background;
-    let roots: Vec<&NameSet> =
-        background.roots.iter().filter(|root| root.query == ask.query).map(|root| &root.free).collect();
-    let ambient = |fact: &&Fact| !ask.no_ambients && matches!(fact.kind, Kind::Ambient { .. });
-    let extra_roots =
-        facts.iter().filter(ambient).filter(|fact| fact.kind == Kind::Ambient { root: true }).map(|fact| &fact.free);
-
-    let mut scan = Scan::new(background, ask.pretyping_axioms);
-    scan.run(roots.iter().copied().chain(extra_roots).collect());
-
-    let mut kept: Vec<&Fact> = scan.reached.iter().map(|&fact| &facts[fact]).collect();
+    let mut kept: Vec<&Fact> = reached.iter().map(|&fact| &facts[fact]).collect();
     kept.sort_unstable_by_key(|fact| names.bytes(fact.name));
-    kept.extend(facts.iter().rev().filter(ambient));
+    kept.extend(facts.iter().rev().filter(|fact| is_ambient(ask, fact)));
 
     let mut records: Records = kept.iter().map(|fact| (fact.line, fact.name)).collect();
     if ask.prune_decls {
-        let free = kept.iter().map(|fact| &fact.free).chain(roots);
+        let free = kept.iter().map(|fact| &fact.free).chain(roots_of(background, &ask.queries));
         records.extend(declarations(background, free, ask.follow_bodies, order));
     }
-    Kept { records, visits: scan.visits, rounds: scan.rounds }
+    records
 }
 
 /// The defs and then the funs named in some sets; if bodies are followed, at the end of each of the two those that the
@@ -116,7 +131,7 @@ struct Entry {
     disjunct: usize,
 }
 
-/// The state of the rounds of one ask.
+/// The state of the rounds of one chain: an ask line and its also lines.
 struct Scan<'b> {
     background: &'b Background<'b>,
     /// Whether pretyping facts are retainable.
@@ -131,6 +146,7 @@ struct Scan<'b> {
     satisfied: Vec<bool>,
     met: NameSet,
     reached: HashSet<usize>,
+    /// The counts of the last stretch.
     visits: u32,
     rounds: u32,
 }
@@ -169,6 +185,18 @@ impl<'b> Scan<'b> {
             scan.missing.push(missing);
         }
         scan
+    }
+
+    /// Goes on with the roots of a position's own query; an ask line has the ambient roots as well.
+    fn stretch(&mut self, ask: &'b Ask) {
+        (self.visits, self.rounds) = (0, 0);
+        let own = &ask.queries[ask.queries.len() - 1..];
+        let mut scanned: Vec<&NameSet> = roots_of(self.background, own).collect();
+        if !ask.is_also() {
+            let ambients = self.background.facts.iter().filter(|fact| is_ambient(ask, fact));
+            scanned.extend(ambients.filter(|fact| fact.kind == Kind::Ambient { root: true }).map(|fact| &fact.free));
+        }
+        self.run(scanned);
     }
 
     /// Scans round by round until one triggers nothing.

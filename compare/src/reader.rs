@@ -24,9 +24,11 @@ pub struct Declaration {
     pub is_fun: bool,
 }
 
-/// An `ask` line.
+/// A position: an `ask` line, or an `also` line with the options of its ask.
+#[derive(Clone)]
 pub struct Ask {
-    pub query: u32,
+    /// The queries of its chain so far, its own last. An ask line has one, an also line more.
+    pub queries: Vec<u32>,
     pub no_ambients: bool,
     pub pretyping_axioms: bool,
     pub prune_decls: bool,
@@ -36,7 +38,20 @@ pub struct Ask {
 impl Ask {
     fn new(query: u32, options: u32) -> Self {
         let on = |option: u32| options & option != 0;
-        Ask { query, no_ambients: on(1), pretyping_axioms: on(2), prune_decls: on(4), follow_bodies: on(8) }
+        let queries = vec![query];
+        Ask { queries, no_ambients: on(1), pretyping_axioms: on(2), prune_decls: on(4), follow_bodies: on(8) }
+    }
+
+    /// The position that goes on from this one with a query.
+    fn also(&self, query: u32) -> Self {
+        let mut also = self.clone();
+        also.queries.push(query);
+        also
+    }
+
+    /// Whether it goes on from the position before.
+    pub fn is_also(&self) -> bool {
+        self.queries.len() > 1
     }
 
     /// The options number.
@@ -55,7 +70,7 @@ pub struct Root {
 /// What an accepted file says.
 #[derive(Default)]
 pub struct Background<'a> {
-    /// At least one, in the order of their lines.
+    /// The ask and also lines in their order, the first an ask line.
     pub asks: Vec<Ask>,
     pub names: Names<'a>,
     pub terms: Terms,
@@ -102,6 +117,7 @@ enum Before {
     /// There is no line before.
     #[default]
     Nothing,
+    /// An ask or also line.
     Ask,
     Hide,
     Other,
@@ -124,6 +140,7 @@ impl<'a> Reader<'a> {
         let kind = fields.field()?;
         let (now, may_stand) = match kind {
             b"ask" => (Before::Ask, matches!(self.before, Before::Nothing | Before::Ask)),
+            b"also" => (Before::Ask, self.before == Before::Ask),
             b"hide" => (Before::Hide, matches!(self.before, Before::Ask | Before::Hide)),
             _ => (Before::Other, self.before != Before::Nothing),
         };
@@ -133,6 +150,7 @@ impl<'a> Reader<'a> {
         self.before = now;
         match kind {
             b"ask" => self.ask(fields),
+            b"also" => self.also(fields),
             b"hide" => self.hide(fields),
             b"free" | b"leaf" | b"call" | b"op" | b"all" | b"some" | b"let" | b"label" => {
                 let term = self.term(kind, fields)?;
@@ -147,14 +165,28 @@ impl<'a> Reader<'a> {
         }
     }
 
-    /// One ask line too many is found before its fields are looked at.
     fn ask(&mut self, mut fields: Fields<'a>) -> Result<(), Fault> {
-        within(self.background.asks.len() + 1, limits::ASKS, Fault::FullAsks)?;
+        self.one_position_more()?;
         fields.exactly(2)?;
         let query = fields.number(limits::QUERY)?;
         let options = fields.number(limits::OPTIONS)?;
         self.background.asks.push(Ask::new(query, options));
         Ok(())
+    }
+
+    /// Goes on from the line before, which is an ask or also line.
+    fn also(&mut self, mut fields: Fields<'a>) -> Result<(), Fault> {
+        self.one_position_more()?;
+        fields.exactly(1)?;
+        let query = fields.number(limits::QUERY)?;
+        let position = self.background.asks.last().ok_or(Fault::Form)?.also(query);
+        self.background.asks.push(position);
+        Ok(())
+    }
+
+    /// One ask or also line too many is found before its fields are looked at.
+    fn one_position_more(&self) -> Result<(), Fault> {
+        within(self.background.asks.len() + 1, limits::ASKS, Fault::FullAsks)
     }
 
     /// A record line that hides its name and does not take it.

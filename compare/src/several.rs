@@ -6,7 +6,7 @@ use crate::edges::{self, Edge, FULL_NAMES, FULL_RECORDS, FULL_TERMS, FULL_TRIGGE
 use crate::limits;
 use crate::random::Random;
 use crate::terms::TermId;
-use crate::text::Text;
+use crate::text::{Position, Text};
 
 /// What a file can be full of.
 #[derive(Clone, Copy, Debug, PartialEq, Eq)]
@@ -45,9 +45,11 @@ struct Filled {
 }
 
 impl Filled {
-    /// The start of a file, with so many ask and hide lines.
+    /// The start of a file, with so many ask and also lines in turn and so many hide lines.
     fn new(asks: usize, hides: usize) -> Self {
-        let mut text = Text::asks(&vec![(0, 0); asks]);
+        let in_turn = [Position::Ask(0, 0), Position::Also(1)];
+        let positions: Vec<Position> = in_turn.into_iter().cycle().take(asks).collect();
+        let mut text = Text::positions(&positions);
         (0..hides).for_each(|_| text.hide("known"));
         let leaf = text.leaf();
         let name = text.free("p");
@@ -100,7 +102,7 @@ impl Filled {
     }
 }
 
-/// A file that has so many ask and hide lines and so many left of each of these limits.
+/// A file that has so many ask and also lines, so many hide lines and so many left of each of these limits.
 fn filled(asks: usize, hides: usize, left: &[(Limit, usize)]) -> Text {
     let mut filled = Filled::new(asks, hides);
     // In this order none takes of what was filled before it.

@@ -1,8 +1,36 @@
 //! Writing files line by line.
 
-use std::fmt::Display;
+use std::fmt::{self, Display};
 
 pub use crate::terms::TermId;
+
+/// A line that is answered by a list.
+#[derive(Clone, Copy, Debug, PartialEq, Eq)]
+pub enum Position {
+    /// An ask line: its query and its options number.
+    Ask(u32, u32),
+    /// An also line: its query.
+    Also(u32),
+}
+
+impl Position {
+    /// Its query.
+    pub fn query(self) -> u32 {
+        match self {
+            Position::Ask(query, _) | Position::Also(query) => query,
+        }
+    }
+}
+
+/// The line without its final 0A.
+impl Display for Position {
+    fn fmt(&self, out: &mut fmt::Formatter) -> fmt::Result {
+        match self {
+            Position::Ask(query, options) => write!(out, "ask,{query},{options}"),
+            Position::Also(query) => write!(out, "also,{query}"),
+        }
+    }
+}
 
 /// A file under construction, which counts its term lines.
 #[derive(Clone, Default)]
@@ -19,9 +47,24 @@ impl Text {
 
     /// A file with its ask lines, each a query and an options number.
     pub fn asks(asks: &[(u32, u32)]) -> Self {
+        let asks: Vec<Position> = asks.iter().map(|&(query, options)| Position::Ask(query, options)).collect();
+        Text::positions(&asks)
+    }
+
+    /// A file with its ask and also lines.
+    pub fn positions(positions: &[Position]) -> Self {
         let mut text = Text::default();
-        for (query, options) in asks {
-            text.line(format!("ask,{query},{options}"));
+        for position in positions {
+            text.line(position.to_string());
+        }
+        text
+    }
+
+    /// A file with a chain: an ask line and also lines of these queries.
+    pub fn chain(query: u32, options: u32, also: &[u32]) -> Self {
+        let mut text = Text::ask(query, options);
+        for &query in also {
+            text.line(Position::Also(query).to_string());
         }
         text
     }

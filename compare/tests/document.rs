@@ -1,4 +1,4 @@
-//! The examples and edges of document 01, and of Changes 1, 6, 7 and 8 of document 02.
+//! The examples and edges of document 01, and of Changes 1, 6 to 8 and 11 of document 02.
 
 use compare::{filter, filter_file, filter_in, limits, summaries, Order, Outcome, Refusal, Trigger, LONG_ENOUGH};
 
@@ -150,6 +150,39 @@ fn several_ask_lines() {
     let file = format!("ask,1,0\nask,7,0\nask,0,0\n{rest}");
     assert_eq!(filter(file.as_bytes(), LONG_ENOUGH, 1), refused(8, 2));
     assert_eq!(filter(file.as_bytes(), LONG_ENOUGH, 2).lines(), [9, 7]);
+}
+
+#[test]
+fn also_lines() {
+    let rest = "free,p\nfree,q\nop,eq,0,0\nassume,a,0,2\nop,eq,1,1\nassume,b,0,3\nroot,0,r,0\nroot,1,r,1\n";
+    let answer = |head: &str| filter_file(format!("{head}{rest}").as_bytes()).to_string();
+    let both = "kept,6,a\nkept,8,b\n";
+    assert_eq!(answer("ask,1,0\nalso,0\n"), format!("kept,8,b\nsum,1,2,2\n{both}sum,2,2,2\n"));
+    assert_eq!(answer("ask,1,0\nalso,1\n"), "kept,8,b\nsum,1,2,2\nkept,8,b\nsum,1,0,1\n");
+    // An ask line starts anew.
+    assert_eq!(answer("ask,9,0\nalso,1\nask,0,0\n"), "sum,0,0,1\nkept,9,b\nsum,1,2,2\nkept,7,a\nsum,1,2,2\n");
+    // With the ask lines there are sixteen.
+    let sixteen = format!("ask,0,0\n{}", "also,0\n".repeat(15));
+    assert_eq!(answer(&sixteen), format!("kept,20,a\nsum,1,2,2\n{}", "kept,20,a\nsum,1,0,1\n".repeat(15)));
+    for line in ["also,0", "also", "also,", "also,0,0", "also,256", "ask,0,0", "ask"] {
+        assert_eq!(answer(&format!("{sixteen}{line}\n")), "refused,13,17\n");
+        assert_eq!(answer(&format!("{}{line}\n", "ask,0,0\n".repeat(16))), "refused,13,17\n");
+        assert_eq!(answer(&format!("{sixteen}hide,p\n{line}\n")), "refused,1,18\n");
+    }
+    assert_eq!(filter_file(format!("{sixteen}also,0").as_bytes()), refused(1, 17));
+    for (line, number) in [("also", 1), ("also,0,0", 1), ("also,0,", 1), ("also,", 3), ("also,256", 3), ("also,00", 3)]
+    {
+        assert_eq!(answer(&format!("ask,0,0\n{line}\n")), format!("refused,{number},2\n"));
+        // They follow ask and also lines only.
+        assert_eq!(answer(&format!("{line}\n")), "refused,1,1\n");
+        for before in ["hide,p", "leaf", "retain"] {
+            assert_eq!(answer(&format!("ask,0,0\n{before}\n{line}\n")), "refused,1,3\n");
+        }
+    }
+    // The result slice holds all lists.
+    let file = format!("ask,1,0\nalso,0\nalso,7\n{rest}");
+    assert_eq!(filter(file.as_bytes(), LONG_ENOUGH, 4), refused(8, 5));
+    assert_eq!(filter(file.as_bytes(), LONG_ENOUGH, 5).lines(), [9, 7, 9, 7, 9]);
 }
 
 #[test]

@@ -3,6 +3,7 @@
 use std::collections::BTreeSet;
 
 use compare::random::Random;
+use compare::text::Position;
 use compare::{filter, filter_file, generate, limits, summaries, Outcome, Trigger, LONG_ENOUGH};
 
 type Line = Vec<u8>;
@@ -33,9 +34,14 @@ fn is_term(line: &[u8]) -> bool {
     ["free", "leaf", "call", "op", "all", "some", "let", "label"].contains(&kind(line).as_str())
 }
 
-/// Whether a line is an ask or a hide line.
+/// Whether a line is an ask or also line.
+fn is_position(line: &[u8]) -> bool {
+    ["ask", "also"].contains(&kind(line).as_str())
+}
+
+/// Whether a line is an ask, also or hide line.
 fn is_head(line: &[u8]) -> bool {
-    ["ask", "hide"].contains(&kind(line).as_str())
+    is_position(line) || kind(line) == "hide"
 }
 
 /// The names of the hide lines.
@@ -47,8 +53,8 @@ fn hidden(file: &[u8]) -> Vec<String> {
 fn with_hidden(file: &[u8], names: &[String]) -> Vec<u8> {
     let mut lines = lines(file);
     lines.retain(|line| kind(line) != "hide");
-    let asks = lines.iter().take_while(|line| kind(line) == "ask").count();
-    lines.splice(asks..asks, names.iter().map(|name| line(&["hide".to_owned(), name.clone()])));
+    let positions = lines.iter().take_while(|line| is_position(line)).count();
+    lines.splice(positions..positions, names.iter().map(|name| line(&["hide".to_owned(), name.clone()])));
     lines.concat()
 }
 
@@ -57,23 +63,49 @@ fn each_line(file: &[u8], mut change: impl FnMut(usize, &Line) -> Line) -> Vec<u
     lines(file).iter().enumerate().flat_map(|(index, line)| change(index + 1, line)).collect()
 }
 
-/// The query and the options of each ask line.
-fn asked(file: &[u8]) -> Vec<(u32, u32)> {
-    let asks = lines(file).into_iter().map(|line| fields(&line)).take_while(|line| line[0] == "ask");
-    asks.map(|ask| (ask[1].parse().unwrap(), ask[2].parse().unwrap())).collect()
+/// The ask and also lines of a file.
+fn positions(file: &[u8]) -> Vec<Position> {
+    let number = |field: &String| field.parse().unwrap();
+    let position = |fields: Vec<String>| match fields[0].as_str() {
+        "ask" => Position::Ask(number(&fields[1]), number(&fields[2])),
+        _ => Position::Also(number(&fields[1])),
+    };
+    lines(file).iter().take_while(|line| is_position(line)).map(|line| position(fields(line))).collect()
 }
 
-/// A file with other ask lines.
-fn with_asks(file: &[u8], asks: &[(u32, u32)]) -> Vec<u8> {
-    let lines = lines(file);
-    let rest = lines.iter().skip_while(|line| kind(line) == "ask");
-    let asks = asks.iter().map(|(query, options)| format!("ask,{query},{options}\n").into_bytes());
-    asks.chain(rest.cloned()).collect::<Vec<Line>>().concat()
+/// A file with other ask and also lines.
+fn with_positions(file: &[u8], positions: &[Position]) -> Vec<u8> {
+    let rest = lines(file).into_iter().skip_while(|line| is_position(line));
+    let positions = positions.iter().map(|position| format!("{position}\n").into_bytes());
+    positions.chain(rest).collect::<Vec<Line>>().concat()
+}
+
+/// A chain: an ask line and the also lines after it.
+type Chain = Vec<Position>;
+
+/// The chains of a file.
+fn chains(file: &[u8]) -> Vec<Chain> {
+    let mut chains: Vec<Chain> = Vec::new();
+    for position in positions(file) {
+        match (position, chains.last_mut()) {
+            (Position::Also(_), Some(chain)) => chain.push(position),
+            _ => chains.push(vec![position]),
+        }
+    }
+    chains
+}
+
+/// The query and the options of the first line.
+fn first_ask(file: &[u8]) -> (u32, u32) {
+    match positions(file)[0] {
+        Position::Ask(query, options) => (query, options),
+        Position::Also(_) => unreachable!("the first line is an ask line"),
+    }
 }
 
 /// A file with one ask line, that of its first query with other options.
 fn with_options(file: &[u8], options: u32) -> Vec<u8> {
-    with_asks(file, &[(asked(file)[0].0, options)])
+    with_positions(file, &[Position::Ask(first_ask(file).0, options)])
 }
 
 /// A list as it is kept, with its counts.
@@ -116,9 +148,9 @@ fn accepted(seed: u64, count: usize) -> Vec<Vec<u8>> {
     (0..count).map(|_| generate::formed(&mut random)).filter(|file| lists(file).is_some()).collect()
 }
 
-/// The same with the first of their ask lines alone.
+/// The same with their first line alone of the ask and also lines.
 fn accepted_with_one_ask(seed: u64, count: usize) -> Vec<Vec<u8>> {
-    accepted(seed, count).iter().map(|file| with_asks(file, &asked(file)[..1])).collect()
+    accepted(seed, count).iter().map(|file| with_positions(file, &positions(file)[..1])).collect()
 }
 
 /// The lines of the ambient facts.
@@ -186,7 +218,7 @@ fn the_result_slice_holds_the_lists() {
 fn root_lines_of_other_queries_do_not_matter() {
     let (mut random, mut changed) = (Random::new(23), 0);
     for file in accepted(23, 400) {
-        let asked: Vec<u32> = asked(&file).iter().map(|&(query, _)| query).collect();
+        let asked: Vec<u32> = positions(&file).iter().map(|position| position.query()).collect();
         let others: Vec<u32> = (0..=255).filter(|query| !asked.contains(query)).collect();
         let mut terms = 0;
         let other = each_line(&file, |_, old| {
@@ -367,16 +399,20 @@ fn hidden_names_stand_in_no_summary() {
     assert!(shown > 500 && tokens > 5, "{shown} {tokens}");
 }
 
-/// Change 7: each answer is what the file with only that ask line gives, apart from the line numbers.
+/// Changes 7 and 11: the answers to the lines of a chain are what the file with only this chain gives, apart from the line
+/// numbers.
 #[test]
-fn each_answer_is_that_of_its_ask_line_alone() {
+fn each_answer_is_that_of_its_chain_alone() {
     let (mut several, mut different) = (0, 0);
     for file in accepted(33, 500) {
-        let (asks, lists) = (asked(&file), lists(&file).unwrap());
-        assert_eq!(lists.len(), asks.len());
-        for (ask, list) in asks.iter().zip(&lists) {
-            let alone = self::lists(&with_asks(&file, &[*ask])).expect("an ask line refuses no file");
-            assert_eq!(moved(alone, asks.len() as isize - 1), std::slice::from_ref(list));
+        let (lines, lists) = (positions(&file).len(), lists(&file).unwrap());
+        assert_eq!(lists.len(), lines);
+        let mut rest = &lists[..];
+        for chain in chains(&file) {
+            let alone = self::lists(&with_positions(&file, &chain)).expect("an ask line refuses no file");
+            let (own, after) = rest.split_at(chain.len());
+            assert_eq!(moved(alone, (lines - chain.len()) as isize), own);
+            rest = after;
         }
         several += usize::from(lists.len() > 1);
         different += usize::from(lists.windows(2).any(|pair| pair[0] != pair[1]));
@@ -384,47 +420,137 @@ fn each_answer_is_that_of_its_ask_line_alone() {
     assert!(several > 120 && different > 80, "{several} {different}");
 }
 
-/// Change 7: the answers stand in the sequence of the ask lines, which may repeat.
+/// Changes 7 and 11: the answers stand in the sequence of the chains, which may repeat, and what comes after a line of a
+/// chain does not matter to it.
 #[test]
-fn the_answers_follow_the_sequence_of_the_ask_lines() {
+fn the_answers_follow_the_sequence_of_the_ask_and_also_lines() {
     let mut random = Random::new(34);
     for file in accepted(34, 200) {
-        let (asks, lists) = (asked(&file), lists(&file).unwrap());
-        let picked: Vec<usize> = (0..random.within(1..=limits::ASKS)).map(|_| random.below(asks.len())).collect();
-        let other = with_asks(&file, &picked.iter().map(|&index| asks[index]).collect::<Vec<_>>());
-        if other.len() > limits::BYTES {
-            continue;
+        let (chains, lists) = (chains(&file), lists(&file).unwrap());
+        let starts: Vec<usize> = (0..chains.len()).map(|index| chains[..index].concat().len()).collect();
+        let (mut picked, mut expected) = (Vec::new(), Vec::new());
+        for _ in 0..random.within(1..=limits::ASKS) {
+            let index = random.below(chains.len());
+            let length = random.within(1..=chains[index].len());
+            if picked.len() + length <= limits::ASKS {
+                picked.extend_from_slice(&chains[index][..length]);
+                expected.extend_from_slice(&lists[starts[index]..starts[index] + length]);
+            }
         }
-        let by = picked.len() as isize - asks.len() as isize;
-        let expected = picked.iter().map(|&index| lists[index].clone()).collect();
-        assert_eq!(self::lists(&other), Some(moved(expected, by)));
+        let other = with_positions(&file, &picked);
+        if !picked.is_empty() && other.len() <= limits::BYTES {
+            let by = picked.len() as isize - lists.len() as isize;
+            assert_eq!(self::lists(&other), Some(moved(expected, by)));
+        }
     }
 }
 
-/// Change 7: an ask line elsewhere is 1, whatever its fields are; among the ask lines it is one more, and the seventeenth
-/// is 13, whatever its fields are, unless it does not end with 0A.
+/// Change 11: the list of an also line is that of a fresh run over all roots of its chain so far, by line; the visits so far
+/// sum to those of that run, and a stretch has a round at least.
 #[test]
-fn an_ask_line_elsewhere_is_1_and_the_seventeenth_is_13() {
-    let (mut random, mut elsewhere, mut seventeenth) = (Random::new(35), 0, 0);
-    for file in accepted(35, 600) {
-        let mut lines = lines(&file);
-        let asks = asked(&file).len();
-        if asks < limits::ASKS && random.chance(40) {
-            let more = vec![b"ask,1,4\n".to_vec(); limits::ASKS - asks];
-            lines.splice(0..0, more);
+fn an_also_line_is_answered_as_a_fresh_run_over_all_roots() {
+    let (mut stretches, mut other_rounds) = (0, 0);
+    for file in accepted(37, 900) {
+        let (lines, lists) = (positions(&file).len(), lists(&file).unwrap());
+        let mut counted = lists.iter();
+        for chain in chains(&file) {
+            let Position::Ask(first, options) = chain[0] else { unreachable!() };
+            let mut visits = 0;
+            for (index, list) in (0..chain.len()).zip(&mut counted) {
+                // One ask line, whose query has the roots of all queries so far.
+                let queries: Vec<u32> = chain[..=index].iter().map(|position| position.query()).collect();
+                let joined = each_line(&with_positions(&file, &[Position::Ask(first, options)]), |_, old| {
+                    let mut fields = fields(old);
+                    if fields[0] == "root" && queries.contains(&fields[1].parse().unwrap()) {
+                        fields[1] = first.to_string();
+                    }
+                    line(&fields)
+                });
+                let fresh = self::list(&joined).expect("a query's number refuses no file");
+                let fresh = moved(vec![fresh], lines as isize - 1).remove(0);
+                visits += list.visits;
+                assert_eq!((&list.lines, &list.names, visits), (&fresh.lines, &fresh.names, fresh.visits));
+                assert!(list.rounds >= 1);
+                stretches += usize::from(index > 0 && list.visits > 0);
+                other_rounds += usize::from(index > 0 && list.visits > 0 && list.rounds != fresh.rounds);
+            }
         }
-        let asks = lines.iter().take_while(|line| kind(line) == "ask").count();
-        let at = if random.chance(50) { asks } else { random.within(0..=lines.len()) };
-        let (line, number) =
-            random.pick(&[("ask,0,0", 0), ("ask", 1), ("ask,0", 1), ("ask,256,0", 3), ("ask,0,16", 3)]);
+    }
+    assert!(stretches > 60 && other_rounds > 20, "{stretches} {other_rounds}");
+}
+
+/// Change 11: an also line of a query that its chain has, or that has no root, adds nothing: no visit, one round, the list
+/// again.
+#[test]
+fn an_also_line_that_adds_no_roots_gives_the_list_again() {
+    let (mut random, mut again) = (Random::new(38), 0);
+    for file in accepted(38, 400) {
+        let mut positions = positions(&file);
+        if positions.len() == limits::ASKS {
+            continue;
+        }
+        let at = random.within(1..=positions.len());
+        let start = (0..at).rev().find(|&index| matches!(positions[index], Position::Ask(..))).unwrap();
+        let roots: BTreeSet<String> = lines(&file)
+            .iter()
+            .map(|line| fields(line))
+            .filter(|line| line[0] == "root")
+            .map(|line| line[1].clone())
+            .collect();
+        let rootless = (0..=255).rev().find(|query: &u32| !roots.contains(&query.to_string())).unwrap();
+        let query = if random.chance(50) { rootless } else { positions[random.within(start..=at - 1)].query() };
+        positions.insert(at, Position::Also(query));
+        let other = with_positions(&file, &positions);
+        if other.len() > limits::BYTES {
+            continue;
+        }
+        let mut expected = moved(lists(&file).unwrap(), 1);
+        expected.insert(at, List { visits: 0, rounds: 1, ..expected[at - 1].clone() });
+        assert_eq!(lists(&other), Some(expected));
+        again += 1;
+    }
+    assert!(again > 200, "{again}");
+}
+
+/// Changes 7 and 11: an ask or also line elsewhere is 1, whatever its fields are; among them it is one more, and the
+/// seventeenth is 13, whatever its fields are, unless it does not end with 0A. An also line is never the first.
+#[test]
+fn an_ask_or_also_line_elsewhere_is_1_and_the_seventeenth_is_13() {
+    let (mut random, mut elsewhere, mut seventeenth, mut first) = (Random::new(35), 0, 0, 0);
+    for file in accepted(35, 900) {
+        let mut lines = lines(&file);
+        let asks = positions(&file).len();
+        if asks < limits::ASKS && random.chance(40) {
+            let more = vec![random.pick(&["ask,1,4\n", "also,1\n"]).as_bytes().to_vec(); limits::ASKS - asks];
+            lines.splice(1..1, more);
+        }
+        let asks = lines.iter().take_while(|line| is_position(line)).count();
+        let at = match random.below(10) {
+            0..=4 => asks,
+            5 => 0,
+            _ => random.within(0..=lines.len()),
+        };
+        let (line, number) = random.pick(&[
+            ("ask,0,0", 0),
+            ("ask", 1),
+            ("ask,0", 1),
+            ("ask,256,0", 3),
+            ("ask,0,16", 3),
+            ("also,0", 0),
+            ("also", 1),
+            ("also,0,0", 1),
+            ("also,256", 3),
+            ("also,", 3),
+        ]);
         lines.insert(at, format!("{line}\n").into_bytes());
         let whole = lines.concat();
         if whole.len() > limits::BYTES {
             continue;
         }
         let refused = |number: u32, place: usize| Outcome::Refused { number, place: place as u32 };
-        if at > asks {
+        if at > asks || (at == 0 && line.starts_with("also")) {
             elsewhere += 1;
+            first += usize::from(at == 0);
             assert_eq!(filter_file(&whole), refused(1, at + 1));
         } else if number == 0 && asks < limits::ASKS {
             assert_eq!(filter_file(&whole).lists().len(), asks + 1);
@@ -437,22 +563,25 @@ fn an_ask_line_elsewhere_is_1_and_the_seventeenth_is_13() {
             assert_eq!(filter_file(&whole), refused(number, at + 1));
         }
     }
-    assert!(elsewhere > 60 && seventeenth > 60, "{elsewhere} {seventeenth}");
+    assert!(elsewhere > 60 && seventeenth > 60 && first > 10, "{elsewhere} {seventeenth} {first}");
 }
 
-/// Change 7: a refusal refuses the whole call: what a line is refused for does not depend on how many ask lines stand above.
+/// Changes 7 and 11: a refusal refuses the whole call: what a line is refused for does not depend on how many ask and also
+/// lines stand above.
 #[test]
 fn a_refusal_does_not_depend_on_the_ask_lines() {
     let (mut random, mut refused) = (Random::new(36), 0);
     for case in generate::cases(36, 1_500) {
         let Outcome::Refused { number, place } = filter_file(&case.file) else { continue };
-        let before = lines(&case.file).iter().take_while(|line| kind(line) == "ask").count();
-        // A line after the ask lines, of which there are some.
+        let lines = lines(&case.file);
+        let before = lines.iter().take_while(|line| is_position(line)).count();
+        // A line after the ask and also lines, of which there are some.
         if before == 0 || place as usize <= before {
             continue;
         }
         let more = random.below(limits::ASKS + 1 - before);
-        let file = ["ask,3,6\n".repeat(more).as_bytes(), &case.file].concat();
+        let line = random.pick(&["ask,3,6\n", "also,3\n"]);
+        let file = [&lines[0], line.repeat(more).as_bytes(), &lines[1..].concat()].concat();
         if file.len() <= limits::BYTES {
             refused += 1;
             assert_eq!(filter_file(&file), Outcome::Refused { number, place: place + more as u32 }, "{}", case.name);
@@ -499,7 +628,7 @@ fn bodies_of_kept_definitions_are_followed() {
     let (mut grown, mut deep) = (0, 0);
     for file in accepted_with_one_ask(32, 900) {
         let of = |options: u32| list(&with_options(&file, options)).expect("options do not refuse a file");
-        let others = asked(&file)[0].1 & 3;
+        let others = first_ask(&file).1 & 3;
         assert_eq!(of(others + 8), of(others));
         let (stopped, followed) = (of(others + 4), of(others + 12));
         assert_eq!((stopped.visits, stopped.rounds), (followed.visits, followed.rounds));

@@ -110,9 +110,23 @@ mod tests {
         answer.kept.iter().sum::<u32>() as usize
     }
 
-    /// How many ask lines an answer has counts of.
+    /// How many ask and also lines an answer has counts of.
     fn asks(answer: &Answer) -> usize {
         answer.rounds.iter().filter(|&&rounds| rounds > 0).count()
+    }
+
+    /// A file with each line exchanged for what is given for its fields, where something is.
+    fn each_line(file: &[u8], mut change: impl FnMut(&[&[u8]]) -> Option<Vec<u8>>) -> Vec<u8> {
+        let lines = file.split(|&byte| byte == b'\n').map(|line| {
+            let fields: Vec<&[u8]> = line.split(|&byte| byte == b',').collect();
+            change(&fields).unwrap_or_else(|| line.to_vec())
+        });
+        lines.collect::<Vec<_>>().join(&b'\n')
+    }
+
+    /// Whether the line at each position that an answer has counts of is an also line.
+    fn is_also(file: &[u8], answer: &Answer) -> Vec<bool> {
+        file.split(|&byte| byte == b'\n').take(asks(answer)).map(|line| line.starts_with(b"also,")).collect()
     }
 
     /// How many of some files a call differs on.
@@ -133,7 +147,7 @@ mod tests {
 
     #[test]
     fn wrong_calls_differ() {
-        let wrong: [(&str, Call); 20] = [
+        let wrong: [(&str, Call); 25] = [
             ("a visit more", |file, working, result| {
                 let answer = right(file, working, result);
                 Answer { visits: answer.visits.map(|visits| visits + u32::from(visits > 2)), ..answer }
@@ -177,15 +191,62 @@ mod tests {
                 answer
             }),
             ("every ask answered with the options of the first", |file, working, result| {
-                let mut options = None;
-                let lines = file.split(|&byte| byte == b'\n').map(|line| {
-                    let fields: Vec<&[u8]> = line.split(|&byte| byte == b',').collect();
-                    match fields[..] {
-                        [b"ask", query, own] => [b"ask", query, options.get_or_insert(own)].join(&b','),
-                        _ => line.to_vec(),
+                let mut options: Option<Vec<u8>> = None;
+                let same = each_line(file, |fields| match *fields {
+                    [b"ask", query, own] => {
+                        let options = options.get_or_insert_with(|| own.to_vec());
+                        Some([b"ask", query, &options[..]].join(&b','))
                     }
+                    _ => None,
                 });
-                right(&lines.collect::<Vec<_>>().join(&b'\n'), working, result)
+                right(&same, working, result)
+            }),
+            ("an also line answered as an ask line", |file, working, result| {
+                let mut options = Vec::new();
+                let asks = each_line(file, |fields| match *fields {
+                    [b"ask", _, own] => {
+                        options = own.to_vec();
+                        None
+                    }
+                    [b"also", query] => Some([b"ask", query, &options[..]].join(&b',')),
+                    _ => None,
+                });
+                right(&asks, working, result)
+            }),
+            ("an ask line that goes on from the chain before", |file, working, result| {
+                let mut asked = false;
+                let one_chain = each_line(file, |fields| match *fields {
+                    [b"ask", query, _] => std::mem::replace(&mut asked, true).then(|| [b"also", query].join(&b',')),
+                    _ => None,
+                });
+                right(&one_chain, working, result)
+            }),
+            ("the visits of the whole chain on an also line", |file, working, result| {
+                let mut answer = right(file, working, result);
+                for (index, is_also) in is_also(file, &answer).into_iter().enumerate() {
+                    if is_also {
+                        answer.visits[index] += answer.visits[index - 1];
+                    }
+                }
+                answer
+            }),
+            ("the rounds of the whole chain on an also line", |file, working, result| {
+                let mut answer = right(file, working, result);
+                for (index, is_also) in is_also(file, &answer).into_iter().enumerate() {
+                    if is_also {
+                        answer.rounds[index] += answer.rounds[index - 1] - 1;
+                    }
+                }
+                answer
+            }),
+            ("no round where an also line adds nothing", |file, working, result| {
+                let mut answer = right(file, working, result);
+                for (index, is_also) in is_also(file, &answer).into_iter().enumerate() {
+                    if is_also && answer.visits[index] == 0 {
+                        answer.rounds[index] = 0;
+                    }
+                }
+                answer
             }),
             ("the count of the last list as the place of 8", |file, working, result| {
                 let answer = right(file, working, result);
@@ -209,12 +270,11 @@ mod tests {
                 Answer { refusal: if (10..=12).contains(&answer.refusal) { 6 } else { answer.refusal }, ..answer }
             }),
             ("a hide line that hides nothing", |file, working, result| {
-                let lines = file.split(|&byte| byte == b'\n');
-                let shown = lines.map(|line| match line.strip_prefix(b"hide,") {
-                    Some(name) => [b"retain,", name].concat(),
-                    None => line.to_vec(),
+                let shown = each_line(file, |fields| match *fields {
+                    [b"hide", name] => Some([&b"retain"[..], name].join(&b',')),
+                    _ => None,
                 });
-                right(&shown.collect::<Vec<_>>().join(&b'\n'), working, result)
+                right(&shown, working, result)
             }),
             ("bodies that are not followed", |file, working, result| {
                 let end = file.iter().position(|&byte| byte == b'\n').unwrap_or(file.len());

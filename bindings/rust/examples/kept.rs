@@ -1,4 +1,4 @@
-//! Prints what a file keeps, or standard input, for each of its ask lines as `factfilter` does: `kept [FILE]`.
+//! Prints what a file keeps, or standard input, for each ask and also line as `factfilter` does: `kept [FILE]`.
 //!
 //! A refusal is also said in words on standard error, and ends the program with status 1.
 

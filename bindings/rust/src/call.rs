@@ -2,8 +2,8 @@
 
 use crate::{Refusal, MOST_ASKS};
 
-/// The answer as the library gives it. The counts of the ask on line 1 stand at index 0, and so on; past the last ask line,
-/// and after a refusal, they are 0.
+/// The answer as the library gives it. The counts of the ask on line 1 stand at index 0, and so on for the ask and also lines
+/// after it; past the last of them, and after a refusal, they are 0.
 #[repr(C)]
 #[derive(Clone, Copy, Debug, PartialEq, Eq)]
 #[must_use]
@@ -12,11 +12,11 @@ pub struct Answer {
     pub refusal: u32,
     /// The place of the refusal.
     pub place: u32,
-    /// How many lines each ask keeps.
+    /// How many lines each ask or also line keeps.
     pub kept: [u32; MOST_ASKS],
-    /// The filed trigger entries whose name was met, for each ask.
+    /// The filed trigger entries whose name was met, for each ask; for an also line those first met in its stretch.
     pub visits: [u32; MOST_ASKS],
-    /// The rounds of the run of each ask.
+    /// The rounds of the run of each ask and of the stretch of each also line.
     pub rounds: [u32; MOST_ASKS],
 }
 
@@ -41,21 +41,22 @@ extern "C" {
     ) -> Answer;
 }
 
-/// The counts of an accepted call. Those of the ask on line 1 stand at index 0, and so on; past the last ask line they are 0.
+/// The counts of an accepted call. Those of the ask on line 1 stand at index 0, and so on for the ask and also lines after it;
+/// past the last of them they are 0.
 #[derive(Clone, Copy, Debug, PartialEq, Eq)]
 #[must_use]
 #[non_exhaustive]
 pub struct Counts {
-    /// How many lines each ask keeps.
+    /// How many lines each ask or also line keeps.
     pub kept: [u32; MOST_ASKS],
-    /// The filed trigger entries whose name was met, for each ask.
+    /// The filed trigger entries whose name was met, for each ask; for an also line those first met in its stretch.
     pub visits: [u32; MOST_ASKS],
-    /// The rounds of the run of each ask, at least 1.
+    /// The rounds of the run of each ask and of the stretch of each also line, at least 1.
     pub rounds: [u32; MOST_ASKS],
 }
 
 impl Counts {
-    /// How many ask lines the file has: those that have rounds.
+    /// How many ask and also lines the file has: those that have rounds.
     #[must_use]
     pub fn asks(&self) -> usize {
         self.rounds.iter().take_while(|&&rounds| rounds > 0).count()
@@ -67,7 +68,7 @@ impl Counts {
         self.kept.iter().map(|&kept| kept as usize).sum()
     }
 
-    /// The kept line numbers of each ask, in their sequence, as parts of the call's result slice.
+    /// The kept line numbers of each ask and also line, in their sequence, as parts of the call's result slice.
     ///
     /// # Panics
     ///
@@ -84,8 +85,8 @@ impl Counts {
 
 /// Filters a file with lent slices.
 ///
-/// The six working slices may hold anything. The kept line numbers of all asks, one list after the other, are written from
-/// the start of the result slice, and nothing beyond them; [`Counts::lists`] parts them. After the call the first
+/// The six working slices may hold anything. The kept line numbers of all lists, one after the other, are written from the
+/// start of the result slice, and nothing beyond them; [`Counts::lists`] parts them. After the call the first
 /// [`WORKING_WORDS`](crate::WORKING_WORDS) words of each working slice are 0 and the rest is untouched; after
 /// [`Refusal::Working`] nothing at all is touched.
 ///

@@ -1,8 +1,8 @@
 //! The proved fact filter.
 //!
-//! A file holds terms, facts over them, definitions, declarations, and the roots of queries. For each of its ask lines the
-//! filter keeps the facts that the roots of the asked query can touch, as F*'s context pruning does, with option 4 also the
-//! definitions and declarations that come with them, and with options 4 and 8 those that their bodies need.
+//! A file holds terms, facts over them, definitions, declarations, and the roots of queries. For each of its ask and also
+//! lines the filter keeps the facts that the roots asked for can touch, as F*'s context pruning does, with option 4 also
+//! the definitions and declarations that come with them, and with options 4 and 8 those that their bodies need.
 //! `docs/FORMAT.md` of the repository describes the file; the filter itself is proved in Rattle and linked here as an
 //! archive, for x86-64 Linux.
 //!
@@ -19,8 +19,8 @@
 //! # Ok::<(), wimplejade::Refusal>(())
 //! ```
 //!
-//! A file may begin with up to [`MOST_ASKS`] ask lines. One run answers them all: there is a [`List`] for each, in their
-//! sequence, with the counts of its run.
+//! A file may begin with up to [`MOST_ASKS`] ask and also lines. One run answers them all: there is a [`List`] for each, in
+//! their sequence, with its counts.
 //!
 //! ```
 //! let file = b"ask,0,0\nask,1,0\nfree,p\nfree,q\nop,eq,0,0\nassume,on_p,0,2\nop,eq,1,1\nassume,on_q,0,3\n\
@@ -36,13 +36,28 @@
 //! # Ok::<(), wimplejade::Refusal>(())
 //! ```
 //!
+//! A line `also,QUERY` goes on from the list of the line before, with the roots of one more query. Its list is that of all
+//! roots so far, its visits and rounds are those of its own stretch.
+//!
+//! ```
+//! let file = b"ask,0,0\nalso,1\nfree,p\nfree,q\nop,eq,0,0\nassume,on_p,0,2\nop,eq,1,1\nassume,on_q,0,3\n\
+//!     root,0,goal,0\nroot,1,goal,1\n";
+//!
+//! let mut filter = wimplejade::Filter::new();
+//! let kept = filter.run(file)?;
+//! let lines: Vec<Vec<u32>> = kept.lists().iter().map(|list| list.lines().collect()).collect();
+//! assert_eq!(lines, [vec![6], vec![6, 8]]);
+//! assert_eq!(kept.list(2).map(|list| (list.visits, list.rounds)), Some((2, 2)));
+//! # Ok::<(), wimplejade::Refusal>(())
+//! ```
+//!
 //! What is proved is the call, [`answer`], over slices that its caller lends. [`filter`] gives its answer as a `Result`,
 //! [`Filter`] lends it slices of its own and finds the names of the kept lines; these and the declaration of the C function
 //! are plain Rust.
 //!
 //! # Stack and time
 //!
-//! A call takes 256 bytes of stack for each level of the deepest term, of which there can be 4,096: 1,050,080 bytes were
+//! A call takes 256 bytes of stack for each level of the deepest term, of which there can be 4,096: 1,050,144 bytes were
 //! measured. [`STACK_BYTES`], 2 MB, is enough for every file; a thread that Rust starts has as much unless it is told
 //! otherwise. A thread with less may end the process, as every overflow of the stack does.
 //!
@@ -61,7 +76,7 @@ use std::fmt;
 /// Words that each working slice must have.
 pub const WORKING_WORDS: usize = 16_384;
 
-/// The ask lines that a file may have.
+/// The ask and also lines that a file may have, together: so many lists an answer can have.
 pub const MOST_ASKS: usize = 16;
 
 /// The record lines that a file may have: so many lines one list can have.
@@ -91,12 +106,12 @@ impl Filter {
         Filter { working: std::array::from_fn(|_| vec![0; WORKING_WORDS]), result: vec![0; MOST_KEPT] }
     }
 
-    /// Filters a file, for all its ask lines.
+    /// Filters a file, for all its ask and also lines.
     ///
     /// # Errors
     ///
-    /// The file is refused, for all its ask lines: see [`Refusal`]. [`Refusal::Working`] and [`Refusal::Room`] do not
-    /// occur, since the slices are long enough.
+    /// The file is refused, for all its ask and also lines: see [`Refusal`]. [`Refusal::Working`] and [`Refusal::Room`] do
+    /// not occur, since the slices are long enough.
     pub fn run<'f>(&mut self, file: &'f [u8]) -> Result<Kept<'f>, Refusal> {
         let counts = filter(file, self.working.each_mut().map(Vec::as_mut_slice), &mut self.result)?;
         let lines: Vec<&[u8]> = file.split(|&byte| byte == b'\n').collect();
@@ -121,7 +136,7 @@ fn name(line: &[u8]) -> &[u8] {
     line.split(|&byte| byte == b',').nth(1).expect("a kept line is an assume, def or fun line")
 }
 
-/// What a file keeps: a list for each of its ask lines.
+/// What a file keeps: a list for each of its ask and also lines.
 ///
 /// It can be iterated over, which gives the records of all lists end to end: for a file with one ask line, those that it
 /// keeps.
@@ -132,12 +147,12 @@ pub struct Kept<'f> {
 }
 
 impl<'f> Kept<'f> {
-    /// The list of each ask line, in their sequence. There is at least one, and that of line 1 is the first.
+    /// The list of each ask and also line, in their sequence. There is at least one, and that of line 1 is the first.
     pub fn lists(&self) -> &[List<'f>] {
         &self.lists
     }
 
-    /// The list of the ask line at a position, which is counted from 1 as lines are: the ask of position 2 stands on line 2.
+    /// The list of the ask or also line at a position, which is counted from 1 as lines are: position 2 is line 2.
     #[must_use]
     pub fn list(&self, position: usize) -> Option<&List<'f>> {
         self.lists.get(position.checked_sub(1)?)
@@ -184,7 +199,7 @@ impl<'k, 'f> IntoIterator for &'k Kept<'f> {
     }
 }
 
-/// What one ask keeps. It can be iterated over, which gives its records in their order.
+/// What one ask or also line keeps. It can be iterated over, which gives its records in their order.
 #[derive(Clone, Debug, PartialEq, Eq)]
 #[must_use]
 #[non_exhaustive]
@@ -193,9 +208,9 @@ pub struct List<'f> {
     /// with option 4 the definitions and then the declarations, each group in the order of F*'s pruning. Those that option 8
     /// adds stand at the end of their group, by name in byte order.
     pub records: Vec<Record<'f>>,
-    /// The filed trigger entries whose name was met.
+    /// The filed trigger entries whose name was met; of an also line those whose name is first met in its stretch.
     pub visits: u32,
-    /// The rounds of the run; the last one triggers no fact.
+    /// The rounds of the run, of an also line those of its stretch; the last one triggers no fact.
     pub rounds: u32,
 }
 

@@ -10,7 +10,7 @@ use std::fmt;
 #[non_exhaustive]
 pub enum Refusal {
     /// 1: not a line of the file's form: an unknown kind or op word, fields lacking or left over, a first line other than
-    /// `ask`, an `ask` or `hide` line elsewhere than at the start, no final newline, an empty file.
+    /// `ask`, an `ask`, `also` or `hide` line elsewhere than at the start, no final newline, an empty file.
     Form {
         /// The line, from 1.
         line: u32,
@@ -64,7 +64,7 @@ pub enum Refusal {
         /// The line, from 1.
         line: u32,
     },
-    /// 13: with this line the file has more than [`MOST_ASKS`](crate::MOST_ASKS) ask lines.
+    /// 13: with this line the file has more than [`MOST_ASKS`](crate::MOST_ASKS) ask and also lines.
     FullAsks {
         /// The line, from 1.
         line: u32,
@@ -161,7 +161,7 @@ impl fmt::Display for Refusal {
             Refusal::FullTriggers { .. } => {
                 write!(out, "the file has more than 2,048 trigger entries or 6,144 name uses")
             }
-            Refusal::FullAsks { .. } => write!(out, "the file has more than 16 ask lines"),
+            Refusal::FullAsks { .. } => write!(out, "the file has more than 16 ask and also lines"),
         }
     }
 }
@@ -194,7 +194,7 @@ mod tests {
             (10, "4,096 term lines or 16,384 references"),
             (11, "1,024 record lines"),
             (12, "2,048 trigger entries or 6,144 name uses"),
-            (13, "16 ask lines"),
+            (13, "16 ask and also lines"),
         ] {
             let words = Refusal::of(number, 7).unwrap().to_string();
             assert_eq!(words, format!("line 7: the file has more than {full}"));

@@ -14,6 +14,11 @@ const DAY: &[u8] =
     b"ask,1,0\nask,7,4\nask,0,4\nfree,p\nfree,q\nop,eq,0,0\nassume,on_p,0,2\nop,eq,1,1\nassume,on_q,0,3\n\
     fun,p\nroot,0,goal,0\nroot,1,goal,1\n";
 
+/// Two chains over one background: a goal, one more, the first again; then the second alone.
+const CHAINS: &[u8] =
+    b"ask,0,4\nalso,1\nalso,0\nask,1,0\nfree,p\nfree,q\nop,eq,0,0\nassume,on_p,0,2\nop,eq,1,1\nassume,on_q,0,3\n\
+    fun,p\nroot,0,goal,0\nroot,1,goal,1\n";
+
 /// What a slice that is lent holds before a call.
 const DIRT: u32 = 0xdead_beef;
 
@@ -92,16 +97,34 @@ fn each_list_is_that_of_its_ask_line_alone() {
 }
 
 #[test]
+fn a_chain_goes_on_from_list_to_list() {
+    let mut filter = Filter::new();
+    let kept = filter.run(CHAINS).unwrap();
+    let both = "kept,8,on_p\nkept,10,on_q\nkept,11,p\n";
+    assert_eq!(
+        kept.to_string(),
+        format!("kept,8,on_p\nkept,11,p\nsum,2,2,2\n{both}sum,3,2,2\n{both}sum,3,0,1\nkept,10,on_q\nsum,1,2,2\n")
+    );
+    assert_eq!(kept.list(3).map(|list| &list.records), kept.list(2).map(|list| &list.records));
+    let (mut working, mut result) = lent([WORKING_WORDS; 6], 10);
+    let counted = counts(CHAINS, &mut working, &mut result);
+    assert_eq!(counted, Ok(vec![(2, 2, 2), (3, 2, 2), (3, 0, 1), (1, 2, 2)]));
+    assert_eq!(result, [8, 11, 8, 10, 11, 8, 10, 11, 10, DIRT]);
+}
+
+#[test]
 fn as_many_lists_as_there_can_be_and_each_as_long() {
     let facts: String = (0..MOST_RECORDS).map(|index| format!("assume,a{index},0,0\n")).collect();
-    let file = format!("{}leaf\n{facts}", "ask,0,0\n".repeat(MOST_ASKS));
-    let kept =
-        Filter::new().run(file.as_bytes()).map(|kept| kept.lists().iter().map(|list| list.lines().len()).collect());
-    assert_eq!(kept, Ok(vec![MOST_RECORDS; MOST_ASKS]));
-    let (mut working, mut result) = lent([WORKING_WORDS; 6], MOST_KEPT - 1);
-    let refused = counts(file.as_bytes(), &mut working, &mut result);
-    assert_eq!(refused, Err(Refusal::Room { kept: MOST_KEPT as u32 }));
-    assert!(result.iter().all(|&word| word == DIRT));
+    for line in ["ask,0,0\n", "also,0\n"] {
+        let file = format!("ask,0,0\n{}leaf\n{facts}", line.repeat(MOST_ASKS - 1));
+        let kept =
+            Filter::new().run(file.as_bytes()).map(|kept| kept.lists().iter().map(|list| list.lines().len()).collect());
+        assert_eq!(kept, Ok(vec![MOST_RECORDS; MOST_ASKS]));
+        let (mut working, mut result) = lent([WORKING_WORDS; 6], MOST_KEPT - 1);
+        let refused = counts(file.as_bytes(), &mut working, &mut result);
+        assert_eq!(refused, Err(Refusal::Room { kept: MOST_KEPT as u32 }));
+        assert!(result.iter().all(|&word| word == DIRT));
+    }
 }
 
 #[test]
@@ -121,6 +144,7 @@ fn a_filter_runs_many_files() {
     for _ in 0..3 {
         assert_eq!(filter.run(WORKED).unwrap().records().count(), 4);
         assert_eq!(filter.run(DAY).unwrap().lists().len(), 3);
+        assert_eq!(filter.run(CHAINS).unwrap().lists().len(), 4);
         assert_eq!(filter.run(b"").unwrap_err(), Refusal::Form { line: 1 });
     }
 }
@@ -135,7 +159,8 @@ fn every_refusal_of_the_exporter() {
     let records = format!("ask,0,0\n{}", "retain\n".repeat(1_025));
     let entries = format!("ask,0,0\nleaf\nall,0,2049{}\nassume,a,0,1\n", ",0".repeat(2_049));
     let asks = "ask,0,0\n".repeat(17);
-    let refused: [(&[u8], Refusal); 13] = [
+    let chain = format!("ask,0,0\n{}", "also,0\n".repeat(16));
+    let refused: [(&[u8], Refusal); 16] = [
         (b"", Refusal::Form { line: 1 }),
         (b"ask,0,0", Refusal::Form { line: 1 }),
         (b"ask,0,0\nfree,p q\n", Refusal::Name { line: 2 }),
@@ -147,6 +172,9 @@ fn every_refusal_of_the_exporter() {
         (records.as_bytes(), Refusal::FullRecords { line: 1_026 }),
         (entries.as_bytes(), Refusal::FullTriggers { line: 4 }),
         (asks.as_bytes(), Refusal::FullAsks { line: 17 }),
+        (chain.as_bytes(), Refusal::FullAsks { line: 17 }),
+        (b"also,0\n", Refusal::Form { line: 1 }),
+        (b"ask,0,0\nhide,p\nalso,0\n", Refusal::Form { line: 3 }),
         (b"ask,0,0\nhide,p\nask,0,0\n", Refusal::Form { line: 3 }),
         (&long, Refusal::Size),
     ];
