@@ -4,7 +4,7 @@ use mathlib.Core.Path.{refl}
 use mathlib.Core.List.{List, [], _∷_}
 use Rattle.model.proofs.Printing.{Small, prints, All-print}
 
--- 16-asks-pass to 17th-also-is-13-before-an-empty-q
+-- 16-asks-pass to 17th-also-after-ask2-is-13
 files-1 : List Small
 files-1 =
     record {
@@ -49,6 +49,14 @@ files-1 =
           ∷ [];
     }
     ∷ record {
+      name = "17-ask2-are-13";
+      file = "ask2,0,0,1\nask2,0,0,1\nask2,0,0,1\nask2,0,0,1\nask2,0,0,1\nask2,0,0,1\nask2,0,0,1\nask2,0,0,1\n"
+          ∷ "ask2,0,0,1\nask2,0,0,1\nask2,0,0,1\nask2,0,0,1\nask2,0,0,1\nask2,0,0,1\nask2,0,0,1\nask2,0,0,1\n"
+          ∷ "ask2,0,0,1\n"
+          ∷ [];
+      printed = "refused,13,17\n" ∷ [];
+    }
+    ∷ record {
       name = "17-asks-are-13";
       file = "ask,0,0\nask,0,0\nask,0,0\nask,0,0\nask,0,0\nask,0,0\nask,0,0\nask,0,0\nask,0,0\nask,0,0\nask,0,0\n"
           ∷ "ask,0,0\nask,0,0\nask,0,0\nask,0,0\nask,0,0\nask,0,0\nfree,p\nfree,q\nop,eq,0,0\nassume,a,0,2\n"
@@ -71,6 +79,23 @@ files-1 =
       printed = "refused,13,17\n" ∷ [];
     }
     ∷ record {
+      name = "17th-also-after-ask2-is-13";
+      file = "ask2,0,0,1\nalso,0\nalso,0\nalso,0\nalso,0\nalso,0\nalso,0\nalso,0\nalso,0\nalso,0\nalso,0\nalso,0\n"
+          ∷ "also,0\nalso,0\nalso,0\nalso,0\nalso,0\n"
+          ∷ [];
+      printed = "refused,13,17\n" ∷ [];
+    }
+    ∷ []
+
+-- a wrong one is named in the error
+pass-1 : All-print files-1
+unfolding prints files-1
+pass-1 = (refl, (refl, (refl, (refl, (refl, (refl, (refl, (refl, tt))))))))
+
+-- 17th-also-after-hide-is-1 to 17th-is-13-before-its-fields
+files-2 : List Small
+files-2 =
+    record {
       name = "17th-also-after-hide-is-1";
       file = "ask,0,0\nalso,0\nalso,0\nalso,0\nalso,0\nalso,0\nalso,0\nalso,0\nalso,0\nalso,0\nalso,0\nalso,0\n"
           ∷ "also,0\nalso,0\nalso,0\nalso,0\nhide,p\nalso,0\n"
@@ -91,17 +116,7 @@ files-1 =
           ∷ [];
       printed = "refused,13,17\n" ∷ [];
     }
-    ∷ []
-
--- a wrong one is named in the error
-pass-1 : All-print files-1
-unfolding prints files-1
-pass-1 = (refl, (refl, (refl, (refl, (refl, (refl, (refl, (refl, (refl, tt)))))))))
-
--- 17th-also-is-13-before-its-fields to also-after-hide-is-1
-files-2 : List Small
-files-2 =
-    record {
+    ∷ record {
       name = "17th-also-is-13-before-its-fields";
       file = "ask,0,0\nalso,0\nalso,0\nalso,0\nalso,0\nalso,0\nalso,0\nalso,0\nalso,0\nalso,0\nalso,0\nalso,0\n"
           ∷ "also,0\nalso,0\nalso,0\nalso,0\nalso,x,y\n"
@@ -130,6 +145,21 @@ files-2 =
       printed = "refused,13,17\n" ∷ [];
     }
     ∷ record {
+      name = "17th-ask2-in-the-older-form-is-1";
+      file = "ask,0,0\nask,0,0\nask,0,0\nask,0,0\nask,0,0\nask,0,0\nask,0,0\nask,0,0\nask,0,0\nask,0,0\nask,0,0\n"
+          ∷ "ask,0,0\nask,0,0\nask,0,0\nask,0,0\nask,0,0\nask2,0,0,1\n"
+          ∷ [];
+      printed = "refused,1,17\n" ∷ [];
+    }
+    ∷ record {
+      name = "17th-ask2-is-13-before-its-fields";
+      file = "ask2,0,0,1\nask2,0,0,1\nask2,0,0,1\nask2,0,0,1\nask2,0,0,1\nask2,0,0,1\nask2,0,0,1\nask2,0,0,1\n"
+          ∷ "ask2,0,0,1\nask2,0,0,1\nask2,0,0,1\nask2,0,0,1\nask2,0,0,1\nask2,0,0,1\nask2,0,0,1\nask2,0,0,1\n"
+          ∷ "ask2,256,16,65536\n"
+          ∷ [];
+      printed = "refused,13,17\n" ∷ [];
+    }
+    ∷ record {
       name = "17th-is-13-before-its-field-count";
       file = "ask,0,0\nask,0,0\nask,0,0\nask,0,0\nask,0,0\nask,0,0\nask,0,0\nask,0,0\nask,0,0\nask,0,0\nask,0,0\n"
           ∷ "ask,0,0\nask,0,0\nask,0,0\nask,0,0\nask,0,0\nask\n"
@@ -143,7 +173,17 @@ files-2 =
           ∷ [];
       printed = "refused,13,17\n" ∷ [];
     }
-    ∷ record {
+    ∷ []
+
+-- a wrong one is named in the error
+pass-2 : All-print files-2
+unfolding prints files-2
+pass-2 = (refl, (refl, (refl, (refl, (refl, (refl, (refl, (refl, (refl, (refl, (refl, tt)))))))))))
+
+-- 17th-without-0A-is-1 to also-first-query-without-roots
+files-3 : List Small
+files-3 =
+    record {
       name = "17th-without-0A-is-1";
       file = "ask,0,0\nask,0,0\nask,0,0\nask,0,0\nask,0,0\nask,0,0\nask,0,0\nask,0,0\nask,0,0\nask,0,0\nask,0,0\n"
           ∷ "ask,0,0\nask,0,0\nask,0,0\nask,0,0\nask,0,0\nask,0,0"
@@ -184,17 +224,7 @@ files-2 =
           ∷ [];
       printed = "refused,1,3\n" ∷ [];
     }
-    ∷ []
-
--- a wrong one is named in the error
-pass-2 : All-print files-2
-unfolding prints files-2
-pass-2 = (refl, (refl, (refl, (refl, (refl, (refl, (refl, (refl, (refl, (refl, (refl, (refl, tt))))))))))))
-
--- also-after-term-is-1 to also-on-line-1-is-1
-files-3 : List Small
-files-3 =
-    record {
+    ∷ record {
       name = "also-after-term-is-1";
       file = "ask,0,0\nfree,p\nalso,1\n" ∷ [];
       printed = "refused,1,3\n" ∷ [];
@@ -248,6 +278,30 @@ files-3 =
           ∷ [];
       printed = "fact,7,triggers,{p},{p} free={p}\nfact,9,triggers,{q},{q} free={q}\nsum,0,0,1\nsum,0,0,1\nkept,9,b\n"
           ∷ "sum,1,2,2\n"
+          ∷ [];
+    }
+    ∷ []
+
+-- a wrong one is named in the error
+pass-3 : All-print files-3
+unfolding prints files-3
+pass-3 = (refl, (refl, (refl, (refl, (refl, (refl, (refl, (refl, (refl, (refl, (refl, (refl, (refl, (refl, tt))))))))))))))
+
+-- also-has-the-groups-of-its-ask to also-twice-same-query
+files-4 : List Small
+files-4 =
+    record {
+      name = "also-has-the-groups-of-its-ask";
+      file = "ask2,0,0,1\nalso,1\nfree,p\nfree,q\nop,eq,0,0\nop,eq,1,1\nassume,a,0,1,2\nassume,b,0,0,3\nroot,0,r,0\n"
+          ∷ "root,1,r,1\n"
+          ∷ [];
+      printed = "fact,7,triggers,{p},{p} free={p}\nfact,8,triggers,{q},{q} free={q}\nsum,0,0,1\nkept,8,b\nsum,1,2,2\n" ∷ [];
+    }
+    ∷ record {
+      name = "also-has-the-groups-of-its-own-chain";
+      file = "ask2,9,0,1\nalso,0\nask2,9,0,2\nalso,0\nfree,p\nop,eq,0,0\nassume,a,0,0,1\nassume,b,0,1,1\nroot,0,r,0\n" ∷ [];
+      printed = "fact,7,triggers,{p},{p} free={p}\nfact,8,triggers,{p},{p} free={p}\nsum,0,0,1\nkept,7,a\nsum,1,2,2\n"
+          ∷ "sum,0,0,1\nkept,8,b\nsum,1,2,2\n"
           ∷ [];
     }
     ∷ record {
@@ -315,17 +369,7 @@ files-3 =
       file = "also,0\nask,0,0\n" ∷ [];
       printed = "refused,1,1\n" ∷ [];
     }
-    ∷ []
-
--- a wrong one is named in the error
-pass-3 : All-print files-3
-unfolding prints files-3
-pass-3 = (refl, (refl, (refl, (refl, (refl, (refl, (refl, (refl, (refl, (refl, (refl, (refl, (refl, (refl, (refl, (refl, (refl, tt)))))))))))))))))
-
--- also-pretyping-reached-in-the-stretch to ambient-root-scanned-for-each-ask
-files-4 : List Small
-files-4 =
-    record {
+    ∷ record {
       name = "also-pretyping-reached-in-the-stretch";
       file = "ask,0,2\nalso,1\nfree,p\nfree,q\nop,eq,1,1\nassume,a,1,2\nroot,0,r,0\nroot,1,r,1\n" ∷ [];
       printed = "fact,6,triggers,{q},{q} free={q}\nsum,0,0,1\nkept,6,a\nsum,1,2,2\n" ∷ [];
@@ -362,7 +406,17 @@ files-4 =
           ∷ "kept,9,b\nsum,2,2,2\nkept,7,a\nkept,9,b\nsum,2,0,1\n"
           ∷ [];
     }
-    ∷ record {
+    ∷ []
+
+-- a wrong one is named in the error
+pass-4 : All-print files-4
+unfolding prints files-4
+pass-4 = (refl, (refl, (refl, (refl, (refl, (refl, (refl, (refl, (refl, (refl, (refl, (refl, (refl, (refl, (refl, (refl, tt))))))))))))))))
+
+-- also-up-a-chain-of-facts to ambients-admitted-last-filed-first
+files-5 : List Small
+files-5 =
+    record {
       name = "also-up-a-chain-of-facts";
       file = "ask,2,0\nalso,1\nalso,0\nfree,p\nfree,q\nfree,s\nfree,t\nall,1,1,1,0\nassume,a,0,4\nall,2,1,1,1\n"
           ∷ "assume,b,0,5\nall,3,1,1,2\nassume,c,0,6\nroot,0,r,0\nroot,1,r,1\nroot,2,r,2\n"
@@ -421,6 +475,16 @@ files-4 =
       printed = "fact,3,ambient,0 free={p}\nfact,5,triggers,{p} free={p}\nkept,3,amb\nsum,1,0,1\n" ∷ [];
     }
     ∷ record {
+      name = "ambient-of-another-group-is-not-kept";
+      file = "ask2,0,0,2\nleaf\nassume,a,0,0,0\n" ∷ [];
+      printed = "fact,3,ambient,0 free={}\nsum,0,0,1\n" ∷ [];
+    }
+    ∷ record {
+      name = "ambient-of-another-group-on-an-also-line";
+      file = "ask2,0,0,2\nalso,1\nleaf\nassume,a,0,0,0\nassume,b,0,1,0\n" ∷ [];
+      printed = "fact,4,ambient,0 free={}\nfact,5,ambient,0 free={}\nkept,5,b\nsum,1,0,1\nkept,5,b\nsum,1,0,1\n" ∷ [];
+    }
+    ∷ record {
       name = "ambient-root-is-scanned-in-the-ask-stretch";
       file = "ask,0,0\nalso,1\nfree,p\nfree,Tm_refine_1\ncall,HasType,0,1\nassume,h,0,2\nop,eq,0,0\nassume,a,0,3\n"
           ∷ "root,1,r,0\n"
@@ -435,6 +499,20 @@ files-4 =
           ∷ "assume,a,0,4\n"
           ∷ [];
       printed = "fact,5,ambient,1 free={Tm_refine_1 x}\nfact,9,triggers,{y} free={y}\nkept,9,a\nkept,5,h\nsum,2,1,2\n" ∷ [];
+    }
+    ∷ record {
+      name = "ambient-root-of-a-group-not-admitted-is-not-scanned";
+      file = "ask2,0,0,1\nfree,p\nfree,Tm_refine_1\ncall,HasType,0,1\nassume,h,0,1,2\nop,eq,0,0\nassume,a,0,0,3\n" ∷ [];
+      printed = "fact,5,ambient,1 free={Tm_refine_1 p}\nfact,7,triggers,{p},{p} free={p}\nsum,0,0,1\n" ∷ [];
+    }
+    ∷ record {
+      name = "ambient-root-of-its-own-group-is-scanned";
+      file = "ask2,0,0,1\nask2,0,0,2\nfree,p\nfree,Tm_refine_1\ncall,HasType,0,1\nassume,h,0,1,2\nop,eq,0,0\n"
+          ∷ "assume,a,0,0,3\nassume,b,0,1,3\n"
+          ∷ [];
+      printed = "fact,6,ambient,1 free={Tm_refine_1 p}\nfact,8,triggers,{p},{p} free={p}\n"
+          ∷ "fact,9,triggers,{p},{p} free={p}\nsum,0,0,1\nkept,9,b\nkept,6,h\nsum,2,2,2\n"
+          ∷ [];
     }
     ∷ record {
       name = "ambient-root-pretyping-scanned";
@@ -455,16 +533,23 @@ files-4 =
           ∷ "sum,0,0,1\nkept,9,a\nkept,7,h\nsum,2,2,2\n"
           ∷ [];
     }
+    ∷ record {
+      name = "ambients-admitted-last-filed-first";
+      file = "ask2,0,0,5\nfree,p\nlabel,0\nassume,a,0,0,1\nassume,b,0,1,1\nassume,c,0,2,1\n" ∷ [];
+      printed = "fact,4,ambient,0 free={p}\nfact,5,ambient,0 free={p}\nfact,6,ambient,0 free={p}\nkept,6,c\nkept,4,a\n"
+          ∷ "sum,2,0,1\n"
+          ∷ [];
+    }
     ∷ []
 
 -- a wrong one is named in the error
-pass-4 : All-print files-4
-unfolding prints files-4
-pass-4 = (refl, (refl, (refl, (refl, (refl, (refl, (refl, (refl, (refl, (refl, (refl, (refl, (refl, (refl, (refl, (refl, (refl, (refl, (refl, tt)))))))))))))))))))
+pass-5 : All-print files-5
+unfolding prints files-5
+pass-5 = (refl, (refl, (refl, (refl, (refl, (refl, (refl, (refl, (refl, (refl, (refl, (refl, (refl, (refl, (refl, (refl, (refl, (refl, (refl, tt)))))))))))))))))))
 
--- ambients-last-filed-first to asks-first-fault-decides
-files-5 : List Small
-files-5 =
+-- ambients-last-filed-first to ask2-with-five-fields-is-1
+files-6 : List Small
+files-6 =
     record {
       name = "ambients-last-filed-first";
       file = "ask,0,0\nfree,p\nop,other,0\nall,0,1,1,0\nassume,b,0,1\nassume,ab,0,2\nassume,c,1,1\nassume,a,0,2\n"
@@ -486,6 +571,11 @@ files-5 =
           ∷ [];
     }
     ∷ record {
+      name = "an-earlier-line-before-the-other-form";
+      file = "ask2,0,0,65536\nask,0,0\n" ∷ [];
+      printed = "refused,3,1\n" ∷ [];
+    }
+    ∷ record {
       name = "ask-after-also-and-hide-is-1";
       file = "ask,0,0\nalso,0\nhide,p\nask,0,0\n" ∷ [];
       printed = "refused,1,4\n" ∷ [];
@@ -500,6 +590,11 @@ files-5 =
           ∷ [];
     }
     ∷ record {
+      name = "ask-after-ask2-and-also-is-1";
+      file = "ask2,0,0,1\nalso,1\nask,0,0\n" ∷ [];
+      printed = "refused,1,3\n" ∷ [];
+    }
+    ∷ record {
       name = "ask-after-hide-is-1";
       file = "ask,0,0\nhide,p\nask,1,0\nfree,p\nfree,q\nop,eq,0,0\nassume,a,0,2\nop,eq,1,1\nassume,b,0,3\nroot,0,r,0\n"
           ∷ "root,1,r,1\n"
@@ -512,11 +607,91 @@ files-5 =
       printed = "refused,1,3\n" ∷ [];
     }
     ∷ record {
+      name = "ask-in-a-file-of-ask2-is-1";
+      file = "ask2,0,0,1\nask,0,0\n" ∷ [];
+      printed = "refused,1,2\n" ∷ [];
+    }
+    ∷ record {
+      name = "ask-of-the-older-form-is-1-before-its-fields";
+      file = "ask2,0,0,1\nask,256,16\n" ∷ [];
+      printed = "refused,1,2\n" ∷ [];
+    }
+    ∷ record {
+      name = "ask-with-groups-is-1";
+      file = "ask,0,0,1\n" ∷ [];
+      printed = "refused,1,1\n" ∷ [];
+    }
+    ∷ record {
       name = "ask-without-roots";
       file = "ask,7,0\nask,0,0\nfree,p\nfree,q\nop,eq,0,0\nassume,a,0,2\nop,eq,1,1\nassume,b,0,3\nroot,0,r,0\n"
           ∷ "root,1,r,1\n"
           ∷ [];
       printed = "fact,6,triggers,{p},{p} free={p}\nfact,8,triggers,{q},{q} free={q}\nsum,0,0,1\nkept,6,a\nsum,1,2,2\n" ∷ [];
+    }
+    ∷ record {
+      name = "ask2-after-a-term-is-1";
+      file = "ask2,0,0,1\nleaf\nask2,0,0,65536\n" ∷ [];
+      printed = "refused,1,3\n" ∷ [];
+    }
+    ∷ record {
+      name = "ask2-after-ask-and-also-is-1";
+      file = "ask,0,0\nalso,1\nask2,0,0,1\n" ∷ [];
+      printed = "refused,1,3\n" ∷ [];
+    }
+    ∷ record {
+      name = "ask2-after-hide-is-1";
+      file = "ask2,0,0,1\nhide,p\nask2,0,0,1\n" ∷ [];
+      printed = "refused,1,3\n" ∷ [];
+    }
+    ∷ record {
+      name = "ask2-alone";
+      file = "ask2,0,0,0\n" ∷ [];
+      printed = "sum,0,0,1\n" ∷ [];
+    }
+    ∷ record {
+      name = "ask2-in-a-file-of-ask-is-1";
+      file = "ask,0,0\nask2,0,0,1\n" ∷ [];
+      printed = "refused,1,2\n" ∷ [];
+    }
+    ∷ record {
+      name = "ask2-in-capitals-is-1";
+      file = "ASK2,0,0,1\n" ∷ [];
+      printed = "refused,1,1\n" ∷ [];
+    }
+    ∷ record {
+      name = "ask2-of-the-newer-form-is-1-before-its-fields";
+      file = "ask,0,0\nask2,256,0,65536\n" ∷ [];
+      printed = "refused,1,2\n" ∷ [];
+    }
+    ∷ record {
+      name = "ask2-with-five-fields-is-1";
+      file = "ask2,0,0,1,1\n" ∷ [];
+      printed = "refused,1,1\n" ∷ [];
+    }
+    ∷ []
+
+-- a wrong one is named in the error
+pass-6 : All-print files-6
+unfolding prints files-6
+pass-6 = (refl, (refl, (refl, (refl, (refl, (refl, (refl, (refl, (refl, (refl, (refl, (refl, (refl, (refl, (refl, (refl, (refl, (refl, (refl, (refl, tt))))))))))))))))))))
+
+-- ask2-without-0A-is-1 to asks-macro-opened-for-each
+files-7 : List Small
+files-7 =
+    record {
+      name = "ask2-without-0A-is-1";
+      file = "ask2,0,0,1" ∷ [];
+      printed = "refused,1,1\n" ∷ [];
+    }
+    ∷ record {
+      name = "ask2-without-groups-is-1";
+      file = "ask2,0,0\n" ∷ [];
+      printed = "refused,1,1\n" ∷ [];
+    }
+    ∷ record {
+      name = "ask3-is-1";
+      file = "ask3,0,0,1\n" ∷ [];
+      printed = "refused,1,1\n" ∷ [];
     }
     ∷ record {
       name = "asks-and-nothing-else";
@@ -574,17 +749,7 @@ files-5 =
       file = "ask,0,0\nask,0,0\nask,0,16\nfree,a b\n" ∷ [];
       printed = "refused,3,3\n" ∷ [];
     }
-    ∷ []
-
--- a wrong one is named in the error
-pass-5 : All-print files-5
-unfolding prints files-5
-pass-5 = (refl, (refl, (refl, (refl, (refl, (refl, (refl, (refl, (refl, (refl, (refl, (refl, (refl, tt)))))))))))))
-
--- asks-hidden-for-each to bodies-8-alone
-files-6 : List Small
-files-6 =
-    record {
+    ∷ record {
       name = "asks-hidden-for-each";
       file = "ask,0,4\nask,1,4\nhide,h\nfree,g\nfree,h\nfree,k\ndef,g,1\nall,2,1,1,1\nassume,on_h,0,3\nall,1,1,1,0\n"
           ∷ "assume,on_g,0,4\nroot,0,goal,0\nroot,1,goal,1\nroot,2,goal,2\n"
@@ -611,7 +776,17 @@ files-6 =
           ∷ "sum,2,2,2\nsum,0,0,1\nkept,12,on_g\nkept,10,on_h\nsum,2,2,2\nkept,10,on_h\nsum,1,1,2\n"
           ∷ [];
     }
-    ∷ record {
+    ∷ []
+
+-- a wrong one is named in the error
+pass-7 : All-print files-7
+unfolding prints files-7
+pass-7 = (refl, (refl, (refl, (refl, (refl, (refl, (refl, (refl, (refl, (refl, (refl, (refl, tt))))))))))))
+
+-- asks-of-a-query-and-of-none to bodies-listed-but-not-met
+files-8 : List Small
+files-8 =
+    record {
       name = "asks-of-a-query-and-of-none";
       file = "ask,9,0\nask,1,0\nask,9,4\nask,9,1\nfree,p\nfree,q\nfree,r\nall,1,1,1,0\nassume,on_p,0,3\nall,2,1,1,1\n"
           ∷ "assume,typed_on_q,1,4\nop,other,2\nassume,loose,0,5\nfree,Tm_refine_1\ncall,HasType,0,6\n"
@@ -666,21 +841,21 @@ files-6 =
           ∷ [];
     }
     ∷ record {
+      name = "assume-of-five-fields-in-the-older-form-is-1";
+      file = "ask,0,0\nfree,p\nop,eq,0,0\nassume,a,0,0,1\n" ∷ [];
+      printed = "refused,1,4\n" ∷ [];
+    }
+    ∷ record {
+      name = "assume-of-four-fields-in-the-new-form-is-1";
+      file = "ask2,0,0,1\nfree,p\nop,eq,0,0\nassume,a,0,1\n" ∷ [];
+      printed = "refused,1,4\n" ∷ [];
+    }
+    ∷ record {
       name = "bodies-8-alone";
       file = "ask,0,8\nfree,f\ndef,g,0\nfun,f\nfree,g\nroot,0,r,1\n" ∷ [];
       printed = "sum,0,0,1\n" ∷ [];
     }
-    ∷ []
-
--- a wrong one is named in the error
-pass-6 : All-print files-6
-unfolding prints files-6
-pass-6 = (refl, (refl, (refl, (refl, (refl, (refl, (refl, (refl, (refl, (refl, tt))))))))))
-
--- bodies-circle-of-three to contract-08-and-without-groups
-files-7 : List Small
-files-7 =
-    record {
+    ∷ record {
       name = "bodies-circle-of-three";
       file = "ask,0,12\nfree,a\nfree,b\nfree,c\nfree,f\nop,other,1,3\ndef,a,4\ndef,b,2\ndef,c,0\nfun,f\nroot,0,r,1\n" ∷ [];
       printed = "kept,8,b\nkept,7,a\nkept,9,c\nkept,10,f\nsum,4,0,1\n" ∷ [];
@@ -704,7 +879,17 @@ files-7 =
           ∷ [];
       printed = "fact,8,triggers,{k} free={k}\nfact,10,triggers,{h} free={h}\nkept,6,g\nkept,5,h\nkept,11,k\nsum,3,1,2\n" ∷ [];
     }
-    ∷ record {
+    ∷ []
+
+-- a wrong one is named in the error
+pass-8 : All-print files-8
+unfolding prints files-8
+pass-8 = (refl, (refl, (refl, (refl, (refl, (refl, (refl, (refl, (refl, (refl, (refl, (refl, (refl, tt)))))))))))))
+
+-- bodies-noted-stays-in-its-place to contract-14-assumption-waits
+files-9 : List Small
+files-9 =
+    record {
       name = "bodies-noted-stays-in-its-place";
       file = "ask,0,12\nfree,a\nfree,m\nop,other,0,1\ndef,z,2\ndef,y,2\nfun,a\nfun,m\nfree,z\nfree,y\nop,other,3,4,1\n"
           ∷ "root,0,r,5\n"
@@ -783,17 +968,7 @@ files-7 =
       file = "ask,0,0\nfree,p\nop,and,0,0\nassume,a,0,1\nroot,0,r,0\n" ∷ [];
       printed = "fact,4,triggers free={p}\nsum,0,0,1\n" ∷ [];
     }
-    ∷ []
-
--- a wrong one is named in the error
-pass-7 : All-print files-7
-unfolding prints files-7
-pass-7 = (refl, (refl, (refl, (refl, (refl, (refl, (refl, (refl, (refl, (refl, (refl, (refl, (refl, (refl, (refl, (refl, (refl, (refl, tt))))))))))))))))))
-
--- contract-09-token-excluded to contract-26-ambient-no-root
-files-8 : List Small
-files-8 =
-    record {
+    ∷ record {
       name = "contract-09-token-excluded";
       file = "ask,0,0\nfree,__uu__PartialApp\nfree,HasType\ncall,ApplyTT,0,1\ncall,Valid,2\nassume,a,0,3\ndef,g,1\n"
           ∷ "call,g,1\nroot,0,r,4\n"
@@ -825,7 +1000,17 @@ files-8 =
       file = "ask,0,0\nfree,p\ncall,Tm_refine_1\ncall,HasType,0,1\nassume,assumption_A,0,2\nroot,0,r,0\n" ∷ [];
       printed = "fact,5,triggers,{Tm_refine_1 p} free={Tm_refine_1 p}\nsum,0,1,1\n" ∷ [];
     }
-    ∷ record {
+    ∷ []
+
+-- a wrong one is named in the error
+pass-9 : All-print files-9
+unfolding prints files-9
+pass-9 = (refl, (refl, (refl, (refl, (refl, (refl, (refl, (refl, (refl, (refl, (refl, (refl, (refl, (refl, (refl, (refl, (refl, (refl, (refl, (refl, tt))))))))))))))))))))
+
+-- contract-15-squash-with-pattern to contract-33-body-not-followed
+files-10 : List Small
+files-10 =
+    record {
       name = "contract-15-squash-with-pattern";
       file = "ask,0,0\nfree,t\nfree,p\nall,1,1,1,1\ncall,Prims.squash,0,2\ncall,HasType,0,3\nassume,h,0,4\n"
           ∷ "root,0,r,0\n"
@@ -893,17 +1078,7 @@ files-8 =
       file = "ask,0,0\nfree,p\nop,other,0\nassume,y,0,1\nall,0,1,1,0\nassume,a,0,2\n" ∷ [];
       printed = "fact,4,ambient,0 free={p}\nfact,6,triggers,{p} free={p}\nkept,4,y\nsum,1,0,1\n" ∷ [];
     }
-    ∷ []
-
--- a wrong one is named in the error
-pass-8 : All-print files-8
-unfolding prints files-8
-pass-8 = (refl, (refl, (refl, (refl, (refl, (refl, (refl, (refl, (refl, (refl, (refl, (refl, (refl, (refl, (refl, (refl, (refl, (refl, tt))))))))))))))))))
-
--- contract-27-retained-name to dropped-facts
-files-9 : List Small
-files-9 =
-    record {
+    ∷ record {
       name = "contract-27-retained-name";
       file = "ask,0,0\nfree,p\nall,0,1,1,0\nassume,a,0,1\nretain,a\n" ∷ [];
       printed = "fact,4,triggers,{p} free={p}\nsum,0,0,1\n" ∷ [];
@@ -937,6 +1112,21 @@ files-9 =
       name = "contract-33-body-not-followed";
       file = "ask,0,4\nfree,f\nfun,f\ndef,g,0\ncall,g\nroot,0,r,1\n" ∷ [];
       printed = "kept,4,g\nsum,1,0,1\n" ∷ [];
+    }
+    ∷ []
+
+-- a wrong one is named in the error
+pass-10 : All-print files-10
+unfolding prints files-10
+pass-10 = (refl, (refl, (refl, (refl, (refl, (refl, (refl, (refl, (refl, (refl, (refl, (refl, (refl, (refl, (refl, (refl, (refl, (refl, (refl, tt)))))))))))))))))))
+
+-- count-before-group to dropped-facts
+files-11 : List Small
+files-11 =
+    record {
+      name = "count-before-group";
+      file = "ask2,0,0,1\nfree,p\nop,eq,0,0\nassume,,2,16\n" ∷ [];
+      printed = "refused,1,4\n" ∷ [];
     }
     ∷ record {
       name = "decls-by-ambient-and-root";
@@ -980,6 +1170,15 @@ files-9 =
       printed = "kept,3,g\nsum,1,0,1\n" ∷ [];
     }
     ∷ record {
+      name = "def-and-fun-of-a-fact-not-admitted";
+      file = "ask2,0,4,1\nask2,0,4,3\nfree,p\nfree,f\nfree,d\nop,other,1,2\nassume,loose,0,1,3\nfun,f\ndef,d,0\n"
+          ∷ "fun,p\nroot,0,r,0\n"
+          ∷ [];
+      printed = "fact,7,ambient,0 free={d f}\nkept,10,p\nsum,1,0,1\nkept,7,loose\nkept,9,d\nkept,10,p\nkept,8,f\n"
+          ∷ "sum,4,0,1\n"
+          ∷ [];
+    }
+    ∷ record {
       name = "def-kept-for-an-ambient-is-followed";
       file = "ask,0,12\nfree,f\ndef,g,0\nfun,f\nfree,g\nlabel,1\nassume,m,0,2\n" ∷ [];
       printed = "fact,7,ambient,0 free={g}\nkept,7,m\nkept,3,g\nkept,4,f\nsum,3,0,1\n" ∷ [];
@@ -993,6 +1192,21 @@ files-9 =
       name = "def-of-itself";
       file = "ask,0,12\nfree,a\ndef,a,0\nroot,0,r,0\n" ∷ [];
       printed = "kept,3,a\nsum,1,0,1\n" ∷ [];
+    }
+    ∷ record {
+      name = "def-opens-whatever-the-groups";
+      file = "ask2,0,4,2\nfree,p\nfree,g\ndef,g,0\nop,eq,0,0\nassume,a,0,1,2\nroot,0,r,1\n" ∷ [];
+      printed = "fact,6,triggers,{p},{p} free={p}\nkept,6,a\nkept,4,g\nsum,2,2,2\n" ∷ [];
+    }
+    ∷ record {
+      name = "def-with-a-group-is-1";
+      file = "ask2,0,0,1\nfree,p\nop,eq,0,0\ndef,d,0,1\n" ∷ [];
+      printed = "refused,1,4\n" ∷ [];
+    }
+    ∷ record {
+      name = "def-with-the-name-of-a-fact-not-admitted-is-5";
+      file = "ask2,0,0,1\nfree,p\nop,eq,0,0\nassume,a,0,9,1\ndef,a,0\n" ∷ [];
+      printed = "refused,5,5\n" ∷ [];
     }
     ∷ record {
       name = "defs-in-a-circle";
@@ -1016,30 +1230,78 @@ files-9 =
     ∷ []
 
 -- a wrong one is named in the error
-pass-9 : All-print files-9
-unfolding prints files-9
-pass-9 = (refl, (refl, (refl, (refl, (refl, (refl, (refl, (refl, (refl, (refl, (refl, (refl, (refl, (refl, (refl, (refl, (refl, (refl, (refl, (refl, tt))))))))))))))))))))
+pass-11 : All-print files-11
+unfolding prints files-11
+pass-11 = (refl, (refl, (refl, (refl, (refl, (refl, (refl, (refl, (refl, (refl, (refl, (refl, (refl, (refl, (refl, (refl, (refl, (refl, tt))))))))))))))))))
 
--- earlier-line-before-13
-files-10 : List Small
-files-10 =
+-- each-group-but-one to entry-of-a-fact-not-admitted-is-no-visit
+files-12 : List Small
+files-12 =
     record {
+      name = "each-group-but-one";
+      file = "ask2,0,0,65534\nask2,0,0,65533\nask2,0,0,65279\nask2,0,0,32767\nleaf\nassume,g0,0,0,0\nassume,g1,0,1,0\n"
+          ∷ "assume,g2,0,2,0\nassume,g3,0,3,0\nassume,g4,0,4,0\nassume,g5,0,5,0\nassume,g6,0,6,0\nassume,g7,0,7,0\n"
+          ∷ "assume,g8,0,8,0\nassume,g9,0,9,0\nassume,g10,0,10,0\nassume,g11,0,11,0\nassume,g12,0,12,0\n"
+          ∷ "assume,g13,0,13,0\nassume,g14,0,14,0\nassume,g15,0,15,0\n"
+          ∷ [];
+      printed = "fact,6,ambient,0 free={}\nfact,7,ambient,0 free={}\nfact,8,ambient,0 free={}\nfact,9,ambient,0 free={}\n"
+          ∷ "fact,10,ambient,0 free={}\nfact,11,ambient,0 free={}\nfact,12,ambient,0 free={}\n"
+          ∷ "fact,13,ambient,0 free={}\nfact,14,ambient,0 free={}\nfact,15,ambient,0 free={}\n"
+          ∷ "fact,16,ambient,0 free={}\nfact,17,ambient,0 free={}\nfact,18,ambient,0 free={}\n"
+          ∷ "fact,19,ambient,0 free={}\nfact,20,ambient,0 free={}\nfact,21,ambient,0 free={}\nkept,21,g15\n"
+          ∷ "kept,20,g14\nkept,19,g13\nkept,18,g12\nkept,17,g11\nkept,16,g10\nkept,15,g9\nkept,14,g8\nkept,13,g7\n"
+          ∷ "kept,12,g6\nkept,11,g5\nkept,10,g4\nkept,9,g3\nkept,8,g2\nkept,7,g1\nsum,15,0,1\nkept,21,g15\n"
+          ∷ "kept,20,g14\nkept,19,g13\nkept,18,g12\nkept,17,g11\nkept,16,g10\nkept,15,g9\nkept,14,g8\nkept,13,g7\n"
+          ∷ "kept,12,g6\nkept,11,g5\nkept,10,g4\nkept,9,g3\nkept,8,g2\nkept,6,g0\nsum,15,0,1\nkept,21,g15\n"
+          ∷ "kept,20,g14\nkept,19,g13\nkept,18,g12\nkept,17,g11\nkept,16,g10\nkept,15,g9\nkept,13,g7\nkept,12,g6\n"
+          ∷ "kept,11,g5\nkept,10,g4\nkept,9,g3\nkept,8,g2\nkept,7,g1\nkept,6,g0\nsum,15,0,1\nkept,20,g14\n"
+          ∷ "kept,19,g13\nkept,18,g12\nkept,17,g11\nkept,16,g10\nkept,15,g9\nkept,14,g8\nkept,13,g7\nkept,12,g6\n"
+          ∷ "kept,11,g5\nkept,10,g4\nkept,9,g3\nkept,8,g2\nkept,7,g1\nkept,6,g0\nsum,15,0,1\n"
+          ∷ [];
+    }
+    ∷ record {
+      name = "each-group-by-its-own-bit";
+      file = "ask2,0,0,1\nask2,0,0,2\nask2,0,0,4\nask2,0,0,8\nask2,0,0,16\nask2,0,0,32\nask2,0,0,64\nask2,0,0,128\n"
+          ∷ "ask2,0,0,256\nask2,0,0,512\nask2,0,0,1024\nask2,0,0,2048\nask2,0,0,4096\nask2,0,0,8192\nask2,0,0,16384\n"
+          ∷ "ask2,0,0,32768\nleaf\nassume,g0,0,0,0\nassume,g1,0,1,0\nassume,g2,0,2,0\nassume,g3,0,3,0\n"
+          ∷ "assume,g4,0,4,0\nassume,g5,0,5,0\nassume,g6,0,6,0\nassume,g7,0,7,0\nassume,g8,0,8,0\nassume,g9,0,9,0\n"
+          ∷ "assume,g10,0,10,0\nassume,g11,0,11,0\nassume,g12,0,12,0\nassume,g13,0,13,0\nassume,g14,0,14,0\n"
+          ∷ "assume,g15,0,15,0\n"
+          ∷ [];
+      printed = "fact,18,ambient,0 free={}\nfact,19,ambient,0 free={}\nfact,20,ambient,0 free={}\n"
+          ∷ "fact,21,ambient,0 free={}\nfact,22,ambient,0 free={}\nfact,23,ambient,0 free={}\n"
+          ∷ "fact,24,ambient,0 free={}\nfact,25,ambient,0 free={}\nfact,26,ambient,0 free={}\n"
+          ∷ "fact,27,ambient,0 free={}\nfact,28,ambient,0 free={}\nfact,29,ambient,0 free={}\n"
+          ∷ "fact,30,ambient,0 free={}\nfact,31,ambient,0 free={}\nfact,32,ambient,0 free={}\n"
+          ∷ "fact,33,ambient,0 free={}\nkept,18,g0\nsum,1,0,1\nkept,19,g1\nsum,1,0,1\nkept,20,g2\nsum,1,0,1\n"
+          ∷ "kept,21,g3\nsum,1,0,1\nkept,22,g4\nsum,1,0,1\nkept,23,g5\nsum,1,0,1\nkept,24,g6\nsum,1,0,1\nkept,25,g7\n"
+          ∷ "sum,1,0,1\nkept,26,g8\nsum,1,0,1\nkept,27,g9\nsum,1,0,1\nkept,28,g10\nsum,1,0,1\nkept,29,g11\n"
+          ∷ "sum,1,0,1\nkept,30,g12\nsum,1,0,1\nkept,31,g13\nsum,1,0,1\nkept,32,g14\nsum,1,0,1\nkept,33,g15\n"
+          ∷ "sum,1,0,1\n"
+          ∷ [];
+    }
+    ∷ record {
       name = "earlier-line-before-13";
       file = "ask,0,0\nask,0,0\nask,0,0\nask,0,0\nask,0,0\nask,0,0\nask,0,0\nask,0,0\nask,0,16\nask,0,0\nask,0,0\n"
           ∷ "ask,0,0\nask,0,0\nask,0,0\nask,0,0\nask,0,0\nask,0,0\n"
           ∷ [];
       printed = "refused,3,9\n" ∷ [];
     }
+    ∷ record {
+      name = "entry-of-a-fact-not-admitted-is-no-visit";
+      file = "ask2,0,0,1\nfree,p\nfree,q\nall,1,1,2,0,1\nassume,a,0,1,2\nassume,b,0,0,2\nroot,0,r,0\n" ∷ [];
+      printed = "fact,5,triggers,{p q} free={p q}\nfact,6,triggers,{p q} free={p q}\nsum,0,1,1\n" ∷ [];
+    }
     ∷ []
 
 -- a wrong one is named in the error
-pass-10 : All-print files-10
-unfolding prints files-10
-pass-10 = (refl, tt)
+pass-12 : All-print files-12
+unfolding prints files-12
+pass-12 = (refl, (refl, (refl, (refl, tt))))
 
 -- every-kind
-files-11 : List Small
-files-11 =
+files-13 : List Small
+files-13 =
     record {
       name = "every-kind";
       file = "ask,0,4\nfree,SFuel\nfree,ZFuel\nfree,HasType\nfree,HasTypeZ\nfree,HasTypeFuel\nfree,Valid\n"
@@ -1082,17 +1344,42 @@ files-11 =
     ∷ []
 
 -- a wrong one is named in the error
-pass-11 : All-print files-11
-unfolding prints files-11
-pass-11 = (refl, tt)
+pass-13 : All-print files-13
+unfolding prints files-13
+pass-13 = (refl, tt)
 
--- fact-not-reached-named-in-a-body-is-not-kept to hide-256-bytes
-files-12 : List Small
-files-12 =
+-- fact-not-admitted-brings-nothing to groups-of-each-ask
+files-14 : List Small
+files-14 =
     record {
+      name = "fact-not-admitted-brings-nothing";
+      file = "ask2,0,0,1\nfree,p\nfree,q\nall,1,1,1,0\nassume,on_p,0,1,2\nall,0,1,1,1\nassume,on_q,0,0,3\nroot,0,r,0\n" ∷ [];
+      printed = "fact,5,triggers,{p} free={p q}\nfact,7,triggers,{q} free={p q}\nsum,0,0,1\n" ∷ [];
+    }
+    ∷ record {
+      name = "fact-not-admitted-makes-no-round";
+      file = "ask2,0,0,2\nfree,p\nop,eq,0,0\nassume,a,0,0,1\nroot,0,r,0\n" ∷ [];
+      printed = "fact,4,triggers,{p},{p} free={p}\nsum,0,0,1\n" ∷ [];
+    }
+    ∷ record {
+      name = "fact-not-admitted-with-a-taken-name-is-5";
+      file = "ask2,0,0,1\nfree,p\nop,eq,0,0\nfun,a\nassume,a,0,1,1\n" ∷ [];
+      printed = "refused,5,5\n" ∷ [];
+    }
+    ∷ record {
       name = "fact-not-reached-named-in-a-body-is-not-kept";
       file = "ask,0,12\nfree,x\ndef,g,0\nfree,y\nop,eq,1,1\nassume,x,0,2\nfree,g\nroot,0,r,3\n" ∷ [];
       printed = "fact,6,triggers,{y},{y} free={y}\nkept,3,g\nsum,1,0,1\n" ∷ [];
+    }
+    ∷ record {
+      name = "fact-of-a-group-not-admitted-does-not-fire";
+      file = "ask2,0,0,1\nfree,p\nop,eq,0,0\nassume,a,0,1,1\nassume,b,0,0,1\nroot,0,r,0\n" ∷ [];
+      printed = "fact,4,triggers,{p},{p} free={p}\nfact,5,triggers,{p},{p} free={p}\nkept,5,b\nsum,1,2,2\n" ∷ [];
+    }
+    ∷ record {
+      name = "fact-with-the-name-of-one-not-admitted-is-5";
+      file = "ask2,0,0,1\nfree,p\nop,eq,0,0\nassume,a,0,1,1\nassume,a,0,0,1\n" ∷ [];
+      printed = "refused,5,5\n" ∷ [];
     }
     ∷ record {
       name = "following-meets-no-more-names";
@@ -1108,6 +1395,94 @@ files-12 =
       printed = "fact,17,triggers,{h},{a b c d e f g i} free={a b c d e f g h i}\n"
           ∷ "fact,18,triggers,{h} free={a b c d e f g h i}\nsum,0,0,1\n"
           ∷ [];
+    }
+    ∷ record {
+      name = "fun-with-a-group-is-1";
+      file = "ask2,0,0,1\nfree,p\nop,eq,0,0\nfun,f,0\n" ∷ [];
+      printed = "refused,1,4\n" ∷ [];
+    }
+    ∷ record {
+      name = "group-16-is-3";
+      file = "ask2,0,0,1\nfree,p\nop,eq,0,0\nassume,a,0,16,1\n" ∷ [];
+      printed = "refused,3,4\n" ∷ [];
+    }
+    ∷ record {
+      name = "group-before-a-taken-name";
+      file = "ask2,0,0,1\nfree,p\nop,eq,0,0\nfun,a\nassume,a,0,16,1\n" ∷ [];
+      printed = "refused,3,5\n" ∷ [];
+    }
+    ∷ record {
+      name = "group-before-t";
+      file = "ask2,0,0,1\nfree,p\nop,eq,0,0\nassume,a,0,16,9\n" ∷ [];
+      printed = "refused,3,4\n" ∷ [];
+    }
+    ∷ record {
+      name = "group-empty-is-3";
+      file = "ask2,0,0,1\nfree,p\nop,eq,0,0\nassume,a,0,,1\n" ∷ [];
+      printed = "refused,3,4\n" ∷ [];
+    }
+    ∷ record {
+      name = "group-of-a-letter-is-3";
+      file = "ask2,0,0,1\nfree,p\nop,eq,0,0\nassume,a,0,g,9\n" ∷ [];
+      printed = "refused,3,4\n" ∷ [];
+    }
+    ∷ record {
+      name = "group-with-a-leading-zero-is-3";
+      file = "ask2,0,0,1\nfree,p\nop,eq,0,0\nassume,a,0,01,1\n" ∷ [];
+      printed = "refused,3,4\n" ∷ [];
+    }
+    ∷ record {
+      name = "groups-0-admits-none";
+      file = "ask2,0,0,0\nfree,p\nop,eq,0,0\nassume,a,0,0,1\nroot,0,r,0\n" ∷ [];
+      printed = "fact,4,triggers,{p},{p} free={p}\nsum,0,0,1\n" ∷ [];
+    }
+    ∷ record {
+      name = "groups-65535-admits-all";
+      file = "ask2,0,0,65535\nfree,p\nop,eq,0,0\nassume,a,0,15,1\nassume,b,0,7,1\nassume,c,0,0,1\nroot,0,r,0\n" ∷ [];
+      printed = "fact,4,triggers,{p},{p} free={p}\nfact,5,triggers,{p},{p} free={p}\nfact,6,triggers,{p},{p} free={p}\n"
+          ∷ "kept,4,a\nkept,5,b\nkept,6,c\nsum,3,6,2\n"
+          ∷ [];
+    }
+    ∷ record {
+      name = "groups-65536-is-3";
+      file = "ask2,0,0,65536\n" ∷ [];
+      printed = "refused,3,1\n" ∷ [];
+    }
+    ∷ record {
+      name = "groups-empty-is-3";
+      file = "ask2,0,0,\n" ∷ [];
+      printed = "refused,3,1\n" ∷ [];
+    }
+    ∷ record {
+      name = "groups-of-each-ask";
+      file = "ask2,0,0,1\nask2,0,0,2\nask2,0,0,3\nfree,p\nop,eq,0,0\nassume,a,0,0,1\nassume,b,0,1,1\nroot,0,r,0\n" ∷ [];
+      printed = "fact,6,triggers,{p},{p} free={p}\nfact,7,triggers,{p},{p} free={p}\nkept,6,a\nsum,1,2,2\nkept,7,b\n"
+          ∷ "sum,1,2,2\nkept,6,a\nkept,7,b\nsum,2,4,2\n"
+          ∷ [];
+    }
+    ∷ []
+
+-- a wrong one is named in the error
+pass-14 : All-print files-14
+unfolding prints files-14
+pass-14 = (refl, (refl, (refl, (refl, (refl, (refl, (refl, (refl, (refl, (refl, (refl, (refl, (refl, (refl, (refl, (refl, (refl, (refl, (refl, (refl, tt))))))))))))))))))))
+
+-- groups-of-one-ask-leave-nothing-for-the-next to hide-between-also-lines-is-1
+files-15 : List Small
+files-15 =
+    record {
+      name = "groups-of-one-ask-leave-nothing-for-the-next";
+      file = "ask2,0,0,3\nask2,0,0,2\nask2,0,0,1\nfree,p\nfree,q\nall,1,1,1,0\nassume,on_p,0,0,2\nall,1,1,1,1\n"
+          ∷ "assume,on_q,0,1,3\nroot,0,r,0\n"
+          ∷ [];
+      printed = "fact,7,triggers,{p} free={p q}\nfact,9,triggers,{q} free={q}\nkept,7,on_p\nkept,9,on_q\nsum,2,2,3\n"
+          ∷ "sum,0,0,1\nkept,7,on_p\nsum,1,1,2\n"
+          ∷ [];
+    }
+    ∷ record {
+      name = "groups-with-a-leading-zero-is-3";
+      file = "ask2,0,0,01\n" ∷ [];
+      printed = "refused,3,1\n" ∷ [];
     }
     ∷ record {
       name = "hidden-fun-and-def-are-not-kept";
@@ -1154,17 +1529,7 @@ files-12 =
           ∷ [];
       printed = "refused,2,3\n" ∷ [];
     }
-    ∷ []
-
--- a wrong one is named in the error
-pass-12 : All-print files-12
-unfolding prints files-12
-pass-12 = (refl, (refl, (refl, (refl, (refl, (refl, (refl, (refl, (refl, (refl, tt))))))))))
-
--- hide-after-also to hide-in-a-scanned-fact
-files-13 : List Small
-files-13 =
-    record {
+    ∷ record {
       name = "hide-after-also";
       file = "ask,0,0\nalso,1\nhide,q\nfree,p\nfree,q\nop,eq,0,0\nassume,a,0,2\nop,eq,1,1\nassume,b,0,3\nroot,0,r,0\n"
           ∷ "root,1,r,1\n"
@@ -1190,7 +1555,17 @@ files-13 =
           ∷ [];
       printed = "refused,1,4\n" ∷ [];
     }
-    ∷ record {
+    ∷ []
+
+-- a wrong one is named in the error
+pass-15 : All-print files-15
+unfolding prints files-15
+pass-15 = (refl, (refl, (refl, (refl, (refl, (refl, (refl, (refl, (refl, (refl, (refl, (refl, (refl, tt)))))))))))))
+
+-- hide-def-is-not-opened to hide-leaves-the-shapes-of-rules
+files-16 : List Small
+files-16 =
+    record {
       name = "hide-def-is-not-opened";
       file = "ask,0,4\nhide,g\nfree,g\nfree,q\ndef,g,1\nop,eq,1,1\nassume,a,0,2\nfun,q\nroot,0,r,0\n" ∷ [];
       printed = "fact,7,triggers,{q},{q} free={q}\nsum,0,0,1\n" ∷ [];
@@ -1244,20 +1619,15 @@ files-13 =
           ∷ [];
       printed = "fact,8,triggers,{p} free={p}\nfact,10,triggers,{},{z} free={z}\nkept,8,a\nsum,1,1,2\n" ∷ [];
     }
-    ∷ []
-
--- a wrong one is named in the error
-pass-13 : All-print files-13
-unfolding prints files-13
-pass-13 = (refl, (refl, (refl, (refl, (refl, (refl, (refl, (refl, (refl, (refl, (refl, tt)))))))))))
-
--- hide-in-rule-2 to hide-without-name-is-1
-files-14 : List Small
-files-14 =
-    record {
+    ∷ record {
       name = "hide-in-rule-2";
       file = "ask,0,0\nhide,w\nfree,w\nfree,p\nop,other,0,1\nassume,assumption_a,0,2\nroot,0,r,1\n" ∷ [];
       printed = "fact,6,triggers,{p} free={p}\nkept,6,assumption_a\nsum,1,1,2\n" ∷ [];
+    }
+    ∷ record {
+      name = "hide-in-the-new-form";
+      file = "ask2,0,0,1\nhide,p\nfree,p\nop,eq,0,0\nassume,a,0,0,1\nroot,0,r,0\n" ∷ [];
+      printed = "fact,5,triggers,{},{} free={}\nsum,0,0,1\n" ∷ [];
     }
     ∷ record {
       name = "hide-leaves-the-shapes-of-rules";
@@ -1266,7 +1636,17 @@ files-14 =
           ∷ [];
       printed = "fact,6,triggers,{p} free={p}\nfact,10,triggers,{q} free={p q}\nkept,6,a\nkept,10,b\nsum,2,2,3\n" ∷ [];
     }
-    ∷ record {
+    ∷ []
+
+-- a wrong one is named in the error
+pass-16 : All-print files-16
+unfolding prints files-16
+pass-16 = (refl, (refl, (refl, (refl, (refl, (refl, (refl, (refl, (refl, (refl, tt))))))))))
+
+-- hide-makes-one-name-enough to hide-without-name-is-1
+files-17 : List Small
+files-17 =
+    record {
       name = "hide-makes-one-name-enough";
       file = "ask,0,0\nhide,w\nfree,p\ncall,w,0\nfree,q\nall,2,1,1,1\nassume,a,0,3\nroot,0,r,0\n" ∷ [];
       printed = "fact,7,triggers,{p} free={p q}\nkept,7,a\nsum,1,1,2\n" ∷ [];
@@ -1368,6 +1748,13 @@ files-14 =
       printed = "refused,1,2\n" ∷ [];
     }
     ∷ record {
+      name = "hide-with-groups";
+      file = "ask2,0,0,1\nask2,0,0,2\nhide,w\nfree,w\nfree,p\nop,and\ncall,w,1\nall,1,1,1,3\nassume,a,0,0,4\n"
+          ∷ "assume,b,0,1,4\nroot,0,r,1\n"
+          ∷ [];
+      printed = "fact,9,triggers,{p} free={p}\nfact,10,triggers,{p} free={p}\nkept,9,a\nsum,1,1,2\nkept,10,b\nsum,1,1,2\n" ∷ [];
+    }
+    ∷ record {
       name = "hide-without-name-is-1";
       file = "ask,0,0\nhide\n" ∷ [];
       printed = "refused,1,2\n" ∷ [];
@@ -1375,13 +1762,13 @@ files-14 =
     ∷ []
 
 -- a wrong one is named in the error
-pass-14 : All-print files-14
-unfolding prints files-14
-pass-14 = (refl, (refl, (refl, (refl, (refl, (refl, (refl, (refl, (refl, (refl, (refl, (refl, (refl, (refl, (refl, (refl, (refl, (refl, (refl, (refl, tt))))))))))))))))))))
+pass-17 : All-print files-17
+unfolding prints files-17
+pass-17 = (refl, (refl, (refl, (refl, (refl, (refl, (refl, (refl, (refl, (refl, (refl, (refl, (refl, (refl, (refl, (refl, (refl, (refl, (refl, tt)))))))))))))))))))
 
 -- macro-box-each to misplaced-ask-is-1-before-its-fields
-files-15 : List Small
-files-15 =
+files-18 : List Small
+files-18 =
     record {
       name = "macro-box-each";
       file = "ask,0,0\nfree,is-BoxBool\nfree,is-BoxInt\nfree,is-BoxString\nfree,is-BoxReal\nfree,is-BoxProp\n"
@@ -1482,19 +1869,29 @@ files-15 =
     ∷ []
 
 -- a wrong one is named in the error
-pass-15 : All-print files-15
-unfolding prints files-15
-pass-15 = (refl, (refl, (refl, (refl, (refl, (refl, (refl, (refl, (refl, (refl, (refl, (refl, (refl, (refl, (refl, tt)))))))))))))))
+pass-18 : All-print files-18
+unfolding prints files-18
+pass-18 = (refl, (refl, (refl, (refl, (refl, (refl, (refl, (refl, (refl, (refl, (refl, (refl, (refl, (refl, (refl, tt)))))))))))))))
 
--- name-bytes to order-of-facts
-files-16 : List Small
-files-16 =
+-- name-before-group to options-15-pass
+files-19 : List Small
+files-19 =
     record {
+      name = "name-before-group";
+      file = "ask2,0,0,1\nfree,p\nop,eq,0,0\nassume,,0,16,1\n" ∷ [];
+      printed = "refused,2,4\n" ∷ [];
+    }
+    ∷ record {
       name = "name-bytes";
       file = "ask,0,4\nfree,!\nfree,~\nfree,\"\nfree,ask\nfree,65535\ncall,leaf,0,1,2,3,4\nfun,~\nfun,!\nfun,\"\n"
           ∷ "fun,ask\nfun,65535\ndef,leaf,0\nroot,0,root,5\n"
           ∷ [];
       printed = "kept,13,leaf\nkept,8,~\nkept,11,ask\nkept,12,65535\nkept,10,\"\nkept,9,!\nsum,6,0,1\n" ∷ [];
+    }
+    ∷ record {
+      name = "name-of-a-fact-not-admitted-is-taken";
+      file = "ask2,0,0,1\nfree,p\nop,eq,0,0\nassume,a,0,1,1\nfun,a\n" ∷ [];
+      printed = "refused,5,5\n" ∷ [];
     }
     ∷ record {
       name = "no-ambients-no-def-to-follow";
@@ -1534,14 +1931,38 @@ files-16 =
       printed = "sum,0,0,1\n" ∷ [];
     }
     ∷ record {
+      name = "older-form-is-group-0-all-admitted";
+      file = "ask,0,0\nfree,p\nop,eq,0,0\nassume,a,0,1\nroot,0,r,0\n" ∷ [];
+      printed = "fact,4,triggers,{p},{p} free={p}\nkept,4,a\nsum,1,2,2\n" ∷ [];
+    }
+    ∷ record {
+      name = "older-form-with-several-asks-and-also";
+      file = "ask,0,0\nalso,1\nask,1,4\nhide,q\nfree,p\nop,eq,0,0\nassume,a,0,1\nfun,p\nroot,1,r,0\n" ∷ [];
+      printed = "fact,7,triggers,{p},{p} free={p}\nsum,0,0,1\nkept,7,a\nsum,1,2,2\nkept,7,a\nkept,8,p\nsum,2,2,2\n" ∷ [];
+    }
+    ∷ record {
       name = "one-of-the-nine-is-not-followed";
       file = "ask,0,12\nfree,ApplyTT\ndef,g,0\nfun,ApplyTT\nfree,g\nroot,0,r,1\n" ∷ [];
       printed = "kept,3,g\nsum,1,0,1\n" ∷ [];
     }
     ∷ record {
+      name = "option-1-with-groups";
+      file = "ask2,0,1,3\nask2,0,0,1\nask2,0,0,3\nfree,p\nop,eq,0,0\nassume,a,0,0,1\nleaf\nassume,loose,0,1,2\n"
+          ∷ "root,0,r,0\n"
+          ∷ [];
+      printed = "fact,6,triggers,{p},{p} free={p}\nfact,8,ambient,0 free={}\nkept,6,a\nsum,1,2,2\nkept,6,a\nsum,1,2,2\n"
+          ∷ "kept,6,a\nkept,8,loose\nsum,2,2,2\n"
+          ∷ [];
+    }
+    ∷ record {
       name = "option-1-with-option-4";
       file = "ask,0,5\nfree,x\nfree,Tm_refine_1\ncall,HasType,0,1\nassume,h,0,2\nfun,x\ndef,Tm_refine_1,0\n" ∷ [];
       printed = "fact,5,ambient,1 free={Tm_refine_1 x}\nsum,0,0,1\n" ∷ [];
+    }
+    ∷ record {
+      name = "option-2-admits-no-group";
+      file = "ask2,0,2,1\nask2,0,2,2\nfree,p\nop,eq,0,0\nassume,a,1,1,1\nroot,0,r,0\n" ∷ [];
+      printed = "fact,5,triggers,{p},{p} free={p}\nsum,0,0,1\nkept,5,a\nsum,1,2,2\n" ∷ [];
     }
     ∷ record {
       name = "option-4-alone-stops-at-the-def";
@@ -1554,9 +1975,33 @@ files-16 =
       printed = "kept,3,g\nkept,4,f\nsum,2,0,1\n" ∷ [];
     }
     ∷ record {
+      name = "options-12-with-groups";
+      file = "ask2,0,12,1\nask2,0,12,2\nask2,0,8,2\nfree,p\nfree,d\nfree,e\nop,other,1\nassume,loose,0,1,3\ndef,d,2\n"
+          ∷ "fun,e\nroot,0,r,0\n"
+          ∷ [];
+      printed = "fact,8,ambient,0 free={d}\nsum,0,0,1\nkept,8,loose\nkept,9,d\nkept,10,e\nsum,3,0,1\nkept,8,loose\n"
+          ∷ "sum,1,0,1\n"
+          ∷ [];
+    }
+    ∷ record {
       name = "options-15-pass";
       file = "ask,0,15\nfree,f\ndef,g,0\nfun,f\nfree,g\nroot,0,r,1\n" ∷ [];
       printed = "kept,3,g\nkept,4,f\nsum,2,0,1\n" ∷ [];
+    }
+    ∷ []
+
+-- a wrong one is named in the error
+pass-19 : All-print files-19
+unfolding prints files-19
+pass-19 = (refl, (refl, (refl, (refl, (refl, (refl, (refl, (refl, (refl, (refl, (refl, (refl, (refl, (refl, (refl, (refl, (refl, (refl, (refl, (refl, tt))))))))))))))))))))
+
+-- options-before-groups to r-ask-2
+files-20 : List Small
+files-20 =
+    record {
+      name = "options-before-groups";
+      file = "ask2,0,x,y\n" ∷ [];
+      printed = "refused,3,1\n" ∷ [];
     }
     ∷ record {
       name = "options-of-each-ask";
@@ -1589,17 +2034,7 @@ files-16 =
           ∷ "kept,11,y\nsum,8,2,2\n"
           ∷ [];
     }
-    ∷ []
-
--- a wrong one is named in the error
-pass-16 : All-print files-16
-unfolding prints files-16
-pass-16 = (refl, (refl, (refl, (refl, (refl, (refl, (refl, (refl, (refl, (refl, (refl, (refl, (refl, (refl, (refl, (refl, (refl, tt)))))))))))))))))
-
--- order-three-orders to r-call-alone
-files-17 : List Small
-files-17 =
-    record {
+    ∷ record {
       name = "order-three-orders";
       file = "ask,0,4\nfree,n1\nfree,n2\nfree,n3\nfree,n4\nfree,n5\nfree,n6\nleaf\nop,and,0,1,2,3,4,5\nfun,n3\n"
           ∷ "def,n4,6\ndef,n2,6\nfun,n1\nfun,n5\ndef,n6,6\nroot,0,r,7\n"
@@ -1616,9 +2051,22 @@ files-17 =
           ∷ [];
     }
     ∷ record {
+      name = "other-form-is-1-before-13";
+      file = "ask2,0,0,1\nask2,0,0,1\nask2,0,0,1\nask2,0,0,1\nask2,0,0,1\nask2,0,0,1\nask2,0,0,1\nask2,0,0,1\n"
+          ∷ "ask2,0,0,1\nask2,0,0,1\nask2,0,0,1\nask2,0,0,1\nask2,0,0,1\nask2,0,0,1\nask2,0,0,1\nask2,0,0,1\n"
+          ∷ "ask,0,0\n"
+          ∷ [];
+      printed = "refused,1,17\n" ∷ [];
+    }
+    ∷ record {
       name = "pattern-names-of-a-body-are-followed";
       file = "ask,0,12\nfree,f\nleaf\nall,1,1,1,0\ndef,g,2\nfun,f\nfree,g\nroot,0,r,3\n" ∷ [];
       printed = "kept,5,g\nkept,6,f\nsum,2,0,1\n" ∷ [];
+    }
+    ∷ record {
+      name = "pretyping-fact-admitted-makes-a-round";
+      file = "ask2,0,0,1\nask2,0,0,2\nask2,0,2,2\nfree,p\nop,eq,0,0\nassume,a,1,1,1\nroot,0,r,0\n" ∷ [];
+      printed = "fact,6,triggers,{p},{p} free={p}\nsum,0,0,1\nsum,0,2,2\nkept,6,a\nsum,1,2,2\n" ∷ [];
     }
     ∷ record {
       name = "query-twice-in-a-chain-adds-none";
@@ -1678,7 +2126,17 @@ files-17 =
       file = "ask,0\n" ∷ [];
       printed = "refused,1,1\n" ∷ [];
     }
-    ∷ record {
+    ∷ []
+
+-- a wrong one is named in the error
+pass-20 : All-print files-20
+unfolding prints files-20
+pass-20 = (refl, (refl, (refl, (refl, (refl, (refl, (refl, (refl, (refl, (refl, (refl, (refl, (refl, (refl, (refl, (refl, (refl, (refl, (refl, (refl, tt))))))))))))))))))))
+
+-- r-ask-comma to r-no-0a-2
+files-21 : List Small
+files-21 =
+    record {
       name = "r-ask-comma";
       file = "ask,0,0,\n" ∷ [];
       printed = "refused,1,1\n" ∷ [];
@@ -1713,17 +2171,7 @@ files-17 =
       file = "ask,0,0\ncall\n" ∷ [];
       printed = "refused,1,2\n" ∷ [];
     }
-    ∷ []
-
--- a wrong one is named in the error
-pass-17 : All-print files-17
-unfolding prints files-17
-pass-17 = (refl, (refl, (refl, (refl, (refl, (refl, (refl, (refl, (refl, (refl, (refl, (refl, (refl, (refl, (refl, (refl, (refl, (refl, (refl, (refl, tt))))))))))))))))))))
-
--- r-call-comma to r-some-bad-body-first
-files-18 : List Small
-files-18 =
-    record {
+    ∷ record {
       name = "r-call-comma";
       file = "ask,0,0\nleaf\ncall,f,\n" ∷ [];
       printed = "refused,3,3\n" ∷ [];
@@ -1790,7 +2238,17 @@ files-18 =
       file = "ask,0,0\nleaf" ∷ [];
       printed = "refused,1,2\n" ∷ [];
     }
-    ∷ record {
+    ∷ []
+
+-- a wrong one is named in the error
+pass-21 : All-print files-21
+unfolding prints files-21
+pass-21 = (refl, (refl, (refl, (refl, (refl, (refl, (refl, (refl, (refl, (refl, (refl, (refl, (refl, (refl, (refl, (refl, (refl, (refl, (refl, (refl, tt))))))))))))))))))))
+
+-- r-op-word to rounds-empty-disjunct-late
+files-22 : List Small
+files-22 =
+    record {
       name = "r-op-word";
       file = "ask,0,0\nop,false\n" ∷ [];
       printed = "refused,1,2\n" ∷ [];
@@ -1825,17 +2283,7 @@ files-18 =
       file = "ask,0,0\nleaf\nsome,x\n" ∷ [];
       printed = "refused,3,3\n" ∷ [];
     }
-    ∷ []
-
--- a wrong one is named in the error
-pass-18 : All-print files-18
-unfolding prints files-18
-pass-18 = (refl, (refl, (refl, (refl, (refl, (refl, (refl, (refl, (refl, (refl, (refl, (refl, (refl, (refl, (refl, (refl, (refl, (refl, (refl, (refl, tt))))))))))))))))))))
-
--- r-some-count-01 to rounds-reached-again-with-another
-files-19 : List Small
-files-19 =
-    record {
+    ∷ record {
       name = "r-some-count-01";
       file = "ask,0,0\nleaf\nsome,0,1,01,0\n" ∷ [];
       printed = "refused,3,3\n" ∷ [];
@@ -1861,6 +2309,15 @@ files-19 =
       printed = "refused,1,2\n" ∷ [];
     }
     ∷ record {
+      name = "reached-facts-by-their-bits";
+      file = "ask2,0,0,32768\nask2,0,0,1\nask2,0,0,32769\nfree,p\nop,eq,0,0\nassume,last,0,15,1\nassume,first,0,0,1\n"
+          ∷ "root,0,r,0\n"
+          ∷ [];
+      printed = "fact,6,triggers,{p},{p} free={p}\nfact,7,triggers,{p},{p} free={p}\nkept,6,last\nsum,1,2,2\n"
+          ∷ "kept,7,first\nsum,1,2,2\nkept,7,first\nkept,6,last\nsum,2,4,2\n"
+          ∷ [];
+    }
+    ∷ record {
       name = "repeated-roots-and-retained";
       file = "ask,0,0\nfree,a\nfun,a\nretain,a,a,b\nretain\nroot,0,a,0\nroot,0,a,0\nroot,1,b,0\ndef,b,0\n" ∷ [];
       printed = "sum,0,0,1\n" ∷ [];
@@ -1869,6 +2326,11 @@ files-19 =
       name = "retain-no-effect";
       file = "ask,0,0\nretain\nretain,a,b,a\nleaf\nassume,a,0,0\n" ∷ [];
       printed = "fact,5,ambient,0 free={}\nkept,5,a\nsum,1,0,1\n" ∷ [];
+    }
+    ∷ record {
+      name = "root-with-a-group-is-1";
+      file = "ask2,0,0,1\nfree,p\nop,eq,0,0\nroot,0,r,0,1\n" ∷ [];
+      printed = "refused,1,4\n" ∷ [];
     }
     ∷ record {
       name = "roots-of-own-query-for-funs";
@@ -1890,7 +2352,17 @@ files-19 =
       file = "ask,0,0\nfree,p\nfree,q\nleaf\nall,1,1,1,0\nassume,a,0,3\nall,2,2,0,1,1\nassume,b,0,4\nroot,0,r,0\n" ∷ [];
       printed = "fact,6,triggers,{p} free={p q}\nfact,8,triggers,{},{q} free={q}\nkept,6,a\nkept,8,b\nsum,2,2,3\n" ∷ [];
     }
-    ∷ record {
+    ∷ []
+
+-- a wrong one is named in the error
+pass-22 : All-print files-22
+unfolding prints files-22
+pass-22 = (refl, (refl, (refl, (refl, (refl, (refl, (refl, (refl, (refl, (refl, (refl, (refl, (refl, (refl, (refl, (refl, (refl, (refl, (refl, (refl, tt))))))))))))))))))))
+
+-- rounds-empty-disjuncts-only to rule-0-no-group-assumption
+files-23 : List Small
+files-23 =
+    record {
       name = "rounds-empty-disjuncts-only";
       file = "ask,0,0\nfree,p\nall,0,3,0,0,0\nassume,a,0,1\nroot,0,r,0\n" ∷ [];
       printed = "fact,4,triggers,{},{},{} free={p}\nsum,0,0,1\n" ∷ [];
@@ -1948,17 +2420,7 @@ files-19 =
       file = "ask,0,0\nfree,p\nfree,q\nop,eq,0,1\nassume,e,0,2\nleaf\nall,3,1,1,1\nassume,f,0,4\nroot,0,r,0\n" ∷ [];
       printed = "fact,5,triggers,{p},{q} free={p q}\nfact,8,triggers,{q} free={q}\nkept,5,e\nkept,8,f\nsum,2,3,3\n" ∷ [];
     }
-    ∷ []
-
--- a wrong one is named in the error
-pass-19 : All-print files-19
-unfolding prints files-19
-pass-19 = (refl, (refl, (refl, (refl, (refl, (refl, (refl, (refl, (refl, (refl, (refl, (refl, (refl, (refl, (refl, (refl, (refl, (refl, (refl, (refl, tt))))))))))))))))))))
-
--- rounds-root-of-other-query to rule-11
-files-20 : List Small
-files-20 =
-    record {
+    ∷ record {
       name = "rounds-root-of-other-query";
       file = "ask,3,0\nfree,p\nfree,q\nleaf\nall,2,1,2,0,1\nassume,a,0,3\nroot,3,r,0\nroot,2,r,1\n" ∷ [];
       printed = "fact,6,triggers,{p q} free={p q}\nsum,0,1,1\n" ∷ [];
@@ -2002,7 +2464,17 @@ files-20 =
       file = "ask,0,0\nfree,p\nfree,q\nall,0,0\nassume,assumption_1,0,2\n" ∷ [];
       printed = "fact,5,triggers,{p} free={p}\nsum,0,0,1\n" ∷ [];
     }
-    ∷ record {
+    ∷ []
+
+-- a wrong one is named in the error
+pass-23 : All-print files-23
+unfolding prints files-23
+pass-23 = (refl, (refl, (refl, (refl, (refl, (refl, (refl, (refl, (refl, (refl, (refl, (refl, (refl, (refl, (refl, (refl, (refl, tt)))))))))))))))))
+
+-- rule-0-some to rule-3-arities
+files-24 : List Small
+files-24 =
+    record {
       name = "rule-0-some";
       file = "ask,0,0\nfree,p\nsome,0,1,1,0\nassume,a,0,1\nassume,assumption_a,0,1\n" ∷ [];
       printed = "fact,4,ambient,0 free={p}\nfact,5,triggers,{p} free={p}\nkept,4,a\nsum,1,0,1\n" ∷ [];
@@ -2060,17 +2532,7 @@ files-20 =
       file = "ask,0,0\nfree,p\nfree,q\nop,true,0\nassume,x,0,2\n" ∷ [];
       printed = "fact,5,drop free={p}\nsum,0,0,1\n" ∷ [];
     }
-    ∷ []
-
--- a wrong one is named in the error
-pass-20 : All-print files-20
-unfolding prints files-20
-pass-20 = (refl, (refl, (refl, (refl, (refl, (refl, (refl, (refl, (refl, (refl, (refl, (refl, (refl, (refl, (refl, (refl, (refl, (refl, tt))))))))))))))))))
-
--- rule-11-words to rule-3-type-is-all
-files-21 : List Small
-files-21 =
-    record {
+    ∷ record {
       name = "rule-11-words";
       file = "ask,0,0\nfree,p\nop,true\nassume,a,0,1\nop,true,0,0,0\nassume,b,0,2\nop,and\nassume,c,0,3\nop,other\n"
           ∷ "assume,d,0,4\nop,iff\nassume,e,0,5\nop,eq\nassume,f,0,6\nlabel,1\nassume,g,0,7\n"
@@ -2114,7 +2576,17 @@ files-21 =
           ∷ "kept,16,a0\nkept,13,a3\nkept,7,a1\nsum,4,1,2\n"
           ∷ [];
     }
-    ∷ record {
+    ∷ []
+
+-- a wrong one is named in the error
+pass-24 : All-print files-24
+unfolding prints files-24
+pass-24 = (refl, (refl, (refl, (refl, (refl, (refl, (refl, (refl, (refl, (refl, (refl, (refl, (refl, (refl, (refl, tt)))))))))))))))
+
+-- rule-3-free-squash to rule-4-tok-tok
+files-25 : List Small
+files-25 =
+    record {
       name = "rule-3-free-squash";
       file = "ask,0,0\nfree,p\nfree,q\nfree,Prims.squash\ncall,HasType,0,2\nassume,x,0,3\n" ∷ [];
       printed = "fact,6,triggers,{p} free={Prims.squash p}\nsum,0,0,1\n" ∷ [];
@@ -2160,17 +2632,7 @@ files-21 =
       file = "ask,0,0\nfree,x\nall,0,1,1,0\ncall,HasType,0,1\nassume,a,0,2\n" ∷ [];
       printed = "fact,5,triggers,{x} free={x}\nsum,0,0,1\n" ∷ [];
     }
-    ∷ []
-
--- a wrong one is named in the error
-pass-21 : All-print files-21
-unfolding prints files-21
-pass-21 = (refl, (refl, (refl, (refl, (refl, (refl, (refl, (refl, (refl, (refl, (refl, (refl, (refl, tt)))))))))))))
-
--- rule-4-markers to rule-5-hastype
-files-22 : List Small
-files-22 =
-    record {
+    ∷ record {
       name = "rule-4-markers";
       file = "ask,0,0\nfree,__uu__PartialApp\ncall,__uu__PartialApp\nfree,x\ncall,__uu__PartialApp,2\ncall,f@tok\n"
           ∷ "call,ApplyTT,0,4\ncall,Valid,5\nassume,a,0,6\ncall,ApplyTT,1,4\ncall,Valid,7\nassume,b,0,8\n"
@@ -2195,7 +2657,17 @@ files-22 =
           ∷ [];
       printed = "fact,8,triggers,{a@tok@tok},{a@tok} free={__uu__PartialApp a@tok@tok}\nsum,0,0,1\n" ∷ [];
     }
-    ∷ record {
+    ∷ []
+
+-- a wrong one is named in the error
+pass-25 : All-print files-25
+unfolding prints files-25
+pass-25 = (refl, (refl, (refl, (refl, (refl, (refl, (refl, (refl, (refl, (refl, tt))))))))))
+
+-- rule-4-tokens to rule-7
+files-26 : List Small
+files-26 =
+    record {
       name = "rule-4-tokens";
       file = "ask,0,0\nfree,__uu__PartialApp\nfree,x\nfree,f@to\ncall,ApplyTT,0,2\ncall,Valid,3\nassume,a,0,4\nleaf\n"
           ∷ "call,ApplyTT,0,5\ncall,Valid,6\nassume,b,0,7\ncall,g@tok,1\ncall,ApplyTT,0,8\ncall,Valid,9\n"
@@ -2237,17 +2709,7 @@ files-22 =
       file = "ask,0,0\nfree,p\nfree,q\ncall,HasType,1,0\nassume,x,0,2\n" ∷ [];
       printed = "fact,5,triggers,{q} free={p q}\nsum,0,0,1\n" ∷ [];
     }
-    ∷ []
-
--- a wrong one is named in the error
-pass-22 : All-print files-22
-unfolding prints files-22
-pass-22 = (refl, (refl, (refl, (refl, (refl, (refl, tt))))))
-
--- rule-6 to rule-9-half-right
-files-23 : List Small
-files-23 =
-    record {
+    ∷ record {
       name = "rule-6";
       file = "ask,0,0\nfree,p\nfree,q\ncall,Term_constr_id,1\nop,eq,0,2\nassume,equation_x,0,3\n" ∷ [];
       printed = "fact,6,triggers,{q} free={Term_constr_id p q}\nsum,0,0,1\n" ∷ [];
@@ -2279,7 +2741,17 @@ files-23 =
       file = "ask,0,0\nfree,p\nfree,q\nall,0,1,1,1\nlabel,2\nall,0,2,1,0,0\nop,and,0,3,4,2\nassume,x,0,5\n" ∷ [];
       printed = "fact,8,triggers,{q},{p},{},{q} free={p q}\nsum,0,0,1\n" ∷ [];
     }
-    ∷ record {
+    ∷ []
+
+-- a wrong one is named in the error
+pass-26 : All-print files-26
+unfolding prints files-26
+pass-26 = (refl, (refl, (refl, (refl, (refl, (refl, (refl, (refl, tt))))))))
+
+-- rule-7-nested to t-before-a-taken-name-in-the-new-form
+files-27 : List Small
+files-27 =
+    record {
       name = "rule-7-nested";
       file = "ask,0,0\nfree,p\nfree,q\nall,0,1,1,1\nop,and,2\nop,and,3\nassume,x,0,4\n" ∷ [];
       printed = "fact,7,triggers free={p q}\nsum,0,0,1\n" ∷ [];
@@ -2316,17 +2788,7 @@ files-23 =
       file = "ask,0,0\nfree,p\nfree,q\ncall,Prims.hasEq,0,1\ncall,Valid,2\nop,iff,0,3\nassume,x,0,4\n" ∷ [];
       printed = "fact,7,triggers,{p},{Prims.hasEq p q} free={Prims.hasEq p q}\nsum,0,0,1\n" ∷ [];
     }
-    ∷ []
-
--- a wrong one is named in the error
-pass-23 : All-print files-23
-unfolding prints files-23
-pass-23 = (refl, (refl, (refl, (refl, (refl, (refl, (refl, (refl, (refl, tt)))))))))
-
--- rule-9-has-eq to without-hide-needs-both-names
-files-24 : List Small
-files-24 =
-    record {
+    ∷ record {
       name = "rule-9-has-eq";
       file = "ask,0,0\nfree,u\nfree,s\nfree,t\ncall,Prims.hasEq,0,1\ncall,Valid,3\ncall,Prims.hasEq,0,2\n"
           ∷ "call,Valid,5\nop,iff,4,6\nassume,a,0,7\nop,iff,6,4\nassume,b,0,8\nop,iff,4,0\nassume,c,0,9\nop,iff,3,5\n"
@@ -2372,6 +2834,33 @@ files-24 =
       printed = "fact,6,triggers,{q},{q} free={q}\nsum,0,0,1\nsum,0,2,2\n" ∷ [];
     }
     ∷ record {
+      name = "t-after-group-is-4";
+      file = "ask2,0,0,1\nfree,p\nop,eq,0,0\nassume,a,0,15,2\n" ∷ [];
+      printed = "refused,4,4\n" ∷ [];
+    }
+    ∷ record {
+      name = "t-before-a-taken-name-in-the-new-form";
+      file = "ask2,0,0,1\nfree,p\nop,eq,0,0\nfun,a\nassume,a,0,15,2\n" ∷ [];
+      printed = "refused,4,5\n" ∷ [];
+    }
+    ∷ []
+
+-- a wrong one is named in the error
+pass-27 : All-print files-27
+unfolding prints files-27
+pass-27 = (refl, (refl, (refl, (refl, (refl, (refl, (refl, (refl, (refl, (refl, (refl, (refl, (refl, tt)))))))))))))
+
+-- token-of-a-fact-not-admitted-is-not-filed to without-hide-needs-both-names
+files-28 : List Small
+files-28 =
+    record {
+      name = "token-of-a-fact-not-admitted-is-not-filed";
+      file = "ask2,0,0,1\nask2,0,0,2\nfree,__uu__PartialApp\nfree,f@tok\ncall,ApplyTT,0,1\ncall,Valid,2\n"
+          ∷ "assume,partial,0,1,3\nfree,f\nroot,0,r,4\n"
+          ∷ [];
+      printed = "fact,7,triggers,{f@tok},{f} free={__uu__PartialApp f@tok}\nsum,0,0,1\nkept,7,partial\nsum,1,2,3\n" ∷ [];
+    }
+    ∷ record {
       name = "two-asks-two-answers";
       file = "ask,0,0\nask,1,0\nfree,p\nfree,q\nop,eq,0,0\nassume,a,0,2\nop,eq,1,1\nassume,b,0,3\nroot,0,r,0\n"
           ∷ "root,1,r,1\n"
@@ -2388,6 +2877,6 @@ files-24 =
     ∷ []
 
 -- a wrong one is named in the error
-pass-24 : All-print files-24
-unfolding prints files-24
-pass-24 = (refl, (refl, (refl, (refl, (refl, (refl, (refl, (refl, tt))))))))
+pass-28 : All-print files-28
+unfolding prints files-28
+pass-28 = (refl, (refl, (refl, tt)))

@@ -11,7 +11,7 @@ use Rattle.model.specs.Rounds.{Run, first-run, facts, macros, filed, mos
 
 -- the ask with other queries
 unfoldable pub with-queries : Ask → List ℕ → Ask
-with-queries a qs = record { queries = qs; options = a .options }
+with-queries a qs = record { queries = qs; options = a .options; groups = a .groups }
 
 -- the free names of what the first round of the stretch of a query scans: its roots, and no ambient roots
 unfoldable pub also-scanned : ℕ → List Root → List Name

@@ -1,9 +1,9 @@
 -- Reading a file, line after line: document 01, "The file" and "Who can cause a refusal", the refusals 1 to 6;
 -- document 02, Change 1: 10 to 12, Change 6: hide lines, Change 7: several ask lines, 13, Change 8: options up to 15,
--- Change 11: also lines.
+-- Change 11: also lines, Change 13: the form with groups.
 use Prim.Native.Nat.{ℕ, zero, suc, _+_, _/_, _%_}
 use Prim.Native.String.{String}
-use mathlib.Core.Bool.{Bool, true, false, cond, not, _&&_}
+use mathlib.Core.Bool.{Bool, true, false, cond, not, _&&_, _||_, Bool·beq}
 use mathlib.Core.List.{List, [], _∷_, _++_, map}
 use mathlib.Core.Option.{Option, none, some}
 use lib.ListN.{length}
@@ -57,6 +57,7 @@ op-words = ("true", TrueOp) ∷ ("iff", Iff) ∷ ("eq", Eq) ∷ ("and", And) ∷
 unfoldable pub kinds : List (String × LineKind)
 kinds =
     ("ask", kind.Ask)
+    ∷ ("ask2", kind.Ask2)
     ∷ ("also", kind.Also)
     ∷ ("hide", kind.Hide)
     ∷ ("free", kind.Free)
@@ -118,14 +119,15 @@ groups count (suc g) fs = do
 -- what a line of the head of a file says, in the order of its fields
 pub data Head : Type 0 where
   ask : ℕ → ℕ → Head
+  ask2 : ℕ → ℕ → ℕ → Head
   also : ℕ → Head
   hide : Name → Head
 
--- what a line says, in the order of its fields
+-- what a line says, in the order of its fields; an assume has its group before its term, 0 in the older form
 pub data Content : Type 0 where
   head : Head → Content
   term : Node → Content
-  assume : Name → Bool → ℕ → Content
+  assume : Name → Bool → ℕ → ℕ → Content
   fun : Name → Content
   def : Name → ℕ → Content
   retain : List Name → Content
@@ -139,62 +141,80 @@ quantifier make count fs = do
   (gs, fs₃) ← groups count g fs₂
   end (term (make body gs)) fs₃
 
--- the highest number of a query and of options
+-- the highest number of a query, of options, of a group, and of the groups that an ask admits
 abbrev pub most-query : ℕ
 most-query = 255
 
 abbrev pub most-options : ℕ
 most-options = 15
 
--- the fields of a line after its kind, left to right; `count` is the number of term lines so far
-unfoldable pub content : LineKind → ℕ → List Field → Result Content
-content kind.Ask count fs = do
+abbrev pub most-group : ℕ
+most-group = 15
+
+abbrev pub most-groups : ℕ
+most-groups = 65535
+
+-- the group of an assume: the next field in the form with groups, else 0 and no field
+unfoldable pub group-field : Bool → List Field → Result (ℕ × List Field)
+group-field true fs = next (number-field most-group) fs
+group-field false fs = ok (0, fs)
+
+-- the fields of a line after its kind, left to right; `grouped`: the file is of the form with groups; `count` is the number of
+-- term lines so far
+unfoldable pub content : LineKind → Bool → ℕ → List Field → Result Content
+content kind.Ask grouped count fs = do
   (q, fs₁) ← next (number-field most-query) fs
   (options, fs₂) ← next (number-field most-options) fs₁
   end (head (ask q options)) fs₂
-content kind.Also count fs = do
+content kind.Ask2 grouped count fs = do
+  (q, fs₁) ← next (number-field most-query) fs
+  (options, fs₂) ← next (number-field most-options) fs₁
+  (admitted, fs₃) ← next (number-field most-groups) fs₂
+  end (head (ask2 q options admitted)) fs₃
+content kind.Also grouped count fs = do
   (q, fs₁) ← next (number-field most-query) fs
   end (head (also q)) fs₁
-content kind.Hide count fs = do
+content kind.Hide grouped count fs = do
   (name, fs₁) ← next name-field fs
   end (head (hide name)) fs₁
-content kind.Free count fs = do
+content kind.Free grouped count fs = do
   (name, fs₁) ← next name-field fs
   end (term (FreeV name)) fs₁
-content kind.Leaf count fs = end (term Leaf) fs
-content kind.Call count fs = do
+content kind.Leaf grouped count fs = end (term Leaf) fs
+content kind.Call grouped count fs = do
   (name, fs₁) ← next name-field fs
   ts ← rest (term-field count) fs₁
   ok (term (Call name ts))
-content kind.Op count fs = do
+content kind.Op grouped count fs = do
   (w, fs₁) ← next (λ f. need refusal.Form (word op-words f)) fs
   ts ← rest (term-field count) fs₁
   ok (term (App w ts))
-content kind.All count fs = quantifier Forall count fs
-content kind.Some count fs = quantifier Exists count fs
-content kind.Let count fs = do
+content kind.All grouped count fs = quantifier Forall count fs
+content kind.Some grouped count fs = quantifier Exists count fs
+content kind.Let grouped count fs = do
   (body, fs₁) ← next (term-field count) fs
   ts ← rest (term-field count) fs₁
   ok (term (Let body ts))
-content kind.Label count fs = do
+content kind.Label grouped count fs = do
   (t, fs₁) ← next (term-field count) fs
   end (term (Labeled t)) fs₁
-content kind.Assume count fs = do
+content kind.Assume grouped count fs = do
   (name, fs₁) ← next name-field fs
   (flag, fs₂) ← next (number-field 1) fs₁
-  (t, fs₃) ← next (term-field count) fs₂
-  end (assume name (eqb flag 1) t) fs₃
-content kind.Fun count fs = do
+  (group, fs₃) ← group-field grouped fs₂
+  (t, fs₄) ← next (term-field count) fs₃
+  end (assume name (eqb flag 1) group t) fs₄
+content kind.Fun grouped count fs = do
   (name, fs₁) ← next name-field fs
   end (fun name) fs₁
-content kind.Def count fs = do
+content kind.Def grouped count fs = do
   (name, fs₁) ← next name-field fs
   (t, fs₂) ← next (term-field count) fs₁
   end (def name t) fs₂
-content kind.Retain count fs = do
+content kind.Retain grouped count fs = do
   names ← rest name-field fs
   ok (retain names)
-content kind.Root count fs = do
+content kind.Root grouped count fs = do
   (q, fs₁) ← next (number-field most-query) fs
   (name, fs₂) ← next name-field fs₁
   (t, fs₃) ← next (term-field count) fs₂
@@ -220,11 +240,12 @@ pub record Root : Type 0 where
   pub name : Name
   pub free-names : List Name
 
--- what a position asks for: the query of its line, and on an also line those before it in its chain, the last first; and the
--- options number
+-- what a position asks for: the query of its line, and on an also line those before it in its chain, the last first; the options
+-- number; and the number of the groups that it admits
 pub record Ask : Type 0 where
   pub queries : List ℕ
   pub options : ℕ
+  pub groups : ℕ
 
 -- option 1, `no_ambients`
 unfoldable pub no-ambients : Ask → Bool
@@ -242,10 +263,11 @@ prune-decls a = eqb (a .options / 4 % 2) 1
 unfoldable pub follow-bodies : Ask → Bool
 follow-bodies a = eqb (a .options / 8 % 2) 1
 
--- what reading carries from line to line. `asks`: one for each ask and also line. `hidden`: a name for each hide line. `names`:
--- in order of first spelling. `decls` and `roots`: in file order
+-- what reading carries from line to line. `asks`: one for each ask and also line. `grouped`: the form with groups. `hidden`: a
+-- name for each hide line. `names`: in order of first spelling. `decls` and `roots`: in file order
 pub record State : Type 0 where
   pub asks : List Ask
+  pub grouped : Bool
   pub hidden : List Name
   pub terms : List Term
   pub names : List Name
@@ -260,6 +282,7 @@ unfoldable pub start : State
 start =
     record {
       asks = [];
+      grouped = false;
       hidden = [];
       terms = [];
       names = [];
@@ -278,15 +301,16 @@ in-head s = is-nil (s .terms) && is-nil (s .decls) && is-nil (s .roots)
 unfoldable pub in-asks : State → Bool
 in-asks s = in-head s && is-nil (s .hidden)
 
--- what decides where a line of a kind may stand: an ask, an also, a hide, or any other
+-- what decides where a line of a kind may stand: an ask, with groups or without, an also, a hide, or any other
 pub data Place : Type 0 where
-  an-ask : Place
+  an-ask : Bool → Place
   an-also : Place
   a-hide : Place
   another : Place
 
 unfoldable pub place : LineKind → Place
-place kind.Ask = an-ask
+place kind.Ask = an-ask false
+place kind.Ask2 = an-ask true
 place kind.Also = an-also
 place kind.Hide = a-hide
 place kind.Free = another
@@ -303,16 +327,20 @@ place kind.Def = another
 place kind.Retain = another
 place kind.Root = another
 
--- whether such a line may stand next: an ask first, then ask and also lines; then hide lines; then any other
+-- whether an ask line may be of this form: the first of any, a later one of the first one's
+unfoldable pub of-form : State → Bool → Bool
+of-form s grouped = is-nil (s .asks) || Bool·beq grouped (s .grouped)
+
+-- whether such a line may stand next: an ask first, then asks of its form and also lines; then hide lines; then any other
 unfoldable pub may-stand : State → Place → Bool
-may-stand s an-ask = in-asks s
+may-stand s (an-ask grouped) = in-asks s && of-form s grouped
 may-stand s an-also = in-asks s && not (is-nil (s .asks))
 may-stand s a-hide = in-head s && not (is-nil (s .asks))
 may-stand s another = not (is-nil (s .asks))
 
 -- whether such a line takes a position of the answer
 unfoldable pub is-position : Place → Bool
-is-position an-ask = true
+is-position (an-ask grouped) = true
 is-position an-also = true
 is-position a-hide = false
 is-position another = false
@@ -331,6 +359,7 @@ kind-field s f = do
 -- the fields of the next line, the kind counted, where their count is fixed
 unfoldable pub fixed-count : State → LineKind → Option ℕ
 fixed-count s kind.Ask = some 3
+fixed-count s kind.Ask2 = some 4
 fixed-count s kind.Also = some 2
 fixed-count s kind.Hide = some 2
 fixed-count s kind.Free = some 2
@@ -341,7 +370,7 @@ fixed-count s kind.All = none
 fixed-count s kind.Some = none
 fixed-count s kind.Let = none
 fixed-count s kind.Label = some 2
-fixed-count s kind.Assume = some 4
+fixed-count s kind.Assume = some (cond (s .grouped) 5 4)
 fixed-count s kind.Fun = some 2
 fixed-count s kind.Def = some 3
 fixed-count s kind.Retain = none
@@ -351,21 +380,32 @@ fixed-count s kind.Root = some 4
 unfoldable pub parse : State → List Field → Result Content
 parse s all = do
   (k, fs) ← next (kind-field s) all
-  cond (holds (λ c. not (eqb (length all) c)) (fixed-count s k)) (refused refusal.Form) (content k (length (s .terms)) fs)
+  cond (holds (λ c. not (eqb (length all) c)) (fixed-count s k)) (refused refusal.Form)
+      (content k (s .grouped) (length (s .terms)) fs)
 
 -- an ask with one query more
 unfoldable pub with-query : ℕ → Ask → Ask
-with-query q a = record { queries = q ∷ a .queries; options = a .options }
+with-query q a = record { queries = q ∷ a .queries; options = a .options; groups = a .groups }
 
--- the position that a line of the head is, behind these: an also line goes on from the last
+-- the position that a line of the head is, behind these: an ask of the older form admits all groups, an also line goes on from
+-- the last
 unfoldable pub head-asks : List Ask → Head → List Ask
-head-asks asks (ask q options) = record { queries = q ∷ []; options = options } ∷ []
+head-asks asks (ask q options) = record { queries = q ∷ []; options = options; groups = most-groups } ∷ []
+head-asks asks (ask2 q options admitted) = record { queries = q ∷ []; options = options; groups = admitted } ∷ []
 head-asks asks (also q) = map (with-query q) (last asks)
 head-asks asks (hide name) = []
+
+-- whether a line of the head is an ask of the form with groups
+unfoldable pub is-grouped : Head → Bool
+is-grouped (ask q options) = false
+is-grouped (ask2 q options admitted) = true
+is-grouped (also q) = false
+is-grouped (hide name) = false
 
 -- the name that a line of the head hides, and spells
 unfoldable pub hidden-by : Head → List Name
 hidden-by (ask q options) = []
+hidden-by (ask2 q options admitted) = []
 hidden-by (also q) = []
 hidden-by (hide name) = name ∷ []
 
@@ -373,7 +413,7 @@ hidden-by (hide name) = name ∷ []
 unfoldable pub heads : Content → List Head
 heads (head h) = h ∷ []
 heads (term node) = []
-heads (assume name flag t) = []
+heads (assume name flag group t) = []
 heads (fun name) = []
 heads (def name t) = []
 heads (retain names) = []
@@ -383,7 +423,7 @@ heads (root q name t) = []
 unfoldable pub nodes : Content → List Node
 nodes (head h) = []
 nodes (term node) = node ∷ []
-nodes (assume name flag t) = []
+nodes (assume name flag group t) = []
 nodes (fun name) = []
 nodes (def name t) = []
 nodes (retain names) = []
@@ -404,7 +444,7 @@ spelled-by (Labeled t) = []
 unfoldable pub spelled : Content → List Name
 spelled (head h) = hidden-by h
 spelled (term node) = spelled-by node
-spelled (assume name flag t) = name ∷ []
+spelled (assume name flag group t) = name ∷ []
 spelled (fun name) = name ∷ []
 spelled (def name t) = name ∷ []
 spelled (retain names) = names
@@ -485,7 +525,7 @@ module _ (exclude : List Name) where
   unfoldable pub summarize-decl : List Term → ℕ → Content → List Summary
   summarize-decl terms n (head h) = []
   summarize-decl terms n (term node) = []
-  summarize-decl terms n (assume name flag t) = Sum-assume (summarize-assumption exclude terms n name flag t) ∷ []
+  summarize-decl terms n (assume name flag group t) = Sum-assume (summarize-assumption exclude terms n name flag group t) ∷ []
   summarize-decl terms n (fun name) = Sum-declfun (record { line = n; name = name; free-names = [] }) ∷ []
   summarize-decl terms n (def name t) =
       Sum-definefun (record { line = n; name = name; free-names = free-top-level-names exclude terms t }) ∷ []
@@ -496,7 +536,7 @@ module _ (exclude : List Name) where
   unfoldable pub trimmed : List Term → Content → List Name
   trimmed terms (head h) = []
   trimmed terms (term node) = []
-  trimmed terms (assume name flag t) = summarize-kind exclude terms name t .trimmed
+  trimmed terms (assume name flag group t) = summarize-kind exclude terms name t .trimmed
   trimmed terms (fun name) = []
   trimmed terms (def name t) = []
   trimmed terms (retain names) = []
@@ -506,7 +546,7 @@ module _ (exclude : List Name) where
   unfoldable pub root-of : List Term → ℕ → Content → List Root
   root-of terms n (head h) = []
   root-of terms n (term node) = []
-  root-of terms n (assume name flag t) = []
+  root-of terms n (assume name flag group t) = []
   root-of terms n (fun name) = []
   root-of terms n (def name t) = []
   root-of terms n (retain names) = []
@@ -526,6 +566,7 @@ module _ (exclude : List Name) where
       let roots = root-of out (s .terms) n c in
       record {
         asks = s .asks ++ collect (head-asks (s .asks)) (heads c);
+        grouped = s .grouped || any is-grouped (heads c);
         hidden = s .hidden ++ collect hidden-by (heads c);
         terms = fold-left add-term (s .terms) (nodes c);
         names = fold-left spell (s .names) (spelled c ++ trimmed out (s .terms) c);

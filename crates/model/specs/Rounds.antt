@@ -1,5 +1,6 @@
--- Document 01, "Firing" and "Rounds": names met, firing, the rounds of a run and its visits.
-use Prim.Native.Nat.{ℕ, zero, suc, _+_}
+-- Document 01, "Firing" and "Rounds": names met, firing, the rounds of a run and its visits. Document 02, Change 13: the
+-- background of an ask.
+use Prim.Native.Nat.{ℕ, zero, suc, _+_, _/_, _%_, _^_}
 use mathlib.Core.Bool.{Bool, true, false, cond, not, _&&_, _||_}
 use mathlib.Core.List.{List, [], _∷_, _++_, map}
 use mathlib.Core.Option.{Option·getD}
@@ -37,6 +38,21 @@ declarations (Sum-definefun d ∷ decls) = declarations decls
 declarations (Sum-declfun d ∷ decls) = d ∷ declarations decls
 declarations (Sum-retain ∷ decls) = declarations decls
 
+-- whether an ask admits a group: the bit of the number of its groups at the group's place
+unfoldable pub admits : Ask → ℕ → Bool
+admits a group = eqb (a .groups / 2 ^ group % 2) 1
+
+-- whether an ask has to do with a record: not with a fact of a group that it does not admit
+unfoldable pub is-admitted : Ask → Summary → Bool
+is-admitted a (Sum-assume f) = admits a (f .group)
+is-admitted a (Sum-definefun d) = true
+is-admitted a (Sum-declfun d) = true
+is-admitted a Sum-retain = true
+
+-- the background of an ask: the records of the file without the facts that it does not admit
+unfoldable pub background : Ask → List Summary → List Summary
+background a decls = keep (is-admitted a) decls
+
 -- the macros of a file: a def's name opens to its term's free names; the five of the start, unless a def replaces them
 unfoldable pub macros : List Summary → Map (List Name)
 macros decls = map (λ d. (d .name, d .free-names)) (definitions decls) ++ init-macro-freenames
@@ -66,7 +82,7 @@ unfoldable pub triggers-in : List Name → List Name → Fact → Bool
 triggers-in before after f =
     any (λ n. mem n after && not (mem n before)) (listed f) && any (lies-within after) (f .triggers)
 
--- whether a fact is retainable: its flag is 0, or option 2 is on
+-- whether a fact of the background is retainable: its flag is 0, or option 2 is on
 unfoldable pub retainable : Ask → Fact → Bool
 retainable a f = not (f .pretyping) || pretyping-axioms a
 

@@ -50,6 +50,7 @@ pub enum Op {
 // The kind of a line.
 pub enum LineKind {
     Ask,
+    Ask2,
     Also,
     Hide,
     Free,
@@ -89,10 +90,14 @@ pub const MOST_ENTRIES: usize = 2048;
 
 pub const MOST_USES: usize = 6144;
 
-// The highest number of a query and of options.
+// The highest number of a query, of options, of a group, and of the groups that an ask admits.
 pub const MOST_QUERY: u32 = 255;
 
 pub const MOST_OPTIONS: u32 = 15;
+
+pub const MOST_GROUP: u32 = 15;
+
+pub const MOST_GROUPS: u32 = 65535;
 
 // The ask and also lines that a file may have.
 pub const MOST_ASKS: usize = 16;
@@ -103,10 +108,11 @@ pub const MOST_KEPT: usize = MOST_ASKS * MOST_RECORDS;
 // The words of a working slice that a call uses.
 pub const WORKING_WORDS: usize = 16384;
 
-// How much of the tables the lines read so far fill: asks (the also lines among them), hide lines, names, references, terms,
-// records (the hide lines among them), trigger entries, name uses; and the next mark.
+// How much of the tables the lines read so far fill: asks (the also lines among them), whether they are of the form with groups,
+// hide lines, names, references, terms, records (the hide lines among them), trigger entries, name uses; and the next mark.
 pub struct Counts {
     pub asks: usize,
+    pub grouped: bool,
     pub hides: usize,
     pub names: usize,
     pub references: usize,
@@ -117,11 +123,13 @@ pub struct Counts {
     pub mark: usize,
 }
 
-// What a run is asked: the queries of the positions from `first` on before `end`, and an options number.
+// What a run is asked: the queries of the positions from `first` on before `end`, an options number, and the number of the groups
+// that are admitted.
 pub struct Asked {
     pub first: usize,
     pub end: usize,
     pub options: usize,
+    pub groups: usize,
 }
 
 // What a line comes to: the counts then, or its refusal.
