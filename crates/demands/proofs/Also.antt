@@ -4,7 +4,7 @@ use native.Mathlib.Omega.{arith}
 use mathlib.Core.Path.{_≡_, refl, sym, _∙_, ap, ap₂, subst}
 use mathlib.Core.Logic.{_⊎_, inl, inr, ⊎-elim, _≢_}
 use mathlib.Core.Bool.{Bool, true, false, not, _&&_, _||_}
-use mathlib.Core.List.{List, [], _∷_, _++_, map, map-map, map-append, append-assoc, List·Memᴰ, List·Memᴰ·head, List·Memᴰ·append-cases, Memᴰ·append-left, Memᴰ·append-right}
+use mathlib.Core.List.{List, [], _∷_, _++_, map, map-map, map-append, append-assoc, List·Memᴰ, List·Memᴰ·append-cases, Memᴰ·append-left, Memᴰ·append-right}
 use lib.Dec.{T, T-not, not-T, eqb, eqb→eq, eqb-refl}
 use lib.ListN.{length, length-append, drop}
 use Rattle.model.specs.Lists.{any, keep, collect, sum, is-nil}
@@ -25,19 +25,21 @@ use Rattle.laws.specs.Fuel.{Ends, last, more}
 use Rattle.laws.proofs.MetLaws.{met-within, with-first, after-elim}
 use Rattle.laws.proofs.FiringLaws.{first-met}
 use Rattle.laws.proofs.FuelLaws.{unmet, unmet-filed, rounds-end}
+use Rattle.laws.proofs.BackgroundLaws.{background-with}
 use Rattle.laws.proofs.StretchLaws.{visits-grow, first-visits, stretch-ends, stretch-few, own-queries, same-rounds, chain-with, chain-grows, chain-some}
 use Rattle.demands.specs.LinesRead.{records-for, At}
 use Rattle.demands.specs.WellFormed.{Well-formed}
+use Rattle.demands.specs.Demand2.{followed-list}
 use Rattle.demands.specs.Demand3.{run-of}
 use Rattle.demands.specs.Also.{chain-at, chain-of, chain-before, Chain-by-lines, Chain-is-fresh, Roots-by-line, First-is-run, Stretch-visits-exact, visits-of-lines, Visits-sum, Visits-told, Stretch-rounds, Stretch-some, Stretch-bound, Nothing-added}
 use Rattle.laws.proofs.ReadingLaws.{file-read}
 use Rattle.demands.proofs.Facts.{names-distinct}
 use Rattle.demands.proofs.Settled.{Same-names, settled-reached, settled-met}
 use Rattle.demands.proofs.Stretches.{Going, going-first, going-end, going-on, going-settled, run-settled}
-use Rattle.demands.proofs.WellFormed.{accepted-well-formed}
+use Rattle.demands.proofs.Background.{well-for}
 use Rattle.demands.proofs.ScanFile.{none-visited}
 use Rattle.demands.proofs.Moved.{map-length}
-use Rattle.demands.proofs.Asks.{Chained-asks, chained-asks, accepted-asks}
+use Rattle.demands.proofs.Asks.{at-member, Chained-asks, chained-asks, accepted-asks}
 use Rattle.demands.proofs.Demand1.{answers-filtered, list-given}
 
 -- the roots of one query, in file order
@@ -157,12 +159,13 @@ module _ (a : Ask) (decls : List Summary) (roots : List Root) where
 -- a chain by its lines
 pub chain-by-lines : Chain-by-lines
 unfolding with-queries
-chain-by-lines a s qs = sym (chain-with a (records-for a s) (s .roots) qs qs)
+chain-by-lines a s qs =
+    sym (ap (λ decls. chain (with-queries a qs) decls (s .roots) qs) (background-with a qs (s .decls)) ∙ chain-with a (records-for a s) (s .roots) qs qs)
 
 -- the list given is that of the fresh run
 pub chain-is-fresh : Chain-is-fresh
 chain-is-fresh file s e a q qs h =
-    let (reached, met) = chain-fresh a (records-for a s) (s .roots) (accepted-well-formed file s e) q qs in
+    let (reached, met) = chain-fresh a (records-for a s) (s .roots) (well-for file s e a) q qs in
     let own = own-queries a (q ∷ qs) h in
     let same-reached = ap (λ l. chain-at a s l .reached) h ∙ reached ∙ ap (λ (b : Ask). run b (records-for a s) (s .roots) .reached) own in
     record {
@@ -179,13 +182,21 @@ same-list : (a : Ask) (decls : List Summary) (roots : List Root) (ps qs : List �
 unfolding kept-followed kept-names kept-facts ambients added-for no-ambients prune-decls follow-bodies run first-scanned ambient-roots with-queries
 same-list a decls roots ps qs e = rw (same-rounds a decls roots ps, same-rounds a decls roots qs, e)
 
+-- an ask with other queries gives its list over the same records
+list-with : (a : Ask) (s : State) (qs : List ℕ)
+    → followed-list (with-queries a qs) s
+    ≡ kept-followed (with-queries a qs) (records-for a s) (s .roots) (run (with-queries a qs) (records-for a s) (s .roots) .reached)
+list-with a s qs =
+    ap (λ decls. kept-followed (with-queries a qs) decls (s .roots) (run (with-queries a qs) decls (s .roots) .reached)) (background-with a qs (s .decls))
+
 -- the roots of the same queries are the same, whatever their order
 pub roots-by-line : Roots-by-line
 unfolding goal-roots asks-for with-queries
 roots-by-line a s ps qs h =
-    same-list a (records-for a s) (s .roots) ps qs
+    list-with a s ps ∙ same-list a (records-for a s) (s .roots) ps qs
     (keep-cong (λ (r : Root). any (eqb (r .query)) ps) (λ (r : Root). any (eqb (r .query)) qs) (s .roots) (λ r m.
     T-ext {a = any (eqb (r .query)) ps} {b = any (eqb (r .query)) qs} (λ t. moved (r .query) ps qs (λ q. h q .0) t) (λ t. moved (r .query) qs ps (λ q. h q .1) t)))
+    ∙ sym (list-with a s qs)
   where
     moved : (k : ℕ) (ps qs : List ℕ) → ((q : ℕ) → List·Memᴰ q ps → List·Memᴰ q qs) → T (any (eqb k) ps) → T (any (eqb k) qs)
     moved k ps qs h t = let (q, i, u) = any-elim (eqb k) ps t in any-intro (eqb k) (h q i) u
@@ -207,8 +218,9 @@ pub stretch-visits-exact : Stretch-visits-exact
 unfolding stretch-visits
 stretch-visits-exact file s e a q p qs h =
     let now = chain-is-fresh file s e a q (p ∷ qs) h .same-met in
-    let (reached, met) = chain-fresh a (records-for a s) (s .roots) (accepted-well-formed file s e) p qs in
-    let before : chain-before a s .met ≡ run-of (with-queries a (p ∷ qs)) s .met = ap (λ l. chain-at a s (drop 1 l) .met) h ∙ met in
+    let (reached, met) = chain-fresh a (records-for a s) (s .roots) (well-for file s e a) p qs in
+    let before : chain-before a s .met ≡ run-of (with-queries a (p ∷ qs)) s .met =
+    ap (λ l. chain-at a s (drop 1 l) .met) h ∙ met ∙ ap (λ decls. run (with-queries a (p ∷ qs)) decls (s .roots) .met) (sym (background-with a (p ∷ qs) (s .decls))) in
     count-keep _ (filed (facts (records-for a s)))
     ∙ ap (λ (x : List Name × List Name). length (keep (λ n. mem n (x .0) && not (mem n (x .1))) (filed (facts (records-for a s))))) (ap₂ (λ x y. (x, y)) now before)
 
@@ -256,15 +268,15 @@ parts-equal (x ∷ l) (y ∷ l′) m m′ e h =
     (ap₂ _∷_ same a, b)
 
 -- where an ask stands among asks that are so chained, the lines of its chain stand up to it
-record Chain-stands (asks : List Ask) (i : ℕ) (a : Ask) (qs : List ℕ) : Type 0 where
+record Chain-among (asks : List Ask) (i : ℕ) (a : Ask) (qs : List ℕ) : Type 0 where
   before : List Ask
   after : List Ask
   are : asks ≡ before ++ (chain-asks a qs ++ after)
   last-at : length before + length (chain-asks a qs) ≡ suc i
 
-chain-stands : (asks : List Ask) → Chained-asks asks → (qs : List ℕ) (q i : ℕ) (a : Ask) → At asks i a → a .queries ≡ q ∷ qs → Chain-stands asks i a (q ∷ qs)
+chain-among : (asks : List Ask) → Chained-asks asks → (qs : List ℕ) (q i : ℕ) (a : Ask) → At asks i a → a .queries ≡ q ∷ qs → Chain-among asks i a (q ∷ qs)
 unfolding chain-asks
-chain-stands asks chained [] q i a at e =
+chain-among asks chained [] q i a at e =
     let place = at .place in
     record {
       before = at .before;
@@ -272,17 +284,17 @@ chain-stands asks chained [] q i a at e =
       are = at .are ∙ ap (λ (x : Ask). at .before ++ (x ∷ at .after)) (sym (own-queries a (q ∷ []) e));
       last-at = omega arith;
     }
-chain-stands asks chained (p ∷ qs) q i a at e =
+chain-among asks chained (p ∷ qs) q i a at e =
     let (j, next, there) = chained .on i a q p qs at e in
     let b = with-queries a (p ∷ qs) in
-    let w = chain-stands asks chained qs p j b there (unfold with-queries in refl) in
+    let w = chain-among asks chained qs p j b there (unfold with-queries in refl) in
     go (w .before) (w .after) (w .are ∙ ap (λ l. w .before ++ (l ++ w .after)) (chain-asks-with a (p ∷ qs) (p ∷ qs)))
     (let last = w .last-at in let same = ap length (chain-asks-with a (p ∷ qs) (p ∷ qs)) in omega arith)
   where
     C : List Ask
     C = chain-asks a (p ∷ qs)
 
-    go : (l m : List Ask) → asks ≡ l ++ (C ++ m) → length l + length C ≡ i → Chain-stands asks i a (q ∷ p ∷ qs)
+    go : (l m : List Ask) → asks ≡ l ++ (C ++ m) → length l + length C ≡ i → Chain-among asks i a (q ∷ p ∷ qs)
     go l m are count =
         let place = at .place in
         let (first, second) = parts-equal (l ++ C) (at .before) m (a ∷ at .after) (append-assoc l C m ∙ sym are ∙ at .are) (omega (arith, length-append l C)) in
@@ -296,16 +308,18 @@ chain-stands asks chained (p ∷ qs) q i a at e =
 
 -- what the lines of a chain visit sums to the visits of its lines
 told-sum : (a : Ask) (s : State) (qs : List ℕ)
-    → sum (map (λ (p : Position). p .visits) (map (position (records-for a s) (s .roots)) (chain-asks a qs))) ≡ sum (visits-of-lines a s qs)
+    → sum (map (λ (p : Position). p .visits) (map (position (s .decls) (s .roots)) (chain-asks a qs))) ≡ sum (visits-of-lines a s qs)
 unfolding chain-asks visits-of-lines sum position with-queries
 told-sum a s [] = refl
 told-sum a s (q ∷ qs) =
     let decls = records-for a s in
-    let told : Ask → ℕ = λ b. position decls (s .roots) b .visits in
+    let f = position (s .decls) (s .roots) in
+    let told : Ask → ℕ = λ b. f b .visits in
     let here = with-queries a (q ∷ qs) in
     let same : told here ≡ stretch-visits (chain-at a s qs .met) (chain-at a s (q ∷ qs) .met) (facts decls) =
-    ap₂ (λ (x y : Run). stretch-visits (x .met) (y .met) (facts decls)) (chain-with a decls (s .roots) (q ∷ qs) qs) (chain-with a decls (s .roots) (q ∷ qs) (q ∷ qs)) in
-    let flat : (l : List Ask) → map (λ (p : Position). p .visits) (map (position decls (s .roots)) l) ≡ map told l = λ l. map-map (λ (p : Position). p .visits) (position decls (s .roots)) l in
+    ap (λ ds. stretch-visits (chain here ds (s .roots) qs .met) (chain here ds (s .roots) (q ∷ qs) .met) (facts ds)) (background-with a (q ∷ qs) (s .decls))
+    ∙ ap₂ (λ (x y : Run). stretch-visits (x .met) (y .met) (facts decls)) (chain-with a decls (s .roots) (q ∷ qs) qs) (chain-with a decls (s .roots) (q ∷ qs) (q ∷ qs)) in
+    let flat : (l : List Ask) → map (λ (p : Position). p .visits) (map f l) ≡ map told l = λ l. map-map (λ (p : Position). p .visits) f l in
     let split : sum (map told (chain-asks a qs ++ (here ∷ []))) ≡ sum (map told (chain-asks a qs)) + sum (map told (here ∷ [])) = sum-map-append told (chain-asks a qs) (here ∷ []) in
     let below : sum (map told (chain-asks a qs)) ≡ sum (visits-of-lines a s qs) = ap sum (sym (flat (chain-asks a qs))) ∙ told-sum a s qs in
     ap sum (flat (chain-asks a qs ++ (here ∷ []))) ∙ omega (arith, split, below, same)
@@ -319,7 +333,7 @@ visits-told file works room ps s e accepted i a at =
     let is : ps ≡ map (position (s .decls) (s .roots)) (s .asks) = answers-filtered t pairs ∙ ap filtered same in
     let good = accepted-asks file s accepted .each a (at-member at) in
     let qs = good .query ∷ good .earlier in
-    let w = chain-stands (s .asks) (chained-asks (lines file) s (file-read exclude-names file s accepted)) (good .earlier) (good .query) i a at (good .has-query) in
+    let w = chain-among (s .asks) (chained-asks (lines file) s (file-read exclude-names file s accepted)) (good .earlier) (good .query) i a at (good .has-query) in
     let f = position (s .decls) (s .roots) in
     let last = w .last-at in
     record {
@@ -334,9 +348,6 @@ visits-told file works room ps s e accepted i a at =
   where
     read-eq : {x y : State} → _≡_ {A = Reading} (read x) (read y) → x ≡ y
     read-eq e = cc
-
-    at-member : {l : List Ask} {i : ℕ} {x : Ask} → At l i x → List·Memᴰ x l
-    at-member h = rw (h .are) (Memᴰ·append-right (h .before) (List·Memᴰ·head refl))
 
 -- the rounds of a stretch
 pub stretch-rounds : Stretch-rounds
@@ -426,12 +437,12 @@ pub nothing-added : Nothing-added
 unfolding after-round stretch-start
 nothing-added file s e a q p qs h =
     let decls = records-for a s in
-    let wf = accepted-well-formed file s e in
+    let wf = well-for file s e a in
     let same = same-goal a (s .roots) q (p ∷ qs) h in
     let end = after-one a decls (s .roots) wf q p qs same in
     record {
       no-visits = nothing-visited (chain-at a s (p ∷ qs) .met) (chain-at a s (q ∷ p ∷ qs) .met) (facts decls)
           (subst (λ (r : Run). Within (r .met) (chain-at a s (p ∷ qs) .met)) (sym end) (met-before a decls (s .roots) wf q p qs same));
       one-round = ap (λ (r : Run). r .rounds) end;
-      list-again = same-list a decls (s .roots) (q ∷ p ∷ qs) (p ∷ qs) same;
+      list-again = list-with a s (q ∷ p ∷ qs) ∙ same-list a decls (s .roots) (q ∷ p ∷ qs) (p ∷ qs) same ∙ sym (list-with a s (p ∷ qs));
     }

@@ -3,109 +3,166 @@
 use Prim.Native.Nat.{ℕ, zero, suc, _+_, _-_, _≤_, _<_}
 use native.Mathlib.Omega.{arith}
 use mathlib.Core.Path.{_≡_, refl, sym, _∙_, ap, subst}
-use mathlib.Core.Logic.{_⊎_, ⊎-elim, _≢_}
-use mathlib.Core.Bool.{Bool, true, false, not}
+use mathlib.Core.Logic.{_⊎_, inl, inr, ⊎-elim, _≢_}
+use mathlib.Core.Bool.{Bool, true, false, not, _&&_, _||_, Bool·beq, and-false, or-false, or-true}
 use mathlib.Core.List.{List, [], _∷_, _++_, map, append-nil, append-assoc, cons-ne-nil, List·Memᴰ, List·Memᴰ·head, List·Memᴰ·tail, List·Memᴰ·not-nil, List·Memᴰ·cases-cons, List·Memᴰ·append-cases, List·Memᴰ·eq-of-singleton, Memᴰ·append-left, Memᴰ·append-right}
 use lib.Dec.{T, T-not, eqb}
 use lib.ListN.{length, getD, length-append}
 use Rattle.model.specs.Lists.{any, all, sum, collect, fold-left, holds, is-nil, last}
 use Rattle.model.specs.Lines.{Line, lines, Field, fields}
 use Rattle.model.specs.Summaries.{exclude-names}
-use Rattle.model.specs.Reading.{ok, Head, ask, also, Content, head, term, assume, fun, def, retain, root, content, Ask, State, start, Reading, read, refused-at, in-head, in-asks, place, may-stand, fixed-count, parse, with-query, head-asks, hidden-by, heads, nodes, spelled, trimmed, limits, summarize-decl, root-of, add-line, repeats, read-line, read-lines}
+use Rattle.model.specs.Reading.{ok, Head, ask, ask2, also, most-groups, Content, head, term, assume, fun, def, retain, root, content, Ask, State, start, Reading, read, refused-at, in-head, in-asks}
+use Rattle.model.specs.Reading.{place, of-form, may-stand, is-position, fixed-count, parse, with-query, head-asks, is-grouped, hidden-by, heads, nodes, spelled, trimmed, limits, summarize-decl}
+use Rattle.model.specs.Reading.{root-of, add-line, repeats, read-line, read-lines}
 use Rattle.model.specs.Outcome.{Position, position, filtered}
-use Rattle.model.proofs.ListLaws.{T-dec, collect-append, map-cong, sum-map-append}
+use Rattle.model.proofs.ListLaws.{T-and, T-or, T-dec, T-true, collect-append, map-cong, sum-map-append}
 use Rattle.model.proofs.ResultLaws.{ok-eq}
 use Rattle.demands.specs.LinesRead.{Lines-read, At, Pairwise, ends, pair}
 use Rattle.demands.specs.Demand2.{followed-list}
 use Rattle.demands.specs.LineForm.{Allowed}
 use Rattle.demands.specs.Demand1.{Lines-judged, all-lengths}
-use Rattle.demands.specs.Counts.{ask-words, also-words, hide-words, is-word, begins}
+use Rattle.demands.specs.Counts.{ask-words, form-words, grouped-words, also-words, hide-words, is-word, begins}
 use Rattle.demands.specs.Moved.{moved-position}
 use Rattle.demands.specs.AskedAlone.{Day, Accepted-day, Chain-in, chain-lines, Each-chained, Alone-file, Same-answers, Asked-alone, Answered-alone, Ask-first, Chains-read, Asked-together, Answered-together}
 use Rattle.demands.specs.Bytes.{line-bytes, Parted, none, unended, ended}
 use Rattle.laws.proofs.ReadingLaws.{not-read, parse-ok, line-read, lines-read, none-read, added-line, file-read}
 use Rattle.demands.proofs.Refusals.{lines-on, lines-append}
-use Rattle.demands.proofs.LineForm.{parse-fields}
-use Rattle.demands.proofs.LineFields.{place-by, place-of, known-place, Head-by, one-ask, one-also, line-fields}
+use Rattle.demands.proofs.LineForm.{parse-fields, count-formless, content-formless, position-formless}
+use Rattle.demands.proofs.LineFields.{place-by, place-of, position-by, known-place, Head-by, one-ask, one-ask2, one-also, line-fields}
 use Rattle.demands.proofs.Heads.{not-nil-append, append-not-nil, last-some, also-behind, headed-line}
-use Rattle.demands.proofs.Asks.{asks-stay, split-file, as-many-asks, first-no-also, few-asks}
+use Rattle.demands.proofs.Asks.{lines-split, begins-form, form-by-words, form-front, asks-stay, split-file, as-many-asks, first-no-also, few-asks}
 use Rattle.demands.proofs.Moved.{map-length, lines-apart}
-use Rattle.demands.proofs.Shifted.{same-count, shifted, shifted-reading, lines-shifted}
+use Rattle.demands.proofs.Shifted.{shifted, shifted-reading, lines-shifted}
 use Rattle.demands.proofs.Queries.{at-map}
 use Rattle.demands.proofs.Demand1.{filtered-answers, answers-filtered, list-given}
-use Rattle.demands.proofs.Hidden.{lines-split, read-by-lines}
+use Rattle.demands.proofs.Hidden.{read-by-lines}
 use Rattle.demands.proofs.Bytes.{lines-exact}
 
--- the state after ask and also lines alone
-abbrev headed : List Ask → State
-headed asks = record { asks = asks; hidden = []; terms = []; names = []; decls = []; roots = []; references = 0; entries = 0; uses = 0 }
+-- the form of a file after these asks: the older before the first, then this one
+form-then : Bool → List Ask → Bool
+form-then g asks = not (is-nil asks) && g
+
+form-some : (g : Bool) (asks : List Ask) → T (not (is-nil asks)) → form-then g asks ≡ g
+unfolding form-then
+form-some g asks t = ap (_&& g) (T-true (not (is-nil asks)) t)
+
+-- the state after ask lines of a form and also lines alone
+abbrev headed : Bool → List Ask → State
+headed g asks = record { asks = asks; grouped = form-then g asks; hidden = []; terms = []; names = []; decls = []; roots = []; references = 0; entries = 0; uses = 0 }
+
+-- other asks, where there are some, leave the form
+shifted-headed : (g : Bool) (k : ℕ) (asks more : List Ask) → T (not (is-nil asks)) → T (not (is-nil more)) → shifted k more (headed g asks) ≡ headed g more
+shifted-headed g k asks more t u = rw (form-some g asks t, form-some g more u)
 
 -- a line of the head is that line of the head
 head-only : (c : Content) {h : Head} → heads c ≡ h ∷ [] → c ≡ head h
 unfolding heads
 head-only (head g) e = cc
 head-only (term node) e = absurd (let z : _≡_ {A = ℕ} 0 1 = cc in omega arith)
-head-only (assume name flag t) e = absurd (let z : _≡_ {A = ℕ} 0 1 = cc in omega arith)
+head-only (assume name flag group t) e = absurd (let z : _≡_ {A = ℕ} 0 1 = cc in omega arith)
 head-only (fun name) e = absurd (let z : _≡_ {A = ℕ} 0 1 = cc in omega arith)
 head-only (def name t) e = absurd (let z : _≡_ {A = ℕ} 0 1 = cc in omega arith)
 head-only (retain names) e = absurd (let z : _≡_ {A = ℕ} 0 1 = cc in omega arith)
 head-only (root q name t) e = absurd (let z : _≡_ {A = ℕ} 0 1 = cc in omega arith)
 
--- a head that is an ask, or an also
-data Asking : Head → Bool → Type 0 where
-  by-ask : {q o : ℕ} → Asking (ask q o) false
-  by-also : {q : ℕ} → Asking (also q) true
+-- a head that is an ask of this form, or an also
+data Asking (g : Bool) : Head → Bool → Type 0 where
+  by-ask : {q o : ℕ} → g ≡ false → Asking g (ask q o) false
+  by-ask2 : {q o a : ℕ} → g ≡ true → Asking g (ask2 q o a) false
+  by-also : {q : ℕ} → Asking g (also q) true
 
--- such a line adds its ask and nothing else
-add-asking : (n : ℕ) (asks : List Ask) {h : Head} {d : Bool} → Asking h d → add-line exclude-names n (headed asks) (head h) ≡ headed (asks ++ head-asks asks h)
-unfolding add-line heads collect head-asks hidden-by nodes fold-left spelled trimmed summarize-decl root-of sum
-add-asking n asks by-ask = refl
-add-asking n asks (by-also {q}) = rw (append-nil (map (with-query q) (last asks)))
+-- an ask asks something more
+one-more-asked : (g : Bool) (asks : List Ask) (a : Ask) → form-then g (asks ++ (a ∷ [])) ≡ g
+one-more-asked g asks a = form-some g (asks ++ (a ∷ [])) (append-not-nil asks a)
 
--- a line says this, after whatever asks, as long as they are fewer than sixteen and an also is not the first
-record Says-this (line : Line) (h : Head) : Type 0 where
-  asking : Asking h (begins also-words line)
+-- such a line adds its ask and nothing else, where an also is not the first
+add-asking : (g : Bool) (n : ℕ) (asks : List Ask) {h : Head} {d : Bool} → Asking g h d → (T d → T (not (is-nil asks)))
+    → add-line exclude-names n (headed g asks) (head h) ≡ headed g (asks ++ head-asks asks h)
+unfolding add-line heads collect head-asks is-grouped hidden-by any nodes fold-left spelled trimmed summarize-decl root-of sum
+add-asking g n asks (by-ask {q} {o} e) some =
+    let older : (form-then g asks || (false || false)) ≡ form-then g (asks ++ (record { queries = q ∷ []; options = o; groups = most-groups } ∷ [])) =
+    rw e (or-false (form-then false asks) ∙ none-before asks ∙ sym (none-before _)) in
+    rw older
+  where
+    none-before : (l : List Ask) → form-then false l ≡ false
+    none-before l = unfold form-then in (and-false (not (is-nil l)))
+add-asking g n asks (by-ask2 {q} {o} {a} e) some =
+    let newer : (form-then g asks || (true || false)) ≡ form-then g (asks ++ (record { queries = q ∷ []; options = o; groups = a } ∷ [])) =
+    or-true (form-then g asks) ∙ sym e ∙ sym (one-more-asked g asks _) in
+    rw newer
+add-asking g n asks (by-also {q}) some =
+    let more = map (with-query q) (last asks) in
+    let same : (form-then g asks || (false || false)) ≡ form-then g (asks ++ more) =
+    or-false (form-then g asks) ∙ form-some g asks (some tt) ∙ sym (form-some g (asks ++ more) (not-nil-append asks more (some tt))) in
+    rw (append-nil more, same)
+
+-- a line says this, after whatever asks of its form, as long as they are fewer than sixteen and an also is not the first
+record Says-this (g : Bool) (line : Line) (h : Head) : Type 0 where
+  asking : Asking g h (begins also-words line)
   reads : (n : ℕ) (asks : List Ask) → length asks < 16 → (T (begins also-words line) → T (not (is-nil asks)))
-      → read-line exclude-names n (headed asks) line ≡ ok (headed (asks ++ head-asks asks h))
+      → read-line exclude-names n (headed g asks) line ≡ ok (headed g (asks ++ head-asks asks h))
 
 -- what the head of such a line is
-asking-head : {first second : Field} {d is-hide : Bool} {l : List Head} (b : Bool) → T b → Head-by first second b d is-hide l → (h : Head) × (l ≡ h ∷ []) × Asking h d
-asking-head true t (one-ask low few) = (_, refl, by-ask)
-asking-head true t (one-also low) = (_, refl, by-also)
-asking-head false t h = absurd t
+asking-head : (g : Bool) {first second third : Field} {d form is-hide : Bool} {l : List Head} (b : Bool) → T (b && (d || Bool·beq g form))
+    → Head-by first second third b d form is-hide l → (h : Head) × (l ≡ h ∷ []) × Asking g h d
+asking-head false true t (one-ask low few) = (_, refl, by-ask refl)
+asking-head true true t (one-ask low few) = absurd t
+asking-head false true t (one-ask2 low few all) = absurd t
+asking-head true true t (one-ask2 low few all) = (_, refl, by-ask2 refl)
+asking-head g true t (one-also low) = (_, refl, by-also)
+asking-head g false t h = absurd t
 
 -- it may stand there
-stands-there : (asks : List Ask) (b d c : Bool) → T b → (T d → T (not (is-nil asks))) → T (may-stand (headed asks) (place-by b d c))
-unfolding may-stand place-by in-asks in-head is-nil
-stands-there asks true true c t some = some tt
-stands-there asks true false c t some = tt
-stands-there asks false d c t some = absurd t
+stands-there : (g : Bool) (asks : List Ask) (b d form c : Bool) → T (b && (d || Bool·beq g form)) → (T d → T (not (is-nil asks)))
+    → T (may-stand (headed g asks) (place-by b d form c))
+stands-there g asks true true form c t some = unfold may-stand place-by in-asks in-head is-nil in (some tt)
+stands-there g asks true false form c t some = unfold may-stand place-by in-asks in-head of-form is-nil in (own (is-nil asks) (T-dec (is-nil asks)))
+  where
+    own : (b : Bool) → T (is-nil asks) ⊎ T (not (is-nil asks)) → T (is-nil asks || Bool·beq form (form-then g asks))
+    own b (inl u) = T-or (is-nil asks) (Bool·beq form (form-then g asks)) .1 (inl u)
+    own b (inr u) = T-or (is-nil asks) (Bool·beq form (form-then g asks)) .1 (inr (subst (λ x. T (Bool·beq form x)) (sym (form-some g asks u)) (turned g form t)))
+      where
+        turned : (g form : Bool) → T (Bool·beq g form) → T (Bool·beq form g)
+        turned true true t = tt
+        turned true false t = t
+        turned false true t = t
+        turned false false t = tt
+stands-there g asks false d form c t some = absurd t
 
 -- an ask or also line that is read once is read so
-says-this : (n : ℕ) (asks : List Ask) (line : Line) (t : State) → read-line exclude-names n (headed asks) line ≡ ok t → T (begins ask-words line)
-    → (h : Head) × Says-this line h
+says-this : (g : Bool) (n : ℕ) (asks : List Ask) (line : Line) (t : State) → read-line exclude-names n (headed g asks) line ≡ ok t → T (begins (form-words g) line)
+    → (h : Head) × Says-this g line h
 unfolding begins
-says-this n asks line t e b =
+says-this g n asks line t e b =
     let fs = fields (line .bytes) in
     let f = getD fs 0 [] in
-    let l = line-read exclude-names n (headed asks) line t e in
-    let p = parse-ok (headed asks) fs (l .parsed) in
-    let (h, is, asking) = asking-head (is-word ask-words f) b (line-fields (headed asks) fs (l .parsed) .headed) in
+    let S₀ = headed g asks in
+    let l = line-read exclude-names n S₀ line t e in
+    let p = parse-ok S₀ fs (l .parsed) in
+    let word : T (is-word ask-words f && (is-word also-words f || Bool·beq g (is-word grouped-words f))) = subst T (form-by-words g f) b in
+    let (h, is, asking) = asking-head g (is-word ask-words f) word (line-fields S₀ fs (l .parsed) .headed) in
     let says : l .content ≡ head h = head-only (l .content) is in
     let first : f ≡ p .kind-word = ap (λ (x : List Field). getD x 0 []) (p .split) in
     let at : place (p .kind) ≡ place-of f = known-place (p .kind-word) (p .known) ∙ ap place-of (sym first) in
-    let counted = subst (λ all. T (not (holds (λ c. not (eqb (length all) c)) (fixed-count (headed asks) (p .kind))))) (p .split) (p .counted) in (
+    let counts : T (is-word ask-words f) = T-and (is-word ask-words f) (is-word also-words f || Bool·beq g (is-word grouped-words f)) .0 word .0 in
+    let a-position : T (is-position (place (p .kind))) = rw (at, position-by (is-word ask-words f) (is-word also-words f) (is-word grouped-words f) (is-word hide-words f)) counts in
+    let formless = position-formless (p .kind) a-position in
+    let counted = subst (λ all. T (not (holds (λ c. not (eqb (length all) c)) (fixed-count S₀ (p .kind))))) (p .split) (p .counted) in (
       h,
       record {
         asking = asking;
         reads = λ m others few some.
-            let S = headed others in
-            let allowed : Allowed S (p .kind) = record { stands = rw at (stands-there others (is-word ask-words f) (is-word also-words f) (is-word hide-words f) b some); in-number = λ x. few } in
+            let S = headed g others in
+            let allowed : Allowed S (p .kind) = record {
+              stands = rw at (stands-there g others (is-word ask-words f) (is-word also-words f) (is-word grouped-words f) (is-word hide-words f) word some);
+              in-number = λ x. few;
+            } in
             let parsed : parse S fs ≡ ok (head h) =
-            ap (parse S) (p .split) ∙ parse-fields S (p .kind-word) (p .others) (p .known) allowed (rw (same-count (headed asks) S (p .kind)) at counted) ∙ p .says ∙ ap ok says in
+            ap (parse S) (p .split) ∙ parse-fields S (p .kind-word) (p .others) (p .known) allowed (rw (count-formless S₀ S (p .kind) formless) at counted)
+            ∙ content-formless (p .kind) formless (S .grouped) (S₀ .grouped) 0 (p .others) ∙ p .says ∙ ap ok says in
             added-line exclude-names m S line (l .ended) (head h) parsed (unfold repeats any collect summarize-decl in tt)
-            (rw (add-asking m others asking) (unfold limits all in tt))
-            ∙ ap ok (add-asking m others asking);
+            (rw (add-asking g m others asking some) (unfold limits all in tt))
+            ∙ ap ok (add-asking g m others asking some);
       },
     )
 
@@ -133,19 +190,21 @@ last-append (x ∷ []) (y ∷ m) t = refl
 last-append (x ∷ y ∷ l) m t = last-append (y ∷ l) m t
 
 -- an also asks the same after more asks before the last
-also-head : (before asks : List Ask) {h : Head} {d : Bool} → Asking h d → T d → T (not (is-nil asks)) → head-asks (before ++ asks) h ≡ head-asks asks h
+also-head : (before asks : List Ask) {g : Bool} {h : Head} {d : Bool} → Asking g h d → T d → T (not (is-nil asks)) → head-asks (before ++ asks) h ≡ head-asks asks h
 unfolding head-asks
-also-head before asks by-ask t some = absurd t
+also-head before asks (by-ask e) t some = absurd t
+also-head before asks (by-ask2 e) t some = absurd t
 also-head before asks (by-also {q}) t some = ap (map (with-query q)) (last-append before asks some)
 
 -- an ask asks the same after any
-ask-head : {h : Head} {d : Bool} → Asking h d → T (not d) → (a : Ask) × ((asks : List Ask) → head-asks asks h ≡ a ∷ [])
+ask-head : {g : Bool} {h : Head} {d : Bool} → Asking g h d → T (not d) → (a : Ask) × ((asks : List Ask) → head-asks asks h ≡ a ∷ [])
 unfolding head-asks
-ask-head by-ask t = (_, λ asks. refl)
+ask-head (by-ask e) t = (_, λ asks. refl)
+ask-head (by-ask2 e) t = (_, λ asks. refl)
 ask-head by-also t = absurd t
 
 -- also lines go on from the last alone
-also-asked : (ls : List Line) (hs : List Head) → Pairwise Says-this ls hs → ((l : Line) → List·Memᴰ l ls → T (begins also-words l))
+also-asked : {g : Bool} (ls : List Line) (hs : List Head) → Pairwise (Says-this g) ls hs → ((l : Line) → List·Memᴰ l ls → T (begins also-words l))
     → (before asks : List Ask) → T (not (is-nil asks)) → asked (before ++ asks) hs ≡ before ++ asked asks hs
 unfolding asked
 also-asked [] hs ends are before asks some = refl
@@ -155,7 +214,7 @@ also-asked (l ∷ ls) hs (pair {b = h} {m = rest} this others) are before asks s
     ∙ also-asked ls rest others (λ m i. are m (List·Memᴰ·tail i)) before (asks ++ head-asks asks h) (not-nil-append asks (head-asks asks h) some)
 
 -- a chain asks the same after any asks
-chain-asked : (first : Line) (further : List Line) (hs : List Head) → Pairwise Says-this (first ∷ further) hs → T (not (begins also-words first))
+chain-asked : {g : Bool} (first : Line) (further : List Line) (hs : List Head) → Pairwise (Says-this g) (first ∷ further) hs → T (not (begins also-words first))
     → ((l : Line) → List·Memᴰ l further → T (begins also-words l)) → (before : List Ask) → asked before hs ≡ before ++ asked [] hs
 unfolding asked
 chain-asked first further hs (pair {b = h} {m = rest} this others) is-ask are before =
@@ -163,9 +222,10 @@ chain-asked first further hs (pair {b = h} {m = rest} this others) is-ask are be
     ap (λ x. asked (before ++ x) rest) (e before) ∙ also-asked further rest others are before (a ∷ []) (unfold is-nil in tt) ∙ ap (λ x. before ++ asked x rest) (sym (e []))
 
 -- a line asks one thing more
-asks-one : (asks : List Ask) {h : Head} (d : Bool) → Asking h d → (T d → T (not (is-nil asks))) → (a : Ask) × (head-asks asks h ≡ a ∷ [])
+asks-one : (asks : List Ask) {g : Bool} {h : Head} (d : Bool) → Asking g h d → (T d → T (not (is-nil asks))) → (a : Ask) × (head-asks asks h ≡ a ∷ [])
 unfolding head-asks
-asks-one asks d by-ask some = (_, refl)
+asks-one asks d (by-ask e) some = (_, refl)
+asks-one asks d (by-ask2 e) some = (_, refl)
 asks-one asks d (by-also {q}) some = let (x, e) = last-some asks (some tt) in (with-query q x, ap (map (with-query q)) e)
 
 -- something is asked after lines of which the first is an ask
@@ -174,7 +234,7 @@ unfolding is-nil
 append-some [] m t = t
 append-some (x ∷ l) m t = tt
 
-asked-some : (first : Line) (further : List Line) (hs : List Head) → Pairwise Says-this (first ∷ further) hs → T (not (begins also-words first)) → T (not (is-nil (asked [] hs)))
+asked-some : {g : Bool} (first : Line) (further : List Line) (hs : List Head) → Pairwise (Says-this g) (first ∷ further) hs → T (not (begins also-words first)) → T (not (is-nil (asked [] hs)))
 unfolding asked
 asked-some first further hs (pair {b = h} {m = rest} this others) is-ask =
     let (a, e) = ask-head (this .asking) is-ask in
@@ -184,33 +244,33 @@ asked-some first further hs (pair {b = h} {m = rest} this others) is-ask =
 -- ---- ask and also lines that are read
 
 -- each says something, and that is what is asked then
-heads-read : (ls : List Line) (n : ℕ) (asks : List Ask) (t : State) → read-lines exclude-names n (headed asks) ls ≡ read t
-    → ((l : Line) → List·Memᴰ l ls → T (begins ask-words l)) → (hs : List Head) × Pairwise Says-this ls hs × (t ≡ headed (asked asks hs))
+heads-read : (g : Bool) (ls : List Line) (n : ℕ) (asks : List Ask) (t : State) → read-lines exclude-names n (headed g asks) ls ≡ read t
+    → ((l : Line) → List·Memᴰ l ls → T (begins (form-words g) l)) → (hs : List Head) × Pairwise (Says-this g) ls hs × (t ≡ headed g (asked asks hs))
 unfolding asked
-heads-read [] n asks t e are = ([], ends, sym (none-read exclude-names n (headed asks) t e))
-heads-read (line ∷ ls) n asks t e are =
-    let (u, r, others) = lines-read exclude-names n (headed asks) line ls t e in
+heads-read g [] n asks t e are = ([], ends, sym (none-read exclude-names n (headed g asks) t e))
+heads-read g (line ∷ ls) n asks t e are =
+    let (u, r, others) = lines-read exclude-names n (headed g asks) line ls t e in
     let b = are line (List·Memᴰ·head refl) in
-    let (h, this) = says-this n asks line u r b in
-    let w = headed-line exclude-names n (headed asks) u line r in
-    let next : u ≡ headed (asks ++ head-asks asks h) = ok-eq (sym r ∙ this .reads n asks (w .in-number b) (λ d. also-behind (headed asks) (w .headed) (w .stands) d)) in
-    let (hs, rest, is) = heads-read ls (n + 1) (asks ++ head-asks asks h) t (subst (λ x. read-lines exclude-names (n + 1) x ls ≡ read t) next others) (λ l i. are l (List·Memᴰ·tail i)) in
+    let (h, this) = says-this g n asks line u r b in
+    let w = headed-line exclude-names n (headed g asks) u line r in
+    let next : u ≡ headed g (asks ++ head-asks asks h) = ok-eq (sym r ∙ this .reads n asks (w .in-number (begins-form g line b)) (λ d. also-behind (headed g asks) (w .headed) (w .stands) d)) in
+    let (hs, rest, is) = heads-read g ls (n + 1) (asks ++ head-asks asks h) t (subst (λ x. read-lines exclude-names (n + 1) x ls ≡ read t) next others) (λ l i. are l (List·Memᴰ·tail i)) in
     (h ∷ hs, pair this rest, is)
 
 -- and lines that say so are read, as long as they are no more than sixteen and the first is no also
-heads-go : (ls : List Line) (hs : List Head) → Pairwise Says-this ls hs → (n : ℕ) (asks : List Ask) → length asks + length ls ≤ 16
+heads-go : (g : Bool) (ls : List Line) (hs : List Head) → Pairwise (Says-this g) ls hs → (n : ℕ) (asks : List Ask) → length asks + length ls ≤ 16
     → ((line : Line) (more : List Line) → ls ≡ line ∷ more → T (begins also-words line) → T (not (is-nil asks)))
-    → read-lines exclude-names n (headed asks) ls ≡ read (headed (asked asks hs))
+    → read-lines exclude-names n (headed g asks) ls ≡ read (headed g (asked asks hs))
 unfolding asked
-heads-go [] hs ends n asks few some = unfold read-lines in refl
-heads-go (line ∷ ls) hs (pair {b = h} {m = rest} this others) n asks few some =
+heads-go g [] hs ends n asks few some = unfold read-lines in refl
+heads-go g (line ∷ ls) hs (pair {b = h} {m = rest} this others) n asks few some =
     let behind = some line ls refl in
     let (a, e) = asks-one asks (begins also-words line) (this .asking) behind in
     let next = ap (asks ++_) e in
     let count : length (asks ++ head-asks asks h) ≡ length asks + 1 = ap length next ∙ length-append asks (a ∷ []) in
     let filled : T (not (is-nil (asks ++ head-asks asks h))) = subst (λ l. T (not (is-nil l))) (sym next) (append-not-nil asks a) in
-    lines-on exclude-names n (headed asks) (headed (asks ++ head-asks asks h)) line ls (this .reads n asks (omega arith) behind)
-    ∙ heads-go ls rest others (n + 1) (asks ++ head-asks asks h) (omega arith) (λ l more is d. filled)
+    lines-on exclude-names n (headed g asks) (headed g (asks ++ head-asks asks h)) line ls (this .reads n asks (omega arith) behind)
+    ∙ heads-go g ls rest others (n + 1) (asks ++ head-asks asks h) (omega arith) (λ l more is d. filled)
 
 -- ---- one chain alone
 
@@ -220,16 +280,16 @@ unfolding shifted-reading
 unshifted k asks (read t) e = (t, refl, cc)
 unshifted k asks (refused-at r n) e = absurd (not-read e)
 
-module _ (asks others : List Line) (are-asks : (l : Line) → List·Memᴰ l asks → T (begins ask-words l))
+module _ (g : Bool) (asks others : List Line) (are-asks : (l : Line) → List·Memᴰ l asks → T (begins (form-words g) l))
     (no-asks : (l : Line) → List·Memᴰ l others → T (not (begins ask-words l))) (c : Chain-in asks) where
   -- the lines of the chain, and those around it, are among the asks
-  chain-asks : (l : Line) → List·Memᴰ l (chain-lines c) → T (begins ask-words l)
+  chain-asks : (l : Line) → List·Memᴰ l (chain-lines c) → T (begins (form-words g) l)
   chain-asks l i = are-asks l (subst (λ x. List·Memᴰ l x) (sym (c .are)) (Memᴰ·append-right (c .before) (Memᴰ·append-left (c .after) i)))
 
-  before-asks : (l : Line) → List·Memᴰ l (c .before) → T (begins ask-words l)
+  before-asks : (l : Line) → List·Memᴰ l (c .before) → T (begins (form-words g) l)
   before-asks l i = are-asks l (subst (λ x. List·Memᴰ l x) (sym (c .are)) (Memᴰ·append-left _ i))
 
-  after-asks : (l : Line) → List·Memᴰ l (c .after) → T (begins ask-words l)
+  after-asks : (l : Line) → List·Memᴰ l (c .after) → T (begins (form-words g) l)
   after-asks l i = are-asks l (subst (λ x. List·Memᴰ l x) (sym (c .are)) (Memᴰ·append-right (c .before) (Memᴰ·append-right (chain-lines c) i)))
 
   -- the three parts of the asks, as they are read: what is asked before the chain, what it asks, what is asked after it
@@ -237,23 +297,23 @@ module _ (asks others : List Line) (are-asks : (l : Line) → List·Memᴰ l ask
     earlier : List Ask
     count : length earlier ≡ length (c .before)
     said : List Head
-    says : Pairwise Says-this (chain-lines c) said
+    says : Pairwise (Says-this g) (chain-lines c) said
     later : List Ask
-    on : read-lines exclude-names (1 + length asks) (headed ((earlier ++ asked [] said) ++ later)) others ≡ read s
+    on : read-lines exclude-names (1 + length asks) (headed g ((earlier ++ asked [] said) ++ later)) others ≡ read s
 
   parts-read : (s : State) → read-lines exclude-names 1 start (asks ++ others) ≡ read s → Parts-read s
-  unfolding start
+  unfolding start form-then is-nil
   parts-read s e =
       let (t, all-here, rest) = lines-split asks others 1 start s e in
       let split = subst (λ ls. read-lines exclude-names 1 start ls ≡ read t) (c .are) all-here in
       let (u, first, others-here) = lines-split (c .before) (chain-lines c ++ c .after) 1 start t split in
-      let (hs, pairs, is) = heads-read (c .before) 1 [] u first before-asks in
+      let (hs, pairs, is) = heads-read g (c .before) 1 [] u first before-asks in
       from-before t rest u first (asked [] hs) is others-here
     where
       from-chain : (t : State) → read-lines exclude-names (1 + length asks) t others ≡ read s → (A : List Ask) → length A ≡ length (c .before)
-          → (hs : List Head) → Pairwise Says-this (chain-lines c) hs → (n : ℕ) → read-lines exclude-names n (headed (A ++ asked [] hs)) (c .after) ≡ read t → Parts-read s
+          → (hs : List Head) → Pairwise (Says-this g) (chain-lines c) hs → (n : ℕ) → read-lines exclude-names n (headed g (A ++ asked [] hs)) (c .after) ≡ read t → Parts-read s
       from-chain t rest A count hs pairs n after =
-          let (gs, more, is) = heads-read (c .after) n (A ++ asked [] hs) t after after-asks in
+          let (gs, more, is) = heads-read g (c .after) n (A ++ asked [] hs) t after after-asks in
           let (B, grown) = asked-grows gs (A ++ asked [] hs) in
           record {
             earlier = A;
@@ -261,26 +321,26 @@ module _ (asks others : List Line) (are-asks : (l : Line) → List·Memᴰ l ask
             said = hs;
             says = pairs;
             later = B;
-            on = subst (λ x. read-lines exclude-names (1 + length asks) x others ≡ read s) (is ∙ ap headed grown) rest;
+            on = subst (λ x. read-lines exclude-names (1 + length asks) x others ≡ read s) (is ∙ ap (headed g) grown) rest;
           }
 
       from-before : (t : State) → read-lines exclude-names (1 + length asks) t others ≡ read s → (u : State) → read-lines exclude-names 1 start (c .before) ≡ read u
-          → (A : List Ask) → u ≡ headed A → read-lines exclude-names (1 + length (c .before)) u (chain-lines c ++ c .after) ≡ read t → Parts-read s
+          → (A : List Ask) → u ≡ headed g A → read-lines exclude-names (1 + length (c .before)) u (chain-lines c ++ c .after) ≡ read t → Parts-read s
       from-before t rest u first A is here =
           let n = 1 + length (c .before) in
-          let (v, chained, after) = lines-split (chain-lines c) (c .after) n (headed A) t (subst (λ x. read-lines exclude-names n x (chain-lines c ++ c .after) ≡ read t) is here) in
-          let (hs, pairs, same) = heads-read (chain-lines c) n A v chained chain-asks in
-          let count : length (u .asks) ≡ length (c .before) = as-many-asks (c .before) [] u (subst (λ ls. read-lines exclude-names 1 start ls ≡ read u) (sym (append-nil (c .before))) first) before-asks (λ l i. absurd (List·Memᴰ·not-nil i)) in
+          let (v, chained, after) = lines-split (chain-lines c) (c .after) n (headed g A) t (subst (λ x. read-lines exclude-names n x (chain-lines c ++ c .after) ≡ read t) is here) in
+          let (hs, pairs, same) = heads-read g (chain-lines c) n A v chained chain-asks in
+          let count : length (u .asks) ≡ length (c .before) = as-many-asks (c .before) [] u (subst (λ ls. read-lines exclude-names 1 start ls ≡ read u) (sym (append-nil (c .before))) first) (λ l i. begins-form g l (before-asks l i)) (λ l i. absurd (List·Memᴰ·not-nil i)) in
           from-chain t rest A (ap (λ (x : State). length (x .asks)) (sym is) ∙ count) hs pairs (n + length (chain-lines c))
-          (subst (λ x. read-lines exclude-names (n + length (chain-lines c)) x (c .after) ≡ read t) (same ∙ ap headed (chain-asked (c .first) (c .further) hs pairs (c .is-ask) (c .are-also) A)) after)
+          (subst (λ x. read-lines exclude-names (n + length (chain-lines c)) x (c .after) ≡ read t) (same ∙ ap (headed g) (chain-asked (c .first) (c .further) hs pairs (c .is-ask) (c .are-also) A)) after)
 
   -- the chain alone, where its lines say so
-  chain-alone : (hs : List Head) → Pairwise Says-this (chain-lines c) hs → length (chain-lines c) ≤ 16
-      → read-lines exclude-names 1 start (chain-lines c ++ others) ≡ read-lines exclude-names (1 + length (chain-lines c)) (headed (asked [] hs)) others
-  unfolding start
+  chain-alone : (hs : List Head) → Pairwise (Says-this g) (chain-lines c) hs → length (chain-lines c) ≤ 16
+      → read-lines exclude-names 1 start (chain-lines c ++ others) ≡ read-lines exclude-names (1 + length (chain-lines c)) (headed g (asked [] hs)) others
+  unfolding start form-then is-nil
   chain-alone hs pairs few =
-      lines-append exclude-names (chain-lines c) others 1 start (headed (asked [] hs))
-      (heads-go (chain-lines c) hs pairs 1 [] (omega arith) (λ line more is d. let same : c .first ≡ line = cc in absurd (T-not (begins also-words (c .first)) (c .is-ask) (rw same d))))
+      lines-append exclude-names (chain-lines c) others 1 start (headed g (asked [] hs))
+      (heads-go g (chain-lines c) hs pairs 1 [] (omega arith) (λ line more is d. let same : c .first ≡ line = cc in absurd (T-not (begins also-words (c .first)) (c .is-ask) (rw same d))))
 
   -- the chain of asks that are read is read alone with the others, and is answered the same
   alone-lines : (s : State) → read-lines exclude-names 1 start (asks ++ others) ≡ read s → (k : ℕ) → length asks ≡ k + length (chain-lines c)
@@ -292,12 +352,14 @@ module _ (asks others : List Line) (are-asks : (l : Line) → List·Memᴰ l ask
       let more = (p .earlier ++ C) ++ p .later in
       let some-asked = asked-some (c .first) (c .further) (p .said) (p .says) (c .is-ask) in
       let place : 1 + length asks ≡ m + k = omega arith in
-      let on : read-lines exclude-names (m + k) (headed more) others ≡ read s = subst (λ n. read-lines exclude-names n (headed more) others ≡ read s) place (p .on) in
-      let down : read-lines exclude-names (m + k) (headed more) others ≡ shifted-reading k more (read-lines exclude-names m (headed C) others) =
-      lines-shifted k more exclude-names others m (headed C) no-asks (not-nil-append (p .earlier ++ C) (p .later) (append-some (p .earlier) C some-asked)) some-asked in
-      let (s′, reads, moves) = unshifted k more (read-lines exclude-names m (headed C) others) (sym down ∙ on) in
-      let few : length asks ≤ 16 = omega (arith, few-asks (asks ++ others) 1 s e, as-many-asks asks others s e are-asks no-asks) in
-      let stay : s′ .asks ≡ C = asks-stay exclude-names others m (headed C) s′ reads no-asks in (
+      let on : read-lines exclude-names (m + k) (headed g more) others ≡ read s = subst (λ n. read-lines exclude-names n (headed g more) others ≡ read s) place (p .on) in
+      let some-more : T (not (is-nil more)) = not-nil-append (p .earlier ++ C) (p .later) (append-some (p .earlier) C some-asked) in
+      let down : read-lines exclude-names (m + k) (headed g more) others ≡ shifted-reading k more (read-lines exclude-names m (headed g C) others) =
+      ap (λ x. read-lines exclude-names (m + k) x others) (sym (shifted-headed g k C more some-asked some-more))
+      ∙ lines-shifted k more exclude-names others m (headed g C) no-asks some-more some-asked in
+      let (s′, reads, moves) = unshifted k more (read-lines exclude-names m (headed g C) others) (sym down ∙ on) in
+      let few : length asks ≤ 16 = omega (arith, few-asks (asks ++ others) 1 s e, as-many-asks asks others s e (λ l i. begins-form g l (are-asks l i)) no-asks) in
+      let stay : s′ .asks ≡ C = asks-stay exclude-names others m (headed g C) s′ reads no-asks in (
         s′,
         chain-alone (p .said) (p .says) (omega arith) ∙ reads,
         record {
@@ -385,36 +447,36 @@ chained (l ∷ rest) first (suc j) (there n) = walk (l ∷ rest) [] l [] rest re
 -- ---- chains together
 
 -- what one of two lists that are related one by one has is related to something
-pair-member : {hs : List Head} (ls : List Line) → Pairwise Says-this ls hs → {line : Line} → List·Memᴰ line ls → (h : Head) × Says-this line h
+pair-member : {g : Bool} {hs : List Head} (ls : List Line) → Pairwise (Says-this g) ls hs → {line : Line} → List·Memᴰ line ls → (h : Head) × Says-this g line h
 pair-member [] p i = absurd (List·Memᴰ·not-nil i)
-pair-member (l ∷ ls) (pair {b = h} this others) i =
-    ⊎-elim (λ e. (h, subst (λ x. Says-this x h) (sym e) this)) (λ j. pair-member ls others j) (List·Memᴰ·cases-cons i)
+pair-member {g} (l ∷ ls) (pair {b = h} this others) i =
+    ⊎-elim (λ e. (h, subst (λ x. Says-this g x h) (sym e) this)) (λ j. pair-member ls others j) (List·Memᴰ·cases-cons i)
 
 -- lines of which each says something
-all-say : (ls : List Line) → ((l : Line) → List·Memᴰ l ls → (h : Head) × Says-this l h) → (hs : List Head) × Pairwise Says-this ls hs
+all-say : {g : Bool} (ls : List Line) → ((l : Line) → List·Memᴰ l ls → (h : Head) × Says-this g l h) → (hs : List Head) × Pairwise (Says-this g) ls hs
 all-say [] each = ([], ends)
 all-say (l ∷ ls) each =
     let (h, this) = each l (List·Memᴰ·head refl) in
     let (hs, others) = all-say ls (λ m i. each m (List·Memᴰ·tail i)) in
     (h ∷ hs, pair this others)
 
-module _ (asks others : List Line) (are-asks : (l : Line) → List·Memᴰ l asks → T (begins ask-words l))
+module _ (g : Bool) (asks others : List Line) (are-asks : (l : Line) → List·Memᴰ l asks → T (begins (form-words g) l))
     (no-asks : (l : Line) → List·Memᴰ l others → T (not (begins ask-words l))) where
   -- a chain that is read with the others: what its lines say, and how the others are read after it
   chain-said : (c : Chain-in asks) (s′ : State) → read-lines exclude-names 1 start (chain-lines c ++ others) ≡ read s′
-      → (hs : List Head) × Pairwise Says-this (chain-lines c) hs × (read-lines exclude-names (1 + length (chain-lines c)) (headed (asked [] hs)) others ≡ read s′)
-  unfolding start
+      → (hs : List Head) × Pairwise (Says-this g) (chain-lines c) hs × (read-lines exclude-names (1 + length (chain-lines c)) (headed g (asked [] hs)) others ≡ read s′)
+  unfolding start form-then is-nil
   chain-said c s′ e =
       let (u, chained-here, rest) = lines-split (chain-lines c) others 1 start s′ e in
-      let (hs, pairs, is) = heads-read (chain-lines c) 1 [] u chained-here (chain-asks asks others are-asks no-asks c) in
+      let (hs, pairs, is) = heads-read g (chain-lines c) 1 [] u chained-here (chain-asks g asks others are-asks no-asks c) in
       (hs, pairs, subst (λ x. read-lines exclude-names (1 + length (chain-lines c)) x others ≡ read s′) is rest)
 
   -- lines of which each chain is read with the others are read together
   together-lines : 1 ≤ length asks → length asks ≤ 16 → Ask-first asks → Chains-read asks others
       → (s : State) × (read-lines exclude-names 1 start (asks ++ others) ≡ read s)
-  unfolding start shifted-reading
+  unfolding start form-then is-nil shifted-reading
   together-lines some few first each =
-      let said : (l : Line) → List·Memᴰ l asks → (h : Head) × Says-this l h =
+      let said : (l : Line) → List·Memᴰ l asks → (h : Head) × Says-this g l h =
       λ l i. let (k, n) = nth-member asks i in
       let ch = chained asks first k n in
       let (s′, e) = each (ch .chain) in
@@ -429,19 +491,21 @@ module _ (asks others : List Line) (are-asks : (l : Line) → List·Memᴰ l ask
       let k = length asks - length (chain-lines c) in
       let whole = ap length (c .are) ∙ length-append (c .before) (chain-lines c ++ c .after) ∙ ap (length (c .before) +_) (length-append (chain-lines c) (c .after)) in
       let place : 1 + length asks ≡ m + k = omega arith in
-      let down : read-lines exclude-names (m + k) (headed (asked [] hs)) others ≡ shifted-reading k (asked [] hs) (read-lines exclude-names m (headed (asked [] gs)) others) =
-      lines-shifted k (asked [] hs) exclude-names others m (headed (asked [] gs)) no-asks (some-asked hs pairs) (asked-some (c .first) (c .further) gs chain-pairs (c .is-ask)) in
-      let on : read-lines exclude-names (1 + length asks) (headed (asked [] hs)) others ≡ read (shifted k (asked [] hs) s′) =
-      subst (λ n. read-lines exclude-names n (headed (asked [] hs)) others ≡ read (shifted k (asked [] hs) s′)) (sym place) (down ∙ ap (shifted-reading k (asked [] hs)) rest) in (
+      let chain-asked-some = asked-some (c .first) (c .further) gs chain-pairs (c .is-ask) in
+      let down : read-lines exclude-names (m + k) (headed g (asked [] hs)) others ≡ shifted-reading k (asked [] hs) (read-lines exclude-names m (headed g (asked [] gs)) others) =
+      ap (λ x. read-lines exclude-names (m + k) x others) (sym (shifted-headed g k (asked [] gs) (asked [] hs) chain-asked-some (some-asked hs pairs)))
+      ∙ lines-shifted k (asked [] hs) exclude-names others m (headed g (asked [] gs)) no-asks (some-asked hs pairs) chain-asked-some in
+      let on : read-lines exclude-names (1 + length asks) (headed g (asked [] hs)) others ≡ read (shifted k (asked [] hs) s′) =
+      subst (λ n. read-lines exclude-names n (headed g (asked [] hs)) others ≡ read (shifted k (asked [] hs) s′)) (sym place) (down ∙ ap (shifted-reading k (asked [] hs)) rest) in (
         shifted k (asked [] hs) s′,
-        lines-append exclude-names asks others 1 start (headed (asked [] hs))
-            (heads-go asks hs pairs 1 [] (omega arith) (λ l more is d. absurd (T-not (begins also-words l) (first l more is) d))) ∙ on,
+        lines-append exclude-names asks others 1 start (headed g (asked [] hs))
+            (heads-go g asks hs pairs 1 [] (omega arith) (λ l more is d. absurd (T-not (begins also-words l) (first l more is) d))) ∙ on,
       )
     where
-      some-asked : (hs : List Head) → Pairwise Says-this asks hs → T (not (is-nil (asked [] hs)))
+      some-asked : (hs : List Head) → Pairwise (Says-this g) asks hs → T (not (is-nil (asked [] hs)))
       some-asked hs pairs = go asks refl pairs
         where
-          go : (ls : List Line) → asks ≡ ls → Pairwise Says-this ls hs → T (not (is-nil (asked [] hs)))
+          go : (ls : List Line) → asks ≡ ls → Pairwise (Says-this g) ls hs → T (not (is-nil (asked [] hs)))
           go [] e p = absurd (omega (arith, some, ap length e))
           go (l ∷ ls) e p = asked-some l ls hs p (first l ls e)
 
@@ -468,22 +532,23 @@ each-chained file s e asks others day i h =
 -- each answer is that of the file with its chain alone
 pub asked-alone : Asked-alone
 asked-alone file s e asks others day c k count file′ are =
-    let (s′, reads, same) = alone-lines asks others (day .are-asks) (day .no-asks) c s (day-read file s e day) k count in (
+    let whole = day-read file s e day in
+    let (s′, reads, same) = alone-lines (s .grouped) asks others (form-front asks others s whole (day .are-asks) (day .no-asks)) (day .no-asks) c s whole k count in (
       s′,
       read-by-lines file′ (λ none. cons-ne-nil (c .first) (c .further ++ others) (sym are ∙ none)) ∙ ap (read-lines exclude-names 1 start) are ∙ reads,
-      as-many-asks (chain-lines c) others s′ reads (chain-asks asks others (day .are-asks) (day .no-asks) c) (day .no-asks),
+      as-many-asks (chain-lines c) others s′ reads (λ l i. day .are-asks l (subst (λ x. List·Memᴰ l x) (sym (c .are)) (Memᴰ·append-right (c .before) (Memᴰ·append-left (c .after) i)))) (day .no-asks),
       same,
     )
 
 -- files of one chain each make one that is accepted and answers what they do
 pub asked-together : Asked-together
-asked-together file asks others day some few first each =
-    let (s, e) = together-lines asks others (day .are-asks) (day .no-asks) some few first each in
+asked-together file asks others day some few first (g, form) each =
+    let (s, e) = together-lines g asks others form (day .no-asks) some few first each in
     let has-line : lines file ≢ [] = λ none. absurd (no-line asks some (sym (day .are) ∙ none)) in (
       s,
       read-by-lines file has-line ∙ ap (read-lines exclude-names 1 start) (day .are) ∙ e,
       λ c k s′ count alone.
-          let (t, reads, same) = alone-lines asks others (day .are-asks) (day .no-asks) c s e k count in
+          let (t, reads, same) = alone-lines g asks others form (day .no-asks) c s e k count in
           let is : t ≡ s′ = cc in
           subst (λ x. Same-answers (length (c .before)) k s x) is same,
     )
@@ -624,8 +689,8 @@ answered-alone file works room ps e asks others day c k count file′ are =
 -- files of one chain each make one that is answered with what they come to
 pub answered-together : Answered-together
 unfolding filtered
-answered-together file works room judged asks others day some few first each fits =
-    let (s, accepted, same) = asked-together file asks others day some few first each in (
+answered-together file works room judged asks others day some few first form each fits =
+    let (s, accepted, same) = asked-together file asks others day some few first form each in (
       filtered s,
       list-given file works room (filtered s) .1 (judged, (s, accepted, filtered-answers s, fits s accepted)),
       map-length (position (s .decls) (s .roots)) (s .asks) ∙ as-many-asks asks others s (day-read file s accepted day) (day .are-asks) (day .no-asks),

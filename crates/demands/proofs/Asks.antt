@@ -1,58 +1,64 @@
 -- The asks of an accepted file stand on its first lines, 1 to 16 of them, hide lines directly after them; a file asks what its
 -- ask lines say, their numbers in their ranges.
 use Prim.Native.Nat.{ℕ, suc, _+_, _≤_, _<_}
+use Prim.Native.String.{String}
+use native.Mathlib.Nat.{add-zero}
 use native.Mathlib.Omega.{arith}
 use mathlib.Core.Path.{_≡_, refl, sym, _∙_, ap, ap₂, subst}
 use mathlib.Core.Logic.{_↔_, _⊎_, inl, inr, ⊎-elim}
-use mathlib.Core.Bool.{Bool, true, false, cond, not, _&&_, _||_, and-true, and-false, and-assoc}
-use mathlib.Core.List.{List, [], _∷_, _++_, append-nil, cons-ne-nil, append-assoc, List·Memᴰ, List·Memᴰ·not-nil, List·Memᴰ·head, List·Memᴰ·tail, List·Memᴰ·cases-cons, List·Memᴰ·append-cases, List·Memᴰ·eq-of-singleton}
+use mathlib.Core.Bool.{Bool, true, false, cond, not, _&&_, _||_, Bool·beq, true≢false, and-true, and-false, and-assoc, or-false, or-true, or-assoc}
+use mathlib.Core.List.{List, [], _∷_, _++_, append-nil, cons-ne-nil, append-assoc, List·Memᴰ, List·Memᴰ·not-nil, List·Memᴰ·head, List·Memᴰ·tail, List·Memᴰ·cases-cons, List·Memᴰ·append-cases, List·Memᴰ·eq-of-singleton, Memᴰ·append-right}
 use lib.Dec.{T, T-not, not-T, eqb}
 use lib.ListN.{length, getD, length-append}
 use Rattle.model.specs.Lists.{any, all, keep, is-nil, last, collect}
 use Rattle.model.specs.Names.{Name, bytes, by-byte, order, is-same, same}
 use Rattle.model.specs.Lines.{Line, line-cons, lines, Field, fields}
 use Rattle.model.specs.Summaries.{exclude-names}
-use Rattle.model.specs.Reading.{Head, ok, Ask, State, start, read, in-head, in-asks, may-stand, with-query, head-asks, hidden-by, read-line, read-lines, read-file}
-use Rattle.model.proofs.ListLaws.{any-intro, any-elim, all-intro, all-elim, keep-all, keep-none, keep-append, T-and, T-false}
+use Rattle.model.specs.Reading.{Head, ok, Ask, State, start, read, in-head, in-asks, of-form, may-stand, with-query, head-asks, hidden-by, read-line, read-lines, read-file}
+use Rattle.model.proofs.ListLaws.{any-intro, any-elim, all-intro, all-elim, keep-all, keep-none, keep-append, T-and, T-or, T-false}
 use Rattle.model.proofs.SetLaws.{same-eq, eq-same}
 use Rattle.demands.specs.LinesRead.{Lines-read, At}
 use Rattle.demands.specs.LineForm.{value}
-use Rattle.demands.specs.Counts.{ask-words, also-words, hide-words, is-word, begins}
-use Rattle.demands.specs.Asks.{head-words, Placed-kind, Stands-exact, Accepted-head-first, ask-on, ask-more, ask-after, asks-from, asks-on, Asks-exact, Asks-chained, Accepted-asks}
+use Rattle.demands.specs.Counts.{ask-words, form-words, grouped-words, also-words, hide-words, is-word, begins}
+use Rattle.demands.specs.Asks.{head-words, Placed-kind, Stands-exact, Accepted-head-first, ask-on, ask-more, ask-after, asks-from, asks-on, Form-exact, Asks-exact, Asks-chained, Accepted-asks}
+use Rattle.demands.specs.Demand1.{ask-word}
 use Rattle.model.specs.Also.{with-queries}
 use Rattle.laws.proofs.ReadingLaws.{not-read, lines-read, none-read, file-read, kept-by-lines, kept-by-file}
-use Rattle.demands.proofs.LineFields.{place-by, known-place, Head-by, one-ask, one-also, one-hide, no-head}
+use Rattle.demands.proofs.Refusals.{lines-on}
+use Rattle.demands.proofs.LineFields.{place-by, known-place, Head-by, one-ask, one-ask2, one-also, one-hide, no-head}
 use Rattle.demands.proofs.Heads.{not-nil-append, append-not-nil, Headed, ask-by, last-some, asks-by, also-behind, asks-none, headed-line}
 
 -- ---- what one line does
 
 -- after a line that is read something is asked
-asked-now : {b d c : Bool} {first second : Field} {s s′ : State} → Headed b d c first second s s′ → T (not (is-nil (s′ .asks)))
-asked-now {first} {second} {s} {s′} h = go (h .headed) (h .stands) (h .asks)
+pub asked-now : {b d g c : Bool} {first second third : Field} {s s′ : State} → Headed b d g c first second third s s′ → T (not (is-nil (s′ .asks)))
+asked-now {first} {second} {third} {s} {s′} h = go (h .headed) (h .stands) (h .asks)
   where
-    go : {b d c : Bool} {l : List Head} → Head-by first second b d c l → T (may-stand s (place-by b d c)) → s′ .asks ≡ s .asks ++ collect (head-asks (s .asks)) l
+    go : {b d g c : Bool} {l : List Head} → Head-by first second third b d g c l → T (may-stand s (place-by b d g c)) → s′ .asks ≡ s .asks ++ collect (head-asks (s .asks)) l
         → T (not (is-nil (s′ .asks)))
     go (one-ask low few) t e = rw e (unfold collect head-asks in (append-not-nil (s .asks) _))
+    go (one-ask2 low few all) t e = rw e (unfold collect head-asks in (append-not-nil (s .asks) _))
     go (one-also low) t e = rw e (not-nil-append (s .asks) _ (T-and (in-asks s) (not (is-nil (s .asks))) .0 (unfold may-stand place-by in t) .1))
     go one-hide t e = rw e (not-nil-append (s .asks) _ (T-and (in-head s) (not (is-nil (s .asks))) .0 (unfold may-stand place-by in t) .1))
     go no-head t e = rw e (not-nil-append (s .asks) _ (unfold may-stand place-by in t))
 
 -- where nothing was asked it is no also
-no-also-now : {b d c : Bool} {first second : Field} {s s′ : State} → Headed b d c first second s s′ → s .asks ≡ [] → T (not d)
+no-also-now : {b d g c : Bool} {first second third : Field} {s s′ : State} → Headed b d g c first second third s s′ → s .asks ≡ [] → T (not d)
 unfolding is-nil
 no-also-now {d} {s} h none = not-T d (λ u. absurd (rw none at (also-behind s (h .headed) (h .stands) u)))
 
 -- after it nothing but asks was read exactly where it was so before and it counts as an ask
-in-asks-now : {b d c : Bool} {first second : Field} {s s′ : State} → Headed b d c first second s s′ → in-asks s′ ≡ (in-asks s && b)
+in-asks-now : {b d g c : Bool} {first second third : Field} {s s′ : State} → Headed b d g c first second third s s′ → in-asks s′ ≡ (in-asks s && b)
 unfolding in-asks collect hidden-by
-in-asks-now {first} {second} {s} {s′} h = go (h .headed) (h .hides) (h .on)
+in-asks-now {first} {second} {third} {s} {s′} h = go (h .headed) (h .hides) (h .on)
   where
     goes-on : s′ .hidden ≡ s .hidden ++ [] → in-head s′ ≡ (in-head s && true) → (in-head s′ && is-nil (s′ .hidden)) ≡ ((in-head s && is-nil (s .hidden)) && true)
     goes-on e on = ap₂ _&&_ (on ∙ and-true (in-head s)) (ap is-nil (e ∙ append-nil (s .hidden))) ∙ sym (and-true (in-head s && is-nil (s .hidden)))
 
-    go : {b d c : Bool} {l : List Head} → Head-by first second b d c l → s′ .hidden ≡ s .hidden ++ collect hidden-by l → in-head s′ ≡ (in-head s && (b || c))
+    go : {b d g c : Bool} {l : List Head} → Head-by first second third b d g c l → s′ .hidden ≡ s .hidden ++ collect hidden-by l → in-head s′ ≡ (in-head s && (b || c))
         → (in-head s′ && is-nil (s′ .hidden)) ≡ ((in-head s && is-nil (s .hidden)) && b)
     go (one-ask low few) e on = goes-on e on
+    go (one-ask2 low few all) e on = goes-on e on
     go (one-also low) e on = goes-on e on
     go one-hide e on =
         ap (in-head s′ &&_) (ap is-nil e ∙ T-false (is-nil (s .hidden ++ (first ∷ []))) (append-not-nil (s .hidden) first))
@@ -81,21 +87,33 @@ asks-now n s s′ line before e of-last =
     let h = headed-line exclude-names n s s′ line e in
     h .asks ∙ ap (s .asks ++_) (asks-by (s .asks) before (λ u. of-last (also-behind s (h .headed) (h .stands) u)) (h .headed) ∙ ap (λ x. cond (begins ask-words line) (x ∷ []) []) (go (begins also-words line)))
   where
-    go : (d : Bool) → ask-by d before (getD (fields (line .bytes)) 1 []) (getD (fields (line .bytes)) 2 []) ≡ cond d (ask-more before line) (ask-on line)
+    go : (d : Bool) → ask-by d (begins grouped-words line) before (getD (fields (line .bytes)) 1 []) (getD (fields (line .bytes)) 2 []) (getD (fields (line .bytes)) 3 [])
+        ≡ cond d (ask-more before line) (ask-on line)
     go true = refl
     go false = refl
 
 -- ---- what lines do
 
+-- lines that are read are so in two parts
+pub lines-split : (ls ms : List Line) (n : ℕ) (s t : State) → read-lines exclude-names n s (ls ++ ms) ≡ read t
+    → (u : State) × (read-lines exclude-names n s ls ≡ read u) × (read-lines exclude-names (n + length ls) u ms ≡ read t)
+lines-split [] ms n s t e = (s, unfold read-lines in refl, rw add-zero e)
+lines-split (line ∷ ls) ms n s t e =
+    let (v, r, others) = lines-read exclude-names n s line (ls ++ ms) t e in
+    let (u, here, later) = lines-split ls ms (n + 1) v t others in
+    let count : n + length (line ∷ ls) ≡ n + 1 + length ls = omega arith in
+    (u, lines-on exclude-names n s v line ls r ∙ here, rw count later)
+
 -- a line is one of the head exactly where it counts as an ask or is a hide
 head-word : (f : Field) → is-word head-words f ≡ (is-word ask-words f || is-word hide-words f)
 unfolding is-word head-words ask-words hide-words any
-head-word f = go (same f (bytes "ask")) (same f (bytes "also")) (same f (bytes "hide"))
+head-word f = go (same f (bytes "ask")) (same f (bytes "ask2")) (same f (bytes "also")) (same f (bytes "hide"))
   where
-    go : (a x b : Bool) → (a || (x || (b || false))) ≡ ((a || (x || false)) || (b || false))
-    go true x b = refl
-    go false true b = refl
-    go false false b = refl
+    go : (a y x b : Bool) → (a || (y || (x || (b || false)))) ≡ ((a || (y || (x || false))) || (b || false))
+    go true y x b = refl
+    go false true x b = refl
+    go false false true b = refl
+    go false false false b = refl
 
 -- general law
 or-not : (a b : Bool) → T (not a) → T (not b) → T (not (a || b))
@@ -141,7 +159,7 @@ asks-of-lines (line ∷ ls) n s t before e of-last =
 
 pub asks-exact : Asks-exact
 unfolding start is-nil asks-on
-asks-exact ls s e = asks-of-lines ls 1 start s (record { queries = []; options = 0 }) e (λ v. absurd v)
+asks-exact ls s e = asks-of-lines ls 1 start s (record { queries = []; options = 0; groups = 0 }) e (λ v. absurd v)
 
 -- as many as there are such lines
 pub asks-length : (before : Ask) (ls : List Line) → length (asks-from before ls) ≡ length (keep (begins ask-words) ls)
@@ -187,45 +205,235 @@ module _ (n : ℕ) (before : List Line) (s : State) (reading : read-lines exclud
       go [] e p = (λ t. p, λ q. rw (← (none-read exclude-names 1 start s e)) tt)
       go (line ∷ ls) e p = (λ t. absurd (T-not (is-nil (s .asks)) (asked-lines line ls 1 start s e) t), λ q. absurd (omega arith))
 
--- a field is the word of an ask exactly where it is `ask` or `also`, that of an also where it is `also`, that of a hide where
--- it is `hide`
-pub ask-word : (f : Field) → T (is-word ask-words f) ↔ ((f ≡ bytes "ask") ⊎ (f ≡ bytes "also"))
-unfolding is-word ask-words
-ask-word f = (
-  λ t. let (w, i, u) = any-elim (λ w. same f (bytes w)) ("ask" ∷ "also" ∷ []) t in
-      ⊎-elim (λ e. inl (same-eq u ∙ ap bytes e)) (λ j. inr (same-eq u ∙ ap bytes (List·Memᴰ·eq-of-singleton j))) (List·Memᴰ·cases-cons i),
-  λ s. ⊎-elim (λ e. any-intro (λ w. same f (bytes w)) (List·Memᴰ·head refl) (eq-same e))
-      (λ e. any-intro (λ w. same f (bytes w)) (List·Memᴰ·tail (List·Memᴰ·head refl)) (eq-same e)) s,
+-- a field is one word, or one of two, exactly where it is so
+pub one-word : (w : String) (f : Field) → T (is-word (w ∷ []) f) ↔ (f ≡ bytes w)
+unfolding is-word
+one-word w f = (
+  λ t. let (v, i, u) = any-elim (λ v. same f (bytes v)) (w ∷ []) t in same-eq u ∙ ap bytes (List·Memᴰ·eq-of-singleton i),
+  λ e. any-intro (λ v. same f (bytes v)) (List·Memᴰ·head refl) (eq-same e),
 )
+
+pub more-words : (w : String) (ws : List String) (f : Field) → T (is-word (w ∷ ws) f) ↔ ((f ≡ bytes w) ⊎ T (is-word ws f))
+unfolding is-word any
+more-words w ws f =
+    let (to, back) = T-or (same f (bytes w)) (any (λ v. same f (bytes v)) ws) in
+    (λ t. ⊎-elim (λ u. inl (same-eq u)) inr (to t), λ s. back (⊎-elim (λ e. inl (eq-same e)) inr s))
+
+-- a field is the word of an ask exactly where it is `ask`, `ask2` or `also`, that of an also where it is `also`, that of an ask
+-- with groups where it is `ask2`, that of a hide where it is `hide`, that of the asks of a form where it is the form's or `also`
+pub asks-word : (f : Field) → T (is-word ask-words f) ↔ (((grouped : Bool) × (f ≡ bytes (ask-word grouped))) ⊎ (f ≡ bytes "also"))
+unfolding ask-words ask-word
+asks-word f = (
+  λ t. ⊎-elim (λ e. inl (false, e)) (λ u. ⊎-elim (λ e. inl (true, e)) (λ v. inr (one-word "also" f .0 v)) (more-words "ask2" ("also" ∷ []) f .0 u))
+      (more-words "ask" ("ask2" ∷ "also" ∷ []) f .0 t),
+  ⊎-elim by-form (λ e. more-words "ask" ("ask2" ∷ "also" ∷ []) f .1 (inr (more-words "ask2" ("also" ∷ []) f .1 (inr (one-word "also" f .1 e))))),
+)
+  where
+    by-form : (grouped : Bool) × (f ≡ bytes (ask-word grouped)) → T (is-word ask-words f)
+    by-form (false, e) = more-words "ask" ("ask2" ∷ "also" ∷ []) f .1 (inl e)
+    by-form (true, e) = more-words "ask" ("ask2" ∷ "also" ∷ []) f .1 (inr (more-words "ask2" ("also" ∷ []) f .1 (inl e)))
 
 pub also-word : (f : Field) → T (is-word also-words f) ↔ (f ≡ bytes "also")
-unfolding is-word also-words
-also-word f = (
-  λ t. let (w, i, u) = any-elim (λ w. same f (bytes w)) ("also" ∷ []) t in same-eq u ∙ ap bytes (List·Memᴰ·eq-of-singleton i),
-  λ e. any-intro (λ w. same f (bytes w)) (List·Memᴰ·head refl) (eq-same e),
-)
+unfolding also-words
+also-word f = one-word "also" f
+
+grouped-word : (f : Field) → T (is-word grouped-words f) ↔ (f ≡ bytes "ask2")
+unfolding grouped-words
+grouped-word f = one-word "ask2" f
 
 hide-word : (f : Field) → T (is-word hide-words f) ↔ (f ≡ bytes "hide")
-unfolding is-word hide-words
-hide-word f = (
-  λ t. let (w, i, u) = any-elim (λ w. same f (bytes w)) ("hide" ∷ []) t in same-eq u ∙ ap bytes (List·Memᴰ·eq-of-singleton i),
-  λ e. any-intro (λ w. same f (bytes w)) (List·Memᴰ·head refl) (eq-same e),
-)
+unfolding hide-words
+hide-word f = one-word "hide" f
 
--- the three words are three
-words-apart : (is-word ask-words (bytes "hide") ≡ false) × (is-word also-words (bytes "ask") ≡ false)
-unfolding is-word ask-words also-words any same order by-byte is-same bytes
-words-apart = (refl, refl)
+pub form-word : (grouped : Bool) (f : Field) → T (is-word (form-words grouped) f) ↔ ((f ≡ bytes (ask-word grouped)) ⊎ (f ≡ bytes "also"))
+unfolding form-words
+form-word grouped f =
+    let (to, back) = more-words (ask-word grouped) ("also" ∷ []) f in
+    (λ t. ⊎-elim inl (λ u. inr (one-word "also" f .0 u)) (to t), λ s. back (⊎-elim inl (λ e. inr (one-word "also" f .1 e)) s))
+
+-- an ask of a form, or an also, counts as an ask
+pub form-ask : (grouped : Bool) (f : Field) → T (is-word (form-words grouped) f) → T (is-word ask-words f)
+form-ask grouped f t = asks-word f .1 (⊎-elim (λ e. inl (grouped, e)) inr (form-word grouped f .0 t))
+
+pub begins-form : (grouped : Bool) (l : Line) → T (begins (form-words grouped) l) → T (begins ask-words l)
+unfolding begins
+begins-form grouped l t = form-ask grouped (getD (fields (l .bytes)) 0 []) t
+
+-- the words are apart
+words-apart : (is-word ask-words (bytes "hide") ≡ false) × (is-word also-words (bytes "ask") ≡ false) × (is-word also-words (bytes "ask2") ≡ false)
+    × (is-word grouped-words (bytes "ask") ≡ false)
+unfolding is-word ask-words also-words grouped-words any same order by-byte is-same bytes
+words-apart = (refl, refl, refl, refl)
 
 pub ask-or-hide : (f : Field) → T (is-word ask-words f) → f ≡ bytes "hide" → ⊥
 ask-or-hide f t e = absurd (rw (e, words-apart .0) at t)
 
-pub ask-or-also : (f : Field) → f ≡ bytes "ask" → f ≡ bytes "also" → ⊥
-ask-or-also f e d = absurd (rw (e, words-apart .1) at (also-word f .1 d))
+pub ask-or-also : (grouped : Bool) (f : Field) → f ≡ bytes (ask-word grouped) → f ≡ bytes "also" → ⊥
+unfolding ask-word
+ask-or-also false f e d = absurd (rw (e, words-apart .1) at (also-word f .1 d))
+ask-or-also true f e d = absurd (rw (e, words-apart .2) at (also-word f .1 d))
 
--- a kind that may stand here is `ask` on line 1, `ask` or `also` after asks, `hide` in the head, or another later
+-- an ask is of one form
+pub one-form : (g h : Bool) (f : Field) → f ≡ bytes (ask-word g) → f ≡ bytes (ask-word h) → g ≡ h
+unfolding ask-word
+one-form false false f e d = refl
+one-form false true f e d = absurd (rw (e, words-apart .3) at (grouped-word f .1 d))
+one-form true false f e d = absurd (rw (d, words-apart .3) at (grouped-word f .1 e))
+one-form true true f e d = refl
+
+-- ---- the form of a file
+
+-- a field is a word of the asks of a form exactly where it counts as an ask and is an also or of that form
+pub form-by-words : (g : Bool) (f : Field) → is-word (form-words g) f ≡ (is-word ask-words f && (is-word also-words f || Bool·beq g (is-word grouped-words f)))
+unfolding is-word form-words ask-words also-words grouped-words ask-word any
+form-by-words g f = by g (λ t u. absurd (apart (same-eq t) (same-eq u)))
+  where
+    apart : f ≡ bytes "ask" → f ≡ bytes "ask2" → ⊥
+    apart e d = absurd (rw (e, words-apart .3) at (grouped-word f .1 d))
+
+    older : (a y x : Bool) → (T a → T y → ⊥) → (a || (x || false)) ≡ ((a || (y || (x || false))) && ((x || false) || Bool·beq false (y || false)))
+    older true true x h = absurd (h tt tt)
+    older true false true h = refl
+    older true false false h = refl
+    older false true true h = refl
+    older false true false h = refl
+    older false false true h = refl
+    older false false false h = refl
+
+    newer : (a y x : Bool) → (y || (x || false)) ≡ ((a || (y || (x || false))) && ((x || false) || Bool·beq true (y || false)))
+    newer true true true = refl
+    newer true true false = refl
+    newer true false true = refl
+    newer true false false = refl
+    newer false true true = refl
+    newer false true false = refl
+    newer false false true = refl
+    newer false false false = refl
+
+    by : (g : Bool) → (T (same f (bytes "ask")) → T (same f (bytes "ask2")) → ⊥)
+        → (same f (bytes (ask-word g)) || (same f (bytes "also") || false))
+        ≡ ((same f (bytes "ask") || (same f (bytes "ask2") || (same f (bytes "also") || false)))
+        && ((same f (bytes "also") || false) || Bool·beq g (same f (bytes "ask2") || false)))
+    by false h = older (same f (bytes "ask")) (same f (bytes "ask2")) (same f (bytes "also")) h
+    by true h = newer (same f (bytes "ask")) (same f (bytes "ask2")) (same f (bytes "also"))
+
+form-begins : (g : Bool) (line : Line) → begins (form-words g) line ≡ (begins ask-words line && (begins also-words line || Bool·beq g (begins grouped-words line)))
+unfolding begins
+form-begins g line = form-by-words g (getD (fields (line .bytes)) 0 [])
+
+-- where nothing was asked the form is the older
+abbrev Fresh : State → Type 0
+Fresh s = T (is-nil (s .asks)) → s .grouped ≡ false
+
+-- the test of a form after an ask of the older form, of the form with groups, and after an also
+ask-form : (i none form g : Bool) → T (i && (none || Bool·beq false form)) → (T none → form ≡ false)
+    → ((i && true) && Bool·beq g (form || false)) ≡ ((i && (none || Bool·beq g form)) && (true && (false || Bool·beq g false)))
+ask-form false none form g t h = absurd t
+ask-form true none true g t h = let same : none ≡ true = only none t in absurd (true≢false (h (rw same tt)))
+  where
+    only : (none : Bool) → T (none || false) → none ≡ true
+    only true t = refl
+    only false t = absurd t
+ask-form true true false true t h = refl
+ask-form true true false false t h = refl
+ask-form true false false true t h = refl
+ask-form true false false false t h = refl
+
+ask2-form : (i none form g : Bool) → T (i && (none || Bool·beq true form))
+    → ((i && true) && Bool·beq g (form || true)) ≡ ((i && (none || Bool·beq g form)) && (true && (false || Bool·beq g true)))
+ask2-form false none form g t = absurd t
+ask2-form true true true true t = refl
+ask2-form true true true false t = refl
+ask2-form true true false true t = refl
+ask2-form true true false false t = refl
+ask2-form true false true true t = refl
+ask2-form true false true false t = refl
+ask2-form true false false g t = absurd t
+
+also-form : (i none form g : Bool) → T (i && not none)
+    → ((i && true) && Bool·beq g (form || false)) ≡ ((i && (none || Bool·beq g form)) && (true && (true || Bool·beq g false)))
+also-form false none form g t = absurd t
+also-form true true form g t = absurd t
+also-form true false true true t = refl
+also-form true false true false t = refl
+also-form true false false true t = refl
+also-form true false false false t = refl
+
+other-form : (i x y z : Bool) → ((i && false) && x) ≡ (y && (false && z))
+other-form true x y z = sym (and-false y)
+other-form false x y z = sym (and-false y)
+
+-- after a line nothing but asks of this form was read exactly where it was so before and the line is one
+form-now : {b d h c : Bool} {first second third : Field} {s s′ : State} (w : Headed b d h c first second third s s′) → Fresh s → (g : Bool)
+    → (in-asks s′ && of-form s′ g) ≡ ((in-asks s && of-form s g) && (b && (d || Bool·beq g h)))
+form-now {first = first} {second} {third} {s} {s′} w fresh g = now _ _ (in-asks-now w) (w .form) ∙ go (w .headed) (w .stands)
+  where
+    now : (b h : Bool) → in-asks s′ ≡ (in-asks s && b) → s′ .grouped ≡ (s .grouped || h) → (in-asks s′ && of-form s′ g) ≡ ((in-asks s && b) && Bool·beq g (s .grouped || h))
+    now b h e form = ap₂ (λ x y. x && y) e (unfold of-form in (ap (_|| Bool·beq g (s′ .grouped)) (T-false (is-nil (s′ .asks)) (asked-now w)) ∙ ap (Bool·beq g) form))
+
+    go : {b d h c : Bool} {l : List Head} → Head-by first second third b d h c l → T (may-stand s (place-by b d h c))
+        → ((in-asks s && b) && Bool·beq g (s .grouped || h)) ≡ ((in-asks s && of-form s g) && (b && (d || Bool·beq g h)))
+    go (one-ask low few) t = unfold of-form in ask-form (in-asks s) (is-nil (s .asks)) (s .grouped) g (unfold may-stand place-by of-form in t) fresh
+    go (one-ask2 low few all) t = unfold of-form in ask2-form (in-asks s) (is-nil (s .asks)) (s .grouped) g (unfold may-stand place-by of-form in t)
+    go (one-also low) t = unfold of-form in also-form (in-asks s) (is-nil (s .asks)) (s .grouped) g (unfold may-stand place-by in t)
+    go one-hide t = other-form (in-asks s) (Bool·beq g (s .grouped || false)) (in-asks s && of-form s g) (false || Bool·beq g false)
+    go no-head t = other-form (in-asks s) (Bool·beq g (s .grouped || false)) (in-asks s && of-form s g) (false || Bool·beq g false)
+
+-- so after lines
+form-lines : (g : Bool) (ls : List Line) (n : ℕ) (s t : State) → read-lines exclude-names n s ls ≡ read t → Fresh s
+    → (in-asks t && of-form t g) ≡ ((in-asks s && of-form s g) && all (begins (form-words g)) ls)
+unfolding all
+form-lines g [] n s t e fresh = ap (λ (x : State). in-asks x && of-form x g) (sym (none-read exclude-names n s t e)) ∙ sym (and-true (in-asks s && of-form s g))
+form-lines g (line ∷ ls) n s t e fresh =
+    let (u, r, others) = lines-read exclude-names n s line ls t e in
+    let w = headed-line exclude-names n s u line r in
+    form-lines g ls (n + 1) u t others (λ none. absurd (T-not (is-nil (u .asks)) (asked-now w) none))
+    ∙ ap (_&& all (begins (form-words g)) ls) (form-now w fresh g ∙ ap ((in-asks s && of-form s g) &&_) (sym (form-begins g line)))
+    ∙ and-assoc (in-asks s && of-form s g) (begins (form-words g) line) (all (begins (form-words g)) ls)
+
+-- an ask of this form may stand exactly after asks of it and alsos alone
+pub form-stands : (g : Bool) (ls : List Line) (t : State) → read-lines exclude-names 1 start ls ≡ read t → (in-asks t && of-form t g) ≡ all (begins (form-words g)) ls
+form-stands g ls t e = form-lines g ls 1 start t e (λ none. unfold start in refl) ∙ unfold start in-asks in-head of-form is-nil in refl
+
+-- lines that count as asks are all of the form of the file
+pub asks-of-form : (ls : List Line) (t : State) → read-lines exclude-names 1 start ls ≡ read t → ((l : Line) → List·Memᴰ l ls → T (begins ask-words l))
+    → (l : Line) → List·Memᴰ l ls → T (begins (form-words (t .grouped)) l)
+asks-of-form ls t e are l i =
+    all-elim (begins (form-words (t .grouped))) (subst T (form-stands (t .grouped) ls t e) (T-and (in-asks t) (of-form t (t .grouped)) .1 (asking, own))) i
+  where
+    from-start : in-asks start ≡ true
+    from-start = unfold start in-asks in-head is-nil in refl
+
+    asking : T (in-asks t)
+    asking = subst T (sym (asks-on-lines ls 1 start t e ∙ ap (_&& all (begins ask-words) ls) from-start)) (all-intro (begins ask-words) ls are)
+
+    own : T (of-form t (t .grouped))
+    own = unfold of-form in (T-or (is-nil (t .asks)) (Bool·beq (t .grouped) (t .grouped)) .1 (inr (same-form (t .grouped))))
+      where
+        same-form : (b : Bool) → T (Bool·beq b b)
+        same-form true = tt
+        same-form false = tt
+
+-- the form of lines that are read
+form-after : (ls : List Line) (n : ℕ) (s t : State) → read-lines exclude-names n s ls ≡ read t → t .grouped ≡ (s .grouped || any (begins grouped-words) ls)
+unfolding any
+form-after [] n s t e = ap (λ (x : State). x .grouped) (sym (none-read exclude-names n s t e)) ∙ sym (or-false (s .grouped))
+form-after (line ∷ ls) n s t e =
+    let (u, r, others) = lines-read exclude-names n s line ls t e in
+    form-after ls (n + 1) u t others ∙ ap (_|| any (begins grouped-words) ls) (headed-line exclude-names n s u line r .form)
+    ∙ or-assoc (s .grouped) (begins grouped-words line) (any (begins grouped-words) ls)
+
+pub form-exact : Form-exact
+form-exact ls s e = form-after ls 1 start s e ∙ unfold start in refl
+
+-- ---- where a kind may stand
+
+-- a kind that may stand here is an ask on line 1, an ask of the first one's form or an also after asks, a hide in the head, or
+-- another later
 pub stands-exact : Stands-exact
-stands-exact ls n l f k known = rw (known-place f known) (go (is-word ask-words f) (is-word also-words f) (is-word hide-words f) (ask-word f) (also-word f) (hide-word f) (ask-or-hide f))
+stands-exact ls n l f k known =
+    rw (known-place f known) (go (is-word ask-words f) (is-word also-words f) (is-word grouped-words f) (is-word hide-words f)
+    (asks-word f) (also-word f) (grouped-word f) (hide-word f) (ask-or-hide f))
   where
     none : T (is-nil (l .state .asks)) ↔ (n ≡ 1)
     none = nothing-asked n (l .before) (l .state) (l .reading) (l .place)
@@ -239,30 +447,45 @@ stands-exact ls n l f k known = rw (known-place f known) (go (is-word ask-words 
     asked : T (not (is-nil (l .state .asks))) → n ≡ 1 → ⊥
     asked a e = T-not (is-nil (l .state .asks)) a (none .1 e)
 
-    go : (b d c : Bool) → T b ↔ ((f ≡ bytes "ask") ⊎ (f ≡ bytes "also")) → T d ↔ (f ≡ bytes "also") → T c ↔ (f ≡ bytes "hide") → (T b → f ≡ bytes "hide" → ⊥)
-        → T (may-stand (l .state) (place-by b d c)) ↔ Placed-kind n (l .before) f
-    go true true c is alsos hides apart = (
+    go : (b d h c : Bool) → T b ↔ (((grouped : Bool) × (f ≡ bytes (ask-word grouped))) ⊎ (f ≡ bytes "also")) → T d ↔ (f ≡ bytes "also")
+        → T h ↔ (f ≡ bytes "ask2") → T c ↔ (f ≡ bytes "hide") → (T b → f ≡ bytes "hide" → ⊥)
+        → T (may-stand (l .state) (place-by b d h c)) ↔ Placed-kind n (l .before) f
+    go true true h c is alsos twos hides apart = (
       λ t. let (here, a) = T-and (in-asks (l .state)) (not (is-nil (l .state .asks))) .0 (unfold may-stand place-by in t) in
-          let within : (line : Line) → List·Memᴰ line (l .before) → T (begins ask-words line) = λ line m. all-elim (begins ask-words) (rw asks-on-here at here) m in
-          record { ask-in-asks = λ e. within; also-in-asks = λ e. within; first-ask = λ e. absurd (asked a e); hide-in-head = λ e. absurd (apart tt e) },
+          record {
+            ask-in-asks = λ g e. absurd (ask-or-also g f e (alsos .0 tt));
+            also-in-asks = λ e line m. all-elim (begins ask-words) (rw asks-on-here at here) m;
+            first-ask = λ e. absurd (asked a e);
+            hide-in-head = λ e. absurd (apart tt e);
+          },
       λ p. unfold may-stand place-by in (T-and (in-asks (l .state)) (not (is-nil (l .state .asks))) .1 (
         rw asks-on-here (all-intro (begins ask-words) (l .before) (p .also-in-asks (alsos .0 tt))),
-        not-T (is-nil (l .state .asks)) (λ t. ask-or-also f (p .first-ask (none .0 t)) (alsos .0 tt)),
+        not-T (is-nil (l .state .asks)) (λ t. let (g, e) = p .first-ask (none .0 t) in ask-or-also g f e (alsos .0 tt)),
       )),
     )
-    go true false c is alsos hides apart = (
-      λ t. let here : T (in-asks (l .state)) = unfold may-stand place-by in t in
-          let within : (line : Line) → List·Memᴰ line (l .before) → T (begins ask-words line) = λ line m. all-elim (begins ask-words) (rw asks-on-here at here) m in
-          record { ask-in-asks = λ e. within; also-in-asks = λ e. within; first-ask = λ e. an-ask; hide-in-head = λ e. absurd (apart tt e) },
-      λ p. unfold may-stand place-by in (rw asks-on-here (all-intro (begins ask-words) (l .before) (p .ask-in-asks an-ask))),
+    go true false h c is alsos twos hides apart = (
+      λ t. let here : T (all (begins (form-words h)) (l .before)) = subst T (form-stands h (l .before) (l .state) (l .reading)) (unfold may-stand place-by in t) in
+          record {
+            ask-in-asks = λ g e line m. subst (λ x. T (begins (form-words x) line)) (one-form h g f an-ask e) (all-elim (begins (form-words h)) here m);
+            also-in-asks = λ e. absurd (alsos .1 e);
+            first-ask = λ e. (h, an-ask);
+            hide-in-head = λ e. absurd (apart tt e);
+          },
+      λ p. unfold may-stand place-by in (subst T (sym (form-stands h (l .before) (l .state) (l .reading))) (all-intro (begins (form-words h)) (l .before) (p .ask-in-asks h an-ask))),
     )
       where
-        an-ask : f ≡ bytes "ask"
-        an-ask = ⊎-elim (λ e. e) (λ e. absurd (alsos .1 e)) (is .0 tt)
-    go false d true is alsos hides apart = (
+        an-ask : f ≡ bytes (ask-word h)
+        an-ask = ⊎-elim (λ (g, e). of-word g h e twos) (λ e. absurd (alsos .1 e)) (is .0 tt)
+          where
+            of-word : (g h : Bool) → f ≡ bytes (ask-word g) → T h ↔ (f ≡ bytes "ask2") → f ≡ bytes (ask-word h)
+            of-word false false e w = e
+            of-word false true e w = unfold ask-word in (w .0 tt)
+            of-word true false e w = absurd (w .1 (unfold ask-word in e))
+            of-word true true e w = e
+    go false d h true is alsos twos hides apart = (
       λ t. let (i, a) = T-and (in-head (l .state)) (not (is-nil (l .state .asks))) .0 (unfold may-stand place-by in t) in
           record {
-            ask-in-asks = λ e. absurd (is .1 (inl e));
+            ask-in-asks = λ g e. absurd (is .1 (inl (g, e)));
             also-in-asks = λ e. absurd (is .1 (inr e));
             first-ask = λ e. absurd (asked a e);
             hide-in-head = λ e line m. all-elim (begins head-words) (rw on at i) m;
@@ -272,9 +495,9 @@ stands-exact ls n l f k known = rw (known-place f known) (go (is-word ask-words 
         not-T (is-nil (l .state .asks)) (λ t. is .1 (inl (p .first-ask (none .0 t)))),
       )),
     )
-    go false d false is alsos hides apart = (
+    go false d h false is alsos twos hides apart = (
       λ t. record {
-        ask-in-asks = λ e. absurd (is .1 (inl e));
+        ask-in-asks = λ g e. absurd (is .1 (inl (g, e)));
         also-in-asks = λ e. absurd (is .1 (inr e));
         first-ask = λ e. absurd (asked (unfold may-stand place-by in t) e);
         hide-in-head = λ e. absurd (hides .1 e);
@@ -285,16 +508,16 @@ stands-exact ls n l f k known = rw (known-place f known) (go (is-word ask-words 
 -- ---- the head of an accepted file
 
 -- behind the head a line is none of it
-no-head-now : {b d c : Bool} {first second : Field} {s s′ : State} → Headed b d c first second s s′ → T (not (in-head s)) → T (not (b || c))
+no-head-now : {b d g c : Bool} {first second third : Field} {s s′ : State} → Headed b d g c first second third s s′ → T (not (in-head s)) → T (not (b || c))
 unfolding in-asks
-no-head-now {b} {d} {c} {s} h out = go b d c (h .stands)
+no-head-now {b} {d} {g} {c} {s = s} h out = go b d c (h .stands)
   where
     in-head-here : T (in-asks s) → ⊥
     in-head-here t = T-not (in-head s) out (T-and (in-head s) (is-nil (s .hidden)) .0 t .0)
 
-    go : (b d c : Bool) → T (may-stand s (place-by b d c)) → T (not (b || c))
+    go : (b d c : Bool) → T (may-stand s (place-by b d g c)) → T (not (b || c))
     go true true c t = absurd (in-head-here (T-and (in-asks s) (not (is-nil (s .asks))) .0 (unfold may-stand place-by in t) .0))
-    go true false c t = absurd (in-head-here (unfold may-stand place-by in t))
+    go true false c t = absurd (in-head-here (T-and (in-asks s) (of-form s g) .0 (unfold may-stand place-by in t) .0))
     go false d true t = absurd (T-not (in-head s) out (T-and (in-head s) (not (is-nil (s .asks))) .0 (unfold may-stand place-by in t) .0))
     go false d false t = tt
 
@@ -310,12 +533,12 @@ no-head-later (line ∷ ls) n s t e out l i =
     ⊎-elim (λ p. rw p here) (no-head-later ls (n + 1) u t others later l) (List·Memᴰ·cases-cons i)
 
 -- behind the asks a line is none
-no-ask-now : {b d c : Bool} {first second : Field} {s s′ : State} → Headed b d c first second s s′ → T (not (in-asks s)) → T (not b)
-no-ask-now {b} {d} {c} {s} h out = go b d (h .stands)
+no-ask-now : {b d g c : Bool} {first second third : Field} {s s′ : State} → Headed b d g c first second third s s′ → T (not (in-asks s)) → T (not b)
+no-ask-now {b} {d} {g} {c} {s = s} h out = go b d (h .stands)
   where
-    go : (b d : Bool) → T (may-stand s (place-by b d c)) → T (not b)
+    go : (b d : Bool) → T (may-stand s (place-by b d g c)) → T (not b)
     go true true t = absurd (T-not (in-asks s) out (T-and (in-asks s) (not (is-nil (s .asks))) .0 (unfold may-stand place-by in t) .0))
-    go true false t = absurd (T-not (in-asks s) out (unfold may-stand place-by in t))
+    go true false t = absurd (T-not (in-asks s) out (T-and (in-asks s) (of-form s g) .0 (unfold may-stand place-by in t) .0))
     go false d t = tt
 
 -- hide lines, then lines of which none is of the head
@@ -420,21 +643,23 @@ record Good-of (most : ℕ) (a : Ask) : Type 0 where
   in-range : (q : ℕ) → List·Memᴰ q (a .queries) → q ≤ 255
   few-queries : length (a .queries) ≤ most
   few-options : a .options ≤ 15
+  few-groups : a .groups ≤ 65535
 
 -- as many more may be
 good-more : {n m : ℕ} → n ≤ m → {a : Ask} → Good-of n a → Good-of m a
 good-more l h =
     let few = h .few-queries in
-    record { query = h .query; earlier = h .earlier; has-query = h .has-query; in-range = h .in-range; few-queries = omega arith; few-options = h .few-options }
+    record { query = h .query; earlier = h .earlier; has-query = h .has-query; in-range = h .in-range; few-queries = omega arith; few-options = h .few-options; few-groups = h .few-groups }
 
--- at most sixteen, each good
+-- at most sixteen, each good, and all groups admitted in the older form
 record Good (s : State) : Type 0 where
   few : length (s .asks) ≤ 16
   each : (a : Ask) → List·Memᴰ a (s .asks) → Good-of (length (s .asks)) a
+  older : T (not (s .grouped)) → (a : Ask) → List·Memᴰ a (s .asks) → a .groups ≡ 65535
 
 -- so is it before line 1
 good-start : Good start
-good-start = unfold start in (record { few = omega arith; each = λ a i. absurd (List·Memᴰ·not-nil i) })
+good-start = unfold start in (record { few = omega arith; each = λ a i. absurd (List·Memᴰ·not-nil i); older = λ t a i. absurd (List·Memᴰ·not-nil i) })
 
 -- one ask more
 good-next : (asks : List Ask) (new : Ask) → ((a : Ask) → List·Memᴰ a asks → Good-of (length asks) a) → Good-of (length asks + 1) new
@@ -445,19 +670,33 @@ good-next asks new old here a i =
 
 -- and every line keeps it
 good-line : (n : ℕ) (s s′ : State) (line : Line) → read-line exclude-names n s line ≡ ok s′ → Good s → Good s′
-good-line n s s′ line e old = let h = headed-line exclude-names n s s′ line e in go (h .headed) (h .stands) (h .in-number) (h .asks)
+good-line n s s′ line e old = let h = headed-line exclude-names n s s′ line e in go (h .headed) (h .stands) (h .in-number) (h .asks) (h .form)
   where
-    unchanged : s′ .asks ≡ s .asks → Good s′
-    unchanged same = record { few = rw same (old .few); each = λ a i. rw same (old .each a (rw same at i)) }
+    unchanged : s′ .asks ≡ s .asks → s′ .grouped ≡ (s .grouped || false) → Good s′
+    unchanged same form =
+        record {
+          few = rw same (old .few);
+          each = λ a i. rw same (old .each a (rw same at i));
+          older = λ t a i. old .older (subst (λ b. T (not b)) (form ∙ or-false (s .grouped)) t) a (rw same at i);
+        }
 
-    one-more : (new : Ask) → length (s .asks) < 16 → s′ .asks ≡ s .asks ++ (new ∷ []) → Good-of (length (s .asks) + 1) new → Good s′
-    one-more new room are here =
-        record { few = rw are (omega (arith, length-append (s .asks) (new ∷ []))); each = λ a i. rw are (good-next (s .asks) new (old .each) here a (rw are at i)) }
+    one-more : (new : Ask) → length (s .asks) < 16 → s′ .asks ≡ s .asks ++ (new ∷ []) → Good-of (length (s .asks) + 1) new
+        → (T (not (s′ .grouped)) → T (not (s .grouped)) × (new .groups ≡ 65535)) → Good s′
+    one-more new room are here form =
+        record {
+          few = rw are (omega (arith, length-append (s .asks) (new ∷ [])));
+          each = λ a i. rw are (good-next (s .asks) new (old .each) here a (rw are at i));
+          older = λ t a i. let (before, all) = form t in
+              ⊎-elim (old .older before a) (λ j. ap (λ (x : Ask). x .groups) (List·Memᴰ·eq-of-singleton j) ∙ all) (List·Memᴰ·append-cases (s .asks) (rw are at i));
+        }
 
-    go : {b d c : Bool} {first second : Field} {l : List Head} → Head-by first second b d c l → T (may-stand s (place-by b d c)) → (T b → length (s .asks) < 16)
-        → s′ .asks ≡ s .asks ++ collect (head-asks (s .asks)) l → Good s′
-    go {first} {second} (one-ask low few) t less is =
-        one-more (record { queries = value first ∷ []; options = value second }) (less tt) (is ∙ unfold collect head-asks in refl)
+    stays : s′ .grouped ≡ (s .grouped || false) → T (not (s′ .grouped)) → T (not (s .grouped))
+    stays form t = subst (λ b. T (not b)) (form ∙ or-false (s .grouped)) t
+
+    go : {b d g c : Bool} {first second third : Field} {l : List Head} → Head-by first second third b d g c l → T (may-stand s (place-by b d g c)) → (T b → length (s .asks) < 16)
+        → s′ .asks ≡ s .asks ++ collect (head-asks (s .asks)) l → s′ .grouped ≡ (s .grouped || g) → Good s′
+    go {first} {second} (one-ask low few) t less is form =
+        one-more (record { queries = value first ∷ []; options = value second; groups = 65535 }) (less tt) (is ∙ unfold collect head-asks in refl)
         (record {
           query = value first;
           earlier = [];
@@ -465,12 +704,26 @@ good-line n s s′ line e old = let h = headed-line exclude-names n s s′ line 
           in-range = λ q i. let same : q ≡ value first = List·Memᴰ·eq-of-singleton i in rw same low;
           few-queries = omega arith;
           few-options = few;
+          few-groups = omega arith;
         })
-    go {first} (one-also low) t less is =
+        (λ u. (stays form u, refl))
+    go {first} {second} {third} (one-ask2 low few all) t less is form =
+        one-more (record { queries = value first ∷ []; options = value second; groups = value third }) (less tt) (is ∙ unfold collect head-asks in refl)
+        (record {
+          query = value first;
+          earlier = [];
+          has-query = refl;
+          in-range = λ q i. let same : q ≡ value first = List·Memᴰ·eq-of-singleton i in rw same low;
+          few-queries = omega arith;
+          few-options = few;
+          few-groups = all;
+        })
+        (λ u. absurd (subst (λ b. T (not b)) (form ∙ or-true (s .grouped)) u))
+    go {first} (one-also low) t less is form =
         let (x, of-last) = last-some (s .asks) (T-and (in-asks s) (not (is-nil (s .asks))) .0 (unfold may-stand place-by in t) .1) in
         let before = old .each x (last-member (s .asks) of-last) in
         let few = before .few-queries in
-        one-more (record { queries = value first ∷ x .queries; options = x .options }) (less tt) (is ∙ unfold collect head-asks with-query in (rw of-last))
+        one-more (record { queries = value first ∷ x .queries; options = x .options; groups = x .groups }) (less tt) (is ∙ unfold collect head-asks with-query in (rw of-last))
         (record {
           query = value first;
           earlier = x .queries;
@@ -478,9 +731,11 @@ good-line n s s′ line e old = let h = headed-line exclude-names n s s′ line 
           in-range = λ q i. ⊎-elim (λ same. rw same low) (before .in-range q) (List·Memᴰ·cases-cons i);
           few-queries = omega arith;
           few-options = before .few-options;
+          few-groups = before .few-groups;
         })
-    go one-hide t less is = unchanged (is ∙ unfold collect head-asks in (append-nil (s .asks)))
-    go no-head t less is = unchanged (is ∙ unfold collect in (append-nil (s .asks)))
+        (λ u. (stays form u, old .older (stays form u) x (last-member (s .asks) of-last)))
+    go one-hide t less is form = unchanged (is ∙ unfold collect head-asks in (append-nil (s .asks))) form
+    go no-head t less is form = unchanged (is ∙ unfold collect in (append-nil (s .asks))) form
 
 -- at most sixteen are asked after lines that are read from the start
 pub few-asks : (ls : List Line) (n : ℕ) (s : State) → read-lines exclude-names n start ls ≡ read s → length (s .asks) ≤ 16
@@ -506,6 +761,10 @@ at-snoc {A} l x {i} {y} at = go l (at .before) (at .are) (at .place)
     go (z ∷ l) (b ∷ bs) e {i} p =
         ⊎-elim (λ (f : At l (length bs) y). inl (record { before = z ∷ f .before; after = f .after; are = ap (z ∷_) (f .are); place = ap suc (f .place) ∙ p }))
         (λ (q, is). inr (sym p ∙ ap suc q, is)) (go l bs (tail-eq e) refl)
+
+-- what stands at a place of a list is one of it
+pub at-member : {A : Type 0} {l : List A} {i : ℕ} {x : A} → At l i x → List·Memᴰ x l
+at-member h = rw (h .are) (Memᴰ·append-right (h .before) (List·Memᴰ·head refl))
 
 -- what stands in a list stands there with more behind it
 at-more : {A : Type 0} (l m : List A) {i : ℕ} {y : A} → At l i y → At (l ++ m) i y
@@ -539,7 +798,7 @@ chained-next asks x old new =
     }
 
 -- an ask with one query more, without it
-one-less : (q : ℕ) (x : Ask) (qs : List ℕ) → x .queries ≡ qs → with-queries (record { queries = q ∷ x .queries; options = x .options }) qs ≡ x
+one-less : (q : ℕ) (x : Ask) (qs : List ℕ) → x .queries ≡ qs → with-queries (record { queries = q ∷ x .queries; options = x .options; groups = x .groups }) qs ≡ x
 unfolding with-queries
 one-less q x qs e = rw (← e)
 
@@ -547,15 +806,19 @@ one-less q x qs e = rw (← e)
 chained-line : (n : ℕ) (s s′ : State) (line : Line) → read-line exclude-names n s line ≡ ok s′ → Chained-asks (s .asks) → Chained-asks (s′ .asks)
 chained-line n s s′ line e old = let h = headed-line exclude-names n s s′ line e in go (h .headed) (h .stands) (h .asks)
   where
-    go : {b d c : Bool} {first second : Field} {l : List Head} → Head-by first second b d c l → T (may-stand s (place-by b d c))
+    alone : (a : Ask) (q : ℕ) → a .queries ≡ q ∷ [] → s′ .asks ≡ s .asks ++ (a ∷ []) → Chained-asks (s′ .asks)
+    alone a k one are =
+        rw are (chained-next (s .asks) a old (λ q p qs two. absurd (let z : _≡_ {A = List ℕ} [] (p ∷ qs) = cc in cons-ne-nil p qs (sym z))))
+
+    go : {b d g c : Bool} {first second third : Field} {l : List Head} → Head-by first second third b d g c l → T (may-stand s (place-by b d g c))
         → s′ .asks ≡ s .asks ++ collect (head-asks (s .asks)) l → Chained-asks (s′ .asks)
     go {first} {second} (one-ask low few) t is =
-        let a : Ask = record { queries = value first ∷ []; options = value second } in
-        let are : s′ .asks ≡ s .asks ++ (a ∷ []) = is ∙ unfold collect head-asks in refl in
-        rw are (chained-next (s .asks) a old (λ q p qs two. absurd (let z : _≡_ {A = List ℕ} [] (p ∷ qs) = cc in cons-ne-nil p qs (sym z))))
+        alone (record { queries = value first ∷ []; options = value second; groups = 65535 }) (value first) refl (is ∙ unfold collect head-asks in refl)
+    go {first} {second} {third} (one-ask2 low few all) t is =
+        alone (record { queries = value first ∷ []; options = value second; groups = value third }) (value first) refl (is ∙ unfold collect head-asks in refl)
     go {first} (one-also low) t is =
         let (x, of-last) = last-some (s .asks) (T-and (in-asks s) (not (is-nil (s .asks))) .0 (unfold may-stand place-by in t) .1) in
-        let a : Ask = record { queries = value first ∷ x .queries; options = x .options } in
+        let a : Ask = record { queries = value first ∷ x .queries; options = x .options; groups = x .groups } in
         let are : s′ .asks ≡ s .asks ++ (a ∷ []) = is ∙ unfold collect head-asks with-query in (rw of-last) in
         let (m, split) = last-split (s .asks) of-last in
         rw are (chained-next (s .asks) a old (λ q p qs two.
@@ -605,7 +868,8 @@ accepted-asks file s e =
       few = good .few;
       each = λ a i.
           let h = good-more (good .few) (good .each a i) in
-          record { query = h .query; earlier = h .earlier; has-query = h .has-query; in-range = h .in-range; few-queries = h .few-queries; few-options = h .few-options };
+          record { query = h .query; earlier = h .earlier; has-query = h .has-query; in-range = h .in-range; few-queries = h .few-queries; few-options = h .few-options; few-groups = h .few-groups };
+      older-form = good .older;
     }
 
 -- a hide line and a line behind the head are no asks
@@ -634,6 +898,33 @@ as-many-asks asks rest s e are-asks no-asks =
     ap length (asks-exact (asks ++ rest) s e) ∙ asks-length _ (asks ++ rest)
     ∙ ap length (keep-append (begins ask-words) asks rest ∙ ap₂ _++_ (keep-all (begins ask-words) asks are-asks) (keep-none (begins ask-words) rest no-asks) ∙ append-nil asks)
 
+-- an ask with groups counts as an ask
+grouped-ask : (l : Line) → T (begins grouped-words l) → T (begins ask-words l)
+unfolding begins ask-word
+grouped-ask l t = let f = getD (fields (l .bytes)) 0 [] in asks-word f .1 (inl (true, grouped-word f .0 t))
+
+-- lines that are no asks have none with groups
+no-grouped : (ls : List Line) → ((l : Line) → List·Memᴰ l ls → T (not (begins ask-words l))) → any (begins grouped-words) ls ≡ false
+unfolding any
+no-grouped [] h = refl
+no-grouped (l ∷ ls) h =
+    ap (_|| any (begins grouped-words) ls)
+    (T-false (begins grouped-words l) (not-T (begins grouped-words l) (λ t. T-not (begins ask-words l) (h l (List·Memᴰ·head refl)) (grouped-ask l t))))
+    ∙ no-grouped ls (λ m i. h m (List·Memᴰ·tail i))
+
+-- lines that are no asks leave the form
+form-stays : (ls : List Line) (n : ℕ) (s t : State) → read-lines exclude-names n s ls ≡ read t → ((l : Line) → List·Memᴰ l ls → T (not (begins ask-words l)))
+    → t .grouped ≡ s .grouped
+form-stays ls n s t e none = form-after ls n s t e ∙ ap (s .grouped ||_) (no-grouped ls none) ∙ or-false (s .grouped)
+
+-- asks, then lines that are none: the asks are all of the form of the file
+pub form-front : (asks rest : List Line) (s : State) → read-lines exclude-names 1 start (asks ++ rest) ≡ read s
+    → ((l : Line) → List·Memᴰ l asks → T (begins ask-words l)) → ((l : Line) → List·Memᴰ l rest → T (not (begins ask-words l)))
+    → (l : Line) → List·Memᴰ l asks → T (begins (form-words (s .grouped)) l)
+form-front asks rest s e are-asks no-asks l i =
+    let (u, first, others) = lines-split asks rest 1 start s e in
+    subst (λ b. T (begins (form-words b) l)) (sym (form-stays rest (1 + length asks) u s others no-asks)) (asks-of-form asks u first are-asks l i)
+
 -- the first line is no also
 pub first-no-also : (line : Line) (ls : List Line) (s : State) → read-lines exclude-names 1 start (line ∷ ls) ≡ read s → T (not (begins also-words line))
 unfolding start
@@ -648,6 +939,7 @@ pub record Split-file (file : List ℕ) (s : State) : Type 0 where
   pub others : List Line
   pub are : lines file ≡ asks ++ (hides ++ others)
   pub are-asks : (l : Line) → List·Memᴰ l asks → T (begins ask-words l)
+  pub of-form : (l : Line) → List·Memᴰ l asks → T (begins (form-words (s .grouped)) l)
   pub are-hides : (l : Line) → List·Memᴰ l hides → T (begins hide-words l)
   pub no-other : (l : Line) → List·Memᴰ l others → T (not (begins head-words l))
   pub no-asks : (l : Line) → List·Memᴰ l (hides ++ others) → T (not (begins ask-words l))
@@ -666,6 +958,7 @@ split-file file s e =
       others = h .others;
       are = a .are ∙ ap (a .asks ++_) (h .are);
       are-asks = a .are-asks;
+      of-form = form-front (a .asks) (a .rest) s (rw (a .are) at reads) (a .are-asks) no-asks;
       are-hides = h .are-hides;
       no-other = h .no-other;
       no-asks = λ l i. no-asks l (rw (h .are) i);
@@ -685,7 +978,8 @@ accepted-head-first file s e =
       are = w .are;
       some-ask = omega (arith, good .some-ask);
       few-asks = omega (arith, good .few);
-      are-asks = w .are-asks;
+      grouped = s .grouped;
+      are-asks = w .of-form;
       first-ask = λ l more are. first-no-also l (more ++ (w .hides ++ w .others)) s
           (subst (λ ls. read-lines exclude-names 1 start ls ≡ read s) (w .are ∙ ap (_++ (w .hides ++ w .others)) are) (file-read exclude-names file s e));
       are-hides = w .are-hides;

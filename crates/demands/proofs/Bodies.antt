@@ -1,6 +1,6 @@
 -- Change 8: where bodies are followed the kept set is the smallest closed one, the added ones stand at the end of their group
 -- by name, each line stands once, and no other list is so.
-use Prim.Native.Nat.{ℕ, zero, suc}
+use Prim.Native.Nat.{ℕ, suc}
 use mathlib.Core.Path.{_≡_, refl, sym, _∙_, ap, ap₂}
 use mathlib.Core.Logic.{_⊎_, inl, inr, ⊎-elim}
 use mathlib.Core.Bool.{Bool, true, false, cond, not, _&&_}
@@ -9,28 +9,29 @@ use lib.Dec.{T, T-not, not-T, eqb, eqb→eq, eqb-refl}
 use lib.ListN.{length}
 use Rattle.model.specs.Lists.{any, keep, collect}
 use Rattle.model.specs.Names.{Name, order, same, mem, from-list}
-use Rattle.model.specs.Summaries.{exclude-names, Fact}
-use Rattle.model.specs.Reading.{Ask, pretyping-axioms, prune-decls, follow-bodies, Root, Decl, Summary, State, taken-by, no-ambients}
-use Rattle.model.specs.Pruning.{Map}
-use Rattle.model.specs.Rounds.{facts, definitions, declarations, macros, retainable, Run, first-run, fresh, after-round, next-scanned, rounds-from, asks-for, goal-roots, ambient-roots, first-scanned, most-rounds, run}
+use Rattle.model.specs.Summaries.{Fact}
+use Rattle.model.specs.Reading.{Ask, prune-decls, follow-bodies, Root, Decl, Summary, State, taken-by}
+use Rattle.model.specs.Rounds.{facts, definitions, declarations, Run, run}
 use Rattle.model.specs.Kept.{ambients, kept-facts, kept-names, first-met, kept-decls, kept}
 use Rattle.model.specs.Bodies.{all-followed, added-names, of-names, added-for, kept-followed}
 use Rattle.model.specs.declared.Order.the-variants.{Before}
 use Rattle.model.proofs.ListLaws.{T-and, T-dec, any-intro, any-elim, cond-true, cond-false, cond-case, option-elim, keep-intro, keep-elim, keep-all, keep-none, keep-append, collect-intro, collect-elim, collect-append, map-intro, map-elim, reverse-elim}
 use Rattle.model.proofs.SetLaws.{Ascending, empty, keep-no-name, ascending-head, ascending-tail, ascending-keep, order-trans, order-irrefl, same-eq, same-refl, mem-intro, mem-elim, mem-from-list}
+use Rattle.laws.proofs.BackgroundLaws.{background-groups}
+use Rattle.laws.proofs.AlikeLaws.{goals-alike, run-alike, chain-alike}
 use Rattle.laws.proofs.BodyLaws.{followed-law, all-closed, all-has, added-or, added-elim, added-set, added-free}
 use Rattle.demands.specs.LinesRead.{Lines-read, records-for, Distinct, none}
 use Rattle.demands.specs.Demand2.{kept-list, followed-list}
 use Rattle.demands.specs.Demand3.{run-of}
 use Rattle.demands.specs.FileOrder.{line-of}
 use Rattle.demands.specs.Order.{listed-facts}
-use Rattle.model.specs.Also.{with-queries, also-scanned, stretch-start, stretch, chain}
+use Rattle.model.specs.Also.{chain}
 use Rattle.demands.specs.Bodies.{Closed-lines, Smallest, Bodies-followed, List-followed, Followed-fixed, Plain-stands, Followed-once, But-for-bodies, Following-meets-nothing, Added-never-excluded, Added-lines-never-excluded}
 use Rattle.demands.proofs.Distinct.{keep-one-name, distinct-append, distinct-map, distinct-of-map, distinct-to-map, ascending-distinct, distinct-reverse}
 use Rattle.demands.proofs.ListedLaws.{kept-facts-elim, kept-facts-once, kept-fact-line, kept-decls-elim, first-met-once, picked-once}
 use Rattle.demands.proofs.NeverFree.{excluded-never-free}
-use Rattle.demands.proofs.WellFormed.{accepted-well-formed}
-use Rattle.demands.proofs.RecordLines.{read-file-lines, fact-by-line, fact-or-definition, fact-or-declaration, definition-or-declaration, definition-by-line, declaration-by-line}
+use Rattle.demands.proofs.Background.{admitted-definition, well-for, lines-for}
+use Rattle.demands.proofs.RecordLines.{fact-by-line, fact-or-definition, fact-or-declaration, definition-or-declaration, definition-by-line, declaration-by-line}
 use Rattle.demands.proofs.Pruned.{distinct-definitions, distinct-declarations}
 use Rattle.demands.proofs.Order.{Ordered, end, ahead, ordered-unique, first-met-elim, kept-decls-intro, kept-decls-name, lines-apart}
 
@@ -156,7 +157,7 @@ module _ (file : List ℕ) (s : State) (accepted : Lines-read file s) (a : Ask) 
 
   -- no two records stand on one line
   lines-once : Distinct (collect line-of (records-for a s))
-  lines-once = read-file-lines exclude-names file s accepted
+  lines-once = lines-for file s accepted a
 
   -- a group: what is kept, then what is added
   abbrev group : List Decl → List Decl
@@ -178,7 +179,7 @@ module _ (file : List ℕ) (s : State) (accepted : Lines-read file s) (a : Ask) 
   unfolding kept-followed line-of
   once-followed =
       let b = prune-decls a in
-      let wf = accepted-well-formed file s accepted in
+      let wf = well-for file s accepted a in
       let within : (f : Fact) → List·Memᴰ f (listed-facts a s) → List·Memᴰ f (facts (records-for a s)) = λ f i. kept-facts-elim a (facts (records-for a s)) (run-of a s .reached) i in
       rw (groups-apart b (kept-decls walked D) (of-names added D) (kept-decls walked E) (of-names added E))
       (parts-once (records-for a s) lines-once (listed-facts a s) (cond b (kept-decls walked D) [] ++ cond b (of-names added D) []) (cond b (kept-decls walked E) [] ++ cond b (of-names added E) []) within
@@ -358,7 +359,7 @@ module _ (file : List ℕ) (s : State) (accepted : Lines-read file s) (a : Ask) 
   unfolding kept kept-followed taken-by
   is-followed =
       let b = prune-decls a in
-      let wf = accepted-well-formed file s accepted in
+      let wf = well-for file s accepted a in
       record {
         defs = cond b (kept-decls walked D) [];
         added-defs = cond b (of-names added D) [];
@@ -421,7 +422,7 @@ line-of-elim ds n t = let (d, i, e) = any-elim (λ d. eqb (d .line) n) ds t in (
 module _ (file : List ℕ) (s : State) (accepted : Lines-read file s) (a : Ask) where
   -- no two records stand on one line
   one-line : Distinct (collect line-of (records-for a s))
-  one-line = read-file-lines exclude-names file s accepted
+  one-line = lines-for file s accepted a
 
   -- the lines of the kept facts; whether a line is that of a definition, or of a declaration
   abbrev of-facts : List ℕ
@@ -637,73 +638,29 @@ plain-stands file s accepted a =
 
 -- ---- option 8 changes no run
 
-module _ (a b : Ask) (same-axioms : pretyping-axioms a ≡ pretyping-axioms b) (ms : Map (List Name)) (fs : List Fact) where
-  -- a round reaches the same facts
-  fresh-alike : (r : Run) (scanned : List Name) → fresh a ms fs r scanned ≡ fresh b ms fs r scanned
-  unfolding fresh retainable
-  fresh-alike r scanned = rw same-axioms
-
-  -- it ends in the same state
-  after-alike : (r : Run) (scanned : List Name) → after-round a ms fs r scanned ≡ after-round b ms fs r scanned
-  unfolding after-round
-  after-alike r scanned = rw (fresh-alike r scanned)
-
-  -- the next one scans the same
-  next-alike : (r : Run) (scanned : List Name) → next-scanned a ms fs r scanned ≡ next-scanned b ms fs r scanned
-  unfolding next-scanned
-  next-alike r scanned = rw (fresh-alike r scanned)
-
-  -- all rounds come to the same
-  rounds-alike : (fuel : ℕ) (r : Run) (scanned : List Name) → rounds-from a ms fs fuel r scanned ≡ rounds-from b ms fs fuel r scanned
-  unfolding rounds-from
-  rounds-alike zero r scanned = refl
-  rounds-alike (suc fuel) r scanned =
-      rw (after-alike r scanned, next-alike r scanned, rounds-alike fuel (after-round b ms fs r scanned) (next-scanned b ms fs r scanned))
-
--- the roots of the same queries
-goals-alike : (a b : Ask) (roots : List Root) → But-for-bodies a b → goal-roots a roots ≡ goal-roots b roots
-unfolding goal-roots asks-for
-goals-alike a b roots h = rw (h .queries)
-
--- the same first round
-first-alike : (a b : Ask) (fs : List Fact) (roots : List Root) → But-for-bodies a b → first-scanned a fs roots ≡ first-scanned b fs roots
-unfolding first-scanned ambient-roots
-first-alike a b fs roots h = rw (goals-alike a b roots h, h .ambients)
-
--- the same run, over any records and roots
-run-alike : (a b : Ask) (decls : List Summary) (roots : List Root) → But-for-bodies a b → run a decls roots ≡ run b decls roots
-unfolding run
-run-alike a b decls roots h =
-    rw (first-alike a b (facts decls) roots h)
-    (rounds-alike a b (h .pretyping) (macros decls) (facts decls) (most-rounds (facts decls)) first-run (first-scanned b (facts decls) roots))
-
 -- the same list without what bodies add
 kept-alike : (a b : Ask) (decls : List Summary) (roots : List Root) (reached : List Name) → But-for-bodies a b
     → kept a decls roots reached ≡ kept b decls roots reached
 unfolding kept kept-names kept-facts ambients
-kept-alike a b decls roots reached h = rw (goals-alike a b roots h, h .ambients, h .pruning)
-
--- the same chain, line for line
-chain-alike : (a b : Ask) (decls : List Summary) (roots : List Root) → But-for-bodies a b → (qs : List ℕ) → chain a decls roots qs ≡ chain b decls roots qs
-unfolding chain stretch with-queries no-ambients pretyping-axioms prune-decls
-chain-alike a b decls roots h [] = refl
-chain-alike a b decls roots h (q ∷ []) =
-    run-alike (with-queries a (q ∷ [])) (with-queries b (q ∷ [])) decls roots (record { queries = refl; ambients = h .ambients; pretyping = h .pretyping; pruning = h .pruning })
-chain-alike a b decls roots h (q ∷ p ∷ qs) =
-    ap (λ (r : Run). stretch a decls roots r q) (chain-alike a b decls roots h (p ∷ qs))
-    ∙ rounds-alike a b (h .pretyping) (macros decls) (facts decls) (most-rounds (facts decls)) (stretch-start (chain b decls roots (p ∷ qs))) (also-scanned q roots)
+kept-alike a b decls roots reached h = rw (goals-alike a b roots (h .queries), h .ambients, h .pruning)
 
 -- option 8 changes neither the run nor the list without what bodies add
 pub following-meets-nothing : Following-meets-nothing
 following-meets-nothing a b h file s accepted =
-    let same-run : run-of a s ≡ run-of b s = run-alike a b (records-for a s) (s .roots) h in
-    (same-run, ap (λ (r : Run). kept a (records-for a s) (s .roots) (r .reached)) same-run ∙ kept-alike a b (records-for a s) (s .roots) (run-of b s .reached) h, chain-alike a b (records-for a s) (s .roots) h)
+    let same = background-groups a b (s .decls) (h .admitted) in
+    let same-run : run-of a s ≡ run-of b s = run-alike a b (h .queries) (h .ambients) (h .pretyping) (records-for a s) (s .roots) ∙ ap (λ decls. run b decls (s .roots)) same in
+    let listed : kept a (records-for a s) (s .roots) (run-of b s .reached) ≡ kept-list b s =
+    kept-alike a b (records-for a s) (s .roots) (run-of b s .reached) h ∙ ap (λ decls. kept b decls (s .roots) (run-of b s .reached)) same in (
+      same-run,
+      ap (λ (r : Run). kept a (records-for a s) (s .roots) (r .reached)) same-run ∙ listed,
+      λ qs. chain-alike a b (h .ambients) (h .pretyping) (records-for a s) (s .roots) qs ∙ ap (λ decls. chain b decls (s .roots) qs) same,
+    )
 
 -- no name that bodies add is excluded
 pub added-never-excluded : Added-never-excluded
 added-never-excluded file s accepted a name i out =
     let (d, j, k) = added-free (definitions (records-for a s)) (kept-names a (facts (records-for a s)) (s .roots) (run-of a s .reached)) i in
-    excluded-never-free file s accepted name out .in-definition d j k
+    excluded-never-free file s accepted name out .in-definition d (admitted-definition a (s .decls) j) k
 
 -- no definition or declaration that bodies add has an excluded name
 pub added-lines-never-excluded : Added-lines-never-excluded

@@ -1,7 +1,7 @@
 -- The counts towards the limits, at every line that a file reaches, are those of document 01.
 use Prim.Native.Nat.{ℕ, _+_, max}
 use native.Mathlib.Omega.{arith}
-use mathlib.Core.Path.{_≡_, refl, _∙_, ap}
+use mathlib.Core.Path.{_≡_, refl, _∙_}
 use mathlib.Core.Bool.{Bool, true, false, cond}
 use mathlib.Core.List.{List, [], _∷_, _++_, map}
 use lib.ListN.{length, length-append}
@@ -10,7 +10,8 @@ use Rattle.model.specs.Names.{Name}
 use Rattle.model.specs.Lines.{Line, fields}
 use Rattle.model.specs.Terms.{Node, Term, add-term, references}
 use Rattle.model.specs.Summaries.{exclude-names, Fact, entries}
-use Rattle.model.specs.Reading.{Content, head, term, assume, fun, def, retain, root, ok, Decl, Summary, Sum-assume, Sum-definefun, Sum-declfun, Sum-retain, State, start, read, entries-of, uses-of, head-asks, hidden-by, heads, nodes, spelled, trimmed, summarize-decl, root-of, excluded, parse, add-line, read-lines}
+use Rattle.model.specs.Reading.{Content, head, term, assume, fun, def, retain, root, ok, Decl, Summary, Sum-assume, Sum-definefun, Sum-declfun, Sum-retain, State, start, read, entries-of, uses-of}
+use Rattle.model.specs.Reading.{head-asks, hidden-by, heads, nodes, spelled, trimmed, summarize-decl, root-of, excluded, parse, add-line, read-lines}
 use Rattle.model.specs.Rounds.{facts, definitions}
 use Rattle.model.proofs.ListLaws.{keep-append, count-append, sum-map-append}
 use Rattle.demands.specs.Demand1.{Reached-line, Says}
@@ -163,7 +164,7 @@ module _ {ls : List Line} {n : ℕ} (l : Reached-line ls n) where
         token : (c : Content) → trimmed (excluded exclude-names (l .state)) (l .state .terms) c ≡ token-trimmed l c
         token (head h) = refl
         token (term node) = refl
-        token (assume name flag t) = refl
+        token (assume name flag group t) = refl
         token (fun name) = refl
         token (def name t) = refl
         token (retain names) = refl

@@ -6,7 +6,7 @@ use mathlib.Core.Logic.{⊎-elim}
 use mathlib.Core.List.{List, _++_, map, map-append, List·Memᴰ, List·Memᴰ·head, List·Memᴰ·append-cases}
 use Rattle.model.specs.Lists.{collect}
 use Rattle.model.specs.Names.{Name}
-use Rattle.model.specs.Summaries.{exclude-names, Fact}
+use Rattle.model.specs.Summaries.{Fact}
 use Rattle.model.specs.Reading.{prune-decls, Decl}
 use Rattle.model.specs.Rounds.{facts, definitions, declarations, visits}
 use Rattle.model.specs.Kept.{kept-names, kept-decls, kept}
@@ -17,16 +17,16 @@ use Rattle.demands.specs.Demand3.{run-of}
 use Rattle.demands.specs.FileOrder.{line-of}
 use Rattle.demands.proofs.Distinct.{distinct-append, distinct-to-map}
 use Rattle.demands.proofs.ListedLaws.{kept-facts-elim, kept-facts-once, kept-fact-line, kept-decl-line, kept-decls-once}
-use Rattle.demands.proofs.WellFormed.{accepted-well-formed}
+use Rattle.demands.proofs.Background.{well-for, lines-for}
 use Rattle.demands.proofs.Demand3.{rounds-exact, rounds-bound}
 use Rattle.demands.proofs.ScanFile.{none-visited, scanned-file}
-use Rattle.demands.proofs.RecordLines.{read-file-lines, fact-by-line, fact-or-definition, fact-or-declaration, definition-or-declaration}
+use Rattle.demands.proofs.RecordLines.{fact-by-line, fact-or-definition, fact-or-declaration, definition-or-declaration}
 use Rattle.demands.proofs.Pruned.{distinct-definitions, distinct-declarations, pruned-list}
 
 -- the fuel of `scan` never runs out; it is entered once a round, and calls `remove_trigger_for` once a visit
 pub scan-ends : Scan-ends
 scan-ends file s e a =
-    let scanned = scanned-file a (records-for a s) (accepted-well-formed file s e) (rounds-exact file s e a) (rounds-bound file s e a) in
+    let scanned = scanned-file a (records-for a s) (well-for file s e a) (rounds-exact file s e a) (rounds-bound file s e a) in
     let rounds : run-of a s .rounds ≡ scanned .entered = omega (arith, scanned .enters) in
     let seen : visits (run-of a s .met) (facts (records-for a s)) ≡ scanned .called = omega (arith, scanned .visited, none-visited (facts (records-for a s))) in
     rw (rounds, seen) (scanned .ends)
@@ -34,14 +34,14 @@ scan-ends file s e a =
 -- the list of Pruning.fst is the kept list
 pub kept-is-pruned : Kept-is-pruned
 kept-is-pruned file s e a =
-    let wf = accepted-well-formed file s e in
+    let wf = well-for file s e a in
     sym (pruned-list a (records-for a s) wf (scanned-file a (records-for a s) wf (rounds-exact file s e a) (rounds-bound file s e a)))
 
 -- "each kept line stands once"
 pub kept-once : Kept-once
 unfolding kept line-of
 kept-once file s e a =
-    let wf = accepted-well-formed file s e in
+    let wf = well-for file s e a in
     let fs = facts (records-for a s) in
     let reached = run-of a s .reached in
     distinct-append
@@ -56,7 +56,7 @@ kept-once file s e a =
     (λ n i j. let (f, k, p) = kept-fact-line a fs reached i in apart k p (rw map-append at (option-elim (prune-decls a) j)))
   where
     once : Distinct (collect line-of (records-for a s))
-    once = read-file-lines exclude-names file s e
+    once = lines-for file s e a
 
     names : List Name
     names = kept-names a (facts (records-for a s)) (s .roots) (run-of a s .reached)

@@ -5,20 +5,20 @@ use Rattle.demands.specs.Demand3.{run-of, Reached-closed, Reached-least,
 use Rattle.laws.proofs.FuelLaws.{run-ends, run-bound, run-some}
 use Rattle.demands.proofs.RoundsLaws.{run-met, run-visits, run-closed, run-least}
 use Rattle.demands.proofs.ListedLaws.{kept-not-ambient, reached-facts-intro, reached-facts-elim, reached-ascending}
-use Rattle.demands.proofs.WellFormed.{accepted-well-formed}
+use Rattle.demands.proofs.Background.{well-for}
 
 -- "the reached facts are a closed set"
 pub reached-closed : Reached-closed
-reached-closed file s e a = run-closed a (records-for a s) (s .roots) (accepted-well-formed file s e)
+reached-closed file s e a = run-closed a (records-for a s) (s .roots) (well-for file s e a)
 
 -- "and every closed set contains them"
 pub reached-least : Reached-least
-reached-least file s e a = run-least a (records-for a s) (s .roots) (accepted-well-formed file s e)
+reached-least file s e a = run-least a (records-for a s) (s .roots) (well-for file s e a)
 
 -- "they are the facts on the kept list that are not ambient, each once and in the order of document 01"
 pub reached-listed : Reached-listed
 reached-listed file s e a =
-    let wf = accepted-well-formed file s e in
+    let wf = well-for file s e a in
     record {
       not-ambient = kept-not-ambient a (records-for a s) (s .roots) wf;
       all-reached = λ f m t. reached-facts-intro (facts (records-for a s)) (run-of a s .reached) m t;
@@ -29,7 +29,7 @@ reached-listed file s e a =
 -- "The visits reported are exactly the filed trigger entries whose name was met, each counted once"
 pub visits-exact : Visits-exact
 visits-exact file s e a =
-    let wf = accepted-well-formed file s e in
+    let wf = well-for file s e a in
     (run-met a (records-for a s) (s .roots) wf, run-visits a (records-for a s) (s .roots) wf)
 
 -- "the rounds are exactly those of document 01"

@@ -81,7 +81,7 @@ record-said : (exclude : List Name) (terms : List Term) (n : ℕ) (c : Content)
 unfolding facts definitions declarations summarize-decl root-of
 record-said exclude terms n (head h) = (refl, refl, refl, refl)
 record-said exclude terms n (term node) = (refl, refl, refl, refl)
-record-said exclude terms n (assume name flag t) = (refl, refl, refl, refl)
+record-said exclude terms n (assume name flag group t) = (refl, refl, refl, refl)
 record-said exclude terms n (fun name) = (refl, refl, refl, refl)
 record-said exclude terms n (def name t) = (refl, refl, refl, refl)
 record-said exclude terms n (retain names) = (refl, refl, refl, refl)

@@ -34,7 +34,7 @@ terms-added : (terms : List Term) (c : Content)
 unfolding nodes fold-left add-term
 terms-added terms (head h) = sym (append-nil _)
 terms-added terms (term node) = map-append (λ (t : Term). t .node) terms _
-terms-added terms (assume name flag t) = sym (append-nil _)
+terms-added terms (assume name flag group t) = sym (append-nil _)
 terms-added terms (fun name) = sym (append-nil _)
 terms-added terms (def name t) = sym (append-nil _)
 terms-added terms (retain names) = sym (append-nil _)
@@ -226,7 +226,7 @@ solved-line : (terms : List Term) (c : Content) → Below (length terms) (terms-
 unfolding nodes fold-left terms-named
 solved-line terms (head h) w lower s = s
 solved-line terms (term node) w lower s = solved-more terms node w lower s
-solved-line terms (assume name flag t) w lower s = s
+solved-line terms (assume name flag group t) w lower s = s
 solved-line terms (fun name) w lower s = s
 solved-line terms (def name t) w lower s = s
 solved-line terms (retain ns) w lower s = s

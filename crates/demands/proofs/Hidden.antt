@@ -4,7 +4,7 @@ use native.Mathlib.Nat.{add-zero}
 use native.Mathlib.Omega.{arith}
 use mathlib.Core.Path.{_≡_, refl, sym, _∙_, ap, subst}
 use mathlib.Core.Logic.{_≢_, inl, ⊎-elim}
-use mathlib.Core.Bool.{Bool, true, false, cond, not, _&&_}
+use mathlib.Core.Bool.{Bool, true, false, cond, not, _&&_, or-false}
 use mathlib.Core.List.{List, [], _∷_, _++_, map, map-map, append-nil, append-assoc, List·Memᴰ, List·Memᴰ·not-nil, List·Memᴰ·append-cases, Memᴰ·append-left}
 use lib.Dec.{T, not-T}
 use lib.ListN.{length, getD, length-append}
@@ -12,8 +12,10 @@ use Rattle.model.specs.Lists.{keep, any, all, sum, collect, fold-left, holds, i
 use Rattle.model.specs.Names.{Name, bytes, by-byte, order, is-same, same, mem}
 use Rattle.model.specs.Lines.{Line, lines, Field, fields, is-name}
 use Rattle.model.specs.Summaries.{exclude-names}
-use Rattle.model.specs.Reading.{Head, hide, head, ok, next, end, name-field, kinds, word, content, Ask, Decl, State, start, read, in-head, a-hide, place, may-stand, is-position, fixed-count, parse, head-asks, hidden-by, heads, nodes, spelled, spell, limits, summarize-decl, trimmed, root-of, excluded, add-line, repeats, read-line, read-lines, read-file}
-use Rattle.model.specs.Rounds.{facts, definitions, declarations}
+use Rattle.model.specs.Reading.{Head, hide, head, ok, next, end, name-field, kinds, word, content, Ask, Decl, State, start, read, in-head, a-hide, place, may-stand, is-position, fixed-count, parse}
+use Rattle.model.specs.Reading.{head-asks, is-grouped, hidden-by, heads, nodes, spelled, spell, limits, summarize-decl, trimmed, root-of, excluded, add-line, repeats, read-line, read-lines, read-file}
+use Rattle.model.specs.Rounds.{facts, definitions, declarations, run}
+use Rattle.model.specs.Kept.{kept}
 use Rattle.model.specs.Outcome.{Position, position}
 use Rattle.model.specs.Text.{name-on}
 use Rattle.model.specs.declared.LineKind.the-variants as kind
@@ -32,12 +34,13 @@ use Rattle.demands.specs.Hidden.{Excluded-exact, One-hides, Room-for, do
 use Rattle.laws.proofs.ReadingLaws.{within, lines-read, none-read, added-line, line-read, file-read, kept-by-lines}
 use Rattle.demands.proofs.Refusals.{lines-on, lines-append}
 use Rattle.demands.proofs.LineForm.{parse-fields}
-use Rattle.demands.proofs.LineFields.{Head-by, one-ask, one-also, one-hide, no-head}
+use Rattle.demands.proofs.LineFields.{Head-by, one-ask, one-ask2, one-also, one-hide, no-head}
 use Rattle.demands.proofs.Heads.{headed-line}
-use Rattle.demands.proofs.Asks.{on-lines, asked-lines}
+use Rattle.demands.proofs.Asks.{lines-split, on-lines, asked-lines}
 use Rattle.demands.proofs.ListedLaws.{kept-fact-line}
 use Rattle.demands.proofs.StateLaws.{State-laws, laws-start, laws-line}
-use Rattle.demands.proofs.Moved.{moved-facts, moved-definitions, moved-declarations, lines-apart, kept-apart}
+use Rattle.demands.proofs.Background.{admitted-fact, admitted-definition, admitted-declaration}
+use Rattle.demands.proofs.Moved.{moved-background, moved-facts, moved-definitions, moved-declarations, lines-apart, kept-apart}
 use Rattle.demands.proofs.Bodies.{list-followed}
 use Rattle.demands.proofs.Printed.{printed-names}
 use Rattle.demands.proofs.Unspelled.{lowered, One-name-more, limits-lowered, grows-lines, room-before, lines-lowered}
@@ -51,9 +54,10 @@ abbrev hidden-names : List Line → List Name
 hidden-names ls = map name-field-of (keep (begins hide-words) ls)
 
 -- a line hides its name where it is a hide line
-hides-by : {name second : Field} {b d c : Bool} {l : List Head} → Head-by name second b d c l → collect hidden-by l ≡ cond c (name ∷ []) []
+hides-by : {name second third : Field} {b d g c : Bool} {l : List Head} → Head-by name second third b d g c l → collect hidden-by l ≡ cond c (name ∷ []) []
 unfolding collect hidden-by
 hides-by (one-ask low few) = refl
+hides-by (one-ask2 low few all) = refl
 hides-by (one-also low) = refl
 hides-by one-hide = refl
 hides-by no-head = refl
@@ -88,9 +92,9 @@ hide-says s name t stands =
 -- what it adds
 add-hide : (exclude : List Name) (n : ℕ) (s : State) (name : Name) → s .decls ≡ [] → s .roots ≡ [] → T (not (mem name (s .names)))
     → add-line exclude n s (head (hide name)) ≡ lowered (s .hidden ++ (name ∷ [])) (s .names ++ (name ∷ [])) s
-unfolding add-line heads head-asks hidden-by collect nodes fold-left spelled trimmed summarize-decl root-of sum
+unfolding add-line heads head-asks is-grouped hidden-by any collect nodes fold-left spelled trimmed summarize-decl root-of sum
 add-hide exclude n s name none none′ fresh =
-    rw (append-nil (s .asks), none, none′, add-zero (s .references), add-zero (s .entries), add-zero (s .uses), spelled-new)
+    rw (append-nil (s .asks), or-false (s .grouped), none, none′, add-zero (s .references), add-zero (s .entries), add-zero (s .uses), spelled-new)
   where
     spelled-new : spell (s .names) name ≡ s .names ++ (name ∷ [])
     spelled-new = unfold spell in (cond-false (mem name (s .names)) (s .names) (s .names ++ (name ∷ [])) fresh)
@@ -120,16 +124,6 @@ read-hide n s name line ended are is-a-name in-the-head asked few room =
     let fresh : T (not (repeats exclude-names n s (head (hide name)))) = unfold repeats summarize-decl collect any in tt in
     let within-all = subst (λ x. T (all within (limits x))) (sym added) (limits-lowered exclude-names name s _ _ room (one-at-end s name) few) in
     added-line exclude-names n s line ended (head (hide name)) says fresh within-all ∙ ap ok added
-
--- lines that are read are so in two parts
-pub lines-split : (ls ms : List Line) (n : ℕ) (s t : State) → read-lines exclude-names n s (ls ++ ms) ≡ read t
-    → (u : State) × (read-lines exclude-names n s ls ≡ read u) × (read-lines exclude-names (n + length ls) u ms ≡ read t)
-lines-split [] ms n s t e = (s, unfold read-lines in refl, rw add-zero e)
-lines-split (line ∷ ls) ms n s t e =
-    let (v, r, others) = lines-read exclude-names n s line (ls ++ ms) t e in
-    let (u, here, later) = lines-split ls ms (n + 1) v t others in
-    let count : n + length (line ∷ ls) ≡ n + 1 + length ls = omega arith in
-    (u, lines-on exclude-names n s v line ls r ∙ here, rw count later)
 
 -- the counts after lines that are read are within their limits
 within-limits : (ls : List Line) (s : State) → read-lines exclude-names 1 start ls ≡ read s → T (all within (limits s))
@@ -207,13 +201,14 @@ module _ (file file′ : List ℕ) (s : State) (hidden names : List Name) (e : L
   unfolding moved-fact moved-decl
   name-down a defs funs are-defs are-funs n m = ⊎-elim
       (λ i. let (f, k, p) = kept-fact-line a (facts (records-for a s)) (run-of a s .reached) i in
-      of-line p (here .of-fact f k) (there .of-fact (moved-fact down f) (rw (moved-facts down (s .decls)) (map-intro (moved-fact down) k))))
+      of-line p (here .of-fact f (admitted-fact a (s .decls) k))
+      (there .of-fact (moved-fact down f) (rw (moved-facts down (s .decls)) (map-intro (moved-fact down) (admitted-fact a (s .decls) k)))))
       (λ i. let (d, j, p) = map-elim (λ (d : Decl). d .line) (defs ++ funs) i in
       ⊎-elim
-      (λ k. of-line p (here .of-definition d (are-defs d k))
-      (there .of-definition (moved-decl down d) (rw (moved-definitions down (s .decls)) (map-intro (moved-decl down) (are-defs d k)))))
-      (λ k. of-line p (here .of-declaration d (are-funs d k))
-      (there .of-declaration (moved-decl down d) (rw (moved-declarations down (s .decls)) (map-intro (moved-decl down) (are-funs d k)))))
+      (λ k. let own = admitted-definition a (s .decls) (are-defs d k) in
+      of-line p (here .of-definition d own) (there .of-definition (moved-decl down d) (rw (moved-definitions down (s .decls)) (map-intro (moved-decl down) own))))
+      (λ k. let own = admitted-declaration a (s .decls) (are-funs d k) in
+      of-line p (here .of-declaration d own) (there .of-declaration (moved-decl down d) (rw (moved-declarations down (s .decls)) (map-intro (moved-decl down) own))))
       (List·Memᴰ·append-cases defs j))
       (List·Memᴰ·append-cases (map (λ f. f .line) (listed-facts a s)) m)
 
@@ -249,7 +244,9 @@ module _ (file file′ : List ℕ) (s : State) (hidden names : List Name) (e : L
       followed-down a = followed-moved a s (lowered hidden names s) (listed a)
 
       kept-down : (a : Ask) → kept-list a (lowered hidden names s) ≡ map down (kept-list a s)
-      kept-down a = kept-apart down (s .decls) (s .roots) a
+      kept-down a =
+          let roots = map (moved-root down) (s .roots) in
+          ap (λ decls. kept a decls roots (run a decls roots .reached)) (moved-background down a (s .decls)) ∙ kept-apart down (records-for a s) (s .roots) a
 
 -- hiding a name that no line spells changes no answer
 pub unspelled-hidden : Unspelled-hidden

@@ -1,10 +1,9 @@
 -- The rounds of a run as its history.
-use Prim.Native.Nat.{ℕ, suc, _≤_}
+use Prim.Native.Nat.{ℕ, _≤_}
 use native.Mathlib.Omega.{arith}
 use mathlib.Core.Logic.{_↔_}
 use mathlib.Core.Bool.{Bool}
 use lib.Dec.{T}
-use lib.ListN.{length}
 use Rattle.model.specs.Lists.{find-index}
 use Rattle.model.specs.Names.{mem}
 use Rattle.model.specs.Reading.{Ask, State}
@@ -12,19 +11,19 @@ use Rattle.model.specs.Rounds.{Run, first-run, end-of, round-of, round-met}
 use Rattle.model.proofs.IndexLaws.{index-le, index-holds}
 use Rattle.laws.proofs.FuelLaws.{history-follows}
 use Rattle.laws.proofs.HistoryLaws.{history-length, history-end}
-use Rattle.demands.specs.LinesRead.{Lines-read}
+use Rattle.demands.specs.LinesRead.{records-for}
 use Rattle.demands.specs.Demand3.{run-of}
 use Rattle.demands.specs.History.{history-for, History-exact, Rounds-told}
-use Rattle.demands.proofs.WellFormed.{accepted-well-formed}
+use Rattle.demands.proofs.Background.{well-for}
 use Rattle.demands.proofs.HistoryLaws.{met-later, reached-later}
 
 -- the history is that of document 01's rounds, and the run is its last state
 pub history-exact : History-exact
 history-exact a s =
     record {
-      follows = history-follows a (s .decls) (s .roots);
-      count = history-length a (s .decls) (s .roots);
-      last = history-end a (s .decls) (s .roots);
+      follows = history-follows a (records-for a s) (s .roots);
+      count = history-length a (records-for a s) (s .roots);
+      last = history-end a (records-for a s) (s .roots);
     }
 
 module _ (a : Ask) (s : State) (test : Run → Bool)
@@ -33,7 +32,7 @@ module _ (a : Ask) (s : State) (test : Run → Bool)
   from-first : (k : ℕ) → k ≤ run-of a s .rounds → T (test (end-of (history-for a s) k)) ↔ (find-index test (history-for a s) ≤ k)
   unfolding end-of
   from-first k l =
-      let e = history-length a (s .decls) (s .roots) in (
+      let e = history-length a (records-for a s) (s .roots) in (
         λ t. index-le test first-run (history-for a s) k (omega arith) t,
         λ h. later _ k h l (index-holds test first-run (history-for a s) (omega arith)),
       )
@@ -42,8 +41,8 @@ module _ (a : Ask) (s : State) (test : Run → Bool)
 pub rounds-told : Rounds-told
 unfolding round-met round-of
 rounds-told file s e a k l =
-    let wf = accepted-well-formed file s e in
+    let wf = well-for file s e a in
     record {
-      met = λ n. from-first a s (λ r. mem n (r .met)) (λ i j h m. met-later a (s .decls) (s .roots) wf i j h m n) k l;
-      reached = λ f. from-first a s (λ r. mem (f .name) (r .reached)) (λ i j h m. reached-later a (s .decls) (s .roots) wf i j h m (f .name)) k l;
+      met = λ n. from-first a s (λ r. mem n (r .met)) (λ i j h m. met-later a (records-for a s) (s .roots) wf i j h m n) k l;
+      reached = λ f. from-first a s (λ r. mem (f .name) (r .reached)) (λ i j h m. reached-later a (records-for a s) (s .roots) wf i j h m (f .name)) k l;
     }

@@ -14,6 +14,7 @@ pub mod TermNumbers
 pub mod LineFields
 pub mod Heads
 pub mod WellFormed
+pub mod Background
 pub mod StateLaws
 pub mod Counts
 pub mod Also
@@ -50,3 +51,8 @@ pub mod FreeNames
 pub mod Decimal
 pub mod Bytes
 pub mod Printed
+pub mod FactLines
+pub mod Groups
+pub mod Ungrouped
+pub mod WithGroups
+pub mod WithoutGroups

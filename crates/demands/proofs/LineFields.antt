@@ -5,7 +5,7 @@ use Prim.Native.String.{String}
 use native.Mathlib.Nat.{zero-add}
 use native.Mathlib.Omega.{arith}
 use mathlib.Core.Path.{_≡_, refl, sym, _∙_, ap}
-use mathlib.Core.Bool.{Bool, true, false, cond}
+use mathlib.Core.Bool.{Bool, true, false, cond, not}
 use mathlib.Core.List.{List, [], _∷_, append-nil}
 use mathlib.Core.Option.{some, Option·none-ne-some, Option·some-injective}
 use lib.Dec.{T, T-not, not-T, leb, leb→le, nleb→lt, eqb}
@@ -14,15 +14,17 @@ use Rattle.model.specs.Lists.{any, concat, collect, holds}
 use Rattle.model.specs.Names.{Name, bytes, by-byte, order, is-same, same}
 use Rattle.model.specs.Lines.{Field, is-name}
 use Rattle.model.specs.Terms.{Node, FreeV, Leaf, Forall, Exists, Labeled, Term, references}
-use Rattle.model.specs.Reading.{Result, ok, refused, _>>=_, need, name-field, number-field, term-field, op-words, word, kinds, next, many, rest, end, groups, Head, ask, also, hide, Content, head, term, assume, fun, def, root, quantifier, most-query, most-options, content, State, Place, an-ask, an-also, a-hide, another, place, may-stand, is-position, most-asks, parse, hidden-by, heads, nodes, spelled-by, spelled, summarize-decl, root-of}
+use Rattle.model.specs.Reading.{Result, ok, refused, _>>=_, need, name-field, number-field, term-field, op-words, word, kinds, next, many, rest, end, groups, Head, ask, ask2, also, hide, Content}
+use Rattle.model.specs.Reading.{head, term, assume, fun, def, retain, root, quantifier, most-query, most-options, most-group, most-groups, group-field, content, State, Place, an-ask, an-also, a-hide}
+use Rattle.model.specs.Reading.{another, place, may-stand, is-position, most-asks, parse, hidden-by, heads, nodes, spelled-by, spelled, summarize-decl, root-of}
 use Rattle.model.specs.declared.LineKind.{LineKind}
 use Rattle.model.specs.declared.LineKind.the-variants as kind
 use Rattle.model.specs.declared.Refusal.the-variants as refusal
 use Rattle.model.proofs.ListLaws.{true-T, T-and}
 use Rattle.model.proofs.SetLaws.{same-eq}
 use Rattle.model.proofs.ResultLaws.{cond-ok, ok-eq}
-use Rattle.demands.specs.LineForm.{Sort, a-name, a-term, nothing, may, value, group-due, quantifier-due, in-order, then-terms, due, sort-due, is-a-name, is-a-term, fields-due, fields-of}
-use Rattle.demands.specs.Counts.{term-words, record-words, ask-words, also-words, hide-words, is-word}
+use Rattle.demands.specs.LineForm.{Sort, a-name, a-term, nothing, may, value, group-due, quantifier-due, in-order, then-terms, assume-due, due, sort-due, is-a-name, is-a-term, fields-due, fields-of}
+use Rattle.demands.specs.Counts.{term-words, record-words, ask-words, grouped-words, also-words, hide-words, is-word}
 use Rattle.laws.proofs.ReadingLaws.{number-ok, is-past, parse-ok}
 use Rattle.demands.proofs.TermNumbers.{Gives, value as gives-value, no-value, any-value, given, gives-bind}
 use Rattle.demands.proofs.LineWalk.{number-value}
@@ -60,7 +62,7 @@ abbrev terms-due : ℕ → ℕ → List Field → ℕ
 terms-due left g fs = length (fields-due is-a-term (λ gs. group-due gs left g) fs)
 
 -- what `next` and what reads on give, by the field that is read
-gives-field : {A B : Type 0} {judge : Field → Result A} {good : Field → A → Type 0} (law : List Field → B → Type 0)
+pub gives-field : {A B : Type 0} {judge : Field → Result A} {good : Field → A → Type 0} (law : List Field → B → Type 0)
     → ((f : Field) → Gives (good f) (judge f)) → (on : A × List Field → Result B)
     → ((f : Field) (a : A) → good f a → (fs : List Field) → Gives (law (f ∷ fs)) (on (a, fs)))
     → (fs : List Field) → Gives (law fs) (next judge fs >>= on)
@@ -73,7 +75,7 @@ gives-field {A} {judge} {good} law judged on below (f ∷ fs) = go (judged f)
     go no-value = no-value
 
 -- what `end` gives, where no field is left
-gives-ended : {A : Type 0} (law : List Field → A → Type 0) (a : A) → law [] a → (fs : List Field) → Gives (law fs) (end a fs)
+pub gives-ended : {A : Type 0} (law : List Field → A → Type 0) (a : A) → law [] a → (fs : List Field) → Gives (law fs) (end a fs)
 unfolding end
 gives-ended law a h [] = gives-value h
 gives-ended law a h (f ∷ fs) = no-value
@@ -85,7 +87,7 @@ gives-stop a [] h = gives-value (h refl)
 gives-stop a (f ∷ fs) h = no-value
 
 -- a law that follows from having a value holds of the value
-gives-by : {A : Type 0} {law : A → Type 0} (r : Result A) → ((a : A) → r ≡ ok a → law a) → Gives law r
+pub gives-by : {A : Type 0} {law : A → Type 0} (r : Result A) → ((a : A) → r ≡ ok a → law a) → Gives law r
 gives-by (ok a) h = gives-value (h a refl)
 gives-by (refused x) h = no-value
 
@@ -95,7 +97,7 @@ unfolding name-field
 gives-name f = gives-by (name-field f) (λ n e. ok-eq (cond-ok (is-name f) (ok f) refusal.Name e .1))
 
 -- a field that is a number is its value
-gives-number : (limit : ℕ) (f : Field) → Gives (λ n. value f ≡ n) (number-field limit f)
+pub gives-number : (limit : ℕ) (f : Field) → Gives (λ n. value f ≡ n) (number-field limit f)
 gives-number limit f = gives-by (number-field limit f) (λ n e. number-value limit f e)
 
 -- and is at most its limit
@@ -148,8 +150,9 @@ word-case P ((w, b) ∷ ws) h f {a} e = go (same f (bytes w)) refl (word-case P 
     go false s later e = later e
 
 -- the word of a kind
-kind-word : LineKind → String
+unfoldable pub kind-word : LineKind → String
 kind-word kind.Ask = "ask"
+kind-word kind.Ask2 = "ask2"
 kind-word kind.Also = "also"
 kind-word kind.Hide = "hide"
 kind-word kind.Free = "free"
@@ -167,27 +170,28 @@ kind-word kind.Retain = "retain"
 kind-word kind.Root = "root"
 
 -- a field of a known kind is the word of the kind
-word-exact : (f : Field) {k : LineKind} → word kinds f ≡ some k → f ≡ bytes (kind-word k)
+pub word-exact : (f : Field) {k : LineKind} → word kinds f ≡ some k → f ≡ bytes (kind-word k)
 unfolding kinds kind-word
 word-exact f e =
     word-case (λ f k. f ≡ bytes (kind-word k)) kinds
-    (refl, (refl, (refl, (refl, (refl, (refl, (refl, (refl, (refl, (refl, (refl, (refl, (refl, (refl, (refl, (refl, tt)))))))))))))))) f e
+    (refl, (refl, (refl, (refl, (refl, (refl, (refl, (refl, (refl, (refl, (refl, (refl, (refl, (refl, (refl, (refl, (refl, tt))))))))))))))))) f e
 
--- where a line may stand, by whether it counts as an ask, is an also or is a hide
-unfoldable pub place-by : Bool → Bool → Bool → Place
-place-by true true is-hide = an-also
-place-by true false is-hide = an-ask
-place-by false is-also true = a-hide
-place-by false is-also false = another
+-- where a line may stand, by whether it counts as an ask, is an also, is an ask with groups or is a hide
+unfoldable pub place-by : Bool → Bool → Bool → Bool → Place
+place-by true true grouped is-hide = an-also
+place-by true false grouped is-hide = an-ask grouped
+place-by false is-also grouped true = a-hide
+place-by false is-also grouped false = another
 
 -- the place of a line by its first field
 abbrev pub place-of : Field → Place
-place-of f = place-by (is-word ask-words f) (is-word also-words f) (is-word hide-words f)
+place-of f = place-by (is-word ask-words f) (is-word also-words f) (is-word grouped-words f) (is-word hide-words f)
 
 -- a line of a kind may stand where its word says
 kind-place : (k : LineKind) → place k ≡ place-of (bytes (kind-word k))
-unfolding place place-by kind-word is-word ask-words also-words hide-words any same order by-byte is-same bytes
+unfolding place place-by kind-word is-word ask-words also-words grouped-words hide-words any same order by-byte is-same bytes
 kind-place kind.Ask = refl
+kind-place kind.Ask2 = refl
 kind-place kind.Also = refl
 kind-place kind.Hide = refl
 kind-place kind.Free = refl
@@ -208,27 +212,46 @@ kind-place kind.Root = refl
 pub known-place : (f : Field) {k : LineKind} → word kinds f ≡ some k → place k ≡ place-of f
 known-place f {k} known = kind-place k ∙ ap place-of (sym (word-exact f known))
 
--- the line of the head that a line is, by whether it counts as an ask, is an also or is a hide, and by the two fields after its
--- kind: the values of both, a query and options in their ranges; that of the first, a query; or the first, its name; any other
--- is none
-pub data Head-by (first second : Field) : Bool → Bool → Bool → List Head → Type 0 where
-  one-ask : value first ≤ most-query → value second ≤ most-options → Head-by first second true false false (ask (value first) (value second) ∷ [])
-  one-also : value first ≤ most-query → Head-by first second true true false (also (value first) ∷ [])
-  one-hide : Head-by first second false false true (hide first ∷ [])
-  no-head : Head-by first second false false false []
+-- the line of the head that a line is, by whether it counts as an ask, is an also, is an ask with groups or is a hide, and by the
+-- three fields after its kind: the values of two or of all three, a query, options and groups in their ranges; that of the first, a
+-- query; or the first, its name; any other is none
+pub data Head-by (first second third : Field) : Bool → Bool → Bool → Bool → List Head → Type 0 where
+  one-ask : value first ≤ most-query → value second ≤ most-options
+      → Head-by first second third true false false false (ask (value first) (value second) ∷ [])
+  one-ask2 : value first ≤ most-query → value second ≤ most-options → value third ≤ most-groups
+      → Head-by first second third true false true false (ask2 (value first) (value second) (value third) ∷ [])
+  one-also : value first ≤ most-query → Head-by first second third true true false false (also (value first) ∷ [])
+  one-hide : Head-by first second third false false false true (hide first ∷ [])
+  no-head : Head-by first second third false false false false []
 
 -- an ask by its two numbers
-said-ask : (f g : Field) {q o : ℕ} → value f ≡ q → value g ≡ o → q ≤ most-query → o ≤ most-options → Head-by f g true false false (ask q o ∷ [])
-said-ask f g e d low few = rw (← e, ← d) (one-ask (rw e low) (rw d few))
+said-ask : (f g h : Field) {q o : ℕ} → value f ≡ q → value g ≡ o → q ≤ most-query → o ≤ most-options → Head-by f g h true false false false (ask q o ∷ [])
+said-ask f g h e d low few = rw (← e, ← d) (one-ask (rw e low) (rw d few))
+
+-- an ask with groups by its three
+said-ask2 : (f g h : Field) {q o n : ℕ} → value f ≡ q → value g ≡ o → value h ≡ n → q ≤ most-query → o ≤ most-options → n ≤ most-groups
+    → Head-by f g h true false true false (ask2 q o n ∷ [])
+said-ask2 f g h e d c low few all = rw (← e, ← d, ← c) (one-ask2 (rw e low) (rw d few) (rw c all))
 
 -- an also by its number
-said-also : (f g : Field) {q : ℕ} → value f ≡ q → q ≤ most-query → Head-by f g true true false (also q ∷ [])
-said-also f g e low = rw (← e) (one-also (rw e low))
+said-also : (f g h : Field) {q : ℕ} → value f ≡ q → q ≤ most-query → Head-by f g h true true false false (also q ∷ [])
+said-also f g h e low = rw (← e) (one-also (rw e low))
 
--- what a line says, by whether it counts as an ask, is an also, a hide, a term line or a record line, by the two fields after
--- its kind, by its names and by the terms that it names
-pub record Formed (is-ask is-also is-hide is-term is-record : Bool) (first second : Field) (named terms : List Field) (c : Content) : Type 0 where
-  pub headed : Head-by first second is-ask is-also is-hide (heads c)
+-- the group of an assume is in its range, and 0 in the older form
+abbrev pub In-group : Bool → Content → Type 0
+In-group grouped (head h) = Unit {0}
+In-group grouped (term node) = Unit {0}
+In-group grouped (assume name flag group t) = (group ≤ most-group) × (T (not grouped) → group ≡ 0)
+In-group grouped (fun name) = Unit {0}
+In-group grouped (def name t) = Unit {0}
+In-group grouped (retain names) = Unit {0}
+In-group grouped (root q name t) = Unit {0}
+
+-- what a line says, by the form of the file, by whether the line counts as an ask, is an also, an ask with groups, a hide, a term
+-- line or a record line, by the three fields after its kind, by its names and by the terms that it names
+pub record Formed (form is-ask is-also grouped is-hide is-term is-record : Bool) (first second third : Field) (named terms : List Field) (c : Content) : Type 0 where
+  pub headed : Head-by first second third is-ask is-also grouped is-hide (heads c)
+  pub in-group : In-group form c
   pub names : named ≡ spelled c
   pub term-lines : length (nodes c) ≡ cond is-term 1 0
   pub term-references : length (collect references (nodes c)) ≡ cond is-term (length terms) 0
@@ -236,63 +259,82 @@ pub record Formed (is-ask is-also is-hide is-term is-record : Bool) (first secon
       → length (collect hidden-by (heads c)) + (length (summarize-decl exclude terms n c) + length (root-of exclude terms n c)) ≡ cond is-record 1 0
 
 -- the same of the fields of a line of a kind
-abbrev Formed-as : Bool → Bool → Bool → Bool → Bool → LineKind → List Field → Content → Type 0
-Formed-as is-ask is-also is-hide is-term is-record k fs c =
-    Formed is-ask is-also is-hide is-term is-record (getD fs 0 []) (getD fs 1 []) (fields-due is-a-name (due k) fs) (fields-due is-a-term (due k) fs) c
+abbrev Formed-as : Bool → Bool → Bool → Bool → Bool → Bool → Bool → LineKind → List Field → Content → Type 0
+Formed-as form is-ask is-also grouped is-hide is-term is-record k fs c =
+    Formed form is-ask is-also grouped is-hide is-term is-record (getD fs 0 []) (getD fs 1 []) (getD fs 2 [])
+    (fields-due is-a-name (due form k) fs) (fields-due is-a-term (due false k) fs) c
 
 -- a term line
-term-formed : {first second : Field} {named terms : List Field} {node : Node} → named ≡ spelled-by node → length terms ≡ length (references node)
-    → Formed false false false true false first second named terms (term node)
+term-formed : {form : Bool} {first second third : Field} {named terms : List Field} {node : Node} → named ≡ spelled-by node
+    → length terms ≡ length (references node) → Formed form false false false false true false first second third named terms (term node)
 unfolding heads hidden-by spelled nodes collect summarize-decl root-of
 term-formed {node} e h =
-    record { headed = no-head; names = e; term-lines = refl; term-references = rw append-nil (sym h); record-lines = λ exclude terms n. refl }
+    record { headed = no-head; in-group = tt; names = e; term-lines = refl; term-references = rw append-nil (sym h); record-lines = λ exclude terms n. refl }
 
 -- a line that is no term line
-other-formed : {is-ask is-also is-hide is-record : Bool} {first second : Field} {named terms : List Field} {c : Content} → Head-by first second is-ask is-also is-hide (heads c)
-    → nodes c ≡ []
+other-formed : {form is-ask is-also grouped is-hide is-record : Bool} {first second third : Field} {named terms : List Field} {c : Content}
+    → Head-by first second third is-ask is-also grouped is-hide (heads c) → In-group form c → nodes c ≡ []
     → ((exclude : List Name) (terms : List Term) (n : ℕ)
     → length (collect hidden-by (heads c)) + (length (summarize-decl exclude terms n c) + length (root-of exclude terms n c)) ≡ cond is-record 1 0)
-    → named ≡ spelled c → Formed is-ask is-also is-hide false is-record first second named terms c
+    → named ≡ spelled c → Formed form is-ask is-also grouped is-hide false is-record first second third named terms c
 unfolding collect
-other-formed a e h names = record { headed = a; names = names; term-lines = rw e; term-references = rw e; record-lines = h }
+other-formed a g e h names = record { headed = a; in-group = g; names = names; term-lines = rw e; term-references = rw e; record-lines = h }
 
 -- an `all` or a `some`, by its fields
-quantifier-made : (k : LineKind) → due k ≡ quantifier-due
+quantifier-made : (form : Bool) (k : LineKind) → due form k ≡ quantifier-due → due false k ≡ quantifier-due
     → (node : Node) (body g : ℕ) (gs : List (List ℕ)) → spelled-by node ≡ [] → references node ≡ body ∷ concat gs
     → (f f₁ : Field) (fs after : List Field) → value f₁ ≡ g → terms-due 0 g fs ≡ length (concat gs) + terms-due 0 0 after → after ≡ []
-    → Formed-as false false false true false k (f ∷ f₁ ∷ fs) (term node)
+    → Formed-as form false false false false true false k (f ∷ f₁ ∷ fs) (term node)
 unfolding quantifier-due fields-due sort-due holds is-a-name is-a-term group-due
-quantifier-made k e node body g gs spells names f f₁ fs after v w left =
-    term-formed (rw (e, spells) (no-name-due fs 0 (value f₁))) (rw (e, v, names) (ap suc (w ∙ rw left (omega arith))))
+quantifier-made form k e e₂ node body g gs spells names f f₁ fs after v w left =
+    term-formed (rw (e, spells) (no-name-due fs 0 (value f₁))) (rw (e₂, v, names) (ap suc (w ∙ rw left (omega arith))))
 
-module _ (count : ℕ) where
+module _ (form : Bool) (count : ℕ) where
   -- an `all` or a `some`
-  quantifier-formed : (k : LineKind) → due k ≡ quantifier-due → (make : ℕ → List (List ℕ) → Node)
+  quantifier-formed : (k : LineKind) → due form k ≡ quantifier-due → due false k ≡ quantifier-due → (make : ℕ → List (List ℕ) → Node)
       → ((body : ℕ) (gs : List (List ℕ)) → (spelled-by (make body gs) ≡ []) × (references (make body gs) ≡ body ∷ concat gs))
-      → (fs : List Field) → Gives (Formed-as false false false true false k fs) (quantifier make count fs)
+      → (fs : List Field) → Gives (Formed-as form false false false false true false k fs) (quantifier make count fs)
   unfolding quantifier
-  quantifier-formed k e make h =
+  quantifier-formed k e e₂ make h =
       gives-field _ (λ f. any-value (term-field count f)) _ (λ f body u.
       gives-field _ (gives-number 65535) _ (λ f₁ g v fs₂.
       gives-bind (gives-groups count g fs₂) (λ p w. gives-stop (term (make body (p .0))) (p .1)
-      (quantifier-made k e (make body (p .0)) body g (p .0) (h body (p .0) .0) (h body (p .0) .1) f f₁ fs₂ (p .1) v w))))
+      (quantifier-made form k e e₂ (make body (p .0)) body g (p .0) (h body (p .0) .0) (h body (p .0) .1) f f₁ fs₂ (p .1) v w))))
+
+  -- an assume line, of either form
+  assume-formed : (form : Bool) (fs : List Field) → Gives (Formed-as form false false false false false true kind.Assume fs) (content kind.Assume form count fs)
+  unfolding content due assume-due group-field in-order fields-due sort-due holds is-a-name is-a-term
+      heads spelled nodes collect summarize-decl root-of
+  assume-formed false =
+      gives-field _ gives-name _ (λ f name e. gives-field _ (λ g. any-value (number-field 1 g)) _ (λ g flag u.
+      gives-field _ (λ h. any-value (term-field count h)) _ (λ h t v.
+      gives-ended _ (assume name (eqb flag 1) 0 t) (other-formed no-head (omega arith, λ w. refl) refl (λ exclude terms n. refl) (rw e)))))
+  assume-formed true =
+      gives-field _ gives-name _ (λ f name e. gives-field _ (λ g. any-value (number-field 1 g)) _ (λ g flag u.
+      gives-field _ (gives-at-most most-group) _ (λ h group v. gives-field _ (λ i. any-value (term-field count i)) _ (λ i t w.
+      gives-ended _ (assume name (eqb flag 1) group t) (other-formed no-head (v .1, λ x. absurd x) refl (λ exclude terms n. refl) (rw e))))))
 
   -- a line of each kind
   kind-formed : (k : LineKind) (fs : List Field)
-      → Gives (Formed-as (is-word ask-words (bytes (kind-word k))) (is-word also-words (bytes (kind-word k))) (is-word hide-words (bytes (kind-word k)))
+      → Gives (Formed-as form (is-word ask-words (bytes (kind-word k))) (is-word also-words (bytes (kind-word k)))
+      (is-word grouped-words (bytes (kind-word k))) (is-word hide-words (bytes (kind-word k)))
       (is-word term-words (bytes (kind-word k))) (is-word record-words (bytes (kind-word k))) k fs)
-      (content k count fs)
-  unfolding kind-word is-word ask-words also-words hide-words term-words record-words any same order by-byte is-same bytes
+      (content k form count fs)
+  unfolding kind-word is-word ask-words also-words grouped-words hide-words term-words record-words any same order by-byte is-same bytes
       content due in-order then-terms fields-due sort-due holds is-a-name is-a-term
       heads hidden-by spelled spelled-by references nodes collect summarize-decl root-of
   kind-formed kind.Ask =
       gives-field _ (gives-at-most most-query) _ (λ f q u. gives-field _ (gives-at-most most-options) _ (λ g o v.
-      gives-ended _ (head (ask q o)) (other-formed (said-ask f g (u .0) (v .0) (u .1) (v .1)) refl (λ exclude terms n. refl) refl)))
+      gives-ended _ (head (ask q o)) (other-formed (said-ask f g [] (u .0) (v .0) (u .1) (v .1)) tt refl (λ exclude terms n. refl) refl)))
+  kind-formed kind.Ask2 =
+      gives-field _ (gives-at-most most-query) _ (λ f q u. gives-field _ (gives-at-most most-options) _ (λ g o v.
+      gives-field _ (gives-at-most most-groups) _ (λ h a w.
+      gives-ended _ (head (ask2 q o a)) (other-formed (said-ask2 f g h (u .0) (v .0) (w .0) (u .1) (v .1) (w .1)) tt refl (λ exclude terms n. refl) refl))))
   kind-formed kind.Also =
       gives-field _ (gives-at-most most-query) _ (λ f q u.
-      gives-ended _ (head (also q)) (other-formed (said-also f [] (u .0) (u .1)) refl (λ exclude terms n. refl) refl))
+      gives-ended _ (head (also q)) (other-formed (said-also f [] [] (u .0) (u .1)) tt refl (λ exclude terms n. refl) refl))
   kind-formed kind.Hide =
-      gives-field _ gives-name _ (λ f name e. gives-ended _ (head (hide name)) (other-formed (rw e one-hide) refl (λ exclude terms n. refl) (rw e)))
+      gives-field _ gives-name _ (λ f name e. gives-ended _ (head (hide name)) (other-formed (rw e one-hide) tt refl (λ exclude terms n. refl) (rw e)))
   kind-formed kind.Free = gives-field _ gives-name _ (λ f name e. gives-ended _ (term (FreeV name)) (term-formed (rw e) refl))
   kind-formed kind.Leaf = gives-ended _ (term Leaf) (term-formed refl refl)
   kind-formed kind.Call =
@@ -301,42 +343,40 @@ module _ (count : ℕ) where
   kind-formed kind.Op =
       gives-field _ (λ f. any-value (need refusal.Form (word op-words f))) _ (λ f w u fs. gives-bind (gives-as-many (term-field count) fs) (λ ts h.
       gives-value (term-formed (all-due is-a-name a-term fs) (rw (all-due is-a-term a-term fs) h))))
-  kind-formed kind.All = quantifier-formed kind.All refl Forall (λ body gs. (refl, refl))
-  kind-formed kind.Some = quantifier-formed kind.Some refl Exists (λ body gs. (refl, refl))
+  kind-formed kind.All = quantifier-formed kind.All refl refl Forall (λ body gs. (refl, refl))
+  kind-formed kind.Some = quantifier-formed kind.Some refl refl Exists (λ body gs. (refl, refl))
   kind-formed kind.Let =
       gives-field _ (λ f. any-value (term-field count f)) _ (λ f body u fs. gives-bind (gives-as-many (term-field count) fs) (λ ts h.
       gives-value (term-formed (all-due is-a-name a-term fs) (rw (all-due is-a-term a-term fs) (ap suc h)))))
   kind-formed kind.Label = gives-field _ (λ f. any-value (term-field count f)) _ (λ f t u. gives-ended _ (term (Labeled t)) (term-formed refl refl))
-  kind-formed kind.Assume =
-      gives-field _ gives-name _ (λ f name e. gives-field _ (λ g. any-value (number-field 1 g)) _ (λ g flag u.
-      gives-field _ (λ h. any-value (term-field count h)) _ (λ h t v.
-      gives-ended _ (assume name (eqb flag 1) t) (other-formed no-head refl (λ exclude terms n. refl) (rw e)))))
-  kind-formed kind.Fun = gives-field _ gives-name _ (λ f name e. gives-ended _ (fun name) (other-formed no-head refl (λ exclude terms n. refl) (rw e)))
+  kind-formed kind.Assume = assume-formed form
+  kind-formed kind.Fun = gives-field _ gives-name _ (λ f name e. gives-ended _ (fun name) (other-formed no-head tt refl (λ exclude terms n. refl) (rw e)))
   kind-formed kind.Def =
       gives-field _ gives-name _ (λ f name e. gives-field _ (λ g. any-value (term-field count g)) _ (λ g t u.
-      gives-ended _ (def name t) (other-formed no-head refl (λ exclude terms n. refl) (rw e))))
+      gives-ended _ (def name t) (other-formed no-head tt refl (λ exclude terms n. refl) (rw e))))
   kind-formed kind.Retain = λ fs.
-      gives-bind (gives-names fs) (λ names e. gives-value (other-formed no-head refl (λ exclude terms n. refl) (all-due is-a-name a-name fs ∙ e)))
+      gives-bind (gives-names fs) (λ names e. gives-value (other-formed no-head tt refl (λ exclude terms n. refl) (all-due is-a-name a-name fs ∙ e)))
   kind-formed kind.Root =
       gives-field _ (λ f. any-value (number-field most-query f)) _ (λ f q u. gives-field _ gives-name _ (λ g name e.
       gives-field _ (λ h. any-value (term-field count h)) _ (λ h t v.
-      gives-ended _ (root q name t) (other-formed no-head refl (λ exclude terms n. refl) (rw e)))))
+      gives-ended _ (root q name t) (other-formed no-head tt refl (λ exclude terms n. refl) (rw e)))))
 
 -- the fields of a line of a known kind
-fields-known : (of-sort : Sort → Bool) (f : Field) (fs : List Field) {k : LineKind} → word kinds f ≡ some k
-    → fields-of of-sort (f ∷ fs) ≡ fields-due of-sort (due k) fs
+fields-known : (of-sort : Sort → Bool) (form : Bool) (f : Field) (fs : List Field) {k : LineKind} → word kinds f ≡ some k
+    → fields-of of-sort form (f ∷ fs) ≡ fields-due of-sort (due form k) fs
 unfolding fields-of
-fields-known of-sort f fs e = rw (e, fields-of)
+fields-known of-sort form f fs e = rw (e, fields-of)
 
 -- an accepted line says what its fields are
 pub line-fields : (s : State) (fs : List Field) {c : Content} → parse s fs ≡ ok c
-    → Formed (is-word ask-words (getD fs 0 [])) (is-word also-words (getD fs 0 [])) (is-word hide-words (getD fs 0 [])) (is-word term-words (getD fs 0 [])) (is-word record-words (getD fs 0 []))
-    (getD fs 1 []) (getD fs 2 []) (fields-of is-a-name fs) (fields-of is-a-term fs) c
+    → Formed (s .grouped) (is-word ask-words (getD fs 0 [])) (is-word also-words (getD fs 0 [])) (is-word grouped-words (getD fs 0 []))
+    (is-word hide-words (getD fs 0 [])) (is-word term-words (getD fs 0 [])) (is-word record-words (getD fs 0 []))
+    (getD fs 1 []) (getD fs 2 []) (getD fs 3 []) (fields-of is-a-name (s .grouped) fs) (fields-of is-a-term false fs) c
 line-fields s fs e =
     let p = parse-ok s fs e in
     let is = word-exact (p .kind-word) (p .known) in
-    rw (p .split, fields-known is-a-name (p .kind-word) (p .others) (p .known), fields-known is-a-term (p .kind-word) (p .others) (p .known), is)
-    (given (kind-formed (length (s .terms)) (p .kind) (p .others)) (p .says))
+    rw (p .split, fields-known is-a-name (s .grouped) (p .kind-word) (p .others) (p .known), fields-known is-a-term false (p .kind-word) (p .others) (p .known), is)
+    (given (kind-formed (s .grouped) (length (s .terms)) (p .kind) (p .others)) (p .says))
 
 -- and it may stand where its first field says
 pub line-stands : (s : State) (fs : List Field) {c : Content} → parse s fs ≡ ok c → T (may-stand s (place-of (getD fs 0 [])))
@@ -345,19 +385,19 @@ line-stands s fs e =
     rw (p .split, ← (known-place (p .kind-word) (p .known))) (p .stands)
 
 -- a line is a position exactly where it counts as an ask
-pub position-by : (is-ask is-also is-hide : Bool) → is-position (place-by is-ask is-also is-hide) ≡ is-ask
+pub position-by : (is-ask is-also grouped is-hide : Bool) → is-position (place-by is-ask is-also grouped is-hide) ≡ is-ask
 unfolding is-position place-by
-position-by true true is-hide = refl
-position-by true false is-hide = refl
-position-by false is-also true = refl
-position-by false is-also false = refl
+position-by true true grouped is-hide = refl
+position-by true false grouped is-hide = refl
+position-by false is-also grouped true = refl
+position-by false is-also grouped false = refl
 
 -- where it is one, there are fewer than sixteen before it
 pub line-number : (s : State) (fs : List Field) {c : Content} → parse s fs ≡ ok c → T (is-word ask-words (getD fs 0 [])) → length (s .asks) < 16
 line-number s fs e t =
     let p = parse-ok s fs e in
     let f = p .kind-word in
-    let at : is-position (place (p .kind)) ≡ is-word ask-words f = ap is-position (known-place f (p .known)) ∙ position-by (is-word ask-words f) (is-word also-words f) (is-word hide-words f) in
+    let at : is-position (place (p .kind)) ≡ is-word ask-words f = ap is-position (known-place f (p .known)) ∙ position-by (is-word ask-words f) (is-word also-words f) (is-word grouped-words f) (is-word hide-words f) in
     let is : T (is-position (place (p .kind))) = rw (at) (rw (p .split) at t) in
     nleb→lt most-asks (length (s .asks)) (not-T (leb most-asks (length (s .asks))) (λ u.
     T-not (is-past s (p .kind)) (p .in-number) (T-and (is-position (place (p .kind))) (leb most-asks (length (s .asks))) .1 (is, u))))

@@ -11,13 +11,13 @@ use lib.ListN.{length}
 use Rattle.model.specs.Lists.{holds}
 use Rattle.model.specs.Lines.{Field}
 use Rattle.model.specs.Terms.{Node}
-use Rattle.model.specs.Reading.{Result, ok, refused, _>>=_, need, next, kinds, word, quantifier, Content, content, State, place, may-stand, is-position, most-asks, kind-field, fixed-count, parse}
+use Rattle.model.specs.Reading.{Result, ok, refused, _>>=_, need, next, kinds, word, quantifier, Content, group-field, content, State, place, may-stand, is-position, most-asks, kind-field, fixed-count, parse}
 use Rattle.model.specs.declared.LineKind.{LineKind}
 use Rattle.model.specs.declared.LineKind.the-variants as kind
 use Rattle.model.specs.declared.Refusal.{Refusal}
 use Rattle.model.specs.declared.Refusal.the-variants as refusal
 use Rattle.model.proofs.ListLaws.{T-and, T-dec, cond-true, cond-false}
-use Rattle.demands.specs.LineForm.{Sort, nothing, group-due, quantifier-due, in-order, then-terms, due, Refused-fields, Allowed, Faulty-line, unknown, misplaced, too-many, miscounted, field, Refused-line, Fixed-counts}
+use Rattle.demands.specs.LineForm.{Sort, nothing, group-due, quantifier-due, in-order, then-terms, assume-due, due, Refused-fields, Allowed, Faulty-line, unknown, misplaced, too-many, miscounted, field, Refused-line, Fixed-counts}
 use Rattle.laws.proofs.ReadingLaws.{is-past}
 use Rattle.demands.proofs.LineWalk.{why, refused-why, walk, walk-exact, walk-next, walk-rest, walk-groups, walk-end, name-judged, number-judged, number-value, term-judged, op-judged}
 
@@ -28,31 +28,43 @@ quantifier-walk make count fs =
     walk-next (term-judged count) _ _ refl (λ f body h. walk-next (number-judged count 65535) _ _ refl (λ f₁ g h₁ fs₂. rw (number-value 65535 f₁ h₁)
     (walk-groups count _ (λ gs. walk-end count _ _ refl) g fs₂))) fs
 
+-- an assume line of either form is refused for what the walk meets
+assume-walk : (grouped : Bool) (count : ℕ) (fs : List Field) → why (content kind.Assume grouped count fs) ≡ walk count (assume-due grouped) fs
+unfolding content group-field assume-due in-order
+assume-walk false count fs =
+    walk-next (name-judged count) _ _ refl (λ f name h. walk-next (number-judged count 1) _ _ refl (λ f₁ flag h₁.
+    walk-next (term-judged count) _ _ refl (λ f₂ t h₂. walk-end count _ _ refl))) fs
+assume-walk true count fs =
+    walk-next (name-judged count) _ _ refl (λ f name h. walk-next (number-judged count 1) _ _ refl (λ f₁ flag h₁.
+    walk-next (number-judged count 15) _ _ refl (λ f₂ group h₂. walk-next (term-judged count) _ _ refl (λ f₃ t h₃. walk-end count _ _ refl)))) fs
+
 -- the fields of a line are refused for what the walk meets
-content-walk : (k : LineKind) (count : ℕ) (fs : List Field) → why (content k count fs) ≡ walk count (due k) fs
+content-walk : (k : LineKind) (grouped : Bool) (count : ℕ) (fs : List Field) → why (content k grouped count fs) ≡ walk count (due grouped k) fs
 unfolding content due in-order then-terms
-content-walk kind.Ask count fs = walk-next (number-judged count 255) _ _ refl (λ f q h. walk-next (number-judged count 15) _ _ refl (λ f₁ options h₁. walk-end count _ _ refl)) fs
-content-walk kind.Also count fs = walk-next (number-judged count 255) _ _ refl (λ f q h. walk-end count _ _ refl) fs
-content-walk kind.Hide count fs = walk-next (name-judged count) _ _ refl (λ f name h. walk-end count _ _ refl) fs
-content-walk kind.Free count fs = walk-next (name-judged count) _ _ refl (λ f name h. walk-end count _ _ refl) fs
-content-walk kind.Leaf count fs = walk-end count _ _ refl fs
-content-walk kind.Call count fs = walk-next (name-judged count) _ _ refl (λ f name h. walk-rest (term-judged count) _) fs
-content-walk kind.Op count fs = walk-next (op-judged count) _ _ refl (λ f w h. walk-rest (term-judged count) _) fs
-content-walk kind.All count fs = quantifier-walk _ count fs
-content-walk kind.Some count fs = quantifier-walk _ count fs
-content-walk kind.Let count fs = walk-next (term-judged count) _ _ refl (λ f body h. walk-rest (term-judged count) _) fs
-content-walk kind.Label count fs = walk-next (term-judged count) _ _ refl (λ f t h. walk-end count _ _ refl) fs
-content-walk kind.Assume count fs =
-    walk-next (name-judged count) _ _ refl (λ f name h. walk-next (number-judged count 1) _ _ refl (λ f₁ flag h₁. walk-next (term-judged count) _ _ refl (λ f₂ t h₂. walk-end count _ _ refl))) fs
-content-walk kind.Fun count fs = walk-next (name-judged count) _ _ refl (λ f name h. walk-end count _ _ refl) fs
-content-walk kind.Def count fs = walk-next (name-judged count) _ _ refl (λ f name h. walk-next (term-judged count) _ _ refl (λ f₁ t h₁. walk-end count _ _ refl)) fs
-content-walk kind.Retain count fs = walk-rest (name-judged count) _ fs
-content-walk kind.Root count fs =
+content-walk kind.Ask grouped count fs = walk-next (number-judged count 255) _ _ refl (λ f q h. walk-next (number-judged count 15) _ _ refl (λ f₁ options h₁. walk-end count _ _ refl)) fs
+content-walk kind.Ask2 grouped count fs =
+    walk-next (number-judged count 255) _ _ refl (λ f q h. walk-next (number-judged count 15) _ _ refl (λ f₁ options h₁.
+    walk-next (number-judged count 65535) _ _ refl (λ f₂ admitted h₂. walk-end count _ _ refl))) fs
+content-walk kind.Also grouped count fs = walk-next (number-judged count 255) _ _ refl (λ f q h. walk-end count _ _ refl) fs
+content-walk kind.Hide grouped count fs = walk-next (name-judged count) _ _ refl (λ f name h. walk-end count _ _ refl) fs
+content-walk kind.Free grouped count fs = walk-next (name-judged count) _ _ refl (λ f name h. walk-end count _ _ refl) fs
+content-walk kind.Leaf grouped count fs = walk-end count _ _ refl fs
+content-walk kind.Call grouped count fs = walk-next (name-judged count) _ _ refl (λ f name h. walk-rest (term-judged count) _) fs
+content-walk kind.Op grouped count fs = walk-next (op-judged count) _ _ refl (λ f w h. walk-rest (term-judged count) _) fs
+content-walk kind.All grouped count fs = quantifier-walk _ count fs
+content-walk kind.Some grouped count fs = quantifier-walk _ count fs
+content-walk kind.Let grouped count fs = walk-next (term-judged count) _ _ refl (λ f body h. walk-rest (term-judged count) _) fs
+content-walk kind.Label grouped count fs = walk-next (term-judged count) _ _ refl (λ f t h. walk-end count _ _ refl) fs
+content-walk kind.Assume grouped count fs = assume-walk grouped count fs
+content-walk kind.Fun grouped count fs = walk-next (name-judged count) _ _ refl (λ f name h. walk-end count _ _ refl) fs
+content-walk kind.Def grouped count fs = walk-next (name-judged count) _ _ refl (λ f name h. walk-next (term-judged count) _ _ refl (λ f₁ t h₁. walk-end count _ _ refl)) fs
+content-walk kind.Retain grouped count fs = walk-rest (name-judged count) _ fs
+content-walk kind.Root grouped count fs =
     walk-next (number-judged count 255) _ _ refl (λ f q h. walk-next (name-judged count) _ _ refl (λ f₁ name h₁. walk-next (term-judged count) _ _ refl (λ f₂ t h₂. walk-end count _ _ refl))) fs
 
 -- the fields after a line's kind are refused exactly for a fault
 pub refused-fields : Refused-fields
-refused-fields k count fs r = Iff·trans (refused-why (content k count fs)) (rw (content-walk k count fs) (walk-exact k count fs r))
+refused-fields k grouped count fs r = Iff·trans (refused-why (content k grouped count fs)) (rw (content-walk k grouped count fs) (walk-exact grouped k count fs r))
 
 -- whether the count is other than the fixed one
 abbrev other-count : ℕ → Option ℕ → Bool
@@ -107,7 +119,7 @@ module _ (s : State) (f : Field) (fs : List Field) where
   module _ {k : LineKind} (e : word kinds f ≡ some k) where
     -- the fields after the kind, judged after the field count
     abbrev pub after-kind : Result Content
-    after-kind = cond (other-count (length (f ∷ fs)) (fixed-count s k)) (refused refusal.Form) (content k (length (s .terms)) fs)
+    after-kind = cond (other-count (length (f ∷ fs)) (fixed-count s k)) (refused refusal.Form) (content k (s .grouped) (length (s .terms)) fs)
 
     -- a line of a known kind is tested for the kind's place, for 13 and for the field count before its fields are read
     pub parse-known : parse s (f ∷ fs) ≡ cond (may-stand s (place k)) (cond (is-past s k) (refused refusal.FullAsks) after-kind) (refused refusal.Form)
@@ -132,7 +144,7 @@ module _ (s : State) (f : Field) (fs : List Field) where
       parse-miscounted t = parse-allowed ∙ cond-true (other-count (length (f ∷ fs)) (fixed-count s k)) _ _ t
 
       -- a line with its field count is what its fields are read as
-      pub parse-fields : T (not (other-count (length (f ∷ fs)) (fixed-count s k))) → parse s (f ∷ fs) ≡ content k (length (s .terms)) fs
+      pub parse-fields : T (not (other-count (length (f ∷ fs)) (fixed-count s k))) → parse s (f ∷ fs) ≡ content k (s .grouped) (length (s .terms)) fs
       parse-fields t = parse-allowed ∙ cond-false (other-count (length (f ∷ fs)) (fixed-count s k)) _ _ t
 
   module _ {r : Refusal} (q : parse s (f ∷ fs) ≡ refused r) where
@@ -149,7 +161,7 @@ module _ (s : State) (f : Field) (fs : List Field) where
         by-count {k} e a (inl t) =
             let (fixed, h, d) = other-count-exact (length (f ∷ fs)) (fixed-count s k) .0 t in formed (parse-miscounted e a t) (miscounted e a h d)
         by-count {k} e a (inr t) =
-            field e a (counted-exact (length (f ∷ fs)) (fixed-count s k) .0 t) (refused-fields k (length (s .terms)) fs r .0 (sym (parse-fields e a t) ∙ q))
+            field e a (counted-exact (length (f ∷ fs)) (fixed-count s k) .0 t) (refused-fields k (s .grouped) (length (s .terms)) fs r .0 (sym (parse-fields e a t) ∙ q))
 
         by-number : {k : LineKind} → word kinds f ≡ some k → T (may-stand s (place k)) → T (is-past s k) ⊎ T (not (is-past s k)) → Faulty-line s (f ∷ fs) r
         by-number {k} e t (inl u) =
@@ -174,7 +186,7 @@ faulty-refused {s} {fs} (too-many {f} {k} e t p n) =
 faulty-refused {s} {fs} (miscounted {f} {k} {fixed} e a h d) =
     parse-miscounted s f fs e a (other-count-exact (length (f ∷ fs)) (fixed-count s k) .1 (fixed, h, d))
 faulty-refused {s} {fs} {r} (field {f} {k} e a c x) =
-    parse-fields s f fs e a (counted-exact (length (f ∷ fs)) (fixed-count s k) .1 c) ∙ refused-fields k (length (s .terms)) fs r .1 x
+    parse-fields s f fs e a (counted-exact (length (f ∷ fs)) (fixed-count s k) .1 c) ∙ refused-fields k (s .grouped) (length (s .terms)) fs r .1 x
 
 -- a line is refused with 1 to 4 or 13 exactly for a fault
 pub refused-line : Refused-line
@@ -196,8 +208,9 @@ counted-done ss {n} e fs =
 
 -- a fixed field count is the number of fields after which nothing more is due
 pub fixed-counts : Fixed-counts
-unfolding fixed-count due
+unfolding fixed-count due assume-due
 fixed-counts s kind.Ask n e fs = counted-done _ e fs
+fixed-counts s kind.Ask2 n e fs = counted-done _ e fs
 fixed-counts s kind.Also n e fs = counted-done _ e fs
 fixed-counts s kind.Hide n e fs = counted-done _ e fs
 fixed-counts s kind.Free n e fs = counted-done _ e fs
@@ -208,8 +221,97 @@ fixed-counts s kind.All n e fs = absurd (Option·none-ne-some n e)
 fixed-counts s kind.Some n e fs = absurd (Option·none-ne-some n e)
 fixed-counts s kind.Let n e fs = absurd (Option·none-ne-some n e)
 fixed-counts s kind.Label n e fs = counted-done _ e fs
-fixed-counts s kind.Assume n e fs = counted-done _ e fs
+fixed-counts s kind.Assume n e fs = by-form (s .grouped) e
+  where
+    by-form : (grouped : Bool) → some (cond grouped 5 4) ≡ some n → (assume-due grouped fs ≡ nothing) ↔ (n ≤ length fs + 1)
+    by-form false e = counted-done _ e fs
+    by-form true e = counted-done _ e fs
 fixed-counts s kind.Fun n e fs = counted-done _ e fs
 fixed-counts s kind.Def n e fs = counted-done _ e fs
 fixed-counts s kind.Retain n e fs = absurd (Option·none-ne-some n e)
 fixed-counts s kind.Root n e fs = counted-done _ e fs
+
+-- ---- the forms
+
+-- whether a line of this kind has other fields in the form with groups
+unfoldable pub has-group : LineKind → Bool
+has-group kind.Ask = false
+has-group kind.Ask2 = false
+has-group kind.Also = false
+has-group kind.Hide = false
+has-group kind.Free = false
+has-group kind.Leaf = false
+has-group kind.Call = false
+has-group kind.Op = false
+has-group kind.All = false
+has-group kind.Some = false
+has-group kind.Let = false
+has-group kind.Label = false
+has-group kind.Assume = true
+has-group kind.Fun = false
+has-group kind.Def = false
+has-group kind.Retain = false
+has-group kind.Root = false
+
+-- any other is the same in both forms: it has as many fields
+pub count-formless : (s t : State) (k : LineKind) → T (not (has-group k)) → fixed-count s k ≡ fixed-count t k
+unfolding fixed-count has-group
+count-formless s t kind.Ask u = refl
+count-formless s t kind.Ask2 u = refl
+count-formless s t kind.Also u = refl
+count-formless s t kind.Hide u = refl
+count-formless s t kind.Free u = refl
+count-formless s t kind.Leaf u = refl
+count-formless s t kind.Call u = refl
+count-formless s t kind.Op u = refl
+count-formless s t kind.All u = refl
+count-formless s t kind.Some u = refl
+count-formless s t kind.Let u = refl
+count-formless s t kind.Label u = refl
+count-formless s t kind.Assume u = absurd u
+count-formless s t kind.Fun u = refl
+count-formless s t kind.Def u = refl
+count-formless s t kind.Retain u = refl
+count-formless s t kind.Root u = refl
+
+-- and they say the same
+pub content-formless : (k : LineKind) → T (not (has-group k)) → (g h : Bool) (count : ℕ) (fs : List Field) → content k g count fs ≡ content k h count fs
+unfolding content has-group
+content-formless kind.Ask u g h count fs = refl
+content-formless kind.Ask2 u g h count fs = refl
+content-formless kind.Also u g h count fs = refl
+content-formless kind.Hide u g h count fs = refl
+content-formless kind.Free u g h count fs = refl
+content-formless kind.Leaf u g h count fs = refl
+content-formless kind.Call u g h count fs = refl
+content-formless kind.Op u g h count fs = refl
+content-formless kind.All u g h count fs = refl
+content-formless kind.Some u g h count fs = refl
+content-formless kind.Let u g h count fs = refl
+content-formless kind.Label u g h count fs = refl
+content-formless kind.Assume u g h count fs = absurd u
+content-formless kind.Fun u g h count fs = refl
+content-formless kind.Def u g h count fs = refl
+content-formless kind.Retain u g h count fs = refl
+content-formless kind.Root u g h count fs = refl
+
+-- a line that counts as an ask is such a line
+pub position-formless : (k : LineKind) → T (is-position (place k)) → T (not (has-group k))
+unfolding is-position place has-group
+position-formless kind.Ask u = tt
+position-formless kind.Ask2 u = tt
+position-formless kind.Also u = tt
+position-formless kind.Hide u = absurd u
+position-formless kind.Free u = absurd u
+position-formless kind.Leaf u = absurd u
+position-formless kind.Call u = absurd u
+position-formless kind.Op u = absurd u
+position-formless kind.All u = absurd u
+position-formless kind.Some u = absurd u
+position-formless kind.Let u = absurd u
+position-formless kind.Label u = absurd u
+position-formless kind.Assume u = absurd u
+position-formless kind.Fun u = absurd u
+position-formless kind.Def u = absurd u
+position-formless kind.Retain u = absurd u
+position-formless kind.Root u = absurd u

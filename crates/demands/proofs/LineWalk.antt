@@ -47,53 +47,53 @@ walk count ahead [] = stop (ahead [])
 walk count ahead (f ∷ fs) = step count (sort-due (ahead [])) f (walk count (λ gs. ahead (f ∷ gs)) fs)
 
 -- `ahead` says what stands next in a line of this kind, after the fields `before`
-record Follows (k : LineKind) (before : List Field) (ahead : List Field → Due) : Type 0 where
-  then : (gs : List Field) → ahead gs ≡ due k (before ++ gs)
+record Follows (grouped : Bool) (k : LineKind) (before : List Field) (ahead : List Field → Due) : Type 0 where
+  then : (gs : List Field) → ahead gs ≡ due grouped k (before ++ gs)
 
-module _ {k : LineKind} {before : List Field} {ahead : List Field → Due} where
+module _ {grouped : Bool} {k : LineKind} {before : List Field} {ahead : List Field → Due} where
   -- what stands next, where no field follows
-  follows-now : Follows k before ahead → ahead [] ≡ due k before
-  follows-now h = h .then [] ∙ ap (due k) (append-nil before)
+  follows-now : Follows grouped k before ahead → ahead [] ≡ due grouped k before
+  follows-now h = h .then [] ∙ ap (due grouped k) (append-nil before)
 
   -- after one field more `ahead` is asked with that field in front
-  follows-on : Follows k before ahead → (f : Field) → Follows k (before ++ (f ∷ [])) (λ gs. ahead (f ∷ gs))
-  follows-on h f = record { then = λ gs. h .then (f ∷ gs) ∙ ap (due k) (sym (append-assoc before (f ∷ []) gs)) }
+  follows-on : Follows grouped k before ahead → (f : Field) → Follows grouped k (before ++ (f ∷ [])) (λ gs. ahead (f ∷ gs))
+  follows-on h f = record { then = λ gs. h .then (f ∷ gs) ∙ ap (due grouped k) (sym (append-assoc before (f ∷ []) gs)) }
 
-module _ {k : LineKind} {count : ℕ} {before : List Field} {r : Refusal} where
+module _ {grouped : Bool} {k : LineKind} {count : ℕ} {before : List Field} {r : Refusal} where
   -- a line that is refused at its end lacks a field
-  stop-faulty : (d : Due) → due k before ≡ d → stop d ≡ some r → Faulty k count before [] r
+  stop-faulty : (d : Due) → due grouped k before ≡ d → stop d ≡ some r → Faulty grouped k count before [] r
   stop-faulty (must s) e t = rw (← (Option·some-injective refusal.Form r t)) (lacking e)
   stop-faulty (may s) e t = absurd (Option·none-ne-some r t)
   stop-faulty nothing e t = absurd (Option·none-ne-some r t)
 
   module _ {f : Field} {more : List Field} where
     -- a line refused at a field of a known sort or after it is faulty, if what follows the field is
-    fault-faulty : {s : Sort} {after : Option Refusal} → sort-due (due k before) ≡ some s
-        → (after ≡ some r → Faulty k count (before ++ (f ∷ [])) more r)
-        → (o : Option Refusal) → fault count s f ≡ o → or-else o after ≡ some r → Faulty k count before (f ∷ more) r
+    fault-faulty : {s : Sort} {after : Option Refusal} → sort-due (due grouped k before) ≡ some s
+        → (after ≡ some r → Faulty grouped k count (before ++ (f ∷ [])) more r)
+        → (o : Option Refusal) → fault count s f ≡ o → or-else o after ≡ some r → Faulty grouped k count before (f ∷ more) r
     unfolding or-else
     fault-faulty p below none e t = later p e (below t)
     fault-faulty p below (some q) e t = not-so p (e ∙ t)
 
     -- the same by what stands next: a field left over is a fault too
-    step-faulty : {after : Option Refusal} → (after ≡ some r → Faulty k count (before ++ (f ∷ [])) more r)
-        → (d : Due) → due k before ≡ d → step count (sort-due d) f after ≡ some r → Faulty k count before (f ∷ more) r
+    step-faulty : {after : Option Refusal} → (after ≡ some r → Faulty grouped k count (before ++ (f ∷ [])) more r)
+        → (d : Due) → due grouped k before ≡ d → step count (sort-due d) f after ≡ some r → Faulty grouped k count before (f ∷ more) r
     unfolding sort-due
     step-faulty below (must s) e t = fault-faulty (ap sort-due e) below (fault count s f) refl t
     step-faulty below (may s) e t = fault-faulty (ap sort-due e) below (fault count s f) refl t
     step-faulty below nothing e t = rw (← (Option·some-injective refusal.Form r t)) (left-over e)
 
-module _ {k : LineKind} {count : ℕ} where
+module _ {grouped : Bool} {k : LineKind} {count : ℕ} where
   -- fields that the walk refuses are faulty
   walk-faulty : (fs : List Field) {before : List Field} {ahead : List Field → Due} {r : Refusal}
-      → Follows k before ahead → walk count ahead fs ≡ some r → Faulty k count before fs r
+      → Follows grouped k before ahead → walk count ahead fs ≡ some r → Faulty grouped k count before fs r
   unfolding walk
   walk-faulty [] {ahead} h t = stop-faulty (ahead []) (sym (follows-now h)) t
   walk-faulty (f ∷ fs) {ahead} h t = step-faulty (walk-faulty fs (follows-on h f)) (ahead []) (sym (follows-now h)) t
 
   -- faulty fields are refused by the walk
   faulty-walk : {fs before : List Field} {ahead : List Field → Due} {r : Refusal}
-      → Follows k before ahead → Faulty k count before fs r → walk count ahead fs ≡ some r
+      → Follows grouped k before ahead → Faulty grouped k count before fs r → walk count ahead fs ≡ some r
   unfolding walk sort-due or-else
   faulty-walk h (lacking e) = rw (follows-now h, e)
   faulty-walk h (left-over e) = rw (follows-now h, e)
@@ -101,10 +101,10 @@ module _ {k : LineKind} {count : ℕ} where
   faulty-walk h (later {f} p e l) = rw (follows-now h, p, e) (faulty-walk (follows-on h f) l)
 
 -- the walk by what is due in a line of this kind refuses exactly the faulty fields
-pub walk-exact : (k : LineKind) (count : ℕ) (fs : List Field) (r : Refusal) → (walk count (due k) fs ≡ some r) ↔ Faulty k count [] fs r
-walk-exact k count fs r = (walk-faulty fs start, faulty-walk start)
+pub walk-exact : (grouped : Bool) (k : LineKind) (count : ℕ) (fs : List Field) (r : Refusal) → (walk count (due grouped k) fs ≡ some r) ↔ Faulty grouped k count [] fs r
+walk-exact grouped k count fs r = (walk-faulty fs start, faulty-walk start)
   where
-    start : Follows k [] (due k)
+    start : Follows grouped k [] (due grouped k)
     start = record { then = λ gs. refl }
 
 -- the judge refuses a field exactly for the fault that it has as a field of the sort

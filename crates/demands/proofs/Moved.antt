@@ -10,12 +10,13 @@ use Rattle.model.specs.Names.{Name, same, mem, from-list, union}
 use Rattle.model.specs.Summaries.{Fact}
 use Rattle.model.specs.Reading.{Ask, Decl, Summary, Sum-assume, Sum-definefun, Sum-declfun, Sum-retain, Root, no-ambients, prune-decls}
 use Rattle.model.specs.Pruning.{Map, init-macro-freenames}
-use Rattle.model.specs.Rounds.{Run, first-run, most-rounds, facts, definitions, declarations, macros, listed, filed, triggers-in, retainable, met-after, triggered, fresh, after-round, next-scanned, rounds-from, is-ambient, is-ambient-root, asks-for, goal-roots, ambient-roots, first-scanned, run}
+use Rattle.model.specs.Rounds.{Run, first-run, most-rounds, facts, definitions, declarations, macros, listed, filed, triggers-in, retainable, met-after, triggered, fresh, after-round, next-scanned}
+use Rattle.model.specs.Rounds.{rounds-from, is-ambient, is-ambient-root, asks-for, goal-roots, ambient-roots, first-scanned, run, admits, is-admitted, background}
 use Rattle.model.specs.Kept.{reached-facts, ambients, kept-facts, kept-names, first-met, kept-decls, kept}
 use Rattle.model.specs.Bodies.{with-bodies, followed, all-followed, added-names, of-names, added-for, kept-followed}
 use Rattle.model.specs.Also.{with-queries, also-scanned, stretch-start, stretch, chain, stretch-visits}
-use Rattle.model.specs.Outcome.{position}
-use Rattle.model.proofs.ListLaws.{cond-ap, collect-map, collect-cong, map-collect, map-reverse}
+use Rattle.model.specs.Outcome.{Position, position}
+use Rattle.model.proofs.ListLaws.{map-cong, cond-ap, collect-map, collect-cong, map-collect, map-reverse}
 use Rattle.demands.specs.Moved.{moved-fact, moved-decl, moved, moved-root, moved-position, Lines-apart, Kept-apart}
 
 -- to keep of changed elements is to change those kept, where the test does not see the change
@@ -38,71 +39,91 @@ unfolding is-nil
 nil-map f [] = refl
 nil-map f (x ∷ l) = refl
 
-module _ (to : ℕ → ℕ) where
+-- a fact on another line and of another group: nothing that an ask comes to depends on the groups of the facts that it admits
+unfoldable pub relabeled-fact : (ℕ → ℕ) → (ℕ → ℕ) → Fact → Fact
+relabeled-fact to regroup f =
+    record {
+      line = to (f .line);
+      name = f .name;
+      free-names = f .free-names;
+      pretyping = f .pretyping;
+      group = regroup (f .group);
+      kind = f .kind;
+      triggers = f .triggers;
+    }
+
+-- a record so
+unfoldable pub relabeled : (ℕ → ℕ) → (ℕ → ℕ) → Summary → Summary
+relabeled to regroup (Sum-assume f) = Sum-assume (relabeled-fact to regroup f)
+relabeled to regroup (Sum-definefun d) = Sum-definefun (moved-decl to d)
+relabeled to regroup (Sum-declfun d) = Sum-declfun (moved-decl to d)
+relabeled to regroup Sum-retain = Sum-retain
+
+module _ (to regroup : ℕ → ℕ) where
   -- the records of each sort
-  pub moved-facts : (decls : List Summary) → facts (map (moved to) decls) ≡ map (moved-fact to) (facts decls)
-  unfolding facts moved
-  moved-facts [] = refl
-  moved-facts (Sum-assume f ∷ decls) = ap (moved-fact to f ∷_) (moved-facts decls)
-  moved-facts (Sum-definefun d ∷ decls) = moved-facts decls
-  moved-facts (Sum-declfun d ∷ decls) = moved-facts decls
-  moved-facts (Sum-retain ∷ decls) = moved-facts decls
+  pub relabeled-facts : (decls : List Summary) → facts (map (relabeled to regroup) decls) ≡ map (relabeled-fact to regroup) (facts decls)
+  unfolding facts relabeled
+  relabeled-facts [] = refl
+  relabeled-facts (Sum-assume f ∷ decls) = ap (relabeled-fact to regroup f ∷_) (relabeled-facts decls)
+  relabeled-facts (Sum-definefun d ∷ decls) = relabeled-facts decls
+  relabeled-facts (Sum-declfun d ∷ decls) = relabeled-facts decls
+  relabeled-facts (Sum-retain ∷ decls) = relabeled-facts decls
 
-  pub moved-definitions : (decls : List Summary) → definitions (map (moved to) decls) ≡ map (moved-decl to) (definitions decls)
-  unfolding definitions moved
-  moved-definitions [] = refl
-  moved-definitions (Sum-assume f ∷ decls) = moved-definitions decls
-  moved-definitions (Sum-definefun d ∷ decls) = ap (moved-decl to d ∷_) (moved-definitions decls)
-  moved-definitions (Sum-declfun d ∷ decls) = moved-definitions decls
-  moved-definitions (Sum-retain ∷ decls) = moved-definitions decls
+  pub relabeled-definitions : (decls : List Summary) → definitions (map (relabeled to regroup) decls) ≡ map (moved-decl to) (definitions decls)
+  unfolding definitions relabeled
+  relabeled-definitions [] = refl
+  relabeled-definitions (Sum-assume f ∷ decls) = relabeled-definitions decls
+  relabeled-definitions (Sum-definefun d ∷ decls) = ap (moved-decl to d ∷_) (relabeled-definitions decls)
+  relabeled-definitions (Sum-declfun d ∷ decls) = relabeled-definitions decls
+  relabeled-definitions (Sum-retain ∷ decls) = relabeled-definitions decls
 
-  pub moved-declarations : (decls : List Summary) → declarations (map (moved to) decls) ≡ map (moved-decl to) (declarations decls)
-  unfolding declarations moved
-  moved-declarations [] = refl
-  moved-declarations (Sum-assume f ∷ decls) = moved-declarations decls
-  moved-declarations (Sum-definefun d ∷ decls) = moved-declarations decls
-  moved-declarations (Sum-declfun d ∷ decls) = ap (moved-decl to d ∷_) (moved-declarations decls)
-  moved-declarations (Sum-retain ∷ decls) = moved-declarations decls
+  pub relabeled-declarations : (decls : List Summary) → declarations (map (relabeled to regroup) decls) ≡ map (moved-decl to) (declarations decls)
+  unfolding declarations relabeled
+  relabeled-declarations [] = refl
+  relabeled-declarations (Sum-assume f ∷ decls) = relabeled-declarations decls
+  relabeled-declarations (Sum-definefun d ∷ decls) = relabeled-declarations decls
+  relabeled-declarations (Sum-declfun d ∷ decls) = ap (moved-decl to d ∷_) (relabeled-declarations decls)
+  relabeled-declarations (Sum-retain ∷ decls) = relabeled-declarations decls
 
   -- what the runs see of them
-  moved-macros : (decls : List Summary) → macros (map (moved to) decls) ≡ macros decls
+  moved-macros : (decls : List Summary) → macros (map (relabeled to regroup) decls) ≡ macros decls
   unfolding macros moved-decl
   moved-macros decls =
-      ap (_++ init-macro-freenames) (ap (map (λ (d : Decl). (d .name, d .free-names))) (moved-definitions decls)
+      ap (_++ init-macro-freenames) (ap (map (λ (d : Decl). (d .name, d .free-names))) (relabeled-definitions decls)
       ∙ map-map (λ (d : Decl). (d .name, d .free-names)) (moved-decl to) (definitions decls))
 
   module _ (fs : List Fact) where
-    moved-filed : filed (map (moved-fact to) fs) ≡ filed fs
-    unfolding filed listed moved-fact
-    moved-filed = collect-map listed (moved-fact to) fs
+    moved-filed : filed (map (relabeled-fact to regroup) fs) ≡ filed fs
+    unfolding filed listed relabeled-fact
+    moved-filed = collect-map listed (relabeled-fact to regroup) fs
 
     module _ (a : Ask) (ms : Map (List Name)) where
-      moved-triggered : (r : Run) (scanned : List Name) → triggered ms (map (moved-fact to) fs) r scanned ≡ map (moved-fact to) (triggered ms fs r scanned)
-      unfolding triggered triggers-in listed moved-fact
-      moved-triggered r scanned = keep-map (moved-fact to) (triggers-in (r .met) (met-after ms r scanned)) fs
+      moved-triggered : (r : Run) (scanned : List Name) → triggered ms (map (relabeled-fact to regroup) fs) r scanned ≡ map (relabeled-fact to regroup) (triggered ms fs r scanned)
+      unfolding triggered triggers-in listed relabeled-fact
+      moved-triggered r scanned = keep-map (relabeled-fact to regroup) (triggers-in (r .met) (met-after ms r scanned)) fs
 
-      moved-fresh : (r : Run) (scanned : List Name) → fresh a ms (map (moved-fact to) fs) r scanned ≡ map (moved-fact to) (fresh a ms fs r scanned)
-      unfolding fresh retainable moved-fact
+      moved-fresh : (r : Run) (scanned : List Name) → fresh a ms (map (relabeled-fact to regroup) fs) r scanned ≡ map (relabeled-fact to regroup) (fresh a ms fs r scanned)
+      unfolding fresh retainable relabeled-fact
       moved-fresh r scanned =
           let test : Fact → Bool = λ f. retainable a f && not (mem (f .name) (r .reached)) in
-          ap (keep test) (moved-triggered r scanned) ∙ keep-map (moved-fact to) test (triggered ms fs r scanned)
+          ap (keep test) (moved-triggered r scanned) ∙ keep-map (relabeled-fact to regroup) test (triggered ms fs r scanned)
 
-      moved-after : (r : Run) (scanned : List Name) → after-round a ms (map (moved-fact to) fs) r scanned ≡ after-round a ms fs r scanned
-      unfolding after-round moved-fact
+      moved-after : (r : Run) (scanned : List Name) → after-round a ms (map (relabeled-fact to regroup) fs) r scanned ≡ after-round a ms fs r scanned
+      unfolding after-round relabeled-fact
       moved-after r scanned =
           ap (λ names. record { met = met-after ms r scanned; reached = union names (r .reached); rounds = r .rounds + 1 })
-          (ap (map (λ (f : Fact). f .name)) (moved-fresh r scanned) ∙ map-map (λ (f : Fact). f .name) (moved-fact to) (fresh a ms fs r scanned))
+          (ap (map (λ (f : Fact). f .name)) (moved-fresh r scanned) ∙ map-map (λ (f : Fact). f .name) (relabeled-fact to regroup) (fresh a ms fs r scanned))
 
-      moved-next : (r : Run) (scanned : List Name) → next-scanned a ms (map (moved-fact to) fs) r scanned ≡ next-scanned a ms fs r scanned
-      unfolding next-scanned moved-fact
+      moved-next : (r : Run) (scanned : List Name) → next-scanned a ms (map (relabeled-fact to regroup) fs) r scanned ≡ next-scanned a ms fs r scanned
+      unfolding next-scanned relabeled-fact
       moved-next r scanned =
-          ap (collect (λ (f : Fact). f .free-names)) (moved-fresh r scanned) ∙ collect-map (λ (f : Fact). f .free-names) (moved-fact to) (fresh a ms fs r scanned)
+          ap (collect (λ (f : Fact). f .free-names)) (moved-fresh r scanned) ∙ collect-map (λ (f : Fact). f .free-names) (relabeled-fact to regroup) (fresh a ms fs r scanned)
 
-      moved-rounds : (fuel : ℕ) (r : Run) (scanned : List Name) → rounds-from a ms (map (moved-fact to) fs) fuel r scanned ≡ rounds-from a ms fs fuel r scanned
+      moved-rounds : (fuel : ℕ) (r : Run) (scanned : List Name) → rounds-from a ms (map (relabeled-fact to regroup) fs) fuel r scanned ≡ rounds-from a ms fs fuel r scanned
       unfolding rounds-from
       moved-rounds zero r scanned = refl
       moved-rounds (suc fuel) r scanned =
-          rw (moved-triggered r scanned, nil-map (moved-fact to) (triggered ms fs r scanned), moved-after r scanned, moved-next r scanned, moved-rounds fuel (after-round a ms fs r scanned) (next-scanned a ms fs r scanned))
+          rw (moved-triggered r scanned, nil-map (relabeled-fact to regroup) (triggered ms fs r scanned), moved-after r scanned, moved-next r scanned, moved-rounds fuel (after-round a ms fs r scanned) (next-scanned a ms fs r scanned))
 
   moved-goal : (a : Ask) (roots : List Root) → goal-roots a (map (moved-root to) roots) ≡ map (moved-root to) (goal-roots a roots)
   unfolding goal-roots moved-root
@@ -112,25 +133,25 @@ module _ (to : ℕ → ℕ) where
   unfolding moved-root
   free-in-roots rs = collect-map (λ (r : Root). r .free-names) (moved-root to) rs
 
-  moved-ambient-roots : (a : Ask) (fs : List Fact) → ambient-roots a (map (moved-fact to) fs) ≡ map (moved-fact to) (ambient-roots a fs)
-  unfolding ambient-roots moved-fact
+  moved-ambient-roots : (a : Ask) (fs : List Fact) → ambient-roots a (map (relabeled-fact to regroup) fs) ≡ map (relabeled-fact to regroup) (ambient-roots a fs)
+  unfolding ambient-roots relabeled-fact
   moved-ambient-roots a fs =
-      ap (λ l. cond (no-ambients a) [] l) (keep-map (moved-fact to) (λ (f : Fact). is-ambient-root (f .kind)) fs)
-      ∙ sym (cond-ap (map (moved-fact to)) (no-ambients a) [] (keep (λ f. is-ambient-root (f .kind)) fs))
+      ap (λ l. cond (no-ambients a) [] l) (keep-map (relabeled-fact to regroup) (λ (f : Fact). is-ambient-root (f .kind)) fs)
+      ∙ sym (cond-ap (map (relabeled-fact to regroup)) (no-ambients a) [] (keep (λ f. is-ambient-root (f .kind)) fs))
 
-  moved-first : (a : Ask) (fs : List Fact) (roots : List Root) → first-scanned a (map (moved-fact to) fs) (map (moved-root to) roots) ≡ first-scanned a fs roots
-  unfolding first-scanned moved-fact
+  moved-first : (a : Ask) (fs : List Fact) (roots : List Root) → first-scanned a (map (relabeled-fact to regroup) fs) (map (moved-root to) roots) ≡ first-scanned a fs roots
+  unfolding first-scanned relabeled-fact
   moved-first a fs roots =
       ap₂ _++_ (ap (collect (λ (r : Root). r .free-names)) (moved-goal a roots) ∙ free-in-roots (goal-roots a roots))
-      (ap (collect (λ (f : Fact). f .free-names)) (moved-ambient-roots a fs) ∙ collect-map (λ (f : Fact). f .free-names) (moved-fact to) (ambient-roots a fs))
+      (ap (collect (λ (f : Fact). f .free-names)) (moved-ambient-roots a fs) ∙ collect-map (λ (f : Fact). f .free-names) (relabeled-fact to regroup) (ambient-roots a fs))
 
   -- the run
   module _ (decls : List Summary) (roots : List Root) (a : Ask) where
-    moved-run : run a (map (moved to) decls) (map (moved-root to) roots) ≡ run a decls roots
+    moved-run : run a (map (relabeled to regroup) decls) (map (moved-root to) roots) ≡ run a decls roots
     unfolding run
     moved-run =
         rw (
-          moved-facts decls,
+          relabeled-facts decls,
           moved-macros decls,
           moved-filed (facts decls),
           moved-first a (facts decls) roots,
@@ -145,42 +166,42 @@ module _ (to : ℕ → ℕ) where
         ap (collect (λ (r : Root). r .free-names)) (keep-map (moved-root to) (λ (r : Root). eqb (r .query) q) roots)
         ∙ free-in-roots (keep (λ (r : Root). eqb (r .query) q) roots)
 
-    moved-stretch : (a : Ask) (r : Run) (q : ℕ) → stretch a (map (moved to) decls) (map (moved-root to) roots) r q ≡ stretch a decls roots r q
+    moved-stretch : (a : Ask) (r : Run) (q : ℕ) → stretch a (map (relabeled to regroup) decls) (map (moved-root to) roots) r q ≡ stretch a decls roots r q
     unfolding stretch
     moved-stretch a r q =
         rw (
-          moved-facts decls,
+          relabeled-facts decls,
           moved-macros decls,
           moved-filed (facts decls),
           moved-also q,
           moved-rounds (facts decls) a (macros decls) (most-rounds (facts decls)) (stretch-start r) (also-scanned q roots),
         )
 
-    moved-chain : (a : Ask) (qs : List ℕ) → chain a (map (moved to) decls) (map (moved-root to) roots) qs ≡ chain a decls roots qs
+    moved-chain : (a : Ask) (qs : List ℕ) → chain a (map (relabeled to regroup) decls) (map (moved-root to) roots) qs ≡ chain a decls roots qs
     unfolding chain
     moved-chain a [] = refl
     moved-chain a (q ∷ []) = moved-run decls roots (with-queries a (q ∷ []))
     moved-chain a (q ∷ p ∷ qs) = rw (moved-chain a (p ∷ qs)) (moved-stretch a (chain a decls roots (p ∷ qs)) q)
 
   -- the kept facts
-  moved-kept-facts : (a : Ask) (fs : List Fact) (reached : List Name) → kept-facts a (map (moved-fact to) fs) reached ≡ map (moved-fact to) (kept-facts a fs reached)
-  unfolding kept-facts reached-facts ambients moved-fact
+  moved-kept-facts : (a : Ask) (fs : List Fact) (reached : List Name) → kept-facts a (map (relabeled-fact to regroup) fs) reached ≡ map (relabeled-fact to regroup) (kept-facts a fs reached)
+  unfolding kept-facts reached-facts ambients relabeled-fact
   moved-kept-facts a fs reached =
       ap₂ _++_
-      (collect-cong (λ n. keep (λ f. same (f .name) n) (map (moved-fact to) fs)) (λ n. map (moved-fact to) (keep (λ f. same (f .name) n) fs)) reached
-      (λ n i. keep-map (moved-fact to) (λ (f : Fact). same (f .name) n) fs)
-      ∙ sym (map-collect (moved-fact to) (λ n. keep (λ f. same (f .name) n) fs) reached))
-      (ap (λ l. cond (no-ambients a) [] (reverse l)) (keep-map (moved-fact to) (λ (f : Fact). is-ambient (f .kind)) fs)
-      ∙ ap (λ l. cond (no-ambients a) [] l) (sym (map-reverse (moved-fact to) (keep (λ f. is-ambient (f .kind)) fs)))
-      ∙ sym (cond-ap (map (moved-fact to)) (no-ambients a) [] (reverse (keep (λ f. is-ambient (f .kind)) fs))))
-      ∙ sym (map-append (moved-fact to) (collect (λ n. keep (λ f. same (f .name) n) fs) reached) (cond (no-ambients a) [] (reverse (keep (λ f. is-ambient (f .kind)) fs))))
+      (collect-cong (λ n. keep (λ f. same (f .name) n) (map (relabeled-fact to regroup) fs)) (λ n. map (relabeled-fact to regroup) (keep (λ f. same (f .name) n) fs)) reached
+      (λ n i. keep-map (relabeled-fact to regroup) (λ (f : Fact). same (f .name) n) fs)
+      ∙ sym (map-collect (relabeled-fact to regroup) (λ n. keep (λ f. same (f .name) n) fs) reached))
+      (ap (λ l. cond (no-ambients a) [] (reverse l)) (keep-map (relabeled-fact to regroup) (λ (f : Fact). is-ambient (f .kind)) fs)
+      ∙ ap (λ l. cond (no-ambients a) [] l) (sym (map-reverse (relabeled-fact to regroup) (keep (λ f. is-ambient (f .kind)) fs)))
+      ∙ sym (cond-ap (map (relabeled-fact to regroup)) (no-ambients a) [] (reverse (keep (λ f. is-ambient (f .kind)) fs))))
+      ∙ sym (map-append (relabeled-fact to regroup) (collect (λ n. keep (λ f. same (f .name) n) fs) reached) (cond (no-ambients a) [] (reverse (keep (λ f. is-ambient (f .kind)) fs))))
 
   -- the names free in what is kept
   moved-kept-names : (a : Ask) (fs : List Fact) (roots : List Root) (reached : List Name)
-      → kept-names a (map (moved-fact to) fs) (map (moved-root to) roots) reached ≡ kept-names a fs roots reached
-  unfolding kept-names moved-fact
+      → kept-names a (map (relabeled-fact to regroup) fs) (map (moved-root to) roots) reached ≡ kept-names a fs roots reached
+  unfolding kept-names relabeled-fact
   moved-kept-names a fs roots reached =
-      ap₂ _++_ (ap (collect (λ (f : Fact). f .free-names)) (moved-kept-facts a fs reached) ∙ collect-map (λ (f : Fact). f .free-names) (moved-fact to) (kept-facts a fs reached))
+      ap₂ _++_ (ap (collect (λ (f : Fact). f .free-names)) (moved-kept-facts a fs reached) ∙ collect-map (λ (f : Fact). f .free-names) (relabeled-fact to regroup) (kept-facts a fs reached))
       (ap (collect (λ (r : Root). r .free-names)) (moved-goal a roots) ∙ free-in-roots (goal-roots a roots))
 
   -- the definitions, or declarations, of names
@@ -217,9 +238,9 @@ module _ (to : ℕ → ℕ) where
   moved-group names added ds = ap₂ _++_ (moved-kept-decls names ds) (moved-of-names added ds) ∙ sym (map-append (moved-decl to) (kept-decls names ds) (of-names added ds))
 
   -- the lines of moved records are the lines moved
-  fact-lines : (fs : List Fact) → map (λ (f : Fact). f .line) (map (moved-fact to) fs) ≡ map to (map (λ (f : Fact). f .line) fs)
-  unfolding moved-fact
-  fact-lines fs = map-map (λ (f : Fact). f .line) (moved-fact to) fs ∙ sym (map-map to (λ (f : Fact). f .line) fs)
+  fact-lines : (fs : List Fact) → map (λ (f : Fact). f .line) (map (relabeled-fact to regroup) fs) ≡ map to (map (λ (f : Fact). f .line) fs)
+  unfolding relabeled-fact
+  fact-lines fs = map-map (λ (f : Fact). f .line) (relabeled-fact to regroup) fs ∙ sym (map-map to (λ (f : Fact). f .line) fs)
 
   decl-lines : (ds : List Decl) → map (λ (d : Decl). d .line) (map (moved-decl to) ds) ≡ map to (map (λ (d : Decl). d .line) ds)
   unfolding moved-decl
@@ -227,7 +248,7 @@ module _ (to : ℕ → ℕ) where
 
   -- the lines of facts, and of definitions and declarations where these are kept
   moved-lines : (b : Bool) (fs : List Fact) (cs es : List Decl)
-      → map (λ f. f .line) (map (moved-fact to) fs) ++ cond b (map (λ d. d .line) (map (moved-decl to) cs ++ map (moved-decl to) es)) []
+      → map (λ f. f .line) (map (relabeled-fact to regroup) fs) ++ cond b (map (λ d. d .line) (map (moved-decl to) cs ++ map (moved-decl to) es)) []
       ≡ map to (map (λ f. f .line) fs ++ cond b (map (λ d. d .line) (cs ++ es)) [])
   moved-lines b fs cs es =
       rw (fact-lines fs, ← (map-append (moved-decl to) cs es), decl-lines (cs ++ es))
@@ -236,15 +257,15 @@ module _ (to : ℕ → ℕ) where
 
   -- the kept lines, without what is added
   moved-kept : (a : Ask) (decls : List Summary) (roots : List Root) (reached : List Name)
-      → kept a (map (moved to) decls) (map (moved-root to) roots) reached ≡ map to (kept a decls roots reached)
+      → kept a (map (relabeled to regroup) decls) (map (moved-root to) roots) reached ≡ map to (kept a decls roots reached)
   unfolding kept
   moved-kept a decls roots reached =
       let fs = facts decls in
       let names = kept-names a fs roots reached in
       rw (
-        moved-facts decls,
-        moved-definitions decls,
-        moved-declarations decls,
+        relabeled-facts decls,
+        relabeled-definitions decls,
+        relabeled-declarations decls,
         moved-kept-names a fs roots reached,
         moved-kept-facts a fs reached,
         moved-kept-decls names (definitions decls),
@@ -254,7 +275,7 @@ module _ (to : ℕ → ℕ) where
 
   -- and with it
   moved-list : (a : Ask) (decls : List Summary) (roots : List Root) (reached : List Name)
-      → kept-followed a (map (moved to) decls) (map (moved-root to) roots) reached ≡ map to (kept-followed a decls roots reached)
+      → kept-followed a (map (relabeled to regroup) decls) (map (moved-root to) roots) reached ≡ map to (kept-followed a decls roots reached)
   unfolding kept-followed
   moved-list a decls roots reached =
       let fs = facts decls in
@@ -263,9 +284,9 @@ module _ (to : ℕ → ℕ) where
       let names = kept-names a fs roots reached in
       let added = added-for a D names in
       rw (
-        moved-facts decls,
-        moved-definitions decls,
-        moved-declarations decls,
+        relabeled-facts decls,
+        relabeled-definitions decls,
+        relabeled-declarations decls,
         moved-kept-names a fs roots reached,
         moved-added a D names,
         moved-kept-facts a fs reached,
@@ -274,19 +295,83 @@ module _ (to : ℕ → ℕ) where
       )
       (moved-lines (prune-decls a) (kept-facts a fs reached) (kept-decls names D ++ of-names added D) (kept-decls names E ++ of-names added E))
 
+-- what an ask comes to over these records, none of which it leaves out
+pub over : List Summary → List Root → Ask → Position
+over decls roots a =
+    record {
+      kept = kept-followed a decls roots (run a decls roots .reached);
+      visits = stretch-visits (chain a decls roots (drop 1 (a .queries)) .met) (chain a decls roots (a .queries) .met) (facts decls);
+      rounds = chain a decls roots (a .queries) .rounds;
+    }
+
+-- it is the answer over the background
+pub position-over : (decls : List Summary) (roots : List Root) (a : Ask) → position decls roots a ≡ over (background a decls) roots a
+unfolding position over
+position-over decls roots a = refl
+
+-- over records on other lines and of other groups
+pub relabeled-over : (to regroup : ℕ → ℕ) (decls : List Summary) (roots : List Root) (a : Ask)
+    → over (map (relabeled to regroup) decls) (map (moved-root to) roots) a ≡ moved-position to (over decls roots a)
+unfolding over moved-position stretch-visits
+relabeled-over to regroup decls roots a =
+    rw (
+      moved-run to regroup decls roots a,
+      moved-chain to regroup decls roots a (a .queries),
+      moved-chain to regroup decls roots a (drop 1 (a .queries)),
+      moved-list to regroup a decls roots (run a decls roots .reached),
+      relabeled-facts to regroup decls,
+      moved-filed to regroup (facts decls),
+    )
+
+-- ---- records on other lines, of their groups
+
+moved-as : (to : ℕ → ℕ) (decls : List Summary) → map (moved to) decls ≡ map (relabeled to (λ g. g)) decls
+moved-as to decls = map-cong (moved to) (relabeled to (λ g. g)) decls (λ x i. each x)
+  where
+    each : (x : Summary) → moved to x ≡ relabeled to (λ g. g) x
+    each (Sum-assume f) = unfold moved moved-fact relabeled relabeled-fact in refl
+    each (Sum-definefun d) = unfold moved relabeled in refl
+    each (Sum-declfun d) = unfold moved relabeled in refl
+    each Sum-retain = unfold moved relabeled in refl
+
+-- the records of each sort
+pub moved-facts : (to : ℕ → ℕ) (decls : List Summary) → facts (map (moved to) decls) ≡ map (moved-fact to) (facts decls)
+unfolding moved-fact relabeled-fact
+moved-facts to decls = ap facts (moved-as to decls) ∙ relabeled-facts to (λ g. g) decls
+
+pub moved-definitions : (to : ℕ → ℕ) (decls : List Summary) → definitions (map (moved to) decls) ≡ map (moved-decl to) (definitions decls)
+moved-definitions to decls = ap definitions (moved-as to decls) ∙ relabeled-definitions to (λ g. g) decls
+
+pub moved-declarations : (to : ℕ → ℕ) (decls : List Summary) → declarations (map (moved to) decls) ≡ map (moved-decl to) (declarations decls)
+moved-declarations to decls = ap declarations (moved-as to decls) ∙ relabeled-declarations to (λ g. g) decls
+
+-- the background of records that stand on other lines
+pub moved-background : (to : ℕ → ℕ) (a : Ask) (decls : List Summary) → background a (map (moved to) decls) ≡ map (moved to) (background a decls)
+unfolding background keep is-admitted moved moved-fact
+moved-background to a [] = refl
+moved-background to a (Sum-assume f ∷ decls) = go (admits a (f .group)) (moved-background to a decls)
+  where
+    go : (b : Bool) → keep (is-admitted a) (map (moved to) decls) ≡ map (moved to) (keep (is-admitted a) decls)
+        → cond b (moved to (Sum-assume f) ∷ keep (is-admitted a) (map (moved to) decls)) (keep (is-admitted a) (map (moved to) decls))
+        ≡ map (moved to) (cond b (Sum-assume f ∷ keep (is-admitted a) decls) (keep (is-admitted a) decls))
+    go true e = ap (moved to (Sum-assume f) ∷_) e
+    go false e = e
+moved-background to a (Sum-definefun d ∷ decls) = ap (moved to (Sum-definefun d) ∷_) (moved-background to a decls)
+moved-background to a (Sum-declfun d ∷ decls) = ap (moved to (Sum-declfun d) ∷_) (moved-background to a decls)
+moved-background to a (Sum-retain ∷ decls) = ap (Sum-retain ∷_) (moved-background to a decls)
+
 -- what an ask comes to
 pub lines-apart : Lines-apart
-unfolding position moved-position stretch-visits
 lines-apart to decls roots a =
-    rw (
-      moved-run to decls roots a,
-      moved-chain to decls roots a (a .queries),
-      moved-chain to decls roots a (drop 1 (a .queries)),
-      moved-list to a decls roots (run a decls roots .reached),
-      moved-facts to decls,
-      moved-filed to (facts decls),
-    )
+    position-over (map (moved to) decls) (map (moved-root to) roots) a
+    ∙ ap (λ ds. over ds (map (moved-root to) roots) a) (moved-background to a decls ∙ moved-as to (background a decls))
+    ∙ relabeled-over to (λ g. g) (background a decls) roots a
+    ∙ ap (moved-position to) (sym (position-over decls roots a))
 
 -- its list without what is added
 pub kept-apart : Kept-apart
-kept-apart to decls roots a = rw (moved-run to decls roots a) (moved-kept to a decls roots (run a decls roots .reached))
+kept-apart to decls roots a =
+    let rs = map (moved-root to) roots in
+    ap (λ ds. kept a ds rs (run a ds rs .reached)) (moved-as to decls)
+    ∙ ap (kept a (map (relabeled to (λ g. g)) decls) rs) (ap (λ (r : Run). r .reached) (moved-run to (λ g. g) decls roots a))
+    ∙ moved-kept to (λ g. g) a decls roots (run a decls roots .reached)

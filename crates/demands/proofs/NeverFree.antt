@@ -5,12 +5,12 @@ use mathlib.Core.Logic.{_≢_, ⊎-elim}
 use mathlib.Core.List.{List, [], _∷_, _++_, map, List·Memᴰ, List·Memᴰ·head, List·Memᴰ·tail, List·Memᴰ·not-nil, List·Memᴰ·eq-of-singleton}
 use mathlib.Core.Option.{none, some, Option·none-ne-some}
 use lib.Dec.{T, T-not}
-use Rattle.model.specs.Lists.{fold-left, is-nil, when, _>>=_}
-use Rattle.model.specs.Names.{Name, bytes, by-byte, order, is-same, same, mem, union, diff, starts-with}
+use Rattle.model.specs.Lists.{is-nil, when, _>>=_}
+use Rattle.model.specs.Names.{Name, bytes, by-byte, order, is-same, same, mem, union, starts-with}
 use Rattle.model.specs.Terms.{Node, FreeV, Leaf, Call, App, Forall, Exists, Let, Labeled, Term, term as term-of}
 use Rattle.model.specs.Summaries.{exclude-names, Kinded, Fact, call-of, op-of, two, op-args, call-args, call-one, call-two, at, free-top-level-names, group-names, triggers-of-term, rule-1, rule-2, rule-3, rule-4, first-rule, maybe-add-ambient, summarize-kind, summarize-assumption}
 use Rattle.model.specs.Reading.{Content, head, term, assume, fun, def, retain, root, Decl, Root, excluded}
-use Rattle.model.specs.Pruning.{Map, try-find, init-macro-freenames}
+use Rattle.model.specs.Pruning.{try-find, init-macro-freenames}
 use Rattle.model.specs.Rounds.{definitions, macros}
 use Rattle.model.specs.declared.Op.the-variants.{Iff}
 use Rattle.model.proofs.ListLaws.{T-false, collect-elim, fold-left-case}
@@ -51,7 +51,7 @@ module _ (name : Name) (out : List Name) (excludes : T (mem name out)) (terms : 
   unfolding summarize-assumption
   fact-apart n (head h) f i = absurd (List·Memᴰ·not-nil i)
   fact-apart n (term node) f i = absurd (List·Memᴰ·not-nil i)
-  fact-apart n (assume own flag t) f i =
+  fact-apart n (assume own flag group t) f i =
       rw (List·Memᴰ·eq-of-singleton i)
       (λ j. not-free t (mem-intro j), lawful-kind (λ trimmed d. List·Memᴰ name d → d ≡ name ∷ []) out terms alone own t .disjuncts)
   fact-apart n (fun own) f i = absurd (List·Memᴰ·not-nil i)
@@ -63,7 +63,7 @@ module _ (name : Name) (out : List Name) (excludes : T (mem name out)) (terms : 
   definition-apart : (n : ℕ) (c : Content) (d : Decl) → List·Memᴰ d (definition-said out terms n c) → List·Memᴰ name (d .free-names) → ⊥
   definition-apart n (head h) d i = absurd (List·Memᴰ·not-nil i)
   definition-apart n (term node) d i = absurd (List·Memᴰ·not-nil i)
-  definition-apart n (assume own flag t) d i = absurd (List·Memᴰ·not-nil i)
+  definition-apart n (assume own flag group t) d i = absurd (List·Memᴰ·not-nil i)
   definition-apart n (fun own) d i = absurd (List·Memᴰ·not-nil i)
   definition-apart n (def own t) d i = rw (List·Memᴰ·eq-of-singleton i) (λ j. not-free t (mem-intro j))
   definition-apart n (retain names) d i = absurd (List·Memᴰ·not-nil i)
@@ -73,7 +73,7 @@ module _ (name : Name) (out : List Name) (excludes : T (mem name out)) (terms : 
   root-apart : (n : ℕ) (c : Content) (r : Root) → List·Memᴰ r (root-said out terms n c) → List·Memᴰ name (r .free-names) → ⊥
   root-apart n (head h) r i = absurd (List·Memᴰ·not-nil i)
   root-apart n (term node) r i = absurd (List·Memᴰ·not-nil i)
-  root-apart n (assume own flag t) r i = absurd (List·Memᴰ·not-nil i)
+  root-apart n (assume own flag group t) r i = absurd (List·Memᴰ·not-nil i)
   root-apart n (fun own) r i = absurd (List·Memᴰ·not-nil i)
   root-apart n (def own t) r i = absurd (List·Memᴰ·not-nil i)
   root-apart n (retain names) r i = absurd (List·Memᴰ·not-nil i)
@@ -124,7 +124,7 @@ valid-taken out terms name t e = let (a, valid, o) = bind-some (call-one "Valid"
 -- a fact that rule 4 takes files its token, whatever is excluded
 pub tokens-filed : Tokens-filed
 unfolding summarize-assumption summarize-kind triggers-of-term is-nil maybe-add-ambient first-rule rule-1 rule-2 rule-3 when
-tokens-filed out terms line name pretyping t k unwritten other e = (is, ap (λ (x : Kinded). x .triggers) is)
+tokens-filed out terms line name pretyping group t k unwritten other e = (is, ap (λ (x : Kinded). x .triggers) is)
   where
     is : summarize-kind out terms name t ≡ k
     is =

@@ -22,7 +22,7 @@ use Rattle.demands.specs.Order.{first-place, Falling, none, one, more, L
 use Rattle.demands.proofs.Distinct.{distinct-map-keep}
 use Rattle.demands.proofs.ListedLaws.{kept-facts-elim, kept-decls-elim}
 use Rattle.demands.proofs.Queries.{asked-query}
-use Rattle.demands.proofs.WellFormed.{accepted-well-formed}
+use Rattle.demands.proofs.Background.{well-for}
 use Rattle.demands.proofs.RecordLines.{rising-head, rising-tail, roots-rise}
 use Rattle.demands.proofs.Pruned.{distinct-definitions, distinct-declarations}
 
@@ -233,7 +233,7 @@ lines-apart false defs funs = refl
 pub decls-in-order : Decls-in-order
 unfolding kept kept-names goal-roots taken-by
 decls-in-order file s e a =
-    let wf = accepted-well-formed file s e in
+    let wf = well-for file s e a in
     let names = kept-names a (facts (records-for a s)) (s .roots) (run-of a s .reached) in
     let asked : Root → Bool = λ r. asks-for a (r .query) in
     let line : Root → ℕ = λ r. r .line in

@@ -11,7 +11,7 @@ use Rattle.model.specs.Names.{Name}
 use Rattle.model.specs.Lines.{lines, Field, fields, is-name}
 use Rattle.model.specs.Terms.{Term}
 use Rattle.model.specs.Summaries.{exclude-names, Fact, summarize-assumption}
-use Rattle.model.specs.Reading.{ok, refused, name-field, number-field, term-field, op-words, word, need, next, rest, groups, Content, head, term, assume, fun, def, retain, root, quantifier, content, Decl, excluded}
+use Rattle.model.specs.Reading.{ok, refused, name-field, number-field, term-field, op-words, word, need, next, rest, groups, Content, head, term, assume, fun, def, retain, root, quantifier, group-field, content, Decl, excluded}
 use Rattle.model.specs.Text.{first-bytes, second, name-on}
 use Rattle.model.specs.declared.LineKind.{LineKind}
 use Rattle.model.specs.declared.LineKind.the-variants as kind
@@ -25,7 +25,7 @@ use Rattle.demands.proofs.FileOrder.{file-order}
 
 -- the name of the assume, fun or def that a line is
 abbrev named : Content → List Name
-named = of-record (λ name flag t. name ∷ []) (λ name. name ∷ []) (λ name t. name ∷ []) (λ q name t. [])
+named = of-record (λ name flag group t. name ∷ []) (λ name. name ∷ []) (λ name t. name ∷ []) (λ q name t. [])
 
 -- such a name is the first of these fields
 abbrev Named-first : List Field → Content → Type 0
@@ -59,36 +59,41 @@ no-name-quantified make count fs =
     gives-bind (any-value (groups count (g .0) (g .1))) (λ gs w. gives-end _ no-name (gs .1))))
 
 -- the fields after a line's kind begin with its name
-name-first : (k : LineKind) (count : ℕ) (fs : List Field) → Gives (Named-first fs) (content k count fs)
+name-first : (k : LineKind) (grouped : Bool) (count : ℕ) (fs : List Field) → Gives (Named-first fs) (content k grouped count fs)
 unfolding content
-name-first kind.Ask count fs =
+name-first kind.Ask grouped count fs =
     gives-bind (any-value (next (number-field 255) fs)) (λ q u.
     gives-bind (any-value (next (number-field 15) (q .1))) (λ o v. gives-end _ no-name (o .1)))
-name-first kind.Also count fs = gives-bind (any-value (next (number-field 255) fs)) (λ q u. gives-end _ no-name (q .1))
-name-first kind.Hide count fs = gives-bind (any-value (next name-field fs)) (λ n u. gives-end _ no-name (n .1))
-name-first kind.Free count fs = gives-bind (any-value (next name-field fs)) (λ n u. gives-end _ no-name (n .1))
-name-first kind.Leaf count fs = gives-end _ no-name fs
-name-first kind.Call count fs =
+name-first kind.Ask2 grouped count fs =
+    gives-bind (any-value (next (number-field 255) fs)) (λ q u.
+    gives-bind (any-value (next (number-field 15) (q .1))) (λ o v.
+    gives-bind (any-value (next (number-field 65535) (o .1))) (λ a w. gives-end _ no-name (a .1))))
+name-first kind.Also grouped count fs = gives-bind (any-value (next (number-field 255) fs)) (λ q u. gives-end _ no-name (q .1))
+name-first kind.Hide grouped count fs = gives-bind (any-value (next name-field fs)) (λ n u. gives-end _ no-name (n .1))
+name-first kind.Free grouped count fs = gives-bind (any-value (next name-field fs)) (λ n u. gives-end _ no-name (n .1))
+name-first kind.Leaf grouped count fs = gives-end _ no-name fs
+name-first kind.Call grouped count fs =
     gives-bind (any-value (next name-field fs)) (λ n u. gives-bind (any-value (rest (term-field count) (n .1))) (λ ts v. value no-name))
-name-first kind.Op count fs =
+name-first kind.Op grouped count fs =
     gives-bind (any-value (next (λ f. need refusal.Form (word op-words f)) fs)) (λ w u.
     gives-bind (any-value (rest (term-field count) (w .1))) (λ ts v. value no-name))
-name-first kind.All count fs = no-name-quantified _ count fs
-name-first kind.Some count fs = no-name-quantified _ count fs
-name-first kind.Let count fs =
+name-first kind.All grouped count fs = no-name-quantified _ count fs
+name-first kind.Some grouped count fs = no-name-quantified _ count fs
+name-first kind.Let grouped count fs =
     gives-bind (any-value (next (term-field count) fs)) (λ body u.
     gives-bind (any-value (rest (term-field count) (body .1))) (λ ts v. value no-name))
-name-first kind.Label count fs = gives-bind (any-value (next (term-field count) fs)) (λ t u. gives-end _ no-name (t .1))
-name-first kind.Assume count fs =
+name-first kind.Label grouped count fs = gives-bind (any-value (next (term-field count) fs)) (λ t u. gives-end _ no-name (t .1))
+name-first kind.Assume grouped count fs =
     gives-bind (first-name fs) (λ n h.
     gives-bind (any-value (next (number-field 1) (n .1))) (λ flag u.
-    gives-bind (any-value (next (term-field count) (flag .1))) (λ t v. gives-end _ (λ name i. h ∙ sym (List·Memᴰ·eq-of-singleton i)) (t .1))))
-name-first kind.Fun count fs = gives-bind (first-name fs) (λ n h. gives-end _ (λ name i. h ∙ sym (List·Memᴰ·eq-of-singleton i)) (n .1))
-name-first kind.Def count fs =
+    gives-bind (any-value (group-field grouped (flag .1))) (λ g v.
+    gives-bind (any-value (next (term-field count) (g .1))) (λ t w. gives-end _ (λ name i. h ∙ sym (List·Memᴰ·eq-of-singleton i)) (t .1)))))
+name-first kind.Fun grouped count fs = gives-bind (first-name fs) (λ n h. gives-end _ (λ name i. h ∙ sym (List·Memᴰ·eq-of-singleton i)) (n .1))
+name-first kind.Def grouped count fs =
     gives-bind (first-name fs) (λ n h.
     gives-bind (any-value (next (term-field count) (n .1))) (λ t u. gives-end _ (λ name i. h ∙ sym (List·Memᴰ·eq-of-singleton i)) (t .1)))
-name-first kind.Retain count fs = gives-bind (any-value (rest name-field fs)) (λ ns u. value no-name)
-name-first kind.Root count fs =
+name-first kind.Retain grouped count fs = gives-bind (any-value (rest name-field fs)) (λ ns u. value no-name)
+name-first kind.Root grouped count fs =
     gives-bind (any-value (next (number-field 255) fs)) (λ q u.
     gives-bind (any-value (next name-field (q .1))) (λ n v.
     gives-bind (any-value (next (term-field count) (n .1))) (λ t w. gives-end _ no-name (t .1))))
@@ -109,7 +114,7 @@ said-name {file} l name i =
     let here : drop (length (r .before)) (lines file) ≡ r .line ∷ r .after =
     ap (drop (length (r .before))) (r .is-line) ∙ drop-at (r .before) (r .line ∷ r .after) (length (r .before)) refl in
     rw (place, here, p .split, second-first (p .kind-word) (p .others))
-    (given (name-first (p .kind) (length (r .state .terms)) (p .others)) (p .says) name i)
+    (given (name-first (p .kind) (r .state .grouped) (length (r .state .terms)) (p .others)) (p .says) name i)
 
 -- an assume, fun or def line of a file that gives a record: its name is the one on its line
 module _ {X : Type 0} (line-of : X → ℕ) (name-of : X → Name) (said : List Name → List Term → ℕ → Content → List X)
@@ -128,7 +133,7 @@ fact-named : (exclude : List Name) (terms : List Term) (n : ℕ) (c : Content) (
 unfolding summarize-assumption
 fact-named exclude terms n (head h) f i = absurd (List·Memᴰ·not-nil i)
 fact-named exclude terms n (term node) f i = absurd (List·Memᴰ·not-nil i)
-fact-named exclude terms n (assume name flag t) f i =
+fact-named exclude terms n (assume name flag group t) f i =
     (ap (λ x. x .line) (List·Memᴰ·eq-of-singleton i), List·Memᴰ·head (ap (λ x. x .name) (List·Memᴰ·eq-of-singleton i)))
 fact-named exclude terms n (fun name) f i = absurd (List·Memᴰ·not-nil i)
 fact-named exclude terms n (def name t) f i = absurd (List·Memᴰ·not-nil i)
@@ -140,7 +145,7 @@ definition-named : (exclude : List Name) (terms : List Term) (n : ℕ) (c : Cont
     → (d .line ≡ n) × List·Memᴰ (d .name) (named c)
 definition-named exclude terms n (head h) d i = absurd (List·Memᴰ·not-nil i)
 definition-named exclude terms n (term node) d i = absurd (List·Memᴰ·not-nil i)
-definition-named exclude terms n (assume name flag t) d i = absurd (List·Memᴰ·not-nil i)
+definition-named exclude terms n (assume name flag group t) d i = absurd (List·Memᴰ·not-nil i)
 definition-named exclude terms n (fun name) d i = absurd (List·Memᴰ·not-nil i)
 definition-named exclude terms n (def name t) d i =
     (ap (λ x. x .line) (List·Memᴰ·eq-of-singleton i), List·Memᴰ·head (ap (λ x. x .name) (List·Memᴰ·eq-of-singleton i)))
@@ -152,7 +157,7 @@ declaration-named : (exclude : List Name) (terms : List Term) (n : ℕ) (c : Con
     → (d .line ≡ n) × List·Memᴰ (d .name) (named c)
 declaration-named exclude terms n (head h) d i = absurd (List·Memᴰ·not-nil i)
 declaration-named exclude terms n (term node) d i = absurd (List·Memᴰ·not-nil i)
-declaration-named exclude terms n (assume name flag t) d i = absurd (List·Memᴰ·not-nil i)
+declaration-named exclude terms n (assume name flag group t) d i = absurd (List·Memᴰ·not-nil i)
 declaration-named exclude terms n (fun name) d i =
     (ap (λ x. x .line) (List·Memᴰ·eq-of-singleton i), List·Memᴰ·head (ap (λ x. x .name) (List·Memᴰ·eq-of-singleton i)))
 declaration-named exclude terms n (def name t) d i = absurd (List·Memᴰ·not-nil i)

@@ -13,7 +13,7 @@ use Rattle.model.specs.Names.{Name, bytes, by-byte, order, is-same, same}
 use Rattle.model.specs.Lines.{Line, Field, fields, number}
 use Rattle.model.specs.Summaries.{exclude-names, free-top-level-names}
 use Rattle.model.specs.Reading.{ok, next, name-field, number-field, term-field, kinds, word, most-query, content, parse, Content, root, Ask, Summary, Root, State, start, heads, nodes, summarize-decl, root-of, excluded, add-line, read, read-line, read-lines}
-use Rattle.model.specs.Rounds.{asks-for, goal-roots, first-scanned, run}
+use Rattle.model.specs.Rounds.{asks-for, goal-roots, first-scanned, run, background}
 use Rattle.model.specs.Kept.{kept-names}
 use Rattle.model.specs.Bodies.{kept-followed}
 use Rattle.model.specs.Also.{with-queries, also-scanned, stretch, chain}
@@ -38,6 +38,7 @@ asked-query a q = (
 -- states that differ only in what is not read for an ask
 record Agree (a : Ask) (s s′ : State) : Type 0 where
   asks : s .asks ≡ s′ .asks
+  forms : s .grouped ≡ s′ .grouped
   hides : s .hidden ≡ s′ .hidden
   tables : s .terms ≡ s′ .terms
   records : s .decls ≡ s′ .decls
@@ -54,6 +55,7 @@ unfolding add-line excluded
 agree-line exclude a n s s′ c h =
     record {
       asks = rw (h .asks);
+      forms = rw (h .forms);
       hides = rw (h .hides);
       tables = rw (h .tables);
       records = rw (h .tables, h .hides, h .records);
@@ -68,11 +70,12 @@ other-root a r other = cond-false (asks-for a (r .query)) (r ∷ []) [] (not-T (
 -- a root line of another query leaves what is read of the state
 agree-root : (exclude : List Name) (a : Ask) (n : ℕ) (s s′ : State) (p : ℕ) (name : Name) (t : ℕ) → (List·Memᴰ p (a .queries) → ⊥) → Agree a s s′
     → Agree a (add-line exclude n s (root p name t)) s′
-unfolding add-line heads nodes collect fold-left summarize-decl root-of
+unfolding add-line heads nodes any collect fold-left summarize-decl root-of
 agree-root exclude a n s s′ p name t other h =
     let r : Root = record { line = n; query = p; name = name; free-names = free-top-level-names (excluded exclude s) (s .terms) t } in
     record {
       asks = rw append-nil (h .asks);
+      forms = rw or-false (h .forms);
       hides = rw append-nil (h .hides);
       tables = h .tables;
       records = rw append-nil (h .records);
@@ -85,10 +88,10 @@ unfolding word kinds same order by-byte is-same bytes
 root-kind = refl
 
 -- the fields of a root line say a root of the query in its first field
-root-fields : (count : ℕ) (f : Field) (rest : List Field) (p : ℕ) (c : Content) → number f ≡ some p
-    → content kind.Root count (f ∷ rest) ≡ ok c → (name : Name) × (t : ℕ) × (c ≡ root p name t)
+root-fields : (grouped : Bool) (count : ℕ) (f : Field) (rest : List Field) (p : ℕ) (c : Content) → number f ≡ some p
+    → content kind.Root grouped count (f ∷ rest) ≡ ok c → (name : Name) × (t : ℕ) × (c ≡ root p name t)
 unfolding content
-root-fields count f rest p c e g =
+root-fields grouped count f rest p c e g =
     let ((q, fs₁), g₁, h₁) = bind-ok (next (number-field most-query) (f ∷ rest)) g in
     let ((name, fs₂), g₂, h₂) = bind-ok (next name-field fs₁) h₁ in
     let ((t, fs₃), g₃, h₃) = bind-ok (next (term-field count) fs₂) h₂ in
@@ -110,7 +113,7 @@ root-content s f rest p c e r =
     let word-is : r .kind-word ≡ bytes "root" = cc in
     let others-are : r .others ≡ f ∷ rest = cc in
     let is-kind : r .kind ≡ kind.Root = cc in
-    root-fields (length (s .terms)) f rest p c e (rw (is-kind, others-are) at says)
+    root-fields (s .grouped) (length (s .terms)) f rest p c e (rw (is-kind, others-are) at says)
 
 -- an accepted root line of another query leaves what is read of the state
 agree-other : (exclude : List Name) (a : Ask) (n : ℕ) (line : Line) (s t s′ : State) → Other-root a line → read-line exclude n s line ≡ ok t → Agree a s s′ → Agree a t s′
@@ -119,31 +122,33 @@ agree-other exclude a n line s t s′ o e h =
     let (name, number, says) = root-content s (o .query-field) (o .rest) (o .query) (l .content) (o .is-query) (parse-ok s _ (rw (o .is-root) at (l .parsed))) in
     rw (l .after, says) (agree-root exclude a n s s′ (o .query) name number (o .other) h)
 
--- a line that two states with as many terms accept says the same after both
-parse-alike : (s s′ : State) (fs : List Field) {c c′ : Content} → length (s .terms) ≡ length (s′ .terms) → parse s fs ≡ ok c → parse s′ fs ≡ ok c′ → c ≡ c′
-parse-alike s s′ fs {c} {c′} count e e′ =
+-- a line that two states of one form with as many terms accept says the same after both
+parse-alike : (s s′ : State) (fs : List Field) {c c′ : Content} → s .grouped ≡ s′ .grouped → length (s .terms) ≡ length (s′ .terms)
+    → parse s fs ≡ ok c → parse s′ fs ≡ ok c′ → c ≡ c′
+parse-alike s s′ fs {c} {c′} form count e e′ =
     let p = parse-ok s fs e in
     let q = parse-ok s′ fs e′ in
     let both = sym (p .split) ∙ q .split in
     let same-word : p .kind-word ≡ q .kind-word = cc in
     let same-others : p .others ≡ q .others = cc in
     let same-kind : p .kind ≡ q .kind = Option·some-injective (p .kind) (q .kind) (sym (p .known) ∙ ap (word kinds) same-word ∙ q .known) in
-    content-alike same-kind count same-others (p .says) (q .says)
+    content-alike same-kind form count same-others (p .says) (q .says)
   where
-    content-alike : {k k′ : LineKind} {n n′ : ℕ} {gs gs′ : List Field} → k ≡ k′ → n ≡ n′ → gs ≡ gs′ → content k n gs ≡ ok c → content k′ n′ gs′ ≡ ok c′ → c ≡ c′
-    content-alike a b d f f′ = ok-eq (sym f ∙ rw (a, b, d) f′)
+    content-alike : {k k′ : LineKind} {b b′ : Bool} {n n′ : ℕ} {gs gs′ : List Field} → k ≡ k′ → b ≡ b′ → n ≡ n′ → gs ≡ gs′
+        → content k b n gs ≡ ok c → content k′ b′ n′ gs′ ≡ ok c′ → c ≡ c′
+    content-alike a b d e f f′ = ok-eq (sym f ∙ rw (a, b, d, e) f′)
 
 -- states that agree do so after a line that both accept
 agree-same : (exclude : List Name) (a : Ask) (n : ℕ) (line : Line) (s t s′ t′ : State) → read-line exclude n s line ≡ ok t → read-line exclude n s′ line ≡ ok t′ → Agree a s s′ → Agree a t t′
 agree-same exclude a n line s t s′ t′ e e′ h =
     let l = line-read exclude n s line t e in
     let l′ = line-read exclude n s′ line t′ e′ in
-    let same-content = parse-alike s s′ (fields (line .bytes)) (ap length (h .tables)) (l .parsed) (l′ .parsed) in
+    let same-content = parse-alike s s′ (fields (line .bytes)) (h .forms) (ap length (h .tables)) (l .parsed) (l′ .parsed) in
     rw (l .after, l′ .after, same-content) (agree-line exclude a n s s′ (l′ .content) h)
 
 -- states agree both ways round
 agree-sym : {a : Ask} {s s′ : State} → Agree a s s′ → Agree a s′ s
-agree-sym h = record { asks = sym (h .asks); hides = sym (h .hides); tables = sym (h .tables); records = sym (h .records); queried = sym (h .queried) }
+agree-sym h = record { asks = sym (h .asks); forms = sym (h .forms); hides = sym (h .hides); tables = sym (h .tables); records = sym (h .records); queried = sym (h .queried) }
 
 -- lines that differ only in root lines of other queries, accepted from states that agree, end in states that agree
 agree-lines : (exclude : List Name) {a : Ask} {ls ms : List Line} → Alike a ls ms → (n : ℕ) (s s′ t t′ : State)
@@ -223,18 +228,19 @@ position-roots : (a : Ask) (decls : List Summary) (roots roots′ : List Root) �
     → position decls roots a ≡ position decls roots′ a
 unfolding position asks-for
 position-roots a decls roots roots′ e =
+    let admitted = background a decls in
     rw (
-      run-roots a decls roots roots′ e,
-      kept-roots a decls roots roots′ (run a decls roots′ .reached) e,
-      same-chain a decls roots roots′ e (drop 1 (a .queries)) (earlier-asked a),
-      same-chain a decls roots roots′ e (a .queries) (λ q i. any-intro (eqb q) i (eqb-refl q)),
+      run-roots a admitted roots roots′ e,
+      kept-roots a admitted roots roots′ (run a admitted roots′ .reached) e,
+      same-chain a admitted roots roots′ e (drop 1 (a .queries)) (earlier-asked a),
+      same-chain a admitted roots roots′ e (a .queries) (λ q i. any-intro (eqb q) i (eqb-refl q)),
     )
 
 -- root lines of other queries do not matter
 pub other-queries-do-not-matter : Other-queries-do-not-matter
 other-queries-do-not-matter file file′ s s′ e e′ a alike =
     let agree = agree-lines exclude-names alike 1 start start s s′ (file-read exclude-names file s e) (file-read exclude-names file′ s′ e′)
-    (record { asks = refl; hides = refl; tables = refl; records = refl; queried = refl }) in
+    (record { asks = refl; forms = refl; hides = refl; tables = refl; records = refl; queried = refl }) in
     record { asks = agree .asks; listed = rw (agree .records) (position-roots a (s′ .decls) (s .roots) (s′ .roots) (agree .queried)) }
 
 -- where an element stands, what a function gives of it stands in what it gives of the list

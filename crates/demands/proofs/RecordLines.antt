@@ -24,7 +24,7 @@ line-n : (exclude : List Name) (terms : List Term) (n : ℕ) (c : Content) → (
 unfolding collect line-of summarize-decl summarize-assumption
 line-n exclude terms n (head h) = inl refl
 line-n exclude terms n (term node) = inl refl
-line-n exclude terms n (assume name flag t) = inr refl
+line-n exclude terms n (assume name flag group t) = inr refl
 line-n exclude terms n (fun name) = inr refl
 line-n exclude terms n (def name t) = inr refl
 line-n exclude terms n (retain names) = inl refl
@@ -36,7 +36,7 @@ root-n : (exclude : List Name) (terms : List Term) (n : ℕ) (c : Content)
 unfolding root-of
 root-n exclude terms n (head h) = inl refl
 root-n exclude terms n (term node) = inl refl
-root-n exclude terms n (assume name flag t) = inl refl
+root-n exclude terms n (assume name flag group t) = inl refl
 root-n exclude terms n (fun name) = inl refl
 root-n exclude terms n (def name t) = inl refl
 root-n exclude terms n (retain names) = inl refl

@@ -5,6 +5,7 @@ use native.Mathlib.Nat.{add-zero}
 use native.Mathlib.Omega.{arith}
 use mathlib.Core.Path.{_≡_, refl, sym, _∙_, ap}
 use mathlib.Core.Logic.{_⊎_, inl, inr, ⊎-elim}
+use mathlib.Core.Bool.{Bool}
 use mathlib.Core.List.{List, [], _∷_, _++_, cons-ne-nil, append-ne-nil-of-right-ne-nil}
 use mathlib.Core.Option.{Option, none, some}
 use lib.Dec.{leb, ltb}
@@ -49,7 +50,7 @@ fault-only count an-op-word f = go (word op-words f)
     go (some w) = tt
 
 -- faulty fields are refused by 1 to 4
-pub faulty-refusal : {k : LineKind} {count : ℕ} {before fs : List Field} {r : Refusal} → Faulty k count before fs r → Of-fields r
+pub faulty-refusal : {grouped : Bool} {k : LineKind} {count : ℕ} {before fs : List Field} {r : Refusal} → Faulty grouped k count before fs r → Of-fields r
 faulty-refusal (lacking e) = of-form
 faulty-refusal (left-over e) = of-form
 faulty-refusal {count} (not-so {f} {s} p e) = rw e at (fault-only count s f)

@@ -14,14 +14,16 @@ use Rattle.model.specs.Names.{Name}
 use Rattle.model.specs.Lines.{Line, Field, fields}
 use Rattle.model.specs.Terms.{Term}
 use Rattle.model.specs.Summaries.{free-top-level-names, summarize-assumption}
-use Rattle.model.specs.Reading.{Result, ok, refused, _>>=_, next, kinds, word, Content, head, term, assume, fun, def, retain, root, Ask, Summary, Sum-assume, Sum-definefun, Sum-declfun, Sum-retain, Root, State, Reading, read, refused-at, in-head, place, may-stand, is-position, fixed-count, parse, head-asks, hidden-by, heads, spelled, taken-by, entries-of, uses-of, spell, limits, under-limits, go-on, summarize-decl, trimmed, root-of, excluded, add-line, repeats, read-line, read-lines}
+use Rattle.model.specs.Reading.{Result, ok, refused, _>>=_, next, kinds, word, Content, head, term, assume, fun, def, retain, root, Ask, Summary, Sum-assume, Sum-definefun, Sum-declfun, Sum-retain}
+use Rattle.model.specs.Reading.{Root, State, Reading, read, refused-at, in-head, place, may-stand, is-position, fixed-count, parse, head-asks, hidden-by, heads, spelled, taken-by, entries-of, uses-of}
+use Rattle.model.specs.Reading.{spell, limits, under-limits, go-on, summarize-decl, trimmed, root-of, excluded, add-line, repeats, read-line, read-lines}
 use Rattle.model.specs.declared.LineKind.{LineKind}
 use Rattle.model.specs.declared.LineKind.the-variants as kind
 use Rattle.model.specs.declared.Refusal.{Refusal}
 use Rattle.model.specs.declared.Refusal.the-variants as refusal
 use Rattle.model.proofs.ListLaws.{T-dec, T-false}
 use Rattle.model.proofs.ResultLaws.{result-cases}
-use Rattle.demands.specs.Counts.{ask-words, also-words, hide-words, is-word, begins}
+use Rattle.demands.specs.Counts.{ask-words, grouped-words, also-words, hide-words, is-word, begins}
 use Rattle.demands.specs.Moved.{moved-fact, moved-decl, moved, moved-root}
 use Rattle.laws.proofs.ReadingLaws.{is-past, unended-line, unparsed-line, repeated-line, fresh-line}
 use Rattle.demands.proofs.LineForm.{parse-unknown, after-kind, parse-known}
@@ -35,6 +37,7 @@ abbrev pub relaid : (ℕ → ℕ) → List Ask → List Name → List Name → S
 relaid to asks hidden names s =
     record {
       asks = asks;
+      grouped = s .grouped;
       hidden = hidden;
       terms = s .terms;
       names = names;
@@ -45,25 +48,26 @@ relaid to asks hidden names s =
       uses = s .uses;
     }
 
--- a line has as many fields after any lines
-pub same-count : (s t : State) (k : LineKind) → fixed-count s k ≡ fixed-count t k
+-- a line has as many fields after any lines of one form
+pub same-count : (s t : State) → s .grouped ≡ t .grouped → (k : LineKind) → fixed-count s k ≡ fixed-count t k
 unfolding fixed-count
-same-count s t kind.Ask = refl
-same-count s t kind.Also = refl
-same-count s t kind.Hide = refl
-same-count s t kind.Free = refl
-same-count s t kind.Leaf = refl
-same-count s t kind.Call = refl
-same-count s t kind.Op = refl
-same-count s t kind.All = refl
-same-count s t kind.Some = refl
-same-count s t kind.Let = refl
-same-count s t kind.Label = refl
-same-count s t kind.Assume = refl
-same-count s t kind.Fun = refl
-same-count s t kind.Def = refl
-same-count s t kind.Retain = refl
-same-count s t kind.Root = refl
+same-count s t form kind.Ask = refl
+same-count s t form kind.Ask2 = refl
+same-count s t form kind.Also = refl
+same-count s t form kind.Hide = refl
+same-count s t form kind.Free = refl
+same-count s t form kind.Leaf = refl
+same-count s t form kind.Call = refl
+same-count s t form kind.Op = refl
+same-count s t form kind.All = refl
+same-count s t form kind.Some = refl
+same-count s t form kind.Let = refl
+same-count s t form kind.Label = refl
+same-count s t form kind.Assume = ap (λ b. some (cond b 5 4)) form
+same-count s t form kind.Fun = refl
+same-count s t form kind.Def = refl
+same-count s t form kind.Retain = refl
+same-count s t form kind.Root = refl
 
 module _ (to : ℕ → ℕ) where
   -- what is counted of records on other lines
@@ -103,7 +107,7 @@ module _ (to : ℕ → ℕ) where
     unfolding summarize-decl summarize-assumption moved moved-fact moved-decl
     decls-moved n (head h) = refl
     decls-moved n (term node) = refl
-    decls-moved n (assume name flag t) = rw (same-free t, same-kind terms out out′ same-free name t)
+    decls-moved n (assume name flag group t) = rw (same-free t, same-kind terms out out′ same-free name t)
     decls-moved n (fun name) = refl
     decls-moved n (def name t) = rw (same-free t)
     decls-moved n (retain names) = refl
@@ -113,7 +117,7 @@ module _ (to : ℕ → ℕ) where
     unfolding root-of moved-root
     roots-moved n (head h) = refl
     roots-moved n (term node) = refl
-    roots-moved n (assume name flag t) = refl
+    roots-moved n (assume name flag group t) = refl
     roots-moved n (fun name) = refl
     roots-moved n (def name t) = refl
     roots-moved n (retain names) = refl
@@ -124,7 +128,7 @@ module _ (to : ℕ → ℕ) where
     unfolding trimmed
     same-trimmed (head h) = refl
     same-trimmed (term node) = refl
-    same-trimmed (assume name flag t) = ap (λ k. k .trimmed) (same-kind terms out out′ same-free name t)
+    same-trimmed (assume name flag group t) = ap (λ k. k .trimmed) (same-kind terms out out′ same-free name t)
     same-trimmed (fun name) = refl
     same-trimmed (def name t) = refl
     same-trimmed (retain names) = refl
@@ -163,10 +167,11 @@ module _ (to : ℕ → ℕ) where
 
     module _ (s : State) (asked : T (not (is-nil asks))) (asked′ : T (not (is-nil (s .asks)))) where
       -- a line that is no ask may stand where it did
-      stands-relaid : (is-also is-hide : Bool) → may-stand (relaid to asks hidden names s) (place-by false is-also is-hide) ≡ may-stand s (place-by false is-also is-hide)
+      stands-relaid : (is-also grouped is-hide : Bool)
+          → may-stand (relaid to asks hidden names s) (place-by false is-also grouped is-hide) ≡ may-stand s (place-by false is-also grouped is-hide)
       unfolding may-stand place-by in-head
-      stands-relaid is-also true = rw (nil-map (moved to) (s .decls), nil-map (moved-root to) (s .roots), T-false (is-nil asks) asked, T-false (is-nil (s .asks)) asked′)
-      stands-relaid is-also false = rw (T-false (is-nil asks) asked, T-false (is-nil (s .asks)) asked′)
+      stands-relaid is-also grouped true = rw (nil-map (moved to) (s .decls), nil-map (moved-root to) (s .roots), T-false (is-nil asks) asked, T-false (is-nil (s .asks)) asked′)
+      stands-relaid is-also grouped false = rw (T-false (is-nil asks) asked, T-false (is-nil (s .asks)) asked′)
 
       -- its fields say the same, or are refused by the same
       pub parse-relaid : (fs : List Field) → T (not (is-word ask-words (getD fs 0 []))) → parse (relaid to asks hidden names s) fs ≡ parse s fs
@@ -176,19 +181,19 @@ module _ (to : ℕ → ℕ) where
           S : State
           S = relaid to asks hidden names s
 
-          of-kind : (k : LineKind) → place k ≡ place-by false (is-word also-words f) (is-word hide-words f) → may-stand S (place k) ≡ may-stand s (place k)
-          of-kind k at = rw at (stands-relaid (is-word also-words f) (is-word hide-words f))
+          of-kind : (k : LineKind) → place k ≡ place-by false (is-word also-words f) (is-word grouped-words f) (is-word hide-words f) → may-stand S (place k) ≡ may-stand s (place k)
+          of-kind k at = rw at (stands-relaid (is-word also-words f) (is-word grouped-words f) (is-word hide-words f))
 
-          no-position : (k : LineKind) → place k ≡ place-by false (is-word also-words f) (is-word hide-words f) → is-position (place k) ≡ false
-          no-position k at = ap is-position at ∙ position-by false (is-word also-words f) (is-word hide-words f)
+          no-position : (k : LineKind) → place k ≡ place-by false (is-word also-words f) (is-word grouped-words f) (is-word hide-words f) → is-position (place k) ≡ false
+          no-position k at = ap is-position at ∙ position-by false (is-word also-words f) (is-word grouped-words f) (is-word hide-words f)
 
           go : (o : Option LineKind) → word kinds f ≡ o → parse S (f ∷ fs) ≡ parse s (f ∷ fs)
           go none e = parse-unknown S f fs e ∙ sym (parse-unknown s f fs e)
           go (some k) e =
-              let at : place k ≡ place-by false (is-word also-words f) (is-word hide-words f) = known-place f e ∙ ap (λ b. place-by b (is-word also-words f) (is-word hide-words f)) (T-false (is-word ask-words f) t) in
+              let at : place k ≡ place-by false (is-word also-words f) (is-word grouped-words f) (is-word hide-words f) = known-place f e ∙ ap (λ b. place-by b (is-word also-words f) (is-word grouped-words f) (is-word hide-words f)) (T-false (is-word ask-words f) t) in
               let judged : cond (may-stand S (place k)) (cond (is-past S k) (refused refusal.FullAsks) (after-kind S f fs e)) (refused refusal.Form)
               ≡ cond (may-stand s (place k)) (cond (is-past s k) (refused refusal.FullAsks) (after-kind s f fs e)) (refused refusal.Form) =
-              rw (of-kind k at, no-position k at, same-count S s k) in
+              rw (of-kind k at, no-position k at, same-count S s refl k) in
               parse-known S f fs e ∙ judged ∙ sym (parse-known s f fs e)
 
 -- ---- lines k further down

@@ -168,7 +168,7 @@ module _ {names : List Name} {terms : List Term} (numbered : (t : Term) → List
       unfolding spelled trimmed summarize-decl summarize-assumption
       records-line (head h) old new short x i = absurd (List·Memᴰ·not-nil i)
       records-line (term node) old new short x i = absurd (List·Memᴰ·not-nil i)
-      records-line (assume name flag t) old new short x i =
+      records-line (assume name flag group t) old new short x i =
           subst (Summary-numbered names′) (sym (List·Memᴰ·eq-of-singleton i))
           (record {
             name = new name (mem-first name []);
@@ -190,7 +190,7 @@ module _ {names : List Name} {terms : List Term} (numbered : (t : Term) → List
       unfolding spelled root-of
       roots-line (head h) old new r i = absurd (List·Memᴰ·not-nil i)
       roots-line (term node) old new r i = absurd (List·Memᴰ·not-nil i)
-      roots-line (assume name flag t) old new r i = absurd (List·Memᴰ·not-nil i)
+      roots-line (assume name flag group t) old new r i = absurd (List·Memᴰ·not-nil i)
       roots-line (fun name) old new r i = absurd (List·Memᴰ·not-nil i)
       roots-line (def name t) old new r i = absurd (List·Memᴰ·not-nil i)
       roots-line (retain ns) old new r i = absurd (List·Memᴰ·not-nil i)
@@ -203,7 +203,7 @@ node-spelled : (c : Content) (node : Node) → List·Memᴰ node (nodes c) → s
 unfolding nodes spelled
 node-spelled (head h) node i = absurd (List·Memᴰ·not-nil i)
 node-spelled (term node) m i = ap spelled-by (List·Memᴰ·eq-of-singleton i)
-node-spelled (assume name flag t) node i = absurd (List·Memᴰ·not-nil i)
+node-spelled (assume name flag group t) node i = absurd (List·Memᴰ·not-nil i)
 node-spelled (fun name) node i = absurd (List·Memᴰ·not-nil i)
 node-spelled (def name t) node i = absurd (List·Memᴰ·not-nil i)
 node-spelled (retain ns) node i = absurd (List·Memᴰ·not-nil i)
@@ -272,7 +272,7 @@ lower-line : (terms : List Term) (c : Content) → Below (length terms) (terms-n
 unfolding nodes fold-left terms-named
 lower-line terms (head line) w h = h
 lower-line terms (term node) w h = lower-more terms node w h
-lower-line terms (assume name flag t) w h = h
+lower-line terms (assume name flag group t) w h = h
 lower-line terms (fun name) w h = h
 lower-line terms (def name t) w h = h
 lower-line terms (retain ns) w h = h

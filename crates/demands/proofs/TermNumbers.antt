@@ -9,7 +9,7 @@ use lib.ListN.{length}
 use Rattle.model.specs.Lists.{concat}
 use Rattle.model.specs.Lines.{Field}
 use Rattle.model.specs.Terms.{Node, references}
-use Rattle.model.specs.Reading.{Result, ok, refused, _>>=_, name-field, number-field, term-field, op-words, word, need, next, many, rest, end, groups, Content, head, term, assume, fun, def, retain, root, quantifier, most-query, most-options, content, State, parse}
+use Rattle.model.specs.Reading.{Result, ok, refused, _>>=_, name-field, number-field, term-field, op-words, word, need, next, many, rest, end, groups, Content, head, term, assume, fun, def, retain, root, quantifier, most-query, most-options, most-groups, group-field, content, State, parse}
 use Rattle.model.specs.declared.LineKind.{LineKind}
 use Rattle.model.specs.declared.LineKind.the-variants as kind
 use Rattle.model.specs.declared.Refusal.{Refusal}
@@ -25,7 +25,7 @@ Below count ts = (t : ℕ) → List·Memᴰ t ts → t < count
 unfoldable pub terms-named : Content → List ℕ
 terms-named (head h) = []
 terms-named (term node) = references node
-terms-named (assume name flag t) = t ∷ []
+terms-named (assume name flag group t) = t ∷ []
 terms-named (fun name) = []
 terms-named (def name t) = t ∷ []
 terms-named (retain names) = []
@@ -125,34 +125,38 @@ module _ (count : ℕ) where
       gives-bind (gives-groups (g .0) (g .1)) (λ gs k. gives-end _ (rw e (more-below h k)) (gs .1))))
 
   -- every line names terms below the count
-  gives-content : (k : LineKind) (fs : List Field) → Gives (λ c. Below count (terms-named c)) (content k count fs)
+  gives-content : (k : LineKind) (grouped : Bool) (fs : List Field) → Gives (λ c. Below count (terms-named c)) (content k grouped count fs)
   unfolding content terms-named references
-  gives-content kind.Ask fs =
+  gives-content kind.Ask grouped fs =
       gives-bind (any-value (next (number-field most-query) fs)) (λ q u. gives-bind (any-value (next (number-field most-options) (q .1))) (λ o v. gives-end _ none-below (o .1)))
-  gives-content kind.Also fs = gives-bind (any-value (next (number-field most-query) fs)) (λ q u. gives-end _ none-below (q .1))
-  gives-content kind.Hide fs = gives-bind (any-value (next name-field fs)) (λ n u. gives-end _ none-below (n .1))
-  gives-content kind.Free fs = gives-bind (any-value (next name-field fs)) (λ n u. gives-end _ none-below (n .1))
-  gives-content kind.Leaf fs = gives-end _ none-below fs
-  gives-content kind.Call fs = gives-bind (any-value (next name-field fs)) (λ n u. gives-bind (gives-rest (n .1)) (λ ts h. value h))
-  gives-content kind.Op fs =
+  gives-content kind.Ask2 grouped fs =
+      gives-bind (any-value (next (number-field most-query) fs)) (λ q u. gives-bind (any-value (next (number-field most-options) (q .1))) (λ o v.
+      gives-bind (any-value (next (number-field most-groups) (o .1))) (λ a w. gives-end _ none-below (a .1))))
+  gives-content kind.Also grouped fs = gives-bind (any-value (next (number-field most-query) fs)) (λ q u. gives-end _ none-below (q .1))
+  gives-content kind.Hide grouped fs = gives-bind (any-value (next name-field fs)) (λ n u. gives-end _ none-below (n .1))
+  gives-content kind.Free grouped fs = gives-bind (any-value (next name-field fs)) (λ n u. gives-end _ none-below (n .1))
+  gives-content kind.Leaf grouped fs = gives-end _ none-below fs
+  gives-content kind.Call grouped fs = gives-bind (any-value (next name-field fs)) (λ n u. gives-bind (gives-rest (n .1)) (λ ts h. value h))
+  gives-content kind.Op grouped fs =
       gives-bind (any-value (next (λ f. need refusal.Form (word op-words f)) fs)) (λ w u. gives-bind (gives-rest (w .1)) (λ ts h. value h))
-  gives-content kind.All fs = gives-quantifier _ (λ body gs. refl) fs
-  gives-content kind.Some fs = gives-quantifier _ (λ body gs. refl) fs
-  gives-content kind.Let fs = gives-bind (gives-next gives-term fs) (λ body h. gives-bind (gives-rest (body .1)) (λ ts k. value (more-below h k)))
-  gives-content kind.Label fs = gives-bind (gives-next gives-term fs) (λ t h. gives-end _ (more-below h none-below) (t .1))
-  gives-content kind.Assume fs =
+  gives-content kind.All grouped fs = gives-quantifier _ (λ body gs. refl) fs
+  gives-content kind.Some grouped fs = gives-quantifier _ (λ body gs. refl) fs
+  gives-content kind.Let grouped fs = gives-bind (gives-next gives-term fs) (λ body h. gives-bind (gives-rest (body .1)) (λ ts k. value (more-below h k)))
+  gives-content kind.Label grouped fs = gives-bind (gives-next gives-term fs) (λ t h. gives-end _ (more-below h none-below) (t .1))
+  gives-content kind.Assume grouped fs =
       gives-bind (any-value (next name-field fs)) (λ n u.
       gives-bind (any-value (next (number-field 1) (n .1))) (λ flag v.
-      gives-bind (gives-next gives-term (flag .1)) (λ t h. gives-end _ (more-below h none-below) (t .1))))
-  gives-content kind.Fun fs = gives-bind (any-value (next name-field fs)) (λ n u. gives-end _ none-below (n .1))
-  gives-content kind.Def fs =
+      gives-bind (any-value (group-field grouped (flag .1))) (λ g w.
+      gives-bind (gives-next gives-term (g .1)) (λ t h. gives-end _ (more-below h none-below) (t .1)))))
+  gives-content kind.Fun grouped fs = gives-bind (any-value (next name-field fs)) (λ n u. gives-end _ none-below (n .1))
+  gives-content kind.Def grouped fs =
       gives-bind (any-value (next name-field fs)) (λ n u. gives-bind (gives-next gives-term (n .1)) (λ t h. gives-end _ (more-below h none-below) (t .1)))
-  gives-content kind.Retain fs = gives-bind (any-value (rest name-field fs)) (λ ns u. value none-below)
-  gives-content kind.Root fs =
+  gives-content kind.Retain grouped fs = gives-bind (any-value (rest name-field fs)) (λ ns u. value none-below)
+  gives-content kind.Root grouped fs =
       gives-bind (any-value (next (number-field most-query) fs)) (λ q u.
       gives-bind (any-value (next name-field (q .1))) (λ n v.
       gives-bind (gives-next gives-term (n .1)) (λ t h. gives-end _ (more-below h none-below) (t .1))))
 
 -- the terms that an accepted line names are below the count of the term lines before it
 pub named-below : (s : State) (fs : List Field) {c : Content} → parse s fs ≡ ok c → Below (length (s .terms)) (terms-named c)
-named-below s fs e = let p = parse-ok s fs e in given (gives-content (length (s .terms)) (p .kind) (p .others)) (p .says)
+named-below s fs e = let p = parse-ok s fs e in given (gives-content (length (s .terms)) (p .kind) (s .grouped) (p .others)) (p .says)

@@ -1,15 +1,16 @@
 -- The records of an accepted file are well formed: no name is taken twice, and name lists are sets.
-use Prim.Native.Nat.{ℕ}
+use Prim.Native.Nat.{ℕ, _≤_}
 use mathlib.Core.Path.{_≡_, refl, sym, subst}
 use mathlib.Core.Logic.{⊎-elim}
 use mathlib.Core.Bool.{Bool, not}
 use mathlib.Core.List.{List, [], _++_, List·Memᴰ, List·Memᴰ·not-nil, List·Memᴰ·append-cases, List·Memᴰ·eq-of-singleton}
 use lib.Dec.{T, T-not}
 use Rattle.model.specs.Lists.{collect, fold-left}
+use Rattle.model.specs.Lines.{fields}
 use Rattle.model.specs.Names.{Name, mem}
 use Rattle.model.specs.Terms.{Node, Term, add-term}
 use Rattle.model.specs.Summaries.{exclude-names, free-top-level-names, at, summarize-assumption}
-use Rattle.model.specs.Reading.{Content, head, term, assume, fun, def, retain, root, Summary, Root, State, start, nodes, taken-by, summarize-decl, root-of, excluded, add-line, repeats, read, read-file}
+use Rattle.model.specs.Reading.{Content, head, term, assume, fun, def, retain, root, most-group, Summary, Root, State, start, nodes, taken-by, summarize-decl, root-of, excluded, add-line, repeats, read, read-file}
 use Rattle.model.specs.Rounds.{facts, definitions}
 use Rattle.model.proofs.ListLaws.{any-intro, collect-append, fold-left-case}
 use Rattle.model.proofs.SetLaws.{Ascending, empty, one, ascending-add, ascending-union, ascending-diff, mem-intro}
@@ -20,6 +21,7 @@ use Rattle.laws.proofs.Records.{facts-append, definitions-append}
 use Rattle.demands.proofs.TermNames.{Name-law, node-law, free-law, group-law}
 use Rattle.demands.proofs.Disjuncts.{Parts, lawful-kind}
 use Rattle.laws.proofs.ReadingLaws.{line-read, kept-by-file}
+use Rattle.demands.proofs.LineFields.{In-group, line-fields}
 
 -- records without a fact or a definition, and no root, are well formed where no name is taken twice
 no-sets : {l : List Summary} → Distinct (collect taken-by l) → facts l ≡ [] → definitions l ≡ [] → Well-formed l []
@@ -72,34 +74,35 @@ module _ {terms : List Term} (sets : Term-sets terms) where
     part-sets = record { of-term = free-set; of-group = group-law set-law terms (sets .of-term) exclude; of-token = λ t n e trimmed. one; of-trimmed = λ n. one }
 
     -- the summary of an assumption is good
-    good-summary : (line : ℕ) (name : Name) (pretyping : Bool) (t : ℕ) → Good-fact (summarize-assumption exclude terms line name pretyping t)
+    good-summary : (line : ℕ) (name : Name) (pretyping : Bool) (group t : ℕ) → group ≤ most-group
+        → Good-fact (summarize-assumption exclude terms line name pretyping group t)
     unfolding summarize-assumption
-    good-summary line name pretyping t =
+    good-summary line name pretyping group t low =
         let k = lawful-kind (λ trimmed d. Ascending d) exclude terms part-sets name t in
-        record { disjunct-count = k .disjunct-count; free-set = free-set t; trigger-sets = k .disjuncts }
+        record { disjunct-count = k .disjunct-count; free-set = free-set t; trigger-sets = k .disjuncts; low-group = low }
 
     -- what a line adds is well formed
-    well-line : (n : ℕ) (c : Content) → Well-formed (summarize-decl exclude terms n c) (root-of exclude terms n c)
+    well-line : (form : Bool) (n : ℕ) (c : Content) → In-group form c → Well-formed (summarize-decl exclude terms n c) (root-of exclude terms n c)
     unfolding summarize-decl root-of collect taken-by facts definitions
-    well-line n (head h) = no-records
-    well-line n (term node) = no-records
-    well-line n (assume name flag t) =
+    well-line form n (head h) g = no-records
+    well-line form n (term node) g = no-records
+    well-line form n (assume name flag group t) g =
         record {
           distinct = one-more List·Memᴰ·not-nil distinct-none;
-          good-facts = λ f i. subst Good-fact (sym (List·Memᴰ·eq-of-singleton i)) (good-summary n name flag t);
+          good-facts = λ f i. subst Good-fact (sym (List·Memᴰ·eq-of-singleton i)) (good-summary n name flag group t (g .0));
           definition-sets = λ d i. absurd (List·Memᴰ·not-nil i);
           root-sets = λ r i. absurd (List·Memᴰ·not-nil i);
         }
-    well-line n (fun name) = no-sets (one-more List·Memᴰ·not-nil distinct-none) refl refl
-    well-line n (def name t) =
+    well-line form n (fun name) g = no-sets (one-more List·Memᴰ·not-nil distinct-none) refl refl
+    well-line form n (def name t) g =
         record {
           distinct = one-more List·Memᴰ·not-nil distinct-none;
           good-facts = λ f i. absurd (List·Memᴰ·not-nil i);
           definition-sets = λ d i. subst (λ x. Ascending (x .free-names)) (sym (List·Memᴰ·eq-of-singleton i)) (free-set t);
           root-sets = λ r i. absurd (List·Memᴰ·not-nil i);
         }
-    well-line n (retain names) = no-sets distinct-none refl refl
-    well-line n (root q name t) =
+    well-line form n (retain names) g = no-sets distinct-none refl refl
+    well-line form n (root q name t) g =
         record {
           distinct = distinct-none;
           good-facts = λ f i. absurd (List·Memᴰ·not-nil i);
@@ -129,19 +132,20 @@ unfolding start collect facts definitions
 sound-start = record { sets = record { of-term = λ t i. absurd (List·Memᴰ·not-nil i) }; well = no-records }
 
 -- a line that does not repeat a name keeps the state sound
-sound-line : (exclude : List Name) (n : ℕ) (s : State) (c : Content) → T (not (repeats exclude n s c)) → Sound s → Sound (add-line exclude n s c)
+sound-line : (exclude : List Name) (n : ℕ) (s : State) (c : Content) → In-group (s .grouped) c → T (not (repeats exclude n s c)) → Sound s
+    → Sound (add-line exclude n s c)
 unfolding add-line
-sound-line exclude n s c fresh v =
+sound-line exclude n s c g fresh v =
     record {
       sets = sets-after (v .sets) c;
-      well = well-append (v .well) (well-line (v .sets) (excluded exclude s) n c) (apart exclude n s c fresh);
+      well = well-append (v .well) (well-line (v .sets) (excluded exclude s) (s .grouped) n c g) (apart exclude n s c fresh);
     }
 
 -- every accepted file leaves a sound state
 pub accepted-sound : (exclude : List Name) (file : List ℕ) (s : State) → read-file exclude file ≡ read s → Sound s
 accepted-sound exclude file s e =
     kept-by-file exclude (λ n s. Sound s)
-    (λ n s s′ line r v. let l = line-read exclude n s line s′ r in rw (l .after) (sound-line exclude n s (l .content) (l .fresh) v))
+    (λ n s s′ line r v. let l = line-read exclude n s line s′ r in rw (l .after) (sound-line exclude n s (l .content) (line-fields s (fields (line .bytes)) (l .parsed) .in-group) (l .fresh) v))
     file s e sound-start
 
 -- the records of an accepted file are well formed

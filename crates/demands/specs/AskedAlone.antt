@@ -3,7 +3,7 @@
 -- chain each, with the same lines behind it, make one file that is accepted and answers what they do.
 use Prim.Native.Nat.{ℕ, _+_, _≤_, _<_}
 use mathlib.Core.Path.{_≡_}
-use mathlib.Core.Bool.{not}
+use mathlib.Core.Bool.{Bool, not}
 use mathlib.Core.List.{List, _∷_, _++_, List·Memᴰ}
 use lib.Dec.{T}
 use lib.ListN.{length}
@@ -11,9 +11,9 @@ use Rattle.model.specs.Lines.{Line, lines}
 use Rattle.model.specs.Summaries.{exclude-names}
 use Rattle.model.specs.Reading.{Ask, State, start, read, read-lines}
 use Rattle.model.specs.Outcome.{Lent, Position, lists, position, outcome}
-use Rattle.demands.specs.LinesRead.{Lines-read, records-for, At}
+use Rattle.demands.specs.LinesRead.{Lines-read, At}
 use Rattle.demands.specs.Demand1.{Lines-judged, all-lengths}
-use Rattle.demands.specs.Counts.{ask-words, also-words, begins}
+use Rattle.demands.specs.Counts.{ask-words, form-words, also-words, begins}
 use Rattle.demands.specs.Moved.{moved-position}
 
 -- the lines of a file: ask and also lines, then lines of which none is either
@@ -60,8 +60,8 @@ pub record Same-answers (i k : ℕ) (s s′ : State) : Type 0 where
   pub after : List Ask
   pub asks : s .asks ≡ before ++ (s′ .asks ++ after)
   pub place : length before ≡ i
-  pub same : (a : Ask) → position (records-for a s) (s .roots) a
-      ≡ moved-position (λ n. n + k) (position (records-for a s′) (s′ .roots) a)
+  pub same : (a : Ask) → position (s .decls) (s .roots) a
+      ≡ moved-position (λ n. n + k) (position (s′ .decls) (s′ .roots) a)
 
 -- "Each answer equals what the file with only that ask line would give": the file with one chain is accepted, asks what the
 -- lines of the chain do, and answers so, its lines further up by the other ask and also lines
@@ -87,17 +87,21 @@ Answered-alone =
 abbrev pub Ask-first : List Line → Type 0
 Ask-first asks = (line : Line) (more : List Line) → asks ≡ line ∷ more → T (not (begins also-words line))
 
+-- those of them that are asks are of one form
+abbrev pub One-form : List Line → Type 0
+One-form asks = (grouped : Bool) × ((l : Line) → List·Memᴰ l asks → T (begins (form-words grouped) l))
+
 -- every chain of them is accepted alone, with the other lines behind it
 abbrev pub Chains-read : List Line → List Line → Type 0
 Chains-read asks others =
     (c : Chain-in asks) → (s′ : State) × (read-lines exclude-names 1 start (chain-lines c ++ others) ≡ read s′)
 
--- the other way: up to 16 ask and also lines, each chain accepted alone with these lines behind it, are accepted together, and
--- at its places the answers are those of the file alone
+-- the other way: up to 16 ask and also lines of one form, each chain accepted alone with these lines behind it, are accepted
+-- together, and at its places the answers are those of the file alone
 abbrev pub Asked-together : Type 0
 Asked-together =
     (file : List ℕ) (asks others : List Line) → Day (lines file) asks others → 1 ≤ length asks → length asks ≤ 16
-    → Ask-first asks → Chains-read asks others
+    → Ask-first asks → One-form asks → Chains-read asks others
     → (s : State) × Lines-read file s
     × ((c : Chain-in asks) (k : ℕ) (s′ : State) → length asks ≡ k + length (chain-lines c)
     → read-lines exclude-names 1 start (chain-lines c ++ others) ≡ read s′ → Same-answers (length (c .before)) k s s′)
@@ -107,9 +111,9 @@ abbrev pub Answered-together : Type 0
 Answered-together =
     (file : List ℕ) (works : List Lent) (room : ℕ) → Lines-judged file works
     → (asks others : List Line) → Day (lines file) asks others → 1 ≤ length asks → length asks ≤ 16
-    → Ask-first asks → Chains-read asks others
+    → Ask-first asks → One-form asks → Chains-read asks others
     → ((s : State) → Lines-read file s → all-lengths s ≤ room)
     → (ps : List Position) × (outcome file works room ≡ lists ps) × (length ps ≡ length asks)
     × ((c : Chain-in asks) (k : ℕ) (s′ : State) → length asks ≡ k + length (chain-lines c)
     → read-lines exclude-names 1 start (chain-lines c ++ others) ≡ read s′ → (j : ℕ) (a : Ask) → At (s′ .asks) j a
-    → At ps (length (c .before) + j) (moved-position (λ n. n + k) (position (records-for a s′) (s′ .roots) a)))
+    → At ps (length (c .before) + j) (moved-position (λ n. n + k) (position (s′ .decls) (s′ .roots) a)))

@@ -76,6 +76,7 @@ pub record But-for-bodies (a b : Ask) : Type 0 where
   pub ambients : no-ambients a ≡ no-ambients b
   pub pretyping : pretyping-axioms a ≡ pretyping-axioms b
   pub pruning : prune-decls a ≡ prune-decls b
+  pub admitted : a .groups ≡ b .groups
 
 -- option 8 changes neither the run nor any line of a chain, so neither the visits nor the rounds, nor the list without what
 -- bodies add

@@ -3,7 +3,7 @@
 use Prim.Native.Nat.{ℕ, _+_, max}
 use Prim.Native.String.{String}
 use mathlib.Core.Path.{_≡_}
-use mathlib.Core.Bool.{Bool, _||_}
+use mathlib.Core.Bool.{Bool, false, _||_}
 use mathlib.Core.List.{List, [], _∷_, _++_, map}
 use lib.ListN.{length, getD}
 use Rattle.model.specs.Lists.{any, keep, count, sum}
@@ -14,7 +14,7 @@ use Rattle.model.specs.Reading.{Content, Decl, Root, State, excluded, add-line}
 use Rattle.model.specs.Rounds.{facts, definitions}
 use Rattle.demands.specs.LinesRead.{Distinct}
 use Rattle.demands.specs.LineForm.{is-a-name, is-a-term, fields-of}
-use Rattle.demands.specs.Demand1.{Reached-line, Says}
+use Rattle.demands.specs.Demand1.{Reached-line, Says, ask-word}
 use Rattle.demands.specs.FileOrder.{of-record}
 
 -- the state after a line that parses, whether it passes a limit or not
@@ -35,7 +35,15 @@ record-words = "hide" ∷ "assume" ∷ "fun" ∷ "def" ∷ "retain" ∷ "root" �
 
 -- ask lines, which are no record lines; document 02, Change 11: "Also lines count as ask lines"
 unfoldable pub ask-words : List String
-ask-words = "ask" ∷ "also" ∷ []
+ask-words = "ask" ∷ "ask2" ∷ "also" ∷ []
+
+-- those of them that are ask lines with groups: document 02, Change 13
+unfoldable pub grouped-words : List String
+grouped-words = "ask2" ∷ []
+
+-- the ask lines of one form, and the also lines
+unfoldable pub form-words : Bool → List String
+form-words grouped = ask-word grouped ∷ "also" ∷ []
 
 -- those of them that are also lines
 unfoldable pub also-words : List String
@@ -53,13 +61,13 @@ is-word words f = any (λ w. same f (bytes w)) words
 unfoldable pub begins : List String → Line → Bool
 begins words line = is-word words (getD (fields (line .bytes)) 0 [])
 
--- the term references of a line
+-- the term references of a term line, which is the same in both forms
 unfoldable pub term-fields : Line → List Field
-term-fields line = fields-of is-a-term (fields (line .bytes))
+term-fields line = fields-of is-a-term false (fields (line .bytes))
 
--- the names that a line spells
-unfoldable pub name-fields : Line → List Name
-name-fields line = fields-of is-a-name (fields (line .bytes))
+-- the names that a line spells; `grouped`: the file is of the form with groups
+unfoldable pub name-fields : Bool → Line → List Name
+name-fields grouped line = fields-of is-a-name grouped (fields (line .bytes))
 
 -- the counts after these lines are those of documents 01 and 02: ask and also lines, "term lines", "term references in term
 -- lines", "record lines", "trigger entries (fact, disjunct, name) .., where an empty disjunct counts as one", "name uses (free
@@ -82,12 +90,14 @@ pub record Counted (read-so-far : List Line) (s : State) : Type 0 where
 -- the token that rule 4 trims, of an assume line
 abbrev pub token-trimmed : {ls : List Line} {n : ℕ} → Reached-line ls n → Content → List Name
 token-trimmed l =
-    of-record (λ name flag t. summarize-kind (excluded exclude-names (l .state)) (l .state .terms) name t .trimmed) (λ name. []) (λ name t. []) (λ q name t. [])
+    of-record (λ name flag group t. summarize-kind (excluded exclude-names (l .state)) (l .state .terms) name t .trimmed)
+    (λ name. []) (λ name t. []) (λ q name t. [])
 
 -- what a line adds to the names: those that it spells, and the token that rule 4 trims
 abbrev pub Names-added : {ls : List Line} {n : ℕ} → Reached-line ls n → Content → Type 0
 Names-added l c =
-    (k : Name) → mem k (state-with l c .names) ≡ (mem k (l .state .names) || mem k (name-fields (l .line) ++ token-trimmed l c))
+    (k : Name) → mem k (state-with l c .names)
+    ≡ (mem k (l .state .names) || mem k (name-fields (l .state .grouped) (l .line) ++ token-trimmed l c))
 
 abbrev pub Counts-exact : Type 0
 Counts-exact =

@@ -28,11 +28,11 @@ numbers-from n zero = []
 numbers-from n (suc count) = n ∷ numbers-from (n + 1) count
 
 -- what a record line gives, by its kind
-abbrev pub of-record : {X : Type 0} → (Name → Bool → ℕ → List X) → (Name → List X) → (Name → ℕ → List X) → (ℕ → Name → ℕ → List X)
-    → Content → List X
+abbrev pub of-record : {X : Type 0} → (Name → Bool → ℕ → ℕ → List X) → (Name → List X) → (Name → ℕ → List X)
+    → (ℕ → Name → ℕ → List X) → Content → List X
 of-record assumed declared defined rooted (head h) = []
 of-record assumed declared defined rooted (term node) = []
-of-record assumed declared defined rooted (assume name flag t) = assumed name flag t
+of-record assumed declared defined rooted (assume name flag group t) = assumed name flag group t
 of-record assumed declared defined rooted (fun name) = declared name
 of-record assumed declared defined rooted (def name t) = defined name t
 of-record assumed declared defined rooted (retain names) = []
@@ -41,24 +41,25 @@ of-record assumed declared defined rooted (root q name t) = rooted q name t
 -- the summary of the fact that an assume line states, from the excluded names, the terms before the line and its number
 abbrev pub fact-said : List Name → List Term → ℕ → Content → List Fact
 fact-said exclude terms n =
-    of-record (λ name flag t. summarize-assumption exclude terms n name flag t ∷ [])
+    of-record (λ name flag group t. summarize-assumption exclude terms n name flag group t ∷ [])
     (λ name. []) (λ name t. []) (λ q name t. [])
 
 -- the definition of a def line
 abbrev pub definition-said : List Name → List Term → ℕ → Content → List Decl
 definition-said exclude terms n =
-    of-record (λ name flag t. []) (λ name. [])
+    of-record (λ name flag group t. []) (λ name. [])
     (λ name t. record { line = n; name = name; free-names = free-top-level-names exclude terms t } ∷ []) (λ q name t. [])
 
 -- the declaration of a fun line
 abbrev pub declaration-said : List Name → List Term → ℕ → Content → List Decl
 declaration-said exclude terms n =
-    of-record (λ name flag t. []) (λ name. record { line = n; name = name; free-names = [] } ∷ []) (λ name t. []) (λ q name t. [])
+    of-record (λ name flag group t. []) (λ name. record { line = n; name = name; free-names = [] } ∷ []) (λ name t. [])
+    (λ q name t. [])
 
 -- the root of a root line
 abbrev pub root-said : List Name → List Term → ℕ → Content → List Root
 root-said exclude terms n =
-    of-record (λ name flag t. []) (λ name. []) (λ name t. [])
+    of-record (λ name flag group t. []) (λ name. []) (λ name t. [])
     (λ q name t. record { line = n; query = q; name = name; free-names = free-top-level-names exclude terms t } ∷ [])
 
 -- what a line of a file gives, by these excluded names

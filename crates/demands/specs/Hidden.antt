@@ -18,7 +18,7 @@ use Rattle.model.specs.Pruning.{try-find, init-macro-freenames}
 use Rattle.model.specs.Rounds.{facts, definitions, macros}
 use Rattle.model.specs.Outcome.{position}
 use Rattle.model.specs.Text.{name-on}
-use Rattle.demands.specs.LinesRead.{Lines-read, records-for}
+use Rattle.demands.specs.LinesRead.{Lines-read}
 use Rattle.demands.specs.Demand2.{kept-list, followed-list}
 use Rattle.demands.specs.Counts.{ask-words, hide-words, begins}
 use Rattle.demands.specs.Asks.{head-words}
@@ -52,9 +52,9 @@ Tokens-kept =
 -- a fact that rule 4 takes files its token, whatever is excluded: one without patterns, whose name does not start as rule 2 asks
 abbrev pub Tokens-filed : Type 0
 Tokens-filed =
-    (out : List Name) (terms : List Term) (line : ℕ) (name : Name) (pretyping : Bool) (t : ℕ) (k : Kinded)
+    (out : List Name) (terms : List Term) (line : ℕ) (name : Name) (pretyping : Bool) (group t : ℕ) (k : Kinded)
     → pattern-groups terms t ≡ [] → T (not (starts-with name (bytes "assumption_"))) → rule-4 [] terms name t ≡ some k
-    → (summarize-kind out terms name t ≡ k) × (summarize-assumption out terms line name pretyping t .triggers ≡ k .triggers)
+    → (summarize-kind out terms name t ≡ k) × (summarize-assumption out terms line name pretyping group t .triggers ≡ k .triggers)
 
 -- ".. and the names that the five starting macros open to": a name that no def has opens to what it does at the start
 abbrev pub Starting-macros-kept : Type 0
@@ -91,7 +91,7 @@ down n = n + 1
 pub record One-down (file file′ : List ℕ) (s s′ : State) : Type 0 where
   pub accepted : Lines-read file′ s′
   pub asks : s′ .asks ≡ s .asks
-  pub listed : (a : Ask) → position (records-for a s′) (s′ .roots) a ≡ moved-position down (position (records-for a s) (s .roots) a)
+  pub listed : (a : Ask) → position (s′ .decls) (s′ .roots) a ≡ moved-position down (position (s .decls) (s .roots) a)
   pub followed : (a : Ask) → followed-list a s′ ≡ map down (followed-list a s)
   pub kept : (a : Ask) → kept-list a s′ ≡ map down (kept-list a s)
   pub followed-named : (a : Ask) → map (name-on file′) (followed-list a s′) ≡ map (name-on file) (followed-list a s)

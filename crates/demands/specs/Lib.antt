@@ -23,3 +23,4 @@ pub mod Options
 pub mod FreeNames
 pub mod Bytes
 pub mod Printed
+pub mod Groups

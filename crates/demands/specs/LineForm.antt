@@ -60,24 +60,30 @@ unfoldable pub then-terms : Sort → List Field → Due
 then-terms s [] = must s
 then-terms s (f ∷ fs) = may a-term
 
--- what stands next in a line of this kind, after these fields
-unfoldable pub due : LineKind → List Field → Due
-due kind.Ask fs = in-order (a-number 255 ∷ a-number 15 ∷ []) fs
-due kind.Also fs = in-order (a-number 255 ∷ []) fs
-due kind.Hide fs = in-order (a-name ∷ []) fs
-due kind.Free fs = in-order (a-name ∷ []) fs
-due kind.Leaf fs = in-order [] fs
-due kind.Call fs = then-terms a-name fs
-due kind.Op fs = then-terms an-op-word fs
-due kind.All fs = quantifier-due fs
-due kind.Some fs = quantifier-due fs
-due kind.Let fs = then-terms a-term fs
-due kind.Label fs = in-order (a-term ∷ []) fs
-due kind.Assume fs = in-order (a-name ∷ a-number 1 ∷ a-term ∷ []) fs
-due kind.Fun fs = in-order (a-name ∷ []) fs
-due kind.Def fs = in-order (a-name ∷ a-term ∷ []) fs
-due kind.Retain fs = may a-name
-due kind.Root fs = in-order (a-number 255 ∷ a-name ∷ a-term ∷ []) fs
+-- the fields of an assume line: document 02, Change 13, "a group from 0 to 15 between flag and t" in the form with groups
+unfoldable pub assume-due : Bool → List Field → Due
+assume-due false fs = in-order (a-name ∷ a-number 1 ∷ a-term ∷ []) fs
+assume-due true fs = in-order (a-name ∷ a-number 1 ∷ a-number 15 ∷ a-term ∷ []) fs
+
+-- what stands next in a line of this kind, after these fields; `grouped`: the file is of the form with groups
+unfoldable pub due : Bool → LineKind → List Field → Due
+due grouped kind.Ask fs = in-order (a-number 255 ∷ a-number 15 ∷ []) fs
+due grouped kind.Ask2 fs = in-order (a-number 255 ∷ a-number 15 ∷ a-number 65535 ∷ []) fs
+due grouped kind.Also fs = in-order (a-number 255 ∷ []) fs
+due grouped kind.Hide fs = in-order (a-name ∷ []) fs
+due grouped kind.Free fs = in-order (a-name ∷ []) fs
+due grouped kind.Leaf fs = in-order [] fs
+due grouped kind.Call fs = then-terms a-name fs
+due grouped kind.Op fs = then-terms an-op-word fs
+due grouped kind.All fs = quantifier-due fs
+due grouped kind.Some fs = quantifier-due fs
+due grouped kind.Let fs = then-terms a-term fs
+due grouped kind.Label fs = in-order (a-term ∷ []) fs
+due grouped kind.Assume fs = assume-due grouped fs
+due grouped kind.Fun fs = in-order (a-name ∷ []) fs
+due grouped kind.Def fs = in-order (a-name ∷ a-term ∷ []) fs
+due grouped kind.Retain fs = may a-name
+due grouped kind.Root fs = in-order (a-number 255 ∷ a-name ∷ a-term ∷ []) fs
 
 -- the refusal of a field that is no number, or one above its limit; `count`, below, is the number of term lines so far
 unfoldable pub number-fault : ℕ → Option ℕ → Option Refusal
@@ -123,30 +129,31 @@ fields-due of-sort ahead (f ∷ fs) =
     let more = fields-due of-sort (λ gs. ahead (f ∷ gs)) fs in
     cond (holds of-sort (sort-due (ahead []))) (f ∷ more) more
 
--- the fields of a line that are of such a sort, by the kind that its first field says
-unfoldable pub fields-of : (Sort → Bool) → List Field → List Field
-fields-of of-sort [] = []
-fields-of of-sort (f ∷ fs) = elim (word kinds f) [ none ↦ [] | some k ↦ fields-due of-sort (due k) fs ]
+-- the fields of a line that are of such a sort, by the kind that its first field says and the form of the file
+unfoldable pub fields-of : (Sort → Bool) → Bool → List Field → List Field
+fields-of of-sort grouped [] = []
+fields-of of-sort grouped (f ∷ fs) = elim (word kinds f) [ none ↦ [] | some k ↦ fields-due of-sort (due grouped k) fs ]
 
 -- why the rest of a line's fields is refused, the fields before it being what they have to be: the first fault counts
-pub data Faulty (k : LineKind) (count : ℕ) : List Field → List Field → Refusal → Type 0 where
+pub data Faulty (grouped : Bool) (k : LineKind) (count : ℕ) : List Field → List Field → Refusal → Type 0 where
   -- a lacking field is 1 at its turn
-  lacking : {before : List Field} {s : Sort} → due k before ≡ must s → Faulty k count before [] refusal.Form
+  lacking : {before : List Field} {s : Sort} → due grouped k before ≡ must s → Faulty grouped k count before [] refusal.Form
   -- one left over is 1 after the last field read, and is not looked at
-  left-over : {before : List Field} {f : Field} {more : List Field} → due k before ≡ nothing → Faulty k count before (f ∷ more) refusal.Form
+  left-over : {before : List Field} {f : Field} {more : List Field} → due grouped k before ≡ nothing
+      → Faulty grouped k count before (f ∷ more) refusal.Form
   -- a field that is not what it has to be
   not-so : {before : List Field} {f : Field} {more : List Field} {r : Refusal} {s : Sort}
-      → sort-due (due k before) ≡ some s → fault count s f ≡ some r → Faulty k count before (f ∷ more) r
+      → sort-due (due grouped k before) ≡ some s → fault count s f ≡ some r → Faulty grouped k count before (f ∷ more) r
   -- a field that is, and a fault after it
   later : {before : List Field} {f : Field} {more : List Field} {r : Refusal} {s : Sort}
-      → sort-due (due k before) ≡ some s → fault count s f ≡ none
-      → Faulty k count (before ++ (f ∷ [])) more r → Faulty k count before (f ∷ more) r
+      → sort-due (due grouped k before) ≡ some s → fault count s f ≡ none
+      → Faulty grouped k count (before ++ (f ∷ [])) more r → Faulty grouped k count before (f ∷ more) r
 
 -- the fields after a line's kind are refused exactly for such a reason
 abbrev pub Refused-fields : Type 0
 Refused-fields =
-    (k : LineKind) (count : ℕ) (fs : List Field) (r : Refusal)
-    → (content k count fs ≡ refused r) ↔ Faulty k count [] fs r
+    (k : LineKind) (grouped : Bool) (count : ℕ) (fs : List Field) (r : Refusal)
+    → (content k grouped count fs ≡ refused r) ↔ Faulty grouped k count [] fs r
 
 -- a line of this kind may stand next, and if it is an ask or an also there are fewer than 16 of both before it
 pub record Allowed (s : State) (k : LineKind) : Type 0 where
@@ -162,7 +169,8 @@ Field-counted s k fs = (fixed : ℕ) → fixed-count s k ≡ some fixed → leng
 pub data Faulty-line (s : State) : List Field → Refusal → Type 0 where
   -- an unknown kind
   unknown : {f : Field} {fs : List Field} → word kinds f ≡ none → Faulty-line s (f ∷ fs) refusal.Form
-  -- one that may not stand here: document 02, Change 6, "a line where it may not stand is 1 as an unknown kind"
+  -- one that may not stand here: document 02, Change 6, "a line where it may not stand is 1 as an unknown kind", and Change 13, an
+  -- ask line "of the other form is 1, as an unknown kind"
   misplaced : {f : Field} {fs : List Field} {k : LineKind} → word kinds f ≡ some k → T (not (may-stand s (place k)))
       → Faulty-line s (f ∷ fs) refusal.Form
   -- an ask or an also that may stand here, after 16 of both: document 02, Change 7, "right after its kind"
@@ -173,7 +181,7 @@ pub data Faulty-line (s : State) : List Field → Refusal → Type 0 where
       → fixed-count s k ≡ some fixed → length (f ∷ fs) ≢ fixed → Faulty-line s (f ∷ fs) refusal.Form
   -- a fault of a field after the kind
   field : {f : Field} {fs : List Field} {k : LineKind} {r : Refusal} → word kinds f ≡ some k → Allowed s k
-      → Field-counted s k (f ∷ fs) → Faulty k (length (s .terms)) [] fs r → Faulty-line s (f ∷ fs) r
+      → Field-counted s k (f ∷ fs) → Faulty (s .grouped) k (length (s .terms)) [] fs r → Faulty-line s (f ∷ fs) r
 
 -- a line is refused with 1 to 4 or 13 exactly for such a reason
 abbrev pub Refused-line : Type 0
@@ -185,4 +193,4 @@ Refused-line =
 abbrev pub Fixed-counts : Type 0
 Fixed-counts =
     (s : State) (k : LineKind) (n : ℕ) → fixed-count s k ≡ some n
-    → (fs : List Field) → (due k fs ≡ nothing) ↔ (n ≤ length fs + 1)
+    → (fs : List Field) → (due (s .grouped) k fs ≡ nothing) ↔ (n ≤ length fs + 1)

@@ -5,14 +5,15 @@ use mathlib.Core.List.{List, [], _∷_, _++_, List·Memᴰ}
 use lib.ListN.{length}
 use Rattle.model.specs.Summaries.{exclude-names}
 use Rattle.model.specs.Reading.{Ask, Summary, State, read, read-file}
+use Rattle.model.specs.Rounds.{background}
 
 -- reading the file ends in this state
 abbrev pub Lines-read : List ℕ → State → Type 0
 Lines-read file s = read-file exclude-names file ≡ read s
 
--- the records of a file that was read which an ask has to do with
+-- the records of a file that was read which an ask has to do with: document 02, Change 13, not the facts that it does not admit
 abbrev pub records-for : Ask → State → List Summary
-records-for a s = s .decls
+records-for a s = background a (s .decls)
 
 -- an element stands at this place of a list, counted from 0
 pub record At {A : Type 0} (l : List A) (i : ℕ) (x : A) : Type 0 where

@@ -16,6 +16,7 @@ moved-fact to f =
       name = f .name;
       free-names = f .free-names;
       pretyping = f .pretyping;
+      group = f .group;
       kind = f .kind;
       triggers = f .triggers;
     }

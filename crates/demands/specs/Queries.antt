@@ -8,7 +8,7 @@ use Rattle.model.specs.Names.{bytes}
 use Rattle.model.specs.Lines.{Line, lines, Field, fields, number}
 use Rattle.model.specs.Reading.{Ask, State}
 use Rattle.model.specs.Outcome.{Position, position, filtered}
-use Rattle.demands.specs.LinesRead.{Lines-read, records-for, At}
+use Rattle.demands.specs.LinesRead.{Lines-read, At}
 
 -- a root line of a query that is none of the ask's
 pub record Other-root (a : Ask) (line : Line) : Type 0 where
@@ -29,7 +29,7 @@ pub data Alike (a : Ask) : List Line → List Line → Type 0 where
 -- an ask has the same list over both files, in order, the same visits and the same rounds; and they ask the same
 pub record Answered-alike (a : Ask) (s s′ : State) : Type 0 where
   pub asks : s .asks ≡ s′ .asks
-  pub listed : position (records-for a s) (s .roots) a ≡ position (records-for a s′) (s′ .roots) a
+  pub listed : position (s .decls) (s .roots) a ≡ position (s′ .decls) (s′ .roots) a
 
 abbrev pub Other-queries-do-not-matter : Type 0
 Other-queries-do-not-matter =

@@ -8,7 +8,7 @@ use Rattle.model.specs.Lists.{sum}
 use Rattle.model.specs.Reading.{Ask, State}
 use Rattle.model.specs.Outcome.{Lent, Position, lists, position, outcome, answer, result-after}
 use Rattle.model.specs.declared.Answer.{Answer}
-use Rattle.demands.specs.LinesRead.{Lines-read, records-for, At}
+use Rattle.demands.specs.LinesRead.{Lines-read, At}
 
 -- there are sixteen counts of each sort
 pub record Sixteen (a : Answer) : Type 0 where
@@ -38,7 +38,7 @@ Asks-told =
     (file : List ℕ) (works : List Lent) (room : ℕ) (ps : List Position) (s : State)
     → outcome file works room ≡ lists ps → Lines-read file s
     → (i : ℕ) (a : Ask) (out : List ℕ) → At (s .asks) i a
-    → Told-at (answer (lists ps)) (result-after (lists ps) out) i (position (records-for a s) (s .roots) a)
+    → Told-at (answer (lists ps)) (result-after (lists ps) out) i (position (s .decls) (s .roots) a)
 
 -- "Positions past the last give counts of 0"
 pub record None-told (a : Answer) (i : ℕ) : Type 0 where

@@ -6,7 +6,7 @@ use mathlib.Core.List.{List, [], _∷_, List·Memᴰ, List·Memᴰ·not-nil, Lis
 use Rattle.model.specs.Lists.{last}
 use Rattle.model.specs.Names.{Name}
 use Rattle.model.specs.Lines.{Line}
-use Rattle.model.specs.Reading.{Ask, Head, ask, also, hide, heads, with-query, head-asks, State, start, ok, add-line, read, read-line, read-file}
+use Rattle.model.specs.Reading.{Ask, Head, ask, ask2, also, hide, heads, with-query, head-asks, State, start, ok, add-line, read, read-line, read-file}
 use Rattle.model.proofs.ListLaws.{collect-elim, map-elim}
 use Rattle.laws.proofs.ReadingLaws.{line-read, kept-by-file}
 
@@ -18,6 +18,7 @@ Has-query a = (q : ℕ) × (qs : List ℕ) × (a .queries ≡ q ∷ qs)
 head-has : (asks : List Ask) (h : Head) (a : Ask) → List·Memᴰ a (head-asks asks h) → Has-query a
 unfolding head-asks with-query
 head-has asks (ask q options) a m = (q, [], ap (λ (x : Ask). x .queries) (List·Memᴰ·eq-of-singleton m))
+head-has asks (ask2 q options admitted) a m = (q, [], ap (λ (x : Ask). x .queries) (List·Memᴰ·eq-of-singleton m))
 head-has asks (also q) a m = let (b, there, e) = map-elim (with-query q) (last asks) m in (q, b .queries, ap (λ (x : Ask). x .queries) (sym e))
 head-has asks (hide name) a m = absurd (List·Memᴰ·not-nil m)
 

@@ -1,4 +1,5 @@
 pub mod Records
+pub mod BackgroundLaws
 pub mod MapLaws
 pub mod MetLaws
 pub mod FiringLaws
@@ -7,6 +8,7 @@ pub mod HistoryLaws
 pub mod ReachedLaws
 pub mod ReadingLaws
 pub mod AskLaws
+pub mod AlikeLaws
 pub mod StretchLaws
 pub mod OptionLaws
 pub mod BodyLaws

@@ -13,7 +13,8 @@ use borrow.Author.Tests.{leb-true, leb-false}
 use Rattle.model.specs.Lists.{all, holds}
 use Rattle.model.specs.Names.{Name}
 use Rattle.model.specs.Lines.{Line, lines, Field, fields, number}
-use Rattle.model.specs.Reading.{Result, ok, refused, _>>=_, need, next, end, number-field, kinds, word, fixed-count, kind-field, content, Content, State, start, place, may-stand, is-position, most-asks, read, refused-at, go-on, limits, under-limits, parse, add-line, repeats, read-line, read-lines, read-file}
+use Rattle.model.specs.Reading.{Result, ok, refused, _>>=_, need, next, end, number-field, kinds, word, fixed-count, kind-field, content, Content, State, start, place, may-stand, is-position}
+use Rattle.model.specs.Reading.{most-asks, read, refused-at, go-on, limits, under-limits, parse, add-line, repeats, read-line, read-lines, read-file}
 use Rattle.model.specs.Outcome.{refusal-number}
 use Rattle.model.specs.declared.LineKind.{LineKind}
 use Rattle.model.specs.declared.Refusal.{Refusal}
@@ -75,7 +76,7 @@ pub record Parsed (s : State) (all : List Field) (c : Content) : Type 0 where
   pub stands : T (may-stand s (place kind))
   pub in-number : T (not (is-past s kind))
   pub counted : T (not (holds (λ c. not (eqb (length all) c)) (fixed-count s kind)))
-  pub says : content kind (length (s .terms)) others ≡ ok c
+  pub says : content kind (s .grouped) (length (s .terms)) others ≡ ok c
 
 -- what holds of fields that were accepted
 pub parse-ok : (s : State) (all : List Field) {c : Content} → parse s all ≡ ok c → Parsed s all c
@@ -84,7 +85,7 @@ parse-ok s all e =
     let ((k, fs), g, h) = bind-ok (next (kind-field s) all) e in
     let (f, split, judged) = next-ok (kind-field s) all g in
     let (known, stands, in-number) = kind-ok s f judged in
-    let (t, says) = cond-not-ok (holds (λ c. not (eqb (length all) c)) (fixed-count s k)) (content k (length (s .terms)) fs) refusal.Form h in
+    let (t, says) = cond-not-ok (holds (λ c. not (eqb (length all) c)) (fixed-count s k)) (content k (s .grouped) (length (s .terms)) fs) refusal.Form h in
     record { kind-word = f; others = fs; kind = k; split = split; known = known; stands = stands; in-number = in-number; counted = t; says = says }
 
 -- a refusal is no state

@@ -1,7 +1,7 @@
 -- A run that goes on: where a stretch ends, what it visits, and an engine that counts its rounds on.
-use Prim.Native.Nat.{ℕ, zero, suc, _+_, _≤_}
+use Prim.Native.Nat.{ℕ, suc, _+_, _≤_}
 use native.Mathlib.Omega.{arith}
-use mathlib.Core.Path.{_≡_, refl, sym, _∙_, ap, subst}
+use mathlib.Core.Path.{_≡_, refl, sym, _∙_, subst}
 use mathlib.Core.Bool.{Bool, true, false, not, _&&_, _||_}
 use mathlib.Core.List.{List, [], _∷_}
 use lib.Dec.{T}
@@ -9,9 +9,9 @@ use lib.ListN.{length}
 use Rattle.model.specs.Lists.{any}
 use Rattle.model.specs.Names.{Name, mem}
 use Rattle.model.specs.Summaries.{Fact}
-use Rattle.model.specs.Reading.{Ask, Summary, Root, pretyping-axioms}
+use Rattle.model.specs.Reading.{Ask, Summary, Root, no-ambients, pretyping-axioms}
 use Rattle.model.specs.Pruning.{Map}
-use Rattle.model.specs.Rounds.{Run, facts, macros, filed, retainable, met-after, triggered, fresh, after-round, next-scanned, rounds-from, most-rounds, visits}
+use Rattle.model.specs.Rounds.{Run, facts, macros, filed, met-after, triggered, fresh, after-round, next-scanned, rounds-from, most-rounds, visits}
 use Rattle.model.specs.Also.{with-queries, also-scanned, stretch-start, stretch, chain, stretch-visits}
 use Rattle.model.proofs.ListLaws.{count-cong, count-or}
 use Rattle.model.proofs.SetLaws.{Within, within-nil}
@@ -19,6 +19,7 @@ use Rattle.laws.specs.Fuel.{Ends, last, more}
 use Rattle.laws.proofs.MetLaws.{met-grows}
 use Rattle.laws.proofs.FuelLaws.{unmet, unmet-filed, rounds-end, rounds-few, rounds-grow, run-some}
 use Rattle.laws.proofs.ReachedLaws.{at-end}
+use Rattle.laws.proofs.AlikeLaws.{rounds-alike, chain-alike}
 
 -- a run whose rounds are counted on by n
 abbrev pub later : ℕ → Run → Run
@@ -106,19 +107,13 @@ module _ (a : Ask) (decls : List Summary) (roots : List Root) where
   -- the rounds do not ask for the queries
   pub same-rounds : (qs : List ℕ) (fuel : ℕ) (r : Run) (scanned : List Name)
       → rounds-from (with-queries a qs) (macros decls) (facts decls) fuel r scanned ≡ rounds-from a (macros decls) (facts decls) fuel r scanned
-  unfolding rounds-from after-round next-scanned fresh retainable pretyping-axioms with-queries
-  same-rounds qs zero r scanned = refl
-  same-rounds qs (suc fuel) r scanned =
-      rw (same-rounds qs fuel (after-round a (macros decls) (facts decls) r scanned) (next-scanned a (macros decls) (facts decls) r scanned))
+  unfolding pretyping-axioms with-queries
+  same-rounds qs fuel r scanned = rounds-alike (with-queries a qs) a refl (macros decls) (facts decls) fuel r scanned
 
   -- so a chain stands where that of the ask with other queries does
   pub chain-with : (ps qs : List ℕ) → chain (with-queries a ps) decls roots qs ≡ chain a decls roots qs
-  unfolding chain stretch with-queries
-  chain-with ps [] = refl
-  chain-with ps (q ∷ []) = refl
-  chain-with ps (q ∷ p ∷ qs) =
-      same-rounds ps (most-rounds (facts decls)) (stretch-start (chain (with-queries a ps) decls roots (p ∷ qs))) (also-scanned q roots)
-      ∙ ap (λ (r : Run). stretch a decls roots r q) (chain-with ps (p ∷ qs))
+  unfolding no-ambients pretyping-axioms with-queries
+  chain-with ps qs = chain-alike (with-queries a ps) a refl refl decls roots qs
 
   -- what is met only grows along a chain
   pub chain-grows : (q : ℕ) (qs : List ℕ) → Within (chain a decls roots qs .met) (chain a decls roots (q ∷ qs) .met)

@@ -1,4 +1,5 @@
--- An options number by division and remainder: the option at a place, and the values of those that are on.
+-- An options number, or a groups number, by division and remainder: the option at a place, and the values of those that are on. A
+-- group that is admitted is an option that is on.
 use Prim.Native.Nat.{ℕ, zero, suc, _+_, _*_, _/_, _%_}
 use mathlib.Core.Bool.{Bool, cond}
 use lib.Dec.{eqb}
