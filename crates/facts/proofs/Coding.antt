@@ -44,11 +44,11 @@ code-low (asum.Ambient true) e h = omega arith
 code-low (asum.Triggers n) e h = omega (arith, h n refl)
 
 -- a row for the same counts and code
-pub small-as : {k k′ next : Counts} {kind line name term flag code word : ℕ} → next ≡ k′ → word ≡ code → Small k k′ kind line name term flag code
-    → Small k next kind line name term flag word
+pub small-as : {k k′ next : Counts} {kind line name term flag code word group : ℕ} → next ≡ k′ → word ≡ code → Small k k′ kind line name term flag code group
+    → Small k next kind line name term flag word group
 small-as e f s = rw (e, f) s
 
-pub rowed-as : {recs recs′ : List ℕ} {k k′ : Counts} {kind line name term flag code word : ℕ} → word ≡ code
-    → Rowed recs recs′ k k′ kind line name term flag word
-    → Rowed recs recs′ k k′ kind line name term flag code
+pub rowed-as : {recs recs′ : List ℕ} {k k′ : Counts} {kind line name term flag code word group : ℕ} → word ≡ code
+    → Rowed recs recs′ k k′ kind line name term flag word group
+    → Rowed recs recs′ k k′ kind line name term flag code group
 rowed-as f s = rw f at s

@@ -9,9 +9,9 @@ use lib.ListN.{length, getD, length-set}
 use lib.Seq.{getD-set-same, getD-set-other}
 use lib.Dec.{eqb, ltb}
 use borrow.Author.Tests.{le-leb, lt-leb, ltb-true, ltb-false}
-use Rattle.model.specs.Lists.{sum, collect, fold-left, part}
+use Rattle.model.specs.Lists.{any, sum, collect, fold-left, part}
 use Rattle.model.specs.Names.{Name, from-list}
-use Rattle.model.specs.Reading.{Content, assume, heads, head-asks, hidden-by, nodes, spelled, trimmed, spell, summarize-decl, root-of, taken-by, entries-of, uses-of, excluded, add-line, repeats, most-names, most-records, most-entries, most-uses}
+use Rattle.model.specs.Reading.{Content, assume, heads, head-asks, is-grouped, hidden-by, nodes, spelled, trimmed, spell, summarize-decl, root-of, taken-by, entries-of, uses-of, excluded, add-line, repeats, most-group, most-names, most-records, most-entries, most-uses}
 use Rattle.model.specs.Summaries.{exclude-names, entries, summarize-assumption}
 use Rattle.model.specs.declared.Counts.{Counts}
 use Rattle.model.specs.declared.Refusal.{Refusal}
@@ -72,8 +72,8 @@ summed file names refs rows recs k i t =
     fact-summary (excluded-of (name-of file names) recs (k .records)) file names refs rows (k .names) (k .references) (k .terms) i t (k .mark) (k .entries) (k .uses)
 
 -- what its line says
-abbrev said : List ℕ → List ℕ → ℕ → ℕ → ℕ → Content
-said file names i flag t = assume (name-of file names i) (eqb flag 1) t
+abbrev said : List ℕ → List ℕ → ℕ → ℕ → ℕ → ℕ → Content
+said file names i flag group t = assume (name-of file names i) (eqb flag 1) group t
 
 -- a limit that a summary passes, the names being within theirs where it is another
 data Passes (x : Summary) : Limit → Type 0 where
@@ -109,21 +109,21 @@ unfolding fold-left
 spelled-before file names named i ns h = ap (λ l. fold-left spell l ns) (spelled-again file names named i h)
 
 module _ {file names refs rows recs lists : List ℕ} {k : Counts} (st : Standing file names refs rows recs lists k) (line : ℕ) {i : ℕ}
-    (known : i < k .names) {w : ℕ} (is : w ≡ taken-at names i) (flag t : ℕ) where
-  fact-new : w ≤ 0 → repeats exclude-names line (state-of file names refs rows recs lists k) (said file names i flag t) ≡ false
+    (known : i < k .names) {w : ℕ} (is : w ≡ taken-at names i) (flag group t : ℕ) where
+  fact-new : w ≤ 0 → repeats exclude-names line (state-of file names refs rows recs lists k) (said file names i flag group t) ≡ false
   unfolding summarize-decl summarize-assumption collect taken-by
-  fact-new h = repeats-free st line (said file names i flag t) known refl (omega arith)
+  fact-new h = repeats-free st line (said file names i flag group t) known refl (omega arith)
 
   -- the name is taken
   pub fact-repeated : {names′ rows′ recs′ lists′ : List ℕ} → 0 < w
-      → Adds file names refs rows recs lists names′ rows′ recs′ lists′ k line (said file names i flag t) (step.Refused refusal.Repeated)
+      → Adds file names refs rows recs lists names′ rows′ recs′ lists′ k line (said file names i flag group t) (step.Refused refusal.Repeated)
   unfolding summarize-decl summarize-assumption collect taken-by
   fact-repeated h =
-      record-repeated st line (said file names i flag t) (repeats-taken st line (said file names i flag t) known refl (omega arith))
+      record-repeated st line (said file names i flag group t) (repeats-taken st line (said file names i flag group t) known refl (omega arith))
 
   -- the names with the line are those of the summary
-  fact-named : length (fold-left spell (table-names file names (k .names)) (spelled (said file names i flag t)
-      ++ trimmed (excluded-of (name-of file names) recs (k .records)) (terms-in file names refs rows (k .references) (k .terms)) (said file names i flag t)))
+  fact-named : length (fold-left spell (table-names file names (k .names)) (spelled (said file names i flag group t)
+      ++ trimmed (excluded-of (name-of file names) recs (k .records)) (terms-in file names refs rows (k .references) (k .terms)) (said file names i flag group t)))
       ≡ summed file names refs rows recs k i t .named
   unfolding spelled trimmed fact-summary names-then fact-kind
   fact-named =
@@ -131,33 +131,33 @@ module _ {file names refs rows recs lists : List ℕ} {k : Counts} (st : Standin
       ap length (spelled-before file names (k .names) i ns known)
 
   -- the line is one record
-  fact-one : summed file names refs rows recs k i t .named ≤ most-names → One-record file names refs rows (excluded-of (name-of file names) recs (k .records)) k line (said file names i flag t)
+  fact-one : summed file names refs rows recs k i t .named ≤ most-names → One-record file names refs rows (excluded-of (name-of file names) recs (k .records)) k line (said file names i flag group t)
   unfolding heads hidden-by nodes summarize-decl root-of collect
   fact-one h = record { no-term = refl; one = refl; few-names = omega (arith, fact-named) }
 
   module _ {names′ rows′ recs′ lists′ : List ℕ} (free : w ≤ 0) where
     -- as many records as may be
     pub fact-crowded : {x : Summary} → summarized.Done x ≡ limited (summed file names refs rows recs k i t) → most-records ≤ k .records
-        → Adds file names refs rows recs lists names′ rows′ recs′ lists′ k line (said file names i flag t) (step.Refused refusal.FullRecords)
+        → Adds file names refs rows recs lists names′ rows′ recs′ lists′ k line (said file names i flag group t) (step.Refused refusal.FullRecords)
     fact-crowded done =
         let within = limited-done _ done in
-        record-crowded st line (said file names i flag t) (fact-new free)
+        record-crowded st line (said file names i flag group t) (fact-new free)
         (fact-one (omega (arith, within .1, ap (λ y. y .named) (within .0))))
 
     -- more names than may be
     fact-unnamed : most-names < summed file names refs rows recs k i t .named
-        → Adds file names refs rows recs lists names′ rows′ recs′ lists′ k line (said file names i flag t) (step.Refused refusal.FullNames)
+        → Adds file names refs rows recs lists names′ rows′ recs′ lists′ k line (said file names i flag group t) (step.Refused refusal.FullNames)
     unfolding add-line excluded state-of
-    fact-unnamed h = record-beyond st line (said file names i flag t) (fact-new free) (past-names (omega (arith, fact-named)))
+    fact-unnamed h = record-beyond st line (said file names i flag group t) (fact-new free) (past-names (omega (arith, fact-named)))
 
     -- more entries or uses than may be, and the names within their limit
     fact-full : summed file names refs rows recs k i t .named ≤ most-names
         → (most-entries < summed file names refs rows recs k i t .entries) ⊎ (most-uses < summed file names refs rows recs k i t .uses)
-        → Adds file names refs rows recs lists names′ rows′ recs′ lists′ k line (said file names i flag t)
+        → Adds file names refs rows recs lists names′ rows′ recs′ lists′ k line (said file names i flag group t)
         (step.Refused (behind-records (k .records)))
     unfolding behind-records add-line excluded state-of summarize-decl summarize-assumption root-of entries-of uses-of sum fact-summary fact-kind fact-names entries
     fact-full n h =
-        let fact = said file names i flag t in
+        let fact = said file names i flag group t in
         let more : (most-entries < add-line exclude-names line (state-of file names refs rows recs lists k) fact .entries)
         ⊎ (most-uses < add-line exclude-names line (state-of file names refs rows recs lists k) fact .uses) =
         ⊎-elim (λ e. inl (omega arith)) (λ u. inr (omega arith)) h in
@@ -171,12 +171,12 @@ module _ {file names refs rows recs lists : List ℕ} {k : Counts} (st : Standin
     -- the summary passes a limit
     pub fact-over : {l : Limit} {r : Refusal} → r ≡ over-refusal l (k .records)
         → summarized.Over l ≡ limited (summed file names refs rows recs k i t)
-        → Adds file names refs rows recs lists names′ rows′ recs′ lists′ k line (said file names i flag t) (step.Refused r)
+        → Adds file names refs rows recs lists names′ rows′ recs′ lists′ k line (said file names i flag group t) (step.Refused r)
     unfolding over-refusal
     fact-over e o = rw e (go (limited-over _ o))
       where
         go : {l : Limit} → Passes (summed file names refs rows recs k i t) l
-            → Adds file names refs rows recs lists names′ rows′ recs′ lists′ k line (said file names i flag t)
+            → Adds file names refs rows recs lists names′ rows′ recs′ lists′ k line (said file names i flag group t)
             (step.Refused (over-refusal l (k .records)))
         go (names-passed h) = fact-unnamed h
         go (entries-passed n h) = fact-full n (inl h)
@@ -185,12 +185,12 @@ module _ {file names refs rows recs lists : List ℕ} {k : Counts} (st : Standin
 -- ---- the fact there
 
 module _ {file names refs rows recs lists names₁ rows′ lists₁ names′ recs′ lists′ : List ℕ} {k : Counts} (st : Standing file names refs rows recs lists k)
-    (line : ℕ) {i : ℕ} (known : i < k .names) (flag t : ℕ) {x : Summary} {next : Counts}
+    (line : ℕ) {i : ℕ} (known : i < k .names) (flag group t : ℕ) {x : Summary} {next : Counts}
     (few : k .records < most-records) (free : taken-at names i ≡ 0)
     (done : summarized.Done x ≡ limited (summed file names refs rows recs k i t))
     (filed-lists : Lists (excluded-of (name-of file names) recs (k .records)) file names refs rows (k .names) (k .references) (k .terms) i t names₁ rows′ lists₁ (k .entries) (k .uses) x)
     (slices : Slices names rows lists names₁ rows′ lists₁ (k .entries) (k .uses))
-    (puts : Puts names₁ recs lists₁ names′ recs′ lists′ k line i flag t x next) where
+    (puts : Puts names₁ recs lists₁ names′ recs′ lists′ k line i flag group t x next) where
   -- the summary is the definition's, within the limits
   within : (x ≡ summed file names refs rows recs k i t) × (x .named ≤ most-names) × (x .entries ≤ most-entries) × (x .uses ≤ most-uses)
   within = limited-done _ done
@@ -254,12 +254,12 @@ module _ {file names refs rows recs lists names₁ rows′ lists₁ names′ rec
       rw (part-agree lists₁ lists′ (e - a) a e refl high (omega (arith, high, size)) (λ j l u. list-words j (omega (arith, within .2))))
       (disjuncts-stay (name-of file names′) (name-of file names₁) (part lists₁ a e) word ∙ filed-lists .disjuncts)
 
-  row : Rowed recs recs′ k (with-record k (x .named) (x .entries) (x .uses) (x .mark)) assume-kind line i t flag (code-of (x .kind))
+  row : Rowed recs recs′ k (with-record k (x .named) (x .entries) (x .uses) (x .mark)) assume-kind line i t flag (code-of (x .kind)) group
   row = rw (puts .counts) at (puts .row)
 
   -- the record is appended
   appends : Appends file names rows recs lists names′ rows′ recs′ lists′ k (k .hides) (x .named) (x .entries) (x .uses) (x .mark) assume-kind line i t flag
-      (code-of (x .kind))
+      (code-of (x .kind)) group
   appends =
       let high : entries-base + x .entries ≤ length lists₁ = omega (arith, room, within .2) in
       let rise = entries-are in
@@ -331,7 +331,7 @@ module _ {file names refs rows recs lists names₁ rows′ lists₁ names′ rec
       known-use j l u = omega (arith, filed-lists .use-words j l u, more)
 
   fact-is : fact-at (name-of file names′) recs′ lists′ (k .records)
-      ≡ summarize-assumption (excluded-of (name-of file names) recs (k .records)) (terms-in file names refs rows (k .references) (k .terms)) line (name-of file names i) (eqb flag 1) t
+      ≡ summarize-assumption (excluded-of (name-of file names) recs (k .records)) (terms-in file names refs rows (k .references) (k .terms)) line (name-of file names i) (eqb flag 1) group t
   unfolding fact-at summarize-assumption fact-kind fact-names
   fact-is = rw (
     uses-then,
@@ -341,6 +341,7 @@ module _ {file names refs rows recs lists names₁ rows′ lists₁ names′ rec
     row .entries-from,
     row .entries-to,
     row .code-is,
+    row .group-is,
     same i known,
     code-kind (x .kind),
     kind-is,
@@ -348,11 +349,12 @@ module _ {file names refs rows recs lists names₁ rows′ lists₁ names′ rec
   )
 
   -- the record is there
-  fact-there : Adds file names refs rows recs lists names′ rows′ recs′ lists′ k line (said file names i flag t) (step.On next)
-  unfolding heads head-asks hidden-by hides-at collect nodes spelled trimmed summarize-decl root-of entries-of uses-of sum fold-left summary-at root-at names-then fact-kind fact-names entries summarize-assumption
+  fact-there : Adds file names refs rows recs lists names′ rows′ recs′ lists′ k line (said file names i flag group t) (step.On next)
+  unfolding heads head-asks hidden-by any is-grouped hides-at collect nodes spelled trimmed summarize-decl root-of entries-of uses-of sum fold-left summary-at root-at names-then fact-kind fact-names entries summarize-assumption
   fact-there =
-      rw (puts .counts) (record-added st few appends (fact-new st line known {w = 0} (sym free) flag t (omega arith)) (record {
+      rw (puts .counts) (record-added st few appends (fact-new st line known {w = 0} (sym free) flag group t (omega arith)) (record {
         no-ask = λ earlier. refl;
+        no-form = refl;
         hidden = refl;
         no-term = refl;
         spells = still .names ∙ filed-lists .spelled ∙ sym (spelled-before file names (k .names) i
@@ -381,13 +383,13 @@ module _ {file names refs rows recs lists : List ℕ} {k : Counts} (st : Standin
   }
 
   -- putting its summary into the tables
-  pub fact-puttable : {names₁ rows₁ lists₁ : List ℕ} {line flag : ℕ} {x : Summary}
+  pub fact-puttable : {names₁ rows₁ lists₁ : List ℕ} {line flag group : ℕ} {x : Summary}
       → summarized.Done x ≡ limited (summed file names refs rows recs k i t)
       → Lists (excluded-of (name-of file names) recs (k .records)) file names refs rows (k .names) (k .references) (k .terms) i t names₁ rows₁ lists₁ (k .entries) (k .uses) x
-      → Slices names rows lists names₁ rows₁ lists₁ (k .entries) (k .uses) → k .records < most-records → line < 4294967296 → flag < 2
-      → Puttable names₁ recs lists₁ k line i flag t x
+      → Slices names rows lists names₁ rows₁ lists₁ (k .entries) (k .uses) → k .records < most-records → line < 4294967296 → flag < 2 → group ≤ most-group
+      → Puttable names₁ recs lists₁ k line i flag group t x
   unfolding fact-summary fact-kind
-  fact-puttable {names₁} {lists₁ = lists₁} {line} {flag} {x} done filed-lists slices few line-small flag-small =
+  fact-puttable {names₁} {lists₁ = lists₁} {line} {flag} {group} {x} done filed-lists slices few line-small flag-small group-small =
       let (is, few-names, few-entries, few-uses) = limited-done _ done in
       let low : i < most-names = omega (arith, st .tables .name-table .few) in
       let code : code-of (x .kind) ≤ 3 + x .entries = code-low (x .kind) (x .entries) (λ m e. omega (arith, filed-lists .few-sets m e)) in
@@ -402,8 +404,8 @@ module _ {file names refs rows recs lists : List ℕ} {k : Counts} (st : Standin
         known = low;
         more = omega (arith, ap (λ y. y .entries) is);
         few-entries = few-entries;
-        small = small-row (k .hides) (x .named) (x .entries) (x .uses) (x .mark) assume-kind line i t flag (code-of (x .kind)) st refl few-entries few-uses
-            (omega arith) line-small low (omega (arith, st .tables .term-table .few-rows)) (omega arith) (omega arith);
+        small = small-row (k .hides) (x .named) (x .entries) (x .uses) (x .mark) assume-kind line i t flag (code-of (x .kind)) group st refl few-entries few-uses
+            (omega arith) line-small low (omega (arith, st .tables .term-table .few-rows)) (omega arith) (omega arith) (omega arith);
       }
 
 -- words past the tables stay where a fact is refused
@@ -420,9 +422,9 @@ over-past s = record {
 }
 
 -- and where it is there
-pub fact-past : {names rows recs lists names₁ rows₁ lists₁ names′ recs′ lists′ : List ℕ} {filed uses line i flag t : ℕ} {k : Counts} {x : Summary} {next : Counts}
+pub fact-past : {names rows recs lists names₁ rows₁ lists₁ names′ recs′ lists′ : List ℕ} {filed uses line i flag group t : ℕ} {k : Counts} {x : Summary} {next : Counts}
     → Slices names rows lists names₁ rows₁ lists₁ filed uses → x .entries ≤ most-entries → i < most-names
-    → Puts names₁ recs lists₁ names′ recs′ lists′ k line i flag t x next
+    → Puts names₁ recs lists₁ names′ recs′ lists′ k line i flag group t x next
     → Untouched names rows recs lists names′ rows₁ recs′ lists′
 fact-past {names₁ = names₁} {i = i} {k = k} s few low p =
     let put = taken-put {names = names₁} i (k .records + 1) low in
@@ -446,9 +448,9 @@ fact-past {names₁ = names₁} {i = i} {k = k} s few low p =
 -- the fact there, by what the code has found
 pub fact-added : {file names refs rows recs lists names₁ rows′ lists₁ names′ recs′ lists′ : List ℕ} {k : Counts} → Standing file names refs rows recs lists k
     → (line : ℕ) → {i : ℕ} → i < k .names
-    → {w : ℕ} → w ≡ taken-at names i → (flag t : ℕ) → {x : Summary} {next : Counts} → w ≤ 0 → k .records < most-records
+    → {w : ℕ} → w ≡ taken-at names i → (flag group t : ℕ) → {x : Summary} {next : Counts} → w ≤ 0 → k .records < most-records
     → summarized.Done x ≡ limited (summed file names refs rows recs k i t)
     → Lists (excluded-of (name-of file names) recs (k .records)) file names refs rows (k .names) (k .references) (k .terms) i t names₁ rows′ lists₁ (k .entries) (k .uses) x
-    → Slices names rows lists names₁ rows′ lists₁ (k .entries) (k .uses) → Puts names₁ recs lists₁ names′ recs′ lists′ k line i flag t x next
-    → Adds file names refs rows recs lists names′ rows′ recs′ lists′ k line (said file names i flag t) (step.On next)
-fact-added st line known is flag t h few done filed-lists slices puts = fact-there st line known flag t few (omega arith) done filed-lists slices puts
+    → Slices names rows lists names₁ rows′ lists₁ (k .entries) (k .uses) → Puts names₁ recs lists₁ names′ recs′ lists′ k line i flag group t x next
+    → Adds file names refs rows recs lists names′ rows′ recs′ lists′ k line (said file names i flag group t) (step.On next)
+fact-added st line known is flag group t h few done filed-lists slices puts = fact-there st line known flag group t few (omega arith) done filed-lists slices puts

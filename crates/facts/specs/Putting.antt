@@ -22,7 +22,7 @@ pub record Chains (names lists names′ lists′ : List ℕ) (from to fact : ℕ
   pub facts : (e : ℕ) → from ≤ e → e < to → entry-fact lists′ e ≡ fact
 
 -- what putting a summary into the tables asks
-pub record Puttable (names recs lists : List ℕ) (k : Counts) (line name flag term : ℕ) (s : Summary) : Type 0 where
+pub record Puttable (names recs lists : List ℕ) (k : Counts) (line name flag group term : ℕ) (s : Summary) : Type 0 where
   pub chained : Chained names lists (k .entries)
   pub name-room : working-words ≤ length names
   pub record-room : working-words ≤ length recs
@@ -31,10 +31,10 @@ pub record Puttable (names recs lists : List ℕ) (k : Counts) (line name flag t
   pub known : name < most-names
   pub more : k .entries ≤ s .entries
   pub few-entries : s .entries ≤ most-entries
-  pub small : Small k (with-record k (s .named) (s .entries) (s .uses) (s .mark)) assume-kind line name term flag (code-of (s .kind))
+  pub small : Small k (with-record k (s .named) (s .entries) (s .uses) (s .mark)) assume-kind line name term flag (code-of (s .kind)) group
 
 -- a summary put into the tables: the counts, the row, the name taken, the entries chained
-pub record Puts (names recs lists names′ recs′ lists′ : List ℕ) (k : Counts) (line name flag term : ℕ) (s : Summary) (r : Counts) : Type 0 where
+pub record Puts (names recs lists names′ recs′ lists′ : List ℕ) (k : Counts) (line name flag group term : ℕ) (s : Summary) (r : Counts) : Type 0 where
   pub counts : r ≡ with-record k (s .named) (s .entries) (s .uses) (s .mark)
-  pub row : Rowed recs recs′ k r assume-kind line name term flag (code-of (s .kind))
+  pub row : Rowed recs recs′ k r assume-kind line name term flag (code-of (s .kind)) group
   pub chains : Chains (set names (taken-column + name) (k .records + 1)) lists names′ lists′ (k .entries) (s .entries) (k .records)

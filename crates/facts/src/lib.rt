@@ -9,7 +9,7 @@ ghost use Prim.Native.Nat.{_≤_, _<_};
 ghost use mathlib.Core.Path.{_≡_};
 ghost use lib.ListN.{length};
 ghost use lib.Dec.{eqb};
-ghost use Rattle.model.specs.Reading.{assume, most-names, most-records, most-entries};
+ghost use Rattle.model.specs.Reading.{assume, most-group, most-names, most-records, most-entries};
 ghost use Rattle.model.specs.Outcome.{working-words};
 ghost use Rattle.names.specs.Table.{name-of};
 ghost use Rattle.records.specs.Columns.{code-of};
@@ -64,18 +64,30 @@ fn put_fact(
     line: usize,
     name: usize,
     flag: usize,
+    group: usize,
     t: usize,
     s: Summary,
 ) -> Counts
-    requires { ⌜ Puttable (now names) (now recs) (now lists) k line name flag t s ⌝ }
+    requires { ⌜ Puttable (now names) (now recs) (now lists) k line name flag group t s ⌝ }
     ensures { λ r. ⌜ Puts (now (names .entry)) (now (recs .entry)) (now (lists .entry)) (now (names .exit)) (now (recs .exit))
-        (now (lists .exit)) k line name flag t s r ⌝ }
+        (now (lists .exit)) k line name flag group t s r ⌝ }
 {
     let kind = s.kind;
     let word = code(kind);
     names[records::TAKEN + name] = (k.records + 1) as u32;
     let next = records::with_record(k, s.named, s.entries, s.uses, s.mark);
-    records::put_record(recs, k, next, records::ASSUME, line, name, t, flag, word);
+    records::put_record(
+        recs,
+        k,
+        next,
+        records::ASSUME,
+        line,
+        name,
+        t,
+        flag,
+        word,
+        group,
+    );
     chain_entries(names, lists, k.entries, s.entries, k.records);
     next
 }
@@ -101,7 +113,7 @@ fn over_refusal(limit: Limit, records: usize) -> Refusal
     }
 }
 
-// Adds the fact of an `assume` record, its name and its term by number: it is filed whether it is retainable or not.
+// Adds the fact of an `assume` record, its name and its term by number: its entries stand in the tables whatever its flag and its group.
 pub fn add_fact(
     file: &[u8],
     names: &mut [u32],
@@ -113,13 +125,15 @@ pub fn add_fact(
     line: usize,
     name: usize,
     flag: usize,
+    group: usize,
     t: usize,
 ) -> Step
     requires { ⌜ (k .names ≤ most-names → Standing (now file) (now names) (now refs) (now rows) (now recs) (now lists) k
-        × (name < k .names)) × (t < k .terms) × (line < 4294967296) × (flag < 2) ⌝ }
+        × (name < k .names)) × (t < k .terms) × (line < 4294967296) × (flag < 2)
+        × (group ≤ most-group) ⌝ }
     ensures record { λ r. ⌜ Adds (now (file .entry)) (now (names .entry)) (now (refs .entry)) (now (rows .entry))
         (now (recs .entry)) (now (lists .entry)) (now (names .exit)) (now (rows .exit)) (now (recs .exit)) (now (lists .exit)) k
-        line (assume (name-of (now (file .entry)) (now (names .entry)) name) (eqb flag 1) t) r ⌝ }
+        line (assume (name-of (now (file .entry)) (now (names .entry)) name) (eqb flag 1) group t) r ⌝ }
     ensures past { λ r. ⌜ Untouched (now (names .entry)) (now (rows .entry)) (now (recs .entry)) (now (lists .entry))
         (now (names .exit)) (now (rows .exit)) (now (recs .exit)) (now (lists .exit)) ⌝ }
 {
@@ -149,7 +163,7 @@ pub fn add_fact(
             if model::MOST_RECORDS <= count {
                 return Step::Refused(Refusal::FullRecords);
             }
-            Step::On(put_fact(names, recs, lists, k, line, name, flag, t, s))
+            Step::On(put_fact(names, recs, lists, k, line, name, flag, group, t, s))
         }
         Summarized::Over(limit) => Step::Refused(over_refusal(limit, count)),
     }

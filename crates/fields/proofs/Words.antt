@@ -3,7 +3,7 @@ use Prim.Native.Nat.{ℕ, zero, suc, _+_, _-_, _*_, _≤_, _<_}
 use Prim.Native.String.{String}
 use native.Mathlib.Omega.{arith}
 use mathlib.Core.Path.{_≡_, refl, sym, ap, ap₂, _∙_}
-use mathlib.Core.Bool.{Bool, true, false, cond, not, _&&_, and-true, and-false, and-eq-true-iff}
+use mathlib.Core.Bool.{Bool, true, false, cond, not, _&&_, Bool·beq, and-true, and-false, and-eq-true-iff}
 use mathlib.Core.List.{List, [], _∷_}
 use mathlib.Core.Option.{Option, none, some}
 use lib.ListN.{length, getD}
@@ -12,7 +12,7 @@ use borrow.Author.Tests.{eq-eqb, ne-eqb, ltb-true, leb-true}
 use Rattle.model.specs.Lists.{all, holds, part}
 use Rattle.model.specs.Names.{bytes, same}
 use Rattle.model.specs.Lines.{Field}
-use Rattle.model.specs.Reading.{Result, ok, refused, _>>=_, need, next, word, op-words, kinds, State, another, in-head, in-asks, place, may-stand, is-position, most-asks, kind-field, fixed-count, content, parse}
+use Rattle.model.specs.Reading.{Result, ok, refused, _>>=_, need, next, word, op-words, kinds, State, an-ask, another, in-head, in-asks, of-form, place, may-stand, is-position, most-asks, kind-field, fixed-count, Content, content, parse}
 use Rattle.model.specs.declared.Counts.{Counts}
 use Rattle.model.specs.declared.LineKind.{LineKind}
 use Rattle.model.specs.declared.LineKind.the-variants as kind
@@ -156,10 +156,38 @@ module _ {A : Type 0} where
 -- ---- the kind of a line
 
 module _ {s : State} {k : Counts} (p : Placing s k) where
-  -- an ask
-  pub stands-ask : {b : Bool} → b ≡ in-asks s → b ≡ stands s kinded.Ask
-  unfolding stands place may-stand
-  stands-ask e = e
+  -- an ask: of either form before every other
+  pub form-first : k .asks ≡ 0 → (grouped : Bool) → true ≡ of-form s grouped
+  unfolding of-form
+  form-first h grouped = rw (p .no-asks, eq-eqb (k .asks) 0 h)
+
+  -- behind one with groups, with groups
+  pub form-grouped : (k .asks ≡ 0 → ⊥) → k .grouped ≡ true → (grouped : Bool) → grouped ≡ of-form s grouped
+  unfolding of-form
+  form-grouped h e grouped = rw (p .no-asks, ne-eqb (k .asks) 0 h, p .form, e) (go grouped)
+    where
+      go : (b : Bool) → b ≡ Bool·beq b true
+      go true = refl
+      go false = refl
+
+  -- behind one without, without
+  pub form-plain : (k .asks ≡ 0 → ⊥) → k .grouped ≡ false → (grouped : Bool) → not grouped ≡ of-form s grouped
+  unfolding of-form
+  form-plain h e grouped = rw (p .no-asks, ne-eqb (k .asks) 0 h, p .form, e) (go grouped)
+    where
+      go : (b : Bool) → not b ≡ Bool·beq b false
+      go true = refl
+      go false = refl
+
+  -- where none but ask and also lines are, its form decides
+  pub ask-by : (grouped : Bool) → true ≡ in-asks s → {b : Bool} → b ≡ of-form s grouped → b ≡ may-stand s (an-ask grouped)
+  unfolding may-stand
+  ask-by grouped e d = rw (← e) d
+
+  -- and nowhere else
+  pub ask-not : (grouped : Bool) → false ≡ in-asks s → false ≡ may-stand s (an-ask grouped)
+  unfolding may-stand
+  ask-not grouped e = rw (← e)
 
   -- an also line: behind an ask, where none but such lines are
   pub stands-also : true ≡ in-asks s → not (eqb (k .asks) 0) ≡ stands s kinded.Also
@@ -185,6 +213,10 @@ module _ {s : State} {k : Counts} (p : Placing s k) where
   pub over-ask : leb most-asks (k .asks) ≡ over s kinded.Ask
   unfolding over place is-position
   over-ask = rw (p .asks)
+
+  pub over-ask2 : leb most-asks (k .asks) ≡ over s kinded.Ask2
+  unfolding over place is-position
+  over-ask2 = rw (p .asks)
 
   -- an also line more than may be
   pub over-also : leb most-asks (k .asks) ≡ over s kinded.Also
@@ -234,6 +266,15 @@ module _ {s : State} {k : Counts} (p : Placing s k) where
   stands-record recorded.Def = later
   stands-record recorded.Retain = later
   stands-record recorded.Root = later
+
+-- an ask line of each form
+pub stands-ask : (s : State) → may-stand s (an-ask false) ≡ stands s kinded.Ask
+unfolding stands place
+stands-ask s = refl
+
+pub stands-ask2 : (s : State) → may-stand s (an-ask true) ≡ stands s kinded.Ask2
+unfolding stands place
+stands-ask2 s = refl
 
 -- no kind
 pub stands-none : (s : State) (x : Refusal) → true ≡ stands s (kinded.No x)
@@ -286,6 +327,7 @@ kind-tested : (s : State) (r : Kind) → (kind-result r >>= judged-kind s)
     ≡ cond (stands s r) (cond (over s r) (refused refusal.FullAsks) (kind-result r)) (refused refusal.Form)
 unfolding kind-result stands over
 kind-tested s kinded.Ask = placed-kind s kind.Ask (may-stand s (place kind.Ask))
+kind-tested s kinded.Ask2 = placed-kind s kind.Ask2 (may-stand s (place kind.Ask2))
 kind-tested s kinded.Also = placed-kind s kind.Also (may-stand s (place kind.Also))
 kind-tested s kinded.Hide = placed-kind s kind.Hide (may-stand s (place kind.Hide))
 kind-tested s (kinded.Term t) = placed-kind s (term-kind t) (may-stand s (place (term-kind t)))
@@ -329,10 +371,17 @@ op-none {key} f k h = ap as-op (look-none (Unit {0}) key op-words h) ∙ op-key 
 
 -- ---- the number of fields
 
+-- an assume has one field more in the form with groups
+pub assume-count : {s : State} {k : Counts} → Placing s k → {b : Bool} → k .grouped ≡ b
+    → cond b 5 4 ≡ count-of (fixed-of s (kinded.Record recorded.Assume))
+unfolding count-of fixed-of record-line-kind fixed-count
+assume-count p e = rw (p .form, e)
+
 -- no fixed count is 0
 fixed-some : (s : State) (k : LineKind) → count-of (fixed-count s k) ≡ 0 → fixed-count s k ≡ none
 unfolding fixed-count count-of
 fixed-some s kind.Ask e = absurd (omega arith)
+fixed-some s kind.Ask2 e = absurd (omega arith)
 fixed-some s kind.Also e = absurd (omega arith)
 fixed-some s kind.Hide e = absurd (omega arith)
 fixed-some s kind.Free e = absurd (omega arith)
@@ -343,7 +392,11 @@ fixed-some s kind.All e = refl
 fixed-some s kind.Some e = refl
 fixed-some s kind.Let e = refl
 fixed-some s kind.Label e = absurd (omega arith)
-fixed-some s kind.Assume e = absurd (omega arith)
+fixed-some s kind.Assume e = absurd (go (s .grouped) e)
+  where
+    go : (b : Bool) → _≡_ {A = ℕ} (cond b 5 4) 0 → ⊥
+    go true q = omega arith
+    go false q = omega arith
 fixed-some s kind.Fun e = absurd (omega arith)
 fixed-some s kind.Def e = absurd (omega arith)
 fixed-some s kind.Retain e = refl
@@ -353,6 +406,7 @@ fixed-some s kind.Root e = absurd (omega arith)
 fixed-none : (s : State) (k : Kind) → count-of (fixed-of s k) ≡ 0 → fixed-of s k ≡ none
 unfolding fixed-of
 fixed-none s kinded.Ask e = fixed-some s kind.Ask e
+fixed-none s kinded.Ask2 e = fixed-some s kind.Ask2 e
 fixed-none s kinded.Also e = fixed-some s kind.Also e
 fixed-none s kinded.Hide e = fixed-some s kind.Hide e
 fixed-none s (kinded.Term t) e = fixed-some s (term-kind t) e
@@ -392,19 +446,22 @@ turned true x y = refl
 turned false x y = refl
 
 -- a line by its kind and the number of its fields
-pub parse-law : (s : State) {count : ℕ} (f : Field) (fs : List Field) (r : Kind) → length (s .terms) ≡ count → kind-result r ≡ kind-field s f
-    → parse s (f ∷ fs) ≡ (kind-result r >>= λ k. cond (well-counted s r (f ∷ fs)) (content k count fs) (refused refusal.Form))
+pub parse-law : (s : State) {grouped : Bool} {count : ℕ} (f : Field) (fs : List Field) (r : Kind) → s .grouped ≡ grouped → length (s .terms) ≡ count
+    → kind-result r ≡ kind-field s f
+    → parse s (f ∷ fs) ≡ (kind-result r >>= λ k. cond (well-counted s r (f ∷ fs)) (content k grouped count fs) (refused refusal.Form))
 unfolding parse next kind-result well-counted fixed-of
-parse-law s {count} f fs r d e = rw (← e, ← d) (go r)
+parse-law s {grouped} {count} f fs r g d e = rw (← e, ← g, ← d) (go r)
   where
-    terms : ℕ
-    terms = length (s .terms)
+    says : LineKind → Result Content
+    says k = content k (s .grouped) (length (s .terms)) fs
 
-    go : (r : Kind) → (kind-result r >>= (λ k. and-after fs k) >>= λ (k, gs). cond (wrong s (f ∷ fs) k) (refused refusal.Form) (content k terms gs))
-        ≡ (kind-result r >>= λ k. cond (well-counted s r (f ∷ fs)) (content k terms fs) (refused refusal.Form))
-    go kinded.Ask = turned (wrong s (f ∷ fs) kind.Ask) (refused refusal.Form) (content kind.Ask terms fs)
-    go kinded.Also = turned (wrong s (f ∷ fs) kind.Also) (refused refusal.Form) (content kind.Also terms fs)
-    go kinded.Hide = turned (wrong s (f ∷ fs) kind.Hide) (refused refusal.Form) (content kind.Hide terms fs)
-    go (kinded.Term t) = turned (wrong s (f ∷ fs) (term-kind t)) (refused refusal.Form) (content (term-kind t) terms fs)
-    go (kinded.Record r) = turned (wrong s (f ∷ fs) (record-line-kind r)) (refused refusal.Form) (content (record-line-kind r) terms fs)
+    go : (r : Kind) → (kind-result r >>= (λ k. and-after fs k)
+        >>= λ (k, gs). cond (wrong s (f ∷ fs) k) (refused refusal.Form) (content k (s .grouped) (length (s .terms)) gs))
+        ≡ (kind-result r >>= λ k. cond (well-counted s r (f ∷ fs)) (content k (s .grouped) (length (s .terms)) fs) (refused refusal.Form))
+    go kinded.Ask = turned (wrong s (f ∷ fs) kind.Ask) (refused refusal.Form) (says kind.Ask)
+    go kinded.Ask2 = turned (wrong s (f ∷ fs) kind.Ask2) (refused refusal.Form) (says kind.Ask2)
+    go kinded.Also = turned (wrong s (f ∷ fs) kind.Also) (refused refusal.Form) (says kind.Also)
+    go kinded.Hide = turned (wrong s (f ∷ fs) kind.Hide) (refused refusal.Form) (says kind.Hide)
+    go (kinded.Term t) = turned (wrong s (f ∷ fs) (term-kind t)) (refused refusal.Form) (says (term-kind t))
+    go (kinded.Record r) = turned (wrong s (f ∷ fs) (record-line-kind r)) (refused refusal.Form) (says (record-line-kind r))
     go (kinded.No x) = refl

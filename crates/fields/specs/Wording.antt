@@ -18,7 +18,9 @@ use Rattle.model.specs.declared.Op.{Op}
 use Rattle.model.specs.declared.Refusal.{Refusal}
 use Rattle.model.specs.declared.Refusal.the-variants as refusal
 use Rattle.text.specs.declared.Cursor.{Cursor}
-use Rattle.text.specs.Parts.{fields-left}
+use Rattle.text.specs.declared.NumberStep.{NumberStep}
+use Rattle.text.specs.declared.NumberStep.the-variants as numbered
+use Rattle.text.specs.Parts.{fields-left, number-at}
 use Rattle.text.proofs.Laws.{Onward}
 use Rattle.fields.specs.declared.TermKind.{TermKind}
 use Rattle.fields.specs.declared.TermKind.the-variants as termed
@@ -83,6 +85,7 @@ record-line-kind recorded.Root = kind.Root
 -- the kind of a line, or its refusal
 unfoldable pub kind-result : Kind → Result LineKind
 kind-result kinded.Ask = ok kind.Ask
+kind-result kinded.Ask2 = ok kind.Ask2
 kind-result kinded.Also = ok kind.Also
 kind-result kinded.Hide = ok kind.Hide
 kind-result (kinded.Term t) = ok (term-kind t)
@@ -92,6 +95,7 @@ kind-result (kinded.No x) = refused x
 -- whether a line of the kind may stand next; what has no kind is refused for that
 unfoldable pub stands : State → Kind → Bool
 stands s kinded.Ask = may-stand s (place kind.Ask)
+stands s kinded.Ask2 = may-stand s (place kind.Ask2)
 stands s kinded.Also = may-stand s (place kind.Also)
 stands s kinded.Hide = may-stand s (place kind.Hide)
 stands s (kinded.Term t) = may-stand s (place (term-kind t))
@@ -101,16 +105,18 @@ stands s (kinded.No x) = true
 -- whether a line of the kind is a position more than a file may have
 unfoldable pub over : State → Kind → Bool
 over s kinded.Ask = is-position (place kind.Ask) && leb most-asks (length (s .asks))
+over s kinded.Ask2 = is-position (place kind.Ask2) && leb most-asks (length (s .asks))
 over s kinded.Also = is-position (place kind.Also) && leb most-asks (length (s .asks))
 over s kinded.Hide = is-position (place kind.Hide) && leb most-asks (length (s .asks))
 over s (kinded.Term t) = is-position (place (term-kind t)) && leb most-asks (length (s .asks))
 over s (kinded.Record r) = is-position (place (record-line-kind r)) && leb most-asks (length (s .asks))
 over s (kinded.No x) = false
 
--- the counts say what of a state decides where a line may stand
+-- the counts say what of a state decides where a line may stand and how many fields it has
 pub record Placing (s : State) (k : Counts) : Type 0 where
   pub asks : length (s .asks) ≡ k .asks
   pub no-asks : is-nil (s .asks) ≡ eqb (k .asks) 0
+  pub form : s .grouped ≡ k .grouped
   pub no-hidden : is-nil (s .hidden) ≡ eqb (k .hides) 0
   pub no-terms : is-nil (s .terms) ≡ eqb (k .terms) 0
   pub no-records : (is-nil (s .decls) && is-nil (s .roots)) ≡ eqb (k .records) (k .hides)
@@ -118,6 +124,7 @@ pub record Placing (s : State) (k : Counts) : Type 0 where
 -- the fields of the next line, the kind counted, where their count is fixed
 unfoldable pub fixed-of : State → Kind → Option ℕ
 fixed-of s kinded.Ask = fixed-count s kind.Ask
+fixed-of s kinded.Ask2 = fixed-count s kind.Ask2
 fixed-of s kinded.Also = fixed-count s kind.Also
 fixed-of s kinded.Hide = fixed-count s kind.Hide
 fixed-of s (kinded.Term t) = fixed-count s (term-kind t)
@@ -148,3 +155,8 @@ pub data Reads-op (file : List ℕ) (c : Cursor) : OpStep → Type 0 where
       → next op-field (fields-left file c) ≡ ok (w, fields-left file after) → Onward file c after
       → Reads-op file c (worded.Is w after)
   op-not : {x : Refusal} → next op-field (fields-left file c) ≡ refused x → Reads-op file c (worded.Refused x)
+
+-- the number at a cursor where the form of the file has the field, else a number that stands for it
+unfoldable pub number-or : Bool → ℕ → ℕ → List ℕ → Cursor → NumberStep
+number-or true limit other file c = number-at limit file c
+number-or false limit other file c = numbered.Number other c

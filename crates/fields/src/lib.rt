@@ -10,11 +10,11 @@ ghost use mathlib.Core.Path.{_≡_};
 ghost use lib.ListN.{length};
 ghost use Rattle.model.specs.Lists.{part};
 ghost use Rattle.model.specs.Lines.{fields};
-ghost use Rattle.model.specs.Reading.{need, word, op-words, kinds, State, in-head, in-asks, kind-field};
+ghost use Rattle.model.specs.Reading.{need, word, op-words, kinds, State, an-ask, in-head, in-asks, may-stand, kind-field};
 ghost use Rattle.model.specs.declared.Refusal.the-variants as refusal;
 ghost use Rattle.text.specs.Parts.{Placed, fields-left};
 ghost use Rattle.names.specs.Table.{Table};
-ghost use Rattle.fields.specs.Wording.{Keyed, look, kind-result, stands, over, Placing, count-of, fixed-of, well-counted, as-op, Reads-op};
+ghost use Rattle.fields.specs.Wording.{Keyed, look, kind-result, stands, over, Placing, count-of, fixed-of, well-counted, as-op, Reads-op, number-or};
 ghost use Rattle.fields.specs.Pushing.{most-number, push-one, push-many, push-rest, push-groups, Pushable, Pushes};
 ghost use Rattle.fields.specs.Spelling.{Begun, Spells, Reads-name, Spells-rest};
 
@@ -42,6 +42,7 @@ pub enum RecordKind {
 // The kind of a line, or the refusal of a line that has none.
 pub enum Kind {
     Ask,
+    Ask2,
     Also,
     Hide,
     Term(TermKind),
@@ -57,6 +58,8 @@ enum OpWord {
 
 // The keys of the kinds and of the op words: a 1, then the bytes of the word.
 const ASK: u64 = 0x1_61_73_6b;
+
+const ASK2: u64 = 0x1_61_73_6b_32;
 
 const ALSO: u64 = 0x1_61_6c_73_6f;
 
@@ -124,6 +127,7 @@ fn kind_of(key: u64) -> Kind
 {
     match key {
         ASK => Kind::Ask,
+        ASK2 => Kind::Ask2,
         ALSO => Kind::Also,
         HIDE => Kind::Hide,
         FREE => Kind::Term(TermKind::Free),
@@ -163,13 +167,30 @@ fn in_asks(k: Counts) -> bool
     in_head(k)
 }
 
-// Whether a line of a kind may stand after the lines counted: an ask first, then ask and also lines; then hide lines; then any
-// other. What has no kind is refused for that.
+// Whether an ask line, with groups or without, may stand after the lines counted: those are asks of its form and also lines.
+fn ask_stands(k: Counts, grouped: bool) -> bool
+    ensures { λ r. ⌜ ((s : State) → Placing s k → r ≡ may-stand s (an-ask grouped)) ⌝ }
+{
+    if !in_asks(k) {
+        return false;
+    }
+    if k.asks == 0 {
+        return true;
+    }
+    if k.grouped {
+        return grouped;
+    }
+    !grouped
+}
+
+// Whether a line of a kind may stand after the lines counted: an ask first, then asks of its form and also lines; then hide lines;
+// then any other. What has no kind is refused for that.
 fn may_stand(k: Counts, kind: Kind) -> bool
     ensures { λ r. ⌜ ((s : State) → Placing s k → r ≡ stands s kind) ⌝ }
 {
     match kind {
-        Kind::Ask => in_asks(k),
+        Kind::Ask => ask_stands(k, false),
+        Kind::Ask2 => ask_stands(k, true),
         Kind::Also => {
             if in_asks(k) {
                 return k.asks != 0;
@@ -194,6 +215,7 @@ fn too_many(k: Counts, kind: Kind) -> bool
 {
     match kind {
         Kind::Ask => model::MOST_ASKS <= k.asks,
+        Kind::Ask2 => model::MOST_ASKS <= k.asks,
         Kind::Also => model::MOST_ASKS <= k.asks,
         Kind::Hide => false,
         Kind::Term(_) => false,
@@ -249,11 +271,16 @@ fn term_count(kind: TermKind) -> usize
 }
 
 // The same of a record line.
-fn record_count(kind: RecordKind) -> usize
-    ensures { λ r. ⌜ ((s : State) → r ≡ count-of (fixed-of s (Kind.Record kind))) ⌝ }
+fn record_count(k: Counts, kind: RecordKind) -> usize
+    ensures { λ r. ⌜ ((s : State) → Placing s k → r ≡ count-of (fixed-of s (Kind.Record kind))) ⌝ }
 {
     match kind {
-        RecordKind::Assume => 4,
+        RecordKind::Assume => {
+            if k.grouped {
+                return 5;
+            }
+            4
+        }
         RecordKind::Fun => 2,
         RecordKind::Def => 3,
         RecordKind::Retain => 0,
@@ -262,25 +289,26 @@ fn record_count(kind: RecordKind) -> usize
 }
 
 // The same of any line.
-fn fixed_count(kind: Kind) -> usize
-    ensures { λ r. ⌜ ((s : State) → r ≡ count-of (fixed-of s kind)) ⌝ }
+fn fixed_count(k: Counts, kind: Kind) -> usize
+    ensures { λ r. ⌜ ((s : State) → Placing s k → r ≡ count-of (fixed-of s kind)) ⌝ }
 {
     match kind {
         Kind::Ask => 3,
+        Kind::Ask2 => 4,
         Kind::Also => 2,
         Kind::Hide => 2,
         Kind::Term(t) => term_count(t),
-        Kind::Record(r) => record_count(r),
+        Kind::Record(r) => record_count(k, r),
         Kind::No(_) => 0,
     }
 }
 
 // Whether the line from `a` up to `e` has as many fields as its kind asks for; where that is not fixed, they are not counted.
-pub fn counted(file: &[u8], kind: Kind, a: usize, e: usize) -> bool
+pub fn counted(file: &[u8], k: Counts, kind: Kind, a: usize, e: usize) -> bool
     requires { ⌜ (a ≤ e) × (e ≤ length (now file)) × (length (now file) ≤ 65535) ⌝ }
-    ensures { λ r. ⌜ ((s : State) → r ≡ well-counted s kind (fields (part (now (file .entry)) a e))) ⌝ }
+    ensures { λ r. ⌜ ((s : State) → Placing s k → r ≡ well-counted s kind (fields (part (now (file .entry)) a e))) ⌝ }
 {
-    let fixed = fixed_count(kind);
+    let fixed = fixed_count(k, kind);
     if fixed == 0 {
         return true;
     }
@@ -497,4 +525,15 @@ pub fn read_op_word(file: &[u8], c: Cursor) -> OpStep
         },
         FieldStep::Refused(r) => OpStep::Refused(r),
     }
+}
+
+// The number that the next field is where the form of the file has the field, else a number that stands for it.
+pub fn number_or(file: &[u8], stands: bool, limit: u32, other: u32, c: Cursor) -> NumberStep
+    requires { ⌜ Placed (now file) c ⌝ }
+    ensures { λ r. ⌜ r ≡ number-or stands limit other (now (file .entry)) c ⌝ }
+{
+    if stands {
+        return c.number(file, limit);
+    }
+    NumberStep::Number(other, c)
 }

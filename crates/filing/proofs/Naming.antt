@@ -101,6 +101,7 @@ module _ {file names refs rows recs lists names′ : List ℕ} {k : Counts} {nam
       → state-of file names′ refs rows recs lists (with-names k named′)
       ≡ record {
         asks = state-of file names refs rows recs lists k .asks;
+        grouped = k .grouped;
         hidden = state-of file names refs rows recs lists k .hidden;
         terms = state-of file names refs rows recs lists k .terms;
         names = ns;
@@ -149,6 +150,7 @@ module _ {file names refs rows recs lists names′ : List ℕ} {k : Counts} {nam
 abbrev pub with-spelled : State → List Name → State
 with-spelled s ns = record {
   asks = s .asks;
+  grouped = s .grouped;
   hidden = s .hidden;
   terms = s .terms;
   names = ns;

@@ -45,9 +45,9 @@ def-name : (t : ℕ) (x : Name) → spelled (def x t) ≡ x ∷ []
 unfolding spelled
 def-name t x = refl
 
-assume-name : (flag : Bool) (t : ℕ) (x : Name) → spelled (assume x flag t) ≡ x ∷ []
+assume-name : (flag : Bool) (group t : ℕ) (x : Name) → spelled (assume x flag group t) ≡ x ∷ []
 unfolding spelled
-assume-name flag t x = refl
+assume-name flag group t x = refl
 
 root-name : (q t : ℕ) (x : Name) → spelled (root q x t) ≡ x ∷ []
 unfolding spelled
@@ -65,9 +65,10 @@ def-takes : (exclude : List Name) (terms : List Term) (n t : ℕ) (x : Name) →
 unfolding collect taken-by summarize-decl
 def-takes exclude terms n t x = refl
 
-assume-takes : (exclude : List Name) (terms : List Term) (n : ℕ) (flag : Bool) (t : ℕ) (x : Name) → collect taken-by (summarize-decl exclude terms n (assume x flag t)) ≡ x ∷ []
+assume-takes : (exclude : List Name) (terms : List Term) (n : ℕ) (flag : Bool) (group t : ℕ) (x : Name)
+    → collect taken-by (summarize-decl exclude terms n (assume x flag group t)) ≡ x ∷ []
 unfolding collect taken-by summarize-decl Rattle.model.specs.Summaries.summarize-assumption
-assume-takes exclude terms n flag t x = refl
+assume-takes exclude terms n flag group t x = refl
 
 root-takes : (exclude : List Name) (terms : List Term) (n q t : ℕ) (x : Name) → collect taken-by (summarize-decl exclude terms n (root q x t)) ≡ []
 unfolding collect summarize-decl
@@ -92,11 +93,11 @@ pub line-said : {file names refs rows recs lists names′ refs′ rows′ recs�
 line-said e l = rw e l
 
 -- a record line by its kind
-pub record-line : {file names refs rows recs lists names′ refs′ rows′ recs′ lists′ : List ℕ} {k : Counts} {n : ℕ} (count : ℕ)
+pub record-line : {file names refs rows recs lists names′ refs′ rows′ recs′ lists′ : List ℕ} {k : Counts} {n : ℕ} (grouped : Bool) (count : ℕ)
     (fs : List Field) {kind known : RecordKind} {r : Step} → kind ≡ known
-    → Line-read file names refs rows recs lists names′ refs′ rows′ recs′ lists′ k n (content (record-line-kind known) count fs) r
-    → Line-read file names refs rows recs lists names′ refs′ rows′ recs′ lists′ k n (content (record-line-kind kind) count fs) r
-record-line count fs e l = rw e l
+    → Line-read file names refs rows recs lists names′ refs′ rows′ recs′ lists′ k n (content (record-line-kind known) grouped count fs) r
+    → Line-read file names refs rows recs lists names′ refs′ rows′ recs′ lists′ k n (content (record-line-kind kind) grouped count fs) r
+record-line grouped count fs e l = rw e l
 
 module _ {file names refs rows recs lists : List ℕ} {k : Counts} (n : ℕ) {c : Cursor} (st : Standing file names refs rows recs lists k) where
   -- the name is refused
@@ -117,21 +118,21 @@ module _ {file names refs rows recs lists : List ℕ} {k : Counts} (n : ℕ) {c 
         (u : Untouched names′ rows recs lists names″ rows″ recs″ lists″) where
       -- a `fun`
       pub fun-line : last .end < last .at → Adds file names′ refs rows recs lists names″ rows″ recs″ lists″ next n (fun (name-of file names′ i)) s
-          → Line-read file names refs rows recs lists names″ refs rows″ recs″ lists″ k n (content kind.Fun (k .terms) (fields-left file c)) s
+          → Line-read file names refs rows recs lists names″ refs rows″ recs″ lists″ k n (content kind.Fun (k .grouped) (k .terms) (fields-left file c)) s
       fun-line h a = record {
         reads = record-reads n st (r .spelled) fun fun-name
             (not-taken n st (r .spelled) (fun (r .name)) (fun-name (r .name)) (fun-takes _ _ n (r .name)))
-            (one-said (fields-left file c) fun (fun-is (k .terms) (fields-left file c)) (r .said) (end-none (fun (r .name)) file last h)) q a;
+            (one-said (fields-left file c) fun (fun-is (k .grouped) (k .terms) (fields-left file c)) (r .said) (end-none (fun (r .name)) file last h)) q a;
         past = past-then refs (spelled-past (r .spelled .longer)) u;
       }
 
       -- a `hide`
       pub hide-line : last .end < last .at → Adds file names′ refs rows recs lists names″ rows″ recs″ lists″ next n (head (hide (name-of file names′ i))) s
-          → Line-read file names refs rows recs lists names″ refs rows″ recs″ lists″ k n (content kind.Hide (k .terms) (fields-left file c)) s
+          → Line-read file names refs rows recs lists names″ refs rows″ recs″ lists″ k n (content kind.Hide (k .grouped) (k .terms) (fields-left file c)) s
       hide-line h a = record {
         reads = record-reads n st (r .spelled) (λ x. head (hide x)) hide-name
             (λ l. repeats-none n (state-of file names refs rows recs lists k) (head (hide (r .name))) (hide-takes _ _ n (r .name)))
-            (one-said (fields-left file c) (λ x. head (hide x)) (hide-is (k .terms) (fields-left file c)) (r .said)
+            (one-said (fields-left file c) (λ x. head (hide x)) (hide-is (k .grouped) (k .terms) (fields-left file c)) (r .said)
             (end-none (head (hide (r .name))) file last h)) q a;
         past = past-then refs (spelled-past (r .spelled .longer)) u;
       }
@@ -139,11 +140,11 @@ module _ {file names refs rows recs lists : List ℕ} {k : Counts} (n : ℕ) {c 
       -- a `def`
       pub def-line : {t : ℕ} → last-field (k .terms) (fields-left file last) ≡ ok t
           → Adds file names′ refs rows recs lists names″ rows″ recs″ lists″ next n (def (name-of file names′ i) t) s
-          → Line-read file names refs rows recs lists names″ refs rows″ recs″ lists″ k n (content kind.Def (k .terms) (fields-left file c)) s
+          → Line-read file names refs rows recs lists names″ refs rows″ recs″ lists″ k n (content kind.Def (k .grouped) (k .terms) (fields-left file c)) s
       def-line {t} h a = record {
         reads = record-reads n st (r .spelled) (λ x. def x t) (def-name t)
             (not-taken n st (r .spelled) (def (r .name) t) (def-name t (r .name)) (def-takes _ _ n t (r .name)))
-            (def-said (k .terms) (fields-left file c) (r .said) h) q a;
+            (def-said (k .grouped) (k .terms) (fields-left file c) (r .said) h) q a;
         past = past-then refs (spelled-past (r .spelled .longer)) u;
       }
 
@@ -160,13 +161,14 @@ module _ {file names refs rows recs lists : List ℕ} {k : Counts} (n : ℕ) {c 
 
       -- an `assume`
       pub assume-line : Adds-fact file names′ refs rows recs lists names″ rows″ recs″ lists″ next n i (fields-left file last) s
-          → Line-read file names refs rows recs lists names″ refs rows″ recs″ lists″ k n (content kind.Assume (k .terms) (fields-left file c)) s
+          → Line-read file names refs rows recs lists names″ refs rows″ recs″ lists″ k n (content kind.Assume (k .grouped) (k .terms) (fields-left file c)) s
       assume-line a = record { reads = go (rw q at a); past = past-then refs (spelled-past (r .spelled .longer)) u }
         where
           go : Adds-fact file names′ refs rows recs lists names″ rows″ recs″ lists″ (with-names k named′) n i (fields-left file last) s
-              → Reads file names″ refs rows″ recs″ lists″ n (state-of file names refs rows recs lists k) (content kind.Assume (k .terms) (fields-left file c)) s
-          go (fact-adds flag {t} e b) =
-              record-reads n st (r .spelled) (λ x. assume x (eqb flag 1) t) (assume-name (eqb flag 1) t)
-              (not-taken n st (r .spelled) (assume (r .name) (eqb flag 1) t) (assume-name (eqb flag 1) t (r .name)) (assume-takes _ _ n (eqb flag 1) t (r .name)))
-              (assume-said (k .terms) (fields-left file c) (r .said) ∙ e (r .name)) refl b
-          go (fact-stops {x} e b) = rw b (reads-refused x (assume-said (k .terms) (fields-left file c) (r .said) ∙ e (r .name)))
+              → Reads file names″ refs rows″ recs″ lists″ n (state-of file names refs rows recs lists k) (content kind.Assume (k .grouped) (k .terms) (fields-left file c)) s
+          go (fact-adds flag group {t} e b) =
+              record-reads n st (r .spelled) (λ x. assume x (eqb flag 1) group t) (assume-name (eqb flag 1) group t)
+              (not-taken n st (r .spelled) (assume (r .name) (eqb flag 1) group t) (assume-name (eqb flag 1) group t (r .name))
+              (assume-takes _ _ n (eqb flag 1) group t (r .name)))
+              (assume-said (k .grouped) (k .terms) (fields-left file c) (r .said) ∙ e (r .name)) refl b
+          go (fact-stops {x} e b) = rw b (reads-refused x (assume-said (k .grouped) (k .terms) (fields-left file c) (r .said) ∙ e (r .name)))

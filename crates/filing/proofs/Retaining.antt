@@ -1,6 +1,7 @@
 -- `retain` lines as `read-line` has them.
 use Prim.Native.Nat.{ℕ, _≤_, _<_}
 use mathlib.Core.Path.{_≡_, refl, sym, ap, _∙_}
+use mathlib.Core.Bool.{Bool}
 use mathlib.Core.List.{List, [], append-nil}
 use Rattle.model.specs.Summaries.{exclude-names}
 use Rattle.model.specs.Lists.{collect, fold-left}
@@ -35,19 +36,19 @@ unfolding collect taken-by summarize-decl
 retain-takes exclude ts n ms = refl
 
 -- the names that were spelled, as the line says them
-retain-said : (count : ℕ) (ns : List Name) (fs : List Field) {ls : List Name} → spell-fields ns fs ≡ ok ls
-    → (ms : List Name) × (content kind.Retain count fs ≡ ok (retain ms)) × (fold-left spell ns ms ≡ ls)
+retain-said : (grouped : Bool) (count : ℕ) (ns : List Name) (fs : List Field) {ls : List Name} → spell-fields ns fs ≡ ok ls
+    → (ms : List Name) × (content kind.Retain grouped count fs ≡ ok (retain ms)) × (fold-left spell ns ms ≡ ls)
 unfolding content
-retain-said count ns fs {ls} e = go (rest name-field fs) refl (sym (spell-law ns fs) ∙ e)
+retain-said grouped count ns fs {ls} e = go (rest name-field fs) refl (sym (spell-law ns fs) ∙ e)
   where
     go : (r : Result (List Name)) → rest name-field fs ≡ r → (r >>= λ ms. ok (fold-left spell ns ms)) ≡ ok ls
         → (ms : List Name) × ((rest name-field fs >>= λ names. ok (retain names)) ≡ ok (retain ms)) × (fold-left spell ns ms ≡ ls)
     go (ok ms) q x = (ms, rw q refl, ok-eq x)
     go (refused y) q x = absurd (not-ok x)
 
-retain-refused : (count : ℕ) (ns : List Name) (fs : List Field) {x : Refusal} → spell-fields ns fs ≡ refused x → content kind.Retain count fs ≡ refused x
+retain-refused : (grouped : Bool) (count : ℕ) (ns : List Name) (fs : List Field) {x : Refusal} → spell-fields ns fs ≡ refused x → content kind.Retain grouped count fs ≡ refused x
 unfolding content
-retain-refused count ns fs {x} e = go (rest name-field fs) (sym (spell-law ns fs) ∙ e)
+retain-refused grouped count ns fs {x} e = go (rest name-field fs) (sym (spell-law ns fs) ∙ e)
   where
     go : (r : Result (List Name)) → (r >>= λ ms. ok (fold-left spell ns ms)) ≡ refused x → (r >>= λ names. ok (retain names)) ≡ refused x
     go (ok ms) q = absurd (not-ok (sym q))
@@ -86,14 +87,14 @@ module _ {file names refs rows recs lists names′ : List ℕ} {k : Counts} (n :
   pub retain-line : {u : Upto} {named′ : ℕ} {after : Cursor} {next : Counts} {recs″ : List ℕ} {f : Step}
       → Spells-rest file names names′ (k .names) fs u → u ≡ upto.At named′ after → next ≡ with-names k named′
       → Adds file names′ refs rows recs lists names′ rows recs″ lists next n (retain []) f → Untouched names′ rows recs lists names′ rows recs″ lists
-      → Line-read file names refs rows recs lists names′ refs rows recs″ lists k n (content kind.Retain (k .terms) fs) f
+      → Line-read file names refs rows recs lists names′ refs rows recs″ lists k n (content kind.Retain (k .grouped) (k .terms) fs) f
   unfolding judged
   retain-line {u} {named′} {after} {next} {recs″} r e q a x = go (rw e at r) (rw q at a)
     where
       reads : {f : Step} {ns : List Name} (ms : List Name) → Naming file names′ named′ ns → Longer file names names′ (k .names) named′
-          → content kind.Retain (k .terms) fs ≡ ok (retain ms) → fold-left spell (table-names file names (k .names)) ms ≡ ns
+          → content kind.Retain (k .grouped) (k .terms) fs ≡ ok (retain ms) → fold-left spell (table-names file names (k .names)) ms ≡ ns
           → Adds file names′ refs rows recs lists names′ rows recs″ lists (with-names k named′) n (retain []) f
-          → Reads file names′ refs rows recs″ lists n (state-of file names refs rows recs lists k) (content kind.Retain (k .terms) fs) f
+          → Reads file names′ refs rows recs″ lists n (state-of file names refs rows recs lists k) (content kind.Retain (k .grouped) (k .terms) fs) f
       reads ms naming longer d z (adds.full h) = stops {x = refusal.FullNames} (rw d (retain-crowded n st ms naming z h))
       reads ms naming longer d z (adds.stops {x} h j) = stops {x = x} (rw d (retain-there n st ms naming longer z h ∙ j))
       reads ms naming longer d z (adds.added {k′} j y) = goes-on {k′ = k′}
@@ -101,19 +102,19 @@ module _ {file names refs rows recs lists names′ : List ℕ} {k : Counts} (n :
 
       go : {f : Step} → Spells-rest file names names′ (k .names) fs (upto.At named′ after)
           → Adds file names′ refs rows recs lists names′ rows recs″ lists (with-names k named′) n (retain []) f
-          → Line-read file names refs rows recs lists names′ refs rows recs″ lists k n (content kind.Retain (k .terms) fs) f
+          → Line-read file names refs rows recs lists names′ refs rows recs″ lists k n (content kind.Retain (k .grouped) (k .terms) fs) f
       go (all-spelt {ns} run naming longer) b =
-          let (ms, d, z) = retain-said (k .terms) (table-names file names (k .names)) fs run in
+          let (ms, d, z) = retain-said (k .grouped) (k .terms) (table-names file names (k .names)) fs run in
           record { reads = reads ms naming longer d z b; past = past-then refs (spelled-past longer) x }
 
   -- a name is refused
   pub retain-not : {u : Upto} {x : Refusal} → Spells-rest file names names′ (k .names) fs u → u ≡ upto.Refused x
-      → Line-read file names refs rows recs lists names′ refs rows recs lists k n (content kind.Retain (k .terms) fs) (step.Refused x)
+      → Line-read file names refs rows recs lists names′ refs rows recs lists k n (content kind.Retain (k .grouped) (k .terms) fs) (step.Refused x)
   retain-not {u} {x} r e = go (rw e at r)
     where
       go : Spells-rest file names names′ (k .names) fs (upto.Refused x)
-          → Line-read file names refs rows recs lists names′ refs rows recs lists k n (content kind.Retain (k .terms) fs) (step.Refused x)
+          → Line-read file names refs rows recs lists names′ refs rows recs lists k n (content kind.Retain (k .grouped) (k .terms) fs) (step.Refused x)
       go (rest-not d y) = record {
-        reads = reads-refused x (retain-refused (k .terms) (table-names file names (k .names)) fs d);
+        reads = reads-refused x (retain-refused (k .grouped) (k .terms) (table-names file names (k .names)) fs d);
         past = past-names refs rows recs lists (table-past y);
       }

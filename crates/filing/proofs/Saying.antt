@@ -1,6 +1,6 @@
 -- What the fields of a record line say.
 use Prim.Native.Nat.{ℕ, _+_, _≤_, _<_}
-use mathlib.Core.Path.{_≡_, refl, sym, _∙_}
+use mathlib.Core.Path.{_≡_, refl, sym, ap, _∙_}
 use native.Mathlib.Omega.{arith}
 use mathlib.Core.Bool.{Bool, true, false, cond}
 use mathlib.Core.List.{List, [], _∷_}
@@ -8,7 +8,7 @@ use lib.Dec.{eqb, ltb}
 use borrow.Author.Tests.{ltb-true}
 use Rattle.model.specs.Names.{Name}
 use Rattle.model.specs.Lines.{Field}
-use Rattle.model.specs.Reading.{Result, ok, refused, _>>=_, next, end, name-field, number-field, term-field, Content, head, hide, assume, fun, def, root, content}
+use Rattle.model.specs.Reading.{Result, ok, refused, _>>=_, next, end, name-field, number-field, term-field, group-field, most-group, Content, head, hide, assume, fun, def, root, content}
 use Rattle.model.specs.declared.LineKind.the-variants as kind
 use Rattle.model.specs.declared.Refusal.{Refusal}
 use Rattle.model.specs.declared.Refusal.the-variants as refusal
@@ -16,8 +16,10 @@ use Rattle.model.proofs.ResultLaws.{ok-eq, not-ok}
 use Rattle.text.specs.declared.Cursor.{Cursor}
 use Rattle.text.specs.declared.NumberStep.{NumberStep}
 use Rattle.text.specs.declared.NumberStep.the-variants as numbered
-use Rattle.text.specs.Parts.{Placed, fields-left, term-at, number-at}
+use Rattle.text.specs.Parts.{Placed, fields-left, term-at, number-at, number-result}
 use Rattle.text.proofs.Laws.{left-none, number-next}
+use Rattle.fields.specs.Wording.{number-or}
+use Rattle.fields.proofs.Numbers.{number-or-field, number-or-placed, number-or-most}
 use Rattle.fields.proofs.Pushing.{left-cons, term-read, term-not}
 use Rattle.filing.specs.declared.Last.{Last}
 use Rattle.filing.specs.declared.Last.the-variants as last
@@ -104,50 +106,60 @@ module _ (fs : List Field) (make : Name → Content) {said : Result Content} (is
   pub one-not : {x : Refusal} → next name-field fs ≡ refused x → said ≡ refused x
   one-not a = is ∙ rw a
 
-module _ (count : ℕ) (fs : List Field) where
+module _ (grouped : Bool) (count : ℕ) (fs : List Field) where
   -- a `fun`
-  pub fun-is : content kind.Fun count fs ≡ (next name-field fs >>= λ (m, gs). end (fun m) gs)
+  pub fun-is : content kind.Fun grouped count fs ≡ (next name-field fs >>= λ (m, gs). end (fun m) gs)
   unfolding content
   fun-is = refl
 
   -- a `hide`
-  pub hide-is : content kind.Hide count fs ≡ (next name-field fs >>= λ (m, gs). end (head (hide m)) gs)
+  pub hide-is : content kind.Hide grouped count fs ≡ (next name-field fs >>= λ (m, gs). end (head (hide m)) gs)
   unfolding content
   hide-is = refl
 
   -- a `def`
-  pub def-said : {m : Name} {gs : List Field} {t : ℕ} → next name-field fs ≡ ok (m, gs) → last-field count gs ≡ ok t → content kind.Def count fs ≡ ok (def m t)
+  pub def-said : {m : Name} {gs : List Field} {t : ℕ} → next name-field fs ≡ ok (m, gs) → last-field count gs ≡ ok t → content kind.Def grouped count fs ≡ ok (def m t)
   unfolding content
   def-said {m} {gs} a e = rw a (last-said (def m) count gs e)
 
   -- its term is refused
   pub def-term-not : {m : Name} {gs : List Field} {x : Refusal} → next name-field fs ≡ ok (m, gs) → last-field count gs ≡ refused x
-      → content kind.Def count fs ≡ refused x
+      → content kind.Def grouped count fs ≡ refused x
   unfolding content
   def-term-not {m} {gs} a e = rw a (last-not (def m) count gs e)
 
   -- its name is refused
-  pub def-not : {x : Refusal} → next name-field fs ≡ refused x → content kind.Def count fs ≡ refused x
+  pub def-not : {x : Refusal} → next name-field fs ≡ refused x → content kind.Def grouped count fs ≡ refused x
   unfolding content
   def-not a = rw a
 
   -- an `assume`, by what it says after its name
-  pub assume-said : {m : Name} {gs : List Field} → next name-field fs ≡ ok (m, gs) → content kind.Assume count fs ≡ rest-of-assume count m gs
+  pub assume-said : {m : Name} {gs : List Field} → next name-field fs ≡ ok (m, gs)
+      → content kind.Assume grouped count fs ≡ rest-of-assume grouped count m gs
   unfolding content rest-of-assume last-field
   assume-said {m} {gs} a = rw a (go (next (number-field 1) gs))
     where
-      go : (r : Result (ℕ × List Field)) → (r >>= λ (flag, hs). next (term-field count) hs >>= λ (t, is). end (assume m (eqb flag 1) t) is)
-          ≡ (r >>= λ (flag, hs). last-field count hs >>= λ t. ok (assume m (eqb flag 1) t))
-      go (ok (flag, hs)) = last-then (assume m (eqb flag 1)) (next (term-field count) hs)
+      by-group : (flag : ℕ) (r : Result (ℕ × List Field))
+          → (r >>= λ (group, is). next (term-field count) is >>= λ (t, js). end (assume m (eqb flag 1) group t) js)
+          ≡ (r >>= λ (group, is). last-field count is >>= λ t. ok (assume m (eqb flag 1) group t))
+      by-group flag (ok (group, is)) = last-then (assume m (eqb flag 1) group) (next (term-field count) is)
+      by-group flag (refused x) = refl
+
+      go : (r : Result (ℕ × List Field))
+          → (r >>= λ (flag, hs). group-field grouped hs
+          >>= λ (group, is). next (term-field count) is >>= λ (t, js). end (assume m (eqb flag 1) group t) js)
+          ≡ (r >>= λ (flag, hs). group-field grouped hs
+          >>= λ (group, is). last-field count is >>= λ t. ok (assume m (eqb flag 1) group t))
+      go (ok (flag, hs)) = by-group flag (group-field grouped hs)
       go (refused x) = refl
 
   -- its name is refused
-  pub assume-not : {x : Refusal} → next name-field fs ≡ refused x → content kind.Assume count fs ≡ refused x
+  pub assume-not : {x : Refusal} → next name-field fs ≡ refused x → content kind.Assume grouped count fs ≡ refused x
   unfolding content
   assume-not a = rw a
 
   -- a `root`, by what it says after its query
-  pub root-then : {q : ℕ} {gs : List Field} → next (number-field 255) fs ≡ ok (q, gs) → content kind.Root count fs ≡ rest-of-root count q gs
+  pub root-then : {q : ℕ} {gs : List Field} → next (number-field 255) fs ≡ ok (q, gs) → content kind.Root grouped count fs ≡ rest-of-root count q gs
   unfolding content rest-of-root last-field
   root-then {q} {gs} a = rw a (go (next name-field gs))
     where
@@ -157,23 +169,30 @@ module _ (count : ℕ) (fs : List Field) where
       go (refused x) = refl
 
   -- its query is refused
-  pub root-not : {x : Refusal} → next (number-field 255) fs ≡ refused x → content kind.Root count fs ≡ refused x
+  pub root-not : {x : Refusal} → next (number-field 255) fs ≡ refused x → content kind.Root grouped count fs ≡ refused x
   unfolding content
   root-not a = rw a
 
-module _ (count : ℕ) (m : Name) (fs : List Field) where
-  -- the flag and the term of a fact
-  pub fact-is : {flag t : ℕ} {gs : List Field} → next (number-field 1) fs ≡ ok (flag, gs) → last-field count gs ≡ ok t
-      → rest-of-assume count m fs ≡ ok (assume m (eqb flag 1) t)
+module _ (grouped : Bool) (count : ℕ) (m : Name) (fs : List Field) where
+  -- the flag, the group and the term of a fact
+  pub fact-is : {flag group t : ℕ} {gs hs : List Field} → next (number-field 1) fs ≡ ok (flag, gs) → group-field grouped gs ≡ ok (group, hs)
+      → last-field count hs ≡ ok t
+      → rest-of-assume grouped count m fs ≡ ok (assume m (eqb flag 1) group t)
   unfolding rest-of-assume
-  fact-is a e = rw (a, e)
+  fact-is a b e = rw (a, b, e)
 
-  pub fact-term-not : {flag : ℕ} {gs : List Field} {x : Refusal} → next (number-field 1) fs ≡ ok (flag, gs) → last-field count gs ≡ refused x
-      → rest-of-assume count m fs ≡ refused x
+  pub fact-term-not : {flag group : ℕ} {gs hs : List Field} {x : Refusal} → next (number-field 1) fs ≡ ok (flag, gs)
+      → group-field grouped gs ≡ ok (group, hs) → last-field count hs ≡ refused x
+      → rest-of-assume grouped count m fs ≡ refused x
   unfolding rest-of-assume
-  fact-term-not a e = rw (a, e)
+  fact-term-not a b e = rw (a, b, e)
 
-  pub fact-not : {x : Refusal} → next (number-field 1) fs ≡ refused x → rest-of-assume count m fs ≡ refused x
+  pub fact-group-not : {flag : ℕ} {gs : List Field} {x : Refusal} → next (number-field 1) fs ≡ ok (flag, gs) → group-field grouped gs ≡ refused x
+      → rest-of-assume grouped count m fs ≡ refused x
+  unfolding rest-of-assume
+  fact-group-not a b = rw (a, b)
+
+  pub fact-not : {x : Refusal} → next (number-field 1) fs ≡ refused x → rest-of-assume grouped count m fs ≡ refused x
   unfolding rest-of-assume
   fact-not a = rw a
 
@@ -229,3 +248,30 @@ number-placed {file} {c} {n} {v = v} limit p a b = number-next file c p limit v 
 pub number-below : {file : List ℕ} {c n : Cursor} {r : NumberStep} {v : ℕ} (limit : ℕ) → Placed file c → r ≡ number-at limit file c → r ≡ numbered.Number v n
     → v < limit + 1
 number-below {file} {c} {n} {v = v} limit p a b = omega (arith, number-next file c p limit v n (sym a ∙ b) .1)
+
+-- the group of a fact
+module _ {file : List ℕ} {c : Cursor} (p : Placed file c) (grouped : Bool) {r : NumberStep} (a : r ≡ number-or grouped most-group 0 file c) where
+  -- its field, where the form has one
+  group-law : number-result file r ≡ group-field grouped (fields-left file c)
+  unfolding group-field
+  group-law = ap (number-result file) a ∙ number-or-field p most-group 0 grouped ∙ go grouped
+    where
+      go : (b : Bool) → cond b (next (number-field most-group) (fields-left file c)) (and-after (fields-left file c) 0) ≡ group-field b (fields-left file c)
+      go true = refl
+      go false = refl
+
+  pub group-read : {v : ℕ} {n : Cursor} → r ≡ numbered.Number v n → group-field grouped (fields-left file c) ≡ ok (v, fields-left file n)
+  unfolding number-result
+  group-read e = sym group-law ∙ ap (number-result file) e
+
+  pub group-not : {x : Refusal} → r ≡ numbered.Refused x → group-field grouped (fields-left file c) ≡ refused x
+  unfolding number-result
+  group-not e = sym group-law ∙ ap (number-result file) e
+
+  -- the cursor after it
+  pub group-placed : {v : ℕ} {n : Cursor} → r ≡ numbered.Number v n → Placed file n
+  group-placed e = number-or-placed p most-group 0 grouped (sym a ∙ e)
+
+  -- it is at most its limit
+  pub group-most : {v : ℕ} {n : Cursor} → r ≡ numbered.Number v n → v ≤ most-group
+  group-most e = number-or-most p most-group 0 grouped (sym a ∙ e) (omega arith)

@@ -1,11 +1,12 @@
 -- What the fields of a record line say, and what reading a line comes to: the tables with it, or the refusal that `model` gives.
 use Prim.Native.Nat.{ℕ}
 use mathlib.Core.Path.{_≡_}
+use mathlib.Core.Bool.{Bool}
 use mathlib.Core.List.{List}
 use lib.Dec.{eqb}
 use Rattle.model.specs.Names.{Name}
 use Rattle.model.specs.Lines.{Field}
-use Rattle.model.specs.Reading.{Result, ok, refused, _>>=_, next, end, name-field, number-field, term-field, Content, assume, root, State}
+use Rattle.model.specs.Reading.{Result, ok, refused, _>>=_, next, end, name-field, number-field, term-field, group-field, Content, assume, root, State}
 use Rattle.model.specs.Outcome.{working-words}
 use Rattle.model.specs.declared.Counts.{Counts}
 use Rattle.model.specs.declared.Refusal.{Refusal}
@@ -32,11 +33,12 @@ last-result (last.Term t) = ok t
 last-result (last.Refused x) = refused x
 
 -- what an `assume` says after its name
-unfoldable pub rest-of-assume : ℕ → Name → List Field → Result Content
-rest-of-assume count m fs = do
+unfoldable pub rest-of-assume : Bool → ℕ → Name → List Field → Result Content
+rest-of-assume grouped count m fs = do
   (flag, fs₁) ← next (number-field 1) fs
-  t ← last-field count fs₁
-  ok (assume m (eqb flag 1) t)
+  (group, fs₂) ← group-field grouped fs₁
+  t ← last-field count fs₂
+  ok (assume m (eqb flag 1) group t)
 
 -- what a `root` says after its query
 unfoldable pub rest-of-root : ℕ → ℕ → List Field → Result Content
@@ -49,6 +51,7 @@ rest-of-root count q fs = do
 abbrev pub with-names : Counts → ℕ → Counts
 with-names k named = record {
   asks = k .asks;
+  grouped = k .grouped;
   hides = k .hides;
   names = named;
   references = k .references;
@@ -59,12 +62,12 @@ with-names k named = record {
   mark = k .mark;
 }
 
--- what reading the flag and the term of a fact comes to, its name spelled
+-- what reading the flag, the group and the term of a fact comes to, its name spelled
 pub data Adds-fact (file names refs rows recs lists names′ rows′ recs′ lists′ : List ℕ) (k : Counts) (n i : ℕ) (fs : List Field) (r : Step) : Type 0 where
-  fact-adds : (flag : ℕ) {t : ℕ} → ((m : Name) → rest-of-assume (k .terms) m fs ≡ ok (assume m (eqb flag 1) t))
-      → Adds file names refs rows recs lists names′ rows′ recs′ lists′ k n (assume (name-of file names i) (eqb flag 1) t) r
+  fact-adds : (flag group : ℕ) {t : ℕ} → ((m : Name) → rest-of-assume (k .grouped) (k .terms) m fs ≡ ok (assume m (eqb flag 1) group t))
+      → Adds file names refs rows recs lists names′ rows′ recs′ lists′ k n (assume (name-of file names i) (eqb flag 1) group t) r
       → Adds-fact file names refs rows recs lists names′ rows′ recs′ lists′ k n i fs r
-  fact-stops : {x : Refusal} → ((m : Name) → rest-of-assume (k .terms) m fs ≡ refused x) → r ≡ step.Refused x
+  fact-stops : {x : Refusal} → ((m : Name) → rest-of-assume (k .grouped) (k .terms) m fs ≡ refused x) → r ≡ step.Refused x
       → Adds-fact file names refs rows recs lists names′ rows′ recs′ lists′ k n i fs r
 
 -- what a line comes to: the tables with it, or its refusal

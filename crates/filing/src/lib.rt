@@ -17,6 +17,9 @@ ghost use Rattle.filing.specs.Lines.{with-names, last-field, last-result
 
 const MOST_FLAG: u32 = 1;
 
+// The group of every fact in the form without groups.
+const ONLY_GROUP: u32 = 0;
+
 // The term that the last field of a line is; or the refusal.
 enum Last {
     Term(usize),
@@ -64,7 +67,7 @@ pub fn read_hide(
         × (n < 4294967296) ⌝ }
     ensures { λ r. ⌜ Line-read (now (file .entry)) (now (names .entry)) (now (refs .entry)) (now (rows .entry))
         (now (recs .entry)) (now (lists .entry)) (now (names .exit)) (now (refs .entry)) (now (rows .entry)) (now (recs .exit))
-        (now (lists .entry)) k n (content kind.Hide (k .terms) (fields-left (now (file .entry)) c)) r ⌝ }
+        (now (lists .entry)) k n (content kind.Hide (k .grouped) (k .terms) (fields-left (now (file .entry)) c)) r ⌝ }
 {
     match fields::read_name(file, names, k.names, c) {
         Word::Name(i, named, last) => {
@@ -103,7 +106,7 @@ fn read_fun(
         × (n < 4294967296) ⌝ }
     ensures { λ r. ⌜ Line-read (now (file .entry)) (now (names .entry)) (now (refs .entry)) (now (rows .entry))
         (now (recs .entry)) (now (lists .entry)) (now (names .exit)) (now (refs .entry)) (now (rows .entry)) (now (recs .exit))
-        (now (lists .entry)) k n (content kind.Fun (k .terms) (fields-left (now (file .entry)) c)) r ⌝ }
+        (now (lists .entry)) k n (content kind.Fun (k .grouped) (k .terms) (fields-left (now (file .entry)) c)) r ⌝ }
 {
     match fields::read_name(file, names, k.names, c) {
         Word::Name(i, named, last) => {
@@ -142,7 +145,7 @@ fn read_def(
         × (n < 4294967296) ⌝ }
     ensures { λ r. ⌜ Line-read (now (file .entry)) (now (names .entry)) (now (refs .entry)) (now (rows .entry))
         (now (recs .entry)) (now (lists .entry)) (now (names .exit)) (now (refs .entry)) (now (rows .exit)) (now (recs .exit))
-        (now (lists .exit)) k n (content kind.Def (k .terms) (fields-left (now (file .entry)) c)) r ⌝ }
+        (now (lists .exit)) k n (content kind.Def (k .grouped) (k .terms) (fields-left (now (file .entry)) c)) r ⌝ }
 {
     match fields::read_name(file, names, k.names, c) {
         Word::Name(i, named, next) => match last_term(file, k.terms, next) {
@@ -166,7 +169,7 @@ fn read_def(
     }
 }
 
-// Reads the flag and the term of an `assume` whose name is spelled, and adds the fact.
+// Reads the flag, the group and the term of an `assume` whose name is spelled, and adds the fact.
 fn read_fact(
     file: &[u8],
     names: &mut [u32],
@@ -188,24 +191,30 @@ fn read_fact(
         (now (names .exit)) (now (rows .exit)) (now (recs .exit)) (now (lists .exit)) ⌝ }
 {
     match c.number(file, MOST_FLAG) {
-        NumberStep::Number(flag, next) => match last_term(file, k.terms, next) {
-            Last::Term(t) => {
-                facts::add_fact(
-                    file,
-                    names,
-                    refs,
-                    rows,
-                    recs,
-                    lists,
-                    k,
-                    n,
-                    i,
-                    flag as usize,
-                    t,
-                )
+        NumberStep::Number(flag, after) => {
+            match fields::number_or(file, k.grouped, model::MOST_GROUP, ONLY_GROUP, after) {
+                NumberStep::Number(group, next) => match last_term(file, k.terms, next) {
+                    Last::Term(t) => {
+                        facts::add_fact(
+                            file,
+                            names,
+                            refs,
+                            rows,
+                            recs,
+                            lists,
+                            k,
+                            n,
+                            i,
+                            flag as usize,
+                            group as usize,
+                            t,
+                        )
+                    }
+                    Last::Refused(r) => Step::Refused(r),
+                },
+                NumberStep::Refused(r) => Step::Refused(r),
             }
-            Last::Refused(r) => Step::Refused(r),
-        },
+        }
         NumberStep::Refused(r) => Step::Refused(r),
     }
 }
@@ -226,7 +235,7 @@ fn read_assume(
         × (n < 4294967296) ⌝ }
     ensures { λ r. ⌜ Line-read (now (file .entry)) (now (names .entry)) (now (refs .entry)) (now (rows .entry))
         (now (recs .entry)) (now (lists .entry)) (now (names .exit)) (now (refs .entry)) (now (rows .exit)) (now (recs .exit))
-        (now (lists .exit)) k n (content kind.Assume (k .terms) (fields-left (now (file .entry)) c)) r ⌝ }
+        (now (lists .exit)) k n (content kind.Assume (k .grouped) (k .terms) (fields-left (now (file .entry)) c)) r ⌝ }
 {
     match fields::read_name(file, names, k.names, c) {
         Word::Name(i, named, next) => {
@@ -253,7 +262,7 @@ fn read_retain(
         × (n < 4294967296) ⌝ }
     ensures { λ r. ⌜ Line-read (now (file .entry)) (now (names .entry)) (now (refs .entry)) (now (rows .entry))
         (now (recs .entry)) (now (lists .entry)) (now (names .exit)) (now (refs .entry)) (now (rows .entry)) (now (recs .exit))
-        (now (lists .entry)) k n (content kind.Retain (k .terms) (fields-left (now (file .entry)) c)) r ⌝ }
+        (now (lists .entry)) k n (content kind.Retain (k .grouped) (k .terms) (fields-left (now (file .entry)) c)) r ⌝ }
 {
     match fields::spell_rest(file, names, k.names, c) {
         Upto::At(named, _) => {
@@ -321,7 +330,7 @@ fn read_root(
         × (n < 4294967296) ⌝ }
     ensures { λ r. ⌜ Line-read (now (file .entry)) (now (names .entry)) (now (refs .entry)) (now (rows .entry))
         (now (recs .entry)) (now (lists .entry)) (now (names .exit)) (now (refs .entry)) (now (rows .exit)) (now (recs .exit))
-        (now (lists .exit)) k n (content kind.Root (k .terms) (fields-left (now (file .entry)) c)) r ⌝ }
+        (now (lists .exit)) k n (content kind.Root (k .grouped) (k .terms) (fields-left (now (file .entry)) c)) r ⌝ }
 {
     match c.number(file, model::MOST_QUERY) {
         NumberStep::Number(q, next) => {
@@ -348,7 +357,7 @@ pub fn read_record(
         × (n < 4294967296) ⌝ }
     ensures { λ r. ⌜ Line-read (now (file .entry)) (now (names .entry)) (now (refs .entry)) (now (rows .entry))
         (now (recs .entry)) (now (lists .entry)) (now (names .exit)) (now (refs .entry)) (now (rows .exit)) (now (recs .exit))
-        (now (lists .exit)) k n (content (record-line-kind kind) (k .terms) (fields-left (now (file .entry)) c)) r ⌝ }
+        (now (lists .exit)) k n (content (record-line-kind kind) (k .grouped) (k .terms) (fields-left (now (file .entry)) c)) r ⌝ }
 {
     match kind {
         RecordKind::Assume => read_assume(file, names, refs, rows, recs, lists, k, n, c),

@@ -2,6 +2,7 @@
 use Prim.Native.Nat.{ℕ, suc, _+_, _%_, _≤_, _<_}
 use native.Mathlib.Omega.{arith}
 use mathlib.Core.Path.{_≡_, refl, sym, ap, ap₂, _∙_}
+use mathlib.Core.Bool.{Bool}
 use mathlib.Core.List.{List, [], _∷_, List·Memᴰ, List·Memᴰ·head, List·Memᴰ·tail}
 use lib.ListN.{length, drop, getD, length-map}
 use Rattle.model.specs.Lists.{fold-left, part}
@@ -81,60 +82,60 @@ pub end-more : {A : Type 0} (a : A) (file : List ℕ) (c : Cursor) → c .at ≤
 unfolding end
 end-more a file c h = let (f, fs, e) = left-cons file c h in rw e
 
-module _ (count : ℕ) (fs : List Field) where
+module _ (grouped : Bool) (count : ℕ) (fs : List Field) where
   -- a `free`, after its name
-  pub free-said : {m : Name} {gs : List Field} → next name-field fs ≡ ok (m, gs) → content kind.Free count fs ≡ end (term (FreeV m)) gs
+  pub free-said : {m : Name} {gs : List Field} → next name-field fs ≡ ok (m, gs) → content kind.Free grouped count fs ≡ end (term (FreeV m)) gs
   unfolding content
   free-said e = rw e
 
   -- a `leaf`
-  pub leaf-said : content kind.Leaf count fs ≡ end (term Leaf) fs
+  pub leaf-said : content kind.Leaf grouped count fs ≡ end (term Leaf) fs
   unfolding content
   leaf-said = refl
 
   -- a `call`, after its name
   pub call-said : {m : Name} {gs : List Field} → next name-field fs ≡ ok (m, gs)
-      → content kind.Call count fs ≡ (rest (term-field count) gs >>= λ ts. ok (term (Call m ts)))
+      → content kind.Call grouped count fs ≡ (rest (term-field count) gs >>= λ ts. ok (term (Call m ts)))
   unfolding content
   call-said e = rw e
 
   -- an `op`, after its word
   pub op-said : {w : Op} {gs : List Field} → next op-field fs ≡ ok (w, gs)
-      → content kind.Op count fs ≡ (rest (term-field count) gs >>= λ ts. ok (term (App w ts)))
+      → content kind.Op grouped count fs ≡ (rest (term-field count) gs >>= λ ts. ok (term (App w ts)))
   unfolding content op-field
   op-said {w} {gs} e = let d : next (λ f. need refusal.Form (word op-words f)) fs ≡ ok (w, gs) = e in rw d
 
   -- a `let`, after its body
   pub let-said : {b : ℕ} {gs : List Field} → next (term-field count) fs ≡ ok (b, gs)
-      → content kind.Let count fs ≡ (rest (term-field count) gs >>= λ ts. ok (term (Let b ts)))
+      → content kind.Let grouped count fs ≡ (rest (term-field count) gs >>= λ ts. ok (term (Let b ts)))
   unfolding content
   let-said e = rw e
 
   -- a `label`, after its term
-  pub label-said : {b : ℕ} {gs : List Field} → next (term-field count) fs ≡ ok (b, gs) → content kind.Label count fs ≡ end (term (Labeled b)) gs
+  pub label-said : {b : ℕ} {gs : List Field} → next (term-field count) fs ≡ ok (b, gs) → content kind.Label grouped count fs ≡ end (term (Labeled b)) gs
   unfolding content
   label-said e = rw e
 
   module _ {x : Refusal} where
     -- a `free` or a `call` whose name is refused
-    pub name-refused : next name-field fs ≡ refused x → (content kind.Free count fs ≡ refused x) × (content kind.Call count fs ≡ refused x)
+    pub name-refused : next name-field fs ≡ refused x → (content kind.Free grouped count fs ≡ refused x) × (content kind.Call grouped count fs ≡ refused x)
     unfolding content
     name-refused e = (rw e, rw e)
 
     -- an `op` whose word is refused
-    pub word-refused : next op-field fs ≡ refused x → content kind.Op count fs ≡ refused x
+    pub word-refused : next op-field fs ≡ refused x → content kind.Op grouped count fs ≡ refused x
     unfolding content op-field
     word-refused e = let d : next (λ f. need refusal.Form (word op-words f)) fs ≡ refused x = e in rw d
 
     -- a `let` or a `label` whose first term is refused
-    pub body-refused : next (term-field count) fs ≡ refused x → (content kind.Let count fs ≡ refused x) × (content kind.Label count fs ≡ refused x)
+    pub body-refused : next (term-field count) fs ≡ refused x → (content kind.Let grouped count fs ≡ refused x) × (content kind.Label grouped count fs ≡ refused x)
     unfolding content
     body-refused e = (rw e, rw e)
 
 -- ---- each kind, read
 
 module _ {file names refs rows refs′ : List ℕ} {k : Counts} {end : ℕ} {words : List ℕ} {kind : LineKind} {c : Cursor} {node : Node}
-    (t : Stands file names refs rows k) (says : content kind (k .terms) (fields-left file c) ≡ ok (term node))
+    (t : Stands file names refs rows k) (says : content kind (k .grouped) (k .terms) (fields-left file c) ≡ ok (term node))
     (ran : Ran (k .terms) refs refs′ (k .references) end words) (count : length words ≡ length (references node)) where
   -- a line that spells no name
   pub plain-line : spelled-by node ≡ [] → Line-read file names refs names refs′ k kind c (k .names) end node words
@@ -157,20 +158,20 @@ module _ {file names refs rows : List ℕ} (k : Counts) (t : Stands file names r
   -- a `leaf`
   pub leaf-read : c .end < c .at → Line-read file names refs names refs k kind.Leaf c (k .names) (k .references) Leaf []
   unfolding spelled-by references
-  leaf-read h = plain-line t (leaf-said (k .terms) (fields-left file c) ∙ end-none (term Leaf) file c h) ran-none refl refl
+  leaf-read h = plain-line t (leaf-said (k .grouped) (k .terms) (fields-left file c) ∙ end-none (term Leaf) file c h) ran-none refl refl
 
   module _ {names′ : List ℕ} {named′ n : ℕ} {after : Cursor} (r : Name-read file names names′ (k .names) named′ n c after) where
     -- a `free`
     pub free-read : after .end < after .at → Line-read file names refs names′ refs k kind.Free c named′ (k .references) (FreeV (r .name)) []
     unfolding spelled-by references
-    free-read h = named-line t (free-said (k .terms) (fields-left file c) (r .said) ∙ end-none (term (FreeV (r .name))) file after h) ran-none refl
+    free-read h = named-line t (free-said (k .grouped) (k .terms) (fields-left file c) (r .said) ∙ end-none (term (FreeV (r .name))) file after h) ran-none refl
         (r .spelled) refl
 
     -- a `call`
     pub call-read : {refs′ : List ℕ} {end : ℕ} (b : Rest-ran (k .terms) refs refs′ (k .references) end (fields-left file after))
         → Line-read file names refs names′ refs′ k kind.Call c named′ end (Call (r .name) (b .terms)) (in-group 0 (b .terms))
     unfolding spelled-by references
-    call-read b = named-line t (call-said (k .terms) (fields-left file c) (r .said) ∙ rw (b .said)) (b .ran) (length-map (b .terms) (λ t. reference t 0))
+    call-read b = named-line t (call-said (k .grouped) (k .terms) (fields-left file c) (r .said) ∙ rw (b .said)) (b .ran) (length-map (b .terms) (λ t. reference t 0))
         (r .spelled) refl
 
   -- an `op`
@@ -178,7 +179,7 @@ module _ {file names refs rows : List ℕ} (k : Counts) (t : Stands file names r
       → (b : Rest-ran (k .terms) refs refs′ (k .references) end gs)
       → Line-read file names refs names refs′ k kind.Op c (k .names) end (App w (b .terms)) (in-group 0 (b .terms))
   unfolding spelled-by references
-  op-line e b = plain-line t (op-said (k .terms) (fields-left file c) e ∙ rw (b .said)) (b .ran) (length-map (b .terms) (λ t. reference t 0)) refl
+  op-line e b = plain-line t (op-said (k .grouped) (k .terms) (fields-left file c) e ∙ rw (b .said)) (b .ran) (length-map (b .terms) (λ t. reference t 0)) refl
 
   -- a `let`
   pub let-read : {refs₁ refs′ : List ℕ} {one end : ℕ} {gs : List Field} (a : Term-ran (k .terms) refs refs₁ (k .references) one (fields-left file c) gs)
@@ -186,7 +187,7 @@ module _ {file names refs rows : List ℕ} (k : Counts) (t : Stands file names r
       → Line-read file names refs names refs′ k kind.Let c (k .names) end (Let (a .term) (b .terms)) (reference (a .term) 0 ∷ in-group 0 (b .terms))
   unfolding spelled-by references
   let-read a b =
-      plain-line t (let-said (k .terms) (fields-left file c) (a .said) ∙ rw (b .said)) (ran-then (a .ran) (b .ran))
+      plain-line t (let-said (k .grouped) (k .terms) (fields-left file c) (a .said) ∙ rw (b .said)) (ran-then (a .ran) (b .ran))
       (ap suc (length-map (b .terms) (λ t. reference t 0))) refl
 
   -- a `label`
@@ -195,7 +196,7 @@ module _ {file names refs rows : List ℕ} (k : Counts) (t : Stands file names r
       → Line-read file names refs names refs′ k kind.Label c (k .names) (k .references + 1) (Labeled (a .term)) (reference (a .term) 0 ∷ [])
   unfolding spelled-by references
   label-read {after = after} a h =
-      plain-line t (label-said (k .terms) (fields-left file c) (a .said) ∙ end-none (term (Labeled (a .term))) file after h)
+      plain-line t (label-said (k .grouped) (k .terms) (fields-left file c) (a .said) ∙ end-none (term (Labeled (a .term))) file after h)
       (record { is = a .ran .is; ends = omega arith; small = a .ran .small }) refl refl
 
 -- ---- its words behind the table

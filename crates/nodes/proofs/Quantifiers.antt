@@ -188,10 +188,10 @@ quantifier-node true = Forall
 quantifier-node false = Exists
 
 -- what its fields say
-quantifier-content : (all : Bool) (count : ℕ) (fs : List Field) → content (quantifier-kind all) count fs ≡ quantifier (quantifier-node all) count fs
+quantifier-content : (all grouped : Bool) (count : ℕ) (fs : List Field) → content (quantifier-kind all) grouped count fs ≡ quantifier (quantifier-node all) count fs
 unfolding content quantifier-kind quantifier-node
-quantifier-content true count fs = refl
-quantifier-content false count fs = refl
+quantifier-content true grouped count fs = refl
+quantifier-content false grouped count fs = refl
 
 -- the terms that it names, and that it spells no name
 quantifier-plain : (all : Bool) (body : ℕ) (gs : List (List ℕ))
@@ -209,10 +209,10 @@ module _ {file refs refs′ : List ℕ} {from many : ℕ} {c : Cursor} {r : Quan
   quantifier-read e = quantified-at many few refs from (fields-left file c) (sym (p .answer) ∙ ap (quantifier-result refs′) e)
 
   -- a field that is refused
-  pub quantifier-not : (all : Bool) {x : Refusal} → r ≡ quantified.Refused x → content (quantifier-kind all) many (fields-left file c) ≡ refused x
+  pub quantifier-not : (all grouped : Bool) {x : Refusal} → r ≡ quantified.Refused x → content (quantifier-kind all) grouped many (fields-left file c) ≡ refused x
   unfolding quantifier-result
-  quantifier-not all e =
-      quantifier-content all many (fields-left file c)
+  quantifier-not all grouped e =
+      quantifier-content all grouped many (fields-left file c)
       ∙ quantified-not many few refs from (fields-left file c) (quantifier-node all) (sym (p .answer) ∙ ap (quantifier-result refs′) e)
 
 -- ---- its words behind the table
@@ -238,7 +238,7 @@ module _ {file names refs rows refs′ : List ℕ} (k : Counts) {stop g : ℕ} (
       (reference (b .body) 0 ∷ group-words 0 (b .gs))
   quantifier-line =
       let (refers, plain) = quantifier-plain all (b .body) (b .gs) in
-      plain-line t (quantifier-content all (k .terms) (fields-left file c) ∙ b .said (quantifier-node all)) (b .ran)
+      plain-line t (quantifier-content all (k .grouped) (k .terms) (fields-left file c) ∙ b .said (quantifier-node all)) (b .ran)
       (rw refers (ap suc (group-length 0 (b .gs)))) plain
 
   module _ {r : Passed} (d : First-passed (k .names) stop r) (e : r ≡ passed.Nothing) where

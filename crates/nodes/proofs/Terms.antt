@@ -114,7 +114,7 @@ pushable-start t p = record {
 -- the fields of a term line, read: they say a node, its names are spelled, the words of its references pushed
 pub record Line-read (file names refs names′ refs′ : List ℕ) (k : Counts) (kind : LineKind) (c : Cursor) (named′ end : ℕ) (node : Node) (words : List ℕ)
     : Type 0 where
-  pub says : content kind (k .terms) (fields-left file c) ≡ ok (term node)
+  pub says : content kind (k .grouped) (k .terms) (fields-left file c) ≡ ok (term node)
   pub naming : Naming file names′ named′ (fold-left spell (table-names file names (k .names)) (spelled-by node))
   pub longer : Longer file names names′ (k .names) named′
   pub ran : Ran (k .terms) refs refs′ (k .references) end words
@@ -122,7 +122,7 @@ pub record Line-read (file names refs names′ refs′ : List ℕ) (k : Counts) 
 
 module _ {file names refs rows names′ refs′ : List ℕ} {k : Counts} {kind : LineKind} {c : Cursor} where
   -- a field that is refused
-  pub line-not : {x : Refusal} → content kind (k .terms) (fields-left file c) ≡ refused x → Same-but 0 name-columns names names′
+  pub line-not : {x : Refusal} → content kind (k .grouped) (k .terms) (fields-left file c) ≡ refused x → Same-but 0 name-columns names names′
       → Same-but 0 most-references refs refs′
       → Reads-term file names refs rows names′ refs′ rows k kind c (step.Refused x)
   line-not {x} e a b = record { grows = not-read {x = x} e; kept = record { names-kept = a; refs-kept = b; rows-kept = same-self 0 rows-marks-start rows } }

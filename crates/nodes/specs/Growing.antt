@@ -68,6 +68,7 @@ unfoldable pub with-term : Counts → ℕ → ℕ → Counts
 with-term k named used =
     record {
       asks = k .asks;
+      grouped = k .grouped;
       hides = k .hides;
       names = named;
       references = used;
@@ -126,5 +127,5 @@ module _ (file names refs rows names′ refs′ rows′ : List ℕ) (k : Counts)
 
   -- what reading a term line of a kind comes to, from the first field after its kind on
   pub record Reads-term (kind : LineKind) (c : Cursor) (r : Step) : Type 0 where
-    pub grows : Grows (content kind (k .terms) (fields-left file c)) r
+    pub grows : Grows (content kind (k .grouped) (k .terms) (fields-left file c)) r
     pub kept : Kept names refs rows names′ refs′ rows′

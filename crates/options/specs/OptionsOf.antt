@@ -6,9 +6,9 @@ use mathlib.Core.List.{List}
 use Rattle.model.specs.Reading.{Ask, no-ambients, pretyping-axioms, prune-decls, follow-bodies}
 use Rattle.options.specs.declared.Options.{Options}
 
--- the ask of some queries and an options number
-abbrev pub asks : List ℕ → ℕ → Ask
-asks queries options = record { queries = queries; options = options }
+-- the ask of some queries, an options number and a number of groups
+abbrev pub asks : List ℕ → ℕ → ℕ → Ask
+asks queries options groups = record { queries = queries; options = options; groups = groups }
 
 -- the options that are on, each at its value
 unfoldable pub options-value : Options → ℕ

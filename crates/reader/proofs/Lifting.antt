@@ -1,15 +1,16 @@
--- Term lines, `ask` and `also` as `read-line` has them.
+-- Term lines, ask lines and `also` as `read-line` has them.
 use Prim.Native.Nat.{ℕ, _+_}
 use native.Mathlib.Omega.{arith}
 use mathlib.Core.Path.{_≡_, refl, ap, _∙_}
+use mathlib.Core.Bool.{_||_, or-false}
 use mathlib.Core.Logic.{inl, inr}
 use mathlib.Core.List.{List, [], append-nil}
 use lib.ListN.{length, length-append}
 use Rattle.model.specs.Summaries.{exclude-names}
-use Rattle.model.specs.Lists.{collect, fold-left, sum}
+use Rattle.model.specs.Lists.{any, collect, fold-left, sum}
 use Rattle.model.specs.Names.{Name}
 use Rattle.model.specs.Terms.{Node, Term, add-term, references}
-use Rattle.model.specs.Reading.{Result, refused, Content, Head, head, term, content, State, spell, spelled, spelled-by, trimmed, heads, nodes, summarize-decl, root-of, taken-by, add-line}
+use Rattle.model.specs.Reading.{Result, refused, Content, Head, head, term, content, State, spell, spelled, spelled-by, trimmed, heads, is-grouped, nodes, summarize-decl, root-of, taken-by, add-line}
 use Rattle.model.specs.Outcome.{working-words}
 use Rattle.model.specs.declared.Counts.{Counts}
 use Rattle.model.specs.declared.LineKind.{LineKind}
@@ -42,6 +43,7 @@ term-takes exclude ts n node = refl
 -- the state with a term line
 term-line : (n : ℕ) (s : State) (node : Node) → add-line exclude-names n s (term node) ≡ record {
   asks = s .asks;
+  grouped = s .grouped;
   hidden = s .hidden;
   terms = add-term (s .terms) node;
   names = fold-left spell (s .names) (spelled-by node);
@@ -51,11 +53,21 @@ term-line : (n : ℕ) (s : State) (node : Node) → add-line exclude-names n s (
   entries = s .entries;
   uses = s .uses;
 }
-unfolding add-line heads nodes spelled trimmed summarize-decl root-of fold-left collect sum
+unfolding add-line heads nodes spelled trimmed summarize-decl root-of fold-left collect sum any
 term-line n s node =
     let a : s .entries + 0 ≡ s .entries = omega arith in
     let b : s .uses + (0 + 0) ≡ s .uses = omega arith in
-    rw (append-nil (s .asks), append-nil (s .hidden), append-nil (spelled-by node), append-nil (s .decls), append-nil (s .roots), append-nil (references node), a, b)
+    rw (
+      append-nil (s .asks),
+      or-false (s .grouped),
+      append-nil (s .hidden),
+      append-nil (spelled-by node),
+      append-nil (s .decls),
+      append-nil (s .roots),
+      append-nil (references node),
+      a,
+      b,
+    )
 
 -- one term more
 one-more : (ts : List Term) (node : Node) → length (add-term ts node) ≡ length ts + 1
@@ -129,7 +141,7 @@ module _ {file names refs rows recs lists names′ refs′ rows′ : List ℕ} {
   term-reads kept (not-read {x} e) = reads-refused x e
 
   pub term-read : {said : LineKind} {c : Cursor} {f : Step} → Reads-term file names refs rows names′ refs′ rows′ k said c f
-      → Line-read file names refs rows recs lists names′ refs′ rows′ recs lists k n (content said (k .terms) (fields-left file c)) f
+      → Line-read file names refs rows recs lists names′ refs′ rows′ recs lists k n (content said (k .grouped) (k .terms) (fields-left file c)) f
   term-read r = record {
     reads = term-reads (r .kept) (r .grows);
     past = record {
@@ -141,7 +153,7 @@ module _ {file names refs rows recs lists names′ refs′ rows′ : List ℕ} {
     };
   }
 
--- ---- an ask or an also
+-- ---- an ask line or an also line
 
 -- a line of the head takes no name
 head-takes : (exclude : List Name) (ts : List Term) (n : ℕ) (h : Head) → collect taken-by (summarize-decl exclude ts n (head h)) ≡ []
@@ -154,12 +166,12 @@ module _ {file names refs rows recs lists recs′ : List ℕ} {k : Counts} (n : 
       → Line-read file names refs rows recs lists names refs rows recs′ lists k n said f
   unfolding judged
   ask-read (asks {h} e a) = record {
-    reads = goes-on {k′ = with-ask k}
+    reads = goes-on {k′ = with-ask k (k .grouped || is-grouped h)}
         (ap (λ r. judged n (state-of file names refs rows recs lists k) r) e
         ∙ judged-within n (state-of file names refs rows recs lists k) (head h)
         (repeats-none n (state-of file names refs rows recs lists k) (head h) (head-takes _ _ n h))
-        (head-state st recs′ n h a) (standing-within (head-standing st recs′ h a)))
-        (head-standing st recs′ h a);
+        (head-state st recs′ n h a) (standing-within (head-standing st recs′ h a (k .grouped || is-grouped h))))
+        (head-standing st recs′ h a (k .grouped || is-grouped h));
     past = past-records names refs rows lists (same-wider 0 working-words (omega arith) (omega arith) (head-same recs recs′ k h a));
   }
   ask-read (not-asked {x} e z) = rw z (record { reads = reads-refused x e; past = past-none names refs rows recs lists })

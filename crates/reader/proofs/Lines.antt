@@ -14,6 +14,7 @@ use Rattle.model.specs.Lines.{lines, Field, fields}
 use Rattle.model.specs.Reading.{Result, ok, refused, _>>=_, next, place, in-asks, may-stand, is-position, most-asks, kind-field, content, parse, State, start, read, refused-at, go-on, read-line, read-lines, read-file, Content}
 use Rattle.model.specs.Outcome.{most-bytes, working-words}
 use Rattle.model.specs.declared.Counts.{Counts}
+use Rattle.model.specs.declared.LineKind.{LineKind}
 use Rattle.model.specs.declared.LineKind.the-variants as kind
 use Rattle.model.specs.declared.Refusal.{Refusal}
 use Rattle.model.specs.declared.Refusal.the-variants as refusal
@@ -53,7 +54,7 @@ use Rattle.records.proofs.Asking.{asks-length, asks-none}
 use Rattle.records.specs.Writing.{no-counts}
 use Rattle.filing.specs.Lines.{judged, Reads, goes-on, stops, Past}
 use Rattle.reader.specs.declared.Reading.the-variants as answer
-use Rattle.reader.specs.Lines.{kind-content, Tables-cleared, Reads-file, all-read, read-stops, File-read}
+use Rattle.reader.specs.Lines.{kind-content, ask-kind, Tables-cleared, Reads-file, all-read, read-stops, File-read}
 
 -- ---- the form of a line
 
@@ -106,28 +107,32 @@ not-false {x} {b} e h = go x e h
     go false q z = let w : _≡_ {A = ℕ} 0 1 = cc in absurd (omega arith)
 
 -- what a line of a kind says
-module _ (count : ℕ) (fs : List Field) {k : Kind} where
-  pub kind-ask : k ≡ kinded.Ask → kind-content k count fs ≡ content kind.Ask count fs
-  unfolding kind-content kind-result
+module _ (grouped : Bool) (count : ℕ) (fs : List Field) {k : Kind} where
+  pub kind-ask : k ≡ kinded.Ask → kind-content k grouped count fs ≡ content (ask-kind false) grouped count fs
+  unfolding kind-content kind-result ask-kind
   kind-ask e = rw e
 
-  pub kind-also : k ≡ kinded.Also → kind-content k count fs ≡ content kind.Also count fs
+  pub kind-ask2 : k ≡ kinded.Ask2 → kind-content k grouped count fs ≡ content (ask-kind true) grouped count fs
+  unfolding kind-content kind-result ask-kind
+  kind-ask2 e = rw e
+
+  pub kind-also : k ≡ kinded.Also → kind-content k grouped count fs ≡ content kind.Also grouped count fs
   unfolding kind-content kind-result
   kind-also e = rw e
 
-  pub kind-hide : k ≡ kinded.Hide → kind-content k count fs ≡ content kind.Hide count fs
+  pub kind-hide : k ≡ kinded.Hide → kind-content k grouped count fs ≡ content kind.Hide grouped count fs
   unfolding kind-content kind-result
   kind-hide e = rw e
 
-  pub kind-term : {t : TermKind} → k ≡ kinded.Term t → kind-content k count fs ≡ content (term-kind t) count fs
+  pub kind-term : {t : TermKind} → k ≡ kinded.Term t → kind-content k grouped count fs ≡ content (term-kind t) grouped count fs
   unfolding kind-content kind-result
   kind-term e = rw e
 
-  pub kind-record : {r : RecordKind} → k ≡ kinded.Record r → kind-content k count fs ≡ content (record-line-kind r) count fs
+  pub kind-record : {r : RecordKind} → k ≡ kinded.Record r → kind-content k grouped count fs ≡ content (record-line-kind r) grouped count fs
   unfolding kind-content kind-result
   kind-record e = rw e
 
-  pub kind-none : {x : Refusal} → k ≡ kinded.No x → kind-content k count fs ≡ refused x
+  pub kind-none : {x : Refusal} → k ≡ kinded.No x → kind-content k grouped count fs ≡ refused x
   unfolding kind-content kind-result
   kind-none e = rw e
 
@@ -136,25 +141,26 @@ miscounted : (s : State) (k : Kind) (all : List Field) → false ≡ well-counte
     → _≡_ {A = Result Content} (kind-result k >>= λ l. refused refusal.Form) (refused refusal.Form)
 unfolding kind-result well-counted fixed-of holds
 miscounted s kinded.Ask all c = refl
+miscounted s kinded.Ask2 all c = refl
 miscounted s kinded.Also all c = refl
 miscounted s kinded.Hide all c = refl
 miscounted s (kinded.Term t) all c = refl
 miscounted s (kinded.Record r) all c = refl
 miscounted s (kinded.No x) all c = absurd (true≢false (sym c))
 
-module _ (s : State) {count : ℕ} (terms : length (s .terms) ≡ count) {all : List Field} {f : Field} {fs : List Field} (d : all ≡ f ∷ fs) (k : Kind)
-    (q : kind-result k ≡ kind-field s f) where
+module _ (s : State) {grouped : Bool} {count : ℕ} (form : s .grouped ≡ grouped) (terms : length (s .terms) ≡ count) {all : List Field} {f : Field}
+    {fs : List Field} (d : all ≡ f ∷ fs) (k : Kind) (q : kind-result k ≡ kind-field s f) where
   -- the number of fields is right
-  pub parse-on : true ≡ well-counted s k all → parse s all ≡ kind-content k count fs
+  pub parse-on : true ≡ well-counted s k all → parse s all ≡ kind-content k grouped count fs
   unfolding kind-content
-  parse-on c = ap (parse s) d ∙ parse-law s f fs k terms q
-      ∙ ap (λ b. kind-result k >>= λ l. cond b (content l count fs) (refused refusal.Form)) (sym (c ∙ ap (well-counted s k) d))
+  parse-on c = ap (parse s) d ∙ parse-law s f fs k form terms q
+      ∙ ap (λ b. kind-result k >>= λ l. cond b (content l grouped count fs) (refused refusal.Form)) (sym (c ∙ ap (well-counted s k) d))
 
   -- it is not
   pub parse-count : false ≡ well-counted s k all → parse s all ≡ refused refusal.Form
   unfolding kind-result
-  parse-count c = ap (parse s) d ∙ parse-law s f fs k terms q
-      ∙ ap (λ b. kind-result k >>= λ l. cond b (content l count fs) (refused refusal.Form)) (sym (c ∙ ap (well-counted s k) d))
+  parse-count c = ap (parse s) d ∙ parse-law s f fs k form terms q
+      ∙ ap (λ b. kind-result k >>= λ l. cond b (content l grouped count fs) (refused refusal.Form)) (sym (c ∙ ap (well-counted s k) d))
       ∙ miscounted s k all c
 
 -- a list is empty where its length is 0
@@ -188,6 +194,7 @@ placing {file} {names} {refs} {rows} {recs} {lists} {k} st =
     record {
       asks = asks-length recs (k .asks);
       no-asks = asks-none recs (k .asks);
+      form = refl;
       no-hidden = nil-length (hidden-of (name-of file names) recs (k .records))
           ∙ ap (λ n. eqb n 0) (length-map (hides-of recs (k .records)) (name-of file names) ∙ st .hiding .counted);
       no-terms = nil-length (terms-in file names refs rows (k .references) (k .terms))
@@ -197,30 +204,42 @@ placing {file} {names} {refs} {rows} {recs} {lists} {k} st =
           (omega (arith, st .hiding .counted, records-length (name-of file names) recs lists (k .records)));
     }
 
--- the terms of the tables
+-- the form of the tables
+pub form-counted : (file names refs rows recs lists : List ℕ) (k : Counts) → state-of file names refs rows recs lists k .grouped ≡ k .grouped
+unfolding state-of
+form-counted file names refs rows recs lists k = refl
+
+-- their terms
 pub terms-counted : (file names refs rows recs lists : List ℕ) (k : Counts) → length (state-of file names refs rows recs lists k .terms) ≡ k .terms
 unfolding state-of
 terms-counted file names refs rows recs lists k = terms-length file names refs rows (k .references) (k .terms)
 
--- an ask that may stand has room
-pub ask-fits : (s : State) {k : Counts} (f : Field) {r : Kind} → Placing s k → kind-result r ≡ kind-field s f → r ≡ kinded.Ask → k .asks < ask-room
-unfolding kind-result place is-position
-ask-fits s {k} f {r} p e a =
-    let d : kind-field s f ≡ ok kind.Ask = sym (rw a at e) in
-    let few = kind-ok s f d .2 in
-    omega (arith, p .asks, nleb→lt most-asks (length (s .asks)) few)
+module _ (s : State) {k : Counts} (f : Field) where
+  -- a line that takes a position and may stand has room
+  position-fits : Placing s k → {l : LineKind} → kind-field s f ≡ ok l → is-position (place l) ≡ true → k .asks < ask-room
+  position-fits p d t =
+      let few = rw t at (kind-ok s f d .2) in
+      omega (arith, p .asks, nleb→lt most-asks (length (s .asks)) few)
 
--- an also line that may stand has room, and a position before it
-pub also-fits : (s : State) {k : Counts} (f : Field) {r : Kind} → Placing s k → kind-result r ≡ kind-field s f → r ≡ kinded.Also
-    → (0 < k .asks) × (k .asks < ask-room)
-unfolding kind-result place is-position may-stand
-also-fits s {k} f {r} p e a =
-    let d : kind-field s f ≡ ok kind.Also = sym (rw a at e) in
-    let (known, stands, few) = kind-ok s f d in
-    let some = T-and (in-asks s) (not (is-nil (s .asks))) .0 stands .1 in (
-      ⊎-elim (λ (z : k .asks ≡ 0). absurd (T-not (is-nil (s .asks)) some (true-T (p .no-asks ∙ eq-eqb (k .asks) 0 z)))) (λ z. omega arith) (equal (k .asks) 0),
-      omega (arith, p .asks, nleb→lt most-asks (length (s .asks)) few),
-    )
+  -- an ask line
+  pub ask-fits : {r : Kind} → Placing s k → kind-result r ≡ kind-field s f → r ≡ kinded.Ask → k .asks < ask-room
+  unfolding kind-result place is-position
+  ask-fits p e a = position-fits p (sym (rw a at e)) refl
+
+  -- with groups
+  pub ask2-fits : {r : Kind} → Placing s k → kind-result r ≡ kind-field s f → r ≡ kinded.Ask2 → k .asks < ask-room
+  unfolding kind-result place is-position
+  ask2-fits p e a = position-fits p (sym (rw a at e)) refl
+
+  -- an also line, and there is a position before it
+  pub also-fits : {r : Kind} → Placing s k → kind-result r ≡ kind-field s f → r ≡ kinded.Also → (0 < k .asks) × (k .asks < ask-room)
+  unfolding kind-result place is-position may-stand
+  also-fits p e a =
+      let d : kind-field s f ≡ ok kind.Also = sym (rw a at e) in
+      let some = T-and (in-asks s) (not (is-nil (s .asks))) .0 (kind-ok s f d .1) .1 in (
+        ⊎-elim (λ (z : k .asks ≡ 0). absurd (T-not (is-nil (s .asks)) some (true-T (p .no-asks ∙ eq-eqb (k .asks) 0 z)))) (λ z. omega arith) (equal (k .asks) 0),
+        position-fits p d refl,
+      )
 
 -- ---- the loop over lines
 

@@ -2,13 +2,16 @@
 -- `model` gives.
 use Prim.Native.Nat.{ℕ, _≤_, _<_}
 use mathlib.Core.Path.{_≡_}
+use mathlib.Core.Bool.{Bool, true, false, _||_}
 use mathlib.Core.List.{List}
 use lib.ListN.{length, getD}
 use Rattle.model.specs.Summaries.{exclude-names}
 use Rattle.model.specs.Lines.{Field}
-use Rattle.model.specs.Reading.{Result, ok, refused, _>>=_, Content, Head, head, content, read-file, read, refused-at}
+use Rattle.model.specs.Reading.{Result, ok, refused, _>>=_, Content, Head, head, is-grouped, content, read-file, read, refused-at}
 use Rattle.model.specs.Outcome.{most-bytes, working-words}
 use Rattle.model.specs.declared.Counts.{Counts}
+use Rattle.model.specs.declared.LineKind.{LineKind}
+use Rattle.model.specs.declared.LineKind.the-variants as kind
 use Rattle.model.specs.declared.Refusal.{Refusal}
 use Rattle.model.specs.declared.Step.{Step}
 use Rattle.model.specs.declared.Step.the-variants as step
@@ -22,12 +25,17 @@ use Rattle.reader.specs.declared.Reading.{Reading}
 use Rattle.reader.specs.declared.Reading.the-variants as answer
 
 -- what a line says by its kind
-unfoldable pub kind-content : Kind → ℕ → List Field → Result Content
-kind-content k count fs = kind-result k >>= λ l. content l count fs
+unfoldable pub kind-content : Kind → Bool → ℕ → List Field → Result Content
+kind-content k grouped count fs = kind-result k >>= λ l. content l grouped count fs
 
--- what reading an `ask` or an `also` comes to: it stands behind the records, or its refusal
+-- the kind of an ask line, with groups or without
+unfoldable pub ask-kind : Bool → LineKind
+ask-kind true = kind.Ask2
+ask-kind false = kind.Ask
+
+-- what reading an ask or an also line comes to: it stands behind the records, or its refusal
 pub data Asks (recs recs′ : List ℕ) (k : Counts) (said : Result Content) : Step → Type 0 where
-  asks : {h : Head} → said ≡ ok (head h) → Position-at recs recs′ k h → Asks recs recs′ k said (step.On (with-ask k))
+  asks : {h : Head} → said ≡ ok (head h) → Position-at recs recs′ k h → Asks recs recs′ k said (step.On (with-ask k (k .grouped || is-grouped h)))
   not-asked : {x : Refusal} → said ≡ refused x → recs′ ≡ recs → Asks recs recs′ k said (step.Refused x)
 
 -- what reading a file asks: the lengths that a call has checked, and cleared names and rows

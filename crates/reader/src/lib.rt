@@ -18,7 +18,7 @@ ghost use Rattle.records.specs.Columns.{ask-room};
 ghost use Rattle.records.specs.States.{state-of};
 ghost use Rattle.records.specs.Adding.{Standing};
 ghost use Rattle.filing.specs.Lines.{Line-read};
-ghost use Rattle.reader.specs.Lines.{kind-content, Asks, Tables-cleared, File-read};
+ghost use Rattle.reader.specs.Lines.{kind-content, ask-kind, Asks, Tables-cleared, File-read};
 
 // What reading a file comes to: the counts after the last line, or a refusal and its line.
 pub enum Reading {
@@ -26,19 +26,34 @@ pub enum Reading {
     Refused(Refusal, usize),
 }
 
-// Reads an `ask`, from its query on.
-fn read_ask(file: &[u8], recs: &mut [u32], k: Counts, c: Cursor) -> Step
+// Reads an ask line, with groups or without, from its query on. Without them it admits all groups.
+fn read_ask(file: &[u8], recs: &mut [u32], k: Counts, grouped: bool, c: Cursor) -> Step
     requires { ⌜ Placed (now file) c × (k .asks < ask-room) × (working-words ≤ length (now recs)) ⌝ }
     ensures { λ r. ⌜ Asks (now (recs .entry)) (now (recs .exit)) k
-        (content kind.Ask (k .terms) (fields-left (now (file .entry)) c)) r ⌝ }
+        (content (ask-kind grouped) (k .grouped) (k .terms) (fields-left (now (file .entry)) c)) r ⌝ }
 {
     match c.number(file, model::MOST_QUERY) {
         NumberStep::Number(q, next) => match next.number(file, model::MOST_OPTIONS) {
-            NumberStep::Number(options, last) => {
-                if last.at <= last.end {
-                    return Step::Refused(Refusal::Form);
+            NumberStep::Number(options, after) => {
+                match fields::number_or(
+                    file,
+                    grouped,
+                    model::MOST_GROUPS,
+                    model::MOST_GROUPS,
+                    after,
+                ) {
+                    NumberStep::Number(groups, last) => {
+                        if last.at <= last.end {
+                            return Step::Refused(Refusal::Form);
+                        }
+                        let mut added = records::add_ask(recs, k, records::ASK, q, options, groups);
+                        if grouped {
+                            added.grouped = true;
+                        }
+                        Step::On(added)
+                    }
+                    NumberStep::Refused(r) => Step::Refused(r),
                 }
-                Step::On(records::add_ask(recs, k, records::ASK, q, options))
             }
             NumberStep::Refused(r) => Step::Refused(r),
         },
@@ -50,14 +65,14 @@ fn read_ask(file: &[u8], recs: &mut [u32], k: Counts, c: Cursor) -> Step
 fn read_also(file: &[u8], recs: &mut [u32], k: Counts, c: Cursor) -> Step
     requires { ⌜ Placed (now file) c × (0 < k .asks) × (k .asks < ask-room) × (working-words ≤ length (now recs)) ⌝ }
     ensures { λ r. ⌜ Asks (now (recs .entry)) (now (recs .exit)) k
-        (content kind.Also (k .terms) (fields-left (now (file .entry)) c)) r ⌝ }
+        (content kind.Also (k .grouped) (k .terms) (fields-left (now (file .entry)) c)) r ⌝ }
 {
     match c.number(file, model::MOST_QUERY) {
         NumberStep::Number(q, last) => {
             if last.at <= last.end {
                 return Step::Refused(Refusal::Form);
             }
-            Step::On(records::add_ask(recs, k, records::ALSO, q, 0))
+            Step::On(records::add_ask(recs, k, records::ALSO, q, 0, 0))
         }
         NumberStep::Refused(r) => Step::Refused(r),
     }
@@ -77,14 +92,15 @@ fn read_kind(
     c: Cursor,
 ) -> Step
     requires { ⌜ Standing (now file) (now names) (now refs) (now rows) (now recs) (now lists) k × Placed (now file) c
-        × (n < 4294967296) × (kind ≡ Kind.Ask → k .asks < ask-room)
+        × (n < 4294967296) × (kind ≡ Kind.Ask → k .asks < ask-room) × (kind ≡ Kind.Ask2 → k .asks < ask-room)
         × (kind ≡ Kind.Also → (0 < k .asks) × (k .asks < ask-room)) ⌝ }
     ensures { λ r. ⌜ Line-read (now (file .entry)) (now (names .entry)) (now (refs .entry)) (now (rows .entry))
         (now (recs .entry)) (now (lists .entry)) (now (names .exit)) (now (refs .exit)) (now (rows .exit)) (now (recs .exit))
-        (now (lists .exit)) k n (kind-content kind (k .terms) (fields-left (now (file .entry)) c)) r ⌝ }
+        (now (lists .exit)) k n (kind-content kind (k .grouped) (k .terms) (fields-left (now (file .entry)) c)) r ⌝ }
 {
     match kind {
-        Kind::Ask => read_ask(file, recs, k, c),
+        Kind::Ask => read_ask(file, recs, k, false, c),
+        Kind::Ask2 => read_ask(file, recs, k, true, c),
         Kind::Also => read_also(file, recs, k, c),
         Kind::Hide => filing::read_hide(file, names, refs, rows, recs, lists, k, n, c),
         Kind::Term(t) => nodes::read_term(file, names, refs, rows, k, t, c),
@@ -118,7 +134,7 @@ fn read_line(
     match c.field(file) {
         FieldStep::Part { start, end, next } => {
             let kind = fields::line_kind(file, k, start, end);
-            if !fields::counted(file, kind, a, e) {
+            if !fields::counted(file, k, kind, a, e) {
                 return Step::Refused(Refusal::Form);
             }
             read_kind(file, names, refs, rows, recs, lists, k, n, kind, next)
@@ -146,6 +162,7 @@ pub fn read_file(
     }
     let mut k = Counts {
         asks: 0,
+        grouped: false,
         hides: 0,
         names: 0,
         references: 0,

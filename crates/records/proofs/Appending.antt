@@ -3,15 +3,15 @@ use Prim.Native.Nat.{ℕ, zero, suc, _+_, _-_, _*_, _≤_, _<_}
 use native.Mathlib.Numerals.{add-one}
 use native.Mathlib.Omega.{arith}
 use mathlib.Core.Path.{_≡_, refl, ap, _∙_}
-use mathlib.Core.Bool.{true, false}
+use mathlib.Core.Bool.{true, false, or-false}
 use mathlib.Core.Logic.{_⊎_, inl, inr, ⊎-elim}
 use mathlib.Core.List.{List, [], _∷_, _++_, map, map-append, append-nil}
 use lib.ListN.{length, getD, length-append, length-map}
-use Rattle.model.specs.Lists.{sum, collect, fold-left, part}
+use Rattle.model.specs.Lists.{any, sum, collect, fold-left, part}
 use Rattle.model.specs.Names.{Name}
 use Rattle.model.specs.Summaries.{exclude-names, entries}
 use Rattle.model.specs.Terms.{Node, Term, add-term, unlabeled, free-top-level-names}
-use Rattle.model.specs.Reading.{Ask, Content, heads, head-asks, hidden-by, nodes, spelled, trimmed, spell, summarize-decl, root-of, entries-of, uses-of, add-line, repeats, most-names, most-records, most-entries, most-uses, excluded}
+use Rattle.model.specs.Reading.{Ask, Content, heads, head-asks, is-grouped, hidden-by, nodes, spelled, trimmed, spell, summarize-decl, root-of, entries-of, uses-of, add-line, repeats, most-names, most-records, most-entries, most-uses, excluded}
 use Rattle.model.specs.declared.Counts.{Counts}
 use Rattle.model.specs.declared.Refusal.{Refusal}
 use Rattle.model.specs.declared.Refusal.the-variants as refusal
@@ -31,7 +31,7 @@ use Rattle.rules.specs.Views.{terms-in}
 use Rattle.triggers.specs.Entries.{disjuncts-of, entries-base, last-flag, no-name}
 use Rattle.triggers.proofs.Marked.{terms-marked}
 use Rattle.model.specs.declared.Step.the-variants as step
-use Rattle.records.specs.Columns.{record-kind, assume-kind, retain-kind, root-kind, hide-kind, entry-word, entry-name, entry-fact, ask-query-column, ask-options-column, ask-kind-column, ask-query, ask-options, ask-kind}
+use Rattle.records.specs.Columns.{record-kind, assume-kind, retain-kind, root-kind, hide-kind, entry-word, entry-name, entry-fact, ask-query-column, ask-options-column, ask-kind-column, ask-groups-column, ask-query, ask-options, ask-kind}
 use Rattle.records.specs.States.{summary-at, root-at, hides-at, decls-of, roots-of, hides-of, hidden-of, excluded-of, also-at, ask-at, asks-of, state-of}
 use Rattle.records.specs.Filing.{Records, Chained, Filing, Taken}
 use Rattle.records.specs.Writing.{with-line, Rowed, Ask-stays}
@@ -83,10 +83,10 @@ standing-within {file} {names} {refs} {rows} {recs} {lists} {k} st = record {
 -- what is asked at a position whose words stay, and those of the positions before it
 pub ask-stays : (recs recs′ : List ℕ) (n : ℕ) → ((i : ℕ) → i ≤ n → Ask-stays recs recs′ i) → ask-at recs′ n ≡ ask-at recs n
 unfolding ask-at also-at
-ask-stays recs recs′ zero same = let (q, o, k) = same 0 (omega arith) in rw (q, o)
+ask-stays recs recs′ zero same = let (q, o, k, g) = same 0 (omega arith) in rw (q, o, g)
 ask-stays recs recs′ (suc n) same =
-    let (q, o, k) = same (suc n) (omega arith) in
-    rw (ask-stays recs recs′ n (λ i l. same i (omega arith)), q, o, k)
+    let (q, o, k, g) = same (suc n) (omega arith) in
+    rw (ask-stays recs recs′ n (λ i l. same i (omega arith)), q, o, k, g)
 
 -- asks whose words stay
 pub asks-stay : (recs recs′ : List ℕ) (n : ℕ) → ((i : ℕ) → i < n → Ask-stays recs recs′ i) → asks-of recs′ n ≡ asks-of recs n
@@ -123,14 +123,14 @@ no-hide {recs = recs} {k = k} st table more same told recs′ kind low =
 
 -- the tables with a record after those counted: more names, marks, its row, its free names, its entries, the name that it takes
 pub record Appends (file names rows recs lists names′ rows′ recs′ lists′ : List ℕ) (k : Counts)
-    (hides′ named′ entries′ uses′ mark′ kind line name term flag code : ℕ) : Type 0 where
+    (hides′ named′ entries′ uses′ mark′ kind line name term flag code group : ℕ) : Type 0 where
   pub table : Table file names′ named′
   pub more : k .names ≤ named′
   pub same : (n : ℕ) → n < k .names → name-of file names′ n ≡ name-of file names n
   pub row-words : Same-but 12288 4096 rows rows′
   pub fresh : Fresh names′ rows′ mark′
   pub few-marks : mark′ ≤ 2 * (k .records + 1) + entries′ + 1
-  pub row : Rowed recs recs′ k (with-line k hides′ named′ entries′ uses′ mark′) kind line name term flag code
+  pub row : Rowed recs recs′ k (with-line k hides′ named′ entries′ uses′ mark′) kind line name term flag code group
   pub small-kind : kind ≤ hide-kind
   pub known : (kind ≡ retain-kind → ⊥) → name < named′
   pub lists-length : length lists′ ≡ length lists
@@ -157,6 +157,7 @@ pub record Appends (file names rows recs lists names′ rows′ recs′ lists′
 -- excluded names, the roots, the counts
 pub record Says (file names names′ recs′ lists′ : List ℕ) (out : List Name) (terms : List Term) (k k′ : Counts) (kind line : ℕ) (c : Content) : Type 0 where
   pub no-ask : (earlier : List Ask) → collect (head-asks earlier) (heads c) ≡ []
+  pub no-form : any is-grouped (heads c) ≡ false
   pub hidden : map (name-of file names′) (hides-at recs′ (k .records) kind) ≡ collect hidden-by (heads c)
   pub no-term : nodes c ≡ []
   pub spells : table-names file names′ (k′ .names) ≡ fold-left spell (table-names file names (k .names)) (spelled c ++ trimmed out terms c)
@@ -166,9 +167,9 @@ pub record Says (file names names′ recs′ lists′ : List ℕ) (out : List Na
   pub uses : k′ .uses ≡ k .uses + (sum (map uses-of (summarize-decl out terms line c))
       + sum (map (λ r. length (r .free-names)) (root-of out terms line c)))
 
-module _ {file names refs rows recs lists names′ rows′ recs′ lists′ : List ℕ} {k : Counts} {hides′ named′ entries′ uses′ mark′ kind line name term flag code : ℕ}
+module _ {file names refs rows recs lists names′ rows′ recs′ lists′ : List ℕ} {k : Counts} {hides′ named′ entries′ uses′ mark′ kind line name term flag code group : ℕ}
     (st : Standing file names refs rows recs lists k) (few : k .records < most-records)
-    (a : Appends file names rows recs lists names′ rows′ recs′ lists′ k hides′ named′ entries′ uses′ mark′ kind line name term flag code) where
+    (a : Appends file names rows recs lists names′ rows′ recs′ lists′ k hides′ named′ entries′ uses′ mark′ kind line name term flag code group) where
   -- the rows of the records before
   before : (c j : ℕ) → j < k .records → getD recs′ (c * most-records + j) 0 ≡ getD recs (c * most-records + j) 0
   before c j l = a .row .others c j (omega arith) (λ e. omega arith)
@@ -269,6 +270,7 @@ module _ {file names refs rows recs lists names′ rows′ recs′ lists′ : Li
     a .row .past (ask-query-column + i) (omega arith),
     a .row .past (ask-options-column + i) (omega arith),
     a .row .past (ask-kind-column + i) (omega arith),
+    a .row .past (ask-groups-column + i) (omega arith),
   ))
 
   -- the tables are the state with the line
@@ -282,6 +284,8 @@ module _ {file names refs rows recs lists names′ rows′ recs′ lists′ : Li
       rw (
         s .no-ask (asks-of recs (k .asks)),
         append-nil (asks-of recs (k .asks)),
+        s .no-form,
+        or-false (k .grouped),
         s .no-term,
         zero-more,
         add-one (k .records),

@@ -3,21 +3,21 @@ use Prim.Native.Nat.{ℕ, zero, suc, _+_, _*_, _≤_, _<_}
 use native.Mathlib.Numerals.{add-one}
 use native.Mathlib.Omega.{arith}
 use mathlib.Core.Path.{_≡_, refl, sym, _∙_, ap}
-use mathlib.Core.Bool.{false}
+use mathlib.Core.Bool.{Bool, false, _||_, or-false}
 use mathlib.Core.List.{List, [], _∷_, _++_, map, append-nil}
 use lib.Dec.{eqb}
 use lib.ListN.{length, getD, set, length-append, length-set}
 use lib.Seq.{getD-set-same, getD-set-other}
 use borrow.Author.Tests.{ne-eqb}
-use Rattle.model.specs.Lists.{sum, collect, fold-left, is-nil, last}
+use Rattle.model.specs.Lists.{any, sum, collect, fold-left, is-nil, last}
 use Rattle.model.specs.Summaries.{exclude-names}
-use Rattle.model.specs.Reading.{Head, head, ask, also, hide, heads, with-query, head-asks, hidden-by, nodes, spelled, trimmed, summarize-decl, root-of, add-line, State, most-records}
+use Rattle.model.specs.Reading.{Head, head, ask, ask2, also, hide, heads, is-grouped, most-groups, with-query, head-asks, hidden-by, nodes, spelled, trimmed, summarize-decl, root-of, add-line, State, most-records}
 use Rattle.model.specs.Outcome.{working-words}
 use Rattle.model.specs.declared.Counts.{Counts}
 use Rattle.names.specs.Table.{name-of}
 use Rattle.words.specs.Slices.{Same-but}
 use Rattle.options.specs.OptionsOf.{asks}
-use Rattle.records.specs.Columns.{ask-query-column, ask-options-column, ask-kind-column, ask-columns, ask-room, ask-query, ask-options, ask-kind, asked-kind, also-kind}
+use Rattle.records.specs.Columns.{ask-query-column, ask-options-column, ask-kind-column, ask-groups-column, ask-columns, ask-room, ask-query, ask-options, ask-kind, ask-groups, asked-kind, also-kind}
 use Rattle.records.specs.States.{also-at, ask-at, asks-of, state-of}
 use Rattle.records.specs.Filing.{Records}
 use Rattle.records.specs.Writing.{row-columns, with-ask, Ask-stays, Asked-at, Position-at}
@@ -26,8 +26,8 @@ use Rattle.records.proofs.Recording.{Agree, hides-stay, hidden-stay, de
 use Rattle.records.proofs.Keeping.{filing-kept, taken-kept}
 use Rattle.records.proofs.Appending.{ask-stays, asks-stay}
 
--- the three words of the ask after those counted
-module _ (recs : List ℕ) (k : Counts) (kind query options : ℕ) where
+-- the four words of the ask after those counted
+module _ (recs : List ℕ) (k : Counts) (kind query options groups : ℕ) where
   abbrev one : List ℕ
   one = set recs (ask-query-column + k .asks) query
 
@@ -37,35 +37,46 @@ module _ (recs : List ℕ) (k : Counts) (kind query options : ℕ) where
   abbrev three : List ℕ
   three = set two (ask-kind-column + k .asks) kind
 
-  -- a word at none of the three places
+  abbrev four : List ℕ
+  four = set three (ask-groups-column + k .asks) groups
+
+  -- a word at none of the four places
   elsewhere : (i : ℕ) → (i ≡ ask-query-column + k .asks → ⊥) → (i ≡ ask-options-column + k .asks → ⊥) → (i ≡ ask-kind-column + k .asks → ⊥)
-      → getD three i 0 ≡ getD recs i 0
-  elsewhere i q o l =
-      getD-set-other two (ask-kind-column + k .asks) i kind 0 l
+      → (i ≡ ask-groups-column + k .asks → ⊥) → getD four i 0 ≡ getD recs i 0
+  elsewhere i q o l g =
+      getD-set-other three (ask-groups-column + k .asks) i groups 0 g
+      ∙ getD-set-other two (ask-kind-column + k .asks) i kind 0 l
       ∙ getD-set-other one (ask-options-column + k .asks) i options 0 o
       ∙ getD-set-other recs (ask-query-column + k .asks) i query 0 q
 
-  pub ask-put : k .asks < ask-room → working-words ≤ length recs → Asked-at recs three k kind query options
+  pub ask-put : k .asks < ask-room → working-words ≤ length recs → Asked-at recs four k kind query options groups
   ask-put low room = record {
     inside = low;
     same = record {
       same-length = simp length-set;
       same-words = λ i out.
-          elsewhere i (λ e. out (omega arith) (omega arith)) (λ e. out (omega arith) (omega arith)) (λ e. out (omega arith) (omega arith));
+          elsewhere i (λ e. out (omega arith) (omega arith)) (λ e. out (omega arith) (omega arith)) (λ e. out (omega arith) (omega arith))
+          (λ e. out (omega arith) (omega arith));
     };
     others = λ i l other. (
-      elsewhere (ask-query-column + i) (λ e. other (omega arith)) (λ e. omega arith) (λ e. omega arith),
-      elsewhere (ask-options-column + i) (λ e. omega arith) (λ e. other (omega arith)) (λ e. omega arith),
-      elsewhere (ask-kind-column + i) (λ e. omega arith) (λ e. omega arith) (λ e. other (omega arith)),
+      elsewhere (ask-query-column + i) (λ e. other (omega arith)) (λ e. omega arith) (λ e. omega arith) (λ e. omega arith),
+      elsewhere (ask-options-column + i) (λ e. omega arith) (λ e. other (omega arith)) (λ e. omega arith) (λ e. omega arith),
+      elsewhere (ask-kind-column + i) (λ e. omega arith) (λ e. omega arith) (λ e. other (omega arith)) (λ e. omega arith),
+      elsewhere (ask-groups-column + i) (λ e. omega arith) (λ e. omega arith) (λ e. omega arith) (λ e. other (omega arith)),
     );
-    kind-is = getD-set-same two (ask-kind-column + k .asks) kind 0 (simp length-set (omega arith));
+    kind-is =
+        getD-set-other three (ask-groups-column + k .asks) (ask-kind-column + k .asks) groups 0 (λ e. omega arith)
+        ∙ getD-set-same two (ask-kind-column + k .asks) kind 0 (simp length-set (omega arith));
     query-is =
-        getD-set-other two (ask-kind-column + k .asks) (ask-query-column + k .asks) kind 0 (λ e. omega arith)
+        getD-set-other three (ask-groups-column + k .asks) (ask-query-column + k .asks) groups 0 (λ e. omega arith)
+        ∙ getD-set-other two (ask-kind-column + k .asks) (ask-query-column + k .asks) kind 0 (λ e. omega arith)
         ∙ getD-set-other one (ask-options-column + k .asks) (ask-query-column + k .asks) options 0 (λ e. omega arith)
         ∙ getD-set-same recs (ask-query-column + k .asks) query 0 (omega arith);
     options-is =
-        getD-set-other two (ask-kind-column + k .asks) (ask-options-column + k .asks) kind 0 (λ e. omega arith)
+        getD-set-other three (ask-groups-column + k .asks) (ask-options-column + k .asks) groups 0 (λ e. omega arith)
+        ∙ getD-set-other two (ask-kind-column + k .asks) (ask-options-column + k .asks) kind 0 (λ e. omega arith)
         ∙ getD-set-same one (ask-options-column + k .asks) options 0 (simp length-set (omega arith));
+    groups-is = getD-set-same three (ask-groups-column + k .asks) groups 0 (simp length-set (omega arith));
   }
 
 -- a list with one element more has some
@@ -89,6 +100,7 @@ asks-none recs (suc n) = not-nil (asks-of recs n) _ ∙ sym (ne-eqb (suc n) 0 (�
 -- the state with a position more
 head-line : (n : ℕ) (s : State) (h : Head) → hidden-by h ≡ [] → add-line exclude-names n s (head h) ≡ record {
   asks = s .asks ++ head-asks (s .asks) h;
+  grouped = s .grouped || is-grouped h;
   hidden = s .hidden;
   terms = s .terms;
   names = s .names;
@@ -98,15 +110,15 @@ head-line : (n : ℕ) (s : State) (h : Head) → hidden-by h ≡ [] → add-line
   entries = s .entries;
   uses = s .uses;
 }
-unfolding add-line heads nodes spelled trimmed summarize-decl root-of fold-left collect sum
+unfolding add-line heads nodes spelled trimmed summarize-decl root-of fold-left collect sum any
 head-line n s h e =
     let a : s .entries + 0 ≡ s .entries = omega arith in
     let b : s .uses + (0 + 0) ≡ s .uses = omega arith in
     let c : s .references + 0 ≡ s .references = omega arith in
-    rw (e, append-nil (head-asks (s .asks) h), append-nil (s .hidden), append-nil (s .decls), append-nil (s .roots), a, b, c)
+    rw (e, append-nil (head-asks (s .asks) h), append-nil (s .hidden), append-nil (s .decls), append-nil (s .roots), or-false (is-grouped h), a, b, c)
 
 -- what an ask line asks, at a position that is no also line's
-asked-there : (recs : List ℕ) (n : ℕ) → also-at recs n ≡ false → ask-at recs n ≡ asks (ask-query recs n ∷ []) (ask-options recs n)
+asked-there : (recs : List ℕ) (n : ℕ) → also-at recs n ≡ false → ask-at recs n ≡ asks (ask-query recs n ∷ []) (ask-options recs n) (ask-groups recs n)
 unfolding ask-at
 asked-there recs zero e = refl
 asked-there recs (suc n) e = rw e
@@ -128,8 +140,8 @@ also-behind : (recs : List ℕ) (n q : ℕ) → head-asks (asks-of recs (suc n))
 unfolding head-asks asks-of
 also-behind recs n q = ap (λ l. map (with-query q) l) (last-ask (asks-of recs n) (ask-at recs n))
 
-module _ {file names refs rows recs lists recs′ : List ℕ} {k : Counts} {kind q options : ℕ} (st : Standing file names refs rows recs lists k)
-    (a : Asked-at recs recs′ k kind q options) where
+module _ {file names refs rows recs lists recs′ : List ℕ} {k : Counts} {kind q options groups : ℕ} (st : Standing file names refs rows recs lists k)
+    (a : Asked-at recs recs′ k kind q options groups) where
   -- the rows of the records stay
   row-words : (c i : ℕ) → c < row-columns → i < k .records → getD recs′ (c * most-records + i) 0 ≡ getD recs (c * most-records + i) 0
   row-words c i l h = a .same .same-words (c * most-records + i) (λ x y. omega (arith, st .recorded .few))
@@ -156,8 +168,8 @@ module _ {file names refs rows recs lists recs′ : List ℕ} {k : Counts} {kind
       }
 
   -- the tables stand
-  pub ask-standing : Standing file names refs rows recs′ lists (with-ask k)
-  ask-standing = record {
+  pub ask-standing : (grouped : Bool) → Standing file names refs rows recs′ lists (with-ask k grouped)
+  ask-standing grouped = record {
     tables = st .tables;
     recorded = records-there;
     fresh = st .fresh;
@@ -181,7 +193,7 @@ module _ {file names refs rows recs lists recs′ : List ℕ} {k : Counts} {kind
   -- they are the state with a line of the head that asks so
   line-state : (n : ℕ) (h : Head) → hidden-by h ≡ [] → head-asks (asks-of recs (k .asks)) h ≡ ask-at recs′ (k .asks) ∷ []
       → add-line exclude-names n (state-of file names refs rows recs lists k) (head h)
-      ≡ state-of file names refs rows recs′ lists (with-ask k)
+      ≡ state-of file names refs rows recs′ lists (with-ask k (k .grouped || is-grouped h))
   unfolding state-of asks-of
   line-state n h e f =
       head-line n (state-of file names refs rows recs lists k) h e
@@ -202,13 +214,19 @@ no-also recs (suc n) e = rw e
 
 module _ {recs recs′ : List ℕ} {k : Counts} where
   -- an ask line asks its own query
-  ask-asks : {q options : ℕ} → Asked-at recs recs′ k asked-kind q options
+  ask-asks : {q options : ℕ} → Asked-at recs recs′ k asked-kind q options most-groups
       → head-asks (asks-of recs (k .asks)) (ask q options) ≡ ask-at recs′ (k .asks) ∷ []
   unfolding head-asks
-  ask-asks a = rw (asked-there recs′ (k .asks) (no-also recs′ (k .asks) (a .kind-is)), a .query-is, a .options-is)
+  ask-asks a = rw (asked-there recs′ (k .asks) (no-also recs′ (k .asks) (a .kind-is)), a .query-is, a .options-is, a .groups-is)
+
+  -- with its groups
+  ask2-asks : {q options groups : ℕ} → Asked-at recs recs′ k asked-kind q options groups
+      → head-asks (asks-of recs (k .asks)) (ask2 q options groups) ≡ ask-at recs′ (k .asks) ∷ []
+  unfolding head-asks
+  ask2-asks a = rw (asked-there recs′ (k .asks) (no-also recs′ (k .asks) (a .kind-is)), a .query-is, a .options-is, a .groups-is)
 
   -- an also line one query more than the position before
-  also-asks : {q : ℕ} → 0 < k .asks → Asked-at recs recs′ k also-kind q 0
+  also-asks : {q : ℕ} → 0 < k .asks → Asked-at recs recs′ k also-kind q 0 0
       → head-asks (asks-of recs (k .asks)) (also q) ≡ ask-at recs′ (k .asks) ∷ []
   also-asks {q} some a = go (k .asks) some (λ i l. a .others i (omega (arith, a .inside)) (λ e. omega arith)) (a .kind-is) (a .query-is)
     where
@@ -221,18 +239,20 @@ module _ {recs recs′ : List ℕ} {k : Counts} where
 
 module _ {file names refs rows recs lists : List ℕ} {k : Counts} (st : Standing file names refs rows recs lists k) (recs′ : List ℕ) where
   -- the tables stand with the position of a line of the head
-  pub head-standing : (h : Head) → Position-at recs recs′ k h → Standing file names refs rows recs′ lists (with-ask k)
+  pub head-standing : (h : Head) → Position-at recs recs′ k h → (grouped : Bool) → Standing file names refs rows recs′ lists (with-ask k grouped)
   unfolding Position-at
   head-standing (ask q options) a = ask-standing st a
+  head-standing (ask2 q options groups) a = ask-standing st a
   head-standing (also q) a = ask-standing st (a .1)
   head-standing (hide name) a = absurd a
 
   -- they are the state with the line
   pub head-state : (n : ℕ) (h : Head) → Position-at recs recs′ k h
       → add-line exclude-names n (state-of file names refs rows recs lists k) (head h)
-      ≡ state-of file names refs rows recs′ lists (with-ask k)
+      ≡ state-of file names refs rows recs′ lists (with-ask k (k .grouped || is-grouped h))
   unfolding Position-at hidden-by
   head-state n (ask q options) a = line-state st a n (ask q options) refl (ask-asks a)
+  head-state n (ask2 q options groups) a = line-state st a n (ask2 q options groups) refl (ask2-asks a)
   head-state n (also q) a = line-state st (a .1) n (also q) refl (also-asks (a .0) (a .1))
   head-state n (hide name) a = absurd a
 
@@ -240,5 +260,6 @@ module _ {file names refs rows recs lists : List ℕ} {k : Counts} (st : Standin
 pub head-same : (recs recs′ : List ℕ) (k : Counts) (h : Head) → Position-at recs recs′ k h → Same-but ask-query-column ask-columns recs recs′
 unfolding Position-at
 head-same recs recs′ k (ask q options) a = a .same
+head-same recs recs′ k (ask2 q options groups) a = a .same
 head-same recs recs′ k (also q) a = a .1 .same
 head-same recs recs′ k (hide name) a = absurd a

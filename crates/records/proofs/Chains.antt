@@ -12,7 +12,7 @@ use Rattle.model.specs.Reading.{with-query}
 use Rattle.model.specs.Rounds.{asks-for}
 use Rattle.model.specs.declared.Asked.{Asked}
 use Rattle.options.specs.OptionsOf.{asks}
-use Rattle.records.specs.Columns.{ask-query, ask-options, ask-kind, also-kind}
+use Rattle.records.specs.Columns.{ask-query, ask-options, ask-groups, ask-kind, also-kind}
 use Rattle.records.specs.States.{also-at, ask-at, queries-of, ask-of, first-at, asked-at}
 
 -- ---- also lines
@@ -89,14 +89,15 @@ pub first-before : (recs : List ℕ) (n : ℕ) → also-at recs (suc n) ≡ true
 unfolding first-at
 first-before recs n e = rw e
 
-chain-asks : (recs : List ℕ) (n : ℕ) → ask-at recs n ≡ asks (queries-of recs (first-at recs n) (suc n)) (ask-options recs (first-at recs n))
+chain-asks : (recs : List ℕ) (n : ℕ) → ask-at recs n ≡ asks (queries-of recs (first-at recs n) (suc n)) (ask-options recs (first-at recs n)) (ask-groups recs (first-at recs n))
 unfolding ask-at first-at with-query queries-of
 chain-asks recs zero = refl
 chain-asks recs (suc n) = go (also-at recs (suc n)) (chain-asks recs n)
   where
-    go : (b : Bool) → ask-at recs n ≡ asks (queries-of recs (first-at recs n) (suc n)) (ask-options recs (first-at recs n))
-        → cond b (with-query (ask-query recs (suc n)) (ask-at recs n)) (asks (ask-query recs (suc n) ∷ []) (ask-options recs (suc n)))
+    go : (b : Bool) → ask-at recs n ≡ asks (queries-of recs (first-at recs n) (suc n)) (ask-options recs (first-at recs n)) (ask-groups recs (first-at recs n))
+        → cond b (with-query (ask-query recs (suc n)) (ask-at recs n)) (asks (ask-query recs (suc n) ∷ []) (ask-options recs (suc n)) (ask-groups recs (suc n)))
         ≡ asks (queries-of recs (cond b (first-at recs n) (suc n)) (suc (suc n))) (ask-options recs (cond b (first-at recs n) (suc n)))
+        (ask-groups recs (cond b (first-at recs n) (suc n)))
     go true e = rw (one-query recs (first-at recs n) (suc n) (let l = first-le recs n in omega arith), e)
     go false e = rw (one-query recs (suc n) (suc n) (omega arith), no-queries recs (suc n) (suc n) (omega arith))
 
@@ -116,9 +117,10 @@ chain-before recs n = go (also-at recs (suc n))
 -- ---- the walk to the start of a chain
 
 -- a position that is no also line's is where the walk ends
-pub walk-ends : (recs : List ℕ) (i first o : ℕ) {b : Bool} → first-at recs i ≡ first-at recs first → b ≡ also-at recs first → b ≡ false
-    → o ≡ ask-options recs first → record { first = first; end = i + 1; options = o } ≡ asked-at recs i
-walk-ends recs i first o e f g h = rw (h, e ∙ first-here recs first (sym f ∙ g))
+pub walk-ends : (recs : List ℕ) (i first o gs : ℕ) {b : Bool} → first-at recs i ≡ first-at recs first → b ≡ also-at recs first → b ≡ false
+    → o ≡ ask-options recs first → gs ≡ ask-groups recs first
+    → record { first = first; end = i + 1; options = o; groups = gs } ≡ asked-at recs i
+walk-ends recs i first o gs e f g h j = rw (h, j, e ∙ first-here recs first (sym f ∙ g))
 
 -- an also line's has one before it, in the same chain
 pub walk-on : (recs : List ℕ) (i first : ℕ) {b : Bool} → first-at recs i ≡ first-at recs first → b ≡ also-at recs first → b ≡ true

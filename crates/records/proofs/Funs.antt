@@ -1,5 +1,5 @@
 -- A `retain` and a `fun` added: records without a term.
-use Prim.Native.Nat.{ℕ, _+_, _-_, _≤_, _<_}
+use Prim.Native.Nat.{ℕ, _+_, _*_, _-_, _≤_, _<_}
 use native.Mathlib.Omega.{arith}
 use mathlib.Core.Path.{_≡_, refl, sym, _∙_}
 use mathlib.Core.Bool.{false}
@@ -7,8 +7,8 @@ use mathlib.Core.List.{List, []}
 use lib.ListN.{set, length-set}
 use lib.Seq.{getD-set-same, getD-set-other}
 use Rattle.model.specs.Summaries.{exclude-names}
-use Rattle.model.specs.Lists.{sum, collect, fold-left}
-use Rattle.model.specs.Reading.{fun, retain, heads, head-asks, hidden-by, nodes, spelled, trimmed, summarize-decl, root-of, taken-by, entries-of, uses-of, repeats, most-names, most-terms, most-records, most-entries, most-uses}
+use Rattle.model.specs.Lists.{any, sum, collect, fold-left}
+use Rattle.model.specs.Reading.{fun, retain, heads, head-asks, is-grouped, hidden-by, nodes, spelled, trimmed, summarize-decl, root-of, taken-by, entries-of, uses-of, repeats, most-names, most-terms, most-records, most-entries, most-uses}
 use Rattle.model.specs.declared.Counts.{Counts}
 use Rattle.model.specs.declared.Refusal.the-variants as refusal
 use Rattle.names.specs.Table.{name-of}
@@ -19,7 +19,7 @@ use Rattle.model.specs.declared.Step.the-variants as step
 use Rattle.model.specs.Outcome.{working-words}
 use Rattle.records.specs.Columns.{fun-kind, retain-kind, hide-kind, taken-column, taken-at}
 use Rattle.records.specs.States.{summary-at, root-at, hides-at, decl-at, state-of}
-use Rattle.records.specs.Writing.{with-line, with-record, Small, Rowed}
+use Rattle.records.specs.Writing.{with-line, with-record, Small, row-columns, Rowed}
 use Rattle.records.specs.Adding.{Standing, Adds, Untouched}
 use Rattle.records.proofs.Judging.{repeats-none, repeats-taken, repeats-free}
 use Rattle.records.proofs.Appending.{standing-within, record-added, record-repeated, record-crowded}
@@ -37,11 +37,11 @@ untouched = record {
 }
 
 -- the words past a row stay
-pub row-past : {recs recs′ : List ℕ} {k k′ : Counts} {kind line name term flag code : ℕ} → Rowed recs recs′ k k′ kind line name term flag code
+pub row-past : {recs recs′ : List ℕ} {k k′ : Counts} {kind line name term flag code group : ℕ} → Rowed recs recs′ k k′ kind line name term flag code group
     → Same-but 0 working-words recs recs′
 row-past r = record { same-length = r .same-length; same-words = λ i h. r .past i (past i (λ l. h (omega arith) l)) }
   where
-    past : (i : ℕ) → (i < working-words → ⊥) → 10240 ≤ i
+    past : (i : ℕ) → (i < working-words → ⊥) → row-columns * most-records ≤ i
     past i h = omega arith
 
 -- a name taken: of the names slice one word of the taken column changes
@@ -56,11 +56,11 @@ pub fresh-taken : {names rows names′ : List ℕ} {mark : ℕ} → Same-but tak
 fresh-taken s f = record { row-marks = f .row-marks; name-marks = λ n l. rw (s .same-words (8192 + n) (λ a b. omega arith)) (f .name-marks n l) }
 
 -- a row's words fit
-pub small-row : {file names refs rows recs lists : List ℕ} {k next : Counts} (hides named entries uses mark : ℕ) (kind line name term flag code : ℕ)
+pub small-row : {file names refs rows recs lists : List ℕ} {k next : Counts} (hides named entries uses mark : ℕ) (kind line name term flag code group : ℕ)
     → Standing file names refs rows recs lists k
     → next ≡ with-line k hides named entries uses mark → entries ≤ most-entries → uses ≤ most-uses
-    → kind ≤ hide-kind → line < 4294967296 → name < most-names → term < most-terms → flag < 256 → code < 4294967296 → Small k next kind line name term flag code
-small-row {k = k} {next} hides named entries uses mark kind line name term flag code st e h₁ h₂ h₃ h₄ h₅ h₆ h₇ h₈ = rw e (record {
+    → kind ≤ hide-kind → line < 4294967296 → name < most-names → term < most-terms → flag < 256 → code < 4294967296 → group < 4294967296 → Small k next kind line name term flag code group
+small-row {k = k} {next} hides named entries uses mark kind line name term flag code group st e h₁ h₂ h₃ h₄ h₅ h₆ h₇ h₈ h₉ = rw e (record {
   small-kind = omega arith;
   small-line = omega arith;
   small-name = omega arith;
@@ -71,6 +71,7 @@ small-row {k = k} {next} hides named entries uses mark kind line name term flag 
   small-entries = omega (arith, st .recorded .few-entries);
   small-entries′ = omega arith;
   small-code = omega arith;
+  small-group = omega arith;
 })
 
 -- ---- retain
@@ -89,16 +90,17 @@ module _ {file names refs rows recs lists : List ℕ} {k : Counts} (st : Standin
 
   -- the record is there
   pub retain-added : {recs′ : List ℕ} {next : Counts} → k .records < most-records → next ≡ with-record k (k .names) (k .entries) (k .uses) (k .mark)
-      → Rowed recs recs′ k next retain-kind line 0 0 0 0 → Adds file names refs rows recs lists names rows recs′ lists k line (retain []) (step.On next)
-  unfolding heads head-asks hidden-by hides-at nodes spelled trimmed summarize-decl root-of entries-of uses-of sum fold-left collect summary-at root-at
+      → Rowed recs recs′ k next retain-kind line 0 0 0 0 0 → Adds file names refs rows recs lists names rows recs′ lists k line (retain []) (step.On next)
+  unfolding heads head-asks hidden-by any is-grouped hides-at nodes spelled trimmed summarize-decl root-of entries-of uses-of sum fold-left collect summary-at root-at
   retain-added {recs′} {next} few e row =
       let same = same-self 8192 4096 names in
-      let row′ : Rowed recs recs′ k (with-record k (k .names) (k .entries) (k .uses) (k .mark)) retain-kind line 0 0 0 0 = rw e at row in
+      let row′ : Rowed recs recs′ k (with-record k (k .names) (k .entries) (k .uses) (k .mark)) retain-kind line 0 0 0 0 0 = rw e at row in
       let more = plain st same (same-self 12288 4096 rows) (st .fresh) (omega arith) row′ (λ z. omega arith) (omega arith) (λ z. absurd (z refl))
       (same-self (k .uses) (k .uses - k .uses) lists)
       (omega arith) (st .recorded .few-uses) (λ j a b. absurd (omega arith)) (not-taken st few row′ (λ n l. refl) (omega arith)) in
       rw e (record-added st few more retain-new (record {
         no-ask = λ earlier. refl;
+        no-form = refl;
         hidden = refl;
         no-term = refl;
         spells = refl;
@@ -132,14 +134,14 @@ module _ {file names refs rows recs lists : List ℕ} {k : Counts} (st : Standin
 
   -- the record is there
   pub fun-added : {recs′ : List ℕ} {next : Counts} → w ≤ 0 → k .records < most-records → next ≡ with-record k (k .names) (k .entries) (k .uses) (k .mark)
-      → Rowed recs recs′ k next fun-kind line i 0 0 0
+      → Rowed recs recs′ k next fun-kind line i 0 0 0 0
       → Adds file names refs rows recs lists (set names (taken-column + i) (k .records + 1)) rows recs′ lists k line (fun (name-of file names i)) (step.On next)
-  unfolding heads head-asks hidden-by hides-at nodes spelled trimmed summarize-decl root-of entries-of uses-of sum fold-left collect summary-at root-at decl-at
+  unfolding heads head-asks hidden-by any is-grouped hides-at nodes spelled trimmed summarize-decl root-of entries-of uses-of sum fold-left collect summary-at root-at decl-at
   fun-added {recs′} {next} z few e row =
       let low : i < most-names = omega (arith, st .tables .name-table .few) in
       let put = taken-put {names = names} i (k .records + 1) low in
       let words = same-wider 8192 4096 (omega arith) (omega arith) put in
-      let row′ : Rowed recs recs′ k (with-record k (k .names) (k .entries) (k .uses) (k .mark)) fun-kind line i 0 0 0 = rw e at row in
+      let row′ : Rowed recs recs′ k (with-record k (k .names) (k .entries) (k .uses) (k .mark)) fun-kind line i 0 0 0 0 = rw e at row in
       let taken = is-taken st few row′ low (omega arith) (getD-set-same names (taken-column + i) (k .records + 1) 0
       (omega (arith, st .tables .name-table .room)))
       (λ n l d. getD-set-other names (taken-column + i) (taken-column + n) (k .records + 1) 0 (λ q. d (omega arith))) (omega arith) in
@@ -148,6 +150,7 @@ module _ {file names refs rows recs lists : List ℕ} {k : Counts} (st : Standin
       (omega arith) (st .recorded .few-uses) (λ j a b. absurd (omega arith)) taken in
       rw e (record-added st few more (fun-new z) (record {
         no-ask = λ earlier. refl;
+        no-form = refl;
         hidden = refl;
         no-term = refl;
         spells = kept st words .names ∙ sym (spelled-again file names (k .names) i known);
@@ -158,7 +161,7 @@ module _ {file names refs rows recs lists : List ℕ} {k : Counts} (st : Standin
       }))
 
   -- the words past the tables stay
-  pub fun-past : {recs′ : List ℕ} {next : Counts} {kind term flag code : ℕ} (v : ℕ) → Rowed recs recs′ k next kind line i term flag code
+  pub fun-past : {recs′ : List ℕ} {next : Counts} {kind term flag code group : ℕ} (v : ℕ) → Rowed recs recs′ k next kind line i term flag code group
       → Untouched names rows recs lists (set names (taken-column + i) v) rows recs′ lists
   fun-past v row = record {
     name-words = same-wider 0 working-words (omega arith) (omega arith) (taken-put i v (omega (arith, st .tables .name-table .few)));

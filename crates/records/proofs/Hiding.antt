@@ -6,9 +6,9 @@ use mathlib.Core.Bool.{false}
 use mathlib.Core.List.{List}
 use lib.ListN.{length}
 use Rattle.model.specs.Summaries.{exclude-names}
-use Rattle.model.specs.Lists.{sum, collect, fold-left}
+use Rattle.model.specs.Lists.{any, sum, collect, fold-left}
 use Rattle.model.specs.Names.{Name}
-use Rattle.model.specs.Reading.{head, hide, heads, head-asks, hidden-by, nodes, spelled, trimmed, summarize-decl, root-of, taken-by, repeats, most-names, most-records}
+use Rattle.model.specs.Reading.{head, hide, heads, head-asks, is-grouped, hidden-by, nodes, spelled, trimmed, summarize-decl, root-of, taken-by, repeats, most-names, most-records}
 use Rattle.model.specs.declared.Counts.{Counts}
 use Rattle.model.specs.declared.Refusal.the-variants as refusal
 use Rattle.model.specs.declared.Step.the-variants as step
@@ -48,14 +48,14 @@ module _ {file names refs rows recs lists : List ℕ} {k : Counts} (st : Standin
       (record { no-term = refl; one = refl; few-names = named-within st known }) h
 
   -- the record is there
-  pub hide-added : {recs′ : List ℕ} {next : Counts} → k .records < most-records → next ≡ with-hide k → Rowed recs recs′ k next hide-kind line i 0 0 0
+  pub hide-added : {recs′ : List ℕ} {next : Counts} → k .records < most-records → next ≡ with-hide k → Rowed recs recs′ k next hide-kind line i 0 0 0 0
       → Adds file names refs rows recs lists (excluded-at names i) rows recs′ lists k line (head (hide (name-of file names i))) (step.On next)
-  unfolding heads head-asks hidden-by hides-at nodes spelled trimmed summarize-decl root-of sum fold-left collect summary-at root-at
+  unfolding heads head-asks hidden-by any is-grouped hides-at nodes spelled trimmed summarize-decl root-of sum fold-left collect summary-at root-at
   hide-added {recs′} {next} few e row =
       let low : i < most-names = omega (arith, st .tables .name-table .few) in
       let but = excluded-but names i in
       let same = excluded-table (st .tables .name-table) i known in
-      let row′ : Rowed recs recs′ k (with-hide k) hide-kind line i 0 0 0 = rw e at row in
+      let row′ : Rowed recs recs′ k (with-hide k) hide-kind line i 0 0 0 0 = rw e at row in
       let fresh : Fresh (excluded-at names i) rows (k .mark) = record {
         row-marks = st .fresh .row-marks;
         name-marks = λ n l. rw (but .same-words (8192 + n) (λ a b. omega arith)) (st .fresh .name-marks n l);
@@ -68,6 +68,7 @@ module _ {file names refs rows recs lists : List ℕ} {k : Counts} (st : Standin
       (not-taken st few row′ (λ n l. but .same-words (taken-column + n) (λ a b. omega arith)) (omega arith)) (omega arith, rw (row′ .name-is) excludes) in
       rw e (record-added st few more hide-new (record {
         no-ask = λ earlier. refl;
+        no-form = refl;
         hidden = rw (row′ .name-is, same .name i known);
         no-term = refl;
         spells = same .names ∙ sym (spelled-again file names (k .names) i known);
@@ -78,7 +79,7 @@ module _ {file names refs rows recs lists : List ℕ} {k : Counts} (st : Standin
       }))
 
   -- the words past the tables stay
-  pub hide-past : {recs′ : List ℕ} {next : Counts} → Rowed recs recs′ k next hide-kind line i 0 0 0
+  pub hide-past : {recs′ : List ℕ} {next : Counts} → Rowed recs recs′ k next hide-kind line i 0 0 0 0
       → Untouched names rows recs lists (excluded-at names i) rows recs′ lists
   hide-past row = record {
     name-words = same-wider 0 working-words (omega arith) (omega (arith, st .tables .name-table .few)) (excluded-but names i);

@@ -1,4 +1,5 @@
 pub mod Rows
+pub mod Taking
 pub mod Chaining
 pub mod Chains
 pub mod Recording

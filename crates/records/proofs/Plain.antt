@@ -49,8 +49,8 @@ no-entries name lists a = rw (part-nil lists a a (omega arith))
 
 -- ---- the taken column with the record after those counted
 
-module _ {file names refs rows recs lists recs′ : List ℕ} {k k′ : Counts} {kind line name term flag code : ℕ} (st : Standing file names refs rows recs lists k)
-    (few : k .records < most-records) (row : Rowed recs recs′ k k′ kind line name term flag code) where
+module _ {file names refs rows recs lists recs′ : List ℕ} {k k′ : Counts} {kind line name term flag code group : ℕ} (st : Standing file names refs rows recs lists k)
+    (few : k .records < most-records) (row : Rowed recs recs′ k k′ kind line name term flag code group) where
   -- the rows before
   before : (c j : ℕ) → j < k .records → getD recs′ (c * most-records + j) 0 ≡ getD recs (c * most-records + j) 0
   before c j l = row .others c j (omega arith) (λ e. omega arith)
@@ -74,15 +74,15 @@ module _ {file names refs rows recs lists recs′ : List ℕ} {k k′ : Counts} 
 module _ {file names refs rows recs lists names′ : List ℕ} {k : Counts} (st : Standing file names refs rows recs lists k)
     (same : Kept file names names′ (k .names)) (first : (n : ℕ) → n < most-names → first-entry names′ n ≡ first-entry names n) where
   -- the record is appended
-  pub appended : {rows′ recs′ lists′ : List ℕ} {hides′ uses′ mark′ kind line name term flag code : ℕ}
+  pub appended : {rows′ recs′ lists′ : List ℕ} {hides′ uses′ mark′ kind line name term flag code group : ℕ}
       → Same-but 12288 4096 rows rows′ → Fresh names′ rows′ mark′ → mark′ ≤ k .mark + 1
-      → Rowed recs recs′ k (with-line k hides′ (k .names) (k .entries) uses′ mark′) kind line name term flag code
+      → Rowed recs recs′ k (with-line k hides′ (k .names) (k .entries) uses′ mark′) kind line name term flag code group
       → (kind ≡ assume-kind → ⊥) → kind ≤ hide-kind → ((kind ≡ retain-kind → ⊥) → name < k .names)
       → Same-but (k .uses) (uses′ - k .uses) lists lists′ → k .uses ≤ uses′ → uses′ ≤ most-uses → ((j : ℕ) → k .uses ≤ j → j < uses′ → getD lists′ j 0 < k .names)
       → Taken names′ recs′ (k .records + 1)
       → (hides′ ≡ k .hides + length (hides-at recs′ (k .records) kind))
       × Excludes (exclude-names ++ map (name-of file names′) (hides-of recs (k .records) ++ hides-at recs′ (k .records) kind)) file names′ (k .names)
-      → Appends file names rows recs lists names′ rows′ recs′ lists′ k hides′ (k .names) (k .entries) uses′ mark′ kind line name term flag code
+      → Appends file names rows recs lists names′ rows′ recs′ lists′ k hides′ (k .names) (k .entries) uses′ mark′ kind line name term flag code group
   appended {lists′ = lists′} row-words fresh mark row other small known lists-words more few-uses new taken (hides, excludes) =
       let lists-same : (j : ℕ) → most-uses ≤ j → getD lists′ j 0 ≡ getD lists j 0 = λ j l. lists-words .same-words j (λ a b. omega arith) in
       record {
@@ -124,13 +124,13 @@ module _ {file names refs rows recs lists names′ : List ℕ} {k : Counts} (st 
   kept = table-kept (st .tables .name-table) (name-words .same-length) (λ i l. name-words .same-words i (λ a b. omega arith))
 
   -- a record that is no hide line is appended
-  pub plain : {rows′ recs′ lists′ : List ℕ} {uses′ mark′ kind line name term flag code : ℕ}
+  pub plain : {rows′ recs′ lists′ : List ℕ} {uses′ mark′ kind line name term flag code group : ℕ}
       → Same-but 12288 4096 rows rows′ → Fresh names′ rows′ mark′ → mark′ ≤ k .mark + 1
-      → Rowed recs recs′ k (with-record k (k .names) (k .entries) uses′ mark′) kind line name term flag code
+      → Rowed recs recs′ k (with-record k (k .names) (k .entries) uses′ mark′) kind line name term flag code group
       → (kind ≡ assume-kind → ⊥) → kind ≤ root-kind → ((kind ≡ retain-kind → ⊥) → name < k .names)
       → Same-but (k .uses) (uses′ - k .uses) lists lists′ → k .uses ≤ uses′ → uses′ ≤ most-uses → ((j : ℕ) → k .uses ≤ j → j < uses′ → getD lists′ j 0 < k .names)
       → Taken names′ recs′ (k .records + 1)
-      → Appends file names rows recs lists names′ rows′ recs′ lists′ k (k .hides) (k .names) (k .entries) uses′ mark′ kind line name term flag code
+      → Appends file names rows recs lists names′ rows′ recs′ lists′ k (k .hides) (k .names) (k .entries) uses′ mark′ kind line name term flag code group
   plain {recs′ = recs′} {kind = kind} row-words fresh mark row other small known lists-words more few-uses new taken =
       let told = tells-kept (st .tables .name-table .few) (λ i l. name-words .same-words i (λ a b. omega arith)) in
       appended st kept (λ n l. name-words .same-words (first-column + n) (λ a b. omega arith)) row-words fresh mark row other (omega arith) known lists-words

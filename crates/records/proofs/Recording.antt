@@ -145,7 +145,7 @@ module _ {name name′ : ℕ → Name} {recs lists recs′ lists′ : List ℕ} 
   -- what a record adds to the background
   summary-stays : (i : ℕ) → i < records → (kind : ℕ) → record-kind recs i ≡ kind → summary-at name′ recs′ lists′ i kind ≡ summary-at name recs lists i kind
   unfolding summary-at decl-at fact-at
-  summary-stays i h zero e = rw (a .rows 1 i (omega arith) h, a .rows 4 i (omega arith) h, a .rows 9 i (omega arith) h, free-stays i h, sets-stay i h, name-stays i h (λ q. omega arith))
+  summary-stays i h zero e = rw (a .rows 1 i (omega arith) h, a .rows 4 i (omega arith) h, a .rows 9 i (omega arith) h, a .rows 10 i (omega arith) h, free-stays i h, sets-stay i h, name-stays i h (λ q. omega arith))
   summary-stays i h (suc zero) e = rw (a .rows 1 i (omega arith) h, name-stays i h (λ q. omega arith))
   summary-stays i h (suc (suc zero)) e = rw (a .rows 1 i (omega arith) h, free-stays i h, name-stays i h (λ q. omega arith))
   summary-stays i h (suc (suc (suc zero))) e = refl

@@ -74,14 +74,14 @@ row-here recs i c (v ∷ vs) (suc d) h l r =
     rw e (row-here (set recs (c * most-records + i) v) i (c + 1) vs d h (omega arith) (omega arith))
 
 -- the words of a row
-abbrev pub row-of : Counts → Counts → ℕ → ℕ → ℕ → ℕ → ℕ → ℕ → List ℕ
-row-of k k′ kind line name term flag code = kind ∷ line ∷ name ∷ term ∷ flag ∷ k .uses ∷ k′ .uses ∷ k .entries ∷ k′ .entries ∷ code ∷ []
+abbrev pub row-of : Counts → Counts → ℕ → ℕ → ℕ → ℕ → ℕ → ℕ → ℕ → List ℕ
+row-of k k′ kind line name term flag code group = kind ∷ line ∷ name ∷ term ∷ flag ∷ k .uses ∷ k′ .uses ∷ k .entries ∷ k′ .entries ∷ code ∷ group ∷ []
 
 -- a row of these words
-pub rowed : {recs recs′ : List ℕ} (k k′ : Counts) (kind line name term flag code : ℕ) → k .records < most-records → working-words ≤ length recs
-    → recs′ ≡ put-row recs (k .records) 0 (row-of k k′ kind line name term flag code) → Rowed recs recs′ k k′ kind line name term flag code
-rowed {recs} {recs′} k k′ kind line name term flag code few room is =
-    let row = row-of k k′ kind line name term flag code in
+pub rowed : {recs recs′ : List ℕ} (k k′ : Counts) (kind line name term flag code group : ℕ) → k .records < most-records → working-words ≤ length recs
+    → recs′ ≡ put-row recs (k .records) 0 (row-of k k′ kind line name term flag code group) → Rowed recs recs′ k k′ kind line name term flag code group
+rowed {recs} {recs′} k k′ kind line name term flag code group few room is =
+    let row = row-of k k′ kind line name term flag code group in
     let here : (d : ℕ) → d < row-columns → record-word recs′ (d * most-records) (k .records) ≡ getD row d 0 =
     λ d l. let e : 0 + d ≡ d = omega arith in rw is (rw e at (row-here recs (k .records) 0 row d few (omega arith) (omega arith))) in
     record {
@@ -98,4 +98,5 @@ rowed {recs} {recs′} k k′ kind line name term flag code few room is =
       entries-from = here 7 (omega arith);
       entries-to = here 8 (omega arith);
       code-is = here 9 (omega arith);
+      group-is = here 10 (omega arith);
     }

@@ -7,9 +7,9 @@ use mathlib.Core.Logic.{inr}
 use mathlib.Core.List.{List, map, List·Memᴰ}
 use lib.ListN.{length, getD, set}
 use lib.Seq.{getD-set-same, getD-set-other}
-use Rattle.model.specs.Lists.{sum, collect, fold-left, part}
+use Rattle.model.specs.Lists.{any, sum, collect, fold-left, part}
 use Rattle.model.specs.Names.{Name, from-list}
-use Rattle.model.specs.Reading.{def, root, heads, head-asks, hidden-by, nodes, spelled, trimmed, summarize-decl, root-of, taken-by, entries-of, uses-of, excluded, add-line, repeats, most-names, most-records, most-uses}
+use Rattle.model.specs.Reading.{def, root, heads, head-asks, is-grouped, hidden-by, nodes, spelled, trimmed, summarize-decl, root-of, taken-by, entries-of, uses-of, excluded, add-line, repeats, most-names, most-records, most-uses}
 use Rattle.model.specs.Summaries.{exclude-names, free-top-level-names}
 use Rattle.model.specs.declared.Counts.{Counts}
 use Rattle.model.specs.declared.Refusal.the-variants as refusal
@@ -112,9 +112,9 @@ past-taken {names′ = names′} i v h p =
     }
 
 -- the free names of the record after those counted
-module _ {file names refs rows recs lists names′ rows′ recs′ lists′ names″ : List ℕ} {k : Counts} {free : List Name} {n kind line name term flag code : ℕ}
+module _ {file names refs rows recs lists names′ rows′ recs′ lists′ names″ : List ℕ} {k : Counts} {free : List Name} {n kind line name term flag code group : ℕ}
     (st : Standing file names refs rows recs lists k) (u : Uses file names rows lists names′ rows′ lists′ k free n) (words : Same-but 8192 4096 names names″)
-    (row : Rowed recs recs′ k (with-record k (k .names) (k .entries) n (k .mark + 1)) kind line name term flag code) where
+    (row : Rowed recs recs′ k (with-record k (k .names) (k .entries) n (k .mark + 1)) kind line name term flag code group) where
   pub free-then : free-at (name-of file names″) recs′ lists′ (k .records) ≡ free
   unfolding free-at
   free-then =
@@ -159,11 +159,11 @@ module _ {file names refs rows recs lists : List ℕ} {k : Counts} (st : Standin
 
     -- the record is there
     pub def-added : {next : Counts} {n : ℕ} → k .records < most-records → next ≡ with-record k (k .names) (k .entries) n (k .mark + 1)
-        → Rowed recs recs′ k next def-kind line i t 0 0
+        → Rowed recs recs′ k next def-kind line i t 0 0 0
         → Uses file names rows lists names′ rows′ lists′ k (free-top-level-names (excluded-of (name-of file names) recs (k .records)) (terms-in file names refs rows (k .references) (k .terms)) t) n
         → Adds file names refs rows recs lists (set names′ (taken-column + i) (k .records + 1)) rows′ recs′ lists′ k line (def (name-of file names i) t)
         (step.On next)
-    unfolding heads head-asks hidden-by hides-at nodes spelled trimmed summarize-decl root-of entries-of uses-of sum fold-left collect summary-at root-at decl-at
+    unfolding heads head-asks hidden-by any is-grouped hides-at nodes spelled trimmed summarize-decl root-of entries-of uses-of sum fold-left collect summary-at root-at decl-at
     def-added {next} {n} few e row u =
         let low : i < most-names = omega (arith, st .tables .name-table .few) in
         let put = taken-put {names = names′} i (k .records + 1) low in
@@ -172,7 +172,7 @@ module _ {file names refs rows recs lists : List ℕ} {k : Counts} (st : Standin
           same-length = put .same-length ∙ marks .same-length;
           same-words = λ j h. put .same-words j (λ a b. h (omega arith) (omega arith)) ∙ marks .same-words j (λ a b. h (omega arith) (omega arith));
         } in
-        let row′ : Rowed recs recs′ k (with-record k (k .names) (k .entries) n (k .mark + 1)) def-kind line i t 0 0 = rw e at row in
+        let row′ : Rowed recs recs′ k (with-record k (k .names) (k .entries) n (k .mark + 1)) def-kind line i t 0 0 0 = rw e at row in
         let taken = is-taken st few row′ low (omega arith)
         (getD-set-same names′ (taken-column + i) (k .records + 1) 0 (omega (arith, st .tables .name-table .room, marks .same-length)))
         (λ m l d. getD-set-other names′ (taken-column + i) (taken-column + m) (k .records + 1) 0 (λ q. d (omega arith))
@@ -182,6 +182,7 @@ module _ {file names refs rows recs lists : List ℕ} {k : Counts} (st : Standin
         (omega (arith, u .size)) (u .fits) (u .words) taken in
         rw e (record-added st few more (def-new free) (record {
           no-ask = λ earlier. refl;
+          no-form = refl;
           hidden = refl;
           no-term = refl;
           spells = kept st words .names ∙ sym (spelled-again file names (k .names) i known);
@@ -222,18 +223,19 @@ module _ {file names refs rows recs lists : List ℕ} {k : Counts} (st : Standin
   -- the record is there
   pub root-added : {names′ rows′ recs′ lists′ : List ℕ} {next : Counts} {n : ℕ} → k .records < most-records
       → next ≡ with-record k (k .names) (k .entries) n (k .mark + 1)
-      → Rowed recs recs′ k next root-kind line i t query 0
+      → Rowed recs recs′ k next root-kind line i t query 0 0
       → Uses file names rows lists names′ rows′ lists′ k (free-top-level-names (excluded-of (name-of file names) recs (k .records)) (terms-in file names refs rows (k .references) (k .terms)) t) n
       → Adds file names refs rows recs lists names′ rows′ recs′ lists′ k line (root query (name-of file names i) t) (step.On next)
-  unfolding heads head-asks hidden-by hides-at nodes spelled trimmed summarize-decl root-of entries-of uses-of sum fold-left collect summary-at root-at
+  unfolding heads head-asks hidden-by any is-grouped hides-at nodes spelled trimmed summarize-decl root-of entries-of uses-of sum fold-left collect summary-at root-at
   root-added {names′} {recs′ = recs′} {next = next} {n} few e row u =
       let words : Same-but 8192 4096 names names′ = same-wider 8192 4096 (omega arith) (omega arith) (u .name-words) in
-      let row′ : Rowed recs recs′ k (with-record k (k .names) (k .entries) n (k .mark + 1)) root-kind line i t query 0 = rw e at row in
+      let row′ : Rowed recs recs′ k (with-record k (k .names) (k .entries) n (k .mark + 1)) root-kind line i t query 0 0 = rw e at row in
       let taken = not-taken st few row′ (λ m l. u .name-words .same-words (taken-column + m) (λ a b. omega arith)) (omega arith) in
       let more = plain st words (u .row-words) (u .fresh) (omega arith) row′ (λ q. omega arith) (omega arith) (λ q. known) (u .lists-words)
       (omega (arith, u .size)) (u .fits) (u .words) taken in
       rw e (record-added st few more root-new (record {
         no-ask = λ earlier. refl;
+        no-form = refl;
         hidden = refl;
         no-term = refl;
         spells = kept st words .names ∙ sym (spelled-again file names (k .names) i known);

@@ -39,6 +39,9 @@ entries-end-column = 8192
 abbrev pub summary-column : ℕ
 summary-column = 9216
 
+abbrev pub group-column : ℕ
+group-column = 10240
+
 -- a word of a record's row
 abbrev pub record-word : List ℕ → ℕ → ℕ → ℕ
 record-word recs column i = getD recs (column + i) 0
@@ -83,6 +86,10 @@ entries-end recs i = record-word recs entries-end-column i
 abbrev pub summary-code : List ℕ → ℕ → ℕ
 summary-code recs i = record-word recs summary-column i
 
+-- the group of a fact
+abbrev pub record-group : List ℕ → ℕ → ℕ
+record-group recs i = record-word recs group-column i
+
 -- ---- the same slice, behind the records: 16 words each by the position of an ask
 
 abbrev pub ask-query-column : ℕ
@@ -94,13 +101,16 @@ ask-options-column = 11280
 abbrev pub ask-kind-column : ℕ
 ask-kind-column = 11296
 
+abbrev pub ask-groups-column : ℕ
+ask-groups-column = 11312
+
 -- the positions that have room
 abbrev pub ask-room : ℕ
 ask-room = 16
 
 -- the words of the asks
 abbrev pub ask-columns : ℕ
-ask-columns = 48
+ask-columns = 64
 
 -- the query of an ask
 abbrev pub ask-query : List ℕ → ℕ → ℕ
@@ -113,6 +123,10 @@ ask-options recs i = getD recs (ask-options-column + i) 0
 -- the kind of its line
 abbrev pub ask-kind : List ℕ → ℕ → ℕ
 ask-kind recs i = getD recs (ask-kind-column + i) 0
+
+-- the number of the groups that it admits
+abbrev pub ask-groups : List ℕ → ℕ → ℕ
+ask-groups recs i = getD recs (ask-groups-column + i) 0
 
 -- the kinds of the lines of positions
 abbrev pub asked-kind : ℕ

@@ -1,19 +1,20 @@
 -- The tables as the state of `model`: the asks, the hidden names, the background, the roots and the counts.
 use Prim.Native.Nat.{ℕ, zero, suc, _+_}
-use mathlib.Core.Bool.{Bool, false, cond}
+use mathlib.Core.Bool.{Bool, false, cond, _&&_}
 use mathlib.Core.List.{List, [], _∷_, _++_, map}
 use lib.Dec.{eqb, ltb}
 use Rattle.model.specs.Lists.{part}
 use Rattle.model.specs.Names.{Name, from-list}
 use Rattle.model.specs.Summaries.{Fact, exclude-names}
 use Rattle.model.specs.Reading.{Decl, Summary, Sum-assume, Sum-definefun, Sum-declfun, Sum-retain, Root, Ask, State, with-query}
+use Rattle.model.specs.Rounds.{admits, background}
 use Rattle.model.specs.declared.Asked.{Asked}
 use Rattle.model.specs.declared.Counts.{Counts}
 use Rattle.names.specs.Table.{name-of, table-names}
 use Rattle.rules.specs.Views.{terms-in}
 use Rattle.triggers.specs.Entries.{disjuncts-of, entries-base}
 use Rattle.options.specs.OptionsOf.{asks}
-use Rattle.records.specs.Columns.{record-kind, record-line, record-name, record-flag, uses-start, uses-end, entries-start, entries-end, summary-code, kind-of-code, ask-query, ask-options, ask-kind, also-kind}
+use Rattle.records.specs.Columns.{record-kind, record-line, record-name, record-flag, uses-start, uses-end, entries-start, entries-end, summary-code, record-group, assume-kind, kind-of-code, ask-query, ask-options, ask-kind, ask-groups, also-kind}
 
 -- the numbers of the free names of a record
 abbrev pub uses-at : List ℕ → List ℕ → ℕ → List ℕ
@@ -35,6 +36,7 @@ module _ (name : ℕ → Name) (recs lists : List ℕ) (i : ℕ) where
     name = name (record-name recs i);
     free-names = free-at;
     pretyping = eqb (record-flag recs i) 1;
+    group = record-group recs i;
     kind = kind-of-code (summary-code recs i);
     triggers = disjuncts-of name (entries-at recs lists i);
   }
@@ -94,6 +96,14 @@ module _ (name : ℕ → Name) (recs lists : List ℕ) where
   roots-of zero = []
   roots-of (suc n) = roots-of n ++ root-at name recs lists n (record-kind recs n)
 
+  -- the background of an ask among the records before the n-th
+  abbrev pub background-of : Ask → ℕ → List Summary
+  background-of a n = background a (decls-of n)
+
+-- whether a record is a fact that an ask admits
+unfoldable pub takes-part : List ℕ → Ask → ℕ → Bool
+takes-part recs a i = eqb (record-kind recs i) assume-kind && admits a (record-group recs i)
+
 -- whether a position is that of an also line; the first is none
 unfoldable pub also-at : List ℕ → ℕ → Bool
 also-at recs zero = false
@@ -101,10 +111,10 @@ also-at recs (suc n) = eqb (ask-kind recs (suc n)) also-kind
 
 -- what is asked at a position: that of its ask line, or one query more than at the position before
 unfoldable pub ask-at : List ℕ → ℕ → Ask
-ask-at recs zero = asks (ask-query recs 0 ∷ []) (ask-options recs 0)
+ask-at recs zero = asks (ask-query recs 0 ∷ []) (ask-options recs 0) (ask-groups recs 0)
 ask-at recs (suc n) =
     let more = with-query (ask-query recs (suc n)) (ask-at recs n) in
-    cond (also-at recs (suc n)) more (asks (ask-query recs (suc n) ∷ []) (ask-options recs (suc n)))
+    cond (also-at recs (suc n)) more (asks (ask-query recs (suc n) ∷ []) (ask-options recs (suc n)) (ask-groups recs (suc n)))
 
 -- the asks before the n-th position
 unfoldable pub asks-of : List ℕ → ℕ → List Ask
@@ -118,7 +128,7 @@ queries-of recs first (suc n) = let before = queries-of recs first n in cond (lt
 
 -- what a run is asked
 abbrev pub ask-of : List ℕ → Asked → Ask
-ask-of recs a = asks (queries-of recs (a .first) (a .end)) (a .options)
+ask-of recs a = asks (queries-of recs (a .first) (a .end)) (a .options) (a .groups)
 
 -- where the chain of a position starts: at the last ask line
 unfoldable pub first-at : List ℕ → ℕ → ℕ
@@ -127,13 +137,16 @@ first-at recs (suc n) = let before = first-at recs n in cond (also-at recs (suc 
 
 -- what a run is asked at a position
 abbrev pub asked-at : List ℕ → ℕ → Asked
-asked-at recs i = record { first = first-at recs i; end = i + 1; options = ask-options recs (first-at recs i) }
+asked-at recs i =
+    let first = first-at recs i in
+    record { first = first; end = i + 1; options = ask-options recs first; groups = ask-groups recs first }
 
 -- the tables as the state of `model`
 unfoldable pub state-of : List ℕ → List ℕ → List ℕ → List ℕ → List ℕ → List ℕ → Counts → State
 state-of file names refs rows recs lists k =
     record {
       asks = asks-of recs (k .asks);
+      grouped = k .grouped;
       hidden = hidden-of (name-of file names) recs (k .records);
       terms = terms-in file names refs rows (k .references) (k .terms);
       names = table-names file names (k .names);

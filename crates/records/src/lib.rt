@@ -12,7 +12,7 @@ ghost use Rattle.model.specs.Rounds.{asks-for};
 ghost use Rattle.model.specs.Outcome.{working-words};
 ghost use Rattle.names.specs.Table.{name-of};
 ghost use Rattle.records.specs.Columns.{ask-room};
-ghost use Rattle.records.specs.States.{also-at, ask-of, asked-at};
+ghost use Rattle.records.specs.States.{takes-part, also-at, ask-of, asked-at};
 ghost use Rattle.records.specs.Writing.{put-row, with-record, with-hide, Small, Rowed, with-ask, Asked-at};
 ghost use Rattle.records.specs.Adding.{Standing, Adds, Untouched};
 
@@ -37,12 +37,16 @@ pub const ENTRIES_END: usize = 8192;
 
 pub const SUMMARY: usize = 9216;
 
-// Behind the records, by the position of an ask: its query, its options, the kind of its line.
+const GROUP: usize = 10240;
+
+// Behind the records, by the position of an ask: its query, its options, the kind of its line, its groups.
 const ASK_QUERY: usize = 11264;
 
 const ASK_OPTIONS: usize = 11280;
 
 const ASK_KIND: usize = 11296;
+
+const ASK_GROUPS: usize = 11312;
 
 // The kinds of the lines of positions: an ask has a chain of its own, an also goes on with that of the position before.
 pub const ASK: u32 = 0;
@@ -83,9 +87,9 @@ pub const MACRO: usize = 12288;
 
 pub const FIRST: usize = 14336;
 
-// Writes the row of a record: a word for each of its ten columns.
+// Writes the row of a record: a word for each of its eleven columns.
 fn put_row(recs: &mut [u32], i: usize, row: &[u32])
-    requires { ⌜ (i < most-records) × (working-words ≤ length (now recs)) × (length (now row) ≡ 10) ⌝ }
+    requires { ⌜ (i < most-records) × (working-words ≤ length (now recs)) × (length (now row) ≡ 11) ⌝ }
     ensures { λ x. ⌜ now (recs .exit) ≡ put-row (now (recs .entry)) i 0 (now (row .entry)) ⌝ }
 {
     let mut c: usize = 0;
@@ -130,10 +134,11 @@ pub fn put_record(
     term: usize,
     flag: usize,
     code: usize,
+    group: usize,
 )
     requires { ⌜ (k .records < most-records) × (working-words ≤ length (now recs))
-        × Small k next kind line name term flag code ⌝ }
-    ensures { λ x. ⌜ Rowed (now (recs .entry)) (now (recs .exit)) k next kind line name term flag code ⌝ }
+        × Small k next kind line name term flag code group ⌝ }
+    ensures { λ x. ⌜ Rowed (now (recs .entry)) (now (recs .exit)) k next kind line name term flag code group ⌝ }
 {
     let row = [
         kind as u32,
@@ -146,20 +151,29 @@ pub fn put_record(
         k.entries as u32,
         next.entries as u32,
         code as u32,
+        group as u32,
     ];
     put_row(recs, k.records, &row);
 }
 
-// Adds an ask, by the kind of its line, its query and its options number.
-pub fn add_ask(recs: &mut [u32], k: Counts, kind: u32, query: u32, options: u32) -> Counts
+// Adds an ask, by the kind of its line, its query, its options number and its groups.
+pub fn add_ask(
+    recs: &mut [u32],
+    k: Counts,
+    kind: u32,
+    query: u32,
+    options: u32,
+    groups: u32,
+) -> Counts
     requires { ⌜ (k .asks < ask-room) × (working-words ≤ length (now recs)) ⌝ }
-    ensures counts { λ r. ⌜ r ≡ with-ask k ⌝ }
-    ensures ask { λ r. ⌜ Asked-at (now (recs .entry)) (now (recs .exit)) k kind query options ⌝ }
+    ensures counts { λ r. ⌜ r ≡ with-ask k (k .grouped) ⌝ }
+    ensures ask { λ r. ⌜ Asked-at (now (recs .entry)) (now (recs .exit)) k kind query options groups ⌝ }
 {
     let i = k.asks;
     recs[ASK_QUERY + i] = query;
     recs[ASK_OPTIONS + i] = options;
     recs[ASK_KIND + i] = kind;
+    recs[ASK_GROUPS + i] = groups;
     let mut next = k;
     next.asks = i + 1;
     next
@@ -189,7 +203,19 @@ pub fn ask_at(recs: &[u32], i: usize) -> Asked
         first,
         end: i + 1,
         options: words::at(recs, ASK_OPTIONS + first),
+        groups: words::at(recs, ASK_GROUPS + first),
     }
+}
+
+// Whether a record is a fact that an ask admits.
+pub fn takes_part(recs: &[u32], a: Asked, i: usize) -> bool
+    requires { ⌜ (i < most-records) × (working-words ≤ length (now recs)) ⌝ }
+    ensures { λ r. ⌜ r ≡ takes-part (now (recs .entry)) (ask-of (now (recs .entry)) a) i ⌝ }
+{
+    if words::at(recs, KIND + i) != ASSUME {
+        return false;
+    }
+    options::admits(a.groups, words::at(recs, GROUP + i))
 }
 
 // Whether a query is one of an ask's.
@@ -236,7 +262,7 @@ pub fn add_hide(
     }
     names::exclude(names, i);
     let next = with_hide(k);
-    put_record(recs, k, next, HIDE, line, i, 0, 0, 0);
+    put_record(recs, k, next, HIDE, line, i, 0, 0, 0, 0);
     Step::On(next)
 }
 
@@ -266,7 +292,7 @@ pub fn add_retain(
         return Step::Refused(Refusal::FullRecords);
     }
     let next = with_record(k, k.names, k.entries, k.uses, k.mark);
-    put_record(recs, k, next, RETAIN, line, 0, 0, 0, 0);
+    put_record(recs, k, next, RETAIN, line, 0, 0, 0, 0, 0);
     Step::On(next)
 }
 
@@ -301,7 +327,7 @@ pub fn add_fun(
     }
     names[TAKEN + i] = (k.records + 1) as u32;
     let next = with_record(k, k.names, k.entries, k.uses, k.mark);
-    put_record(recs, k, next, FUN, line, i, 0, 0, 0);
+    put_record(recs, k, next, FUN, line, i, 0, 0, 0, 0);
     Step::On(next)
 }
 
@@ -353,7 +379,7 @@ pub fn add_def(
     };
     names[TAKEN + i] = (k.records + 1) as u32;
     let next = with_record(k, k.names, k.entries, uses, k.mark + 1);
-    put_record(recs, k, next, DEF, line, i, t, 0, 0);
+    put_record(recs, k, next, DEF, line, i, t, 0, 0, 0);
     Step::On(next)
 }
 
@@ -402,6 +428,6 @@ pub fn add_root(
         return Step::Refused(Refusal::FullTriggers);
     };
     let next = with_record(k, k.names, k.entries, uses, k.mark + 1);
-    put_record(recs, k, next, ROOT, line, i, t, query, 0);
+    put_record(recs, k, next, ROOT, line, i, t, query, 0, 0);
     Step::On(next)
 }

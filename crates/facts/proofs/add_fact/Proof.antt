@@ -35,7 +35,7 @@ returns-2 c =
     let at-if1 = at-at .before .before in
     let entry = at-if1 .before .before .before .before .before .before .before .before in
     let (st, known) = entry .pre .0 (at-if1 .if1 .left) in
-    (fact-repeated st (entry .args .line) known (at-at .at .ensures) (entry .args .flag) (entry .args .t) (omega (arith, c .if2 .taken)), untouched)
+    (fact-repeated st (entry .args .line) known (at-at .at .ensures) (entry .args .flag) (entry .args .group) (entry .args .t) (omega (arith, c .if2 .taken)), untouched)
 
 summarize-assumption-requires : tie.Need-summarize-assumption-requires
 summarize-assumption-requires c κs =
@@ -68,7 +68,7 @@ returns-3 c =
     let promises = at-summarize-assumption .summarize-assumption .ensures in
     let done = sym (at-s .s .given .1) ∙ promises .0 _ (st .hiding .excludes) in
     let free = at-if2 .if2 .left in (
-      fact-crowded st (entry .args .line) known (at-at .at .ensures) (entry .args .flag) (entry .args .t) free done (c .if3 .taken),
+      fact-crowded st (entry .args .line) known (at-at .at .ensures) (entry .args .flag) (entry .args .group) (entry .args .t) free done (c .if3 .taken),
       over-past (promises .1 .1 .0),
     )
 
@@ -83,7 +83,7 @@ put-fact-requires c κs =
     let promises = at-summarize-assumption .summarize-assumption .ensures in
     let done = sym (at-s .s .given .1) ∙ promises .0 _ (st .hiding .excludes) in
     let filed-lists = promises .1 .0 _ (st .hiding .excludes) _ (at-s .s .given .1) in
-    fact-puttable st known (entry .pre .1) done filed-lists (promises .1 .1 .0) (at-if3 .if3 .left) (entry .pre .2) (entry .pre .3)
+    fact-puttable st known (entry .pre .1) done filed-lists (promises .1 .1 .0) (at-if3 .if3 .left) (entry .pre .2) (entry .pre .3) (entry .pre .4)
 
 enum-known-limit : tie.Need-enum-known-limit
 enum-known-limit c = c .match .keys2
@@ -121,7 +121,7 @@ returns-4 c =
     let free = at-if2 .if2 .left in
     let room = at-if3 .if3 .left in
     let puts = at-put-fact .put-fact .ensures in (
-      fact-added st (entry .args .line) known (at-at .at .ensures) (entry .args .flag) (entry .args .t) free room done filed-lists slices puts,
+      fact-added st (entry .args .line) known (at-at .at .ensures) (entry .args .flag) (entry .args .group) (entry .args .t) free room done filed-lists slices puts,
       fact-past slices (limited-done _ done .2) (omega (arith, st .tables .name-table .few, known)) puts,
     )
 
@@ -147,7 +147,7 @@ returns-5 c =
     let over = sym (at-limit .limit .given .1) ∙ promises .0 _ (st .hiding .excludes) in
     let free = at-if2 .if2 .left in
     let told = c .over-refusal .ensures in (
-      fact-over st (entry .args .line) known (at-at .at .ensures) (entry .args .flag) (entry .args .t) free told over,
+      fact-over st (entry .args .line) known (at-at .at .ensures) (entry .args .flag) (entry .args .group) (entry .args .t) free told over,
       over-past (promises .1 .1 .0),
     )
 

@@ -15,42 +15,49 @@ enum-told-2 c = c .match .keys2
 enum-told-3 : tie.Need-enum-told-3
 enum-told-3 c = c .match .keys3
 
+enum-told-4 : tie.Need-enum-told-4
+enum-told-4 c = c .match .keys4
+
 enum-known-kind : tie.Need-enum-known-kind
-enum-known-kind c = c .match .keys4
+enum-known-kind c = c .match .keys5
 
 term-count-requires : tie.Need-term-count-requires
 term-count-requires c κs = search needs
 
 enum-known-kind-2 : tie.Need-enum-known-kind-2
-enum-known-kind-2 c = c .match .keys5
+enum-known-kind-2 c = c .match .keys6
 
 record-count-requires : tie.Need-record-count-requires
 record-count-requires c κs = search needs
 
-enum-told-4 : tie.Need-enum-told-4
-enum-told-4 c = c .match .keys6
+enum-told-5 : tie.Need-enum-told-5
+enum-told-5 c = c .match .keys7
 
 returns : tie.Need-returns
 unfolding count-of fixed-of fixed-count
-returns c = λ s. rw (c .enum-told .given .1)
+returns c = λ s p. rw (c .enum-told .given .1)
 
 returns-2 : tie.Need-returns-2
 unfolding count-of fixed-of fixed-count
-returns-2 c = λ s. rw (c .enum-told2 .given .1)
+returns-2 c = λ s p. rw (c .enum-told2 .given .1)
 
 returns-3 : tie.Need-returns-3
 unfolding count-of fixed-of fixed-count
-returns-3 c = λ s. rw (c .enum-told3 .given .1)
+returns-3 c = λ s p. rw (c .enum-told3 .given .1)
 
 returns-4 : tie.Need-returns-4
-returns-4 c = λ s. c .term-count .ensures s ∙ ap (λ k. count-of (fixed-of s k)) (sym (c .before .before .kind .given .1))
+unfolding count-of fixed-of fixed-count
+returns-4 c = λ s p. rw (c .enum-told4 .given .1)
 
 returns-5 : tie.Need-returns-5
-returns-5 c = λ s. c .record-count .ensures s ∙ ap (λ k. count-of (fixed-of s k)) (sym (c .before .before .kind2 .given .1))
+returns-5 c = λ s p. c .term-count .ensures s ∙ ap (λ k. count-of (fixed-of s k)) (sym (c .before .before .kind .given .1))
 
 returns-6 : tie.Need-returns-6
+returns-6 c = λ s p. c .record-count .ensures s p ∙ ap (λ k. count-of (fixed-of s k)) (sym (c .before .before .kind2 .given .1))
+
+returns-7 : tie.Need-returns-7
 unfolding count-of fixed-of
-returns-6 c = λ s. rw (c .enum-told4 .given .1)
+returns-7 c = λ s p. rw (c .enum-told5 .given .1)
 
 pub fixed-count-spec : {M : Type 1} → statement M
 fixed-count-spec =
@@ -59,14 +66,16 @@ fixed-count-spec =
     enum-told
     enum-told-2
     enum-told-3
+    enum-told-4
     enum-known-kind
     term-count-requires
     enum-known-kind-2
     record-count-requires
-    enum-told-4
+    enum-told-5
     returns
     returns-2
     returns-3
     returns-4
     returns-5
-    returns-6)
+    returns-6
+    returns-7)

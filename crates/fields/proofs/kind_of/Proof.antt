@@ -73,8 +73,12 @@ unfolding kind-result term-kind record-line-kind need look kinds key-of key-from
 returns-16 c = rw (c .match .keys16)
 
 returns-17 : tie.Need-returns-17
+unfolding kind-result term-kind record-line-kind need look kinds key-of key-from bytes
+returns-17 c = rw (c .match .keys17)
+
+returns-18 : tie.Need-returns-18
 unfolding kind-result need kinds Apart key-of key-from bytes
-returns-17 c = ap (need Form) (look-none (Unit {0}) _ kinds (c .match .rest))
+returns-18 c = ap (need Form) (look-none (Unit {0}) _ kinds (c .match .rest))
 
 pub kind-of-spec : {M : Type 1} → statement M
 kind-of-spec =
@@ -96,4 +100,5 @@ kind-of-spec =
     returns-14
     returns-15
     returns-16
-    returns-17)
+    returns-17
+    returns-18)

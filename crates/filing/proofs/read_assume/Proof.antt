@@ -62,7 +62,7 @@ returns-2 : tie.Need-returns-2
 returns-2 c =
     let at-read-name = c .before .before .before .before .before in
     let entry = at-read-name .before .before .before .before .before .before .before .before in
-    name-not _ (entry .pre .0) (at-read-name .read-name .ensures) (c .before .r .given .1) (assume-not _ _)
+    name-not _ (entry .pre .0) (at-read-name .read-name .ensures) (c .before .r .given .1) (assume-not _ _ _)
 
 pub read-assume-spec : {M : Type 1} → statement M
 read-assume-spec =

@@ -90,7 +90,7 @@ returns-2 c =
     let at-read-name = at-i .before .before .before .before in
     let entry = at-read-name .before .before .before .before .before .before .before .before in
     let name = reads-name (at-read-name .read-name .ensures) (at-i .i .given .1) in
-    rest-not _ (entry .pre .0) name _ (def-term-not _ _ (name .said) (last-refusal (at-last-term .last-term .ensures) (c .before .r .given .1)))
+    rest-not _ (entry .pre .0) name _ (def-term-not _ _ _ (name .said) (last-refusal (at-last-term .last-term .ensures) (c .before .r .given .1)))
 
 same-length-6 : tie.Need-same-length-6
 same-length-6 c = search needs
@@ -99,7 +99,7 @@ returns-3 : tie.Need-returns-3
 returns-3 c =
     let at-read-name = c .before .before .before .before .before in
     let entry = at-read-name .before .before .before .before .before .before .before .before in
-    name-not _ (entry .pre .0) (at-read-name .read-name .ensures) (c .before .r2 .given .1) (def-not _ _)
+    name-not _ (entry .pre .0) (at-read-name .read-name .ensures) (c .before .r2 .given .1) (def-not _ _ _)
 
 pub read-def-spec : {M : Type 1} → statement M
 read-def-spec =

@@ -62,7 +62,7 @@ unfolding record-line-kind
 returns c =
     let at-read-assume = c .before .before .before .before .before .before .before .before in
     let at-enum-told = at-read-assume .before .before .before .before .before in
-    record-line _ _ (at-enum-told .enum-told .given .1) (at-read-assume .read-assume .ensures)
+    record-line _ _ _ (at-enum-told .enum-told .given .1) (at-read-assume .read-assume .ensures)
 
 same-length-5 : tie.Need-same-length-5
 same-length-5 c = search needs
@@ -81,7 +81,7 @@ unfolding record-line-kind
 returns-2 c =
     let at-read-fun = c .before .before .before .before in
     let at-enum-told2 = at-read-fun .before .before .before .before .before in
-    record-line _ _ (at-enum-told2 .enum-told2 .given .1) (at-read-fun .read-fun .ensures)
+    record-line _ _ _ (at-enum-told2 .enum-told2 .given .1) (at-read-fun .read-fun .ensures)
 
 same-length-9 : tie.Need-same-length-9
 same-length-9 c = search needs
@@ -100,7 +100,7 @@ unfolding record-line-kind
 returns-3 c =
     let at-read-def = c .before .before .before .before .before .before .before .before in
     let at-enum-told3 = at-read-def .before .before .before .before .before in
-    record-line _ _ (at-enum-told3 .enum-told3 .given .1) (at-read-def .read-def .ensures)
+    record-line _ _ _ (at-enum-told3 .enum-told3 .given .1) (at-read-def .read-def .ensures)
 
 same-length-13 : tie.Need-same-length-13
 same-length-13 c = search needs
@@ -119,7 +119,7 @@ unfolding record-line-kind
 returns-4 c =
     let at-read-retain = c .before .before .before .before in
     let at-enum-told4 = at-read-retain .before .before .before .before .before in
-    record-line _ _ (at-enum-told4 .enum-told4 .given .1) (at-read-retain .read-retain .ensures)
+    record-line _ _ _ (at-enum-told4 .enum-told4 .given .1) (at-read-retain .read-retain .ensures)
 
 same-length-17 : tie.Need-same-length-17
 same-length-17 c = search needs
@@ -138,7 +138,7 @@ unfolding record-line-kind
 returns-5 c =
     let at-read-root = c .before .before .before .before .before .before .before .before in
     let at-enum-told5 = at-read-root .before .before .before .before .before in
-    record-line _ _ (at-enum-told5 .enum-told5 .given .1) (at-read-root .read-root .ensures)
+    record-line _ _ _ (at-enum-told5 .enum-told5 .given .1) (at-read-root .read-root .ensures)
 
 pub read-record-spec : {M : Type 1} → statement M
 read-record-spec =

@@ -49,13 +49,13 @@ returns c =
     let at-q = at-read-goal .before .before .before .before .before .before in
     let at-number = at-q .before .before in
     let entry = at-number .before .before .before .before .before .before .before in
-    line-said (root-then _ _ (number-read (entry .pre .1) 255 (at-number .number .ensures) (at-q .q .given .1))) (at-read-goal .read-goal .ensures)
+    line-said (root-then _ _ _ (number-read (entry .pre .1) 255 (at-number .number .ensures) (at-q .q .given .1))) (at-read-goal .read-goal .ensures)
 
 returns-2 : tie.Need-returns-2
 returns-2 c =
     let at-number = c .before .before .before in
     let entry = at-number .before .before .before .before .before .before .before in
-    line-not _ _ _ _ _ _ _ _ _ (root-not _ _ (number-not (entry .pre .1) 255 (at-number .number .ensures) (c .before .r .given .1)))
+    line-not _ _ _ _ _ _ _ _ _ (root-not _ _ _ (number-not (entry .pre .1) 255 (at-number .number .ensures) (c .before .r .given .1)))
 
 pub read-root-spec : {M : Type 1} → statement M
 read-root-spec =

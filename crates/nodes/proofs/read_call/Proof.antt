@@ -131,7 +131,7 @@ returns-3 c =
     let read = reads-name (pushing .before .before .before .before .before .before .before .read-name .ensures)
     (pushing .before .before .before .n .given .1) in
     let refused = rest-refused _ _ _ _ (run-not (pushing .push-rest .ensures) (at-r2 .r2 .given .1)) in
-    line-not (call-said _ _ (read .said) ∙ rw refused) (read .spelled .longer .kept) (pushing .push-rest .ensures .kept)
+    line-not (call-said _ _ _ (read .said) ∙ rw refused) (read .spelled .longer .kept) (pushing .push-rest .ensures .kept)
 
 same-length-8 : tie.Need-same-length-8
 same-length-8 c = c .before .before .before .before .names .given
@@ -139,7 +139,7 @@ same-length-8 c = c .before .before .before .before .names .given
 returns-4 : tie.Need-returns-4
 returns-4 c =
     let (said, kept) = reads-not (c .before .before .before .before .before .read-name .ensures) (c .before .r3 .given .1) in
-    line-not (name-refused _ _ said .1) kept (same-self _ _ _)
+    line-not (name-refused _ _ _ said .1) kept (same-self _ _ _)
 
 pub read-call-spec : {M : Type 1} → statement M
 read-call-spec =

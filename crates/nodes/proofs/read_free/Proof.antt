@@ -24,7 +24,7 @@ same-length c = c .before .before .before .before .before .before .names .given
 returns : tie.Need-returns
 returns c =
     let read = reads-name (c .before .before .before .before .before .before .before .read-name .ensures) (c .before .before .before .n .given .1) in
-    line-not (free-said _ _ (read .said) ∙ end-more _ _ _ (c .if1 .taken)) (read .spelled .longer .kept) (same-self _ _ _)
+    line-not (free-said _ _ _ (read .said) ∙ end-more _ _ _ (c .if1 .taken)) (read .spelled .longer .kept) (same-self _ _ _)
 
 first-passed-requires : tie.Need-first-passed-requires
 first-passed-requires c κs = search needs
@@ -96,7 +96,7 @@ same-length-5 c = c .before .before .before .before .names .given
 returns-4 : tie.Need-returns-4
 returns-4 c =
     let (said, kept) = reads-not (c .before .before .before .before .before .read-name .ensures) (c .before .r2 .given .1) in
-    line-not (name-refused _ _ said .0) kept (same-self _ _ _)
+    line-not (name-refused _ _ _ said .0) kept (same-self _ _ _)
 
 pub read-free-spec : {M : Type 1} → statement M
 read-free-spec =

@@ -28,7 +28,7 @@ returns c =
     let entry = first .before .before .before .before .before .before in
     let t = entry .pre .0 in
     let body = term-ran _ (t .term-table .few-rows) _ _ _ (run-at (first .push-term .ensures) (c .before .before .before .next .given .1)) in
-    line-not (label-said _ _ (body .said) ∙ end-more _ _ _ (c .if1 .taken)) (same-self _ _ _) (first .push-term .ensures .kept)
+    line-not (label-said _ _ _ (body .said) ∙ end-more _ _ _ (c .if1 .taken)) (same-self _ _ _) (first .push-term .ensures .kept)
 
 add-used : tie.Need-add-used
 add-used c =
@@ -104,7 +104,7 @@ same-length-5 c = c .before .before .before .before .refs .given
 returns-4 : tie.Need-returns-4
 returns-4 c =
     let step = c .before .before .before .before .before .push-term .ensures in
-    line-not (body-refused _ _ (term-refused _ _ _ _ (run-not step (c .before .r2 .given .1))) .1) (same-self _ _ _) (step .kept)
+    line-not (body-refused _ _ _ (term-refused _ _ _ _ (run-not step (c .before .r2 .given .1))) .1) (same-self _ _ _) (step .kept)
 
 pub read-label-spec : {M : Type 1} → statement M
 read-label-spec =

@@ -7,7 +7,7 @@ use Rattle.nodes.proofs.read_leaf.Statement.{statement}
 use Rattle.nodes.proofs.read_leaf.Tie as tie
 
 returns : tie.Need-returns
-returns c = line-not (leaf-said _ _ ∙ end-more _ _ _ (c .if1 .taken)) (same-self _ _ _) (same-self _ _ _)
+returns c = line-not (leaf-said _ _ _ ∙ end-more _ _ _ (c .if1 .taken)) (same-self _ _ _) (same-self _ _ _)
 
 add-leaf-requires : tie.Need-add-leaf-requires
 add-leaf-requires c κs =

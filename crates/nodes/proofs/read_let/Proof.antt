@@ -122,7 +122,7 @@ returns-3 c =
     let t = entry .pre .0 in
     let body = term-ran _ (t .term-table .few-rows) _ _ _ (run-at (first .push-term .ensures) (pushing .before .before .before .one .given .1)) in
     let refused = rest-refused _ _ _ _ (run-not (pushing .push-rest .ensures) (c .before .r2 .given .1)) in
-    line-not (let-said _ _ (body .said) ∙ rw refused) (same-self _ _ _) (same-then (first .push-term .ensures .kept) (pushing .push-rest .ensures .kept))
+    line-not (let-said _ _ _ (body .said) ∙ rw refused) (same-self _ _ _) (same-then (first .push-term .ensures .kept) (pushing .push-rest .ensures .kept))
 
 same-length-5 : tie.Need-same-length-5
 same-length-5 c = c .before .before .before .before .refs .given
@@ -130,7 +130,7 @@ same-length-5 c = c .before .before .before .before .refs .given
 returns-4 : tie.Need-returns-4
 returns-4 c =
     let step = c .before .before .before .before .before .push-term .ensures in
-    line-not (body-refused _ _ (term-refused _ _ _ _ (run-not step (c .before .r3 .given .1))) .0) (same-self _ _ _) (step .kept)
+    line-not (body-refused _ _ _ (term-refused _ _ _ _ (run-not step (c .before .r3 .given .1))) .0) (same-self _ _ _) (step .kept)
 
 pub read-let-spec : {M : Type 1} → statement M
 read-let-spec =

@@ -112,13 +112,13 @@ returns-3 c =
     let pushing = c .before .before .before .before .before in
     let read = reads-op (pushing .before .before .before .before .before .read-op-word .ensures) (pushing .before .before .before .op .given .1) in
     let refused = rest-refused _ _ _ _ (run-not (pushing .push-rest .ensures) (c .before .r2 .given .1)) in
-    line-not (op-said _ _ (read .said) ∙ rw refused) (same-self _ _ _) (pushing .push-rest .ensures .kept)
+    line-not (op-said _ _ _ (read .said) ∙ rw refused) (same-self _ _ _) (pushing .push-rest .ensures .kept)
 
 returns-4 : tie.Need-returns-4
 returns-4 c =
     let at-r3 = c .before in
     let at-read-op-word = at-r3 .before .before in
-    line-not (word-refused _ _ (reads-op-not (at-read-op-word .read-op-word .ensures) (at-r3 .r3 .given .1))) (same-self _ _ _) (same-self _ _ _)
+    line-not (word-refused _ _ _ (reads-op-not (at-read-op-word .read-op-word .ensures) (at-r3 .r3 .given .1))) (same-self _ _ _) (same-self _ _ _)
 
 pub read-op-spec : {M : Type 1} → statement M
 read-op-spec =

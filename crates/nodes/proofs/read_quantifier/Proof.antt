@@ -135,7 +135,7 @@ returns-4 c =
     let entry = quantifying .before .before .before .before .before .before in
     let few = entry .pre .0 .term-table .few-rows in
     let read = quantifying .push-quantifier .ensures in
-    line-not (quantifier-not read few (entry .args .all) (c .before .r2 .given .1)) (same-self _ _ _) (read .kept)
+    line-not (quantifier-not read few (entry .args .all) _ (c .before .r2 .given .1)) (same-self _ _ _) (read .kept)
 
 pub read-quantifier-spec : {M : Type 1} → statement M
 read-quantifier-spec =

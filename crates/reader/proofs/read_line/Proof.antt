@@ -1,7 +1,7 @@
 -- `reader::read_line` meets its contract: by its first field, its kind, the number of its fields, and the fields after.
 use Rattle.model.specs.declared.Refusal.the-variants as refusal
 use Rattle.filing.proofs.Recording.{line-not, line-said}
-use Rattle.reader.proofs.Lines.{fields-first, field-there, field-placed, not-true, not-false, parse-on, parse-count, placing, terms-counted, ask-fits, also-fits}
+use Rattle.reader.proofs.Lines.{fields-first, field-there, field-placed, not-true, not-false, parse-on, parse-count, placing, form-counted, terms-counted, ask-fits, ask2-fits, also-fits}
 use borrow.Author.Needs.{needs}
 use Rattle.reader.proofs.read_line.Statement.{statement}
 use Rattle.reader.proofs.read_line.Tie as tie
@@ -32,9 +32,9 @@ returns c =
     let at-start = c .before .before .before .before in
     let at-field = at-start .before .before in
     let entry = at-field .before .before .before .before .before .before .before in
-    line-not _ _ _ _ _ _ _ _ refusal.Form (parse-count _ (terms-counted _ _ _ _ _ _ _) (fields-first _ _ _ (entry .pre .1) (entry .pre .2)
+    line-not _ _ _ _ _ _ _ _ refusal.Form (parse-count _ (form-counted _ _ _ _ _ _ _) (terms-counted _ _ _ _ _ _ _) (fields-first _ _ _ (entry .pre .1) (entry .pre .2)
     (entry .pre .0 .tables .name-table .short) (at-field .field .ensures) (at-start .start .given .1)) _
-    (c .before .before .line-kind .ensures _ (placing (entry .pre .0))) (not-true (c .before .counted .ensures _) (c .if1 .taken)))
+    (c .before .before .line-kind .ensures _ (placing (entry .pre .0))) (not-true (c .before .counted .ensures _ (placing (entry .pre .0))) (c .if1 .taken)))
 
 read-kind-requires : tie.Need-read-kind-requires
 read-kind-requires c κs =
@@ -48,6 +48,7 @@ read-kind-requires c κs =
       (field-placed (entry .pre .1) (entry .pre .2) (entry .pre .0 .tables .name-table .short) (at-field .field .ensures) (at-start .start .given .1)) .0,
       entry .pre .3,
       ask-fits _ _ p (at-line-kind .line-kind .ensures _ p),
+      ask2-fits _ _ p (at-line-kind .line-kind .ensures _ p),
       also-fits _ _ p (at-line-kind .line-kind .ensures _ p),
     )
 
@@ -78,9 +79,9 @@ returns-2 c =
     let at-start = at-line-kind .before .before in
     let at-field = at-start .before .before in
     let entry = at-field .before .before .before .before .before .before .before in
-    line-said (parse-on _ (terms-counted _ _ _ _ _ _ _) (fields-first _ _ _ (entry .pre .1) (entry .pre .2) (entry .pre .0 .tables .name-table .short)
+    line-said (parse-on _ (form-counted _ _ _ _ _ _ _) (terms-counted _ _ _ _ _ _ _) (fields-first _ _ _ (entry .pre .1) (entry .pre .2) (entry .pre .0 .tables .name-table .short)
     (at-field .field .ensures) (at-start .start .given .1)) _ (at-line-kind .line-kind .ensures _ (placing (entry .pre .0)))
-    (not-false (at-counted .counted .ensures _) (at-if1 .if1 .left)))
+    (not-false (at-counted .counted .ensures _ (placing (entry .pre .0))) (at-if1 .if1 .left)))
     (at-read-kind .read-kind .ensures)
 
 returns-3 : tie.Need-returns-3

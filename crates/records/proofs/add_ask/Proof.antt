@@ -34,6 +34,15 @@ mul-recs-3 c = search needs
 slice-write-recs-3 : tie.Need-slice-write-recs-3
 slice-write-recs-3 c = simp length-set (omega arith)
 
+add-recs-4 : tie.Need-add-recs-4
+add-recs-4 c = search needs
+
+mul-recs-4 : tie.Need-mul-recs-4
+mul-recs-4 c = search needs
+
+slice-write-recs-4 : tie.Need-slice-write-recs-4
+slice-write-recs-4 c = simp length-set (omega arith)
+
 add-next : tie.Need-add-next
 add-next c = search needs
 
@@ -41,7 +50,7 @@ same-length : tie.Need-same-length
 same-length c = search needs
 
 returns : tie.Need-returns
-returns c = (refl, ask-put _ _ _ _ _ (c .pre .0) (c .pre .1))
+returns c = (refl, ask-put _ _ _ _ _ _ (c .pre .0) (c .pre .1))
 
 pub add-ask-spec : {M : Type 1} → statement M
 add-ask-spec =
@@ -56,6 +65,9 @@ add-ask-spec =
     add-recs-3
     mul-recs-3
     slice-write-recs-3
+    add-recs-4
+    mul-recs-4
+    slice-write-recs-4
     add-next
     same-length
     returns)

@@ -93,8 +93,8 @@ put-record-requires c κs =
     let (st, known) = entry .pre .0 (at-if1 .if1 .left) in (
       at-if3 .if3 .left,
       st .recorded .room,
-      small-row _ _ _ _ _ _ _ _ _ _ _ st (at-with-record .with-record .ensures) (st .recorded .few-entries) (st .recorded .few-uses) (omega arith) (entry .pre .1)
-          (omega (arith, st .tables .name-table .few)) (omega arith) (omega arith) (omega arith),
+      small-row _ _ _ _ _ _ _ _ _ _ _ _ st (at-with-record .with-record .ensures) (st .recorded .few-entries) (st .recorded .few-uses) (omega arith) (entry .pre .1)
+          (omega (arith, st .tables .name-table .few)) (omega arith) (omega arith) (omega arith) (omega arith),
     )
 
 same-length-3 : tie.Need-same-length-3

@@ -41,8 +41,8 @@ put-record-requires c κs =
     let (st, known) = entry .pre .0 (at-if1 .if1 .left) in (
       at-if2 .if2 .left,
       st .recorded .room,
-      small-row _ _ _ _ _ _ _ _ _ _ _ st (at-with-hide .with-hide .ensures) (st .recorded .few-entries) (st .recorded .few-uses) (omega arith)
-          (entry .pre .1) (omega (arith, st .tables .name-table .few, known)) (omega arith) (omega arith) (omega arith),
+      small-row _ _ _ _ _ _ _ _ _ _ _ _ st (at-with-hide .with-hide .ensures) (st .recorded .few-entries) (st .recorded .few-uses) (omega arith)
+          (entry .pre .1) (omega (arith, st .tables .name-table .few, known)) (omega arith) (omega arith) (omega arith) (omega arith),
     )
 
 same-length : tie.Need-same-length

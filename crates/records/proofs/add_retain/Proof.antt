@@ -29,8 +29,8 @@ put-record-requires c κs =
     let st = entry .pre .0 (at-if1 .if1 .left) in (
       at-if2 .if2 .left,
       st .recorded .room,
-      small-row _ _ _ _ _ _ _ _ _ _ _ st (at-with-record .with-record .ensures) (st .recorded .few-entries) (st .recorded .few-uses) (omega arith)
-          (entry .pre .1) (omega arith) (omega arith) (omega arith) (omega arith),
+      small-row _ _ _ _ _ _ _ _ _ _ _ _ st (at-with-record .with-record .ensures) (st .recorded .few-entries) (st .recorded .few-uses) (omega arith)
+          (entry .pre .1) (omega arith) (omega arith) (omega arith) (omega arith) (omega arith),
     )
 
 same-length : tie.Need-same-length

@@ -84,8 +84,8 @@ put-record-requires c κs =
     let uses = gathered-uses st _ (at-gather-term .gather-term .ensures .0) (at-gather-term .gather-term .ensures .1 .0) (at-uses .uses .given .1) in (
       at-if2 .if2 .left,
       st .recorded .room,
-      small-row _ _ _ _ _ _ _ _ _ _ _ st (at-with-record .with-record .ensures) (st .recorded .few-entries) (uses .fits) (omega arith) (entry .pre .2)
-          (omega (arith, st .tables .name-table .few, known)) (omega (arith, entry .pre .1, st .tables .term-table .few-rows)) (entry .pre .3) (omega arith),
+      small-row _ _ _ _ _ _ _ _ _ _ _ _ st (at-with-record .with-record .ensures) (st .recorded .few-entries) (uses .fits) (omega arith) (entry .pre .2)
+          (omega (arith, st .tables .name-table .few, known)) (omega (arith, entry .pre .1, st .tables .term-table .few-rows)) (entry .pre .3) (omega arith) (omega arith),
     )
 
 same-length-4 : tie.Need-same-length-4

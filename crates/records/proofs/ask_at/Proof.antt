@@ -51,12 +51,27 @@ at-requires c κs =
     let inv = c .before .before .loop .inv in
     omega (arith, pre .0, pre .1, inv .0)
 
+add-at-2 : tie.Need-add-at-2 Inv-loop μ-loop
+add-at-2 c =
+    let over = c .before .before in
+    let pre = over .before .before .before .pre in
+    let inv = over .before .loop .inv in
+    omega (arith, pre .0, inv .0)
+
+at-requires-2 : tie.Need-at-requires-2 Inv-loop μ-loop
+at-requires-2 c κs =
+    let over = c .before .before in
+    let pre = over .before .before .before .pre in
+    let inv = over .before .loop .inv in
+    omega (arith, pre .0, pre .1, inv .0)
+
 returns : tie.Need-returns Inv-loop μ-loop
 returns c =
-    let over = c .before in
+    let options = c .before in
+    let over = options .before in
     let also = over .before in
     let inv = also .before .loop .inv in
-    walk-ends _ _ _ _ (inv .1) (also .is-also .ensures) (over .if1 .left) (c .at .ensures)
+    walk-ends _ _ _ _ _ (inv .1) (also .is-also .ensures) (over .if1 .left) (options .at .ensures) (c .at2 .ensures)
 
 pub ask-at-spec : {M : Type 1} → statement M
 ask-at-spec =
@@ -72,4 +87,6 @@ ask-at-spec =
     add-t5
     add-at
     at-requires
+    add-at-2
+    at-requires-2
     returns)

@@ -4,9 +4,6 @@ use borrow.Author.Needs.{needs}
 use Rattle.records.proofs.put_record.Statement.{statement}
 use Rattle.records.proofs.put_record.Tie as tie
 
-cast-t11 : tie.Need-cast-t11
-cast-t11 c = search needs
-
 cast-t12 : tie.Need-cast-t12
 cast-t12 c = search needs
 
@@ -34,6 +31,12 @@ cast-t19 c = search needs
 cast-t20 : tie.Need-cast-t20
 cast-t20 c = search needs
 
+cast-t21 : tie.Need-cast-t21
+cast-t21 c = search needs
+
+cast-t22 : tie.Need-cast-t22
+cast-t22 c = search needs
+
 slice-aggregate-put-row : tie.Need-slice-aggregate-put-row
 slice-aggregate-put-row c = search needs
 
@@ -47,13 +50,12 @@ returns : tie.Need-returns
 returns c =
     let at-put-row = c .before .before in
     let entry = at-put-row .before .before .before .before .before .before .before .before in
-    rowed _ _ _ _ _ _ _ _ (entry .pre .0) (entry .pre .1) (at-put-row .put-row .ensures)
+    rowed _ _ _ _ _ _ _ _ _ (entry .pre .0) (entry .pre .1) (at-put-row .put-row .ensures)
 
 pub put-record-spec : {M : Type 1} → statement M
 put-record-spec =
     tie.close
     (tie.spec
-    cast-t11
     cast-t12
     cast-t13
     cast-t14
@@ -63,6 +65,8 @@ put-record-spec =
     cast-t18
     cast-t19
     cast-t20
+    cast-t21
+    cast-t22
     slice-aggregate-put-row
     put-row-requires
     same-length
