@@ -8,13 +8,13 @@ use lib.Dec.{eqb}
 use borrow.Author.Tests.{ne-eqb}
 use Rattle.model.specs.Lists.{keep}
 use Rattle.model.specs.Names.{Name}
-use Rattle.model.specs.Reading.{Decl}
+use Rattle.model.specs.Reading.{Ask, Decl}
 use Rattle.model.specs.Rounds.{facts, definitions, declarations}
 use Rattle.model.proofs.ListLaws.{keep-append}
 use Rattle.laws.proofs.Records.{declarations-append}
 use Rattle.records.specs.Columns.{record-kind, fun-kind}
-use Rattle.records.specs.States.{fact-at, decl-at, summary-at, decls-of, roots-of}
-use Rattle.scan.proofs.Background.{is-fact, is-definition, is-root, def-at, root-of, no-facts, next-facts, no-defs, next-defs, no-roots, next-roots}
+use Rattle.records.specs.States.{fact-at, decl-at, summary-at, decls-of, roots-of, background-of, takes-part}
+use Rattle.scan.proofs.Background.{is-definition, is-root, def-at, root-of, no-facts, next-facts, no-defs, next-defs, no-roots, next-roots}
 use Rattle.prune.specs.Listing.{from}
 use Rattle.prune.proofs.Ranges.{from-snoc}
 
@@ -65,10 +65,11 @@ module _ (name : ℕ → Name) (recs lists : List ℕ) where
   unfolding decls-of declarations
   no-funs = refl
 
-  -- the facts by record
-  pub facts-are : (n : ℕ) → facts (decls-of name recs lists n) ≡ map (fact-at name recs lists) (keep (is-fact recs) (from 0 n))
-  facts-are =
-      over-from (λ n. facts (decls-of name recs lists n)) (is-fact recs) (fact-at name recs lists) (no-facts name recs lists) (next-facts name recs lists)
+  -- the facts that an ask admits by record
+  pub facts-are : (a : Ask) (n : ℕ) → facts (background-of name recs lists a n) ≡ map (fact-at name recs lists) (keep (takes-part recs a) (from 0 n))
+  facts-are a =
+      over-from (λ n. facts (background-of name recs lists a n)) (takes-part recs a) (fact-at name recs lists) (no-facts name recs lists a)
+      (next-facts name recs lists a)
 
   -- the definitions by record
   pub definitions-are : (n : ℕ) → definitions (decls-of name recs lists n) ≡ map (def-at name recs lists) (keep (is-definition recs) (from 0 n))

@@ -19,11 +19,12 @@ use Rattle.model.specs.declared.Asked.{Asked}
 use Rattle.model.specs.declared.Counts.{Counts}
 use Rattle.model.proofs.ListLaws.{T-ext, T-dec, true-T, T-true, T-false, cond-ap, cond-true, cond-false, any-append, keep-cong, map-elim, map-intro, concat-elim, keep-collect, collect-cong, collect-map, map-collect}
 use Rattle.model.proofs.SetLaws.{Within, ascending-ext, mem-intro, mem-elim, mem-diff, mem-from-list}
+use Rattle.laws.proofs.BackgroundLaws.{background-definitions, background-declarations}
 use Rattle.laws.proofs.BodyLaws.{all-closed, all-has, all-least, all-set, added-elim, added-set}
 use Rattle.names.specs.Table.{name-of, ranked}
 use Rattle.names.proofs.Laws.{distinct}
 use Rattle.records.specs.Columns.{record-kind, record-line, record-name, assume-kind, fun-kind, def-kind, taken-at}
-use Rattle.records.specs.States.{uses-at, free-at, fact-at, decl-at, decls-of, roots-of, ask-of}
+use Rattle.records.specs.States.{uses-at, free-at, fact-at, decl-at, decls-of, roots-of, background-of, takes-part, ask-of}
 use Rattle.macros.specs.Macros.{is-def, Filled}
 use Rattle.scan.specs.Held.{set-of}
 use Rattle.scan.specs.Steps.{is-reached}
@@ -353,7 +354,7 @@ module _ {file names recs lists : List ℕ} {k : Counts} (x : Filled file names 
           (ap (map (λ d. d .line)) (group-are funs (fun-at name recs lists) fun-kind (fun-found x)) ∙ map-map (λ d. d .line) (fun-at name recs lists) fs)
           ∙ sym (map-append (record-line recs) ds fs)
 
-    module _ (only-facts : (i : ℕ) → i < k .records → T (is-reached run i) → record-kind recs i ≡ assume-kind) where
+    module _ (only-facts : (i : ℕ) → i < k .records → T (is-reached run i) → T (takes-part recs (ask-of recs a) i)) where
       -- the lines of the kept records are the kept lines
       pub kept-lines : (stamp : ℕ → ℕ) → Stamped names recs lists run k a stamp
           → map (record-line recs) (kept-records names recs run k a stamp) ≡ kept-of file names recs lists run k a
@@ -363,7 +364,8 @@ module _ {file names recs lists : List ℕ} {k : Counts} (x : Filled file names 
           let fs = fact-records names recs run k a in
           let gs = groups-by names recs (k .names) (λ r. stamp (ranked names r)) (length (kept-items names recs run k a)) in
           let b = prune-decls (ask-of recs a) in
-          map-append (record-line recs) fs (cond b gs [])
+          rw (background-definitions (ask-of recs a) (decls-of name recs lists (k .records)), background-declarations (ask-of recs a) (decls-of name recs lists (k .records)))
+          (map-append (record-line recs) fs (cond b gs [])
           ∙ ap₂ _++_
           (sym (ap (map (λ f. f .line)) (kept-facts-are x a run only-facts) ∙ map-map (λ f. f .line) (fact-at name recs lists) fs))
           (cond-ap (map (record-line recs)) b gs []
@@ -372,15 +374,15 @@ module _ {file names recs lists : List ℕ} {k : Counts} (x : Filled file names 
           (λ ns. map (λ d. d .line)
           ((kept-decls ns D ++ of-names (added-for (ask-of recs a) D ns) D) ++ (kept-decls ns funs ++ of-names (added-for (ask-of recs a) D ns) funs)))
           (names-are x a run only-facts) ∙ group-lines stamp (stamped t)))
-          (λ t. cond-false b _ [] t ∙ sym (cond-false b _ [] t)) (T-dec b))
+          (λ t. cond-false b _ [] t ∙ sym (cond-false b _ [] t)) (T-dec b)))
 
   -- the kept facts are no more than the kept lines
-  pub facts-front : (a : Asked) (run : List ℕ) → ((i : ℕ) → i < k .records → T (is-reached run i) → record-kind recs i ≡ assume-kind)
+  pub facts-front : (a : Asked) (run : List ℕ) → ((i : ℕ) → i < k .records → T (is-reached run i) → T (takes-part recs (ask-of recs a) i))
       → length (fact-records names recs run k a) ≤ length (kept-of file names recs lists run k a)
   unfolding kept-of
   facts-front a run only-facts =
       let fs = fact-records names recs run k a in
       let e = ap length (kept-facts-are x a run only-facts) in
       let n = length-map fs (fact-at name recs lists) in
-      let h = front-facts (ask-of recs a) (decls-of name recs lists (k .records)) (roots-of name recs lists (k .records)) (reached-of file names recs run k) in
+      let h = front-facts (ask-of recs a) (background-of name recs lists (ask-of recs a) (k .records)) (roots-of name recs lists (k .records)) (reached-of file names recs run k) in
       omega arith

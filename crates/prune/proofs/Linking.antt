@@ -10,29 +10,30 @@ use borrow.Author.Tests.{eq-eqb}
 use Rattle.model.specs.Lists.{keep, concat, collect}
 use Rattle.model.specs.Names.{Name, same, mem}
 use Rattle.model.specs.Summaries.{Fact}
-use Rattle.model.specs.Reading.{Decl, no-ambients}
-use Rattle.model.specs.Rounds.{facts, definitions, declarations, is-ambient, asks-for, goal-roots}
+use Rattle.model.specs.Reading.{Ask, Decl, no-ambients}
+use Rattle.model.specs.Rounds.{admits, facts, definitions, declarations, is-ambient, asks-for, goal-roots}
 use Rattle.model.specs.Kept.{reached-facts, ambients, kept-facts, kept-names, first-met, kept-decls}
 use Rattle.model.specs.declared.Asked.{Asked}
 use Rattle.model.specs.declared.Counts.{Counts}
-use Rattle.model.proofs.ListLaws.{T-ext, true-T, cond-ap, any-intro, any-elim, map-intro, map-elim, keep-elim, keep-cong, collect-append, collect-cong, collect-map, map-collect, map-reverse, concat-collect}
+use Rattle.model.proofs.ListLaws.{T-ext, true-T, cond-ap, any-intro, any-elim, map-intro, map-elim, keep-elim, keep-cong, keep-all, collect-append, collect-cong, collect-map, map-collect, map-reverse, concat-collect}
 use Rattle.model.proofs.SetLaws.{mem-intro, mem-elim, mem-keep, mem-from-list, Ascending, ascending-from-list, ascending-keep, ascending-ext}
 use Rattle.names.specs.Table.{name-of, ranked}
 use Rattle.names.proofs.Laws.{listed, listed-intro, listed-ascending, distinct}
-use Rattle.records.specs.Columns.{record-kind, record-name, record-flag, summary-code, kind-of-code, assume-kind, fun-kind, def-kind}
-use Rattle.records.specs.States.{uses-at, free-at, fact-at, decl-at, decls-of, roots-of, ask-of}
+use Rattle.records.specs.Columns.{record-kind, record-name, record-flag, record-group, summary-code, kind-of-code, assume-kind, fun-kind, def-kind}
+use Rattle.records.specs.States.{uses-at, free-at, fact-at, decl-at, decls-of, roots-of, background-of, takes-part, ask-of}
 use Rattle.macros.specs.Macros.{Filled}
 use Rattle.scan.specs.Held.{upto}
 use Rattle.scan.specs.Steps.{is-reached}
 use Rattle.scan.proofs.Numbers.{set-elim, set-ascending, upto-elim}
-use Rattle.scan.proofs.Background.{is-fact, is-definition, is-root, def-at, root-of}
+use Rattle.records.proofs.Taking.{part-kind, part-admits}
+use Rattle.scan.proofs.Background.{is-definition, is-root, def-at, root-of}
 use Rattle.scan.proofs.Joining.{uses-low}
 use Rattle.prune.specs.Listing.{from, record-behind, picked, reached-at, kind-at, ambient-at, is-goal, reached-records, ambient-records, fact-records, goal-records, kept-items, is-among, stamped, stamp-records, kind-records}
 use Rattle.prune.specs.Kept.{reached-of}
-use Rattle.prune.proofs.Ranges.{keep-keep, keep-reverse, keep-collect-one, keep-map, collect-keep, reverse-collect, collect-collect, from-below, from-snoc, upto-reverse, upto-reverse-1}
+use Rattle.prune.proofs.Ranges.{keep-keep, keep-comm, keep-reverse, keep-collect-one, keep-map, collect-keep, reverse-collect, collect-collect, from-below, from-snoc, upto-reverse, upto-reverse-1}
 use Rattle.prune.proofs.Order.{name-stamp, Sets-in, met-by-stamp}
 use Rattle.prune.proofs.Filed.{is-declaration, fun-at, facts-are, definitions-are, declarations-are, roots-are}
-use Rattle.prune.proofs.Takers.{one-zero, one-suc, by-name, reached-one}
+use Rattle.prune.proofs.Takers.{one-zero, one-suc, by-name, reached-one, reached-record}
 
 -- the values of a function at the numbers below another
 listed-from : (f : ℕ → Name) (n : ℕ) → listed f n ≡ map f (from 0 n)
@@ -44,15 +45,16 @@ listed-from f (suc n) =
     ∙ ap (map f) (sym (from-snoc 0 n ∙ ap (λ i. from 0 n ++ (i ∷ [])) (let e : 0 + n ≡ n = omega arith in e)))
 
 -- an ambient is picked where the tests of it hold
-ambient-one : (recs : List ℕ) (i : ℕ)
-    → cond (is-fact recs i && is-ambient (kind-of-code (summary-code recs i))) (i ∷ []) [] ≡ record-behind (ambient-at recs i)
+ambient-one : (recs : List ℕ) (a : Asked) (i : ℕ)
+    → cond (takes-part recs (ask-of recs a) i && is-ambient (kind-of-code (summary-code recs i))) (i ∷ []) [] ≡ record-behind (ambient-at recs a i)
 unfolding ambient-at
-ambient-one recs i = go (is-fact recs i) (is-ambient (kind-of-code (summary-code recs i)))
+ambient-one recs a i = go (takes-part recs (ask-of recs a) i) (is-ambient (kind-of-code (summary-code recs i)))
   where
-    go : (a b : Bool) → cond (a && b) (i ∷ []) [] ≡ record-behind (cond a (cond b (i + 1) 0) 0)
+    go : (b c : Bool) → cond (b && c) (i ∷ []) [] ≡ record-behind (cond c (cond b (i + 1) 0) 0)
     go true true = sym (one-suc (i + 1) i (omega arith))
     go true false = sym (one-zero 0 refl)
-    go false b = sym (one-zero 0 refl)
+    go false true = sym (one-zero 0 refl)
+    go false false = sym (one-zero 0 refl)
 
 module _ {file names recs lists : List ℕ} {k : Counts} (x : Filled file names recs lists k) where
   -- the name of a number, of a rank; the fact of a record
@@ -92,16 +94,27 @@ module _ {file names recs lists : List ℕ} {k : Counts} (x : Filled file names 
 
   -- ---- facts
 
-  -- a fact found by the name of a rank
-  fact-found : (r : ℕ) → r < k .names
-      → keep (λ f. same (f .name) (rank-name r)) (facts (decls-of name recs lists (k .records))) ≡ map fact (record-behind (kind-at names recs assume-kind r))
-  unfolding fact-at
-  fact-found r h =
-      ap (keep (λ f. same (f .name) (rank-name r))) (facts-are name recs lists (k .records))
-      ∙ keep-map (λ f. same (f .name) (rank-name r)) fact (keep (is-fact recs) (from 0 (k .records)))
-      ∙ ap (map fact) (by-name x assume-kind r (omega arith) h)
+  -- whether an ask admits the group of a record
+  abbrev admitted : Ask → ℕ → Bool
+  admitted a i = admits a (record-group recs i)
 
-  module _ (run : List ℕ) (only-facts : (i : ℕ) → i < k .records → T (is-reached run i) → record-kind recs i ≡ assume-kind) where
+  -- a fact that an ask admits found by the name of a rank
+  fact-found : (a : Ask) (r : ℕ) → r < k .names
+      → keep (λ f. same (f .name) (rank-name r)) (facts (background-of name recs lists a (k .records)))
+      ≡ map fact (keep (admitted a) (record-behind (kind-at names recs assume-kind r)))
+  unfolding fact-at takes-part
+  fact-found a r h =
+      let numbers = from 0 (k .records) in
+      let named : ℕ → Bool = λ i. same (name (record-name recs i)) (rank-name r) in
+      let of-kind : ℕ → Bool = λ i. eqb (record-kind recs i) assume-kind in
+      ap (keep (λ f. same (f .name) (rank-name r))) (facts-are name recs lists a (k .records))
+      ∙ keep-map (λ f. same (f .name) (rank-name r)) fact (keep (takes-part recs a) numbers)
+      ∙ ap (map fact)
+      (ap (keep named) (sym (keep-keep (admitted a) of-kind numbers))
+      ∙ keep-comm named (admitted a) (keep of-kind numbers)
+      ∙ ap (keep (admitted a)) (by-name x assume-kind r (omega arith) h))
+
+  module _ (a : Asked) (run : List ℕ) (only-facts : (i : ℕ) → i < k .records → T (is-reached run i) → T (takes-part recs (ask-of recs a) i)) where
     -- the reached names by rank
     reached-names : reached-of file names recs run k
         ≡ map rank-name (keep (λ r. mem (rank-name r) (reached-of file names recs run k)) (from 0 (k .names)))
@@ -111,12 +124,12 @@ module _ {file names recs lists : List ℕ} {k : Counts} (x : Filled file names 
         (λ n t.
         let (i, l, u, e) = set-elim (λ i. name (record-name recs i)) (is-reached run) (k .records) t in
         subst (λ n. T (mem n (listed rank-name (k .names)))) (sym e)
-        (in-all (record-name recs i) (x .recorded .named-in i l (λ z. omega (arith, only-facts i l u)))))
+        (in-all (record-name recs i) (x .recorded .named-in i l (λ z. omega (arith, part-kind recs (ask-of recs a) i (only-facts i l u))))))
 
     -- the reached facts
-    reached-are : reached-facts (facts (decls-of name recs lists (k .records))) (reached-of file names recs run k)
+    reached-are : reached-facts (facts (background-of name recs lists (ask-of recs a) (k .records))) (reached-of file names recs run k)
         ≡ map fact (reached-records names run (k .names))
-    unfolding reached-facts picked
+    unfolding reached-facts picked keep
     reached-are =
         let reached = reached-of file names recs run k in
         ap (collect found) reached-names
@@ -127,42 +140,50 @@ module _ {file names recs lists : List ℕ} {k : Counts} (x : Filled file names 
         ∙ sym (map-collect fact (λ r. record-behind (reached-at names run r)) (from 0 (k .names)))
       where
         found : Name → List Fact
-        found n = keep (λ f. same (f .name) n) (facts (decls-of name recs lists (k .records)))
+        found n = keep (λ f. same (f .name) n) (facts (background-of name recs lists (ask-of recs a) (k .records)))
+
+        -- a record that is listed takes part
+        listed-part : (r : ℕ) → r < k .names → (i : ℕ) → List·Memᴰ i (record-behind (reached-at names run r)) → T (admitted (ask-of recs a) i)
+        listed-part r h i m =
+            let (l, t) = reached-record x run r h m in
+            part-admits recs (ask-of recs a) i (only-facts i l t)
 
         each : (r : ℕ) → r < k .names
             → cond (mem (rank-name r) (reached-of file names recs run k)) (found (rank-name r)) [] ≡ map fact (record-behind (reached-at names run r))
         each r h =
             let b = mem (rank-name r) (reached-of file names recs run k) in
-            ap (λ l. cond b l []) (fact-found r h)
-            ∙ sym (cond-ap (map fact) b (record-behind (kind-at names recs assume-kind r)) [])
-            ∙ ap (map fact) (reached-one x run only-facts r h)
+            let p = admitted (ask-of recs a) in
+            ap (λ l. cond b l []) (fact-found (ask-of recs a) r h)
+            ∙ sym (cond-ap (λ l. map fact (keep p l)) b (record-behind (kind-at names recs assume-kind r)) [])
+            ∙ ap (λ l. map fact (keep p l)) (reached-one x run (λ i l t. part-kind recs (ask-of recs a) i (only-facts i l t)) r h)
+            ∙ ap (map fact) (keep-all p (record-behind (reached-at names run r)) (listed-part r h))
 
   -- the ambients
-  ambients-are : (a : Asked) → ambients (ask-of recs a) (facts (decls-of name recs lists (k .records))) ≡ map fact (ambient-records recs k a)
+  ambients-are : (a : Asked) → ambients (ask-of recs a) (facts (background-of name recs lists (ask-of recs a) (k .records))) ≡ map fact (ambient-records recs k a)
   unfolding ambients ambient-records picked fact-at
   ambients-are a =
       ap (cond (no-ambients (ask-of recs a)) []) listed-down
-      ∙ sym (cond-ap (map fact) (no-ambients (ask-of recs a)) [] (picked (ambient-at recs) (upto (k .records))))
+      ∙ sym (cond-ap (map fact) (no-ambients (ask-of recs a)) [] (picked (ambient-at recs a) (upto (k .records))))
     where
       ambient : ℕ → Bool
       ambient i = is-ambient (kind-of-code (summary-code recs i))
 
       both : ℕ → Bool
-      both i = is-fact recs i && ambient i
+      both i = takes-part recs (ask-of recs a) i && ambient i
 
-      listed-down : reverse (keep (λ f. is-ambient (f .kind)) (facts (decls-of name recs lists (k .records))))
-          ≡ map fact (picked (ambient-at recs) (upto (k .records)))
+      listed-down : reverse (keep (λ f. is-ambient (f .kind)) (facts (background-of name recs lists (ask-of recs a) (k .records))))
+          ≡ map fact (picked (ambient-at recs a) (upto (k .records)))
       listed-down =
           let numbers = from 0 (k .records) in
-          ap (λ l. reverse (keep (λ f. is-ambient (f .kind)) l)) (facts-are name recs lists (k .records))
-          ∙ ap reverse (keep-map (λ f. is-ambient (f .kind)) fact (keep (is-fact recs) numbers))
-          ∙ sym (map-reverse fact (keep ambient (keep (is-fact recs) numbers)))
+          ap (λ l. reverse (keep (λ f. is-ambient (f .kind)) l)) (facts-are name recs lists (ask-of recs a) (k .records))
+          ∙ ap reverse (keep-map (λ f. is-ambient (f .kind)) fact (keep (takes-part recs (ask-of recs a)) numbers))
+          ∙ sym (map-reverse fact (keep ambient (keep (takes-part recs (ask-of recs a)) numbers)))
           ∙ ap (map fact)
-          (ap reverse (keep-keep ambient (is-fact recs) numbers)
+          (ap reverse (keep-keep ambient (takes-part recs (ask-of recs a)) numbers)
           ∙ sym (keep-reverse both numbers)
           ∙ ap (keep both) (sym (upto-reverse (k .records)))
           ∙ keep-collect-one both (upto (k .records))
-          ∙ collect-cong (λ i. cond (both i) (i ∷ []) []) (λ i. record-behind (ambient-at recs i)) (upto (k .records)) (λ i m. ambient-one recs i))
+          ∙ collect-cong (λ i. cond (both i) (i ∷ []) []) (λ i. record-behind (ambient-at recs a i)) (upto (k .records)) (λ i m. ambient-one recs a i))
 
   -- ---- roots
 
@@ -303,16 +324,16 @@ module _ {file names recs lists : List ℕ} {k : Counts} (x : Filled file names 
 
   -- ---- the kept list
 
-  module _ (a : Asked) (run : List ℕ) (only-facts : (i : ℕ) → i < k .records → T (is-reached run i) → record-kind recs i ≡ assume-kind) where
+  module _ (a : Asked) (run : List ℕ) (only-facts : (i : ℕ) → i < k .records → T (is-reached run i) → T (takes-part recs (ask-of recs a) i)) where
     -- the kept facts
-    pub kept-facts-are : kept-facts (ask-of recs a) (facts (decls-of name recs lists (k .records))) (reached-of file names recs run k)
+    pub kept-facts-are : kept-facts (ask-of recs a) (facts (background-of name recs lists (ask-of recs a) (k .records))) (reached-of file names recs run k)
         ≡ map fact (fact-records names recs run k a)
     unfolding kept-facts fact-records
     kept-facts-are =
-        ap₂ _++_ (reached-are run only-facts) (ambients-are a) ∙ sym (map-append fact (reached-records names run (k .names)) (ambient-records recs k a))
+        ap₂ _++_ (reached-are a run only-facts) (ambients-are a) ∙ sym (map-append fact (reached-records names run (k .names)) (ambient-records recs k a))
 
     -- the names met are those free in the items
-    pub names-are : kept-names (ask-of recs a) (facts (decls-of name recs lists (k .records))) (roots-of name recs lists (k .records)) (reached-of file names recs run k)
+    pub names-are : kept-names (ask-of recs a) (facts (background-of name recs lists (ask-of recs a) (k .records))) (roots-of name recs lists (k .records)) (reached-of file names recs run k)
         ≡ concat (map free (kept-items names recs run k a))
     unfolding kept-names kept-items fact-at
     names-are =

@@ -63,11 +63,11 @@ pub ambients-small : (recs : List ℕ) (k : Counts) (a : Asked) {x : ℕ} → Li
 unfolding ambient-records
 ambients-small recs k a {x} m = go (no-ambients (ask-of recs a)) m
   where
-    go : (b : Bool) → List·Memᴰ x (cond b [] (picked (ambient-at recs) (upto (k .records)))) → x < k .records
+    go : (b : Bool) → List·Memᴰ x (cond b [] (picked (ambient-at recs a) (upto (k .records)))) → x < k .records
     go true m = absurd (List·Memᴰ·not-nil m)
     go false m =
-        picked-small (ambient-at recs) (upto (k .records)) (k .records)
-        (λ r i. let y = ambient-small recs r refl in let b = upto-elim (k .records) i in omega arith) m
+        picked-small (ambient-at recs a) (upto (k .records)) (k .records)
+        (λ r i. let y = ambient-small recs a r refl in let b = upto-elim (k .records) i in omega arith) m
 
 pub goals-small : (recs : List ℕ) (k : Counts) (a : Asked) {x : ℕ} → List·Memᴰ x (goal-records recs k a) → x < k .records
 goals-small recs k a m = from-below (k .records) (keep-elim (is-goal recs a) (from 0 (k .records)) m .0)

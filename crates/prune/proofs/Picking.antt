@@ -13,8 +13,8 @@ use Rattle.model.specs.Rounds.{is-ambient, asks-for}
 use Rattle.model.specs.declared.Asked.{Asked}
 use Rattle.model.proofs.ListLaws.{cond-case}
 use Rattle.names.specs.Table.{ranked}
-use Rattle.records.specs.Columns.{record-kind, record-flag, summary-code, kind-of-code, assume-kind, root-kind, taken-at}
-use Rattle.records.specs.States.{ask-of}
+use Rattle.records.specs.Columns.{record-kind, record-flag, summary-code, kind-of-code, root-kind, taken-at}
+use Rattle.records.specs.States.{takes-part, ask-of}
 use Rattle.scan.specs.Held.{upto}
 use Rattle.scan.specs.Steps.{is-reached, reached-column}
 use Rattle.prune.specs.Listing.{from, record-behind, picked, taker, reached-at, kind-at, ambient-at, is-goal}
@@ -85,23 +85,25 @@ code-in (suc zero) g h = refl
 code-in (suc (suc zero)) g h = refl
 code-in (suc (suc (suc y))) g h = absurd (omega arith)
 
-module _ (recs : List ℕ) (i x : ℕ) (e : x ≡ record-kind recs i) where
-  pub ambient-other : (x ≡ assume-kind → ⊥) → 0 ≡ ambient-at recs i
+module _ (recs : List ℕ) (a : Asked) (i y : ℕ) (q : y ≡ summary-code recs i) where
+  pub ambient-low : y < 1 → 0 ≡ ambient-at recs a i
   unfolding ambient-at
-  ambient-other d = rw (← e, ne-eqb x assume-kind d)
+  ambient-low h = rw (← q, code-low y h)
 
-  module _ (y : ℕ) (q : y ≡ summary-code recs i) (a : x ≡ assume-kind) where
-    pub ambient-low : y < 1 → 0 ≡ ambient-at recs i
-    unfolding ambient-at
-    ambient-low h = rw (← e, eq-eqb x assume-kind a, ← q, code-low y h)
+  pub ambient-high : 3 ≤ y → 0 ≡ ambient-at recs a i
+  unfolding ambient-at
+  ambient-high h = rw (← q, code-high y h)
 
-    pub ambient-high : 3 ≤ y → 0 ≡ ambient-at recs i
-    unfolding ambient-at
-    ambient-high h = rw (← e, eq-eqb x assume-kind a, ← q, code-high y h)
+  -- by whether it takes part
+  ambient-by : 1 ≤ y → y < 3 → {b : Bool} → b ≡ takes-part recs (ask-of recs a) i → cond b (i + 1) 0 ≡ ambient-at recs a i
+  unfolding ambient-at
+  ambient-by g h p = rw (← q, code-in y g h, ← p)
 
-    pub ambient-is : 1 ≤ y → y < 3 → i + 1 ≡ ambient-at recs i
-    unfolding ambient-at
-    ambient-is g h = rw (← e, eq-eqb x assume-kind a, ← q, code-in y g h)
+  pub ambient-apart : 1 ≤ y → y < 3 → {b : Bool} → b ≡ takes-part recs (ask-of recs a) i → b ≡ false → 0 ≡ ambient-at recs a i
+  ambient-apart g h p d = ambient-by g h (sym d ∙ p)
+
+  pub ambient-is : 1 ≤ y → y < 3 → {b : Bool} → b ≡ takes-part recs (ask-of recs a) i → b ≡ true → i + 1 ≡ ambient-at recs a i
+  ambient-is g h p d = ambient-by g h (sym d ∙ p)
 
 -- ---- a root of one of the queries
 
@@ -178,8 +180,8 @@ reached-same names v w r h same =
     go t h = rw (same (reached-column + (t - 1)) (omega arith))
 
 -- an ambient is picked by its own number
-pub ambient-small : (recs : List ℕ) (i : ℕ) {t : ℕ} → t ≡ ambient-at recs i → t ≤ i + 1
+pub ambient-small : (recs : List ℕ) (a : Asked) (i : ℕ) {t : ℕ} → t ≡ ambient-at recs a i → t ≤ i + 1
 unfolding ambient-at
-ambient-small recs i {t} e =
-    rw e (cond-case (λ x. x ≤ i + 1) (eqb (record-kind recs i) assume-kind)
-    (cond-case (λ x. x ≤ i + 1) (is-ambient (kind-of-code (summary-code recs i))) (omega arith) (omega arith)) (omega arith))
+ambient-small recs a i {t} e =
+    rw e (cond-case (λ x. x ≤ i + 1) (is-ambient (kind-of-code (summary-code recs i)))
+    (cond-case (λ x. x ≤ i + 1) (takes-part recs (ask-of recs a) i) (omega arith) (omega arith)) (omega arith))

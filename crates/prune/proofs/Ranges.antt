@@ -3,11 +3,11 @@ use Prim.Native.Nat.{ℕ, zero, suc, _+_, _≤_, _<_}
 use native.Mathlib.Omega.{arith}
 use mathlib.Core.Path.{_≡_, refl, sym, ap, ap₂, _∙_}
 use mathlib.Core.Logic.{⊎-elim}
-use mathlib.Core.Bool.{Bool, true, false, cond, _&&_}
+use mathlib.Core.Bool.{Bool, true, false, cond, _&&_, and-comm}
 use mathlib.Core.List.{List, [], _∷_, _++_, map, reverse, reverse-cons, reverse-append, append-nil, List·Memᴰ, List·Memᴰ·head, List·Memᴰ·tail, List·Memᴰ·not-nil, List·Memᴰ·cases-cons}
 use lib.Dec.{T, not-T}
 use Rattle.model.specs.Lists.{keep, collect}
-use Rattle.model.proofs.ListLaws.{cond-true, cond-false, keep-none, keep-append, collect-append}
+use Rattle.model.proofs.ListLaws.{cond-true, cond-false, keep-cong, keep-none, keep-append, collect-append}
 use Rattle.terms.proofs.Laws.{equal}
 use Rattle.scan.specs.Held.{upto}
 use Rattle.prune.specs.Listing.{from}
@@ -25,6 +25,11 @@ module _ {A : Type 0} where
           → keep p (cond b (x ∷ keep q l) (keep q l)) ≡ cond (b && p x) (x ∷ keep (λ x. q x && p x) l) (keep (λ x. q x && p x) l)
       go true h = ap (λ r. cond (p x) (x ∷ r) r) h
       go false h = h
+
+  -- in either order
+  pub keep-comm : (p q : A → Bool) (l : List A) → keep p (keep q l) ≡ keep q (keep p l)
+  keep-comm p q l =
+      keep-keep p q l ∙ keep-cong (λ x. q x && p x) (λ x. p x && q x) l (λ x m. and-comm (q x) (p x)) ∙ sym (keep-keep q p l)
 
   -- what is kept of a list turned round
   pub keep-reverse : (p : A → Bool) (l : List A) → keep p (reverse l) ≡ reverse (keep p l)

@@ -27,7 +27,7 @@ use Rattle.scan.specs.Steps.{is-reached}
 use Rattle.scan.proofs.Numbers.{set-intro, set-elim, upto-elim}
 use Rattle.prune.specs.Listing.{from, record-behind, taker, reached-at, kind-at, reached-records, fact-records, kept-items, stamp-records, kind-records, added-records, of-kind, group-records, groups-records, kept-records}
 use Rattle.prune.specs.Kept.{reached-of}
-use Rattle.prune.proofs.Members.{picked-elim, reached-small, added-small, ambients-small, goals-small}
+use Rattle.prune.proofs.Members.{one-elim, picked-elim, reached-small, added-small, ambients-small, goals-small}
 use Rattle.prune.proofs.Ranges.{keep-keep, keep-only, from-below}
 
 -- ---- a record listed by its number and one
@@ -182,6 +182,20 @@ module _ {file names recs lists : List ℕ} {k : Counts} (x : Filled file names 
           T-not (is-reached run i) u (rw (← q) v)))
           ∙ sym (one-zero _ (rw (T-false (is-reached run i) u))))
           (T-dec (is-reached run i)))
+
+  -- a record listed as reached is one of the table, and reached
+  pub reached-record : (run : List ℕ) (r : ℕ) → r < k .names → {i : ℕ} → List·Memᴰ i (record-behind (reached-at names run r))
+      → (i < k .records) × T (is-reached run i)
+  unfolding reached-at
+  reached-record run r h {i} m = go (taker names r) refl (one-elim _ m)
+    where
+      at-record : (j : ℕ) (b : Bool) → is-reached run j ≡ b → cond b (suc j) 0 ≡ suc i → taker names r ≡ suc j → (i < k .records) × T (is-reached run i)
+      at-record j true e q t = let w : i ≡ j = omega arith in (rw w (taker-low r j h t), rw w (true-T e))
+      at-record j false e q t = absurd (let none : ⊥ = omega arith in none)
+
+      go : (t : ℕ) → taker names r ≡ t → cond (eqb t 0) 0 (cond (is-reached run (t - 1)) t 0) ≡ suc i → (i < k .records) × T (is-reached run i)
+      go zero e q = absurd (let none : ⊥ = omega arith in none)
+      go (suc j) e q = let z : suc j - 1 ≡ j = omega arith in at-record j (is-reached run j) refl (rw (z, nonzero j) at q) e
 
   -- ---- all numbers listed are those of records
 

@@ -82,14 +82,14 @@ module _ (recs : List ℕ) (k : Counts) (a : Asked) {x : Bool} (e : x ≡ no-amb
   ambients-off w m t = rw (← e, t) (lists-none kept-column w m)
 
   -- without it they are those picked
-  ambients-on : x ≡ false → ambient-records recs k a ≡ picked (ambient-at recs) (upto (k .records))
+  ambients-on : x ≡ false → ambient-records recs k a ≡ picked (ambient-at recs a) (upto (k .records))
   unfolding ambient-records
   ambients-on t = rw (← e, t)
 
-  pub ambients-listed : {w v : List ℕ} {m to : ℕ} → x ≡ false → Kept-behind w m (picked (ambient-at recs) (upto (k .records))) v to
+  pub ambients-listed : {w v : List ℕ} {m to : ℕ} → x ≡ false → Kept-behind w m (picked (ambient-at recs a) (upto (k .records))) v to
       → Kept-behind w m (ambient-records recs k a) v to
   ambients-listed t l = rw (ambients-on t) l
 
   pub ambients-fit : (m : ℕ) → x ≡ false → m + length (ambient-records recs k a) ≤ most-records
-      → m + length (picked (ambient-at recs) (upto (k .records))) ≤ most-records
+      → m + length (picked (ambient-at recs a) (upto (k .records))) ≤ most-records
   ambients-fit m t f = rw (ambients-on t) at f

@@ -13,8 +13,8 @@ use Rattle.model.specs.declared.Asked.{Asked}
 use Rattle.model.specs.declared.Counts.{Counts}
 use Rattle.names.specs.Table.{name-of}
 use Rattle.words.specs.Slices.{Same-but}
-use Rattle.records.specs.Columns.{record-kind, record-name, assume-kind, ask-room}
-use Rattle.records.specs.States.{decls-of, roots-of, ask-of}
+use Rattle.records.specs.Columns.{record-name, ask-room}
+use Rattle.records.specs.States.{roots-of, background-of, takes-part, ask-of}
 use Rattle.macros.specs.Macros.{Filled}
 use Rattle.scan.specs.Held.{set-of}
 use Rattle.scan.specs.Steps.{is-reached, run-end}
@@ -28,7 +28,7 @@ reached-of file names recs run k = set-of (λ i. name-of file names (record-name
 unfoldable pub kept-of : List ℕ → List ℕ → List ℕ → List ℕ → List ℕ → Counts → Asked → List ℕ
 kept-of file names recs lists run k a =
     kept-followed (ask-of recs a)
-    (decls-of (name-of file names) recs lists (k .records))
+    (background-of (name-of file names) recs lists (ask-of recs a) (k .records))
     (roots-of (name-of file names) recs lists (k .records))
     (reached-of file names recs run k)
 
@@ -37,7 +37,7 @@ pub record Run-over (file names recs lists run : List ℕ) (k : Counts) (a : Ask
   pub filled : Filled file names recs lists k
   pub room : working-words ≤ length run
   pub asked : a .end ≤ ask-room
-  pub only-facts : (i : ℕ) → i < k .records → T (is-reached run i) → record-kind recs i ≡ assume-kind
+  pub only-facts : (i : ℕ) → i < k .records → T (is-reached run i) → T (takes-part recs (ask-of recs a) i)
   pub fits : length (kept-of file names recs lists run k a) ≤ most-records
 
 -- the kept lines stand in the slice, so many; the columns of the run are as it left them

@@ -11,8 +11,8 @@ use Rattle.model.specs.Rounds.{is-ambient, asks-for}
 use Rattle.model.specs.declared.Asked.{Asked}
 use Rattle.model.specs.declared.Counts.{Counts}
 use Rattle.names.specs.Table.{ranked}
-use Rattle.records.specs.Columns.{record-kind, record-flag, summary-code, kind-of-code, assume-kind, fun-kind, def-kind, root-kind, taken-at}
-use Rattle.records.specs.States.{uses-at, ask-of}
+use Rattle.records.specs.Columns.{record-kind, record-flag, summary-code, kind-of-code, fun-kind, def-kind, root-kind, taken-at}
+use Rattle.records.specs.States.{uses-at, takes-part, ask-of}
 use Rattle.scan.specs.Held.{upto}
 use Rattle.scan.specs.Steps.{is-reached}
 
@@ -41,9 +41,9 @@ reached-at names run r = cond (eqb (taker names r) 0) 0 (cond (is-reached run (t
 unfoldable pub kind-at : List ℕ → List ℕ → ℕ → ℕ → ℕ
 kind-at names recs kind r = cond (eqb (taker names r) 0) 0 (cond (eqb (record-kind recs (taker names r - 1)) kind) (taker names r) 0)
 
--- the number of an ambient and one; or 0
-unfoldable pub ambient-at : List ℕ → ℕ → ℕ
-ambient-at recs i = cond (eqb (record-kind recs i) assume-kind) (cond (is-ambient (kind-of-code (summary-code recs i))) (i + 1) 0) 0
+-- the number of an ambient that the ask admits and one; or 0
+unfoldable pub ambient-at : List ℕ → Asked → ℕ → ℕ
+ambient-at recs a i = cond (is-ambient (kind-of-code (summary-code recs i))) (cond (takes-part recs (ask-of recs a) i) (i + 1) 0) 0
 
 -- whether a record is a root of one of the ask's queries
 unfoldable pub is-goal : List ℕ → Asked → ℕ → Bool
@@ -55,7 +55,7 @@ reached-records names run named = picked (reached-at names run) (from 0 named)
 
 -- the ambients, last filed first; none with option 1
 unfoldable pub ambient-records : List ℕ → Counts → Asked → List ℕ
-ambient-records recs k a = cond (no-ambients (ask-of recs a)) [] (picked (ambient-at recs) (upto (k .records)))
+ambient-records recs k a = cond (no-ambients (ask-of recs a)) [] (picked (ambient-at recs a) (upto (k .records)))
 
 -- the kept facts
 unfoldable pub fact-records : List ℕ → List ℕ → List ℕ → Counts → Asked → List ℕ

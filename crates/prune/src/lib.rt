@@ -79,14 +79,11 @@ fn list_reached(names: &[u32], run: &mut [u32], named: usize) -> usize
     to
 }
 
-// The number of an ambient and one; 0 for another record.
-fn ambient_at(recs: &[u32], i: usize) -> usize
+// The number of an ambient that the ask admits and one; 0 for another record.
+fn ambient_at(recs: &[u32], a: Asked, i: usize) -> usize
     requires { ⌜ (working-words ≤ length (now recs)) × (i < most-records) ⌝ }
-    ensures { λ t. ⌜ t ≡ ambient-at (now (recs .entry)) i ⌝ }
+    ensures { λ t. ⌜ t ≡ ambient-at (now (recs .entry)) a i ⌝ }
 {
-    if words::at(recs, records::KIND + i) != records::ASSUME {
-        return 0;
-    }
     let summary = words::at(recs, records::SUMMARY + i);
     if summary < records::AMBIENT {
         return 0;
@@ -94,10 +91,13 @@ fn ambient_at(recs: &[u32], i: usize) -> usize
     if records::TRIGGERS <= summary {
         return 0;
     }
+    if !records::takes_part(recs, a, i) {
+        return 0;
+    }
     i + 1
 }
 
-// Lists the ambients, last filed first; none with option 1.
+// Lists the ambients that the ask admits, last filed first; none with option 1.
 fn list_ambients(recs: &[u32], run: &mut [u32], k: Counts, a: Asked, m: usize) -> usize
     requires { ⌜ (working-words ≤ length (now recs)) × (working-words ≤ length (now run)) × (k .records ≤ most-records)
         × (m + length (ambient-records (now recs) k a) ≤ most-records) ⌝ }
@@ -111,7 +111,7 @@ fn list_ambients(recs: &[u32], run: &mut [u32], k: Counts, a: Asked, m: usize) -
     let mut i = k.records;
     while 0 < i {
         i -= 1;
-        let t = ambient_at(recs, i);
+        let t = ambient_at(recs, a, i);
         if t == 0 {
             continue;
         }

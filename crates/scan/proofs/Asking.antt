@@ -23,7 +23,7 @@ use Rattle.names.specs.Table.{name-of}
 use Rattle.terms.proofs.Laws.{equal}
 use Rattle.words.specs.Slices.{Same-but}
 use Rattle.records.specs.Columns.{record-kind, record-flag, summary-code, assume-kind, root-kind, kind-of-code, code-of}
-use Rattle.records.specs.States.{uses-at, free-at, fact-at, decls-of, roots-of, ask-of}
+use Rattle.records.specs.States.{uses-at, free-at, fact-at, roots-of, background-of, takes-part, ask-of}
 use Rattle.macros.specs.Macros.{Filled}
 use Rattle.scan.specs.Tables.{held-of}
 use Rattle.scan.specs.Steps.{Going, going, reached-column, work-column, run-end, is-met, is-reached, items, Ready, Rounds}
@@ -35,6 +35,7 @@ use Rattle.scan.proofs.Starting.{clear-length, clear-far, Pushed, pushe
 use Rattle.scan.proofs.Rounds.{At}
 use Rattle.scan.proofs.Running.{Over, rounds-over, rounds-same}
 use Rattle.scan.proofs.Timing.{met-round, reached-round}
+use Rattle.records.proofs.Taking.{part-kind}
 use Rattle.scan.proofs.Background.{facts-elim, facts-intro, root-of, roots-elim, roots-intro}
 use Rattle.scan.proofs.Joining.{laid, holds}
 
@@ -57,25 +58,28 @@ module _ (recs : List ℕ) (a : Asked) (i : ℕ) where
   unfolding starts-at
   root-starts e t = rw (eq-eqb (record-kind recs i) root-kind e) t
 
-  fact-starts : record-kind recs i ≡ assume-kind → T ambient → T (not (no-ambients (ask-of recs a))) → T (starts-at recs a i)
+  fact-starts : T (takes-part recs (ask-of recs a) i) → T ambient → T (not (no-ambients (ask-of recs a))) → T (starts-at recs a i)
   unfolding starts-at
-  fact-starts e f t = rw e (T-and ambient (not (no-ambients (ask-of recs a))) .1 (f, t))
+  fact-starts p f t =
+      rw (part-kind recs (ask-of recs a) i p)
+      (T-and ambient (takes-part recs (ask-of recs a) i && not (no-ambients (ask-of recs a))) .1
+      (f, T-and (takes-part recs (ask-of recs a) i) (not (no-ambients (ask-of recs a))) .1 (p, t)))
 
   starts-elim : T (starts-at recs a i)
       → ((record-kind recs i ≡ root-kind) × T (asks-for (ask-of recs a) (record-flag recs i)))
-      ⊎ ((record-kind recs i ≡ assume-kind) × T ambient × T (not (no-ambients (ask-of recs a))))
+      ⊎ (T (takes-part recs (ask-of recs a) i) × T ambient × T (not (no-ambients (ask-of recs a))))
   unfolding starts-at
   starts-elim t = go (equal (record-kind recs i) root-kind)
     where
       go : (record-kind recs i ≡ root-kind) ⊎ (record-kind recs i ≡ root-kind → ⊥)
           → ((record-kind recs i ≡ root-kind) × T (asks-for (ask-of recs a) (record-flag recs i)))
-          ⊎ ((record-kind recs i ≡ assume-kind) × T ambient × T (not (no-ambients (ask-of recs a))))
+          ⊎ (T (takes-part recs (ask-of recs a) i) × T ambient × T (not (no-ambients (ask-of recs a))))
       go (inl e) = inl (e, rw (eq-eqb (record-kind recs i) root-kind e) at t)
       go (inr e) =
-          let is-fact = eqb (record-kind recs i) assume-kind in
-          let (f, b) = T-and is-fact (ambient && not (no-ambients (ask-of recs a))) .0 (rw (ne-eqb (record-kind recs i) root-kind e) at t) in
-          let (c, d) = T-and ambient (not (no-ambients (ask-of recs a))) .0 b in
-          inr (eqb→eq (record-kind recs i) assume-kind f, c, d)
+          let part = takes-part recs (ask-of recs a) i in
+          let (c, b) = T-and ambient (part && not (no-ambients (ask-of recs a))) .0 (rw (ne-eqb (record-kind recs i) root-kind e) at t) in
+          let (p, d) = T-and part (not (no-ambients (ask-of recs a))) .0 b in
+          inr (p, c, d)
 
 -- ---- the names that round 1 scans
 
@@ -84,7 +88,7 @@ module _ {file names recs lists : List ℕ} {k : Counts} (x : Filled file names 
   name = name-of file names
 
   abbrev fs : List Fact
-  fs = facts (decls-of name recs lists (k .records))
+  fs = facts (background-of name recs lists (ask-of recs a) (k .records))
 
   abbrev roots : List Root
   roots = roots-of name recs lists (k .records)
@@ -130,8 +134,8 @@ module _ {file names recs lists : List ℕ} {k : Counts} (x : Filled file names 
       (λ p.
       let (f, u, v) = collect-elim (λ (f : Fact). f .free-names) (ambient-roots (ask-of recs a) fs) p in
       let (s, t, n) = ambient-in u in
-      let (i, l, c, e) = facts-elim name recs lists (k .records) s in
-      fact-in i f l (eqb→eq (record-kind recs i) assume-kind c) e t n v)
+      let (i, l, c, e) = facts-elim name recs lists (ask-of recs a) (k .records) s in
+      fact-in i f l c e t n v)
       (List·Memᴰ·append-cases (collect (λ (r : Root). r .free-names) (goal-roots (ask-of recs a) roots)) m)
     where
       root-in : (i : ℕ) (z : Root) → i < k .records → record-kind recs i ≡ root-kind → z ≡ root-of name recs lists i → T (asks-for (ask-of recs a) (z .query))
@@ -143,7 +147,7 @@ module _ {file names recs lists : List ℕ} {k : Counts} (x : Filled file names 
         free-in i (subst (λ (r : Root). List·Memᴰ y (r .free-names)) e v),
       )
 
-      fact-in : (i : ℕ) (f : Fact) → i < k .records → record-kind recs i ≡ assume-kind → f ≡ fact-at name recs lists i → T (is-ambient-root (f .kind))
+      fact-in : (i : ℕ) (f : Fact) → i < k .records → T (takes-part recs (ask-of recs a) i) → f ≡ fact-at name recs lists i → T (is-ambient-root (f .kind))
           → T (not (no-ambients (ask-of recs a))) → List·Memᴰ y (f .free-names) → Starts y
       fact-in i f l c e t n v =
           let w = subst (λ b. T b) (root-code (summary-code recs i)) (subst (λ (f : Fact). T (is-ambient-root (f .kind))) e t) in
@@ -161,7 +165,7 @@ module _ {file names recs lists : List ℕ} {k : Counts} (x : Filled file names 
       (free-out i m)))
       (λ (e, q, n). Memᴰ·append-right (collect (λ (r : Root). r .free-names) (goal-roots (ask-of recs a) roots))
       (collect-intro (λ (f : Fact). f .free-names)
-      (ambient-out (facts-intro name recs lists (k .records) i l (true-T (eq-eqb (record-kind recs i) assume-kind e)))
+      (ambient-out (facts-intro name recs lists (ask-of recs a) (k .records) i l e)
       (subst (λ b. T b) (sym (root-code (summary-code recs i))) q) n)
       (free-out i m)))
       (starts-elim recs a i t)
@@ -203,7 +207,7 @@ module _ {file names recs lists : List ℕ} {k : Counts} (x : Filled file names 
     module _ {s : Scan} {v : List ℕ} (rounds : Rounds (held-of names recs lists k a) g (going s v)) where
       over : Over (held-of names recs lists k a) name fs (tables-run file names recs lists k a) (going s v)
       unfolding tables-run
-      over = rounds-over (laid x .fits a) (holds x a) rounds first-ready first-at (run-ends (ask-of recs a) (decls-of name recs lists (k .records)) roots)
+      over = rounds-over (laid x .fits a) (holds x a) rounds first-ready first-at (run-ends (ask-of recs a) (background-of name recs lists (ask-of recs a) (k .records)) roots)
 
       -- only the columns of the run change
       same : Same-but 0 run-end w v
@@ -220,7 +224,7 @@ module _ {file names recs lists : List ℕ} {k : Counts} (x : Filled file names 
           → getD v (reached-column + i) 0 ≡ round-of (tables-history file names recs lists k a) (fact-at name recs lists i))
       unfolding tables-history round-met round-of held-of is-met is-reached
       times =
-          let follows = history-follows (ask-of recs a) (decls-of name recs lists (k .records)) roots in
+          let follows = history-follows (ask-of recs a) (background-of name recs lists (ask-of recs a) (k .records)) roots in
           let few = x .recorded .few in (
             λ n l t. met-round (laid x .fits a) (holds x a) rounds first-ready first-at follows refl n l
                 (let z = nltb→le 0 (getD (g .run) n 0) (first .none-met n l) in omega arith) t,
@@ -236,7 +240,7 @@ module _ {file names recs lists : List ℕ} {k : Counts} (x : Filled file names 
           record {
             met = λ n l. sym (o .met-is n l);
             reached = sym (o .reached-is);
-            only-facts = λ i l t. eqb→eq (record-kind recs i) assume-kind (o .only-facts i (omega arith) t .1);
+            only-facts = λ i l t. o .only-facts i (omega arith) t .1;
             met-round = times .0;
             reached-round = times .1;
             rounds = sym (o .rounds-are);

@@ -8,20 +8,22 @@ use mathlib.Core.List.{List, [], _∷_, _++_, append-nil, List·Memᴰ, List·Me
 use lib.ListN.{length, getD}
 use lib.Dec.{T, ltb, eqb}
 use borrow.Author.Tests.{ne-eqb, lt-ltb, ltb-true, ltb-false}
-use Rattle.model.specs.Lists.{count, collect, concat, part}
+use Rattle.model.specs.Lists.{keep, count, collect, concat, part}
 use Rattle.model.specs.Names.{Name}
 use Rattle.model.specs.Summaries.{entries, Fact}
-use Rattle.model.specs.Reading.{Decl, Root}
-use Rattle.model.specs.Rounds.{facts, definitions, listed, filed}
+use Rattle.model.specs.Reading.{Ask, Decl, Sum-assume, Root}
+use Rattle.model.specs.Rounds.{admits, is-admitted, background, facts, definitions, listed, filed}
 use Rattle.model.proofs.ListLaws.{count-append, collect-append}
 use Rattle.model.proofs.PartLaws.{part-nil, part-length}
+use Rattle.laws.proofs.BackgroundLaws.{background-append}
 use Rattle.laws.proofs.Records.{facts-append, definitions-append}
 use Rattle.terms.proofs.Laws.{equal}
 use Rattle.triggers.specs.Entries.{disjuncts-of, last-flag, no-name, entries-base}
-use Rattle.records.specs.Columns.{record-kind, record-line, record-name, record-flag, entries-start, entries-end, assume-kind, def-kind, root-kind, entry-name, entry-fact}
-use Rattle.records.specs.States.{entries-at, free-at, fact-at, decl-at, summary-at, root-at, decls-of, roots-of}
+use Rattle.records.specs.Columns.{record-kind, record-line, record-name, record-flag, record-group, entries-start, entries-end, assume-kind, def-kind, root-kind, entry-name, entry-fact}
+use Rattle.records.specs.States.{entries-at, free-at, fact-at, decl-at, summary-at, root-at, decls-of, roots-of, background-of, takes-part}
 use Rattle.records.specs.Filing.{Records, entries-before, Filing}
 use Rattle.scan.specs.Held.{upto}
+use Rattle.scan.proofs.Numbers.{count-none, range-agree}
 use Rattle.scan.proofs.Listing.{listed-count, places-count}
 
 -- ---- lists that each record adds to
@@ -57,10 +59,6 @@ module _ {A : Type 0} (list : ℕ → List A) (test : ℕ → Bool) (one : ℕ �
       (λ (e : i ≡ n → ⊥). Memᴰ·append-left (cond (test n) (one n ∷ []) []) (each-intro n i (omega arith) t))
       (equal i n))
 
--- whether a record is a fact
-abbrev pub is-fact : List ℕ → ℕ → Bool
-is-fact recs i = eqb (record-kind recs i) assume-kind
-
 -- whether it is a definition
 abbrev pub is-definition : List ℕ → ℕ → Bool
 is-definition recs i = eqb (record-kind recs i) def-kind
@@ -78,44 +76,55 @@ module _ (name : ℕ → Name) (recs lists : List ℕ) where
   root-of i =
       record { line = record-line recs i; query = record-flag recs i; name = name (record-name recs i); free-names = free-at name recs lists i }
 
-  -- ---- facts
+  -- ---- the facts that an ask admits
 
-  record-facts : (i kind : ℕ) → facts (summary-at name recs lists i kind) ≡ cond (eqb kind assume-kind) (fact-at name recs lists i ∷ []) []
-  unfolding summary-at facts
-  record-facts i zero = refl
-  record-facts i (suc zero) = refl
-  record-facts i (suc (suc zero)) = refl
-  record-facts i (suc (suc (suc zero))) = refl
-  record-facts i (suc (suc (suc (suc k)))) = rw (ne-eqb (suc (suc (suc (suc k)))) 0 (λ e. omega arith))
+  module _ (a : Ask) where
+    record-facts : (i kind : ℕ)
+        → facts (background a (summary-at name recs lists i kind))
+        ≡ cond (eqb kind assume-kind && admits a (record-group recs i)) (fact-at name recs lists i ∷ []) []
+    unfolding summary-at fact-at background is-admitted keep facts
+    record-facts i zero = go (admits a (record-group recs i))
+      where
+        go : (b : Bool) → facts (cond b (Sum-assume (fact-at name recs lists i) ∷ []) []) ≡ cond b (fact-at name recs lists i ∷ []) []
+        go true = refl
+        go false = refl
+    record-facts i (suc zero) = refl
+    record-facts i (suc (suc zero)) = refl
+    record-facts i (suc (suc (suc zero))) = refl
+    record-facts i (suc (suc (suc (suc k)))) = rw (ne-eqb (suc (suc (suc (suc k)))) 0 (λ e. omega arith))
 
-  pub next-facts : (n : ℕ) → facts (decls-of name recs lists (suc n)) ≡ facts (decls-of name recs lists n) ++ cond (is-fact recs n) (fact-at name recs lists n ∷ []) []
-  unfolding decls-of
-  next-facts n =
-      facts-append (decls-of name recs lists n) (summary-at name recs lists n (record-kind recs n))
-      ∙ ap (facts (decls-of name recs lists n) ++_) (record-facts n (record-kind recs n))
+    pub next-facts : (n : ℕ)
+        → facts (background-of name recs lists a (suc n))
+        ≡ facts (background-of name recs lists a n) ++ cond (takes-part recs a n) (fact-at name recs lists n ∷ []) []
+    unfolding decls-of takes-part
+    next-facts n =
+        ap facts (background-append a (decls-of name recs lists n) (summary-at name recs lists n (record-kind recs n)))
+        ∙ facts-append (background-of name recs lists a n) (background a (summary-at name recs lists n (record-kind recs n)))
+        ∙ ap (facts (background-of name recs lists a n) ++_) (record-facts n (record-kind recs n))
 
-  pub no-facts : facts (decls-of name recs lists 0) ≡ []
-  unfolding decls-of facts
-  no-facts = refl
+    pub no-facts : facts (background-of name recs lists a 0) ≡ []
+    unfolding decls-of background keep facts
+    no-facts = refl
 
-  pub facts-elim : (n : ℕ) {f : Fact} → List·Memᴰ f (facts (decls-of name recs lists n)) → (i : ℕ) × (i < n) × T (is-fact recs i) × (f ≡ fact-at name recs lists i)
-  facts-elim = each-elim (λ n. facts (decls-of name recs lists n)) (is-fact recs) (fact-at name recs lists) no-facts next-facts
+    pub facts-elim : (n : ℕ) {f : Fact} → List·Memᴰ f (facts (background-of name recs lists a n))
+        → (i : ℕ) × (i < n) × T (takes-part recs a i) × (f ≡ fact-at name recs lists i)
+    facts-elim = each-elim (λ n. facts (background-of name recs lists a n)) (takes-part recs a) (fact-at name recs lists) no-facts next-facts
 
-  pub facts-intro : (n i : ℕ) → i < n → T (is-fact recs i) → List·Memᴰ (fact-at name recs lists i) (facts (decls-of name recs lists n))
-  facts-intro = each-intro (λ n. facts (decls-of name recs lists n)) (is-fact recs) (fact-at name recs lists) no-facts next-facts
+    pub facts-intro : (n i : ℕ) → i < n → T (takes-part recs a i) → List·Memᴰ (fact-at name recs lists i) (facts (background-of name recs lists a n))
+    facts-intro = each-intro (λ n. facts (background-of name recs lists a n)) (takes-part recs a) (fact-at name recs lists) no-facts next-facts
 
-  next-filed : (n : ℕ)
-      → filed (facts (decls-of name recs lists (suc n)))
-      ≡ filed (facts (decls-of name recs lists n)) ++ cond (is-fact recs n) (concat (disjuncts-of name (entries-at recs lists n))) []
-  unfolding filed collect listed fact-at
-  next-filed n =
-      ap (collect listed) (next-facts n)
-      ∙ collect-append listed (facts (decls-of name recs lists n)) (cond (is-fact recs n) (fact-at name recs lists n ∷ []) [])
-      ∙ ap (collect listed (facts (decls-of name recs lists n)) ++_) (one (is-fact recs n))
-    where
-      one : (b : Bool) → collect listed (cond b (fact-at name recs lists n ∷ []) []) ≡ cond b (concat (disjuncts-of name (entries-at recs lists n))) []
-      one true = append-nil (concat (disjuncts-of name (entries-at recs lists n)))
-      one false = refl
+    next-filed : (n : ℕ)
+        → filed (facts (background-of name recs lists a (suc n)))
+        ≡ filed (facts (background-of name recs lists a n)) ++ cond (takes-part recs a n) (concat (disjuncts-of name (entries-at recs lists n))) []
+    unfolding filed collect listed fact-at
+    next-filed n =
+        ap (collect listed) (next-facts n)
+        ∙ collect-append listed (facts (background-of name recs lists a n)) (cond (takes-part recs a n) (fact-at name recs lists n ∷ []) [])
+        ∙ ap (collect listed (facts (background-of name recs lists a n)) ++_) (one (takes-part recs a n))
+      where
+        one : (b : Bool) → collect listed (cond b (fact-at name recs lists n ∷ []) []) ≡ cond b (concat (disjuncts-of name (entries-at recs lists n))) []
+        one true = append-nil (concat (disjuncts-of name (entries-at recs lists n)))
+        one false = refl
 
   -- ---- definitions
 
@@ -170,6 +179,27 @@ module _ (name : ℕ → Name) (recs lists : List ℕ) where
 
 -- ---- the entries of the records
 
+-- a count over the places up to b, where from a on one test is fixed
+range-count : (on : ℕ → Bool) (test : ℕ → Bool) (l : List ℕ) (base a d b : ℕ) (fixed : Bool) → a + d ≡ b → base + b ≤ length l
+    → ((i : ℕ) → a ≤ i → i < b → on i ≡ fixed)
+    → count (λ e. on e && test (getD l (base + e) 0)) (upto b)
+    ≡ count (λ e. on e && test (getD l (base + e) 0)) (upto a) + count test (cond fixed (part l (base + a) (base + b)) [])
+range-count on test l base a d b fixed e room same =
+    rw (← e) (go fixed (range-agree (λ i. on i && test (getD l (base + i) 0)) (λ i. fixed && test (getD l (base + i) 0)) a d
+    (λ i x y. ap (λ c. c && test (getD l (base + i) 0)) (same i x (omega arith)))))
+  where
+    go : (c : Bool)
+        → count (λ i. on i && test (getD l (base + i) 0)) (upto (a + d)) + count (λ i. c && test (getD l (base + i) 0)) (upto a)
+        ≡ count (λ i. on i && test (getD l (base + i) 0)) (upto a) + count (λ i. c && test (getD l (base + i) 0)) (upto (a + d))
+        → count (λ i. on i && test (getD l (base + i) 0)) (upto (a + d))
+        ≡ count (λ i. on i && test (getD l (base + i) 0)) (upto a) + count test (cond c (part l (base + a) (base + (a + d))) [])
+    go true w = let z = places-count test l base a d (omega arith) in omega arith
+    go false w =
+        unfold count in
+        (let x = count-none (λ i. false && test (getD l (base + i) 0)) (upto a) (λ i. tt) in
+        let y = count-none (λ i. false && test (getD l (base + i) 0)) (upto (a + d)) (λ i. tt) in
+        omega arith)
+
 module _ {name : ℕ → Name} {recs lists : List ℕ} {records total : ℕ} (g : Filing name recs lists records total) where
   -- an entry is in the part of a record
   owner : (n : ℕ) → n ≤ records → (e : ℕ) → e < entries-before recs n → (i : ℕ) × (i < n) × (entries-start recs i ≤ e) × (e < entries-end recs i)
@@ -200,38 +230,39 @@ module _ {name : ℕ → Name} {recs lists : List ℕ} {records total : ℕ} (g 
         (omega (arith, r .entries-in i h, r .few-entries, r .lists-room))
         ∙ omega (arith, g .sized i h)
 
-    -- the count over the filed names is that over the entries
-    pub upto-count : (p : Name → Bool) (n : ℕ) → n ≤ records
-        → count p (filed (facts (decls-of name recs lists n)))
-        ≡ count (λ e. ltb (entry-name lists e) no-name && p (name (entry-name lists e))) (upto (entries-before recs n))
-    unfolding decls-of facts filed collect count entries-before upto
-    upto-count p zero h = refl
-    upto-count p (suc n) h =
-        let s = g .starts n (omega arith) in
-        let z = g .sized n (omega arith) in
+    -- the count over the filed names of an ask is that over the entries of the facts that it admits
+    pub upto-count : (a : Ask) (p : Name → Bool) (n : ℕ) → n ≤ records
+        → count p (filed (facts (background-of name recs lists a n)))
+        ≡ count (λ e. takes-part recs a (entry-fact lists e) && (ltb (entry-name lists e) no-name && p (name (entry-name lists e)))) (upto (entries-before recs n))
+    unfolding decls-of background keep facts filed collect count entries-before upto
+    upto-count a p zero h = refl
+    upto-count a p (suc n) h =
         let end = entries-end recs n in
-        ap (count p) (next-filed name recs lists n)
-        ∙ count-append p (filed (facts (decls-of name recs lists n))) _
-        ∙ ap₂ _+_ (upto-count p n (omega arith)) (one (equal (record-kind recs n) assume-kind))
-        ∙ sym (joined (entries-before recs n) (end - entries-before recs n) end (omega arith)
-        (omega (arith, r .entries-in n (omega arith), r .few-entries, r .lists-room)))
+        ap (count p) (next-filed name recs lists a n)
+        ∙ count-append p (filed (facts (background-of name recs lists a n))) _
+        ∙ ap₂ _+_ (upto-count a p n (omega arith)) (one (takes-part recs a n) refl)
+        ∙ sym (joined (takes-part recs a n) refl)
       where
         test : ℕ → Bool
         test w = ltb (w % last-flag) no-name && p (name (w % last-flag))
 
-        joined : (a d b : ℕ) → a + d ≡ b → entries-base + b ≤ length lists
-            → count (λ e. test (getD lists (entries-base + e) 0)) (upto b)
-            ≡ count (λ e. test (getD lists (entries-base + e) 0)) (upto a) + count test (part lists (entries-base + a) (entries-base + b))
-        joined a d b e k = rw (← e) (places-count test lists entries-base a d (omega arith))
+        -- the entries of the record
+        here : (b : Bool) → List ℕ
+        here b = cond b (part lists (entries-base + entries-before recs n) (entries-base + entries-end recs n)) []
 
-        one : (record-kind recs n ≡ assume-kind) ⊎ (record-kind recs n ≡ assume-kind → ⊥)
-            → count p (cond (eqb (record-kind recs n) assume-kind) (concat (disjuncts-of name (entries-at recs lists n))) [])
-            ≡ count test (part lists (entries-base + entries-before recs n) (entries-base + entries-end recs n))
-        one (inl e) = rw (e, ← (g .starts n (omega arith))) (listed-count p name (entries-at recs lists n) (full n (omega arith)))
-        one (inr e) =
-            rw (
-              ne-eqb (record-kind recs n) assume-kind e,
-              g .only-facts n (omega arith) e,
-              ← (g .starts n (omega arith)),
-              part-nil lists (entries-base + entries-start recs n) (entries-base + entries-start recs n) (omega arith),
-            )
+        -- those of the records up to it
+        joined : (b : Bool) → takes-part recs a n ≡ b
+            → count (λ e. takes-part recs a (entry-fact lists e) && test (getD lists (entries-base + e) 0)) (upto (entries-end recs n))
+            ≡ count (λ e. takes-part recs a (entry-fact lists e) && test (getD lists (entries-base + e) 0)) (upto (entries-before recs n)) + count test (here b)
+        joined b e =
+            let s = g .starts n (omega arith) in
+            let z = g .sized n (omega arith) in
+            range-count (λ e. takes-part recs a (entry-fact lists e)) test lists entries-base (entries-before recs n)
+            (entries-end recs n - entries-before recs n) (entries-end recs n) b (omega arith)
+            (omega (arith, r .entries-in n (omega arith), r .few-entries, r .lists-room))
+            (λ i l m. rw (g .facts n i (omega arith) (omega arith) m) e)
+
+        one : (b : Bool) → takes-part recs a n ≡ b
+            → count p (cond b (concat (disjuncts-of name (entries-at recs lists n))) []) ≡ count test (here b)
+        one true e = rw (← (g .starts n (omega arith))) (listed-count p name (entries-at recs lists n) (full n (omega arith)))
+        one false e = refl

@@ -3,7 +3,7 @@ use Prim.Native.Nat.{ℕ, _+_, _-_, _*_, _≤_, _<_}
 use native.Mathlib.Omega.{arith}
 use native.Mathlib.Numerals.{add-one}
 use mathlib.Core.Path.{_≡_, refl, sym, _∙_, ap, subst}
-use mathlib.Core.Bool.{_&&_}
+use mathlib.Core.Bool.{Bool, true, false, _&&_}
 use mathlib.Core.List.{List, [], _∷_, append-nil}
 use lib.Dec.{eqb, ltb}
 use lib.ListN.{length, getD}
@@ -13,14 +13,16 @@ use Rattle.model.specs.Reading.{most-names, most-entries}
 use Rattle.model.specs.declared.Asked.{Asked}
 use Rattle.model.specs.declared.Counts.{Counts}
 use Rattle.model.proofs.ListLaws.{fold-left-append}
-use Rattle.records.specs.Columns.{entry-name, next-entry, first-entry}
+use Rattle.records.specs.Columns.{entry-name, entry-fact, next-entry, first-entry}
+use Rattle.records.specs.States.{takes-part, ask-of}
 use Rattle.records.specs.Filing.{newest}
 use Rattle.records.proofs.Chaining.{newest-low}
 use Rattle.scan.specs.Held.{Held, upto, waiting}
-use Rattle.scan.specs.Tables.{held-of, Laid}
+use Rattle.scan.specs.Tables.{waits-on, held-of, Laid}
 use Rattle.scan.specs.Steps.{Going, visit, visits-of, visited, visit-phase, Room, Steady}
 use Rattle.scan.proofs.Numbers.{count-upto}
-use Rattle.scan.proofs.Visited.{newest-waiting, newest-name, waiting-first, visited-elim, visited-length}
+use Rattle.scan.proofs.Visited.{newest-value, newest-waiting, waiting-first, waiting-skip, visited-elim, visited-length}
+use Rattle.scan.proofs.Waiting.{owner-part, waits-is, waits-not, waits-part}
 use Rattle.scan.proofs.Visits.{Fired, room-then, visit-fired, visits-fired}
 
 -- ---- the chain of a name
@@ -41,19 +43,23 @@ module _ {names recs lists : List ℕ} {k : Counts} (laid : Laid names recs list
   abbrev h : Held
   h = held-of names recs lists k a
 
+  -- an entry that waits on a name is on it
+  waits-there : (n : ℕ) → n < most-names → (d : ℕ) → waits-on recs lists a d ≡ n → entry-name lists d ≡ n
+  waits-there n l d e = waits-part recs lists a d (omega arith) .1 ∙ e
+
   pub chain-start : (g : Going) (n p : ℕ) → Steady g → n < k .names → p ≡ first-entry names n → Visited-to names recs lists k a g n g p
   unfolding held-of
   chain-start g n p steady l e =
       let q : p ≡ newest (entry-name lists) n (k .entries) = e ∙ laid .first n l in
       let le = newest-low (entry-name lists) n (k .entries) in
       record {
-        left = ap (visits-of h g) (newest-waiting h n (k .entries) ∙ ap (waiting h n) (sym q));
+        left = ap (visits-of h g) (newest-waiting h n (entry-name lists) (waits-there n (let f = laid .few-names in omega arith)) (k .entries) ∙ ap (waiting h n) (sym q));
         rounds-same = refl;
         same-length = refl;
         room = steady .room;
         small = omega arith;
         name-low = let f = laid .few-names in omega arith;
-        on-name = λ z. subst (λ x. entry-name lists (x - 1) ≡ n) (sym q) (newest-name h n (k .entries) (omega arith));
+        on-name = λ z. subst (λ x. entry-name lists (x - 1) ≡ n) (sym q) (newest-value (entry-name lists) n (k .entries) (omega arith));
         visits = omega arith;
       }
 
@@ -79,10 +85,12 @@ module _ {names recs lists : List ℕ} {k : Counts} (laid : Laid names recs list
     unfolding held-of
     chain-less {q} l e = let m = next-is l e in let le = newest-low (entry-name lists) n (p - 1) in omega arith
 
-    pub chain-next : {v : Going} {q : ℕ} → 0 < p → v ≡ visit (held-of names recs lists k a) g (p - 1) → q ≡ next-entry lists (p - 1)
+    -- an entry of a fact that takes part is visited
+    pub chain-next : {v : Going} {q i : ℕ} {b : Bool} → 0 < p → q ≡ next-entry lists (p - 1) → i ≡ entry-fact lists (p - 1)
+        → b ≡ takes-part recs (ask-of recs a) i → b ≡ true → v ≡ visit (held-of names recs lists k a) g (p - 1)
         → Visited-to names recs lists k a g₀ n v q
     unfolding held-of visits-of fold-left
-    chain-next {v} {q} l goes e =
+    chain-next {v} {q} l e owner part does goes =
         let small = c .small in
         let on = c .on-name l in
         let started = steady .started in
@@ -95,14 +103,40 @@ module _ {names recs lists : List ℕ} {k : Counts} (laid : Laid names recs list
         let vis = c .visits in
         record {
           left = c .left
-              ∙ ap (visits-of h g) (waiting-first h n p l on ∙ ap (λ es. (p - 1) ∷ es) (newest-waiting h n (p - 1) ∙ ap (waiting h n) (sym m)))
+              ∙ ap (visits-of h g) (waiting-first h n p l (waits-is recs lists a (p - 1) (owner-part recs lists a (p - 1) owner part does) ∙ on)
+              ∙ ap (λ es. (p - 1) ∷ es) (newest-waiting h n (entry-name lists) (waits-there n (c .name-low)) (p - 1) ∙ ap (waiting h n) (sym m)))
               ∙ ap (λ x. visits-of h x (waiting h n q)) (sym goes);
           rounds-same = f .rounds-same ∙ same;
           same-length = f .same-length ∙ c .same-length;
           room = room-then (c .room) f;
           small = omega arith;
           name-low = c .name-low;
-          on-name = λ z. subst (λ x. entry-name lists (x - 1) ≡ n) (sym m) (newest-name h n (p - 1) (omega arith));
+          on-name = λ z. subst (λ x. entry-name lists (x - 1) ≡ n) (sym m) (newest-value (entry-name lists) n (p - 1) (omega arith));
+          visits = omega arith;
+        }
+
+    -- one of another fact is passed over
+    pub chain-skip : {q i : ℕ} {b : Bool} → 0 < p → q ≡ next-entry lists (p - 1) → i ≡ entry-fact lists (p - 1)
+        → b ≡ takes-part recs (ask-of recs a) i → b ≡ false → Visited-to names recs lists k a g₀ n g q
+    unfolding held-of
+    chain-skip {q} l e owner part does-not =
+        let small = c .small in
+        let m : q ≡ newest (entry-name lists) n (p - 1) = next-is l e in
+        let le = newest-low (entry-name lists) n (p - 1) in
+        let vis = c .visits in
+        let low = c .name-low in
+        let none = waits-not recs lists a (p - 1) (owner-part recs lists a (p - 1) owner part does-not) in
+        record {
+          left = c .left
+              ∙ ap (visits-of h g) (waiting-skip h n p l (λ z. omega (arith, none))
+              ∙ newest-waiting h n (entry-name lists) (waits-there n low) (p - 1)
+              ∙ ap (waiting h n) (sym m));
+          rounds-same = c .rounds-same;
+          same-length = c .same-length;
+          room = c .room;
+          small = omega arith;
+          name-low = low;
+          on-name = λ z. subst (λ x. entry-name lists (x - 1) ≡ n) (sym m) (newest-value (entry-name lists) n (p - 1) (omega arith));
           visits = omega arith;
         }
 
@@ -138,7 +172,7 @@ module _ {names recs lists : List ℕ} {k : Counts} (laid : Laid names recs list
     sweep-visits =
         let f = sweep-fired .visits-up in
         let l = visited-length t (g₀ .scan .rounds) (g₀ .run) n in
-        let m = count-upto (λ e. ltb (entry-name lists e) n && eqb (getD (g₀ .run) (entry-name lists e) 0) (g₀ .scan .rounds)) (k .entries) in
+        let m = count-upto (λ e. ltb (waits-on recs lists a e) n && eqb (getD (g₀ .run) (waits-on recs lists a e) 0) (g₀ .scan .rounds)) (k .entries) in
         let few = laid .few-entries in
         omega arith
 

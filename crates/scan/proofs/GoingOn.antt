@@ -34,7 +34,7 @@ pub record Rested (h : Held) (lines : ℕ) (g : Going) : Type 0 where
   pub few-rounds : g .scan .rounds + unmet (h .named) (g .run) ≤ most-names + lines
   pub low : (n : ℕ) → n < h .named → getD (g .run) n 0 ≤ g .scan .rounds
   pub visits-are : g .scan .visits ≡ count (λ e. ltb (h .entry-name e) (h .named) && is-met (g .run) (h .entry-name e)) (upto (h .entries))
-  pub only-facts : (i : ℕ) → i < most-records → T (is-reached (g .run) i) → (i < h .records) × T (h .is-fact i)
+  pub only-facts : (i : ℕ) → i < most-records → T (is-reached (g .run) i) → (i < h .records) × T (h .takes-part i)
 
 module _ {h : Held} (fits : Fits h) where
   -- a round leaves no more names unmet

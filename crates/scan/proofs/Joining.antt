@@ -2,30 +2,33 @@
 use Prim.Native.Nat.{ℕ, _+_, _-_, _%_, _≤_, _<_}
 use native.Mathlib.Omega.{arith}
 use mathlib.Core.Path.{_≡_, refl, sym, ap, _∙_, subst}
-use mathlib.Core.Bool.{Bool, _&&_}
+use mathlib.Core.Bool.{Bool, true, false, cond, _&&_}
 use mathlib.Core.Logic.{_⊎_, inl, inr, ⊎-elim}
 use mathlib.Core.List.{List, List·Memᴰ}
 use lib.ListN.{length, getD}
 use lib.Seq.{getD-take, getD-drop}
-use lib.Dec.{ltb, eqb→eq}
-use borrow.Author.Tests.{eq-eqb, lt-ltb, le-ltb}
+use lib.Dec.{T, ltb}
+use borrow.Author.Tests.{lt-ltb, le-ltb}
 use Rattle.model.specs.Lists.{count}
 use Rattle.model.specs.Names.{Name}
 use Rattle.model.specs.Rounds.{facts, macros, listed, filed, retainable}
 use Rattle.model.specs.declared.Asked.{Asked}
 use Rattle.model.specs.declared.Counts.{Counts}
-use Rattle.model.proofs.ListLaws.{true-T, count-cong}
+use Rattle.model.proofs.ListLaws.{T-true, count-cong}
 use Rattle.model.proofs.PartLaws.{part-elim, part-intro, part-length}
+use Rattle.laws.proofs.BackgroundLaws.{background-macros}
 use Rattle.names.specs.Table.{name-of}
 use Rattle.names.proofs.Laws.{distinct}
 use Rattle.triggers.specs.Entries.{Entries, disjuncts-of, last-flag, no-name, entries-base}
-use Rattle.records.specs.Columns.{record-kind, uses-end, entries-start, entries-end, assume-kind, entry-word, entry-name, entry-fact, taken-at, macro-at}
-use Rattle.records.specs.States.{uses-at, entries-at, free-at, fact-at, decls-of, ask-of}
+use Rattle.records.specs.Columns.{uses-end, entries-start, entries-end, entry-word, entry-name, entry-fact, taken-at, macro-at}
+use Rattle.records.specs.States.{uses-at, entries-at, free-at, fact-at, decls-of, background-of, takes-part, ask-of}
 use Rattle.records.specs.Filing.{Records, Filing}
 use Rattle.macros.specs.Macros.{opened-word, Filled}
 use Rattle.scan.specs.Held.{Fits, Holds, upto}
-use Rattle.scan.specs.Tables.{retained, held-of, Laid}
+use Rattle.scan.specs.Tables.{retained, waits-on, held-of, Laid}
 use Rattle.scan.proofs.Numbers.{upto-elim}
+use Rattle.records.proofs.Taking.{part-kind}
+use Rattle.scan.proofs.Waiting.{waits-is, waits-part}
 use Rattle.scan.proofs.Listing.{word-listed, listed-word, numbers-elim}
 use Rattle.scan.proofs.Background.{facts-elim, facts-intro, entry-owner, upto-count}
 use Rattle.scan.proofs.Opening.{opens-elim, macro-range, macro-exact}
@@ -103,8 +106,8 @@ module _ {file names recs lists : List ℕ} {k : Counts} (x : Filled file names 
         let (w, a, b, c) = numbers-elim (entries-at recs lists i) p q in
         ⊎-elim (λ (y : w % last-flag < k .names). omega arith) (λ (y : w % last-flag ≡ no-name). absurd (omega arith)) (row-entries i h .small w a);
     fact-small = λ e h. entry-owner g e h .0;
-    fact-is = λ e h. true-T (eq-eqb (record-kind recs (entry-fact lists e)) assume-kind (entry-owner g e h .1));
-    row-small = λ i h q. r .named-in i h (λ z. omega (arith, eqb→eq (record-kind recs i) assume-kind q));
+    fact-is = λ e h l. waits-part recs lists a e (omega (arith, x .table .few)) .0;
+    row-small = λ i h q. r .named-in i h (λ z. omega (arith, part-kind recs (ask-of recs a) i q));
   }
 
   pub laid : Laid names recs lists k
@@ -139,14 +142,23 @@ module _ {file names recs lists : List ℕ} {k : Counts} (x : Filled file names 
       le-ltb (entry-name lists e) no-name (omega arith) ∙ sym (le-ltb (entry-name lists e) (k .names) (omega (arith, x .table .few))))
       (r .entry-words e h)
 
-  -- the filed names of which a test holds, counted by entry
-  pub count-is : (p : Name → Bool)
-      → count p (filed (facts (decls-of name recs lists (k .records))))
-      ≡ count (λ e. ltb (entry-name lists e) (k .names) && p (name (entry-name lists e))) (upto (k .entries))
-  count-is p =
-      upto-count g r p (k .records) (omega arith)
+  -- the filed names of the facts that an ask admits of which a test holds, counted by entry
+  pub count-is : (a : Asked) (p : Name → Bool)
+      → count p (filed (facts (background-of name recs lists (ask-of recs a) (k .records))))
+      ≡ count (λ e. ltb (waits-on recs lists a e) (k .names) && p (name (waits-on recs lists a e))) (upto (k .entries))
+  unfolding waits-on
+  count-is a p =
+      upto-count g r (ask-of recs a) p (k .records) (omega arith)
       ∙ rw (g .whole)
-      (count-cong _ _ (upto (k .entries)) (λ e i. ap (λ b. b && p (name (entry-name lists e))) (word-small e (upto-elim (k .entries) i))))
+      (count-cong _ _ (upto (k .entries))
+      (λ e i. ap (λ b. takes-part recs (ask-of recs a) (entry-fact lists e) && (b && p (name (entry-name lists e)))) (word-small e (upto-elim (k .entries) i))
+      ∙ go e (takes-part recs (ask-of recs a) (entry-fact lists e))))
+    where
+      go : (e : ℕ) (b : Bool)
+          → (b && (ltb (entry-name lists e) (k .names) && p (name (entry-name lists e))))
+          ≡ (ltb (cond b (entry-name lists e) no-name) (k .names) && p (name (cond b (entry-name lists e) no-name)))
+      go e true = refl
+      go e false = rw (le-ltb no-name (k .names) (omega (arith, x .table .few)))
 
   listed-at : (e : ℕ) → e < k .entries → entry-name lists e < k .names
       → List·Memᴰ (name (entry-name lists e)) (listed (fact-at name recs lists (entry-fact lists e)))
@@ -167,24 +179,40 @@ module _ {file names recs lists : List ℕ} {k : Counts} (x : Filled file names 
       let v : entry-name lists e ≡ w % last-flag = ap (λ o. o % last-flag) s in
       (e, m, g .facts i e h lo hi, ⊎-elim (λ o. o) (λ o. absurd (omega arith)) (r .entry-words e m), c ∙ ap name (sym v))
 
-  pub holds : (a : Asked) → Holds (held-of names recs lists k a) (name-of file names) (ask-of recs a) (macros (decls-of (name-of file names) recs lists (k .records)))
-      (facts (decls-of (name-of file names) recs lists (k .records))) (fact-at (name-of file names) recs lists)
+  -- an entry that waits on a name is listed by its fact
+  waits-listed : (a : Asked) (e : ℕ) → e < k .entries → waits-on recs lists a e < k .names
+      → List·Memᴰ (name (waits-on recs lists a e)) (listed (fact-at name recs lists (entry-fact lists e)))
+  waits-listed a e h l =
+      let (t, is) = waits-part recs lists a e (omega (arith, x .table .few)) in
+      subst (λ n. List·Memᴰ (name n) (listed (fact-at name recs lists (entry-fact lists e)))) is (listed-at e h (omega arith))
+
+  -- a listed name of a fact that takes part is that of an entry that waits on it
+  listed-waits : (a : Asked) (i : ℕ) (y : Name) → i < k .records → T (takes-part recs (ask-of recs a) i) → List·Memᴰ y (listed (fact-at name recs lists i))
+      → (e : ℕ) × (e < k .entries) × (entry-fact lists e ≡ i) × (waits-on recs lists a e < k .names) × (y ≡ name (waits-on recs lists a e))
+  listed-waits a i y h t q =
+      let (e, m, s, l, c) = at-listed i y h q in
+      let is = waits-is recs lists a e (rw s (T-true (takes-part recs (ask-of recs a) i) t)) in
+      (e, m, s, omega arith, c ∙ ap name (sym is))
+
+  pub holds : (a : Asked) → Holds (held-of names recs lists k a) (name-of file names) (ask-of recs a)
+      (macros (background-of (name-of file names) recs lists (ask-of recs a) (k .records)))
+      (facts (background-of (name-of file names) recs lists (ask-of recs a) (k .records))) (fact-at (name-of file names) recs lists)
   unfolding held-of retained retainable fact-at free-at disjuncts-of
   holds a = record {
     injective = distinct (x .table);
     rows-apart = λ i j h l u v e.
-        let a = x .stocked .taken .took i h (omega (arith, eqb→eq (record-kind recs i) assume-kind u)) in
-        let b = x .stocked .taken .took j l (omega (arith, eqb→eq (record-kind recs j) assume-kind v)) in
+        let p = x .stocked .taken .took i h (omega (arith, part-kind recs (ask-of recs a) i u)) in
+        let q = x .stocked .taken .took j l (omega (arith, part-kind recs (ask-of recs a) j v)) in
         let c = ap (taken-at names) e in
         omega arith;
-    fact-in = λ i h u. facts-intro name recs lists (k .records) i h u;
-    fact-of = λ f u. facts-elim name recs lists (k .records) u;
+    fact-in = λ i h u. facts-intro name recs lists (ask-of recs a) (k .records) i h u;
+    fact-of = λ f u. facts-elim name recs lists (ask-of recs a) (k .records) u;
     fact-name = λ i h u. refl;
     fact-retained = λ i h u. refl;
     fact-frees = λ i h u. refl;
     fact-disjuncts = λ i h u. refl;
-    entry-listed = listed-at;
-    listed-entry = λ i y h u q. at-listed i y h q;
-    filed-count = count-is;
-    macro = λ n j h l. rw (x .macros n h) (macro-exact (x .table) r (x .stocked .taken) n j h l);
+    entry-listed = waits-listed a;
+    listed-entry = λ i y h u q. listed-waits a i y h u q;
+    filed-count = count-is a;
+    macro = λ n j h l. rw (background-macros (ask-of recs a) (decls-of name recs lists (k .records)), x .macros n h) (macro-exact (x .table) r (x .stocked .taken) n j h l);
   }

@@ -1,5 +1,6 @@
 pub mod Numbers
 pub mod Marks
+pub mod Waiting
 pub mod Visited
 pub mod Visits
 pub mod Firing

@@ -45,7 +45,7 @@ module _ {h : Held} {name : ℕ → Name} {a : Ask} {ms : Map (List Name)} {fs :
       rw (← e, agrees n (small n i)) (all-elim (is-met w) t i)))
 
   -- a fact has a disjunct within them where its record fires
-  pub fires-at : (w : List ℕ) (met : List Name) → Agrees h name w met → (i : ℕ) → i < h .records → T (h .is-fact i)
+  pub fires-at : (w : List ℕ) (met : List Name) → Agrees h name w met → (i : ℕ) → i < h .records → T (h .takes-part i)
       → any (lies-within met) (fact i .triggers) ≡ fires-on h (is-met w) i
   unfolding fires-on
   fires-at w met agrees i l t =

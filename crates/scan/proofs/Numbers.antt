@@ -64,6 +64,21 @@ count-upto p (suc n) = go (p n) (count-upto p n)
     go true l = omega arith
     go false l = omega arith
 
+-- tests that agree from a on count alike there
+pub range-agree : (p q : ℕ → Bool) (a d : ℕ) → ((i : ℕ) → a ≤ i → i < a + d → p i ≡ q i)
+    → count p (upto (a + d)) + count q (upto a) ≡ count p (upto a) + count q (upto (a + d))
+unfolding count upto
+range-agree p q a zero same = let e : a + 0 ≡ a = omega arith in rw e
+range-agree p q a (suc d) same =
+    let e : a + suc d ≡ suc (a + d) = omega arith in
+    rw (e, same (a + d) (omega arith) (omega arith)) (go (q (a + d)) (range-agree p q a d (λ i l m. same i l (omega arith))))
+  where
+    go : (b : Bool) → count p (upto (a + d)) + count q (upto a) ≡ count p (upto a) + count q (upto (a + d))
+        → cond b (1 + count p (upto (a + d))) (count p (upto (a + d))) + count q (upto a)
+        ≡ count p (upto a) + cond b (1 + count q (upto (a + d))) (count q (upto (a + d)))
+    go true h = omega arith
+    go false h = h
+
 pub count-none : (test : ℕ → Bool) (l : List ℕ) → ((i : ℕ) → T (not (test i))) → count test l ≡ 0
 count-none test l h = count-keep test l ∙ ap length (keep-none test l (λ i m. h i))
 

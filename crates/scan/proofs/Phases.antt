@@ -11,9 +11,8 @@ use Rattle.model.specs.Reading.{most-names, most-entries}
 use Rattle.model.specs.declared.Asked.{Asked}
 use Rattle.model.specs.declared.Counts.{Counts}
 use Rattle.model.proofs.PartLaws.{part-cons, part-nil, part-intro}
-use Rattle.records.specs.Columns.{entry-name}
 use Rattle.scan.specs.Held.{Held}
-use Rattle.scan.specs.Tables.{held-of, record-meets, Laid}
+use Rattle.scan.specs.Tables.{waits-on, held-of, record-meets, Laid}
 use Rattle.scan.specs.Steps.{Going, going, work-column, is-met, marks, scanned-by, items, met-phase, visit-phase, round, Rounds, last, more, Steady, Ready, unmet}
 use Rattle.scan.specs.declared.Scan.{Scan}
 use Rattle.scan.proofs.Numbers.{count-upto}
@@ -99,7 +98,7 @@ module _ {names recs lists : List ℕ} {k : Counts} (laid : Laid names recs list
   unfolding held-of
   few-visits =
       let v = ready .visits-are in
-      let m = count-upto (λ e. ltb (entry-name lists e) (k .names) && is-met (g .run) (entry-name lists e)) (k .entries) in
+      let m = count-upto (λ e. ltb (waits-on recs lists a e) (k .names) && is-met (g .run) (waits-on recs lists a e)) (k .entries) in
       let f = laid .few-entries in
       omega arith
 

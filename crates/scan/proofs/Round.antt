@@ -81,9 +81,9 @@ module _ (h : Held) (fits : Fits h) (g : Going) (ready : Ready h g) where
   few l = let x = fits .few-records in omega arith
 
   -- the fact of a visited entry
-  pub small-fact : (e : ℕ) → List·Memᴰ e (visited-then h g) → (h .entry-fact e < h .records) × T (h .is-fact (h .entry-fact e))
+  pub small-fact : (e : ℕ) → List·Memᴰ e (visited-then h g) → (h .entry-fact e < h .records) × T (h .takes-part (h .entry-fact e))
   unfolding visited-then
-  small-fact e m = let (s, b, c) = visited-elim h (round-of g) (met-then h g) (h .named) m in (fits .fact-small e s, fits .fact-is e s)
+  small-fact e m = let (s, b, c) = visited-elim h (round-of g) (met-then h g) (h .named) m in (fits .fact-small e s, fits .fact-is e s b)
 
   pub then-room : Room (round h g)
   then-room = room-then met-room fired
@@ -211,11 +211,11 @@ module _ (h : Held) (fits : Fits h) (g : Going) (ready : Ready h g) where
   unfolding met-phase
   then-ends = let x = fired .to-le in let y = fired .from-same in omega arith
 
-  pub then-facts : (i : ℕ) → i < most-records → T (is-reached (round h g .run) i) → (i < h .records) × T (h .is-fact i)
+  pub then-facts : (i : ℕ) → i < most-records → T (is-reached (round h g .run) i) → (i < h .records) × T (h .takes-part i)
   unfolding met-phase met-then
   then-facts i l t =
       ⊎-elim (λ u. ready .only-facts i l (rw (high-reached i) at u))
-      (λ (e, n, s, f, b). let (x, y) = small-fact e n in (subst (λ z. z < h .records) s x, subst (λ z. T (h .is-fact z)) s y))
+      (λ (e, n, s, f, b). let (x, y) = small-fact e n in (subst (λ z. z < h .records) s x, subst (λ z. T (h .takes-part z)) s y))
       (fired .reached-from i l t)
 
   -- after a round that triggers a fact

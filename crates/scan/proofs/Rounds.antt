@@ -49,7 +49,7 @@ module _ {h : Held} {name : ℕ → Name} {a : Ask} {ms : Map (List Name)} {fs :
   -- ---- the facts triggered
 
   -- the round triggers a fact where one of its entries is visited and it fires
-  trigger-elim : (i : ℕ) → i < h .records → T (h .is-fact i) → T (triggers-in (run .met) (met-after ms run scanned) (fact i))
+  trigger-elim : (i : ℕ) → i < h .records → T (h .takes-part i) → T (triggers-in (run .met) (met-after ms run scanned) (fact i))
       → (e : ℕ) × List·Memᴰ e (visited-then h g) × (h .entry-fact e ≡ i) × T (fires-on h (is-met (met-then h g)) i)
   unfolding triggers-in visited-then met-then
   trigger-elim i l t u =
@@ -79,7 +79,7 @@ module _ {h : Held} {name : ℕ → Name} {a : Ask} {ms : Map (List Name)} {fs :
         any-intro new (holds .entry-listed e s b)
             (T-and (mem (name (h .entry-name e)) (met-after ms run scanned)) (not (mem (name (h .entry-name e)) (run .met))) .1
             (rw (after-is (h .entry-name e) b) n₁, rw (at .met-is (h .entry-name e) b) n₂)),
-        rw (fires-at fits holds (met-then h g) (met-after ms run scanned) after-is i (fits .fact-small e s) (fits .fact-is e s)) f,
+        rw (fires-at fits holds (met-then h g) (met-after ms run scanned) after-is i (fits .fact-small e s) (fits .fact-is e s b)) f,
       )
 
   -- a fact that the round triggers is that of a visited entry
@@ -115,7 +115,7 @@ module _ {h : Held} {name : ℕ → Name} {a : Ask} {ms : Map (List Name)} {fs :
   -- ---- the facts reached
 
   -- a fact's name is reached where its record is
-  pub reached-at : (i : ℕ) → i < h .records → T (h .is-fact i) → mem (fact i .name) (run .reached) ≡ is-reached (g .run) i
+  pub reached-at : (i : ℕ) → i < h .records → T (h .takes-part i) → mem (fact i .name) (run .reached) ≡ is-reached (g .run) i
   reached-at i l t =
       rw (at .reached-is, holds .fact-name i l t)
       (set-at (label h name) (is-reached (g .run)) (h .records) i l
@@ -123,7 +123,7 @@ module _ {h : Held} {name : ℕ → Name} {a : Ask} {ms : Map (List Name)} {fs :
       let x = ready .only-facts m (few h fits g ready k) u .1 in
       holds .rows-apart i m l k t x (holds .injective (h .row-name i) (h .row-name m) (fits .row-small i l t) (fits .row-small m k x) e)))
 
-  fresh-at : (i : ℕ) → i < h .records → T (h .is-fact i) → T (retainable a (fact i)) → T (not (mem (fact i .name) (run .reached)))
+  fresh-at : (i : ℕ) → i < h .records → T (h .takes-part i) → T (retainable a (fact i)) → T (not (mem (fact i .name) (run .reached)))
       → T (h .retains i) × T (not (is-reached (g .run) i))
   fresh-at i l t u w = (rw (holds .fact-retained i l t) at u, rw (reached-at i l t) at w)
 
@@ -176,7 +176,7 @@ module _ {h : Held} {name : ℕ → Name} {a : Ask} {ms : Map (List Name)} {fs :
       let x = then-facts h fits g ready i (few h fits g ready l) w .1 in
       rw (q, ← holds .fact-name i l x) (back i l x (fired h fits g ready .reached-from i (few h fits g ready l) w)))
     where
-      back : (i : ℕ) → i < h .records → T (h .is-fact i)
+      back : (i : ℕ) → i < h .records → T (h .takes-part i)
           → T (is-reached (met-then h g) i)
           ⊎ ((e : ℕ) × List·Memᴰ e (visited-then h g) × (h .entry-fact e ≡ i) × T (fires-on h (is-met (met-then h g)) i) × T (h .retains i))
           → T (mem (fact i .name) (after-round a ms fs run scanned .reached))

@@ -38,7 +38,7 @@ module _ {a : Ask} {ms : Map (List Name)} {fs : List Fact} where
 pub record Over (h : Held) (name : ℕ → Name) (fs : List Fact) (end : Run) (g : Going) : Type 0 where
   pub met-is : Agrees h name (g .run) (end .met)
   pub reached-is : end .reached ≡ reached-set h name (g .run)
-  pub only-facts : (i : ℕ) → i < most-records → T (is-reached (g .run) i) → (i < h .records) × T (h .is-fact i)
+  pub only-facts : (i : ℕ) → i < most-records → T (is-reached (g .run) i) → (i < h .records) × T (h .takes-part i)
   pub rounds-are : end .rounds ≡ g .scan .rounds
   pub visits-are : visits (end .met) fs ≡ g .scan .visits
 

@@ -18,7 +18,7 @@ use Rattle.model.proofs.ListLaws.{true-T, false-T}
 use Rattle.model.proofs.PartLaws.{part-nil, part-snoc, part-agree}
 use Rattle.terms.proofs.Laws.{equal}
 use Rattle.records.specs.Columns.{record-kind, record-flag, summary-code, assume-kind, root-kind, code-of}
-use Rattle.records.specs.States.{ask-of}
+use Rattle.records.specs.States.{takes-part, ask-of}
 use Rattle.scan.specs.Held.{Held, Fits, upto}
 use Rattle.scan.specs.Steps.{Going, going, reached-column, work-column, run-end, work-room, is-met, is-reached, items, unreached, unmet, Ready}
 use Rattle.scan.specs.Starts.{zeroed-to, first-scan, starts-at, push, pushed}
@@ -64,18 +64,23 @@ module _ (recs : List ℕ) (a : Asked) (i x : ℕ) (e : x ≡ record-kind recs i
   unfolding starts-at
   starts-root y p q f = f ∙ rw (← e, eq-eqb x root-kind p, q)
 
-  pub starts-other : (x ≡ root-kind → ⊥) → (x ≡ assume-kind → ⊥) → false ≡ starts-at recs a i
-  unfolding starts-at
-  starts-other p q = rw (← e, ne-eqb x root-kind p, ne-eqb x assume-kind q)
-
-  pub starts-no : (y : ℕ) → x ≡ assume-kind → y ≡ summary-code recs i → (y ≡ 2 → ⊥) → false ≡ starts-at recs a i
+  pub starts-no : (y : ℕ) → (x ≡ root-kind → ⊥) → y ≡ summary-code recs i → (y ≡ 2 → ⊥) → false ≡ starts-at recs a i
   unfolding starts-at code-of
-  starts-no y p q d = rw (← e, ne-eqb x root-kind (λ z. omega arith), eq-eqb x assume-kind p, ← q, ne-eqb y 2 d)
+  starts-no y p q d = rw (← e, ne-eqb x root-kind p, ← q, ne-eqb y 2 d)
 
-  pub starts-ambient : (y : ℕ) (off : Bool) → x ≡ assume-kind → y ≡ summary-code recs i → y ≡ 2 → off ≡ no-ambients (ask-of recs a)
-      → not off ≡ starts-at recs a i
+  -- an ambient root by whether it takes part
+  by-part : (y : ℕ) {b : Bool} → (x ≡ root-kind → ⊥) → y ≡ summary-code recs i → y ≡ 2 → b ≡ takes-part recs (ask-of recs a) i
+      → (b && not (no-ambients (ask-of recs a))) ≡ starts-at recs a i
   unfolding starts-at code-of
-  starts-ambient y off p q d o = rw (← e, ne-eqb x root-kind (λ z. omega arith), eq-eqb x assume-kind p, ← q, eq-eqb y 2 d, o)
+  by-part y p q d f = rw (← e, ne-eqb x root-kind p, ← q, eq-eqb y 2 d, ← f)
+
+  pub starts-apart : (y : ℕ) {b : Bool} → (x ≡ root-kind → ⊥) → y ≡ summary-code recs i → y ≡ 2 → b ≡ takes-part recs (ask-of recs a) i
+      → b ≡ false → false ≡ starts-at recs a i
+  starts-apart y p q d f g = by-part y p q d (sym g ∙ f)
+
+  pub starts-ambient : (y : ℕ) {b : Bool} (off : Bool) → (x ≡ root-kind → ⊥) → y ≡ summary-code recs i → y ≡ 2
+      → b ≡ takes-part recs (ask-of recs a) i → b ≡ true → off ≡ no-ambients (ask-of recs a) → not off ≡ starts-at recs a i
+  starts-ambient y off p q d f g o = ap not o ∙ by-part y p q d (sym g ∙ f)
 
 -- ---- the worklist
 

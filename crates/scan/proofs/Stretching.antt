@@ -5,9 +5,8 @@ use mathlib.Core.Path.{_≡_, refl, sym, _∙_, ap, subst}
 use mathlib.Core.Bool.{Bool, true, false, cond, not, _&&_}
 use mathlib.Core.Logic.{_↔_}
 use mathlib.Core.List.{List, [], _∷_, map, List·Memᴰ}
-use lib.Dec.{T, eqb, eqb→eq, ltb}
+use lib.Dec.{T, eqb, ltb}
 use lib.ListN.{length, getD, drop}
-use borrow.Author.Tests.{eq-eqb}
 use Rattle.model.specs.Lists.{any, collect}
 use Rattle.model.specs.Names.{Name, mem, from-list}
 use Rattle.model.specs.Reading.{Ask, Summary, Root, no-ambients, most-names, most-records, most-entries, most-asks}
@@ -17,23 +16,25 @@ use Rattle.model.specs.Outcome.{position}
 use Rattle.model.specs.declared.AsumKind.the-variants.{Ambient}
 use Rattle.model.specs.declared.Asked.{Asked}
 use Rattle.model.specs.declared.Counts.{Counts}
-use Rattle.model.proofs.ListLaws.{true-T, T-and, keep-intro, keep-elim, keep-cong, count-cong, collect-intro, collect-elim, map-intro, map-elim}
+use Rattle.model.proofs.ListLaws.{T-and, keep-intro, keep-elim, keep-cong, count-cong, collect-intro, collect-elim, map-intro, map-elim}
+use Rattle.laws.proofs.BackgroundLaws.{background-groups, background-with}
 use Rattle.laws.proofs.StretchLaws.{later, stretch-visited, first-visits, chain-with}
 use Rattle.names.specs.Table.{name-of}
 use Rattle.words.specs.Slices.{Same-but}
 use Rattle.options.specs.OptionsOf.{asks}
-use Rattle.records.specs.Columns.{record-kind, record-name, record-flag, summary-code, assume-kind, root-kind, code-of, entry-name, ask-room, ask-query}
-use Rattle.records.specs.States.{uses-at, decls-of, roots-of, queries-of, ask-of}
+use Rattle.records.specs.Columns.{record-kind, record-name, record-flag, summary-code, root-kind, code-of, ask-room, ask-query}
+use Rattle.records.specs.States.{uses-at, decls-of, roots-of, background-of, takes-part, queries-of, ask-of}
 use Rattle.records.proofs.Chains.{no-queries, one-query}
 use Rattle.macros.specs.Macros.{Filled}
 use Rattle.scan.specs.Held.{Held, upto, set-of}
-use Rattle.scan.specs.Tables.{held-of}
+use Rattle.scan.specs.Tables.{waits-on, held-of}
 use Rattle.scan.specs.Steps.{Going, going, run-end, work-column, reached-column, is-met, is-reached, unmet, Ready, Rounds}
 use Rattle.scan.specs.Starts.{zeroed-to, first-scan, starts-at, pushed}
 use Rattle.scan.specs.Runs.{tables-run, Ran}
 use Rattle.scan.specs.Chains.{root-for, emptied, before-last, tables-chain, Chain-stands, Went-on}
 use Rattle.scan.specs.declared.Scan.{Scan}
 use Rattle.scan.proofs.Numbers.{upto-elim, count-upto}
+use Rattle.records.proofs.Taking.{part-groups}
 use Rattle.scan.proofs.Visits.{or-none}
 use Rattle.scan.proofs.Running.{Over, count-visits, rounds-same}
 use Rattle.scan.proofs.Starting.{few-unmet, begun}
@@ -74,24 +75,24 @@ module _ (a : Ask) (decls : List Summary) (roots : List Root) where
   chain-more q (p ∷ l) n = refl
 
 -- that of one query is its run
-chain-one : (options : ℕ) (decls : List Summary) (roots : List Root) (q : ℕ) (qs : List ℕ) → qs ≡ q ∷ []
-    → chain (asks qs options) decls roots qs ≡ run (asks qs options) decls roots
+chain-one : (options groups : ℕ) (decls : List Summary) (roots : List Root) (q : ℕ) (qs : List ℕ) → qs ≡ q ∷ []
+    → chain (asks qs options groups) decls roots qs ≡ run (asks qs options groups) decls roots
 unfolding chain with-queries
-chain-one options decls roots q qs e = rw e
+chain-one options groups decls roots q qs e = rw e
 
 -- ---- the records that a stretch starts with
 
 -- the ask of the last query alone, with option 1
-abbrev pub alone : ℕ → Asked
-alone end = record { first = end - 1; end = end; options = 1 }
+abbrev pub alone : ℕ → ℕ → Asked
+alone end groups = record { first = end - 1; end = end; options = 1; groups = groups }
 
 -- it starts with the roots of the query
-alone-starts : (recs : List ℕ) (end : ℕ) → 0 < end → (i : ℕ) → starts-at recs (alone end) i ≡ root-for recs (ask-query recs (end - 1)) i
+alone-starts : (recs : List ℕ) (end groups : ℕ) → 0 < end → (i : ℕ) → starts-at recs (alone end groups) i ≡ root-for recs (ask-query recs (end - 1)) i
 unfolding starts-at root-for asks-for no-ambients any
-alone-starts recs end l i =
+alone-starts recs end groups l i =
     rw (one-asked recs (end - 1) end (omega arith), or-none (eqb (record-flag recs i) (ask-query recs (end - 1))))
-    (pick (eqb (record-kind recs i) root-kind) (eqb (record-flag recs i) (ask-query recs (end - 1))) (eqb (record-kind recs i) assume-kind)
-    (eqb (summary-code recs i) (code-of (Ambient true))))
+    (pick (eqb (record-kind recs i) root-kind) (eqb (record-flag recs i) (ask-query recs (end - 1)))
+    (eqb (summary-code recs i) (code-of (Ambient true))) (takes-part recs (asks (ask-query recs (end - 1) ∷ []) 1 groups) i))
   where
     pick : (b c d e : Bool) → cond b c (d && (e && false)) ≡ (b && c)
     pick true c d e = refl
@@ -111,6 +112,10 @@ module _ {file names recs lists : List ℕ} {k : Counts} (x : Filled file names 
 
   abbrev decls : List Summary
   decls = decls-of name recs lists (k .records)
+
+  -- the background of an ask
+  abbrev there : Asked → List Summary
+  there a = background-of name recs lists (ask-of recs a) (k .records)
 
   abbrev roots : List Root
   roots = roots-of name recs lists (k .records)
@@ -144,7 +149,7 @@ module _ {file names recs lists : List ℕ} {k : Counts} (x : Filled file names 
 
   -- by the rounds on numbers that ended there
   stands-at : (a : Asked) (n : ℕ) {s : Scan} {w : List ℕ}
-      → Over (held-of names recs lists k a) name (facts decls) (later n (tables-chain file names recs lists k (ask-of recs a))) (going s w)
+      → Over (held-of names recs lists k a) name (facts (there a)) (later n (tables-chain file names recs lists k (ask-of recs a))) (going s w)
       → Rested (held-of names recs lists k a) (length (queries-of recs (a .first) (a .end))) (going s w)
       → Chain-stands file names recs lists k (ask-of recs a) w s
   unfolding held-of
@@ -152,21 +157,23 @@ module _ {file names recs lists : List ℕ} {k : Counts} (x : Filled file names 
     long = rested .long;
     met = λ n l. sym (o .met-is n l);
     reached = sym (o .reached-is);
-    only-facts = λ i l t. let (u, v) = rested .only-facts i l t in (u, eqb→eq (record-kind recs i) assume-kind v);
+    only-facts = λ i l t. rested .only-facts i l t;
     low = rested .low;
     few-rounds = rested .few-rounds;
     visits = sym (o .visits-are);
   }
 
-  -- a chain that stands there can go on
-  rests : {a : Ask} {w : List ℕ} {s : Scan} → Chain-stands file names recs lists k a w s → (b : Asked) → Rested (held-of names recs lists k b) (length (a .queries)) (going s w)
+  -- a chain that stands there can go on with the same groups
+  rests : {a : Ask} {w : List ℕ} {s : Scan} → Chain-stands file names recs lists k a w s → (b : Asked) → b .groups ≡ a .groups → Rested (held-of names recs lists k b) (length (a .queries)) (going s w)
   unfolding held-of
-  rests {a} {w} stands b = record {
+  rests {a} {w} stands b e = record {
     long = stands .long;
     few-rounds = stands .few-rounds;
     low = stands .low;
-    visits-are = stands .visits ∙ count-visits (laid x .fits b) (holds x b) w _ (λ n l. sym (stands .met n l));
-    only-facts = λ i l t. let (u, v) = stands .only-facts i l t in (u, true-T (eq-eqb (record-kind recs i) assume-kind v));
+    visits-are = stands .visits
+        ∙ ap (λ l. visits (tables-chain file names recs lists k a .met) (facts l)) (background-groups a (ask-of recs b) decls (sym e))
+        ∙ count-visits (laid x .fits b) (holds x b) w _ (λ n l. sym (stands .met n l));
+    only-facts = λ i l t. let (u, v) = stands .only-facts i l t in (u, rw (part-groups recs (ask-of recs b) a e i) v);
   }
 
   -- its visits are few
@@ -175,8 +182,8 @@ module _ {file names recs lists : List ℕ} {k : Counts} (x : Filled file names 
   stands-visits {a} {w} stands =
       omega (
         arith,
-        rests stands (alone 0) .visits-are,
-        count-upto (λ e. ltb (entry-name lists e) (k .names) && is-met w (entry-name lists e)) (k .entries),
+        rests stands (alone 0 (a .groups)) refl .visits-are,
+        count-upto (λ e. ltb (waits-on recs lists (alone 0 (a .groups)) e) (k .names) && is-met w (waits-on recs lists (alone 0 (a .groups)) e)) (k .entries),
         x .recorded .few-entries,
       )
 
@@ -213,7 +220,7 @@ module _ {file names recs lists : List ℕ} {k : Counts} (x : Filled file names 
   module _ (a : Asked) (one : a .end ≡ a .first + 1) where
     run-is : tables-chain file names recs lists k (ask-of recs a) ≡ tables-run file names recs lists k a
     unfolding tables-chain tables-run
-    run-is = chain-one (a .options) decls roots (ask-query recs (a .end - 1)) (queries-of recs (a .first) (a .end)) (one-asked recs (a .first) (a .end) one)
+    run-is = chain-one (a .options) (a .groups) (there a) roots (ask-query recs (a .end - 1)) (queries-of recs (a .first) (a .end)) (one-asked recs (a .first) (a .end) one)
 
     pub ran-stands : {before after : List ℕ} {s : Scan} → Ran file names recs lists k a before after s → run-end ≤ length before
         → Chain-stands file names recs lists k (ask-of recs a) after s
@@ -229,10 +236,10 @@ module _ {file names recs lists : List ℕ} {k : Counts} (x : Filled file names 
           long = rested .long;
           met = λ n l. ran .met n l ∙ ap (λ (r : Run). mem (name n) (r .met)) (sym run-is);
           reached = ran .reached ∙ ap (λ (r : Run). r .reached) (sym run-is);
-          only-facts = λ i l t. let (u, v) = rested .only-facts i l t in (u, eqb→eq (record-kind recs i) assume-kind v);
+          only-facts = λ i l t. rested .only-facts i l t;
           low = rested .low;
           few-rounds = omega (arith, rested .few-rounds);
-          visits = ran .visits ∙ ap (λ (r : Run). visits (r .met) (facts decls)) (sym run-is);
+          visits = ran .visits ∙ ap (λ (r : Run). visits (r .met) (facts (there a))) (sym run-is);
         }
 
     -- its visits and rounds are those of the position
@@ -242,24 +249,34 @@ module _ {file names recs lists : List ℕ} {k : Counts} (x : Filled file names 
     ran-position ran =
         let met = tables-chain file names recs lists k (ask-of recs a) .met in (
           ran .visits
-              ∙ ap (λ (r : Run). visits (r .met) (facts decls)) (sym run-is)
-              ∙ sym (first-visits met (facts decls))
-              ∙ ap (λ l. stretch-visits (chain (ask-of recs a) decls roots (drop 1 l) .met) met (facts decls)) (sym (one-asked recs (a .first) (a .end) one)),
+              ∙ ap (λ (r : Run). visits (r .met) (facts (there a))) (sym run-is)
+              ∙ sym (first-visits met (facts (there a)))
+              ∙ ap (λ l. stretch-visits (chain (ask-of recs a) (there a) roots (drop 1 l) .met) met (facts (there a)))
+              (sym (one-asked recs (a .first) (a .end) one)),
           ran .rounds ∙ ap (λ (r : Run). r .rounds) (sym run-is),
         )
 
   -- ---- the stretch of an also line
 
+  -- the chain before it is that of its ask without the last query
+  before-is : (a : Asked)
+      → tables-chain file names recs lists k (ask-of recs (before-last a)) ≡ chain (ask-of recs a) (there a) roots (queries-of recs (a .first) (a .end - 1))
+  unfolding tables-chain with-queries
+  before-is a =
+      let qs = queries-of recs (a .first) (a .end - 1) in
+      ap (λ l. chain (ask-of recs (before-last a)) l roots qs) (background-with (ask-of recs a) qs decls)
+      ∙ chain-with (ask-of recs a) (there a) roots qs qs
+
   -- the visits and rounds that it adds are those of the position
   pub went-position : (a : Asked) → a .first < a .end → {before after : List ℕ} {s r : Scan} → Went-on file names recs lists k a before s after r
       → (r .visits ≡ s .visits + position decls roots (ask-of recs a) .visits) × (r .rounds ≡ s .rounds + position decls roots (ask-of recs a) .rounds)
-  unfolding position tables-chain with-queries
+  unfolding position tables-chain
   went-position a l {s = s} went =
-      let qs = queries-of recs (a .first) (a .end - 1) in
       let met = tables-chain file names recs lists k (ask-of recs a) .met in (
         went .visits
-            ∙ ap (λ (r : Run). s .visits + stretch-visits (r .met) met (facts decls)) (chain-with (ask-of recs a) decls roots qs qs)
-            ∙ ap (λ l. s .visits + stretch-visits (chain (ask-of recs a) decls roots (drop 1 l) .met) met (facts decls)) (sym (last-query recs (a .first) (a .end) l)),
+            ∙ ap (λ (r : Run). s .visits + stretch-visits (r .met) met (facts (there a))) (before-is a)
+            ∙ ap (λ l. s .visits + stretch-visits (chain (ask-of recs a) (there a) roots (drop 1 l) .met) met (facts (there a)))
+            (sym (last-query recs (a .first) (a .end) l)),
         went .rounds,
       )
 
@@ -276,21 +293,21 @@ module _ {file names recs lists : List ℕ} {k : Counts} (x : Filled file names 
 
     -- the chain with the last query
     chain-is : tables-chain file names recs lists k (ask-of recs a)
-        ≡ stretch (ask-of recs a) decls roots (tables-chain file names recs lists k (ask-of recs (before-last a))) q
-    unfolding tables-chain with-queries
+        ≡ stretch (ask-of recs a) (there a) roots (tables-chain file names recs lists k (ask-of recs (before-last a))) q
+    unfolding tables-chain
     chain-is =
         let some = ap length (last-query recs (a .first) (a .end - 1) (omega arith)) in
-        ap (chain (ask-of recs a) decls roots) (last-query recs (a .first) (a .end) (omega arith))
-        ∙ chain-more (ask-of recs a) decls roots q qs (omega arith)
-        ∙ ap (λ (r : Run). stretch (ask-of recs a) decls roots r q) (sym (chain-with (ask-of recs a) decls roots qs qs))
+        ap (chain (ask-of recs a) (there a) roots) (last-query recs (a .first) (a .end) (omega arith))
+        ∙ chain-more (ask-of recs a) (there a) roots q qs (omega arith)
+        ∙ ap (λ (r : Run). stretch (ask-of recs a) (there a) roots r q) (sym (before-is a))
 
     again : Begun-again (laid x .fits a) (root-for recs q) (length qs) (going s w) (pushed (root-for recs q) (k .records) (going (emptied s) w))
     unfolding held-of
-    again = begun-again (laid x .fits a) (root-for recs q) (length qs) s w (rests stands a) (omega (arith, queries-few recs (a .first) (a .end - 1)))
+    again = begun-again (laid x .fits a) (root-for recs q) (length qs) s w (rests stands a refl) (omega (arith, queries-few recs (a .first) (a .end - 1)))
 
-    module _ {g : Going} (is : g ≡ pushed (starts-at recs (alone (a .end))) (k .records) (going (emptied s) w)) where
+    module _ {g : Going} (is : g ≡ pushed (starts-at recs (alone (a .end) (a .groups))) (k .records) (going (emptied s) w)) where
       from-roots : g ≡ pushed (root-for recs q) (k .records) (going (emptied s) w)
-      from-roots = is ∙ pushed-alike _ _ (alone-starts recs (a .end) (omega arith)) (k .records) (going (emptied s) w)
+      from-roots = is ∙ pushed-alike _ _ (alone-starts recs (a .end) (a .groups) (omega arith)) (k .records) (going (emptied s) w)
 
       pub also-ready : Ready h g
       also-ready = subst (λ g. Ready h g) (sym from-roots) (again .ready)
@@ -301,9 +318,9 @@ module _ {file names recs lists : List ℕ} {k : Counts} (x : Filled file names 
           let rounds = subst (λ g. Rounds h g (going r v)) from-roots from-g in
           let before = tables-chain file names recs lists k (ask-of recs (before-last a)) in
           let after = tables-chain file names recs lists k (ask-of recs a) in
-          let o : Over h name (facts decls) (later (s .rounds) after) (going r v) =
-          subst (λ (c : Run). Over h name (facts decls) (later (s .rounds) c) (going r v)) (sym chain-is)
-          (stretch-over decls (laid x .fits a) (holds x a) roots before (λ n l. sym (stands .met n l)) (sym (stands .reached)) again q
+          let o : Over h name (facts (there a)) (later (s .rounds) after) (going r v) =
+          subst (λ (c : Run). Over h name (facts (there a)) (later (s .rounds) c) (going r v)) (sym chain-is)
+          (stretch-over (there a) (laid x .fits a) (holds x a) roots before (λ n l. sym (stands .met n l)) (sym (stands .reached)) again q
           (scanned-at a q _ (again .item-elim) (again .item-intro)) rounds) in
           let lines : length (queries-of recs (a .first) (a .end)) ≡ length qs + 1 =
           let e = ap length (last-query recs (a .first) (a .end) (omega arith)) in omega arith in
@@ -312,9 +329,10 @@ module _ {file names recs lists : List ℕ} {k : Counts} (x : Filled file names 
                 (subst (λ n. Rested h n (going r v)) (sym lines) (rounds-rested (laid x .fits a) rounds (again .ready) (length qs) (again .few-rounds)));
             rounds = sym (o .rounds-are);
             visits = sym (o .visits-are)
-                ∙ subst (λ (c : Run). visits (c .met) (facts decls) ≡ visits (before .met) (facts decls) + stretch-visits (before .met) (c .met) (facts decls))
-                (sym chain-is) (stretch-visited (ask-of recs a) decls roots before q)
-                ∙ ap (λ n. n + stretch-visits (before .met) (after .met) (facts decls)) (sym (stands .visits));
+                ∙ subst (λ (c : Run). visits (c .met) (facts (there a)) ≡ visits (before .met) (facts (there a)) + stretch-visits (before .met) (c .met) (facts (there a)))
+                (sym chain-is) (stretch-visited (ask-of recs a) (there a) roots before q)
+                ∙ ap (λ n. n + stretch-visits (before .met) (after .met) (facts (there a)))
+                (ap (λ l. visits (before .met) (facts l)) (background-groups (ask-of recs a) (ask-of recs (before-last a)) decls refl) ∙ sym (stands .visits));
             same = rounds-same (laid x .fits a) rounds (again .ready) (again .same-length) (again .far);
             words = rounds;
           }

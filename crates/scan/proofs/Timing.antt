@@ -136,7 +136,7 @@ module _ {h : Held} {name : ℕ → Name} {a : Ask} {ms : Map (List Name)} {fs :
   few-records l = let f = fits .few-records in omega arith
 
   -- the record of a fact is reached at a round's end where its name is
-  reached-after : (g : Going) (run : Run) (scanned : List Name) (ready : Ready h g) (at : At h name g run scanned) (i : ℕ) → i < h .records → T (h .is-fact i)
+  reached-after : (g : Going) (run : Run) (scanned : List Name) (ready : Ready h g) (at : At h name g run scanned) (i : ℕ) → i < h .records → T (h .takes-part i)
       → mem (fact i .name) (after-round a ms fs run scanned .reached) ≡ is-reached (round h g .run) i
   reached-after g run scanned ready at i l t =
       rw (at-then fits holds g ready run scanned at .reached-is, holds .fact-name i l t)
@@ -145,7 +145,7 @@ module _ {h : Held} {name : ℕ → Name} {a : Ask} {ms : Map (List Name)} {fs :
       let x = then-facts h fits g ready m (few-records k) u .1 in
       holds .rows-apart i m l k t x (holds .injective (h .row-name i) (h .row-name m) (fits .row-small i l t) (fits .row-small m k x) e)))
 
-  reached-clock : (i : ℕ) → i < h .records → T (h .is-fact i) → Clock (reached-column + i) (λ r. mem (fact i .name) (r .reached))
+  reached-clock : (i : ℕ) → i < h .records → T (h .takes-part i) → Clock (reached-column + i) (λ r. mem (fact i .name) (r .reached))
   unfolding is-reached
   reached-clock i l t =
       record {
@@ -163,7 +163,7 @@ module _ {h : Held} {name : ℕ → Name} {a : Ask} {ms : Map (List Name)} {fs :
     unfolding is-met
     met-round n l z t = let e = tells (met-clock n l) rounds ready at follows .told z (ltb→lt 0 (getD (end-g .run) n 0) t) in omega arith
 
-    pub reached-round : (i : ℕ) → i < h .records → T (h .is-fact i) → getD (g .run) (reached-column + i) 0 ≡ 0 → T (is-reached (end-g .run) i)
+    pub reached-round : (i : ℕ) → i < h .records → T (h .takes-part i) → getD (g .run) (reached-column + i) 0 ≡ 0 → T (is-reached (end-g .run) i)
         → getD (end-g .run) (reached-column + i) 0 ≡ find-index (λ r. mem (fact i .name) (r .reached)) hist
     unfolding is-reached
     reached-round i l f z t =

@@ -42,21 +42,29 @@ module _ (f : ℕ → ℕ) (n : ℕ) where
 
 -- ---- the chain of a name
 
-module _ (h : Held) (n : ℕ) where
-  -- the entries that wait are those up to the newest
-  pub newest-waiting : (k : ℕ) → waiting h n k ≡ waiting h n (newest (h .entry-name) n k)
-  unfolding newest waiting upto keep
-  newest-waiting zero = refl
-  newest-waiting (suc k) = go (eqb (h .entry-name k) n) refl (newest-waiting k)
-    where
-      go : (b : Bool) → eqb (h .entry-name k) n ≡ b → waiting h n k ≡ waiting h n (newest (h .entry-name) n k)
-          → waiting h n (suc k) ≡ waiting h n (cond b (suc k) (newest (h .entry-name) n k))
-      go true e w = refl
-      go false e w = rw e w
+-- the newest has the value
+pub newest-value : (f : ℕ → ℕ) (n k : ℕ) → 0 < newest f n k → f (newest f n k - 1) ≡ n
+newest-value f n k l = newest-at f n k (newest f n k - 1) (omega arith) .1
 
-  -- the newest is on the name
-  pub newest-name : (k : ℕ) → 0 < newest (h .entry-name) n k → h .entry-name (newest (h .entry-name) n k - 1) ≡ n
-  newest-name k l = newest-at (h .entry-name) n k (newest (h .entry-name) n k - 1) (omega arith) .1
+module _ (h : Held) (n : ℕ) where
+  -- the entries that wait are those up to the newest on the name, where each that waits is on it
+  pub newest-waiting : (on : ℕ → ℕ) → ((d : ℕ) → h .entry-name d ≡ n → on d ≡ n) → (k : ℕ) → waiting h n k ≡ waiting h n (newest on n k)
+  unfolding newest waiting upto keep
+  newest-waiting on waits zero = refl
+  newest-waiting on waits (suc k) = go (eqb (on k) n) refl (newest-waiting on waits k)
+    where
+      go : (b : Bool) → eqb (on k) n ≡ b → waiting h n k ≡ waiting h n (newest on n k)
+          → waiting h n (suc k) ≡ waiting h n (cond b (suc k) (newest on n k))
+      go true e w = refl
+      go false e w = rw (ne-eqb (h .entry-name k) n (λ q. eqb-false (on k) n e (waits k q))) w
+
+  -- an entry that does not wait on the name is passed over
+  pub waiting-skip : (p : ℕ) → 0 < p → (h .entry-name (p - 1) ≡ n → ⊥) → waiting h n p ≡ waiting h n (p - 1)
+  unfolding waiting upto keep
+  waiting-skip zero l d = absurd (omega arith)
+  waiting-skip (suc p) l d =
+      let z : suc p - 1 ≡ p = omega arith in
+      rw z (rw (ne-eqb (h .entry-name p) n (λ q. d (subst (λ x. h .entry-name x ≡ n) (sym z) q))))
 
   pub waiting-first : (p : ℕ) → 0 < p → h .entry-name (p - 1) ≡ n → waiting h n p ≡ (p - 1) ∷ waiting h n (p - 1)
   unfolding waiting upto keep

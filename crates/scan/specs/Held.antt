@@ -22,13 +22,14 @@ upto (suc n) = n ∷ upto n
 unfoldable pub set-of : (ℕ → Name) → (ℕ → Bool) → ℕ → List Name
 set-of name test n = from-list (map name (keep test (upto n)))
 
--- the tables and the ask: how many names, records and entries; of a record whether it is a fact, whether it is retainable, its
--- name, its free names, its disjuncts; what a name opens to; of an entry its name (`no-name` where it has none) and its fact
+-- the tables and the ask: how many names, records and entries; of a record whether it is a fact that the ask admits, whether it
+-- is retainable, its name, its free names, its disjuncts; what a name opens to; of an entry its name (`no-name` where it has none,
+-- or its fact is not admitted) and its fact
 pub record Held : Type 0 where
   pub named : ℕ
   pub records : ℕ
   pub entries : ℕ
-  pub is-fact : ℕ → Bool
+  pub takes-part : ℕ → Bool
   pub retains : ℕ → Bool
   pub row-name : ℕ → ℕ
   pub frees : ℕ → List ℕ
@@ -50,25 +51,25 @@ pub record Fits (h : Held) : Type 0 where
   pub opens-small : (n m : ℕ) → n < h .named → List·Memᴰ m (h .opens n) → m < h .named
   pub disjuncts-small : (i n : ℕ) (d : List ℕ) → i < h .records → List·Memᴰ d (h .disjuncts i) → List·Memᴰ n d → n < h .named
   pub fact-small : (e : ℕ) → e < h .entries → h .entry-fact e < h .records
-  pub fact-is : (e : ℕ) → e < h .entries → T (h .is-fact (h .entry-fact e))
-  pub row-small : (i : ℕ) → i < h .records → T (h .is-fact i) → h .row-name i < h .named
+  pub fact-is : (e : ℕ) → e < h .entries → h .entry-name e < h .named → T (h .takes-part (h .entry-fact e))
+  pub row-small : (i : ℕ) → i < h .records → T (h .takes-part i) → h .row-name i < h .named
 
 -- the numbers are those of an ask, macros and facts of `model`: `name` and `fact` say which
 pub record Holds (h : Held) (name : ℕ → Name) (a : Ask) (ms : Map (List Name)) (fs : List Fact) (fact : ℕ → Fact) : Type 0 where
   pub injective : (n m : ℕ) → n < h .named → m < h .named → name n ≡ name m → n ≡ m
   -- the facts are those of the records, and no two have the same name
-  pub rows-apart : (i j : ℕ) → i < h .records → j < h .records → T (h .is-fact i) → T (h .is-fact j) → h .row-name i ≡ h .row-name j → i ≡ j
-  pub fact-in : (i : ℕ) → i < h .records → T (h .is-fact i) → List·Memᴰ (fact i) fs
-  pub fact-of : (f : Fact) → List·Memᴰ f fs → (i : ℕ) × (i < h .records) × T (h .is-fact i) × (f ≡ fact i)
-  pub fact-name : (i : ℕ) → i < h .records → T (h .is-fact i) → fact i .name ≡ name (h .row-name i)
-  pub fact-retained : (i : ℕ) → i < h .records → T (h .is-fact i) → retainable a (fact i) ≡ h .retains i
-  pub fact-frees : (i : ℕ) → i < h .records → T (h .is-fact i) → fact i .free-names ≡ from-list (map name (h .frees i))
-  pub fact-disjuncts : (i : ℕ) → i < h .records → T (h .is-fact i)
+  pub rows-apart : (i j : ℕ) → i < h .records → j < h .records → T (h .takes-part i) → T (h .takes-part j) → h .row-name i ≡ h .row-name j → i ≡ j
+  pub fact-in : (i : ℕ) → i < h .records → T (h .takes-part i) → List·Memᴰ (fact i) fs
+  pub fact-of : (f : Fact) → List·Memᴰ f fs → (i : ℕ) × (i < h .records) × T (h .takes-part i) × (f ≡ fact i)
+  pub fact-name : (i : ℕ) → i < h .records → T (h .takes-part i) → fact i .name ≡ name (h .row-name i)
+  pub fact-retained : (i : ℕ) → i < h .records → T (h .takes-part i) → retainable a (fact i) ≡ h .retains i
+  pub fact-frees : (i : ℕ) → i < h .records → T (h .takes-part i) → fact i .free-names ≡ from-list (map name (h .frees i))
+  pub fact-disjuncts : (i : ℕ) → i < h .records → T (h .takes-part i)
       → fact i .triggers ≡ map (λ ns. from-list (map name ns)) (h .disjuncts i)
   -- a fact's listed names are those of its entries, and the filed names those of all entries
   pub entry-listed : (e : ℕ) → e < h .entries → h .entry-name e < h .named
       → List·Memᴰ (name (h .entry-name e)) (listed (fact (h .entry-fact e)))
-  pub listed-entry : (i : ℕ) (k : Name) → i < h .records → T (h .is-fact i) → List·Memᴰ k (listed (fact i))
+  pub listed-entry : (i : ℕ) (k : Name) → i < h .records → T (h .takes-part i) → List·Memᴰ k (listed (fact i))
       → (e : ℕ) × (e < h .entries) × (h .entry-fact e ≡ i) × (h .entry-name e < h .named) × (k ≡ name (h .entry-name e))
   pub filed-count : (p : Name → Bool)
       → count p (filed fs) ≡ count (λ e. ltb (h .entry-name e) (h .named) && p (name (h .entry-name e))) (upto (h .entries))

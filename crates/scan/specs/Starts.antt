@@ -8,8 +8,8 @@ use Rattle.model.specs.Reading.{no-ambients}
 use Rattle.model.specs.Rounds.{asks-for}
 use Rattle.model.specs.declared.AsumKind.the-variants.{Ambient}
 use Rattle.model.specs.declared.Asked.{Asked}
-use Rattle.records.specs.Columns.{record-kind, record-flag, summary-code, assume-kind, root-kind, code-of}
-use Rattle.records.specs.States.{ask-of}
+use Rattle.records.specs.Columns.{record-kind, record-flag, summary-code, root-kind, code-of}
+use Rattle.records.specs.States.{takes-part, ask-of}
 use Rattle.scan.specs.Steps.{Going, work-column}
 use Rattle.scan.specs.declared.Scan.{Scan}
 
@@ -22,13 +22,12 @@ zeroed-to (suc n) w = set (zeroed-to n w) n 0
 abbrev pub first-scan : Scan
 first-scan = record { from = 0; to = 0; visits = 0; rounds = 0; triggered = false }
 
--- whether round 1 scans a record: a root of the ask's queries or, without option 1, an ambient root
+-- whether round 1 scans a record: a root of the ask's queries or, without option 1, an ambient root that the ask admits
 unfoldable pub starts-at : List ℕ → Asked → ℕ → Bool
 starts-at recs a i =
     cond (eqb (record-kind recs i) root-kind)
     (asks-for (ask-of recs a) (record-flag recs i))
-    (eqb (record-kind recs i) assume-kind
-    && (eqb (summary-code recs i) (code-of (Ambient true)) && not (no-ambients (ask-of recs a))))
+    (eqb (summary-code recs i) (code-of (Ambient true)) && (takes-part recs (ask-of recs a) i && not (no-ambients (ask-of recs a))))
 
 -- a record put behind the worklist
 unfoldable pub push : Going → ℕ → Going

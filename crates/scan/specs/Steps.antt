@@ -178,4 +178,4 @@ pub record Ready (h : Held) (g : Going) : Type 0 where
   pub low : (n : ℕ) → n < h .named → getD (g .run) n 0 ≤ g .scan .rounds
   pub visits-are : g .scan .visits ≡ count (λ e. ltb (h .entry-name e) (h .named) && is-met (g .run) (h .entry-name e)) (upto (h .entries))
   pub items-small : (i : ℕ) → List·Memᴰ i (items g) → i < h .records
-  pub only-facts : (i : ℕ) → i < most-records → T (is-reached (g .run) i) → (i < h .records) × T (h .is-fact i)
+  pub only-facts : (i : ℕ) → i < most-records → T (is-reached (g .run) i) → (i < h .records) × T (h .takes-part i)

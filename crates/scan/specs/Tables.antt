@@ -1,7 +1,7 @@
 -- The numbers that a run asks for, in the slices.
 use Prim.Native.Nat.{ℕ, _+_, _≤_, _<_}
 use mathlib.Core.Path.{_≡_}
-use mathlib.Core.Bool.{Bool, not, _||_}
+use mathlib.Core.Bool.{Bool, cond, not, _||_}
 use mathlib.Core.List.{List}
 use lib.Dec.{eqb}
 use lib.ListN.{length, getD}
@@ -10,8 +10,8 @@ use Rattle.model.specs.Outcome.{working-words}
 use Rattle.model.specs.declared.Asked.{Asked}
 use Rattle.model.specs.declared.Counts.{Counts}
 use Rattle.triggers.specs.Entries.{Entries, disjuncts-of-words, no-name}
-use Rattle.records.specs.Columns.{record-kind, record-name, record-flag, uses-start, uses-end, entries-start, entries-end, assume-kind, entry-name, entry-fact, next-entry, macro-at, first-entry}
-use Rattle.records.specs.States.{uses-at, entries-at, ask-of}
+use Rattle.records.specs.Columns.{record-name, record-flag, uses-start, uses-end, entries-start, entries-end, entry-name, entry-fact, next-entry, macro-at, first-entry}
+use Rattle.records.specs.States.{uses-at, entries-at, takes-part, ask-of}
 use Rattle.records.specs.Filing.{newest}
 use Rattle.macros.specs.Macros.{opened-word, opens-at}
 use Rattle.scan.specs.Held.{Held, Fits}
@@ -22,6 +22,10 @@ use Rattle.scan.specs.declared.Scan.{Scan}
 unfoldable pub retained : List ℕ → Asked → ℕ → Bool
 retained recs a i = not (eqb (record-flag recs i) 1) || pretyping-axioms (ask-of recs a)
 
+-- the name on which an entry waits; none where its fact is not admitted
+unfoldable pub waits-on : List ℕ → List ℕ → Asked → ℕ → ℕ
+waits-on recs lists a e = cond (takes-part recs (ask-of recs a) (entry-fact lists e)) (entry-name lists e) no-name
+
 -- the numbers in the slices
 unfoldable pub held-of : List ℕ → List ℕ → List ℕ → Counts → Asked → Held
 held-of names recs lists k a =
@@ -29,13 +33,13 @@ held-of names recs lists k a =
       named = k .names;
       records = k .records;
       entries = k .entries;
-      is-fact = λ i. eqb (record-kind recs i) assume-kind;
+      takes-part = takes-part recs (ask-of recs a);
       retains = retained recs a;
       row-name = record-name recs;
       frees = uses-at recs lists;
       disjuncts = λ i. disjuncts-of-words (entries-at recs lists i);
       opens = λ n. opens-at recs lists (macro-at names n);
-      entry-name = entry-name lists;
+      entry-name = waits-on recs lists a;
       entry-fact = entry-fact lists;
     }
 

@@ -179,7 +179,7 @@ fn retained(recs: &[u32], a: Asked, i: usize) -> bool
     options.pretyping_axioms
 }
 
-// Whether the first round scans a record: a root of the ask's queries or, without option 1, an ambient root.
+// Whether the first round scans a record: a root of the ask's queries or, without option 1, an ambient root that the ask admits.
 fn starts(recs: &[u32], a: Asked, i: usize) -> bool
     requires { ⌜ (i < most-records) × (a .end ≤ ask-room) × (working-words ≤ length (now recs)) ⌝ }
     ensures { λ r. ⌜ r ≡ starts-at (now (recs .entry)) a i ⌝ }
@@ -188,10 +188,10 @@ fn starts(recs: &[u32], a: Asked, i: usize) -> bool
     if kind == records::ROOT {
         return records::asks_for(recs, a, words::at(recs, records::FLAG + i));
     }
-    if kind != records::ASSUME {
+    if words::at(recs, records::SUMMARY + i) != records::AMBIENT_ROOT {
         return false;
     }
-    if words::at(recs, records::SUMMARY + i) != records::AMBIENT_ROOT {
+    if !records::takes_part(recs, a, i) {
         return false;
     }
     let options = options::options_of(a.options);
@@ -279,7 +279,7 @@ impl Scan {
         fired
     }
 
-    // Visits the entries that wait on a name, newest first.
+    // Visits the entries that wait on a name, newest first; those of facts that the ask does not admit are passed over.
     fn visit_chain(
         self,
         names: &[u32],
@@ -298,8 +298,12 @@ impl Scan {
         let mut s = self;
         let mut next = words::at(names, records::FIRST + n);
         while next != 0 {
-            s = s.visit(names, recs, lists, run, k, a, next - 1);
-            next = words::at(lists, records::NEXT + (next - 1));
+            let e = next - 1;
+            next = words::at(lists, records::NEXT + e);
+            if !records::takes_part(recs, a, words::at(lists, records::FACT + e)) {
+                continue;
+            }
+            s = s.visit(names, recs, lists, run, k, a, e);
         }
         s
     }
@@ -450,6 +454,7 @@ pub fn run_also(
         first: end - 1,
         end,
         options: NO_AMBIENTS,
+        groups: a.groups,
     };
     let mut rested = before;
     rested.from = 0;

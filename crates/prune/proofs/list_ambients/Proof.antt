@@ -9,10 +9,10 @@ use Rattle.prune.proofs.list_ambients.Statement.{statement}
 use Rattle.prune.proofs.list_ambients.Tie as tie
 
 abbrev Inv-loop : tie.InvT-loop
-Inv-loop recs run₀ m to₀ i₀ run to i = Falling run₀ m (ambient-at recs) i₀ run to i
+Inv-loop recs run₀ a m to₀ i₀ run to i = Falling run₀ m (ambient-at recs a) i₀ run to i
 
 abbrev μ-loop : tie.MeasureT-loop
-μ-loop recs run₀ m to₀ i₀ run to i = i
+μ-loop recs run₀ a m to₀ i₀ run to i = i
 
 options-of-requires : tie.Need-options-of-requires Inv-loop μ-loop
 options-of-requires c κs = search needs
@@ -21,7 +21,7 @@ returns : tie.Need-returns Inv-loop μ-loop
 returns c =
     let options-of = c .before in
     let entry = options-of .before .before .before in
-    ambients-off (entry .args .recs .now) (entry .args .k) (entry .args .a) (options-of .options-of .ensures .0 _ .no-ambients-is) _ _ (c .if1 .taken)
+    ambients-off (entry .args .recs .now) (entry .args .k) (entry .args .a) (options-of .options-of .ensures .0 _ _ .no-ambients-is) _ _ (c .if1 .taken)
 
 loop-holds : tie.Need-loop-holds Inv-loop μ-loop
 loop-holds c = falling-start _ _ _ _
@@ -56,7 +56,7 @@ cast-run c =
     let loop-test = ambient-at .before in
     let loop = loop-test .before in
     let entry = loop .before .before .before .before .before in
-    omega (arith, ambient-small _ _ (ambient-at .ambient-at .ensures), loop .loop .inv .high, loop-test .loop-test .taken, entry .pre .2)
+    omega (arith, ambient-small _ _ _ (ambient-at .ambient-at .ensures), loop .loop .inv .high, loop-test .loop-test .taken, entry .pre .2)
 
 add-run : tie.Need-add-run Inv-loop μ-loop
 add-run c =
@@ -66,7 +66,7 @@ add-run c =
     let if1 = loop .before in
     let options-of = if1 .before in
     let entry = options-of .before .before .before in
-    let fits = ambients-fit (entry .args .recs .now) (entry .args .k) (entry .args .a) (options-of .options-of .ensures .0 _ .no-ambients-is) (entry .args .m)
+    let fits = ambients-fit (entry .args .recs .now) (entry .args .k) (entry .args .a) (options-of .options-of .ensures .0 _ _ .no-ambients-is) (entry .args .m)
     (if1 .if1 .left) (entry .pre .3) in
     let room = falling-room (loop .loop .inv) (loop-test .loop-test .taken) (ambient-at .ambient-at .ensures) (c .if2 .left) fits in
     omega (arith, room)
@@ -79,7 +79,7 @@ mul-run c =
     let if1 = loop .before in
     let options-of = if1 .before in
     let entry = options-of .before .before .before in
-    let fits = ambients-fit (entry .args .recs .now) (entry .args .k) (entry .args .a) (options-of .options-of .ensures .0 _ .no-ambients-is) (entry .args .m)
+    let fits = ambients-fit (entry .args .recs .now) (entry .args .k) (entry .args .a) (options-of .options-of .ensures .0 _ _ .no-ambients-is) (entry .args .m)
     (if1 .if1 .left) (entry .pre .3) in
     let room = falling-room (loop .loop .inv) (loop-test .loop-test .taken) (ambient-at .ambient-at .ensures) (c .if2 .left) fits in
     omega (arith, room)
@@ -92,7 +92,7 @@ slice-write-run c =
     let if1 = loop .before in
     let options-of = if1 .before in
     let entry = options-of .before .before .before in
-    let fits = ambients-fit (entry .args .recs .now) (entry .args .k) (entry .args .a) (options-of .options-of .ensures .0 _ .no-ambients-is) (entry .args .m)
+    let fits = ambients-fit (entry .args .recs .now) (entry .args .k) (entry .args .a) (options-of .options-of .ensures .0 _ _ .no-ambients-is) (entry .args .m)
     (if1 .if1 .left) (entry .pre .3) in
     let room = falling-room (loop .loop .inv) (loop-test .loop-test .taken) (ambient-at .ambient-at .ensures) (c .if2 .left) fits in
     omega (arith, room, entry .pre .1, going-length (loop .loop .inv .going))
@@ -105,7 +105,7 @@ add-to c =
     let if1 = loop .before in
     let options-of = if1 .before in
     let entry = options-of .before .before .before in
-    let fits = ambients-fit (entry .args .recs .now) (entry .args .k) (entry .args .a) (options-of .options-of .ensures .0 _ .no-ambients-is) (entry .args .m)
+    let fits = ambients-fit (entry .args .recs .now) (entry .args .k) (entry .args .a) (options-of .options-of .ensures .0 _ _ .no-ambients-is) (entry .args .m)
     (if1 .if1 .left) (entry .pre .3) in
     let room = falling-room (loop .loop .inv) (loop-test .loop-test .taken) (ambient-at .ambient-at .ensures) (c .if2 .left) fits in
     omega (arith, room)
@@ -133,7 +133,7 @@ returns-2 c =
     let if1 = loop .before in
     let options-of = if1 .before in
     let entry = options-of .before .before .before in
-    ambients-listed (entry .args .recs .now) (entry .args .k) (entry .args .a) (options-of .options-of .ensures .0 _ .no-ambients-is) (if1 .if1 .left)
+    ambients-listed (entry .args .recs .now) (entry .args .k) (entry .args .a) (options-of .options-of .ensures .0 _ _ .no-ambients-is) (if1 .if1 .left)
     (falling-end (loop .loop .inv) (c .loop-test .left))
 
 pub list-ambients-spec : {M : Type 1} → statement M

@@ -25,7 +25,7 @@ returns c =
     let options-of = c .before .before in
     let list-facts = options-of .before .before .before in
     let entry = list-facts .before .before .before .before .before .before in
-    listed-facts (entry .pre) (list-facts .list-facts .ensures) (options-of .options-of .ensures .0 _ .prune-decls-is) (not-true _ (c .if1 .taken))
+    listed-facts (entry .pre) (list-facts .list-facts .ensures) (options-of .options-of .ensures .0 _ _ .prune-decls-is) (not-true _ (c .if1 .taken))
 
 clear-requires : tie.Need-clear-requires
 clear-requires c κs =
@@ -77,7 +77,7 @@ list-decls-requires c κs =
     let entry = list-facts .before .before .before .before .before .before in
     decls-ask (entry .pre) (list-facts .list-facts .ensures) (clear .clear .ensures) (note-facts .note-facts .ensures)
     (note-roots .note-roots .ensures .0) (note-roots .note-roots .ensures .1) (link-names .link-names .ensures)
-    (options-of .options-of .ensures .0 _ .prune-decls-is) (not-false _ (if1 .if1 .left)) (options-of .options-of .ensures .0 _ .follow-bodies-is) (not-true _ (if2 .if2 .taken))
+    (options-of .options-of .ensures .0 _ _ .prune-decls-is) (not-false _ (if1 .if1 .left)) (options-of .options-of .ensures .0 _ _ .follow-bodies-is) (not-true _ (if2 .if2 .taken))
 
 same-length-2 : tie.Need-same-length-2
 same-length-2 c =
@@ -93,7 +93,7 @@ same-length-2 c =
     let entry = list-facts .before .before .before .before .before .before in
     listed-noted (entry .pre) (list-facts .list-facts .ensures) (clear .clear .ensures) (note-facts .note-facts .ensures)
     (note-roots .note-roots .ensures .0) (note-roots .note-roots .ensures .1) (link-names .link-names .ensures)
-    (options-of .options-of .ensures .0 _ .prune-decls-is) (not-false _ (if1 .if1 .left)) (options-of .options-of .ensures .0 _ .follow-bodies-is) (not-true _ (if2 .if2 .taken))
+    (options-of .options-of .ensures .0 _ _ .prune-decls-is) (not-false _ (if1 .if1 .left)) (options-of .options-of .ensures .0 _ _ .follow-bodies-is) (not-true _ (if2 .if2 .taken))
     (list-decls .list-decls .ensures) .same .same-length
 
 returns-2 : tie.Need-returns-2
@@ -110,7 +110,7 @@ returns-2 c =
     let entry = list-facts .before .before .before .before .before .before in
     listed-noted (entry .pre) (list-facts .list-facts .ensures) (clear .clear .ensures) (note-facts .note-facts .ensures)
     (note-roots .note-roots .ensures .0) (note-roots .note-roots .ensures .1) (link-names .link-names .ensures)
-    (options-of .options-of .ensures .0 _ .prune-decls-is) (not-false _ (if1 .if1 .left)) (options-of .options-of .ensures .0 _ .follow-bodies-is) (not-true _ (if2 .if2 .taken))
+    (options-of .options-of .ensures .0 _ _ .prune-decls-is) (not-false _ (if1 .if1 .left)) (options-of .options-of .ensures .0 _ _ .follow-bodies-is) (not-true _ (if2 .if2 .taken))
     (list-decls .list-decls .ensures)
 
 follow-requires : tie.Need-follow-requires
@@ -126,7 +126,7 @@ follow-requires c κs =
     let entry = list-facts .before .before .before .before .before .before in
     follow-asks (entry .pre) (list-facts .list-facts .ensures) (clear .clear .ensures) (note-facts .note-facts .ensures)
     (note-roots .note-roots .ensures .0) (note-roots .note-roots .ensures .1) (link-names .link-names .ensures)
-    (options-of .options-of .ensures .0 _ .prune-decls-is) (not-false _ (if1 .if1 .left)) (options-of .options-of .ensures .0 _ .follow-bodies-is) (not-false _ (if2 .if2 .left))
+    (options-of .options-of .ensures .0 _ _ .prune-decls-is) (not-false _ (if1 .if1 .left)) (options-of .options-of .ensures .0 _ _ .follow-bodies-is) (not-false _ (if2 .if2 .left))
 
 sweep-added-requires : tie.Need-sweep-added-requires
 sweep-added-requires c κs =
@@ -142,7 +142,7 @@ sweep-added-requires c κs =
     let entry = list-facts .before .before .before .before .before .before in
     sweep-asks (entry .pre) (list-facts .list-facts .ensures) (clear .clear .ensures) (note-facts .note-facts .ensures)
     (note-roots .note-roots .ensures .0) (note-roots .note-roots .ensures .1) (link-names .link-names .ensures)
-    (options-of .options-of .ensures .0 _ .prune-decls-is) (not-false _ (if1 .if1 .left)) (options-of .options-of .ensures .0 _ .follow-bodies-is) (not-false _ (if2 .if2 .left))
+    (options-of .options-of .ensures .0 _ _ .prune-decls-is) (not-false _ (if1 .if1 .left)) (options-of .options-of .ensures .0 _ _ .follow-bodies-is) (not-false _ (if2 .if2 .left))
     (follow .follow .ensures)
 
 list-groups-requires : tie.Need-list-groups-requires
@@ -160,7 +160,7 @@ list-groups-requires c κs =
     let entry = list-facts .before .before .before .before .before .before in
     groups-ask (entry .pre) (list-facts .list-facts .ensures) (clear .clear .ensures) (note-facts .note-facts .ensures)
     (note-roots .note-roots .ensures .0) (note-roots .note-roots .ensures .1) (link-names .link-names .ensures)
-    (options-of .options-of .ensures .0 _ .prune-decls-is) (not-false _ (if1 .if1 .left)) (options-of .options-of .ensures .0 _ .follow-bodies-is) (not-false _ (if2 .if2 .left))
+    (options-of .options-of .ensures .0 _ _ .prune-decls-is) (not-false _ (if1 .if1 .left)) (options-of .options-of .ensures .0 _ _ .follow-bodies-is) (not-false _ (if2 .if2 .left))
     (follow .follow .ensures) (sweep-added .sweep-added .ensures)
 
 same-length-3 : tie.Need-same-length-3
@@ -179,7 +179,7 @@ same-length-3 c =
     let entry = list-facts .before .before .before .before .before .before in
     listed-followed (entry .pre) (list-facts .list-facts .ensures) (clear .clear .ensures) (note-facts .note-facts .ensures)
     (note-roots .note-roots .ensures .0) (note-roots .note-roots .ensures .1) (link-names .link-names .ensures)
-    (options-of .options-of .ensures .0 _ .prune-decls-is) (not-false _ (if1 .if1 .left)) (options-of .options-of .ensures .0 _ .follow-bodies-is) (not-false _ (if2 .if2 .left))
+    (options-of .options-of .ensures .0 _ _ .prune-decls-is) (not-false _ (if1 .if1 .left)) (options-of .options-of .ensures .0 _ _ .follow-bodies-is) (not-false _ (if2 .if2 .left))
     (follow .follow .ensures) (sweep-added .sweep-added .ensures) (list-groups .list-groups .ensures) .same .same-length
 
 returns-3 : tie.Need-returns-3
@@ -198,7 +198,7 @@ returns-3 c =
     let entry = list-facts .before .before .before .before .before .before in
     listed-followed (entry .pre) (list-facts .list-facts .ensures) (clear .clear .ensures) (note-facts .note-facts .ensures)
     (note-roots .note-roots .ensures .0) (note-roots .note-roots .ensures .1) (link-names .link-names .ensures)
-    (options-of .options-of .ensures .0 _ .prune-decls-is) (not-false _ (if1 .if1 .left)) (options-of .options-of .ensures .0 _ .follow-bodies-is) (not-false _ (if2 .if2 .left))
+    (options-of .options-of .ensures .0 _ _ .prune-decls-is) (not-false _ (if1 .if1 .left)) (options-of .options-of .ensures .0 _ _ .follow-bodies-is) (not-false _ (if2 .if2 .left))
     (follow .follow .ensures) (sweep-added .sweep-added .ensures) (list-groups .list-groups .ensures)
 
 pub list-records-spec : {M : Type 1} → statement M

@@ -21,7 +21,7 @@ returns-2 c =
     let if1 = c .before in
     let at = if1 .before in
     let entry = at .before .before in
-    flag-on _ _ _ _ _ (at .at .ensures) (if1 .if1 .left) (c .options-of .ensures .0 _ .pretyping-axioms-is)
+    flag-on _ _ _ _ _ (at .at .ensures) (if1 .if1 .left) (c .options-of .ensures .0 _ _ .pretyping-axioms-is)
 
 pub retained-spec : {M : Type 1} → statement M
 retained-spec = tie.close (tie.spec add-at at-requires returns options-of-requires returns-2)
