@@ -6,16 +6,17 @@
 # does not come to the same number, nothing is printed. Only words depend on this: number and place are the filter's.
 
 BEGIN {
-    # What stands in the fields after the kind: a query, options, a flag, a name, a word of an op, a term; `*` any count of the
-    # last.
+    # What stands in the fields after the kind: a query, options, groups, a flag, a group, a name, a word of an op, a term,
+    # pattern groups; `*` any count of the last. In the newer form an assume has a group before its term.
     form["ask"] = "query options"
+    form["ask2"] = "query options groups"
     form["also"] = "query"
     form["hide"] = "name"
     form["free"] = "name"
     form["leaf"] = ""
     form["call"] = "name term*"
     form["op"] = "word term*"
-    form["all"] = form["some"] = "term groups"
+    form["all"] = form["some"] = "term patterns"
     form["let"] = "term term*"
     form["label"] = "term"
     form["assume"] = "name flag term"
@@ -27,22 +28,27 @@ BEGIN {
     many_terms = split("free leaf call op all some let label", words_of, " ")
     for (i = 1; i <= many_terms; i++) is_term[words_of[i]] = 1
     is_taken["assume"] = is_taken["fun"] = is_taken["def"] = 1
-    is_position["ask"] = is_position["also"] = 1
+    is_ask["ask"] = is_ask["ask2"] = 1
+    is_position["ask"] = is_position["ask2"] = is_position["also"] = 1
     many_words = split("true iff eq and other", words_of, " ")
     for (i = 1; i <= many_words; i++) is_word[words_of[i]] = 1
 
     most["query"] = 255
     most["options"] = 15
     most["flag"] = 1
-    most["count"] = most["term"] = 65535
+    most["group"] = 15
+    most["groups"] = most["count"] = most["term"] = 65535
     article["query"] = "a query"
     article["options"] = "an options number"
+    article["groups"] = "a groups number"
     article["flag"] = "a flag"
+    article["group"] = "a group"
     article["count"] = "a count"
     article["term"] = "a term"
     article["name"] = "a name"
     article["word"] = "an op word"
 
+    first_line = "ask,QUERY,OPTIONS or ask2,QUERY,OPTIONS,GROUPS"
     LINE_FEED = 10
     RETURN = 13
     COMMA = 44
@@ -62,7 +68,7 @@ BEGIN {
 
 END {
     if (!judged && length_of_line) end_line(0)
-    if (!judged && place == 1 && number == 1) print "line 1: the file is empty; its first line is ask,QUERY,OPTIONS"
+    if (!judged && place == 1 && number == 1) print "line 1: the file is empty; its first line is " first_line
 }
 
 # Judges the line that has been gathered if it is the refused one, else notes what later lines depend on.
@@ -74,6 +80,8 @@ function end_line(ended) {
         judge(ended)
     } else {
         kind = text(1)
+        if (line == 1) ask = kind
+        if (line == 1 && ask == "ask2") form["assume"] = "name flag group term"
         if (kind in is_position) position_lines++
         else past_positions = 1
         if (!(kind in is_position) && kind != "hide") past_head = 1
@@ -119,21 +127,33 @@ function judge(ended,   kind) {
     kind = text(1)
     if (!(kind in form)) {
         unknown_kind(kind)
-    } else if (line == 1 && kind != "ask") {
-        fault(1, 1, quoted(1) " stands where ask has to: line 1 is ask,QUERY,OPTIONS")
-    } else if (kind == "ask" && past_positions) {
-        fault(1, 1, "ask may stand only on line 1 or directly after an ask or also line")
+    } else if (line == 1 && !(kind in is_ask)) {
+        fault(1, 1, quoted(1) " stands where ask or ask2 has to: line 1 is " first_line)
+    } else if (line > 1 && kind in is_ask && kind != ask) {
+        fault(1, 1, quoted(1) " is of the other form: line 1 is " ask ", and so is every ask line")
+    } else if (kind in is_ask && past_positions) {
+        fault(1, 1, ask " may stand only on line 1 or directly after an " ask " or also line")
     } else if (kind == "also" && past_positions) {
-        fault(1, 1, "also may stand only directly after an ask or also line")
+        fault(1, 1, "also may stand only directly after an " ask " or also line")
     } else if (kind == "hide" && past_head) {
-        fault(1, 1, "hide may stand only directly after an ask, also or hide line")
+        fault(1, 1, "hide may stand only directly after an " ask ", also or hide line")
     } else if (kind in is_position && position_lines >= 16) {
         fault(13, 0, "the file has more than 16 ask and also lines")
-    } else if (form[kind] !~ /\*|groups/ && fields != 1 + split(form[kind], parts, " ")) {
-        fault(1, 0, "a line of kind " kind " has " counted(1 + split(form[kind], parts, " "), "field") ", this one " fields)
+    } else if (form[kind] !~ /\*|patterns/ && fields != 1 + split(form[kind], parts, " ")) {
+        fault(1, 0, "a line of kind " kind " has " counted(1 + split(form[kind], parts, " "), "field") ", this one " fields \
+            of_other_form(kind))
     } else if (judge_fields(kind)) {
         judge_record(kind)
     }
+}
+
+# What to say of a line that has the fields of the other form.
+function of_other_form(kind) {
+    if (kind == "ask" && fields == 4) return "; with groups it is ask2,QUERY,OPTIONS,GROUPS"
+    if (kind == "ask2" && fields == 3) return "; without groups it is ask,QUERY,OPTIONS"
+    if (kind == "assume" && ask == "ask" && fields == 5) return "; it has a group only where line 1 is ask2"
+    if (kind == "assume" && ask == "ask2" && fields == 4) return "; where line 1 is ask2 a group stands before the term"
+    return ""
 }
 
 # A first field that is no kind of line.
@@ -155,7 +175,7 @@ function judge_fields(kind,   field, i, many, sort) {
     many = split(form[kind], parts, " ")
     for (i = 1; i <= many; i++) {
         sort = parts[i]
-        if (sort == "groups") return judge_groups(field)
+        if (sort == "patterns") return judge_patterns(field)
         if (sort ~ /\*$/) {
             sub(/\*$/, "", sort)
             for (; field <= fields; field++) {
@@ -169,7 +189,7 @@ function judge_fields(kind,   field, i, many, sort) {
 }
 
 # Judges pattern groups: how many there are, then each as a count and its terms.
-function judge_groups(field,   groups, group, count, i) {
+function judge_patterns(field,   groups, group, count, i) {
     if (!judge_field(field, "count")) return 0
     groups = text(field++) + 0
     for (group = 1; group <= groups; group++) {

@@ -6,7 +6,7 @@ use std::path::Path;
 
 use compare::export::export;
 use compare::text::Text;
-use compare::{filter_file, limits};
+use compare::{filter_file, forms, limits};
 
 /// Where a file comes from.
 #[derive(Clone, Copy, PartialEq, Eq)]
@@ -26,20 +26,22 @@ pub struct Sample {
 /// The seed of the files that look like exports.
 pub const EXPORT_SEED: u64 = 1;
 
-/// The longest file that looks like an export, with one ask line, with as many as there may be, and with one and as many also
-/// lines as there may be.
+/// The longest file that looks like an export, with one ask line, with as many as there may be, with one and as many also lines
+/// as there may be, and with as many ask lines of the newer form as there may be.
 pub const ONE_ASK: &str = "export-like, 65 KB";
 pub const SIXTEEN_ASKS: &str = "export-like, 65 KB, sixteen asks";
 pub const FIFTEEN_ALSO: &str = "export-like, 65 KB, one ask and fifteen also lines";
+pub const SIXTEEN_HALVES: &str = "export-like, 65 KB, sixteen asks of half of the groups each";
 
 /// Files that look like what F* exports.
 pub fn exports() -> Vec<Sample> {
-    let files: [(&str, Vec<u8>); 5] = [
+    let files: [(&str, Vec<u8>); 6] = [
         ("export-like, 2 KB", export(EXPORT_SEED, 2_000)),
         ("export-like, 16 KB", export(EXPORT_SEED, 16_000)),
         (ONE_ASK, export(EXPORT_SEED, limits::BYTES)),
         (SIXTEEN_ASKS, sixteen_asks()),
         (FIFTEEN_ALSO, fifteen_also()),
+        (SIXTEEN_HALVES, sixteen_halves()),
     ];
     files.map(|(name, file)| Sample { name: name.to_owned(), sort: Sort::Export, file }).into()
 }
@@ -48,15 +50,39 @@ pub fn exports() -> Vec<Sample> {
 /// to these lines: so it fits the limit, and every list is that of the file with one ask line.
 fn sixteen_asks() -> Vec<u8> {
     let file = export(EXPORT_SEED, limits::BYTES);
-    let kept = filter_file(&file).lines();
+    let ask = file.split_inclusive(|&byte| byte == b'\n').next().unwrap_or_default();
+    let more = ask.repeat(limits::ASKS - 1);
+    [&more, &with_room(&file, more.len())[..]].concat()
+}
+
+/// A file with one ask line, without as many of the declarations that it does not keep as it takes to have room for so many
+/// bytes more.
+fn with_room(file: &[u8], bytes: usize) -> Vec<u8> {
+    let kept = filter_file(file).lines();
     let mut lines: Vec<&[u8]> = file.split_inclusive(|&byte| byte == b'\n').collect();
-    let mut left_over = (file.len() + (limits::ASKS - 1) * lines[0].len()).saturating_sub(limits::BYTES);
+    let mut left_over = (file.len() + bytes).saturating_sub(limits::BYTES);
     for index in (0..lines.len()).rev() {
         if left_over > 0 && lines[index].starts_with(b"fun,") && !kept.contains(&(index as u32 + 1)) {
             left_over = left_over.saturating_sub(lines.remove(index).len());
         }
     }
-    [lines[0].repeat(limits::ASKS - 1), lines.concat()].concat()
+    lines.concat()
+}
+
+/// The longest file that looks like an export in the newer form: its facts are of the sixteen groups in turn, and sixteen ask
+/// lines of its query admit eight groups each, other ones each. Declarations that it does not keep give way to what the form
+/// has more.
+fn sixteen_halves() -> Vec<u8> {
+    let file = export(EXPORT_SEED, limits::BYTES);
+    let in_newer = |file: &[u8]| {
+        let ask = file.split_inclusive(|&byte| byte == b'\n').next().unwrap_or_default();
+        let (mut halves, mut groups) = (0.., (0..=limits::GROUP).cycle());
+        let half = || u32::from(0x00ff_u16.rotate_left(halves.next().unwrap_or_default()));
+        let group = || groups.next().unwrap_or_default();
+        forms::newer(&[&ask.repeat(limits::ASKS - 1), file].concat(), half, group)
+    };
+    let more = in_newer(&file).len() - file.len();
+    in_newer(&with_room(&file, more))
 }
 
 /// The file of sixteen asks with an also line of the same query in place of each ask line but the first: so the one run is
@@ -276,6 +302,18 @@ mod tests {
         let mut lists = vec![(names.clone(), 0, 1); limits::ASKS];
         lists[0] = (names, visits, rounds);
         assert_eq!(answer_to(FIFTEEN_ALSO), lists);
+    }
+
+    #[test]
+    fn sixteen_asks_admit_half_of_the_groups_each() {
+        let file = sixteen_halves();
+        assert!((limits::BYTES - 200..=limits::BYTES).contains(&file.len()), "{}", file.len());
+        let (lists, whole) = (answer_to(SIXTEEN_HALVES), answer_to(ONE_ASK).remove(0));
+        assert_eq!(lists.len(), limits::ASKS);
+        for (index, (names, visits, rounds)) in lists.iter().enumerate() {
+            assert!(*visits < whole.1 && *rounds > 1 && names.len() > 20, "{index}");
+            assert!(lists[..index].iter().all(|before| before.0 != *names), "{index}");
+        }
     }
 
     #[test]

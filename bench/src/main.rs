@@ -101,6 +101,9 @@ fn run(options: &Options) -> io::Result<()> {
     if let Some(times) = instructions_for(&rows, files::FIFTEEN_ALSO, files::SIXTEEN_ASKS) {
         println!("one ask and fifteen also lines: {times:.2} times the instructions of sixteen asks");
     }
+    if let Some(times) = instructions_for(&rows, files::SIXTEEN_HALVES, files::SIXTEEN_ASKS) {
+        println!("sixteen asks of half of the groups each: {times:.2} times the instructions of sixteen asks");
+    }
 
     if let Some(path) = &options.document {
         let text = fs::read_to_string(path)?;

@@ -84,6 +84,22 @@ int main(void)
     stretch = wimplejade_list_at(&answer, slices.result, 3);
     check(stretch.lines[1] == 10 && stretch.visits == 0 && stretch.rounds == 1, "a stretch that adds nothing");
 
+    text = "ask2,0,0,1\nask2,9,0,2\nalso,0\nask2,0,0,0\nfree,p\nop,eq,0,0\nassume,a,0,0,1\nassume,b,0,1,1\nroot,0,goal,0\n";
+    answer = wimplejade_run((const uint8_t *)text, strlen(text), &slices);
+    check(wimplejade_asks(&answer) == 4, "three ask lines of the newer form and an also line");
+    check(list_is(&answer, 1, 1, 7) && list_is(&answer, 2, 0, 0) && list_is(&answer, 3, 1, 8) && list_is(&answer, 4, 0, 0),
+          "the lists of groups");
+    check(wimplejade_list_at(&answer, slices.result, 1).visits == 2, "the visits of one group");
+    check(has_name(text, 8, "b"), "the name of a fact with a group");
+
+    text = "ask2,0,0,1\nask,0,0\n";
+    answer = wimplejade_run((const uint8_t *)text, strlen(text), &slices);
+    check(answer.refusal == WIMPLEJADE_FORM && answer.place == 2, "an ask line of the older form after one of the newer");
+
+    text = "ask2,0,0,1\nleaf\nassume,a,0,16,0\n";
+    answer = wimplejade_run((const uint8_t *)text, strlen(text), &slices);
+    check(answer.refusal == WIMPLEJADE_NUMBER && answer.place == 3, "a group out of its range");
+
     text = "ask,0,0\nhide,p\nalso,0\n";
     answer = wimplejade_run((const uint8_t *)text, strlen(text), &slices);
     check(answer.refusal == WIMPLEJADE_FORM && answer.place == 3 && wimplejade_asks(&answer) == 0, "an also line after hide");

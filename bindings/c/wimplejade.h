@@ -16,15 +16,16 @@ extern "C" {
 
 /* The version; the archive has to be of the same one. While the first number is 0, a change of the second may change the
  * functions, the answer or the file. */
-#define WIMPLEJADE_VERSION "0.4.0"
+#define WIMPLEJADE_VERSION "0.5.0"
 #define WIMPLEJADE_VERSION_MAJOR 0
-#define WIMPLEJADE_VERSION_MINOR 4
+#define WIMPLEJADE_VERSION_MINOR 5
 #define WIMPLEJADE_VERSION_PATCH 0
 
 /* The words that each working slice must have at least. */
 #define WIMPLEJADE_WORKING_WORDS 16384
 
-/* The ask and also lines that a file may have, together: so many lists an answer can have. */
+/* The ask and also lines that a file may have, together: so many lists an answer can have. Ask lines are spelled `ask` or, in
+ * a file whose facts have groups, `ask2`. */
 #define WIMPLEJADE_MOST_ASKS 16
 
 /* The record lines that a file may have: so many lines one list can have. */
@@ -45,7 +46,7 @@ extern "C" {
  * limits is refused with the lowest of 6, 10, 11 and 12. */
 enum wimplejade_refusal {
     WIMPLEJADE_ACCEPTED = 0,       /* not refused; 0 */
-    WIMPLEJADE_FORM = 1,           /* not a line of the file's form; the line */
+    WIMPLEJADE_FORM = 1,           /* not a line of the file's form, an ask line of the other form too; the line */
     WIMPLEJADE_NAME = 2,           /* a field is no name; the line */
     WIMPLEJADE_NUMBER = 3,         /* a field is no number, or outside its range; the line */
     WIMPLEJADE_TERM = 4,           /* a term number that is not there yet; the line */
@@ -75,7 +76,8 @@ struct wimplejade_answer {
  *
  * A slice is passed as a pointer and the number of its elements: bytes of the file, 32-bit words of the others.
  * `working0` to `working5` are the six working slices. `result` takes the kept line numbers: the list of each ask and also
- * line, in its order, directly after that of the line before.
+ * line, in its order, directly after that of the line before. A fact of a group that an ask line does not admit is read, takes
+ * its name and counts for every limit, but is not there for that line and the also lines after it.
  *
  * The call always returns, whatever the file holds and however short a slice is. It writes nothing but the slices as
  * said here, allocates nothing, keeps nothing between calls, and reads and writes no file.

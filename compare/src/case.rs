@@ -5,7 +5,7 @@
 use std::io::{self, Write};
 
 use crate::limits;
-use crate::reader;
+use crate::reader::{self, Form};
 use crate::text::{Position, Text};
 use crate::{filter_in, Order, LONG_ENOUGH};
 
@@ -59,8 +59,8 @@ const PROBED_BYTES: usize = 5_000;
 
 /// An accepted file once more for each of its names, with a root that has that name alone, and with roots for all names
 /// but that one. This shows each name of each disjunct in the answers. Every ask line asks for these roots, with its own
-/// options, and so does every also line: where one follows an ask line, that asks for a query without roots, so that the
-/// first stretch meets the names. The file's own roots are of other queries.
+/// options and groups, and so does every also line: where one follows an ask line, that asks for a query without roots, so
+/// that the first stretch meets the names. The file's own roots are of other queries.
 ///
 /// There are none for a file with very many names or bytes, or without facts.
 pub fn probes(case: &Case) -> Vec<Case> {
@@ -76,10 +76,14 @@ pub fn probes(case: &Case) -> Vec<Case> {
         return Vec::new();
     };
     let asks = &background.asks;
+    let asked = |ask: &reader::Ask, query: u32| match background.form {
+        Some(Form::Newer) => Position::Ask2(query, ask.options(), ask.groups),
+        _ => Position::Ask(query, ask.options()),
+    };
     let position = |(index, ask): (usize, &reader::Ask)| match asks.get(index + 1) {
         _ if ask.is_also() => Position::Also(query),
-        Some(next) if next.is_also() => Position::Ask(none, ask.options()),
-        _ => Position::Ask(query, ask.options()),
+        Some(next) if next.is_also() => asked(ask, none),
+        _ => asked(ask, query),
     };
     let positions: Vec<Position> = asks.iter().enumerate().map(position).collect();
     let mut lines = Text::positions(&positions).finish();
@@ -162,6 +166,15 @@ mod tests {
         let probes = probes(&Case::new("x", file.to_vec()));
         assert!(probes.iter().all(|probe| probe.file.starts_with(b"ask,255,0\nask,255,4\nfree,p\n")));
         let answer = "case,x-with-0\nkept,6,a\nsum,1,2,2\nkept,6,a\nkept,4,p\nsum,2,2,2\nslices,ok\n";
+        assert_eq!(probes[0].answer(Order::Source), answer);
+    }
+
+    #[test]
+    fn probes_ask_with_the_groups_of_each_ask() {
+        let file = b"ask2,0,0,2\nask2,0,4,1\nfree,p\nfun,p\nop,eq,0,0\nassume,a,0,1,1\nroot,0,r,0\n";
+        let probes = probes(&Case::new("x", file.to_vec()));
+        assert!(probes.iter().all(|probe| probe.file.starts_with(b"ask2,255,0,2\nask2,255,4,1\nfree,p\n")));
+        let answer = "case,x-with-0\nkept,6,a\nsum,1,2,2\nkept,4,p\nsum,1,0,1\nslices,ok\n";
         assert_eq!(probes[0].answer(Order::Source), answer);
     }
 

@@ -6,6 +6,7 @@
 use crate::asks;
 use crate::case::Case;
 use crate::chains;
+use crate::groups;
 use crate::limits;
 use crate::several;
 use crate::terms::TermId;
@@ -58,6 +59,10 @@ pub fn edges() -> Vec<Edge> {
     chains::lines(&mut edges);
     chains::limits_and_rooms(&mut edges);
     chains::stretches(&mut edges);
+    groups::lines(&mut edges);
+    groups::forms(&mut edges);
+    groups::limits_and_rooms(&mut edges);
+    groups::runs(&mut edges);
     edges
 }
 

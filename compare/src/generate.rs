@@ -4,8 +4,10 @@ use std::collections::HashSet;
 
 use crate::case::Case;
 use crate::edges;
+use crate::forms;
 use crate::limits;
 use crate::random::Random;
+use crate::reader::Form;
 use crate::several;
 use crate::terms::TermId;
 use crate::text::{Position, Text};
@@ -68,7 +70,10 @@ fn any(random: &mut Random) -> Case {
         50..=77 => Case::new("damaged", damaged(random)),
         78..=85 => Case::new("raw", raw(random)),
         86..=88 => Case::new("near", near_a_limit(random)),
-        89 => Case::new("full", several::nearly_full(random)),
+        89 => {
+            let file = several::nearly_full(random);
+            Case::new("full", in_some_form(file, random))
+        }
         _ => lent(random),
     }
 }
@@ -104,13 +109,46 @@ fn positions(random: &mut Random) -> Vec<Position> {
     positions
 }
 
-/// An ask or an also line.
-fn position(random: &mut Random) -> Position {
+/// An ask line, mostly of this form, or an also line.
+fn position(form: Form, random: &mut Random) -> Position {
     let query = random.below(3) as u32;
-    if random.chance(50) {
-        Position::Also(query)
+    match (random.below(100), form) {
+        (0..=49, _) => Position::Also(query),
+        (50..=94, Form::Newer) | (95.., Form::Older) => Position::Ask2(query, options(random), groups(random)),
+        _ => Position::Ask(query, options(random)),
+    }
+}
+
+/// The groups of an ask: none, all, one, all but one, or any.
+fn groups(random: &mut Random) -> u32 {
+    let one = 1 << random.below(16);
+    match random.below(10) {
+        0 => 0,
+        1..=3 => limits::GROUPS,
+        4 => one,
+        5..=6 => limits::GROUPS - one,
+        7 => random.below(16) as u32,
+        _ => random.bits() as u32 & limits::GROUPS,
+    }
+}
+
+/// A file of the older form, as it is or in the newer one. There the facts are of all groups or of a few.
+fn in_some_form(file: Vec<u8>, random: &mut Random) -> Vec<u8> {
+    if random.chance(55) {
+        return file;
+    }
+    let few = [random.below(16) as u32, random.below(4) as u32, random.below(2) as u32];
+    let (all, mut asked) = (random.chance(40), Random::new(random.bits()));
+    let group = || if all { random.below(16) as u32 } else { random.pick(&few) };
+    forms::newer(&file, || groups(&mut asked), group)
+}
+
+/// The form of a file by its first bytes.
+fn form(file: &[u8]) -> Form {
+    if file.starts_with(b"ask2") {
+        Form::Newer
     } else {
-        Position::Ask(query, options(random))
+        Form::Older
     }
 }
 
@@ -121,16 +159,18 @@ pub fn formed(random: &mut Random) -> Vec<u8> {
         6..=8 => random.within(20..=120),
         _ => random.within(200..=1_000),
     };
-    Grower::new(random).grow(steps).finish()
+    let file = Grower::new(random).grow(steps).finish();
+    in_some_form(file, random)
 }
 
 /// A small well-formed file.
 fn small(random: &mut Random) -> Vec<u8> {
     let steps = random.within(1..=40);
-    Grower::new(random).grow(steps).finish()
+    let file = Grower::new(random).grow(steps).finish();
+    in_some_form(file, random)
 }
 
-/// A well-formed file that grows step by step.
+/// A well-formed file of the older form that grows step by step.
 struct Grower<'r> {
     random: &'r mut Random,
     text: Text,
@@ -579,8 +619,8 @@ fn damage_bytes(file: &mut Vec<u8>, random: &mut Random) {
 }
 
 /// Words that stand in files, good in some places.
-const WORDS: [&str; 37] = [
-    "ask", "also", "hide", "free", "leaf", "call", "op", "all", "some", "let", "label", "assume", "fun", "def",
+const WORDS: [&str; 38] = [
+    "ask", "ask2", "also", "hide", "free", "leaf", "call", "op", "all", "some", "let", "label", "assume", "fun", "def",
     "retain", "root", "true", "iff", "eq", "and", "other", "xor", "Free", "", "0", "1", "2", "255", "256", "65535",
     "65536", "00", "01", "-1", "8", "15", "16",
 ];
@@ -618,7 +658,7 @@ fn damage_fields(file: &mut Vec<u8>, random: &mut Random) {
 }
 
 /// Lines of the head of a file, good ones and bad ones.
-const HEAD_LINES: [&str; 30] = [
+const HEAD_LINES: [&str; 44] = [
     "hide,p",
     "hide,p",
     "hide,f@tok",
@@ -648,31 +688,73 @@ const HEAD_LINES: [&str; 30] = [
     "also,0,0",
     "also,00",
     "Also,0",
+    "ask2,0,0,0",
+    "ask2,0,0,1",
+    "ask2,1,12,65535",
+    "ask2,2,7,4",
+    "ask2,255,15,32768",
+    "ask2",
+    "ask2,0,0",
+    "ask2,0,0,",
+    "ask2,0,0,65536",
+    "ask2,0,0,01",
+    "ask2,0,0,0,0",
+    "ask2,256,0,0",
+    "ask,0,0,1",
+    "ask3,0,0,1",
     "leaf",
 ];
 
 fn damage_lines(file: &mut Vec<u8>, random: &mut Random) {
+    let form = form(file);
     let mut lines: Vec<Vec<u8>> = file.split(|&byte| byte == b'\n').map(<[u8]>::to_vec).collect();
     let (at, other) = (random.below(lines.len()), random.below(lines.len()));
     let is_position = |line: &&Vec<u8>| line.starts_with(b"ask") || line.starts_with(b"also");
     let head = lines.iter().take_while(|line| is_position(line) || line.starts_with(b"hide")).count();
     let repeats = |line: &&Vec<u8>| [&b"assume"[..], b"fun", b"def"].iter().any(|kind| line.starts_with(kind));
-    match random.below(13) {
+    match random.below(14) {
         0 => {
             lines.remove(at);
         }
-        10 => lines[0] = format!("ask,{},{}", random.below(3), random.within(4..=20)).into_bytes(),
+        // The fields of the other form: a group more or less in a fact, or other groups.
+        13 => {
+            let facts: Vec<usize> = (0..lines.len()).filter(|&line| lines[line].starts_with(b"assume,")).collect();
+            if !facts.is_empty() {
+                let line = random.pick(&facts);
+                let mut fields: Vec<Vec<u8>> = lines[line].split(|&byte| byte == b',').map(<[u8]>::to_vec).collect();
+                let group = random.pick(&["0", "1", "15", "16", "65536", "", "00", "x"]).as_bytes().to_vec();
+                match random.below(3) {
+                    0 if fields.len() > 4 => {
+                        fields.remove(3);
+                    }
+                    0 | 1 => fields.insert(fields.len().min(3), group),
+                    _ if fields.len() > 4 => fields[3] = group,
+                    _ => {}
+                }
+                lines[line] = fields.join(&b',');
+            }
+        }
+        10 => {
+            let (query, options) = (random.below(3) as u32, random.within(4..=20) as u32);
+            lines[0] = match random.below(10) {
+                0..=6 if form == Form::Newer => Position::Ask2(query, options, groups(random)),
+                0 => Position::Ask2(query, options, groups(random)),
+                _ => Position::Ask(query, options),
+            }
+            .to_string()
+            .into_bytes();
+        }
         // As many ask and also lines as there may be, or one or two more; the last of them may be anything.
         11 => {
             let positions = lines.iter().take_while(is_position).count();
             let more = random.within(limits::ASKS - 1..=limits::ASKS + 1).saturating_sub(positions);
             for _ in 0..more {
-                lines.insert(positions, position(random).to_string().into_bytes());
+                lines.insert(positions, position(form, random).to_string().into_bytes());
             }
             lines.insert(positions + more, random.pick(&HEAD_LINES).as_bytes().to_vec());
         }
         // An ask or also line anywhere.
-        12 => lines.insert(at, position(random).to_string().into_bytes()),
+        12 => lines.insert(at, position(form, random).to_string().into_bytes()),
         1 => lines.insert(other, lines[at].clone()),
         // A line in the head of the file, and one anywhere.
         8 => lines.insert(random.within(0..=head), random.pick(&HEAD_LINES).as_bytes().to_vec()),
@@ -699,8 +781,10 @@ pub fn raw(random: &mut Random) -> Vec<u8> {
         _ => random.within(65_000..=65_600),
     };
     let mut file = Vec::new();
-    if random.chance(50) {
-        file.extend_from_slice(b"ask,0,0\n");
+    match random.below(10) {
+        0..=2 => file.extend_from_slice(b"ask,0,0\n"),
+        3..=4 => file.extend_from_slice(b"ask2,0,0,1\n"),
+        _ => {}
     }
     let words = random.chance(70);
     while file.len() < length {
@@ -802,6 +886,7 @@ pub fn near_a_limit(random: &mut Random) -> Vec<u8> {
         "free,z9 ",
         "hide,z9",
         "ask,0,0",
+        "ask2,0,0,1",
         "also,0",
     ];
     for _ in 0..random.within(2..=10) {
@@ -810,8 +895,9 @@ pub fn near_a_limit(random: &mut Random) -> Vec<u8> {
     if random.chance(5) && text.len() < 65_000 {
         let total = random.within(65_534..=65_537);
         edges::add_bytes(&mut text, total);
+        return text.finish();
     }
-    text.finish()
+    in_some_form(text.finish(), random)
 }
 
 /// A case in which the lengths of the slices matter.
@@ -873,12 +959,31 @@ mod tests {
         assert_eq!(longest, (0..=limits::ASKS + 1).collect());
     }
 
+    /// Files of both forms, and in those of the newer one every group on and off, with facts in it or without.
+    #[test]
+    fn both_forms_and_every_group_are_generated() {
+        let (mut random, mut newer, mut groups, mut off) = (Random::new(9), [0, 0], [[0; 16]; 2], 0);
+        for _ in 0..600 {
+            let file = formed(&mut random);
+            let Ok(background) = crate::reader::read(&file) else { continue };
+            newer[usize::from(background.form == Some(Form::Newer))] += 1;
+            for ask in &background.asks {
+                for fact in &background.facts {
+                    groups[usize::from(ask.admits(fact))][fact.group as usize] += 1;
+                }
+                off += usize::from(background.facts.iter().any(|fact| !ask.admits(fact)));
+            }
+        }
+        assert!(newer.iter().all(|&count| count > 150), "{newer:?}");
+        assert!(groups.iter().flatten().all(|&count| count > 20) && off > 150, "{groups:?} {off}");
+    }
+
     /// Stretches of every sort: of a query that is new to its chain or not, with roots or without, that meet names or none,
     /// of several rounds, that reach a fact.
     #[test]
     fn stretches_of_every_sort_are_generated() {
         let (mut random, mut again, mut rootless, mut idle, mut long, mut reaching) = (Random::new(8), 0, 0, 0, 0, 0);
-        for _ in 0..1_000 {
+        for _ in 0..1_300 {
             let file = formed(&mut random);
             let Outcome::Kept(lists) = filter_file(&file) else { continue };
             let background = crate::reader::read(&file).unwrap_or_default();

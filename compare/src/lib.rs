@@ -1,8 +1,9 @@
-//! The fact filter of document 01 with Changes 1, 3, 6 to 8 and 11 of document 02, written independently in plain Rust with
-//! the standard collections.
+//! The fact filter of document 01 with Changes 1, 3, 6 to 8, 11 and 13 of document 02, written independently in plain Rust
+//! with the standard collections.
 //!
 //! It reads a file of terms, facts and roots, and keeps for each ask the facts that the roots of its query can touch, with
 //! the definitions and declarations that come with them; an also line adds the roots of a query to those of the line before.
+//! In a file of the newer form facts have groups, and an ask has to do with those facts alone whose group it admits.
 //! [`filter`] is the whole call; [`summaries`] says how each fact is triggered. Both answer with the refusals of these
 //! documents.
 
@@ -12,7 +13,9 @@ mod chains;
 pub mod edges;
 pub mod export;
 mod fields;
+pub mod forms;
 pub mod generate;
+mod groups;
 pub mod limits;
 mod names;
 mod prune;

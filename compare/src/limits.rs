@@ -24,6 +24,10 @@ pub const NUMBER: u32 = 65_535;
 pub const QUERY: u32 = 255;
 /// The largest options number.
 pub const OPTIONS: u32 = 15;
+/// The largest group of a fact.
+pub const GROUP: u32 = 15;
+/// The largest number of admitted groups: a bit for each group.
+pub const GROUPS: u32 = (1 << (GROUP + 1)) - 1;
 /// Words that each working slice must have.
 pub const WORK_WORDS: usize = 16_384;
 /// Words of a result slice that is long enough for every file: a list has at most every record line.

@@ -32,7 +32,7 @@ pub fn prune(background: &Background, order: Order) -> Vec<Kept> {
     let mut answers = Vec::new();
     for ask in &background.asks {
         let before = chain.take().filter(|_| ask.is_also());
-        let scan = chain.insert(before.unwrap_or_else(|| Scan::new(background, ask.pretyping_axioms)));
+        let scan = chain.insert(before.unwrap_or_else(|| Scan::new(background, ask)));
         scan.stretch(ask);
         let records = records(background, ask, &scan.reached, order);
         answers.push(Kept { records, visits: scan.visits, rounds: scan.rounds });
@@ -47,7 +47,7 @@ fn roots_of<'b>(background: &'b Background, queries: &'b [u32]) -> impl Iterator
 
 /// Whether a fact is ambient and counts for an ask.
 fn is_ambient(ask: &Ask, fact: &Fact) -> bool {
-    !ask.no_ambients && matches!(fact.kind, Kind::Ambient { .. })
+    !ask.no_ambients && ask.admits(fact) && matches!(fact.kind, Kind::Ambient { .. })
 }
 
 /// What is kept where these facts are reached.
@@ -138,7 +138,7 @@ struct Scan<'b> {
     pretyping_axioms: bool,
     /// The names that each macro opens to.
     macros: HashMap<NameId, Vec<NameId>>,
-    /// The entries filed under each name.
+    /// The entries of admitted facts filed under each name.
     waiting: HashMap<NameId, Vec<Entry>>,
     /// How many names of each disjunct of each fact are not met yet.
     missing: Vec<Vec<usize>>,
@@ -152,10 +152,11 @@ struct Scan<'b> {
 }
 
 impl<'b> Scan<'b> {
-    fn new(background: &'b Background<'b>, pretyping_axioms: bool) -> Self {
+    /// The start of the chain of an ask line: all admitted facts are filed.
+    fn new(background: &'b Background<'b>, ask: &Ask) -> Self {
         let mut scan = Scan {
             background,
-            pretyping_axioms,
+            pretyping_axioms: ask.pretyping_axioms,
             macros: HashMap::new(),
             waiting: HashMap::new(),
             missing: Vec::new(),
@@ -173,12 +174,14 @@ impl<'b> Scan<'b> {
         scan.macros.extend(background.macros.iter().map(|(&name, free)| (name, free.iter().collect())));
         for (fact, record) in background.facts.iter().enumerate() {
             let mut missing = Vec::new();
-            if let Kind::Triggers(disjuncts) = &record.kind {
-                for (disjunct, names) in disjuncts.iter().enumerate() {
-                    missing.push(names.len());
-                    for &name in names {
-                        scan.waiting.entry(name).or_default().push(Entry { fact, disjunct });
-                    }
+            let disjuncts: &[Vec<NameId>] = match &record.kind {
+                Kind::Triggers(disjuncts) if ask.admits(record) => disjuncts,
+                _ => &[],
+            };
+            for (disjunct, names) in disjuncts.iter().enumerate() {
+                missing.push(names.len());
+                for &name in names {
+                    scan.waiting.entry(name).or_default().push(Entry { fact, disjunct });
                 }
             }
             scan.satisfied.push(missing.contains(&0));

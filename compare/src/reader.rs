@@ -14,6 +14,8 @@ pub struct Fact {
     pub line: u32,
     pub name: NameId,
     pub pretyping: bool,
+    /// Its group; 0 in the older form.
+    pub group: u32,
     pub free: NameSet,
     pub kind: Kind,
 }
@@ -24,7 +26,16 @@ pub struct Declaration {
     pub is_fun: bool,
 }
 
-/// A position: an `ask` line, or an `also` line with the options of its ask.
+/// The form of a file: how its ask lines are spelled, and with it whether its facts have groups.
+#[derive(Clone, Copy, Debug, PartialEq, Eq)]
+pub enum Form {
+    /// `ask`: no groups.
+    Older,
+    /// `ask2`: groups.
+    Newer,
+}
+
+/// A position: an `ask` or `ask2` line, or an `also` line with the options and the groups of its ask.
 #[derive(Clone)]
 pub struct Ask {
     /// The queries of its chain so far, its own last. An ask line has one, an also line more.
@@ -33,13 +44,20 @@ pub struct Ask {
     pub pretyping_axioms: bool,
     pub prune_decls: bool,
     pub follow_bodies: bool,
+    /// The groups that are admitted, group k by bit k; all in the older form.
+    pub groups: u32,
 }
 
 impl Ask {
-    fn new(query: u32, options: u32) -> Self {
+    fn new(query: u32, options: u32, groups: u32) -> Self {
         let on = |option: u32| options & option != 0;
         let queries = vec![query];
-        Ask { queries, no_ambients: on(1), pretyping_axioms: on(2), prune_decls: on(4), follow_bodies: on(8) }
+        Ask { queries, no_ambients: on(1), pretyping_axioms: on(2), prune_decls: on(4), follow_bodies: on(8), groups }
+    }
+
+    /// Whether the group of a fact is admitted. A fact of another group is not there for this position.
+    pub fn admits(&self, fact: &Fact) -> bool {
+        self.groups >> fact.group & 1 == 1
     }
 
     /// The position that goes on from this one with a query.
@@ -70,6 +88,8 @@ pub struct Root {
 /// What an accepted file says.
 #[derive(Default)]
 pub struct Background<'a> {
+    /// That of the first line; none before it is read.
+    pub form: Option<Form>,
     /// The ask and also lines in their order, the first an ask line.
     pub asks: Vec<Ask>,
     pub names: Names<'a>,
@@ -139,7 +159,8 @@ impl<'a> Reader<'a> {
         let mut fields = Fields::new(line);
         let kind = fields.field()?;
         let (now, may_stand) = match kind {
-            b"ask" => (Before::Ask, matches!(self.before, Before::Nothing | Before::Ask)),
+            b"ask" => (Before::Ask, self.may_ask(Form::Older)),
+            b"ask2" => (Before::Ask, self.may_ask(Form::Newer)),
             b"also" => (Before::Ask, self.before == Before::Ask),
             b"hide" => (Before::Hide, matches!(self.before, Before::Ask | Before::Hide)),
             _ => (Before::Other, self.before != Before::Nothing),
@@ -149,7 +170,8 @@ impl<'a> Reader<'a> {
         }
         self.before = now;
         match kind {
-            b"ask" => self.ask(fields),
+            b"ask" => self.ask(Form::Older, fields),
+            b"ask2" => self.ask(Form::Newer, fields),
             b"also" => self.also(fields),
             b"hide" => self.hide(fields),
             b"free" | b"leaf" | b"call" | b"op" | b"all" | b"some" | b"let" | b"label" => {
@@ -165,12 +187,19 @@ impl<'a> Reader<'a> {
         }
     }
 
-    fn ask(&mut self, mut fields: Fields<'a>) -> Result<(), Fault> {
+    /// Whether an ask line of a form may stand here: only one of the file's form may, whatever its place.
+    fn may_ask(&self, form: Form) -> bool {
+        matches!(self.before, Before::Nothing | Before::Ask) && self.background.form.unwrap_or(form) == form
+    }
+
+    fn ask(&mut self, form: Form, mut fields: Fields<'a>) -> Result<(), Fault> {
         self.one_position_more()?;
-        fields.exactly(2)?;
+        self.background.form = Some(form);
+        fields.exactly(if form == Form::Newer { 3 } else { 2 })?;
         let query = fields.number(limits::QUERY)?;
         let options = fields.number(limits::OPTIONS)?;
-        self.background.asks.push(Ask::new(query, options));
+        let groups = if form == Form::Newer { fields.number(limits::GROUPS)? } else { limits::GROUPS };
+        self.background.asks.push(Ask::new(query, options, groups));
         Ok(())
     }
 
@@ -223,7 +252,7 @@ impl<'a> Reader<'a> {
             // `all` and `some`
             _ => {
                 let body = fields.term(count)?;
-                let groups = groups(&mut fields, count)?;
+                let groups = pattern_groups(&mut fields, count)?;
                 fields.end()?;
                 Ok(if kind == b"all" { Term::All { body, groups } } else { Term::Some { body, groups } })
             }
@@ -241,9 +270,11 @@ impl<'a> Reader<'a> {
     }
 
     fn assume(&mut self, line: u32, mut fields: Fields<'a>) -> Result<(), Fault> {
-        fields.exactly(3)?;
+        let has_group = self.background.form == Some(Form::Newer);
+        fields.exactly(if has_group { 4 } else { 3 })?;
         let name = self.name(&mut fields)?;
         let pretyping = fields.number(1)? == 1;
+        let group = if has_group { fields.number(limits::GROUP)? } else { 0 };
         let term = fields.term(self.background.terms.len())?;
         self.take(name)?;
 
@@ -255,7 +286,7 @@ impl<'a> Reader<'a> {
         let kind = kind.ok_or(Fault::FullTriggers)?;
         self.entries += kind.entries();
         let free = self.add_uses(term)?;
-        self.background.facts.push(Fact { line, name, pretyping, free, kind });
+        self.background.facts.push(Fact { line, name, pretyping, group, free, kind });
         Ok(())
     }
 
@@ -348,7 +379,7 @@ fn op(word: &[u8]) -> Result<Op, Fault> {
 }
 
 /// The pattern groups of a quantifier: how many, and for each a count and that many terms.
-fn groups(fields: &mut Fields, count: usize) -> Result<Vec<Vec<usize>>, Fault> {
+fn pattern_groups(fields: &mut Fields, count: usize) -> Result<Vec<Vec<usize>>, Fault> {
     let mut groups = Vec::new();
     for _ in 0..fields.number(limits::NUMBER)? {
         let mut group = Vec::new();

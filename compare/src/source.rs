@@ -62,7 +62,9 @@ impl<'b> State<'b> {
         for (&name, free) in &background.macros {
             state.macro_freenames.insert(background.names.bytes(name), spelled(background, free.iter()));
         }
-        for (index, fact) in background.facts.iter().enumerate() {
+        // Change 13: the other facts are not there.
+        let admitted = background.facts.iter().filter(|fact| ask.admits(fact));
+        for (index, fact) in admitted.enumerate() {
             state.assumptions.push(Assumption {
                 name: background.names.bytes(fact.name),
                 line: fact.line,
@@ -333,7 +335,7 @@ fn check_ask(name: &str, background: &Background, ask: &Ask, records: &[(u32, Na
     assert_eq!((reached, visits), least_closed_set(background, ask), "{name}");
 
     let mut listed = NameSet::empty();
-    for fact in &background.facts {
+    for fact in background.facts.iter().filter(|fact| ask.admits(fact)) {
         if let Kind::Triggers(disjuncts) = &fact.kind {
             for &name in disjuncts.iter().flatten() {
                 listed.insert(name);

@@ -7,8 +7,10 @@ pub use crate::terms::TermId;
 /// A line that is answered by a list.
 #[derive(Clone, Copy, Debug, PartialEq, Eq)]
 pub enum Position {
-    /// An ask line: its query and its options number.
+    /// An ask line of the older form: its query and its options number.
     Ask(u32, u32),
+    /// An ask line of the newer form: its query, its options number and the number of its groups.
+    Ask2(u32, u32, u32),
     /// An also line: its query.
     Also(u32),
 }
@@ -17,7 +19,25 @@ impl Position {
     /// Its query.
     pub fn query(self) -> u32 {
         match self {
-            Position::Ask(query, _) | Position::Also(query) => query,
+            Position::Ask(query, _) | Position::Ask2(query, _, _) | Position::Also(query) => query,
+        }
+    }
+
+    /// The line with another query.
+    pub fn with_query(self, query: u32) -> Self {
+        match self {
+            Position::Ask(_, options) => Position::Ask(query, options),
+            Position::Ask2(_, options, groups) => Position::Ask2(query, options, groups),
+            Position::Also(_) => Position::Also(query),
+        }
+    }
+
+    /// The line with other options, where it has some.
+    pub fn with_options(self, options: u32) -> Self {
+        match self {
+            Position::Ask(query, _) => Position::Ask(query, options),
+            Position::Ask2(query, _, groups) => Position::Ask2(query, options, groups),
+            Position::Also(_) => self,
         }
     }
 }
@@ -27,6 +47,7 @@ impl Display for Position {
     fn fmt(&self, out: &mut fmt::Formatter) -> fmt::Result {
         match self {
             Position::Ask(query, options) => write!(out, "ask,{query},{options}"),
+            Position::Ask2(query, options, groups) => write!(out, "ask2,{query},{options},{groups}"),
             Position::Also(query) => write!(out, "also,{query}"),
         }
     }
@@ -49,6 +70,11 @@ impl Text {
     pub fn asks(asks: &[(u32, u32)]) -> Self {
         let asks: Vec<Position> = asks.iter().map(|&(query, options)| Position::Ask(query, options)).collect();
         Text::positions(&asks)
+    }
+
+    /// A file of the newer form with its first line.
+    pub fn ask2(query: u32, options: u32, groups: u32) -> Self {
+        Text::positions(&[Position::Ask2(query, options, groups)])
     }
 
     /// A file with its ask and also lines.
@@ -144,6 +170,11 @@ impl Text {
 
     pub fn assume(&mut self, name: impl Display, flag: u32, term: TermId) {
         self.line(format!("assume,{name},{flag},{term}"));
+    }
+
+    /// A fact of the newer form.
+    pub fn assume_in(&mut self, group: u32, name: impl Display, flag: u32, term: TermId) {
+        self.line(format!("assume,{name},{flag},{group},{term}"));
     }
 
     pub fn fun(&mut self, name: impl Display) {

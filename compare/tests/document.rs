@@ -1,4 +1,4 @@
-//! The examples and edges of document 01, and of Changes 1, 6 to 8 and 11 of document 02.
+//! The examples and edges of document 01, and of Changes 1, 6 to 8, 11 and 13 of document 02.
 
 use compare::{filter, filter_file, filter_in, limits, summaries, Order, Outcome, Refusal, Trigger, LONG_ENOUGH};
 
@@ -183,6 +183,86 @@ fn also_lines() {
     let file = format!("ask,1,0\nalso,0\nalso,7\n{rest}");
     assert_eq!(filter(file.as_bytes(), LONG_ENOUGH, 4), refused(8, 5));
     assert_eq!(filter(file.as_bytes(), LONG_ENOUGH, 5).lines(), [9, 7, 9, 7, 9]);
+}
+
+#[test]
+fn groups_of_facts() {
+    let rest =
+        "free,p\nop,eq,0,0\nassume,a,0,0,1\nassume,b,0,1,1\nassume,c,0,15,1\nleaf\nassume,d,0,15,2\nroot,0,r,0\n";
+    let answer = |head: &str| filter_file(format!("{head}{rest}").as_bytes()).to_string();
+    assert_eq!(answer("ask2,0,0,0\n"), "sum,0,0,1\n");
+    assert_eq!(answer("ask2,0,0,1\n"), "kept,4,a\nsum,1,2,2\n");
+    assert_eq!(answer("ask2,0,0,2\n"), "kept,5,b\nsum,1,2,2\n");
+    assert_eq!(answer("ask2,0,0,32768\n"), "kept,6,c\nkept,8,d\nsum,2,2,2\n");
+    assert_eq!(answer("ask2,0,1,32771\n"), "kept,4,a\nkept,5,b\nkept,6,c\nsum,3,6,2\n");
+    assert_eq!(answer("ask2,0,0,32764\n"), "sum,0,0,1\n");
+    // Each ask has groups of its own, and an also line those of its ask.
+    assert_eq!(
+        answer("ask2,9,0,1\nalso,0\nask2,0,0,2\nask2,0,0,0\n"),
+        "sum,0,0,1\nkept,7,a\nsum,1,2,2\nkept,8,b\nsum,1,2,2\nsum,0,0,1\n"
+    );
+    // The first line's form is that of every ask line, wherever one stands; it is found before there are too many.
+    for (head, place) in [
+        ("ask2,0,0,1\nask,0,0\n", 2),
+        ("ask,0,0\nask2,0,0,1\n", 2),
+        ("ask2,0,0,1\nalso,0\nask,256,16\n", 3),
+        ("ask,0,0\nalso,0\nask2\n", 3),
+        ("ask2,0,0,1\nhide,p\nask,0,0\n", 3),
+    ] {
+        assert_eq!(answer(head), format!("refused,1,{place}\n"), "{head:?}");
+    }
+    for (same, other) in [("ask,0,0\n", "ask2,0,0,1\n"), ("ask2,0,0,1\n", "ask,0,0\n")] {
+        assert_eq!(answer(&format!("{}{other}", same.repeat(16))), "refused,1,17\n");
+        assert_eq!(answer(&format!("{}{same}", same.repeat(16))), "refused,13,17\n");
+    }
+    // Fields of the head.
+    for (line, number) in [
+        ("ask2", 1),
+        ("ask2,0,0", 1),
+        ("ask2,0,0,0,0", 1),
+        ("ask2,0,0,65536", 3),
+        ("ask2,0,0,", 3),
+        ("ask2,0,0,01", 3),
+        ("ask2,0,16,0", 3),
+        ("ask3,0,0,0", 1),
+    ] {
+        assert_eq!(answer(&format!("{line}\n")), format!("refused,{number},1\n"), "{line}");
+    }
+    // The group stands between flag and term, and is judged there.
+    let answer = |line: &str| filter_file(format!("ask2,0,0,1\nleaf\nfun,f\n{line}\n").as_bytes()).to_string();
+    for (line, number) in [
+        ("assume,a,0,0", 1),
+        ("assume,a,0,0,0,0", 1),
+        ("assume,,0,16,9", 2),
+        ("assume,a,2,16,9", 3),
+        ("assume,a,0,16,9", 3),
+        ("assume,a,0,,9", 3),
+        ("assume,a,0,00,9", 3),
+        ("assume,f,0,15,9", 4),
+        ("assume,f,0,15,0", 5),
+        ("def,d,0,0", 1),
+        ("root,0,0,r,0", 1),
+    ] {
+        assert_eq!(answer(line), format!("refused,{number},4\n"), "{line}");
+    }
+    assert_eq!(answer("assume,a,0,15,0"), "sum,0,0,1\n");
+}
+
+#[test]
+fn a_fact_that_is_not_admitted_counts_for_limits() {
+    let zeros = |count: usize| ",0".repeat(count);
+    for groups in [0, 1, 65_535] {
+        let refused = |rest: &str, number: u32, place: u32| {
+            let file = format!("ask2,0,0,{groups}\nfree,p\n{rest}");
+            assert_eq!(filter_file(file.as_bytes()), Outcome::Refused { number, place }, "{groups}");
+        };
+        refused("assume,a,0,0,0\nassume,a,0,1,0\n", 5, 4);
+        refused(&format!("all,0,2049{}\nassume,a,0,7,1\n", zeros(2_049)), 12, 4);
+        let names: String = (0..2_047).map(|index| format!(",n{index}")).collect();
+        refused(&format!("retain{names}\nassume,a,0,7,0\n"), 6, 4);
+        let facts: String = (0..1_025).map(|index| format!("assume,a{index},0,7,0\n")).collect();
+        refused(&facts, 11, 1_027);
+    }
 }
 
 #[test]

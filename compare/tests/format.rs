@@ -1,4 +1,4 @@
-//! The files, answers and summaries shown in docs/FORMAT.md, and its tables of names, macros, options and limits.
+//! The files, answers and summaries shown in docs/FORMAT.md, and its tables of names, macros, options, groups and limits.
 
 use std::fs;
 use std::path::Path;
@@ -134,6 +134,27 @@ fn the_options() {
     assert_eq!(most, limits::OPTIONS);
     let ask = format!("OPTIONS 0 to {most}");
     assert!(page.contains(&ask), "{ask}");
+}
+
+#[test]
+fn the_numbers_of_the_groups() {
+    let page = page();
+    let head = page.lines().find(|line| line.starts_with("| group | 0 |")).expect("the groups");
+    let groups: Vec<u32> =
+        head.trim_matches(['|', ' ']).split(" | ").skip(1).map(|cell| cell.parse().unwrap()).collect();
+    assert_eq!(groups, (0..=limits::GROUP).collect::<Vec<_>>());
+    let row = table(&page, head).remove(0);
+    assert_eq!(row[0], "number");
+    let numbers: Vec<u32> = row[1..].iter().map(|cell| cell.parse().unwrap()).collect();
+    assert_eq!(numbers.iter().sum::<u32>(), limits::GROUPS);
+    let facts: String = groups.iter().map(|group| format!("assume,g{group},0,{group},0\n")).collect();
+    for (group, number) in groups.iter().zip(numbers) {
+        let file = format!("ask2,0,0,{number}\nleaf\n{facts}");
+        assert_eq!(filter_file(file.as_bytes()).to_string(), format!("kept,{},g{group}\nsum,1,0,1\n", group + 3));
+    }
+    for range in ["GROUPS 0 to 65,535", "GROUP 0 to 15"] {
+        assert!(page.contains(range), "{range}");
+    }
 }
 
 #[test]

@@ -4,7 +4,7 @@ use std::collections::BTreeSet;
 
 use compare::random::Random;
 use compare::text::Position;
-use compare::{filter, filter_file, generate, limits, summaries, Outcome, Trigger, LONG_ENOUGH};
+use compare::{filter, filter_file, forms, generate, limits, summaries, Outcome, Trigger, LONG_ENOUGH};
 
 type Line = Vec<u8>;
 
@@ -36,12 +36,17 @@ fn is_term(line: &[u8]) -> bool {
 
 /// Whether a line is an ask or also line.
 fn is_position(line: &[u8]) -> bool {
-    ["ask", "also"].contains(&kind(line).as_str())
+    ["ask", "ask2", "also"].contains(&kind(line).as_str())
 }
 
 /// Whether a line is an ask, also or hide line.
 fn is_head(line: &[u8]) -> bool {
     is_position(line) || kind(line) == "hide"
+}
+
+/// Whether a file is of the newer form.
+fn is_newer(file: &[u8]) -> bool {
+    kind(&lines(file)[0]) == "ask2"
 }
 
 /// The names of the hide lines.
@@ -68,6 +73,7 @@ fn positions(file: &[u8]) -> Vec<Position> {
     let number = |field: &String| field.parse().unwrap();
     let position = |fields: Vec<String>| match fields[0].as_str() {
         "ask" => Position::Ask(number(&fields[1]), number(&fields[2])),
+        "ask2" => Position::Ask2(number(&fields[1]), number(&fields[2]), number(&fields[3])),
         _ => Position::Also(number(&fields[1])),
     };
     lines(file).iter().take_while(|line| is_position(line)).map(|line| position(fields(line))).collect()
@@ -95,17 +101,40 @@ fn chains(file: &[u8]) -> Vec<Chain> {
     chains
 }
 
-/// The query and the options of the first line.
-fn first_ask(file: &[u8]) -> (u32, u32) {
+/// The options of the first line.
+fn first_options(file: &[u8]) -> u32 {
     match positions(file)[0] {
-        Position::Ask(query, options) => (query, options),
+        Position::Ask(_, options) | Position::Ask2(_, options, _) => options,
         Position::Also(_) => unreachable!("the first line is an ask line"),
     }
 }
 
-/// A file with one ask line, that of its first query with other options.
+/// The groups that an ask line admits.
+fn groups(position: Position) -> u32 {
+    match position {
+        Position::Ask2(_, _, groups) => groups,
+        _ => limits::GROUPS,
+    }
+}
+
+/// The group of a line that is a fact.
+fn group(line: &[u8]) -> Option<u32> {
+    let fields = fields(line);
+    match (fields[0].as_str(), fields.len()) {
+        ("assume", 5) => fields[3].parse().ok(),
+        ("assume", _) => Some(0),
+        _ => None,
+    }
+}
+
+/// Whether these groups admit a line: one that is no fact, or a fact of one of them.
+fn is_admitted(groups: u32, line: &[u8]) -> bool {
+    group(line).is_none_or(|group| groups & (1 << group) != 0)
+}
+
+/// A file with one ask line, its first one with other options.
 fn with_options(file: &[u8], options: u32) -> Vec<u8> {
-    with_positions(file, &[Position::Ask(first_ask(file).0, options)])
+    with_positions(file, &[positions(file)[0].with_options(options)])
 }
 
 /// A list as it is kept, with its counts.
@@ -264,7 +293,7 @@ fn the_flag_of_an_ambient_fact_does_not_matter() {
     }
 }
 
-/// Document 01: reached facts by name, then the ambients, last filed first; option 1 leaves the ambients out, option 2
+/// Document 01: reached facts by name, then the admitted ambients, last filed first; option 1 leaves the ambients out, option 2
 /// lets more facts be reached, option 4 adds definitions and declarations at the end.
 #[test]
 fn options_and_the_order_of_a_list() {
@@ -278,7 +307,9 @@ fn options_and_the_order_of_a_list() {
         let (facts, reached) = facts_and_reached(&file, &without);
         assert_eq!(facts, without.lines);
         assert!(reached.windows(2).all(|pair| name(&pair[0]) < name(&pair[1])));
-        let ambients: Vec<u32> = ambient_lines(&file).into_iter().rev().collect();
+        let on = groups(positions(&file)[0]);
+        let is_on = |line: &u32| is_admitted(on, &text[*line as usize - 1]);
+        let ambients: Vec<u32> = ambient_lines(&file).into_iter().rev().filter(is_on).collect();
         assert_eq!(facts, [&reached[..], &ambients].concat());
 
         let reached_set = |list: &List| BTreeSet::from_iter(facts_and_reached(&file, list).1);
@@ -450,16 +481,16 @@ fn the_answers_follow_the_sequence_of_the_ask_and_also_lines() {
 #[test]
 fn an_also_line_is_answered_as_a_fresh_run_over_all_roots() {
     let (mut stretches, mut other_rounds) = (0, 0);
-    for file in accepted(37, 900) {
+    for file in accepted(37, 1_200) {
         let (lines, lists) = (positions(&file).len(), lists(&file).unwrap());
         let mut counted = lists.iter();
         for chain in chains(&file) {
-            let Position::Ask(first, options) = chain[0] else { unreachable!() };
+            let first = chain[0].query();
             let mut visits = 0;
             for (index, list) in (0..chain.len()).zip(&mut counted) {
                 // One ask line, whose query has the roots of all queries so far.
                 let queries: Vec<u32> = chain[..=index].iter().map(|position| position.query()).collect();
-                let joined = each_line(&with_positions(&file, &[Position::Ask(first, options)]), |_, old| {
+                let joined = each_line(&with_positions(&file, &chain[..1]), |_, old| {
                     let mut fields = fields(old);
                     if fields[0] == "root" && queries.contains(&fields[1].parse().unwrap()) {
                         fields[1] = first.to_string();
@@ -490,7 +521,7 @@ fn an_also_line_that_adds_no_roots_gives_the_list_again() {
             continue;
         }
         let at = random.within(1..=positions.len());
-        let start = (0..at).rev().find(|&index| matches!(positions[index], Position::Ask(..))).unwrap();
+        let start = (0..at).rev().find(|&index| !matches!(positions[index], Position::Also(_))).unwrap();
         let roots: BTreeSet<String> = lines(&file)
             .iter()
             .map(|line| fields(line))
@@ -512,16 +543,23 @@ fn an_also_line_that_adds_no_roots_gives_the_list_again() {
     assert!(again > 200, "{again}");
 }
 
-/// Changes 7 and 11: an ask or also line elsewhere is 1, whatever its fields are; among them it is one more, and the
-/// seventeenth is 13, whatever its fields are, unless it does not end with 0A. An also line is never the first.
+/// Changes 7, 11 and 13: an ask or also line elsewhere is 1, and so is an ask line of the other form anywhere, whatever its
+/// fields are; among them one of the form is one more, and the seventeenth is 13, whatever its fields are, unless it does not
+/// end with 0A. An also line is never the first.
 #[test]
 fn an_ask_or_also_line_elsewhere_is_1_and_the_seventeenth_is_13() {
-    let (mut random, mut elsewhere, mut seventeenth, mut first) = (Random::new(35), 0, 0, 0);
-    for file in accepted(35, 900) {
+    let mut random = Random::new(35);
+    let (mut elsewhere, mut seventeenth, mut first, mut other_form) = (0, 0, 0, 0);
+    let older = [("ask,0,0", 0), ("ask", 1), ("ask,0", 1), ("ask,256,0", 3), ("ask,0,16", 3)];
+    let newer = [("ask2,0,0,9", 0), ("ask2", 1), ("ask2,0,0", 1), ("ask2,0,16,0", 3), ("ask2,0,0,65536", 3)];
+    let also = [("also,0", 0), ("also", 1), ("also,0,0", 1), ("also,256", 3), ("also,", 3)];
+    for file in accepted(35, 1_100) {
+        let newer_form = is_newer(&file);
         let mut lines = lines(&file);
         let asks = positions(&file).len();
         if asks < limits::ASKS && random.chance(40) {
-            let more = vec![random.pick(&["ask,1,4\n", "also,1\n"]).as_bytes().to_vec(); limits::ASKS - asks];
+            let ask = if newer_form { "ask2,1,4,3\n" } else { "ask,1,4\n" };
+            let more = vec![random.pick(&[ask, "also,1\n"]).as_bytes().to_vec(); limits::ASKS - asks];
             lines.splice(1..1, more);
         }
         let asks = lines.iter().take_while(|line| is_position(line)).count();
@@ -530,25 +568,32 @@ fn an_ask_or_also_line_elsewhere_is_1_and_the_seventeenth_is_13() {
             5 => 0,
             _ => random.within(0..=lines.len()),
         };
-        let (line, number) = random.pick(&[
-            ("ask,0,0", 0),
-            ("ask", 1),
-            ("ask,0", 1),
-            ("ask,256,0", 3),
-            ("ask,0,16", 3),
-            ("also,0", 0),
-            ("also", 1),
-            ("also,0,0", 1),
-            ("also,256", 3),
-            ("also,", 3),
-        ]);
+        let (of_form, of_other) = if newer_form { (newer, older) } else { (older, newer) };
+        let is_other = random.chance(25);
+        let lines_to_add = if is_other {
+            of_other
+        } else if random.chance(50) {
+            of_form
+        } else {
+            also
+        };
+        let (line, number) = random.pick(&lines_to_add);
         lines.insert(at, format!("{line}\n").into_bytes());
         let whole = lines.concat();
         if whole.len() > limits::BYTES {
             continue;
         }
         let refused = |number: u32, place: usize| Outcome::Refused { number, place: place as u32 };
-        if at > asks || (at == 0 && line.starts_with("also")) {
+        if is_other {
+            other_form += 1;
+            // On line 1 it is the next ask line that is of the other form.
+            let expected = match (at, number) {
+                (0, 0) => refused(1, 2),
+                (0, _) => refused(number, 1),
+                _ => refused(1, at + 1),
+            };
+            assert_eq!(filter_file(&whole), expected);
+        } else if at > asks || (at == 0 && line.starts_with("also")) {
             elsewhere += 1;
             first += usize::from(at == 0);
             assert_eq!(filter_file(&whole), refused(1, at + 1));
@@ -563,7 +608,8 @@ fn an_ask_or_also_line_elsewhere_is_1_and_the_seventeenth_is_13() {
             assert_eq!(filter_file(&whole), refused(number, at + 1));
         }
     }
-    assert!(elsewhere > 60 && seventeenth > 60 && first > 10, "{elsewhere} {seventeenth} {first}");
+    let counts = (elsewhere, seventeenth, first, other_form);
+    assert!(elsewhere > 60 && seventeenth > 60 && first > 10 && other_form > 100, "{counts:?}");
 }
 
 /// Changes 7 and 11: a refusal refuses the whole call: what a line is refused for does not depend on how many ask and also
@@ -580,7 +626,8 @@ fn a_refusal_does_not_depend_on_the_ask_lines() {
             continue;
         }
         let more = random.below(limits::ASKS + 1 - before);
-        let line = random.pick(&["ask,3,6\n", "also,3\n"]);
+        let ask = if is_newer(&case.file) { "ask2,3,6,2\n" } else { "ask,3,6\n" };
+        let line = random.pick(&[ask, "also,3\n"]);
         let file = [&lines[0], line.repeat(more).as_bytes(), &lines[1..].concat()].concat();
         if file.len() <= limits::BYTES {
             refused += 1;
@@ -628,7 +675,7 @@ fn bodies_of_kept_definitions_are_followed() {
     let (mut grown, mut deep) = (0, 0);
     for file in accepted_with_one_ask(32, 900) {
         let of = |options: u32| list(&with_options(&file, options)).expect("options do not refuse a file");
-        let others = first_ask(&file).1 & 3;
+        let others = first_options(&file) & 3;
         assert_eq!(of(others + 8), of(others));
         let (stopped, followed) = (of(others + 4), of(others + 12));
         assert_eq!((stopped.visits, stopped.rounds), (followed.visits, followed.rounds));
@@ -674,6 +721,120 @@ fn bodies_of_kept_definitions_are_followed() {
         deep += usize::from(levels > 1);
     }
     assert!(grown > 100 && deep > 30, "{grown} {deep}");
+}
+
+/// Change 13: the older form is the newer one with all groups admitted, whatever the groups of the facts: every answer is the
+/// same, line for line, and every refusal but that of the bytes. So is the list of each ask with no group switched off.
+#[test]
+fn the_older_form_admits_all_groups() {
+    let (mut random, mut kept, mut refused) = (Random::new(39), 0, 0);
+    for case in generate::cases(39, 1_500) {
+        if !case.file.starts_with(b"ask,") || case.file.windows(4).any(|bytes| bytes == b"ask2") {
+            continue;
+        }
+        let fixed = forms::all_admitted(&case.file);
+        let any = forms::newer(&case.file, || limits::GROUPS, || random.below(16) as u32);
+        if any.len() > limits::BYTES {
+            continue;
+        }
+        let answer = filter_file(&case.file);
+        kept += usize::from(answer.number() == 0);
+        refused += usize::from(answer.number() != 0);
+        // A fact that lacks its flag has no place for a group, and is 1 in both forms.
+        assert_eq!(filter_file(&fixed), answer, "{}", case.name);
+        assert_eq!(filter_file(&any), answer, "{}", case.name);
+    }
+    assert!(kept > 200 && refused > 100, "{kept} {refused}");
+}
+
+/// Change 13: to an ask a fact that it does not admit is not there: the lists, visits and rounds of its chain are those of the
+/// file of the older form without these facts, line numbers apart.
+#[test]
+fn a_fact_that_is_not_admitted_is_not_there() {
+    let (mut off, mut matters) = (0, 0);
+    for file in accepted(40, 900).into_iter().filter(|file| is_newer(file)) {
+        let mut rest = &lists(&file).unwrap()[..];
+        let mut start = 0;
+        for chain in chains(&file) {
+            let (older, lines) = forms::admitted(&file, groups(chain[0]));
+            let line = |line: &u32| lines[*line as usize - 1];
+            let alone = lists(&older).expect("a fact less refuses no file");
+            let alone: Vec<List> = alone[start..start + chain.len()]
+                .iter()
+                .map(|list| List { lines: list.lines.iter().map(line).collect(), ..list.clone() })
+                .collect();
+            let (own, after) = rest.split_at(chain.len());
+            assert_eq!(own, alone);
+            off += usize::from(lines.len() < file.iter().filter(|&&byte| byte == b'\n').count());
+            // With all groups the answer would be another.
+            let mut every = positions(&file);
+            every[start] = match every[start] {
+                Position::Ask2(query, options, _) => Position::Ask2(query, options, limits::GROUPS),
+                position => position,
+            };
+            let with_all = with_positions(&file, &every);
+            matters += usize::from(lists(&with_all).is_some_and(|lists| lists[start..start + chain.len()] != *own));
+            (rest, start) = (after, start + chain.len());
+        }
+    }
+    assert!(off > 200 && matters > 150, "{off} {matters}");
+}
+
+/// Change 13: a fact that is not admitted takes its name and counts for every limit: what a file is refused for does not depend
+/// on the groups of its asks.
+#[test]
+fn groups_of_an_ask_refuse_no_file() {
+    let (mut random, mut tried, mut refused) = (Random::new(41), 0, [0; 14]);
+    for case in generate::cases(41, 3_000).filter(|case| case.file.starts_with(b"ask2,")) {
+        let file = each_line(&case.file, |_, old| {
+            let mut fields = fields(old);
+            let is_good = |groups: u32| groups <= limits::GROUPS && groups.to_string() == fields[3];
+            if fields[0] == "ask2" && fields.len() == 4 && fields[3].parse().is_ok_and(is_good) {
+                fields[3] = random.pick(&["0", "1", "65535"]).to_owned();
+                return line(&fields);
+            }
+            old.clone()
+        });
+        let (before, after) = (filter_file(&case.file), filter_file(&file));
+        if case.file.len().max(file.len()) > limits::BYTES || [&before, &after].iter().any(|one| one.number() == 8) {
+            continue;
+        }
+        tried += 1;
+        refused[before.number() as usize] += 1;
+        match (before, after) {
+            (Outcome::Kept(before), Outcome::Kept(after)) => assert_eq!(before.len(), after.len()),
+            (before, after) => assert_eq!(before, after, "{}", case.name),
+        }
+    }
+    assert!(tried > 600 && [1, 3, 4, 5, 12, 13].iter().all(|&number| refused[number] > 3), "{tried} {refused:?}");
+}
+
+/// Change 13: a group out of its range, or no number, is 3 at its turn: after the flag, before the term.
+#[test]
+fn a_group_is_judged_between_flag_and_term() {
+    let (mut random, mut numbers) = (Random::new(42), [0; 5]);
+    for file in accepted(42, 700).into_iter().filter(|file| is_newer(file)) {
+        let facts: Vec<usize> =
+            lines(&file).iter().zip(1..).filter(|(line, _)| kind(line) == "assume").map(|(_, at)| at).collect();
+        if facts.is_empty() {
+            continue;
+        }
+        let at = random.pick(&facts);
+        let bad = [("a b", 2), ("2", 3), ("16", 3), ("65535", 4)];
+        let faulty: Vec<usize> = (0..4).filter(|_| random.chance(40)).collect();
+        let Some(&first) = faulty.first() else { continue };
+        let broken = each_line(&file, |number, old| {
+            let mut fields = fields(old);
+            if number == at {
+                faulty.iter().for_each(|&index| fields[index + 1] = bad[index].0.to_owned());
+            }
+            line(&fields)
+        });
+        let number = bad[first].1;
+        numbers[number as usize] += 1;
+        assert_eq!(filter_file(&broken), Outcome::Refused { number, place: at as u32 });
+    }
+    assert!(numbers[2] > 20 && numbers[3] > 20 && numbers[4] > 5, "{numbers:?}");
 }
 
 /// Change 14: record lines in another sequence, among the term lines too, keep the same names, visits and rounds; two

@@ -1,5 +1,6 @@
 //! The proved filter against the independent version: the answer, the lists, the counts, and every word of the lent slices.
 
+mod forms;
 mod lend;
 pub mod shrink;
 
@@ -8,6 +9,7 @@ use compare::random::Random;
 use compare::{filter, limits, Outcome, LONG_ENOUGH};
 use wimplejade::{Answer, MOST_ASKS};
 
+pub use forms::form_difference;
 pub use lend::Lender;
 
 /// What is tried: a call on a file and lent slices.
@@ -88,10 +90,11 @@ pub fn difference(call: Call, lender: &mut Lender, file: &[u8], lengths: Lengths
 #[cfg(test)]
 mod tests {
     use super::*;
+    use compare::edges::{self, Edge};
     use compare::generate;
 
     /// The independent version as a call that does all that documents 01 and 02 say.
-    fn right(file: &[u8], mut working: [&mut [u32]; 6], result: &mut [u32]) -> Answer {
+    pub(crate) fn right(file: &[u8], mut working: [&mut [u32]; 6], result: &mut [u32]) -> Answer {
         let works = working.each_ref().map(|words| words.len());
         let outcome = filter(file, works, result.len());
         let answer = answer_of(&outcome);
@@ -116,7 +119,7 @@ mod tests {
     }
 
     /// A file with each line exchanged for what is given for its fields, where something is.
-    fn each_line(file: &[u8], mut change: impl FnMut(&[&[u8]]) -> Option<Vec<u8>>) -> Vec<u8> {
+    pub(crate) fn each_line(file: &[u8], mut change: impl FnMut(&[&[u8]]) -> Option<Vec<u8>>) -> Vec<u8> {
         let lines = file.split(|&byte| byte == b'\n').map(|line| {
             let fields: Vec<&[u8]> = line.split(|&byte| byte == b',').collect();
             change(&fields).unwrap_or_else(|| line.to_vec())
@@ -129,10 +132,35 @@ mod tests {
         file.split(|&byte| byte == b'\n').take(asks(answer)).map(|line| line.starts_with(b"also,")).collect()
     }
 
+    /// Whether an edge is one of the newer form that random files seldom come to.
+    fn is_seldom(edge: &Edge) -> bool {
+        ["groups-off", "groups-assume", "forms-"].iter().any(|start| edge.case.name.starts_with(start))
+    }
+
+    /// A file in which each ask line of the newer form has other groups, by those that it has.
+    fn with_groups(file: &[u8], mut of: impl FnMut(u32) -> u32) -> Vec<u8> {
+        each_line(file, |fields| match *fields {
+            [b"ask2", query, options, own] => {
+                let own: u32 = String::from_utf8_lossy(own).parse().ok().filter(|&own| own <= limits::GROUPS)?;
+                Some([b"ask2", query, options, of(own).to_string().as_bytes()].join(&b','))
+            }
+            _ => None,
+        })
+    }
+
+    /// A file in which each fact of the newer form has another group.
+    fn with_group(file: &[u8], of: impl Fn(&[u8]) -> &[u8]) -> Vec<u8> {
+        each_line(file, |fields| match *fields {
+            [b"assume", name, flag, group, term] => Some([b"assume", name, flag, of(group), term].join(&b',')),
+            _ => None,
+        })
+    }
+
     /// How many of some files a call differs on.
     fn differing(call: Call) -> usize {
         let (mut lender, mut random, mut count) = (Lender::new(1), Random::new(2), 0);
-        for case in generate::cases(3, 400) {
+        let seldom = edges::edges().into_iter().filter(is_seldom).map(|edge| edge.case);
+        for case in generate::cases(3, 400).chain(seldom) {
             let lengths = Lengths::of(&case, 2, &mut random);
             let outcome = expected(&case.file, lengths);
             count += usize::from(difference(call, &mut lender, &case.file, lengths, &outcome).is_some());
@@ -147,7 +175,7 @@ mod tests {
 
     #[test]
     fn wrong_calls_differ() {
-        let wrong: [(&str, Call); 25] = [
+        let wrong: [(&str, Call); 34] = [
             ("a visit more", |file, working, result| {
                 let answer = right(file, working, result);
                 Answer { visits: answer.visits.map(|visits| visits + u32::from(visits > 2)), ..answer }
@@ -264,6 +292,56 @@ mod tests {
                 let first = answer.kept[0] as usize;
                 result[..all_kept(&answer)].rotate_left(first);
                 answer
+            }),
+            ("every group admitted", |file, working, result| {
+                right(&with_groups(file, |_| limits::GROUPS), working, result)
+            }),
+            ("the groups of the first ask for every ask", |file, working, result| {
+                let mut first = None;
+                right(&with_groups(file, |own| *first.get_or_insert(own)), working, result)
+            }),
+            ("the bits of the groups from the other end", |file, working, result| {
+                right(&with_groups(file, |own| own.reverse_bits() >> 16), working, result)
+            }),
+            ("every fact in group 0", |file, working, result| right(&with_group(file, |_| b"0"), working, result)),
+            ("group 16 taken for 0", |file, working, result| {
+                right(&with_group(file, |group| if group == b"16" { b"0" } else { group }), working, result)
+            }),
+            ("the visits of facts that are not admitted", |file, working, result| {
+                let answer = right(file, working, result);
+                let all = with_groups(file, |_| limits::GROUPS);
+                let visits = answer_of(&filter(&all, LONG_ENOUGH, limits::ROOM)).visits;
+                Answer { visits: if answer.refusal == 0 { visits } else { answer.visits }, ..answer }
+            }),
+            ("facts that no ask admits are not read", |file, working, result| {
+                let mut admitted = 0;
+                with_groups(file, |own| {
+                    admitted |= own;
+                    own
+                });
+                let read = each_line(file, |fields| match *fields {
+                    [b"assume", _, _, group, _] => {
+                        let group: u32 = String::from_utf8_lossy(group).parse().ok().filter(|&group| group < 16)?;
+                        (admitted >> group & 1 == 0).then(|| b"retain".to_vec())
+                    }
+                    _ => None,
+                });
+                right(&read, working, result)
+            }),
+            ("ask lines of both forms", |file, working, result| {
+                let newer = file.starts_with(b"ask2,");
+                let one_form = each_line(file, |fields| match *fields {
+                    [b"ask", query, options] if newer => Some([b"ask2", query, options, b"65535"].join(&b',')),
+                    _ => None,
+                });
+                right(&one_form, working, result)
+            }),
+            ("a seventeenth ask line of the other form is 13", |file, working, result| {
+                let answer = right(file, working, result);
+                let line = file.split(|&byte| byte == b'\n').nth(16).unwrap_or_default();
+                let is_ask = line.starts_with(b"ask,") || line.starts_with(b"ask2,");
+                let wrong = (answer.refusal, answer.place, is_ask) == (1, 17, true);
+                Answer { refusal: if wrong { 13 } else { answer.refusal }, ..answer }
             }),
             ("any limit is 6", |file, working, result| {
                 let answer = right(file, working, result);

@@ -1,4 +1,5 @@
-//! Compares the proved filter with the independent version on random files, or on the files given.
+//! Compares the proved filter with the independent version on random files, or on the files given, and its answers to the two
+//! forms of an accepted file with each other.
 //!
 //! `fuzz [--seed N] [--files N] [--from N] [--jobs N] [--save DIR]` makes files from a seed, tries each, and stops at the
 //! first difference: the file is made small and saved. `fuzz FILE..` tries these files instead. The status is 0 if nothing
@@ -18,7 +19,7 @@ use compare::edges::{self, Edge};
 use compare::random::Random;
 use compare::{filter_file, generate, Outcome};
 use fuzz::shrink::shrink;
-use fuzz::{difference, expected, with_lengths, Lender, Lengths};
+use fuzz::{difference, expected, form_difference, with_lengths, Lender, Lengths};
 use wimplejade::Filter;
 
 /// One of so many files is also run by the safe interface.
@@ -166,10 +167,13 @@ impl Trial<'_> {
         let lengths = lengths(&case, outcome.lines().len());
         let lent = with_lengths(&outcome, &case.file, lengths);
         let mut why = difference(wimplejade::answer, &mut self.lender, &case.file, lengths, &lent);
+        if outcome.number() == 0 {
+            why = why.or_else(|| form_difference(wimplejade::answer, &mut self.lender, &case.file));
+        }
         if by_interface {
             why = why.or_else(|| interface_difference(&mut self.filter, &case.file, &outcome));
         }
-        self.progress.count(&lent);
+        self.progress.count(&lent, case.file.starts_with(b"ask2,"));
         let why = why?;
         Some(Failure { name: case.name, file: case.file, lengths, why })
     }
@@ -188,6 +192,7 @@ fn interface_difference(filter: &mut Filter, file: &[u8], outcome: &Outcome) -> 
 fn differ(file: &[u8], lengths: Lengths) -> Option<String> {
     let (mut lender, mut filter) = (Lender::new(0), Filter::new());
     difference(wimplejade::answer, &mut lender, file, lengths, &expected(file, lengths))
+        .or_else(|| form_difference(wimplejade::answer, &mut lender, file))
         .or_else(|| interface_difference(&mut filter, file, &filter_file(file)))
 }
 
@@ -234,6 +239,8 @@ struct Progress {
     started: Instant,
     /// How often each answer was given: 0 is lists, 1 to 13 the refusals.
     answers: [AtomicU64; 14],
+    /// How many accepted files are of the newer form.
+    newer: AtomicU64,
     /// The lists of all files, and the most of one file.
     lists: AtomicU64,
     most_lists: AtomicU64,
@@ -256,6 +263,7 @@ impl Progress {
             files: options.files + if options.from == 0 { edges::edges().len() as u64 } else { 0 },
             started: Instant::now(),
             answers: Default::default(),
+            newer: AtomicU64::new(0),
             lists: AtomicU64::new(0),
             most_lists: AtomicU64::new(0),
             most_rounds: AtomicU64::new(0),
@@ -267,7 +275,9 @@ impl Progress {
         }
     }
 
-    fn count(&self, outcome: &Outcome) {
+    fn count(&self, outcome: &Outcome, is_newer: bool) {
+        let accepted = outcome.number() == 0;
+        self.newer.fetch_add(u64::from(is_newer && accepted), Ordering::Relaxed);
         for list in outcome.lists() {
             self.most_rounds.fetch_max(u64::from(list.rounds), Ordering::Relaxed);
             self.most_kept.fetch_max(list.lines.len() as u64, Ordering::Relaxed);
@@ -308,7 +318,8 @@ impl Progress {
         let count = |number: usize| self.answers[number].load(Ordering::Relaxed);
         let refused: Vec<String> =
             (1..self.answers.len()).map(|number| format!("{number}: {}", count(number))).collect();
-        println!("accepted: {}; refused: {}", count(0), refused.join(", "));
+        let newer = self.newer.load(Ordering::Relaxed);
+        println!("accepted: {}, of the newer form {newer}; refused: {}", count(0), refused.join(", "));
         println!(
             "lists {}; of a file at most {}; of a list most rounds {}, most kept {}",
             self.lists.load(Ordering::Relaxed),

@@ -180,6 +180,8 @@ fn references(fields: &[Line]) -> Vec<usize> {
             found.retain(|&at| at < count);
             found
         }
+        // In the newer form the group stands before the term.
+        b"assume" if count > 4 => vec![4],
         b"assume" | b"root" if count > 3 => vec![3],
         b"def" if count > 2 => vec![2],
         _ => Vec::new(),
@@ -215,6 +217,7 @@ mod tests {
             ("all,7,2,1,3,2,4,5\n", "all,6,2,1,3,2,3,4\n"),
             ("call,4,4,9\n", "call,4,3,8\n"),
             ("assume,5,1,5\n", "assume,5,1,4\n"),
+            ("assume,5,1,5,5\n", "assume,5,1,5,4\n"),
             ("root,9,r,3\n", "root,9,r,3\n"),
             ("def,g,4\n", "def,g,3\n"),
             ("let,5,1\n", "let,4,1\n"),

@@ -51,6 +51,20 @@
 //! # Ok::<(), wimplejade::Refusal>(())
 //! ```
 //!
+//! Facts can have groups: in a file of the newer form ask lines are `ask2,QUERY,OPTIONS,GROUPS` and facts
+//! `assume,NAME,FLAG,GROUP,TERM`, with a group from 0 to 15. Bit k of GROUPS admits group k, and a fact of another group is not
+//! there for that ask and the also lines after it.
+//!
+//! ```
+//! let file = b"ask2,0,0,1\nask2,0,0,2\nask2,0,0,3\nfree,p\nop,eq,0,0\nassume,a,0,0,1\nassume,b,0,1,1\nroot,0,goal,0\n";
+//!
+//! let mut filter = wimplejade::Filter::new();
+//! let kept = filter.run(file)?;
+//! let lines: Vec<Vec<u32>> = kept.lists().iter().map(|list| list.lines().collect()).collect();
+//! assert_eq!(lines, [vec![6], vec![7], vec![6, 7]]);
+//! # Ok::<(), wimplejade::Refusal>(())
+//! ```
+//!
 //! What is proved is the call, [`answer`], over slices that its caller lends. [`filter`] gives its answer as a `Result`,
 //! [`Filter`] lends it slices of its own and finds the names of the kept lines; these and the declaration of the C function
 //! are plain Rust.
@@ -76,7 +90,8 @@ use std::fmt;
 /// Words that each working slice must have.
 pub const WORKING_WORDS: usize = 16_384;
 
-/// The ask and also lines that a file may have, together: so many lists an answer can have.
+/// The ask and also lines that a file may have, together: so many lists an answer can have. Ask lines are spelled `ask` or,
+/// in a file whose facts have groups, `ask2`.
 pub const MOST_ASKS: usize = 16;
 
 /// The record lines that a file may have: so many lines one list can have.
@@ -208,7 +223,8 @@ pub struct List<'f> {
     /// with option 4 the definitions and then the declarations, each group in the order of F*'s pruning. Those that option 8
     /// adds stand at the end of their group, by name in byte order.
     pub records: Vec<Record<'f>>,
-    /// The filed trigger entries whose name was met; of an also line those whose name is first met in its stretch.
+    /// The filed trigger entries whose name was met; of an also line those whose name is first met in its stretch. Those of
+    /// facts that are not admitted do not count.
     pub visits: u32,
     /// The rounds of the run, of an also line those of its stretch; the last one triggers no fact.
     pub rounds: u32,

@@ -10,7 +10,8 @@ use std::fmt;
 #[non_exhaustive]
 pub enum Refusal {
     /// 1: not a line of the file's form: an unknown kind or op word, fields lacking or left over, a first line other than
-    /// `ask`, an `ask`, `also` or `hide` line elsewhere than at the start, no final newline, an empty file.
+    /// `ask` or `ask2`, an `ask` line in a file that begins with `ask2` or the other way round, an ask, `also` or `hide` line
+    /// elsewhere than at the start, no final newline, an empty file.
     Form {
         /// The line, from 1.
         line: u32,
@@ -20,7 +21,7 @@ pub enum Refusal {
         /// The line, from 1.
         line: u32,
     },
-    /// 3: a field is no number, or a query, an options number or a flag is outside its range.
+    /// 3: a field is no number, or a query, an options number, a groups number, a flag or a group is outside its range.
     Number {
         /// The line, from 1.
         line: u32,

@@ -19,6 +19,11 @@ const CHAINS: &[u8] =
     b"ask,0,4\nalso,1\nalso,0\nask,1,0\nfree,p\nfree,q\nop,eq,0,0\nassume,on_p,0,2\nop,eq,1,1\nassume,on_q,0,3\n\
     fun,p\nroot,0,goal,0\nroot,1,goal,1\n";
 
+/// Groups over one background: the first, the second on an also line, none, and both.
+const GROUPS: &[u8] =
+    b"ask2,0,4,1\nask2,9,0,2\nalso,0\nask2,0,4,0\nask2,0,0,32771\nfree,p\nop,eq,0,0\nassume,on_p,0,0,1\n\
+    assume,once_more,0,1,1\nleaf\nassume,loose,0,15,2\nfun,p\nroot,0,goal,0\n";
+
 /// What a slice that is lent holds before a call.
 const DIRT: u32 = 0xdead_beef;
 
@@ -113,6 +118,25 @@ fn a_chain_goes_on_from_list_to_list() {
 }
 
 #[test]
+fn groups_are_on_and_off() {
+    let mut filter = Filter::new();
+    let kept = filter.run(GROUPS).unwrap();
+    let (first, second) = ("kept,8,on_p\nkept,12,p\nsum,2,2,2\n", "sum,0,0,1\nkept,9,once_more\nsum,1,2,2\n");
+    let (none, all) = ("kept,12,p\nsum,1,0,1\n", "kept,8,on_p\nkept,9,once_more\nkept,11,loose\nsum,3,4,2\n");
+    assert_eq!(kept.to_string(), [first, second, none, all].concat());
+}
+
+#[test]
+fn the_older_form_is_the_newer_one_with_all_groups() {
+    let newer =
+        "ask2,0,4,65535\nalso,1\nalso,0\nask2,1,0,65535\nfree,p\nfree,q\nop,eq,0,0\nassume,on_p,0,15,2\nop,eq,1,1\n\
+        assume,on_q,0,7,3\nfun,p\nroot,0,goal,0\nroot,1,goal,1\n";
+    let mut filter = Filter::new();
+    let older = filter.run(CHAINS).unwrap().to_string();
+    assert_eq!(filter.run(newer.as_bytes()).unwrap().to_string(), older);
+}
+
+#[test]
 fn as_many_lists_as_there_can_be_and_each_as_long() {
     let facts: String = (0..MOST_RECORDS).map(|index| format!("assume,a{index},0,0\n")).collect();
     for line in ["ask,0,0\n", "also,0\n"] {
@@ -145,6 +169,7 @@ fn a_filter_runs_many_files() {
         assert_eq!(filter.run(WORKED).unwrap().records().count(), 4);
         assert_eq!(filter.run(DAY).unwrap().lists().len(), 3);
         assert_eq!(filter.run(CHAINS).unwrap().lists().len(), 4);
+        assert_eq!(filter.run(GROUPS).unwrap().lists().len(), 5);
         assert_eq!(filter.run(b"").unwrap_err(), Refusal::Form { line: 1 });
     }
 }
@@ -160,7 +185,8 @@ fn every_refusal_of_the_exporter() {
     let entries = format!("ask,0,0\nleaf\nall,0,2049{}\nassume,a,0,1\n", ",0".repeat(2_049));
     let asks = "ask,0,0\n".repeat(17);
     let chain = format!("ask,0,0\n{}", "also,0\n".repeat(16));
-    let refused: [(&[u8], Refusal); 16] = [
+    let asks2 = format!("{}ask,0,0\n", "ask2,0,0,1\n".repeat(16));
+    let refused: [(&[u8], Refusal); 23] = [
         (b"", Refusal::Form { line: 1 }),
         (b"ask,0,0", Refusal::Form { line: 1 }),
         (b"ask,0,0\nfree,p q\n", Refusal::Name { line: 2 }),
@@ -176,6 +202,13 @@ fn every_refusal_of_the_exporter() {
         (b"also,0\n", Refusal::Form { line: 1 }),
         (b"ask,0,0\nhide,p\nalso,0\n", Refusal::Form { line: 3 }),
         (b"ask,0,0\nhide,p\nask,0,0\n", Refusal::Form { line: 3 }),
+        (b"ask,0,0\nask2,0,0,1\n", Refusal::Form { line: 2 }),
+        (b"ask2,0,0,1\nask,0,0\n", Refusal::Form { line: 2 }),
+        (asks2.as_bytes(), Refusal::Form { line: 17 }),
+        (b"ask2,0,0,1\nleaf\nassume,a,0,0\n", Refusal::Form { line: 3 }),
+        (b"ask2,0,0,65536\n", Refusal::Number { line: 1 }),
+        (b"ask2,0,0,1\nleaf\nassume,a,0,16,9\n", Refusal::Number { line: 3 }),
+        (b"ask2,0,0,1\nleaf\nassume,a,0,1,0\nfun,a\n", Refusal::Repeated { line: 4 }),
         (&long, Refusal::Size),
     ];
     let mut filter = Filter::new();
