@@ -34,7 +34,8 @@ use Rattle.demands.specs.Demand3.{run-of}
 use Rattle.demands.specs.Also.{chain-at, chain-of, chain-before, Chain-by-lines, Chain-is-fresh, Roots-by-line, First-is-run, Stretch-visits-exact, visits-of-lines, Visits-sum, Visits-told, Stretch-rounds, Stretch-some, Stretch-bound, Nothing-added}
 use Rattle.laws.proofs.ReadingLaws.{file-read}
 use Rattle.demands.proofs.Facts.{names-distinct}
-use Rattle.demands.proofs.Settled.{Same-names, settled-reached, settled-met}
+use Rattle.demands.proofs.Rearranged.{Same-members, members-trans, members-append, members-self}
+use Rattle.demands.proofs.Settled.{settled-reached, settled-met}
 use Rattle.demands.proofs.Stretches.{Going, going-first, going-end, going-on, going-settled, run-settled}
 use Rattle.demands.proofs.Background.{well-for}
 use Rattle.demands.proofs.ScanFile.{none-visited}
@@ -72,7 +73,7 @@ module _ (a : Ask) (fs : List Fact) (roots : List Root) (q : ℕ) (qs : List ℕ
       s
 
   -- a fresh run first scans the names of the others and those of the stretch
-  scanned-alike : Same-names (first-scanned (with-queries a qs) fs roots ++ also-scanned q roots) (first-scanned (with-queries a (q ∷ qs)) fs roots)
+  scanned-alike : Same-members (first-scanned (with-queries a qs) fs roots ++ also-scanned q roots) (first-scanned (with-queries a (q ∷ qs)) fs roots)
   unfolding first-scanned also-scanned
   scanned-alike =
       record {
@@ -117,27 +118,23 @@ module _ (a : Ask) (decls : List Summary) (roots : List Root) where
 
   module _ (wf : Well-formed decls roots) where
     -- what holds between two stretches holds at the end of a chain, over what a fresh run first scans
-    chain-going : (q : ℕ) (qs : List ℕ) → (first : List Name) × Same-names first (first-scanned (with-queries a (q ∷ qs)) (facts decls) roots)
+    chain-going : (q : ℕ) (qs : List ℕ) → (first : List Name) × Same-members first (first-scanned (with-queries a (q ∷ qs)) (facts decls) roots)
         × Going a (macros decls) (facts decls) first (chain a decls roots (q ∷ qs)) []
     unfolding chain
     chain-going q [] =
         let once = names-distinct decls (wf .distinct) in
         let first = first-scanned (with-queries a (q ∷ [])) (facts decls) roots in (
           first,
-          record { to = λ n i. i; from = λ n i. i },
+          members-self first,
           going-end a (macros decls) (facts decls) once first (fresh-ends (q ∷ [])) (going-first a (macros decls) (facts decls) once first),
         )
     chain-going q (p ∷ qs) =
         let once = names-distinct decls (wf .distinct) in
         let (first, same, g) = chain-going p qs in
         let more = scanned-alike a (facts decls) roots q (p ∷ qs) in
-        let others = first-scanned (with-queries a (p ∷ qs)) (facts decls) roots in
         let scanned = also-scanned q roots in (
           first ++ scanned,
-          record {
-            to = λ n i. more .to n (⊎-elim (λ j. Memᴰ·append-left scanned (same .to n j)) (Memᴰ·append-right others) (List·Memᴰ·append-cases first i));
-            from = λ n i. ⊎-elim (λ j. Memᴰ·append-left scanned (same .from n j)) (Memᴰ·append-right first) (List·Memᴰ·append-cases others (more .from n i));
-          },
+          members-trans (members-append same (members-self scanned)) more,
           going-end a (macros decls) (facts decls) once (first ++ scanned) (stretch-ends a decls roots (chain a decls roots (p ∷ qs)) q)
               (going-on a (macros decls) (facts decls) once first scanned (chain a decls roots (p ∷ qs)) g),
         )

@@ -1,4 +1,6 @@
 pub mod Distinct
+pub mod Rearranged
+pub mod Listing
 pub mod Facts
 pub mod RoundsLaws
 pub mod HistoryLaws
@@ -22,7 +24,8 @@ pub mod Queries
 pub mod Asks
 pub mod NeverFree
 pub mod Moved
-pub mod SameNames
+pub mod TermRenaming
+pub mod SummaryRenaming
 pub mod Shifted
 pub mod Unspelled
 pub mod Hidden
@@ -56,3 +59,11 @@ pub mod Groups
 pub mod Ungrouped
 pub mod WithGroups
 pub mod WithoutGroups
+pub mod GrownTables
+pub mod SameRun
+pub mod SameRecords
+pub mod ReadSequence
+pub mod ListedNames
+pub mod ReachedPlaces
+pub mod Sequence
+pub mod SequenceCases

@@ -94,12 +94,15 @@ module _ (a : Ask) (decls : List Summary) (roots : List Root) (wf : Well-formed 
       )
       (append-nil reached)
 
-  -- the names of the reached facts are a set
+  -- the names of the reached facts, as listed, are those reached
+  pub reached-are : fact-names (reached-facts (facts decls) (run a decls roots .reached)) ≡ run a decls roots .reached
+  reached-are =
+      reached-names (facts decls) (names-distinct decls (wf .distinct)) (run a decls roots .reached)
+      (λ n m. let (f, i, e, r, u) = run-end a decls roots wf .reached-fires n (mem-intro m) in Memᴰ·cast (sym e) (map-intro (λ (f : Fact). f .name) i))
+
+  -- they are a set
   pub reached-ascending : Ascending (fact-names (reached-facts (facts decls) (run a decls roots .reached)))
-  reached-ascending =
-      rw (reached-names (facts decls) (names-distinct decls (wf .distinct)) (run a decls roots .reached)
-      (λ n m. let (f, i, e, r, u) = run-end a decls roots wf .reached-fires n (mem-intro m) in Memᴰ·cast (sym e) (map-intro (λ (f : Fact). f .name) i)))
-      (run-end a decls roots wf .reached-set)
+  reached-ascending = rw reached-are (run-end a decls roots wf .reached-set)
 
   -- no kept fact stands twice
   pub kept-facts-once : Distinct (kept-facts a (facts decls) (run a decls roots .reached))

@@ -8,7 +8,7 @@ use lib.ListN.{length, drop}
 use Rattle.model.specs.Lists.{keep, collect, is-nil}
 use Rattle.model.specs.Names.{Name, same, mem, from-list, union}
 use Rattle.model.specs.Summaries.{Fact}
-use Rattle.model.specs.Reading.{Ask, Decl, Summary, Sum-assume, Sum-definefun, Sum-declfun, Sum-retain, Root, no-ambients, prune-decls}
+use Rattle.model.specs.Reading.{Ask, Decl, Summary, Sum-assume, Sum-definefun, Sum-declfun, Sum-retain, Root, no-ambients}
 use Rattle.model.specs.Pruning.{Map, init-macro-freenames}
 use Rattle.model.specs.Rounds.{Run, first-run, most-rounds, facts, definitions, declarations, macros, listed, filed, triggers-in, retainable, met-after, triggered, fresh, after-round, next-scanned}
 use Rattle.model.specs.Rounds.{rounds-from, is-ambient, is-ambient-root, asks-for, goal-roots, ambient-roots, first-scanned, run, admits, is-admitted, background}
@@ -17,6 +17,7 @@ use Rattle.model.specs.Bodies.{with-bodies, followed, all-followed, added-names
 use Rattle.model.specs.Also.{with-queries, also-scanned, stretch-start, stretch, chain, stretch-visits}
 use Rattle.model.specs.Outcome.{Position, position}
 use Rattle.model.proofs.ListLaws.{map-cong, cond-ap, collect-map, collect-cong, map-collect, map-reverse}
+use Rattle.demands.proofs.Listing.{Parts, kept-parts, followed-parts, listed-lines, listed-names, kept-lines, followed-lines, map-told, told-map}
 use Rattle.demands.specs.Moved.{moved-fact, moved-decl, moved, moved-root, moved-position, Lines-apart, Kept-apart}
 
 -- to keep of changed elements is to change those kept, where the test does not see the change
@@ -237,63 +238,62 @@ module _ (to regroup : ℕ → ℕ) where
       → kept-decls names (map (moved-decl to) ds) ++ of-names added (map (moved-decl to) ds) ≡ map (moved-decl to) (kept-decls names ds ++ of-names added ds)
   moved-group names added ds = ap₂ _++_ (moved-kept-decls names ds) (moved-of-names added ds) ∙ sym (map-append (moved-decl to) (kept-decls names ds) (of-names added ds))
 
-  -- the lines of moved records are the lines moved
-  fact-lines : (fs : List Fact) → map (λ (f : Fact). f .line) (map (relabeled-fact to regroup) fs) ≡ map to (map (λ (f : Fact). f .line) fs)
-  unfolding relabeled-fact
-  fact-lines fs = map-map (λ (f : Fact). f .line) (relabeled-fact to regroup) fs ∙ sym (map-map to (λ (f : Fact). f .line) fs)
+  -- what a list is made of, so
+  abbrev moved-parts : Parts → Parts
+  moved-parts p = record { facts = map (relabeled-fact to regroup) (p .facts); defs = map (moved-decl to) (p .defs); funs = map (moved-decl to) (p .funs) }
 
-  decl-lines : (ds : List Decl) → map (λ (d : Decl). d .line) (map (moved-decl to) ds) ≡ map to (map (λ (d : Decl). d .line) ds)
-  unfolding moved-decl
-  decl-lines ds = map-map (λ (d : Decl). d .line) (moved-decl to) ds ∙ sym (map-map to (λ (d : Decl). d .line) ds)
+  -- its lines are the lines moved
+  moved-lines : (a : Ask) (p : Parts) → listed-lines a (moved-parts p) ≡ map to (listed-lines a p)
+  unfolding relabeled-fact moved-decl
+  moved-lines a p = told-map a (λ f. f .line) (λ d. d .line) (relabeled-fact to regroup) (moved-decl to) p ∙ sym (map-told a to (λ f. f .line) (λ d. d .line) p)
 
-  -- the lines of facts, and of definitions and declarations where these are kept
-  moved-lines : (b : Bool) (fs : List Fact) (cs es : List Decl)
-      → map (λ f. f .line) (map (relabeled-fact to regroup) fs) ++ cond b (map (λ d. d .line) (map (moved-decl to) cs ++ map (moved-decl to) es)) []
-      ≡ map to (map (λ f. f .line) fs ++ cond b (map (λ d. d .line) (cs ++ es)) [])
-  moved-lines b fs cs es =
-      rw (fact-lines fs, ← (map-append (moved-decl to) cs es), decl-lines (cs ++ es))
-      (ap (map to (map (λ (f : Fact). f .line) fs) ++_) (sym (cond-ap (map to) b (map (λ (d : Decl). d .line) (cs ++ es)) []))
-      ∙ sym (map-append to (map (λ (f : Fact). f .line) fs) (cond b (map (λ (d : Decl). d .line) (cs ++ es)) [])))
+  module _ (a : Ask) (decls : List Summary) (roots : List Root) (reached : List Name) where
+    abbrev D : List Summary
+    D = map (relabeled to regroup) decls
 
-  -- the kept lines, without what is added
-  moved-kept : (a : Ask) (decls : List Summary) (roots : List Root) (reached : List Name)
-      → kept a (map (relabeled to regroup) decls) (map (moved-root to) roots) reached ≡ map to (kept a decls roots reached)
-  unfolding kept
-  moved-kept a decls roots reached =
-      let fs = facts decls in
-      let names = kept-names a fs roots reached in
-      rw (
-        relabeled-facts decls,
-        relabeled-definitions decls,
-        relabeled-declarations decls,
-        moved-kept-names a fs roots reached,
-        moved-kept-facts a fs reached,
-        moved-kept-decls names (definitions decls),
-        moved-kept-decls names (declarations decls),
-      )
-      (moved-lines (prune-decls a) (kept-facts a fs reached) (kept-decls names (definitions decls)) (kept-decls names (declarations decls)))
+    abbrev R : List Root
+    R = map (moved-root to) roots
 
-  -- and with it
-  moved-list : (a : Ask) (decls : List Summary) (roots : List Root) (reached : List Name)
-      → kept-followed a (map (relabeled to regroup) decls) (map (moved-root to) roots) reached ≡ map to (kept-followed a decls roots reached)
-  unfolding kept-followed
-  moved-list a decls roots reached =
-      let fs = facts decls in
-      let D = definitions decls in
-      let E = declarations decls in
-      let names = kept-names a fs roots reached in
-      let added = added-for a D names in
-      rw (
-        relabeled-facts decls,
-        relabeled-definitions decls,
-        relabeled-declarations decls,
-        moved-kept-names a fs roots reached,
-        moved-added a D names,
-        moved-kept-facts a fs reached,
-        moved-group names added D,
-        moved-group names added E,
-      )
-      (moved-lines (prune-decls a) (kept-facts a fs reached) (kept-decls names D ++ of-names added D) (kept-decls names E ++ of-names added E))
+    -- what the kept list is made of, without what is added
+    moved-kept-parts : kept-parts a D R reached ≡ moved-parts (kept-parts a decls roots reached)
+    moved-kept-parts =
+        let names = kept-names a (facts decls) roots reached in
+        rw (
+          relabeled-facts decls,
+          relabeled-definitions decls,
+          relabeled-declarations decls,
+          moved-kept-names a (facts decls) roots reached,
+          moved-kept-facts a (facts decls) reached,
+          moved-kept-decls names (definitions decls),
+          moved-kept-decls names (declarations decls),
+        )
+
+    -- and with it
+    moved-followed-parts : followed-parts a D R reached ≡ moved-parts (followed-parts a decls roots reached)
+    moved-followed-parts =
+        let names = kept-names a (facts decls) roots reached in
+        let added = added-for a (definitions decls) names in
+        rw (
+          relabeled-facts decls,
+          relabeled-definitions decls,
+          relabeled-declarations decls,
+          moved-kept-names a (facts decls) roots reached,
+          moved-added a (definitions decls) names,
+          moved-kept-facts a (facts decls) reached,
+          moved-group names added (definitions decls),
+          moved-group names added (declarations decls),
+        )
+
+    -- the kept lines
+    moved-kept : kept a D R reached ≡ map to (kept a decls roots reached)
+    moved-kept =
+        kept-lines a D R reached ∙ ap (listed-lines a) moved-kept-parts ∙ moved-lines a (kept-parts a decls roots reached)
+        ∙ ap (map to) (sym (kept-lines a decls roots reached))
+
+    moved-list : kept-followed a D R reached ≡ map to (kept-followed a decls roots reached)
+    moved-list =
+        followed-lines a D R reached ∙ ap (listed-lines a) moved-followed-parts ∙ moved-lines a (followed-parts a decls roots reached)
+        ∙ ap (map to) (sym (followed-lines a decls roots reached))
 
 -- what an ask comes to over these records, none of which it leaves out
 pub over : List Summary → List Root → Ask → Position
@@ -368,10 +368,30 @@ lines-apart to decls roots a =
     ∙ relabeled-over to (λ g. g) (background a decls) roots a
     ∙ ap (moved-position to) (sym (position-over decls roots a))
 
+-- the run is the same
+pub run-apart : (to : ℕ → ℕ) (decls : List Summary) (roots : List Root) (a : Ask) → run a (map (moved to) decls) (map (moved-root to) roots) ≡ run a decls roots
+run-apart to decls roots a = ap (λ ds. run a ds (map (moved-root to) roots)) (moved-as to decls) ∙ moved-run to (λ g. g) decls roots a
+
 -- its list without what is added
 pub kept-apart : Kept-apart
 kept-apart to decls roots a =
     let rs = map (moved-root to) roots in
-    ap (λ ds. kept a ds rs (run a ds rs .reached)) (moved-as to decls)
-    ∙ ap (kept a (map (relabeled to (λ g. g)) decls) rs) (ap (λ (r : Run). r .reached) (moved-run to (λ g. g) decls roots a))
+    ap (kept a (map (moved to) decls) rs) (ap (λ (r : Run). r .reached) (run-apart to decls roots a))
+    ∙ ap (λ ds. kept a ds rs (run a decls roots .reached)) (moved-as to decls)
     ∙ moved-kept to (λ g. g) a decls roots (run a decls roots .reached)
+
+-- the names of both lists are the same, in their order
+module _ (to : ℕ → ℕ) (a : Ask) (decls : List Summary) (roots : List Root) (reached : List Name) where
+  pub kept-names-apart : listed-names a (kept-parts a (map (moved to) decls) (map (moved-root to) roots) reached) ≡ listed-names a (kept-parts a decls roots reached)
+  unfolding relabeled-fact moved-decl
+  kept-names-apart =
+      ap (λ ds. listed-names a (kept-parts a ds (map (moved-root to) roots) reached)) (moved-as to decls)
+      ∙ ap (listed-names a) (moved-kept-parts to (λ g. g) a decls roots reached)
+      ∙ told-map a (λ f. f .name) (λ d. d .name) (relabeled-fact to (λ g. g)) (moved-decl to) (kept-parts a decls roots reached)
+
+  pub followed-names-apart : listed-names a (followed-parts a (map (moved to) decls) (map (moved-root to) roots) reached) ≡ listed-names a (followed-parts a decls roots reached)
+  unfolding relabeled-fact moved-decl
+  followed-names-apart =
+      ap (λ ds. listed-names a (followed-parts a ds (map (moved-root to) roots) reached)) (moved-as to decls)
+      ∙ ap (listed-names a) (moved-followed-parts to (λ g. g) a decls roots reached)
+      ∙ told-map a (λ f. f .name) (λ d. d .name) (relabeled-fact to (λ g. g)) (moved-decl to) (followed-parts a decls roots reached)

@@ -124,7 +124,7 @@ first-met-elim (m ∷ ns) i =
     ⊎-elim List·Memᴰ·head (λ j. List·Memᴰ·tail (first-met-elim ns (keep-elim (λ n. not (same m n)) (first-met ns) j .0))) (List·Memᴰ·cases-cons i)
 
 -- a walked name is first met
-first-met-intro : (ns : List Name) {n : Name} → List·Memᴰ n ns → List·Memᴰ n (first-met ns)
+pub first-met-intro : (ns : List Name) {n : Name} → List·Memᴰ n ns → List·Memᴰ n (first-met ns)
 unfolding first-met remove
 first-met-intro [] i = i
 first-met-intro (m ∷ ns) {n} i =

@@ -11,18 +11,11 @@ use Rattle.model.specs.Rounds.{fires}
 use Rattle.model.proofs.SetLaws.{Within, Ascending, ascending-ext}
 use Rattle.laws.proofs.MetLaws.{met-within, met-with, with-first, with-fact, with-elim, ascending-with}
 use Rattle.laws.proofs.FiringLaws.{fires-more}
+use Rattle.demands.proofs.Rearranged.{Same-members, members-sym}
 
 -- a set of facts, by their names
 abbrev pub named-in : List Name → Fact → Bool
 named-in reached f = mem (f .name) reached
-
--- the names of the one list are those of the other
-pub record Same-names (l m : List Name) : Type 0 where
-  pub to : (n : Name) → List·Memᴰ n l → List·Memᴰ n m
-  pub from : (n : Name) → List·Memᴰ n m → List·Memᴰ n l
-
-pub same-names-sym : {l m : List Name} → Same-names l m → Same-names m l
-same-names-sym h = record { to = h .from; from = h .to }
 
 -- more first names meet no less, whatever the set
 pub with-firsts : (ms : Map (List Name)) (fs : List Fact) (first first′ : List Name) (set : Fact → Bool)
@@ -55,20 +48,20 @@ module _ (retains : Fact → Bool) (ms : Map (List Name)) (fs : List Fact) where
     pub is-least : (set : Fact → Bool) → Closed-from first set → (f : Fact) → List·Memᴰ f fs → T (named-in reached f) → T (set f)
 
   -- of two that settle from the same names the one reaches no more than the other
-  settled-within : {first first′ met met′ reached reached′ : List Name} → Same-names first first′
+  settled-within : {first first′ met met′ reached reached′ : List Name} → Same-members first first′
       → Settled first met reached → Settled first′ met′ reached′ → Within reached reached′
   settled-within {reached′} h s s′ n t =
       let (f, m, e) = s .is-named n t in
       rw e at (s .is-least (named-in reached′) (closed-fewer (h .to) (s′ .is-closed)) f m (rw (sym e) at t))
 
   -- they reach the same
-  pub settled-reached : {first first′ met met′ reached reached′ : List Name} → Same-names first first′
+  pub settled-reached : {first first′ met met′ reached reached′ : List Name} → Same-members first first′
       → Settled first met reached → Settled first′ met′ reached′ → reached ≡ reached′
   settled-reached h s s′ =
-      ascending-ext (s .reached-set) (s′ .reached-set) (settled-within h s s′) (settled-within (same-names-sym h) s′ s)
+      ascending-ext (s .reached-set) (s′ .reached-set) (settled-within h s s′) (settled-within (members-sym h) s′ s)
 
   -- and meet the same
-  pub settled-met : {first first′ met met′ reached reached′ : List Name} → Same-names first first′
+  pub settled-met : {first first′ met met′ reached reached′ : List Name} → Same-members first first′
       → Settled first met reached → Settled first′ met′ reached′ → met ≡ met′
   settled-met {first} {first′} {reached} {reached′} h s s′ =
       s .met-is

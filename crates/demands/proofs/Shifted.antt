@@ -30,7 +30,7 @@ use Rattle.demands.proofs.LineForm.{parse-unknown, after-kind, parse-kn
 use Rattle.demands.proofs.LineFields.{place-by, position-by, known-place, line-fields}
 use Rattle.demands.proofs.Heads.{none-by, asks-none, headed-line}
 use Rattle.demands.proofs.Moved.{map-length, nil-map}
-use Rattle.demands.proofs.SameNames.{same-kind}
+use Rattle.demands.proofs.SummaryRenaming.{same-kind}
 
 -- the state with other asks, these names hidden and these spelled, and the record of line n on line `to n`
 abbrev pub relaid : (ℕ → ℕ) → List Ask → List Name → List Name → State → State
@@ -93,7 +93,7 @@ module _ (to : ℕ → ℕ) where
   root-uses-moved (r ∷ l) = rw (root-uses-moved l)
 
   -- the names that they take
-  taken-moved : (l : List Summary) → collect taken-by (map (moved to) l) ≡ collect taken-by l
+  pub taken-moved : (l : List Summary) → collect taken-by (map (moved to) l) ≡ collect taken-by l
   unfolding collect taken-by moved moved-fact moved-decl
   taken-moved [] = refl
   taken-moved (Sum-assume f ∷ l) = rw (taken-moved l)
@@ -103,7 +103,7 @@ module _ (to : ℕ → ℕ) where
 
   module _ (terms : List Term) (out out′ : List Name) (same-free : (t : ℕ) → free-top-level-names out terms t ≡ free-top-level-names out′ terms t) where
     -- the records of a line that stands on another, by excluded names that leave the same free names
-    decls-moved : (n : ℕ) (c : Content) → summarize-decl out terms (to n) c ≡ map (moved to) (summarize-decl out′ terms n c)
+    pub decls-moved : (n : ℕ) (c : Content) → summarize-decl out terms (to n) c ≡ map (moved to) (summarize-decl out′ terms n c)
     unfolding summarize-decl summarize-assumption moved moved-fact moved-decl
     decls-moved n (head h) = refl
     decls-moved n (term node) = refl
@@ -113,7 +113,7 @@ module _ (to : ℕ → ℕ) where
     decls-moved n (retain names) = refl
     decls-moved n (root q name t) = refl
 
-    roots-moved : (n : ℕ) (c : Content) → root-of out terms (to n) c ≡ map (moved-root to) (root-of out′ terms n c)
+    pub roots-moved : (n : ℕ) (c : Content) → root-of out terms (to n) c ≡ map (moved-root to) (root-of out′ terms n c)
     unfolding root-of moved-root
     roots-moved n (head h) = refl
     roots-moved n (term node) = refl

@@ -24,3 +24,4 @@ pub mod FreeNames
 pub mod Bytes
 pub mod Printed
 pub mod Groups
+pub mod Sequence

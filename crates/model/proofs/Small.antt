@@ -287,7 +287,7 @@ pass-3 : All-print files-3
 unfolding prints files-3
 pass-3 = (refl, (refl, (refl, (refl, (refl, (refl, (refl, (refl, (refl, (refl, (refl, (refl, (refl, (refl, tt))))))))))))))
 
--- also-has-the-groups-of-its-ask to also-twice-same-query
+-- also-has-the-groups-of-its-ask to also-trimmed-token-met-in-the-stretch
 files-4 : List Small
 files-4 =
     record {
@@ -326,6 +326,24 @@ files-4 =
       name = "also-in-capitals-is-1";
       file = "ask,0,0\nAlso,0\n" ∷ [];
       printed = "refused,1,2\n" ∷ [];
+    }
+    ∷ record {
+      name = "also-line-1";
+      file = "ask,0,0\nalso,1\nfree,p\nfree,q\nop,eq,0,0\nop,eq,1,1\nassume,a,0,2\nassume,b,0,3\nroot,0,r,0\n"
+          ∷ "root,1,r,1\n"
+          ∷ [];
+      printed = "fact,7,triggers,{p},{p} free={p}\nfact,8,triggers,{q},{q} free={q}\nkept,7,a\nsum,1,2,2\nkept,7,a\n"
+          ∷ "kept,8,b\nsum,2,2,2\n"
+          ∷ [];
+    }
+    ∷ record {
+      name = "also-line-2";
+      file = "ask,0,0\nalso,1\nfree,p\nfree,q\nop,eq,0,0\nop,eq,1,1\nroot,1,r,1\nassume,b,0,3\nroot,0,r,0\n"
+          ∷ "assume,a,0,2\n"
+          ∷ [];
+      printed = "fact,8,triggers,{q},{q} free={q}\nfact,10,triggers,{p},{p} free={p}\nkept,10,a\nsum,1,2,2\nkept,10,a\n"
+          ∷ "kept,8,b\nsum,2,2,2\n"
+          ∷ [];
     }
     ∷ record {
       name = "also-line-follows-bodies";
@@ -397,7 +415,17 @@ files-4 =
           ∷ "fact,10,triggers,{f@tok},{f@tok} free={f@tok}\nsum,0,0,1\nkept,10,a\nkept,7,t\nsum,2,4,3\n"
           ∷ [];
     }
-    ∷ record {
+    ∷ []
+
+-- a wrong one is named in the error
+pass-4 : All-print files-4
+unfolding prints files-4
+pass-4 = (refl, (refl, (refl, (refl, (refl, (refl, (refl, (refl, (refl, (refl, (refl, (refl, (refl, (refl, (refl, (refl, (refl, tt)))))))))))))))))
+
+-- also-twice-same-query to ambient-root-scanned-for-each-ask
+files-5 : List Small
+files-5 =
+    record {
       name = "also-twice-same-query";
       file = "ask,0,0\nalso,1\nalso,1\nfree,p\nfree,q\nop,eq,0,0\nassume,a,0,2\nop,eq,1,1\nassume,b,0,3\nroot,0,r,0\n"
           ∷ "root,1,r,1\n"
@@ -406,17 +434,7 @@ files-4 =
           ∷ "kept,9,b\nsum,2,2,2\nkept,7,a\nkept,9,b\nsum,2,0,1\n"
           ∷ [];
     }
-    ∷ []
-
--- a wrong one is named in the error
-pass-4 : All-print files-4
-unfolding prints files-4
-pass-4 = (refl, (refl, (refl, (refl, (refl, (refl, (refl, (refl, (refl, (refl, (refl, (refl, (refl, (refl, (refl, (refl, tt))))))))))))))))
-
--- also-up-a-chain-of-facts to ambients-admitted-last-filed-first
-files-5 : List Small
-files-5 =
-    record {
+    ∷ record {
       name = "also-up-a-chain-of-facts";
       file = "ask,2,0\nalso,1\nalso,0\nfree,p\nfree,q\nfree,s\nfree,t\nall,1,1,1,0\nassume,a,0,4\nall,2,1,1,1\n"
           ∷ "assume,b,0,5\nall,3,1,1,2\nassume,c,0,6\nroot,0,r,0\nroot,1,r,1\nroot,2,r,2\n"
@@ -533,13 +551,6 @@ files-5 =
           ∷ "sum,0,0,1\nkept,9,a\nkept,7,h\nsum,2,2,2\n"
           ∷ [];
     }
-    ∷ record {
-      name = "ambients-admitted-last-filed-first";
-      file = "ask2,0,0,5\nfree,p\nlabel,0\nassume,a,0,0,1\nassume,b,0,1,1\nassume,c,0,2,1\n" ∷ [];
-      printed = "fact,4,ambient,0 free={p}\nfact,5,ambient,0 free={p}\nfact,6,ambient,0 free={p}\nkept,6,c\nkept,4,a\n"
-          ∷ "sum,2,0,1\n"
-          ∷ [];
-    }
     ∷ []
 
 -- a wrong one is named in the error
@@ -547,10 +558,17 @@ pass-5 : All-print files-5
 unfolding prints files-5
 pass-5 = (refl, (refl, (refl, (refl, (refl, (refl, (refl, (refl, (refl, (refl, (refl, (refl, (refl, (refl, (refl, (refl, (refl, (refl, (refl, tt)))))))))))))))))))
 
--- ambients-last-filed-first to ask2-with-five-fields-is-1
+-- ambients-admitted-last-filed-first to ask2-in-a-file-of-ask-is-1
 files-6 : List Small
 files-6 =
     record {
+      name = "ambients-admitted-last-filed-first";
+      file = "ask2,0,0,5\nfree,p\nlabel,0\nassume,a,0,0,1\nassume,b,0,1,1\nassume,c,0,2,1\n" ∷ [];
+      printed = "fact,4,ambient,0 free={p}\nfact,5,ambient,0 free={p}\nfact,6,ambient,0 free={p}\nkept,6,c\nkept,4,a\n"
+          ∷ "sum,2,0,1\n"
+          ∷ [];
+    }
+    ∷ record {
       name = "ambients-last-filed-first";
       file = "ask,0,0\nfree,p\nop,other,0\nall,0,1,1,0\nassume,b,0,1\nassume,ab,0,2\nassume,c,1,1\nassume,a,0,2\n"
           ∷ "assume,B,0,2\nassume,a-,0,1\nassume,~,0,2\nassume,a!,0,2\nroot,0,r,0\n"
@@ -569,6 +587,16 @@ files-6 =
       printed = "fact,6,ambient,1 free={Tm_refine_1 p}\nfact,7,ambient,0 free={}\nfact,8,ambient,1 free={Tm_refine_1 p}\n"
           ∷ "fact,10,triggers,{p} free={p}\nkept,10,z\nsum,1,1,2\n"
           ∷ [];
+    }
+    ∷ record {
+      name = "ambients-trade-places-1";
+      file = "ask,0,0\nfree,p\nlabel,0\nassume,m,0,1\nassume,n,0,1\n" ∷ [];
+      printed = "fact,4,ambient,0 free={p}\nfact,5,ambient,0 free={p}\nkept,5,n\nkept,4,m\nsum,2,0,1\n" ∷ [];
+    }
+    ∷ record {
+      name = "ambients-trade-places-2";
+      file = "ask,0,0\nfree,p\nlabel,0\nassume,n,0,1\nassume,m,0,1\n" ∷ [];
+      printed = "fact,4,ambient,0 free={p}\nfact,5,ambient,0 free={p}\nkept,5,m\nkept,4,n\nsum,2,0,1\n" ∷ [];
     }
     ∷ record {
       name = "an-earlier-line-before-the-other-form";
@@ -653,7 +681,17 @@ files-6 =
       file = "ask,0,0\nask2,0,0,1\n" ∷ [];
       printed = "refused,1,2\n" ∷ [];
     }
-    ∷ record {
+    ∷ []
+
+-- a wrong one is named in the error
+pass-6 : All-print files-6
+unfolding prints files-6
+pass-6 = (refl, (refl, (refl, (refl, (refl, (refl, (refl, (refl, (refl, (refl, (refl, (refl, (refl, (refl, (refl, (refl, (refl, (refl, (refl, (refl, tt))))))))))))))))))))
+
+-- ask2-in-capitals-is-1 to asks-macro-opened-for-each
+files-7 : List Small
+files-7 =
+    record {
       name = "ask2-in-capitals-is-1";
       file = "ASK2,0,0,1\n" ∷ [];
       printed = "refused,1,1\n" ∷ [];
@@ -668,17 +706,7 @@ files-6 =
       file = "ask2,0,0,1,1\n" ∷ [];
       printed = "refused,1,1\n" ∷ [];
     }
-    ∷ []
-
--- a wrong one is named in the error
-pass-6 : All-print files-6
-unfolding prints files-6
-pass-6 = (refl, (refl, (refl, (refl, (refl, (refl, (refl, (refl, (refl, (refl, (refl, (refl, (refl, (refl, (refl, (refl, (refl, (refl, (refl, (refl, tt))))))))))))))))))))
-
--- ask2-without-0A-is-1 to asks-macro-opened-for-each
-files-7 : List Small
-files-7 =
-    record {
+    ∷ record {
       name = "ask2-without-0A-is-1";
       file = "ask2,0,0,1" ∷ [];
       printed = "refused,1,1\n" ∷ [];
@@ -781,7 +809,7 @@ files-7 =
 -- a wrong one is named in the error
 pass-7 : All-print files-7
 unfolding prints files-7
-pass-7 = (refl, (refl, (refl, (refl, (refl, (refl, (refl, (refl, (refl, (refl, (refl, (refl, tt))))))))))))
+pass-7 = (refl, (refl, (refl, (refl, (refl, (refl, (refl, (refl, (refl, (refl, (refl, (refl, (refl, (refl, (refl, tt)))))))))))))))
 
 -- asks-of-a-query-and-of-none to bodies-listed-but-not-met
 files-8 : List Small
@@ -1209,6 +1237,16 @@ files-11 =
       printed = "refused,5,5\n" ∷ [];
     }
     ∷ record {
+      name = "defs-below-or-above-what-they-open-1";
+      file = "ask,0,12\nfree,g\nfree,k\nfun,k\ndef,g,1\nop,eq,1,1\nassume,a,0,2\nroot,0,r,0\n" ∷ [];
+      printed = "fact,7,triggers,{k},{k} free={k}\nkept,7,a\nkept,5,g\nkept,4,k\nsum,3,2,2\n" ∷ [];
+    }
+    ∷ record {
+      name = "defs-below-or-above-what-they-open-2";
+      file = "ask,0,12\nfree,g\nfree,k\nop,eq,1,1\nassume,a,0,2\nroot,0,r,0\ndef,g,1\nfun,k\n" ∷ [];
+      printed = "fact,5,triggers,{k},{k} free={k}\nkept,5,a\nkept,7,g\nkept,8,k\nsum,3,2,2\n" ∷ [];
+    }
+    ∷ record {
       name = "defs-in-a-circle";
       file = "ask,0,12\nfree,a\nfree,b\ndef,a,1\ndef,b,0\nroot,0,r,0\n" ∷ [];
       printed = "kept,4,a\nkept,5,b\nsum,2,0,1\n" ∷ [];
@@ -1232,7 +1270,7 @@ files-11 =
 -- a wrong one is named in the error
 pass-11 : All-print files-11
 unfolding prints files-11
-pass-11 = (refl, (refl, (refl, (refl, (refl, (refl, (refl, (refl, (refl, (refl, (refl, (refl, (refl, (refl, (refl, (refl, (refl, (refl, tt))))))))))))))))))
+pass-11 = (refl, (refl, (refl, (refl, (refl, (refl, (refl, (refl, (refl, (refl, (refl, (refl, (refl, (refl, (refl, (refl, (refl, (refl, (refl, (refl, tt))))))))))))))))))))
 
 -- each-group-but-one to entry-of-a-fact-not-admitted-is-no-visit
 files-12 : List Small
@@ -1348,7 +1386,7 @@ pass-13 : All-print files-13
 unfolding prints files-13
 pass-13 = (refl, tt)
 
--- fact-not-admitted-brings-nothing to groups-of-each-ask
+-- fact-not-admitted-brings-nothing to groups-65536-is-3
 files-14 : List Small
 files-14 =
     record {
@@ -1402,6 +1440,16 @@ files-14 =
       printed = "refused,1,4\n" ∷ [];
     }
     ∷ record {
+      name = "funs-go-by-the-roots-lines-1";
+      file = "ask,0,4\nfree,p\nfree,q\nfun,p\nfun,q\nroot,0,r,0\nroot,0,r,1\n" ∷ [];
+      printed = "kept,5,q\nkept,4,p\nsum,2,0,1\n" ∷ [];
+    }
+    ∷ record {
+      name = "funs-go-by-the-roots-lines-2";
+      file = "ask,0,4\nfree,p\nfree,q\nfun,p\nfun,q\nroot,0,r,1\nroot,0,r,0\n" ∷ [];
+      printed = "kept,4,p\nkept,5,q\nsum,2,0,1\n" ∷ [];
+    }
+    ∷ record {
       name = "group-16-is-3";
       file = "ask2,0,0,1\nfree,p\nop,eq,0,0\nassume,a,0,16,1\n" ∷ [];
       printed = "refused,3,4\n" ∷ [];
@@ -1448,7 +1496,17 @@ files-14 =
       file = "ask2,0,0,65536\n" ∷ [];
       printed = "refused,3,1\n" ∷ [];
     }
-    ∷ record {
+    ∷ []
+
+-- a wrong one is named in the error
+pass-14 : All-print files-14
+unfolding prints files-14
+pass-14 = (refl, (refl, (refl, (refl, (refl, (refl, (refl, (refl, (refl, (refl, (refl, (refl, (refl, (refl, (refl, (refl, (refl, (refl, (refl, (refl, tt))))))))))))))))))))
+
+-- groups-empty-is-3 to hide-after-term-is-1
+files-15 : List Small
+files-15 =
+    record {
       name = "groups-empty-is-3";
       file = "ask2,0,0,\n" ∷ [];
       printed = "refused,3,1\n" ∷ [];
@@ -1460,17 +1518,7 @@ files-14 =
           ∷ "sum,1,2,2\nkept,6,a\nkept,7,b\nsum,2,4,2\n"
           ∷ [];
     }
-    ∷ []
-
--- a wrong one is named in the error
-pass-14 : All-print files-14
-unfolding prints files-14
-pass-14 = (refl, (refl, (refl, (refl, (refl, (refl, (refl, (refl, (refl, (refl, (refl, (refl, (refl, (refl, (refl, (refl, (refl, (refl, (refl, (refl, tt))))))))))))))))))))
-
--- groups-of-one-ask-leave-nothing-for-the-next to hide-between-also-lines-is-1
-files-15 : List Small
-files-15 =
-    record {
+    ∷ record {
       name = "groups-of-one-ask-leave-nothing-for-the-next";
       file = "ask2,0,0,3\nask2,0,0,2\nask2,0,0,1\nfree,p\nfree,q\nall,1,1,1,0\nassume,on_p,0,0,2\nall,1,1,1,1\n"
           ∷ "assume,on_q,0,1,3\nroot,0,r,0\n"
@@ -1548,6 +1596,30 @@ files-15 =
       file = "ask,0,0\nhide,p\nfree,p\nhide,q\n" ∷ [];
       printed = "refused,1,4\n" ∷ [];
     }
+    ∷ []
+
+-- a wrong one is named in the error
+pass-15 : All-print files-15
+unfolding prints files-15
+pass-15 = (refl, (refl, (refl, (refl, (refl, (refl, (refl, (refl, (refl, (refl, (refl, (refl, (refl, (refl, tt))))))))))))))
+
+-- hide-and-trimmed-token-1 to hide-in-a-macro-body
+files-16 : List Small
+files-16 =
+    record {
+      name = "hide-and-trimmed-token-1";
+      file = "ask,0,0\nhide,w\nfree,__uu__PartialApp\nfree,f@tok\ncall,ApplyTT,0,1\ncall,Valid,2\nfree,f\nfree,w\n"
+          ∷ "assume,t,0,3\nroot,0,r,4\nretain,w\n"
+          ∷ [];
+      printed = "fact,9,triggers,{f@tok},{f} free={__uu__PartialApp f@tok}\nkept,9,t\nsum,1,2,3\n" ∷ [];
+    }
+    ∷ record {
+      name = "hide-and-trimmed-token-2";
+      file = "ask,0,0\nhide,w\nfree,__uu__PartialApp\nfree,f@tok\ncall,ApplyTT,0,1\ncall,Valid,2\nretain,w\nfree,f\n"
+          ∷ "free,w\nroot,0,r,4\nassume,t,0,3\n"
+          ∷ [];
+      printed = "fact,11,triggers,{f@tok},{f} free={__uu__PartialApp f@tok}\nkept,11,t\nsum,1,2,3\n" ∷ [];
+    }
     ∷ record {
       name = "hide-between-also-lines-is-1";
       file = "ask,0,0\nalso,1\nhide,q\nalso,0\nfree,p\nfree,q\nop,eq,0,0\nassume,a,0,2\nop,eq,1,1\nassume,b,0,3\n"
@@ -1555,17 +1627,7 @@ files-15 =
           ∷ [];
       printed = "refused,1,4\n" ∷ [];
     }
-    ∷ []
-
--- a wrong one is named in the error
-pass-15 : All-print files-15
-unfolding prints files-15
-pass-15 = (refl, (refl, (refl, (refl, (refl, (refl, (refl, (refl, (refl, (refl, (refl, (refl, (refl, tt)))))))))))))
-
--- hide-def-is-not-opened to hide-leaves-the-shapes-of-rules
-files-16 : List Small
-files-16 =
-    record {
+    ∷ record {
       name = "hide-def-is-not-opened";
       file = "ask,0,4\nhide,g\nfree,g\nfree,q\ndef,g,1\nop,eq,1,1\nassume,a,0,2\nfun,q\nroot,0,r,0\n" ∷ [];
       printed = "fact,7,triggers,{q},{q} free={q}\nsum,0,0,1\n" ∷ [];
@@ -1612,7 +1674,17 @@ files-16 =
           ∷ [];
       printed = "fact,12,triggers,{w} free={__uu__PartialApp}\nfact,14,triggers,{q} free={q}\nkept,14,b\nsum,1,1,2\n" ∷ [];
     }
-    ∷ record {
+    ∷ []
+
+-- a wrong one is named in the error
+pass-16 : All-print files-16
+unfolding prints files-16
+pass-16 = (refl, (refl, (refl, (refl, (refl, (refl, (refl, (refl, (refl, tt)))))))))
+
+-- hide-in-a-scanned-fact to hide-token-is-filed
+files-17 : List Small
+files-17 =
+    record {
       name = "hide-in-a-scanned-fact";
       file = "ask,0,0\nhide,w\nfree,p\nfree,w\nfree,z\nop,other,1\nall,3,1,1,0\nassume,a,0,4\nop,eq,1,2\n"
           ∷ "assume,b,0,5\nroot,0,r,0\n"
@@ -1636,17 +1708,7 @@ files-16 =
           ∷ [];
       printed = "fact,6,triggers,{p} free={p}\nfact,10,triggers,{q} free={p q}\nkept,6,a\nkept,10,b\nsum,2,2,3\n" ∷ [];
     }
-    ∷ []
-
--- a wrong one is named in the error
-pass-16 : All-print files-16
-unfolding prints files-16
-pass-16 = (refl, (refl, (refl, (refl, (refl, (refl, (refl, (refl, (refl, (refl, tt))))))))))
-
--- hide-makes-one-name-enough to hide-without-name-is-1
-files-17 : List Small
-files-17 =
-    record {
+    ∷ record {
       name = "hide-makes-one-name-enough";
       file = "ask,0,0\nhide,w\nfree,p\ncall,w,0\nfree,q\nall,2,1,1,1\nassume,a,0,3\nroot,0,r,0\n" ∷ [];
       printed = "fact,7,triggers,{p} free={p q}\nkept,7,a\nsum,1,1,2\n" ∷ [];
@@ -1735,7 +1797,17 @@ files-17 =
           ∷ [];
       printed = "fact,7,triggers,{f@tok},{f} free={__uu__PartialApp}\nkept,7,t\nsum,1,1,2\n" ∷ [];
     }
-    ∷ record {
+    ∷ []
+
+-- a wrong one is named in the error
+pass-17 : All-print files-17
+unfolding prints files-17
+pass-17 = (refl, (refl, (refl, (refl, (refl, (refl, (refl, (refl, (refl, (refl, (refl, (refl, (refl, (refl, (refl, (refl, (refl, (refl, (refl, tt)))))))))))))))))))
+
+-- hide-token-opened-by-a-starting-macro to macro-opens-to-excluded-name
+files-18 : List Small
+files-18 =
+    record {
       name = "hide-token-opened-by-a-starting-macro";
       file = "ask,0,0\nhide,BoxInt\nfree,__uu__PartialApp\nfree,BoxInt\ncall,ApplyTT,0,1\ncall,Valid,2\nassume,t,0,3\n"
           ∷ "free,is-BoxInt\nroot,0,r,4\n"
@@ -1759,17 +1831,7 @@ files-17 =
       file = "ask,0,0\nhide\n" ∷ [];
       printed = "refused,1,2\n" ∷ [];
     }
-    ∷ []
-
--- a wrong one is named in the error
-pass-17 : All-print files-17
-unfolding prints files-17
-pass-17 = (refl, (refl, (refl, (refl, (refl, (refl, (refl, (refl, (refl, (refl, (refl, (refl, (refl, (refl, (refl, (refl, (refl, (refl, (refl, tt)))))))))))))))))))
-
--- macro-box-each to misplaced-ask-is-1-before-its-fields
-files-18 : List Small
-files-18 =
-    record {
+    ∷ record {
       name = "macro-box-each";
       file = "ask,0,0\nfree,is-BoxBool\nfree,is-BoxInt\nfree,is-BoxString\nfree,is-BoxReal\nfree,is-BoxProp\n"
           ∷ "free,BoxBool\nfree,BoxInt\nfree,BoxString\nfree,BoxReal\nfree,BoxProp\nleaf\nall,10,1,1,5\n"
@@ -1840,7 +1902,17 @@ files-18 =
           ∷ [];
       printed = "fact,6,triggers,{HasType@tok},{HasType} free={HasType@tok __uu__PartialApp}\nsum,0,0,1\n" ∷ [];
     }
-    ∷ record {
+    ∷ []
+
+-- a wrong one is named in the error
+pass-18 : All-print files-18
+unfolding prints files-18
+pass-18 = (refl, (refl, (refl, (refl, (refl, (refl, (refl, (refl, (refl, (refl, (refl, (refl, (refl, (refl, (refl, tt)))))))))))))))
+
+-- macro-second-level-by-fact to option-2-admits-no-group
+files-19 : List Small
+files-19 =
+    record {
       name = "macro-second-level-by-fact";
       file = "ask,0,0\nfree,h\nfree,k\nfree,g\ndef,g,0\ndef,h,1\nall,0,1,1,0\nassume,a,0,3\nall,1,1,1,1\n"
           ∷ "assume,b,0,4\nroot,0,r,2\n"
@@ -1866,17 +1938,7 @@ files-18 =
       file = "ask,0,0\nfun,p\nask,999,99\n" ∷ [];
       printed = "refused,1,3\n" ∷ [];
     }
-    ∷ []
-
--- a wrong one is named in the error
-pass-18 : All-print files-18
-unfolding prints files-18
-pass-18 = (refl, (refl, (refl, (refl, (refl, (refl, (refl, (refl, (refl, (refl, (refl, (refl, (refl, (refl, (refl, tt)))))))))))))))
-
--- name-before-group to options-15-pass
-files-19 : List Small
-files-19 =
-    record {
+    ∷ record {
       name = "name-before-group";
       file = "ask2,0,0,1\nfree,p\nop,eq,0,0\nassume,,0,16,1\n" ∷ [];
       printed = "refused,2,4\n" ∷ [];
@@ -1964,7 +2026,17 @@ files-19 =
       file = "ask2,0,2,1\nask2,0,2,2\nfree,p\nop,eq,0,0\nassume,a,1,1,1\nroot,0,r,0\n" ∷ [];
       printed = "fact,5,triggers,{p},{p} free={p}\nsum,0,0,1\nkept,5,a\nsum,1,2,2\n" ∷ [];
     }
-    ∷ record {
+    ∷ []
+
+-- a wrong one is named in the error
+pass-19 : All-print files-19
+unfolding prints files-19
+pass-19 = (refl, (refl, (refl, (refl, (refl, (refl, (refl, (refl, (refl, (refl, (refl, (refl, (refl, (refl, (refl, (refl, (refl, (refl, (refl, (refl, tt))))))))))))))))))))
+
+-- option-4-alone-stops-at-the-def to pretyping-fact-admitted-makes-a-round
+files-20 : List Small
+files-20 =
+    record {
       name = "option-4-alone-stops-at-the-def";
       file = "ask,0,4\nfree,f\ndef,g,0\nfun,f\nfree,g\nroot,0,r,1\n" ∷ [];
       printed = "kept,3,g\nsum,1,0,1\n" ∷ [];
@@ -1988,17 +2060,7 @@ files-19 =
       file = "ask,0,15\nfree,f\ndef,g,0\nfun,f\nfree,g\nroot,0,r,1\n" ∷ [];
       printed = "kept,3,g\nkept,4,f\nsum,2,0,1\n" ∷ [];
     }
-    ∷ []
-
--- a wrong one is named in the error
-pass-19 : All-print files-19
-unfolding prints files-19
-pass-19 = (refl, (refl, (refl, (refl, (refl, (refl, (refl, (refl, (refl, (refl, (refl, (refl, (refl, (refl, (refl, (refl, (refl, (refl, (refl, (refl, tt))))))))))))))))))))
-
--- options-before-groups to r-ask-2
-files-20 : List Small
-files-20 =
-    record {
+    ∷ record {
       name = "options-before-groups";
       file = "ask2,0,x,y\n" ∷ [];
       printed = "refused,3,1\n" ∷ [];
@@ -2059,6 +2121,16 @@ files-20 =
       printed = "refused,1,17\n" ∷ [];
     }
     ∷ record {
+      name = "passes-may-differ-rounds-may-not-1";
+      file = "ask,0,0\nfree,p\nfree,q\nop,eq,0,1\nop,eq,1,1\nassume,a,0,2\nassume,b,0,3\nroot,0,r,0\n" ∷ [];
+      printed = "fact,6,triggers,{p},{q} free={p q}\nfact,7,triggers,{q},{q} free={q}\nkept,6,a\nkept,7,b\nsum,2,4,3\n" ∷ [];
+    }
+    ∷ record {
+      name = "passes-may-differ-rounds-may-not-2";
+      file = "ask,0,0\nfree,p\nfree,q\nop,eq,0,1\nop,eq,1,1\nassume,b,0,3\nassume,a,0,2\nroot,0,r,0\n" ∷ [];
+      printed = "fact,6,triggers,{q},{q} free={q}\nfact,7,triggers,{p},{q} free={p q}\nkept,7,a\nkept,6,b\nsum,2,4,3\n" ∷ [];
+    }
+    ∷ record {
       name = "pattern-names-of-a-body-are-followed";
       file = "ask,0,12\nfree,f\nleaf\nall,1,1,1,0\ndef,g,2\nfun,f\nfree,g\nroot,0,r,3\n" ∷ [];
       printed = "kept,5,g\nkept,6,f\nsum,2,0,1\n" ∷ [];
@@ -2068,7 +2140,17 @@ files-20 =
       file = "ask2,0,0,1\nask2,0,0,2\nask2,0,2,2\nfree,p\nop,eq,0,0\nassume,a,1,1,1\nroot,0,r,0\n" ∷ [];
       printed = "fact,6,triggers,{p},{p} free={p}\nsum,0,0,1\nsum,0,2,2\nkept,6,a\nsum,1,2,2\n" ∷ [];
     }
-    ∷ record {
+    ∷ []
+
+-- a wrong one is named in the error
+pass-20 : All-print files-20
+unfolding prints files-20
+pass-20 = (refl, (refl, (refl, (refl, (refl, (refl, (refl, (refl, (refl, (refl, (refl, (refl, (refl, (refl, (refl, (refl, tt))))))))))))))))
+
+-- query-twice-in-a-chain-adds-none to r-cr-op
+files-21 : List Small
+files-21 =
+    record {
       name = "query-twice-in-a-chain-adds-none";
       file = "ask,0,0\nalso,0\nfree,p\nfree,q\nop,eq,0,0\nassume,a,0,2\nop,eq,1,1\nassume,b,0,3\nroot,0,r,0\n"
           ∷ "root,1,r,1\n"
@@ -2126,17 +2208,7 @@ files-20 =
       file = "ask,0\n" ∷ [];
       printed = "refused,1,1\n" ∷ [];
     }
-    ∷ []
-
--- a wrong one is named in the error
-pass-20 : All-print files-20
-unfolding prints files-20
-pass-20 = (refl, (refl, (refl, (refl, (refl, (refl, (refl, (refl, (refl, (refl, (refl, (refl, (refl, (refl, (refl, (refl, (refl, (refl, (refl, (refl, tt))))))))))))))))))))
-
--- r-ask-comma to r-no-0a-2
-files-21 : List Small
-files-21 =
-    record {
+    ∷ record {
       name = "r-ask-comma";
       file = "ask,0,0,\n" ∷ [];
       printed = "refused,1,1\n" ∷ [];
@@ -2186,7 +2258,17 @@ files-21 =
       file = "ask,0,0\nop,true\r\n" ∷ [];
       printed = "refused,1,2\n" ∷ [];
     }
-    ∷ record {
+    ∷ []
+
+-- a wrong one is named in the error
+pass-21 : All-print files-21
+unfolding prints files-21
+pass-21 = (refl, (refl, (refl, (refl, (refl, (refl, (refl, (refl, (refl, (refl, (refl, (refl, (refl, (refl, (refl, (refl, (refl, (refl, (refl, (refl, tt))))))))))))))))))))
+
+-- r-def-2 to r-some-lacking-t
+files-22 : List Small
+files-22 =
+    record {
       name = "r-def-2";
       file = "ask,0,0\ndef,a\n" ∷ [];
       printed = "refused,1,2\n" ∷ [];
@@ -2238,17 +2320,7 @@ files-21 =
       file = "ask,0,0\nleaf" ∷ [];
       printed = "refused,1,2\n" ∷ [];
     }
-    ∷ []
-
--- a wrong one is named in the error
-pass-21 : All-print files-21
-unfolding prints files-21
-pass-21 = (refl, (refl, (refl, (refl, (refl, (refl, (refl, (refl, (refl, (refl, (refl, (refl, (refl, (refl, (refl, (refl, (refl, (refl, (refl, (refl, tt))))))))))))))))))))
-
--- r-op-word to rounds-empty-disjunct-late
-files-22 : List Small
-files-22 =
-    record {
+    ∷ record {
       name = "r-op-word";
       file = "ask,0,0\nop,false\n" ∷ [];
       printed = "refused,1,2\n" ∷ [];
@@ -2298,7 +2370,17 @@ files-22 =
       file = "ask,0,0\nleaf\nsome,0,1,2,0\n" ∷ [];
       printed = "refused,1,3\n" ∷ [];
     }
-    ∷ record {
+    ∷ []
+
+-- a wrong one is named in the error
+pass-22 : All-print files-22
+unfolding prints files-22
+pass-22 = (refl, (refl, (refl, (refl, (refl, (refl, (refl, (refl, (refl, (refl, (refl, (refl, (refl, (refl, (refl, (refl, (refl, (refl, (refl, (refl, tt))))))))))))))))))))
+
+-- r-term5-5 to rounds-not-retained-each-round-option-2
+files-23 : List Small
+files-23 =
+    record {
       name = "r-term5-5";
       file = "ask,0,0\nleaf\nleaf\nleaf\nleaf\nleaf\nlabel,5\n" ∷ [];
       printed = "refused,4,7\n" ∷ [];
@@ -2316,6 +2398,16 @@ files-22 =
       printed = "fact,6,triggers,{p},{p} free={p}\nfact,7,triggers,{p},{p} free={p}\nkept,6,last\nsum,1,2,2\n"
           ∷ "kept,7,first\nsum,1,2,2\nkept,7,first\nkept,6,last\nsum,2,4,2\n"
           ∷ [];
+    }
+    ∷ record {
+      name = "records-between-terms-or-after-1";
+      file = "ask,0,0\nfree,p\nroot,0,r,0\nfree,q\nop,eq,0,1\nassume,a,0,2\nop,eq,1,1\nassume,b,0,3\n" ∷ [];
+      printed = "fact,6,triggers,{p},{q} free={p q}\nfact,8,triggers,{q},{q} free={q}\nkept,6,a\nkept,8,b\nsum,2,4,3\n" ∷ [];
+    }
+    ∷ record {
+      name = "records-between-terms-or-after-2";
+      file = "ask,0,0\nfree,p\nfree,q\nop,eq,0,1\nop,eq,1,1\nassume,b,0,3\nassume,a,0,2\nroot,0,r,0\n" ∷ [];
+      printed = "fact,6,triggers,{q},{q} free={q}\nfact,7,triggers,{p},{q} free={p q}\nkept,7,a\nkept,6,b\nsum,2,4,3\n" ∷ [];
     }
     ∷ record {
       name = "repeated-roots-and-retained";
@@ -2352,17 +2444,7 @@ files-22 =
       file = "ask,0,0\nfree,p\nfree,q\nleaf\nall,1,1,1,0\nassume,a,0,3\nall,2,2,0,1,1\nassume,b,0,4\nroot,0,r,0\n" ∷ [];
       printed = "fact,6,triggers,{p} free={p q}\nfact,8,triggers,{},{q} free={q}\nkept,6,a\nkept,8,b\nsum,2,2,3\n" ∷ [];
     }
-    ∷ []
-
--- a wrong one is named in the error
-pass-22 : All-print files-22
-unfolding prints files-22
-pass-22 = (refl, (refl, (refl, (refl, (refl, (refl, (refl, (refl, (refl, (refl, (refl, (refl, (refl, (refl, (refl, (refl, (refl, (refl, (refl, (refl, tt))))))))))))))))))))
-
--- rounds-empty-disjuncts-only to rule-0-no-group-assumption
-files-23 : List Small
-files-23 =
-    record {
+    ∷ record {
       name = "rounds-empty-disjuncts-only";
       file = "ask,0,0\nfree,p\nall,0,3,0,0,0\nassume,a,0,1\nroot,0,r,0\n" ∷ [];
       printed = "fact,4,triggers,{},{},{} free={p}\nsum,0,0,1\n" ∷ [];
@@ -2405,7 +2487,17 @@ files-23 =
           ∷ "fact,10,triggers,{q} free={q s}\nkept,8,a\nkept,10,b\nkept,6,z\nsum,3,5,3\n"
           ∷ [];
     }
-    ∷ record {
+    ∷ []
+
+-- a wrong one is named in the error
+pass-23 : All-print files-23
+unfolding prints files-23
+pass-23 = (refl, (refl, (refl, (refl, (refl, (refl, (refl, (refl, (refl, (refl, (refl, (refl, (refl, (refl, (refl, (refl, (refl, (refl, (refl, tt)))))))))))))))))))
+
+-- rounds-of-the-stretch-are-not-the-fresh-ones to rule-1-three
+files-24 : List Small
+files-24 =
+    record {
       name = "rounds-of-the-stretch-are-not-the-fresh-ones";
       file = "ask,0,0\nalso,1\nfree,p\nfree,q\nfree,s\nop,eq,0,1\nassume,a,0,3\nop,eq,1,2\nassume,b,0,4\nfree,t\n"
           ∷ "free,u\nop,eq,5,6\nassume,c,0,7\nroot,0,r,0\nroot,1,r,5\n"
@@ -2464,17 +2556,7 @@ files-23 =
       file = "ask,0,0\nfree,p\nfree,q\nall,0,0\nassume,assumption_1,0,2\n" ∷ [];
       printed = "fact,5,triggers,{p} free={p}\nsum,0,0,1\n" ∷ [];
     }
-    ∷ []
-
--- a wrong one is named in the error
-pass-23 : All-print files-23
-unfolding prints files-23
-pass-23 = (refl, (refl, (refl, (refl, (refl, (refl, (refl, (refl, (refl, (refl, (refl, (refl, (refl, (refl, (refl, (refl, (refl, tt)))))))))))))))))
-
--- rule-0-some to rule-3-arities
-files-24 : List Small
-files-24 =
-    record {
+    ∷ record {
       name = "rule-0-some";
       file = "ask,0,0\nfree,p\nsome,0,1,1,0\nassume,a,0,1\nassume,assumption_a,0,1\n" ∷ [];
       printed = "fact,4,ambient,0 free={p}\nfact,5,triggers,{p} free={p}\nkept,4,a\nsum,1,0,1\n" ∷ [];
@@ -2522,7 +2604,17 @@ files-24 =
       file = "ask,0,0\nfree,p\nfree,q\nop,iff,0,1,1\nassume,l_quant_interp_1,0,2\n" ∷ [];
       printed = "fact,5,ambient,0 free={p q}\nkept,5,l_quant_interp_1\nsum,1,0,1\n" ∷ [];
     }
-    ∷ record {
+    ∷ []
+
+-- a wrong one is named in the error
+pass-24 : All-print files-24
+unfolding prints files-24
+pass-24 = (refl, (refl, (refl, (refl, (refl, (refl, (refl, (refl, (refl, (refl, (refl, (refl, (refl, (refl, (refl, (refl, (refl, (refl, tt))))))))))))))))))
+
+-- rule-10 to rule-3-squash-label-all
+files-25 : List Small
+files-25 =
+    record {
       name = "rule-10";
       file = "ask,0,0\nfree,p\nfree,q\nop,eq,1,0\nassume,x,0,2\n" ∷ [];
       printed = "fact,5,triggers,{q},{p} free={p q}\nsum,0,0,1\n" ∷ [];
@@ -2576,17 +2668,7 @@ files-24 =
           ∷ "kept,16,a0\nkept,13,a3\nkept,7,a1\nsum,4,1,2\n"
           ∷ [];
     }
-    ∷ []
-
--- a wrong one is named in the error
-pass-24 : All-print files-24
-unfolding prints files-24
-pass-24 = (refl, (refl, (refl, (refl, (refl, (refl, (refl, (refl, (refl, (refl, (refl, (refl, (refl, (refl, (refl, tt)))))))))))))))
-
--- rule-3-free-squash to rule-4-tok-tok
-files-25 : List Small
-files-25 =
-    record {
+    ∷ record {
       name = "rule-3-free-squash";
       file = "ask,0,0\nfree,p\nfree,q\nfree,Prims.squash\ncall,HasType,0,2\nassume,x,0,3\n" ∷ [];
       printed = "fact,6,triggers,{p} free={Prims.squash p}\nsum,0,0,1\n" ∷ [];
@@ -2622,7 +2704,17 @@ files-25 =
       file = "ask,0,0\nfree,p\nfree,q\nall,0,1,1,1\nlabel,2\ncall,Prims.squash,0,3\ncall,HasType,0,4\nassume,x,0,5\n" ∷ [];
       printed = "fact,8,triggers,{q} free={Prims.squash p q}\nsum,0,0,1\n" ∷ [];
     }
-    ∷ record {
+    ∷ []
+
+-- a wrong one is named in the error
+pass-25 : All-print files-25
+unfolding prints files-25
+pass-25 = (refl, (refl, (refl, (refl, (refl, (refl, (refl, (refl, (refl, (refl, (refl, (refl, (refl, tt)))))))))))))
+
+-- rule-3-two-empty-groups to rule-4-tokens
+files-26 : List Small
+files-26 =
+    record {
       name = "rule-3-two-empty-groups";
       file = "ask,0,0\nfree,x\nall,0,2,0,0\ncall,Prims.squash,0,1\ncall,HasType,0,2\nassume,a,0,3\nroot,0,r,0\n" ∷ [];
       printed = "fact,6,triggers,{},{} free={Prims.squash x}\nsum,0,0,1\n" ∷ [];
@@ -2657,17 +2749,7 @@ files-25 =
           ∷ [];
       printed = "fact,8,triggers,{a@tok@tok},{a@tok} free={__uu__PartialApp a@tok@tok}\nsum,0,0,1\n" ∷ [];
     }
-    ∷ []
-
--- a wrong one is named in the error
-pass-25 : All-print files-25
-unfolding prints files-25
-pass-25 = (refl, (refl, (refl, (refl, (refl, (refl, (refl, (refl, (refl, (refl, tt))))))))))
-
--- rule-4-tokens to rule-7
-files-26 : List Small
-files-26 =
-    record {
+    ∷ record {
       name = "rule-4-tokens";
       file = "ask,0,0\nfree,__uu__PartialApp\nfree,x\nfree,f@to\ncall,ApplyTT,0,2\ncall,Valid,3\nassume,a,0,4\nleaf\n"
           ∷ "call,ApplyTT,0,5\ncall,Valid,6\nassume,b,0,7\ncall,g@tok,1\ncall,ApplyTT,0,8\ncall,Valid,9\n"
@@ -2683,7 +2765,17 @@ files-26 =
           ∷ "kept,28,f\nsum,1,2,3\n"
           ∷ [];
     }
-    ∷ record {
+    ∷ []
+
+-- a wrong one is named in the error
+pass-26 : All-print files-26
+unfolding prints files-26
+pass-26 = (refl, (refl, (refl, (refl, (refl, tt)))))
+
+-- rule-5-arities to rule-7-parts
+files-27 : List Small
+files-27 =
+    record {
       name = "rule-5-arities";
       file = "ask,0,0\nfree,x\nfree,y\ncall,Valid,0\nassume,a,0,2\ncall,Valid,0,1\nassume,b,0,3\ncall,Valid\n"
           ∷ "assume,c,0,4\ncall,HasType,0\nassume,d,0,5\ncall,HasType,0,1\nassume,e,0,6\ncall,HasType,0,1,1\n"
@@ -2741,17 +2833,7 @@ files-26 =
       file = "ask,0,0\nfree,p\nfree,q\nall,0,1,1,1\nlabel,2\nall,0,2,1,0,0\nop,and,0,3,4,2\nassume,x,0,5\n" ∷ [];
       printed = "fact,8,triggers,{q},{p},{},{q} free={p q}\nsum,0,0,1\n" ∷ [];
     }
-    ∷ []
-
--- a wrong one is named in the error
-pass-26 : All-print files-26
-unfolding prints files-26
-pass-26 = (refl, (refl, (refl, (refl, (refl, (refl, (refl, (refl, tt))))))))
-
--- rule-7-nested to t-before-a-taken-name-in-the-new-form
-files-27 : List Small
-files-27 =
-    record {
+    ∷ record {
       name = "rule-7-nested";
       file = "ask,0,0\nfree,p\nfree,q\nall,0,1,1,1\nop,and,2\nop,and,3\nassume,x,0,4\n" ∷ [];
       printed = "fact,7,triggers free={p q}\nsum,0,0,1\n" ∷ [];
@@ -2767,7 +2849,17 @@ files-27 =
           ∷ "fact,16,triggers,{p q} free={p q}\nsum,0,0,1\n"
           ∷ [];
     }
-    ∷ record {
+    ∷ []
+
+-- a wrong one is named in the error
+pass-27 : All-print files-27
+unfolding prints files-27
+pass-27 = (refl, (refl, (refl, (refl, (refl, (refl, (refl, (refl, (refl, tt)))))))))
+
+-- rule-8-arities to two-asks-two-answers
+files-28 : List Small
+files-28 =
+    record {
       name = "rule-8-arities";
       file = "ask,0,0\nfree,p\nfree,q\nop,eq,0,1\nassume,equation_,0,2\nassume,equation,0,2\nop,eq,0\n"
           ∷ "assume,equation_one,0,3\nop,eq,0,1,1\nassume,equation_three,0,4\nop,iff,0,1\nassume,equation_iff,0,5\n"
@@ -2834,6 +2926,16 @@ files-27 =
       printed = "fact,6,triggers,{q},{q} free={q}\nsum,0,0,1\nsum,0,2,2\n" ∷ [];
     }
     ∷ record {
+      name = "suppliers-may-change-the-list-may-not-1";
+      file = "ask,0,0\nfree,p\nop,eq,0,0\nroot,0,x,0\nroot,0,y,0\nassume,a,0,1\n" ∷ [];
+      printed = "fact,6,triggers,{p},{p} free={p}\nkept,6,a\nsum,1,2,2\n" ∷ [];
+    }
+    ∷ record {
+      name = "suppliers-may-change-the-list-may-not-2";
+      file = "ask,0,0\nfree,p\nop,eq,0,0\nroot,0,y,0\nroot,0,x,0\nassume,a,0,1\n" ∷ [];
+      printed = "fact,6,triggers,{p},{p} free={p}\nkept,6,a\nsum,1,2,2\n" ∷ [];
+    }
+    ∷ record {
       name = "t-after-group-is-4";
       file = "ask2,0,0,1\nfree,p\nop,eq,0,0\nassume,a,0,15,2\n" ∷ [];
       printed = "refused,4,4\n" ∷ [];
@@ -2843,17 +2945,7 @@ files-27 =
       file = "ask2,0,0,1\nfree,p\nop,eq,0,0\nfun,a\nassume,a,0,15,2\n" ∷ [];
       printed = "refused,4,5\n" ∷ [];
     }
-    ∷ []
-
--- a wrong one is named in the error
-pass-27 : All-print files-27
-unfolding prints files-27
-pass-27 = (refl, (refl, (refl, (refl, (refl, (refl, (refl, (refl, (refl, (refl, (refl, (refl, (refl, tt)))))))))))))
-
--- token-of-a-fact-not-admitted-is-not-filed to without-hide-needs-both-names
-files-28 : List Small
-files-28 =
-    record {
+    ∷ record {
       name = "token-of-a-fact-not-admitted-is-not-filed";
       file = "ask2,0,0,1\nask2,0,0,2\nfree,__uu__PartialApp\nfree,f@tok\ncall,ApplyTT,0,1\ncall,Valid,2\n"
           ∷ "assume,partial,0,1,3\nfree,f\nroot,0,r,4\n"
@@ -2869,7 +2961,17 @@ files-28 =
           ∷ "sum,1,2,2\n"
           ∷ [];
     }
-    ∷ record {
+    ∷ []
+
+-- a wrong one is named in the error
+pass-28 : All-print files-28
+unfolding prints files-28
+pass-28 = (refl, (refl, (refl, (refl, (refl, (refl, (refl, (refl, (refl, (refl, (refl, (refl, (refl, (refl, (refl, tt)))))))))))))))
+
+-- without-hide-needs-both-names
+files-29 : List Small
+files-29 =
+    record {
       name = "without-hide-needs-both-names";
       file = "ask,0,0\nfree,p\ncall,w,0\nfree,q\nall,2,1,1,1\nassume,a,0,3\nroot,0,r,0\n" ∷ [];
       printed = "fact,6,triggers,{p w} free={p q w}\nsum,0,1,1\n" ∷ [];
@@ -2877,6 +2979,6 @@ files-28 =
     ∷ []
 
 -- a wrong one is named in the error
-pass-28 : All-print files-28
-unfolding prints files-28
-pass-28 = (refl, (refl, (refl, tt)))
+pass-29 : All-print files-29
+unfolding prints files-29
+pass-29 = (refl, tt)
