@@ -22,6 +22,7 @@ mod prune;
 pub mod random;
 mod reader;
 mod rules;
+pub mod sequence;
 mod several;
 #[cfg(test)]
 mod source;

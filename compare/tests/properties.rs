@@ -1,10 +1,12 @@
 //! What documents 01 and 02 say of every file, tried on random ones: each test changes a file and says how the answer moves.
 
 use std::collections::BTreeSet;
+use std::fs;
+use std::path::Path;
 
 use compare::random::Random;
 use compare::text::Position;
-use compare::{filter, filter_file, forms, generate, limits, summaries, Outcome, Trigger, LONG_ENOUGH};
+use compare::{filter, filter_file, forms, generate, limits, sequence, summaries, Outcome, Trigger, LONG_ENOUGH};
 
 type Line = Vec<u8>;
 
@@ -837,29 +839,67 @@ fn a_group_is_judged_between_flag_and_term() {
     assert!(numbers[2] > 20 && numbers[3] > 20 && numbers[4] > 5, "{numbers:?}");
 }
 
+/// The lines of a file that stay and those that may stand elsewhere, the latter sorted.
+fn fixed_and_moving(file: &[u8]) -> (Vec<Line>, Vec<Line>) {
+    let (mut moving, fixed): (Vec<Line>, Vec<Line>) = lines(file).into_iter().partition(|line| sequence::moves(line));
+    moving.sort_unstable();
+    (fixed, moving)
+}
+
+/// The names of the reached facts of a list, as listed.
+fn reached_names(file: &[u8], list: &List) -> Vec<Vec<u8>> {
+    let reached = facts_and_reached(file, list).1;
+    let named = list.lines.iter().zip(&list.names);
+    named.filter(|(line, _)| reached.contains(line)).map(|(_, name)| name.clone()).collect()
+}
+
+/// Checks what Change 14 says of an accepted file and of the same file rearranged, and gives the lists of both side by side.
+fn check_sequence(file: &[u8], other: &[u8], name: &str) -> Vec<(List, List)> {
+    assert_eq!(fixed_and_moving(file), fixed_and_moving(other), "{name}");
+    let [own, others] = [file, other].map(|file| lists(file).unwrap_or_else(|| panic!("{name} is refused")));
+    assert_eq!(own.len(), others.len(), "{name}");
+    let pairs: Vec<(List, List)> = own.into_iter().zip(others).collect();
+    for (own, after) in &pairs {
+        assert_eq!((own.visits, own.rounds), (after.visits, after.rounds), "{name}");
+        assert_eq!(BTreeSet::from_iter(&own.names), BTreeSet::from_iter(&after.names), "{name}");
+        assert_eq!(reached_names(file, own), reached_names(other, after), "{name}");
+    }
+    pairs
+}
+
 /// Change 14: record lines in another sequence, among the term lines too, keep the same names, visits and rounds; two
-/// reached facts never trade places.
+/// reached facts never trade places. Other kept names do.
 #[test]
 fn the_sequence_of_the_record_lines_is_no_matter() {
-    let (mut random, mut moved) = (Random::new(27), 0);
-    for file in accepted(27, 400) {
-        let (head, rest): (Vec<Line>, Vec<Line>) = lines(&file).into_iter().partition(|line| is_head(line));
-        let (terms, mut records): (Vec<Line>, Vec<Line>) = rest.into_iter().partition(|line| is_term(line));
-        for index in (1..records.len()).rev() {
-            records.swap(index, random.below(index + 1));
-        }
-        let other = [head, terms, records].concat().concat();
-        let Some(all_after) = lists(&other) else { continue };
-        let names = |file: &[u8], list: &List| -> Vec<Vec<u8>> {
-            let reached = facts_and_reached(file, list).1;
-            list.names[..reached.len()].to_vec()
-        };
-        for (after, before) in all_after.iter().zip(&lists(&file).unwrap()) {
-            assert_eq!((after.visits, after.rounds), (before.visits, before.rounds));
-            assert_eq!(BTreeSet::from_iter(&after.names), BTreeSet::from_iter(&before.names));
-            assert_eq!(names(&other, after), names(&file, before));
-            moved += usize::from(after != before);
+    let mut random = Random::new(27);
+    let (mut reached, mut other_lines, mut other_order) = (0, 0, 0);
+    for (index, file) in accepted(27, 800).into_iter().enumerate() {
+        let other = sequence::rearranged(&file, &mut random);
+        for (own, after) in check_sequence(&file, &other, &index.to_string()) {
+            reached += usize::from(reached_names(&file, &own).len() > 1);
+            other_lines += usize::from(own.lines != after.lines);
+            other_order += usize::from(own.names != after.names);
         }
     }
-    assert!(moved > 100, "{moved}");
+    let counts = (reached, other_lines, other_order);
+    assert!(reached > 100 && other_lines > 300 && other_order > 100, "{counts:?}");
+}
+
+/// Change 14: so it is with the accepted cases `X-1` and `X-2`, which are one file in two sequences.
+#[test]
+fn pairs_of_cases_differ_in_their_sequence() {
+    let folder = Path::new(env!("CARGO_MANIFEST_DIR")).join("cases");
+    let mut pairs = 0;
+    for entry in fs::read_dir(&folder).unwrap() {
+        let path = entry.unwrap().path();
+        let Some(name) = path.file_name().and_then(|name| name.to_str()?.strip_suffix("-1.in")) else { continue };
+        let Ok(other) = fs::read(folder.join(format!("{name}-2.in"))) else { continue };
+        let file = fs::read(&path).unwrap();
+        if lists(&file).is_some() {
+            assert_ne!(file, other, "{name}");
+            check_sequence(&file, &other, name);
+            pairs += 1;
+        }
+    }
+    assert_eq!(pairs, 8);
 }

@@ -1,12 +1,9 @@
 //! What the two forms of a file have to do with each other, asked of the call alone: the answers to a file and to the same file
 //! in the other form.
 
-use compare::{forms, limits, LONG_ENOUGH};
+use compare::{forms, limits};
 
-use crate::{Call, Lender, Lengths};
-
-/// The kept lines, the visits and the rounds of one ask or also line.
-type List = (Vec<u32>, u32, u32);
+use crate::{lists, Call, Lender};
 
 /// Of how many asks with groups of their own a file of the newer form is tried.
 const MOST_TRIED: usize = 4;
@@ -44,24 +41,6 @@ pub fn form_difference(call: Call, lender: &mut Lender, file: &[u8]) -> Option<S
             (other.as_ref() != Some(&lists[position])).then(why)
         })
     })
-}
-
-/// The lists of a call with slices that are long enough; none if it is refused.
-fn lists(call: Call, lender: &mut Lender, file: &[u8]) -> Option<Vec<List>> {
-    lender.lend(Lengths { works: LONG_ENOUGH, room: limits::ROOM });
-    let (working, result) = lender.slices();
-    let answer = call(file, working, result);
-    if answer.refusal != 0 {
-        return None;
-    }
-    let mut rest = &*result;
-    let mut lists = Vec::new();
-    for index in (0..limits::ASKS).take_while(|&index| answer.rounds[index] > 0) {
-        let (list, after) = rest.split_at_checked(answer.kept[index] as usize)?;
-        lists.push((list.to_vec(), answer.visits[index], answer.rounds[index]));
-        rest = after;
-    }
-    Some(lists)
 }
 
 /// The groups of each ask and also line of an accepted file of the newer form.

@@ -2,6 +2,7 @@
 
 mod forms;
 mod lend;
+mod sequence;
 pub mod shrink;
 
 use compare::case::Case;
@@ -11,6 +12,7 @@ use wimplejade::{Answer, MOST_ASKS};
 
 pub use forms::form_difference;
 pub use lend::Lender;
+pub use sequence::sequence_difference;
 
 /// What is tried: a call on a file and lent slices.
 pub type Call = fn(&[u8], [&mut [u32]; 6], &mut [u32]) -> Answer;
@@ -87,6 +89,27 @@ pub fn difference(call: Call, lender: &mut Lender, file: &[u8], lengths: Lengths
     lender.fault(&outcome.lines(), right.refusal == 7)
 }
 
+/// The kept lines, the visits and the rounds of one ask or also line.
+pub(crate) type List = (Vec<u32>, u32, u32);
+
+/// The lists of a call with slices that are long enough; none if it is refused.
+pub(crate) fn lists(call: Call, lender: &mut Lender, file: &[u8]) -> Option<Vec<List>> {
+    lender.lend(Lengths { works: LONG_ENOUGH, room: limits::ROOM });
+    let (working, result) = lender.slices();
+    let answer = call(file, working, result);
+    if answer.refusal != 0 {
+        return None;
+    }
+    let mut rest = &*result;
+    let mut lists = Vec::new();
+    for index in (0..limits::ASKS).take_while(|&index| answer.rounds[index] > 0) {
+        let (list, after) = rest.split_at_checked(answer.kept[index] as usize)?;
+        lists.push((list.to_vec(), answer.visits[index], answer.rounds[index]));
+        rest = after;
+    }
+    Some(lists)
+}
+
 #[cfg(test)]
 mod tests {
     use super::*;
@@ -109,7 +132,7 @@ mod tests {
     }
 
     /// How many lines an answer says are kept, in all lists.
-    fn all_kept(answer: &Answer) -> usize {
+    pub(crate) fn all_kept(answer: &Answer) -> usize {
         answer.kept.iter().sum::<u32>() as usize
     }
 

@@ -1,5 +1,5 @@
-//! Compares the proved filter with the independent version on random files, or on the files given, and its answers to the two
-//! forms of an accepted file with each other.
+//! Compares the proved filter with the independent version on random files, or on the files given; and with each other its
+//! answers to the two forms of an accepted file, and to the file and the same file with its record lines rearranged.
 //!
 //! `fuzz [--seed N] [--files N] [--from N] [--jobs N] [--save DIR]` makes files from a seed, tries each, and stops at the
 //! first difference: the file is made small and saved. `fuzz FILE..` tries these files instead. The status is 0 if nothing
@@ -19,11 +19,15 @@ use compare::edges::{self, Edge};
 use compare::random::Random;
 use compare::{filter_file, generate, Outcome};
 use fuzz::shrink::shrink;
-use fuzz::{difference, expected, form_difference, with_lengths, Lender, Lengths};
+use fuzz::{difference, expected, form_difference, sequence_difference, with_lengths, Lender, Lengths};
 use wimplejade::Filter;
 
 /// One of so many files is also run by the safe interface.
 const BY_INTERFACE: u64 = 16;
+
+/// How often a file is rearranged that is one of a seed, and one that is given or made small.
+const REARRANGED: usize = 1;
+const ALONE_REARRANGED: usize = 8;
 
 /// Stack of a thread.
 const STACK_BYTES: usize = 64 << 20;
@@ -169,6 +173,7 @@ impl Trial<'_> {
         let mut why = difference(wimplejade::answer, &mut self.lender, &case.file, lengths, &lent);
         if outcome.number() == 0 {
             why = why.or_else(|| form_difference(wimplejade::answer, &mut self.lender, &case.file));
+            why = why.or_else(|| sequence_difference(wimplejade::answer, &mut self.lender, &case.file, REARRANGED));
         }
         if by_interface {
             why = why.or_else(|| interface_difference(&mut self.filter, &case.file, &outcome));
@@ -193,6 +198,7 @@ fn differ(file: &[u8], lengths: Lengths) -> Option<String> {
     let (mut lender, mut filter) = (Lender::new(0), Filter::new());
     difference(wimplejade::answer, &mut lender, file, lengths, &expected(file, lengths))
         .or_else(|| form_difference(wimplejade::answer, &mut lender, file))
+        .or_else(|| sequence_difference(wimplejade::answer, &mut lender, file, ALONE_REARRANGED))
         .or_else(|| interface_difference(&mut filter, file, &filter_file(file)))
 }
 
