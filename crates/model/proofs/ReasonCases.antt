@@ -1,0 +1,331 @@
+-- Document 02, Change 2: files with the rows of a position, shown by computation as F1 to F10 are.
+use Prim.Native.Nat.{ℕ}
+use Prim.Native.String.{String}
+use mathlib.Core.Path.{_≡_, refl}
+use mathlib.Core.Bool.{Bool, true}
+use mathlib.Core.List.{List, [], _∷_, _++_, map}
+use lib.Dec.{eqb}
+use lib.ListN.{getD, replicate}
+use Rattle.model.specs.Lists
+use Rattle.model.specs.Lists.{keep, concat}
+use Rattle.model.specs.Names
+use Rattle.model.specs.Names.{Name, bytes, same}
+use Rattle.model.specs.Summaries.{exclude-names}
+use Rattle.model.specs.Reading.{Reading, read, refused-at, read-file}
+use Rattle.model.specs.Rounds
+use Rattle.model.specs.Rounds.{facts}
+use Rattle.model.specs.Outcome.{working}
+use Rattle.model.specs.Reasons
+use Rattle.model.specs.Reasons.{Row}
+use Rattle.model.specs.Explaining
+use Rattle.model.specs.Explaining.{Explanation, refusal-at, no-position, told, Why, explanation, why, table-after}
+use Rattle.model.specs.Text.{show, line}
+use Rattle.model.proofs.Printing.{passes, text-of}
+
+-- a file by its name: its text, a position, and the text printed of the reasons there, the texts in pieces
+record Reasoned : Type 0 where
+  name : String
+  position : ℕ
+  file : List String
+  printed : List String
+
+-- the name of the fact or root on a line of a file that was read
+unfoldable name-at : Reading → ℕ → Name
+name-at (refused-at r place) n = []
+name-at (read s) n =
+    concat (map (λ f. f .name) (keep (λ f. eqb (f .line) n) (facts (s .decls))) ++ map (λ r. r .name) (keep (λ r. eqb (r .line) n) (s .roots)))
+
+-- the name of a number
+unfoldable name-of : Reading → ℕ → Name
+name-of (refused-at r place) k = []
+name-of (read s) k = getD (s .names) k []
+
+-- the line of a row: its three numbers, then the names of the fact, of the number and of the supplier
+unfoldable row-line : Reading → Row → List ℕ
+row-line file r =
+    line (bytes "row" ∷ show (r .line) ∷ show (r .number) ∷ show (r .supplier)
+    ∷ name-at file (r .line) ∷ name-of file (r .number) ∷ name-at file (r .supplier) ∷ [])
+
+-- the line of a count
+unfoldable count-line : String → ℕ → List ℕ
+count-line word n = line (bytes word ∷ show n ∷ [])
+
+-- the lines printed of what the call comes to
+unfoldable shown : Reading → Explanation → Why → List (List ℕ)
+shown file (refusal-at r place) w = line (bytes "refused" ∷ show (w .refusal) ∷ show (w .place) ∷ []) ∷ []
+shown file no-position w = line (bytes "refused" ∷ show (w .refusal) ∷ show (w .place) ∷ []) ∷ []
+shown file (told given met) w = map (row-line file) given ++ (count-line "met" (w .met) ∷ count-line "rows" (w .rows) ∷ [])
+
+-- whether the definitions print of the file what it says, over slices that are long enough
+unfoldable explains : Reasoned → Bool
+unfolding passes text-of name-at name-of row-line count-line shown Lists.find-index Names.name-number Rounds.states-from Rounds.history
+    Rounds.end-of Rounds.round-of Reasons.first-items Reasons.reached-items Reasons.scanned-items Reasons.earlier Reasons.sooner
+    Reasons.earliest Reasons.supplier Reasons.met-listed Reasons.rows-of Reasons.rows Reasons.met-bits Reasons.met-number
+    Explaining.nth-ask Explaining.reasons Explaining.explained Explaining.explanation Explaining.why Explaining.table-after
+explains c =
+    let file = text-of (c .file) in
+    let e = explanation file (c .position) (replicate 6 (working 16384)) 2048 in
+    same (concat (shown (read-file exclude-names file) e (why e))) (text-of (c .printed))
+
+-- that they do of each file
+abbrev All-explained : List Reasoned → Type 0
+All-explained [] = Unit {0}
+All-explained (c ∷ cs) = (explains c ≡ true) × All-explained cs
+
+-- F10 to met-counts-numbered-names-only
+files-1 : List Reasoned
+files-1 =
+    record {
+      name = "F10";
+      position = 1;
+      file = "ask,0,4\nfree,p\nfree,q\ncall,f,0\nall,2,1,1,2\nassume,a1,0,3\nfun,f\ndef,g,1\ncall,g\n"
+          ∷ "op,eq,4,1\nassume,e1,0,5\nop,and,2,4\nroot,0,r,6\n"
+          ∷ [];
+      printed = "row,6,2,13,a1,f,r\nrow,6,0,13,a1,p,r\nrow,11,4,13,e1,g,r\nrow,11,1,13,e1,q,r\nmet,4\nrows,4\n" ∷ [];
+    }
+    ∷ record {
+      name = "also-rows-are-of-the-fresh-run";
+      position = 2;
+      file = "ask,0,0\nalso,1\nfree,p\nfree,q\nop,eq,0,1\nassume,a,0,2\nop,eq,1,1\nassume,b,0,3\nroot,0,r,0\n"
+          ∷ "root,1,r,1\n"
+          ∷ [];
+      printed = "row,6,0,9,a,p,r\nrow,6,1,10,a,q,r\nrow,8,1,10,b,q,r\nmet,2\nrows,3\n" ∷ [];
+    }
+    ∷ record {
+      name = "ambient-root-supplies-in-round-0";
+      position = 1;
+      file = "ask,0,0\nfree,p\nfree,Tm_refine_1\ncall,HasType,0,1\nassume,h,0,2\nop,eq,0,0\nassume,a,0,3\n"
+          ∷ "root,0,r,0\n"
+          ∷ [];
+      printed = "row,7,0,5,a,p,h\nmet,2\nrows,1\n" ∷ [];
+    }
+    ∷ record {
+      name = "ask-rows-of-the-same-file";
+      position = 1;
+      file = "ask,0,0\nalso,1\nfree,p\nfree,q\nop,eq,0,1\nassume,a,0,2\nop,eq,1,1\nassume,b,0,3\nroot,0,r,0\n"
+          ∷ "root,1,r,1\n"
+          ∷ [];
+      printed = "row,6,0,9,a,p,r\nrow,8,1,6,b,q,a\nmet,2\nrows,2\n" ∷ [];
+    }
+    ∷ record {
+      name = "both-tokens-met-two-rows-in-byte-order";
+      position = 1;
+      file = "ask,0,0\nfree,__uu__PartialApp\nfree,f@tok\ncall,ApplyTT,0,1\ncall,Valid,2\nassume,t,0,3\n"
+          ∷ "free,f\nop,and,4,1\nroot,0,r,5\n"
+          ∷ [];
+      printed = "row,6,5,9,t,f,r\nrow,6,1,9,t,f@tok,r\nmet,3\nrows,2\n" ∷ [];
+    }
+    ∷ record {
+      name = "empty-trimmed-token-is-numbered";
+      position = 1;
+      file = "ask,0,0\nfree,__uu__PartialApp\nfree,@tok\ncall,ApplyTT,0,1\ncall,Valid,2\nassume,t,0,3\n"
+          ∷ "free,p\nop,eq,4,4\nassume,a,0,5\nroot,0,r,4\n"
+          ∷ [];
+      printed = "row,9,6,10,a,p,r\nmet,1\nrows,1\n" ∷ [];
+    }
+    ∷ record {
+      name = "hide-name-is-numbered-first";
+      position = 1;
+      file = "ask,0,0\nhide,w\nfree,p\nop,eq,0,0\nassume,a,0,1\nroot,0,r,0\n" ∷ [];
+      printed = "row,5,1,6,a,p,r\nmet,1\nrows,1\n" ∷ [];
+    }
+    ∷ record {
+      name = "higher-round-on-a-lower-line-supplies-not";
+      position = 1;
+      file = "ask,0,0\nfree,p\nfree,q\nfree,s\nfree,v\nop,and,2,3\nall,4,1,1,1\nassume,a,0,5\nop,and,1,2\n"
+          ∷ "all,6,1,1,0\nassume,c,0,7\nleaf\nall,8,1,2,2,3\nassume,d,0,9\nroot,0,r,0\n"
+          ∷ [];
+      printed = "row,8,1,11,a,q,c\nrow,11,0,15,c,p,r\nrow,14,2,11,d,s,c\nrow,14,3,8,d,v,a\nmet,4\nrows,4\n" ∷ [];
+    }
+    ∷ record {
+      name = "listed-name-met-in-its-round-through-another-disjunct";
+      position = 1;
+      file = "ask,0,0\nfree,p\nfree,q\nfree,s\nop,and,0,1\nleaf\nall,4,2,1,0,2,1,2\nassume,a,0,5\n"
+          ∷ "root,0,r,3\n"
+          ∷ [];
+      printed = "row,8,0,9,a,p,r\nrow,8,1,9,a,q,r\nmet,3\nrows,2\n" ∷ [];
+    }
+    ∷ record {
+      name = "listed-name-not-met-has-no-row";
+      position = 1;
+      file = "ask,0,0\nfree,p\nfree,q\nfree,s\nop,and,0,2\nall,0,2,1,0,1,1\nassume,a,0,4\nroot,0,r,3\n" ∷ [];
+      printed = "row,7,0,8,a,p,r\nmet,3\nrows,1\n" ∷ [];
+    }
+    ∷ record {
+      name = "met-counts-numbered-names-only";
+      position = 1;
+      file = "ask,0,0\nfree,is-BoxInt\nroot,0,r,0\n" ∷ [];
+      printed = "met,1\nrows,0\n" ∷ [];
+    }
+    ∷ []
+
+files-1-explained : All-explained files-1
+unfolding explains files-1
+files-1-explained = (refl, (refl, (refl, (refl, (refl, (refl, (refl, (refl, (refl, (refl, (refl, tt)))))))))))
+
+-- name-in-two-disjuncts-has-one-row to trimmed-token-shifts-later-names
+files-2 : List Reasoned
+files-2 =
+    record {
+      name = "name-in-two-disjuncts-has-one-row";
+      position = 1;
+      file = "ask,0,0\nfree,p\nop,eq,0,0\nassume,a,0,1\nroot,0,r,0\n" ∷ [];
+      printed = "row,4,0,5,a,p,r\nmet,1\nrows,1\n" ∷ [];
+    }
+    ∷ record {
+      name = "no-name-met";
+      position = 1;
+      file = "ask,9,0\nfree,p\nfree,q\nop,eq,0,0\nassume,a,0,2\nop,eq,1,1\nassume,b,0,3\nroot,0,r,0\n"
+          ∷ "root,1,r,1\n"
+          ∷ [];
+      printed = "met,0\nrows,0\n" ∷ [];
+    }
+    ∷ record {
+      name = "position-0-is-15";
+      position = 0;
+      file = "ask,0,0\nfree,p\nfree,q\nop,eq,0,0\nassume,a,0,2\nop,eq,1,1\nassume,b,0,3\nroot,0,r,0\n"
+          ∷ "root,1,r,1\n"
+          ∷ [];
+      printed = "refused,15,0\n" ∷ [];
+    }
+    ∷ record {
+      name = "position-past-the-last-is-15";
+      position = 3;
+      file = "ask,0,0\nalso,1\nfree,p\nfree,q\nop,eq,0,0\nassume,a,0,2\nop,eq,1,1\nassume,b,0,3\nroot,0,r,0\n"
+          ∷ "root,1,r,1\n"
+          ∷ [];
+      printed = "refused,15,0\n" ∷ [];
+    }
+    ∷ record {
+      name = "pretyping-fact-has-no-row";
+      position = 1;
+      file = "ask,0,0\nfree,p\nop,eq,0,0\nassume,a,1,1\nroot,0,r,0\n" ∷ [];
+      printed = "met,1\nrows,0\n" ∷ [];
+    }
+    ∷ record {
+      name = "rows-by-fact-name-then-listed-name";
+      position = 1;
+      file = "ask,0,0\nfree,z\nfree,Y\nop,eq,0,1\nassume,b,0,2\nassume,a,0,2\nop,and,0,1\nroot,0,r,3\n" ∷ [];
+      printed = "row,6,1,8,a,Y,r\nrow,6,0,8,a,z,r\nrow,5,1,8,b,Y,r\nrow,5,0,8,b,z,r\nmet,2\nrows,4\n" ∷ [];
+    }
+    ∷ record {
+      name = "starting-macro-opened-the-item-supplies";
+      position = 1;
+      file = "ask,0,0\nfree,is-BoxInt\nfree,BoxInt\nop,eq,1,1\nassume,a,0,2\nroot,0,r,0\n" ∷ [];
+      printed = "row,5,1,6,a,BoxInt,r\nmet,2\nrows,1\n" ∷ [];
+    }
+    ∷ record {
+      name = "supplier-of-the-lowest-line-in-a-round";
+      position = 1;
+      file = "ask,0,0\nfree,p\nop,eq,0,0\nassume,a,0,1\nroot,0,r,0\nroot,0,s,0\n" ∷ [];
+      printed = "row,4,0,5,a,p,r\nmet,1\nrows,1\n" ∷ [];
+    }
+    ∷ record {
+      name = "supplier-of-the-lowest-round-before-the-lowest-line";
+      position = 1;
+      file = "ask,0,0\nfree,p\nfree,q\nfree,s\nop,eq,0,1\nassume,a,0,3\nop,and,1,2\nall,1,1,2,1,2\n"
+          ∷ "assume,b,0,5\nroot,0,r,0\nroot,0,r,4\n"
+          ∷ [];
+      printed = "row,6,0,10,a,p,r\nrow,6,1,11,a,q,r\nrow,9,1,11,b,q,r\nrow,9,2,11,b,s,r\nmet,3\nrows,4\n" ∷ [];
+    }
+    ∷ record {
+      name = "trimmed-token-numbered-after-its-facts-line";
+      position = 1;
+      file = "ask,0,0\nfree,__uu__PartialApp\nfree,f@tok\ncall,ApplyTT,0,1\ncall,Valid,2\nassume,t,0,3\n"
+          ∷ "free,f\nroot,0,r,4\n"
+          ∷ [];
+      printed = "row,6,5,8,t,f,r\nmet,3\nrows,1\n" ∷ [];
+    }
+    ∷ record {
+      name = "trimmed-token-shifts-later-names";
+      position = 1;
+      file = "ask,0,0\nfree,__uu__PartialApp\nfree,f@tok\ncall,ApplyTT,0,1\ncall,Valid,2\nassume,t,0,3\n"
+          ∷ "free,p\nop,eq,4,4\nassume,a,0,5\nroot,0,r,4\n"
+          ∷ [];
+      printed = "row,9,6,10,a,p,r\nmet,1\nrows,1\n" ∷ [];
+    }
+    ∷ []
+
+files-2-explained : All-explained files-2
+unfolding explains files-2
+files-2-explained = (refl, (refl, (refl, (refl, (refl, (refl, (refl, (refl, (refl, (refl, (refl, tt)))))))))))
+
+-- fact-not-admitted-has-no-row to supplier-of-the-lowest-line-among-facts-of-a-round
+files-3 : List Reasoned
+files-3 =
+    record {
+      name = "fact-not-admitted-has-no-row";
+      position = 1;
+      file = "ask2,0,0,1\nfree,p\nop,eq,0,0\nassume,a,0,0,1\nassume,b,0,1,1\nroot,0,r,0\n" ∷ [];
+      printed = "row,4,0,6,a,p,r\nmet,1\nrows,1\n" ∷ [];
+    }
+    ∷ record {
+      name = "listed-name-met-after-its-round-has-no-row";
+      position = 1;
+      file = "ask,0,0\nfree,p\nfree,q\nall,1,2,1,0,1,1\nassume,a,0,2\nroot,0,r,0\n" ∷ [];
+      printed = "row,5,0,6,a,p,r\nmet,2\nrows,1\n" ∷ [];
+    }
+    ∷ record {
+      name = "macro-opened-the-item-supplies-not-the-def";
+      position = 1;
+      file = "ask,0,0\nfree,g\nfree,k\ndef,g,1\nop,eq,1,1\nassume,a,0,2\nroot,0,r,0\n" ∷ [];
+      printed = "row,6,1,7,a,k,r\nmet,2\nrows,1\n" ∷ [];
+    }
+    ∷ record {
+      name = "options-1-no-ambient-root-supplies";
+      position = 1;
+      file = "ask,0,1\nfree,p\nfree,Tm_refine_1\ncall,HasType,0,1\nassume,h,0,2\nop,eq,0,0\nassume,a,0,3\n"
+          ∷ "root,0,r,0\n"
+          ∷ [];
+      printed = "row,7,0,8,a,p,r\nmet,1\nrows,1\n" ∷ [];
+    }
+    ∷ record {
+      name = "refused-line-before-15";
+      position = 9;
+      file = "ask,0,0\nfree\n" ∷ [];
+      printed = "refused,1,2\n" ∷ [];
+    }
+    ∷ record {
+      name = "root-below-an-ambient-root-supplies";
+      position = 1;
+      file = "ask,0,0\nfree,p\nroot,0,r,0\nfree,Tm_refine_1\ncall,HasType,0,1\nassume,h,0,2\nop,eq,0,0\n"
+          ∷ "assume,a,0,3\n"
+          ∷ [];
+      printed = "row,8,0,3,a,p,r\nmet,2\nrows,1\n" ∷ [];
+    }
+    ∷ record {
+      name = "supplier-of-the-lowest-line-among-facts-of-a-round";
+      position = 1;
+      file = "ask,0,0\nfree,p\nfree,q\nall,1,1,1,0\nassume,z,0,2\nassume,y,0,2\nleaf\nall,3,1,1,1\n"
+          ∷ "assume,a,0,4\nroot,0,r,0\n"
+          ∷ [];
+      printed = "row,9,1,5,a,q,z\nrow,6,0,10,y,p,r\nrow,5,0,10,z,p,r\nmet,2\nrows,3\n" ∷ [];
+    }
+    ∷ []
+
+files-3-explained : All-explained files-3
+unfolding explains files-3
+files-3-explained = (refl, (refl, (refl, (refl, (refl, (refl, (refl, tt)))))))
+
+-- a file with one row, at position 1
+small : List ℕ
+small = text-of ("ask,0,0\nfree,p\nop,eq,0,0\nassume,a,0,1\nroot,0,r,0\n" ∷ [])
+
+-- the call with a table of so many rows, the working slices long enough
+over : ℕ → ℕ → Explanation
+over position table = explanation small position (replicate 6 (working 16384)) table
+
+-- a row that stands in the table before
+old : Row
+old = record { line = 7; number = 8; supplier = 9 }
+
+-- 7: a table below 2,048 rows, before 15; a refusal has both counts 0 and touches no row; the rows past those filled stay
+table-left :
+    (why (over 0 2047) ≡ record { refusal = 7; place = 0; met = 0; rows = 0 })
+    × (why (over 0 2048) ≡ record { refusal = 15; place = 0; met = 0; rows = 0 })
+    × (why (over 1 2048) ≡ record { refusal = 0; place = 0; met = 1; rows = 1 })
+    × (table-after (over 1 2047) (old ∷ old ∷ []) ≡ old ∷ old ∷ [])
+    × (table-after (over 2 2048) (old ∷ old ∷ []) ≡ old ∷ old ∷ [])
+    × (table-after (over 1 2048) (old ∷ old ∷ []) ≡ record { line = 4; number = 0; supplier = 5 } ∷ old ∷ [])
+unfolding explains small over old
+table-left = (refl, refl, refl, refl, refl, refl)
