@@ -9,13 +9,14 @@ use Rattle.model.specs.Lists.{keep, count, sum, collect, fold-left}
 use Rattle.model.specs.Names.{Name}
 use Rattle.model.specs.Lines.{Line, fields}
 use Rattle.model.specs.Terms.{Node, Term, add-term, references}
-use Rattle.model.specs.Summaries.{exclude-names, Fact, entries}
+use Rattle.model.specs.Summaries.{exclude-names, Fact, entries, summarize-kind}
 use Rattle.model.specs.Reading.{Content, head, term, assume, fun, def, retain, root, ok, Decl, Summary, Sum-assume, Sum-definefun, Sum-declfun, Sum-retain, State, start, read, entries-of, uses-of}
 use Rattle.model.specs.Reading.{head-asks, hidden-by, heads, nodes, spelled, trimmed, summarize-decl, root-of, excluded, parse, add-line, read-lines}
 use Rattle.model.specs.Rounds.{facts, definitions}
 use Rattle.model.proofs.ListLaws.{keep-append, count-append, sum-map-append}
 use Rattle.demands.specs.Demand1.{Reached-line, Says}
-use Rattle.demands.specs.Counts.{state-with, lines-to, ask-words, term-words, record-words, begins, term-fields, name-fields, Counted, token-trimmed, Names-added, Counts-exact}
+use Rattle.demands.specs.FileOrder.{of-record}
+use Rattle.demands.specs.Counts.{state-with, lines-to, ask-words, term-words, record-words, begins, term-fields, name-fields, Counted, Names-added, Counts-exact}
 use Rattle.laws.proofs.ReadingLaws.{line-read, lines-read, none-read, kept-by-lines}
 use Rattle.demands.proofs.TermNumbers.{named-below}
 use Rattle.demands.proofs.LineFields.{line-fields, line-stands}
@@ -23,7 +24,7 @@ use Rattle.demands.proofs.Heads.{asks-counted}
 use Rattle.demands.proofs.StateLaws.{spelled-exact, State-laws, laws-start, laws-added, laws-line}
 
 -- the trigger entries of the records are those of the facts
-entries-facts : (decls : List Summary) → sum (map entries-of decls) ≡ sum (map (λ (f : Fact). sum (map (λ (d : List Name). max 1 (length d)) (f .triggers))) (facts decls))
+pub entries-facts : (decls : List Summary) → sum (map entries-of decls) ≡ sum (map (λ (f : Fact). sum (map (λ (d : List Name). max 1 (length d)) (f .triggers))) (facts decls))
 unfolding sum entries-of entries facts
 entries-facts [] = refl
 entries-facts (Sum-assume f ∷ decls) = rw (entries-facts decls)
@@ -139,6 +140,18 @@ counted ls s a h =
       names-once = h .numbered-once;
     }
 
+-- the token that rule 4 trims, of an assume line alone
+pub token-is : (exclude : List Name) (terms : List Term) (c : Content) → trimmed exclude terms c
+    ≡ of-record (λ name flag group t. summarize-kind exclude terms name t .trimmed) (λ name. []) (λ name t. []) (λ q name t. []) c
+unfolding trimmed
+token-is exclude terms (head h) = refl
+token-is exclude terms (term node) = refl
+token-is exclude terms (assume name flag group t) = refl
+token-is exclude terms (fun name) = refl
+token-is exclude terms (def name t) = refl
+token-is exclude terms (retain names) = refl
+token-is exclude terms (root q name t) = refl
+
 module _ {ls : List Line} {n : ℕ} (l : Reached-line ls n) where
   -- the laws hold of the state before a line that is reached
   laws-reached : State-laws (l .state)
@@ -156,19 +169,10 @@ module _ {ls : List Line} {n : ℕ} (l : Reached-line ls n) where
 
     -- the names with the line added are those before, those that it spells and the token that rule 4 trims
     names-added : Names-added l c
-    unfolding add-line name-fields trimmed
+    unfolding add-line name-fields
     names-added k =
         spelled-exact (l .state .names) (spelled c ++ trimmed (excluded exclude-names (l .state)) (l .state .terms) c) k
-        ∙ rw (line-fields (l .state) (fields (l .line .bytes)) (says .parsed) .names, token c)
-      where
-        token : (c : Content) → trimmed (excluded exclude-names (l .state)) (l .state .terms) c ≡ token-trimmed l c
-        token (head h) = refl
-        token (term node) = refl
-        token (assume name flag group t) = refl
-        token (fun name) = refl
-        token (def name t) = refl
-        token (retain names) = refl
-        token (root q name t) = refl
+        ∙ rw (line-fields (l .state) (fields (l .line .bytes)) (says .parsed) .names, token-is (excluded exclude-names (l .state)) (l .state .terms) c)
 
 -- the counts are those of document 01 at every line that is reached
 pub counts-exact : Counts-exact

@@ -3,22 +3,22 @@ use Prim.Native.Nat.{ℕ, _≤_}
 use native.Mathlib.Omega.{arith}
 use mathlib.Core.Path.{_≡_, refl, sym, _∙_, ap, subst}
 use mathlib.Core.Logic.{⊎-elim}
-use mathlib.Core.Bool.{Bool, true, false, cond, not, _||_}
+use mathlib.Core.Bool.{Bool, true, false, not, _||_}
 use mathlib.Core.List.{List, [], _∷_, _++_, map, List·Memᴰ, List·Memᴰ·not-nil, List·Memᴰ·append-cases, List·Memᴰ·eq-of-singleton}
 use lib.Dec.{T, T-not, not-T}
 use Rattle.model.specs.Lists.{any, keep}
 use Rattle.model.specs.Names.{Name, mem}
 use Rattle.model.specs.Lines.{Line, fields}
 use Rattle.model.specs.Summaries.{exclude-names, Fact, summarize-assumption}
-use Rattle.model.specs.Reading.{Content, head, term, assume, fun, def, retain, root, ok, Ask, Decl, Summary, Sum-assume, Sum-definefun, Sum-declfun, Sum-retain, State, start, is-grouped, heads, no-ambients, excluded, summarize-decl, add-line, read-line}
-use Rattle.model.specs.Rounds.{facts, admits, is-admitted, background, ambient-roots, is-ambient-root}
+use Rattle.model.specs.Reading.{Content, head, term, assume, fun, def, retain, root, ok, Ask, Decl, Summary, Sum-assume, Sum-definefun, Sum-declfun, Sum-retain, State, start, is-grouped, heads, excluded, summarize-decl, add-line, read-line}
+use Rattle.model.specs.Rounds.{facts, admits, is-admitted, background}
 use Rattle.model.specs.Also.{chain}
 use Rattle.model.specs.Outcome.{position}
-use Rattle.model.proofs.ListLaws.{cond-false, keep-all, keep-elim, keep-append, map-elim}
+use Rattle.model.proofs.ListLaws.{cond-false, keep-all, keep-append, map-elim}
 use Rattle.laws.proofs.Records.{fact-summary, summary-fact, facts-append}
 use Rattle.laws.proofs.ReadingLaws.{line-read, kept-by-file}
 use Rattle.laws.proofs.OptionLaws.{all-places-on, admits-at-place}
-use Rattle.laws.proofs.BackgroundLaws.{background-facts, background-definitions, background-declarations, background-elim}
+use Rattle.laws.proofs.BackgroundLaws.{background-facts, background-definitions, background-declarations, background-elim, ambient-root-elim}
 use Rattle.demands.specs.LinesRead.{records-for}
 use Rattle.demands.specs.Demand2.{followed-list}
 use Rattle.demands.specs.Demand3.{run-of}
@@ -60,21 +60,12 @@ not-there a before after f roots t =
     ∙ ap (keep (is-admitted a) before ++_) (cond-false (admits a (f .group)) (Sum-assume f ∷ keep (is-admitted a) after) (keep (is-admitted a) after) t)
     ∙ sym (keep-append (is-admitted a) before after)))
 
--- an ambient root of some facts is one of them
-ambient-root-elim : (a : Ask) (fs : List Fact) {f : Fact} → List·Memᴰ f (ambient-roots a fs) → List·Memᴰ f fs
-unfolding ambient-roots
-ambient-root-elim a fs {f} i = go (no-ambients a) i
-  where
-    go : (b : Bool) → List·Memᴰ f (cond b [] (keep (λ (f : Fact). is-ambient-root (f .kind)) fs)) → List·Memᴰ f fs
-    go true i = absurd (List·Memᴰ·not-nil i)
-    go false i = keep-elim (λ (f : Fact). is-ambient-root (f .kind)) fs i .0
-
 -- a fact that is not admitted has no part in what an ask comes to
 pub not-admitted-left-out : Not-admitted-left-out
 not-admitted-left-out file s e a f i t =
     record {
       not-filed = not-filed;
-      no-ambient-root = λ j. not-filed (ambient-root-elim a (facts (records-for a s)) j);
+      no-ambient-root = λ j. not-filed (ambient-root-elim a (facts (records-for a s)) j .0);
       not-reached = not-reached;
       not-in-chain = not-in-chain (a .queries) refl;
       not-kept = not-kept;

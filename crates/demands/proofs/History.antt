@@ -13,7 +13,8 @@ use Rattle.laws.proofs.FuelLaws.{history-follows}
 use Rattle.laws.proofs.HistoryLaws.{history-length, history-end}
 use Rattle.demands.specs.LinesRead.{records-for}
 use Rattle.demands.specs.Demand3.{run-of}
-use Rattle.demands.specs.History.{history-for, History-exact, Rounds-told}
+use Rattle.demands.specs.WellFormed.{Well-formed}
+use Rattle.demands.specs.History.{history-for, History-exact, From-its-round, Rounds-told}
 use Rattle.demands.proofs.Background.{well-for}
 use Rattle.demands.proofs.HistoryLaws.{met-later, reached-later}
 
@@ -37,12 +38,15 @@ module _ (a : Ask) (s : State) (test : Run → Bool)
         λ h. later _ k h l (index-holds test first-run (history-for a s) (omega arith)),
       )
 
--- a name is met, and a fact is reached, from its round on
-pub rounds-told : Rounds-told
+-- over well-formed records a name is met, and a fact is reached, from its round on
+pub from-its-round : (a : Ask) (s : State) → Well-formed (records-for a s) (s .roots) → (k : ℕ) → k ≤ run-of a s .rounds → From-its-round a s k
 unfolding round-met round-of
-rounds-told file s e a k l =
-    let wf = well-for file s e a in
+from-its-round a s wf k l =
     record {
       met = λ n. from-first a s (λ r. mem n (r .met)) (λ i j h m. met-later a (records-for a s) (s .roots) wf i j h m n) k l;
       reached = λ f. from-first a s (λ r. mem (f .name) (r .reached)) (λ i j h m. reached-later a (records-for a s) (s .roots) wf i j h m (f .name)) k l;
     }
+
+-- so it is over those of an accepted file
+pub rounds-told : Rounds-told
+rounds-told file s e a k l = from-its-round a s (well-for file s e a) k l

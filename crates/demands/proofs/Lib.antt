@@ -35,6 +35,7 @@ pub mod SaidLines
 pub mod Demand1
 pub mod RecordLines
 pub mod FileOrder
+pub mod Spelling
 pub mod Slices
 pub mod Filing
 pub mod Filed
@@ -67,3 +68,6 @@ pub mod ListedNames
 pub mod ReachedPlaces
 pub mod Sequence
 pub mod SequenceCases
+pub mod Suppliers
+pub mod Reasons
+pub mod Explaining

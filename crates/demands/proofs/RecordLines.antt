@@ -1,4 +1,4 @@
--- The lines of the records of an accepted file ascend, so no two records stand on one line.
+-- The lines of the records of an accepted file ascend, so no two records stand on one line; nor does a root on that of another.
 use Prim.Native.Nat.{ℕ, _+_, _<_}
 use native.Mathlib.Omega.{arith}
 use mathlib.Core.Path.{_≡_, refl}
@@ -12,7 +12,7 @@ use Rattle.model.specs.Terms.{Term}
 use Rattle.model.specs.Summaries.{Fact, summarize-assumption}
 use Rattle.model.specs.Reading.{Content, head, term, assume, fun, def, retain, root, Decl, Summary, Sum-assume, Sum-definefun, Sum-declfun, Root, State, start, read, summarize-decl, root-of, excluded, add-line, read-file}
 use Rattle.model.specs.Rounds.{facts, definitions, declarations}
-use Rattle.model.proofs.ListLaws.{collect-append}
+use Rattle.model.proofs.ListLaws.{collect-append, collect-intro, map-intro}
 use Rattle.demands.specs.LinesRead.{Distinct, none as no-more, one-more}
 use Rattle.demands.specs.FileOrder.{line-of, Rising, none, one, more}
 use Rattle.demands.proofs.Distinct.{distinct-collect}
@@ -41,6 +41,18 @@ root-n exclude terms n (fun name) = inl refl
 root-n exclude terms n (def name t) = inl refl
 root-n exclude terms n (retain names) = inl refl
 root-n exclude terms n (root q name t) = inr refl
+
+-- a line is a root or another record, and not both
+one-sort : (exclude : List Name) (terms : List Term) (n : ℕ) (c : Content)
+    → (collect line-of (summarize-decl exclude terms n c) ≡ []) ⊎ (map (λ (r : Root). r .line) (root-of exclude terms n c) ≡ [])
+unfolding collect summarize-decl root-of
+one-sort exclude terms n (head h) = inl refl
+one-sort exclude terms n (term node) = inl refl
+one-sort exclude terms n (assume name flag group t) = inr refl
+one-sort exclude terms n (fun name) = inr refl
+one-sort exclude terms n (def name t) = inr refl
+one-sort exclude terms n (retain names) = inr refl
+one-sort exclude terms n (root q name t) = inl refl
 
 -- a number above all of ascending ones stands at their end
 rising-end : {l : List ℕ} {n : ℕ} → Rising l → ((k : ℕ) → List·Memᴰ k l → k < n) → Rising (l ++ (n ∷ []))
@@ -79,15 +91,36 @@ lines-step n l m i (inr e) =
       below = λ k j. ⊎-elim (λ h. omega (arith, i .below k h)) (λ h. let p : k ≡ n = List·Memᴰ·eq-of-singleton h in omega arith) (List·Memᴰ·append-cases l j);
     })
 
--- both the records and the roots do
+-- two lists of lines have none in common
+abbrev Apart : List ℕ → List ℕ → Type 0
+Apart l m = (k : ℕ) → List·Memᴰ k l → List·Memᴰ k m → ⊥
+
+-- lines that stand on the n-th line are not below it
+not-below : (n : ℕ) {l m : List ℕ} → Lines-below n l → (m ≡ []) ⊎ (m ≡ n ∷ []) → Apart l m
+not-below n i (inl e) k x y = List·Memᴰ·not-nil (rw e at y)
+not-below n i (inr e) k x y = let p : k ≡ n = List·Memᴰ·eq-of-singleton (rw e at y) in omega (arith, i .below k x)
+
+-- lists of lines below n, with the n-th added to one of them, or to none, stay apart
+apart-step : (n : ℕ) (l m l′ m′ : List ℕ) → Lines-below n l → Lines-below n l′ → (m ≡ []) ⊎ (m ≡ n ∷ []) → (m′ ≡ []) ⊎ (m′ ≡ n ∷ [])
+    → (m ≡ []) ⊎ (m′ ≡ []) → Apart l l′ → Apart (l ++ m) (l′ ++ m′)
+apart-step n l m l′ m′ i i′ at at′ either h k x y =
+    ⊎-elim
+    (λ u. ⊎-elim (h k u) (λ (v : List·Memᴰ k m′). not-below n i at′ k u v) (List·Memᴰ·append-cases l′ y))
+    (λ (u : List·Memᴰ k m). ⊎-elim (λ v. not-below n i′ at k v u)
+    (λ (v : List·Memᴰ k m′). ⊎-elim (λ e. List·Memᴰ·not-nil (rw e at u)) (λ e. List·Memᴰ·not-nil (rw e at v)) either)
+    (List·Memᴰ·append-cases l′ y))
+    (List·Memᴰ·append-cases l x)
+
+-- both the records and the roots do, and on no common line
 record Placed (n : ℕ) (s : State) : Type 0 where
   decls : Lines-below n (collect line-of (s .decls))
   roots : Lines-below n (map (λ (r : Root). r .line) (s .roots))
+  apart : Apart (collect line-of (s .decls)) (map (λ (r : Root). r .line) (s .roots))
 
 -- they do before line 1
 placed-start : Placed 1 start
 unfolding start collect
-placed-start = record { decls = nowhere; roots = nowhere }
+placed-start = record { decls = nowhere; roots = nowhere; apart = λ k i j. List·Memᴰ·not-nil i }
   where
     nowhere : Lines-below 1 []
     nowhere = record { rising = none; below = λ k m. absurd (List·Memᴰ·not-nil m) }
@@ -99,6 +132,9 @@ placed-line exclude n s c i =
     record {
       decls = rw collect-append (lines-step n (collect line-of (s .decls)) _ (i .decls) (line-n (excluded exclude s) (s .terms) n c));
       roots = rw map-append (lines-step n (map (λ r. r .line) (s .roots)) _ (i .roots) (root-n (excluded exclude s) (s .terms) n c));
+      apart = rw (collect-append, map-append)
+          (apart-step n (collect line-of (s .decls)) _ (map (λ r. r .line) (s .roots)) _ (i .decls) (i .roots) (line-n (excluded exclude s) (s .terms) n c)
+          (root-n (excluded exclude s) (s .terms) n c) (one-sort (excluded exclude s) (s .terms) n c) (i .apart));
     }
 
 module _ (exclude : List Name) (file : List ℕ) (s : State) (e : read-file exclude file ≡ read s) where
@@ -116,6 +152,13 @@ module _ (exclude : List Name) (file : List ℕ) (s : State) (e : read-file excl
   -- the lines of its roots ascend
   pub roots-rise : Rising (map (λ (r : Root). r .line) (s .roots))
   roots-rise = placed-file .roots .rising
+
+  -- no fact and root of it stand on one line
+  pub fact-or-root : {f : Fact} {r : Root} → List·Memᴰ f (facts (s .decls)) → List·Memᴰ r (s .roots) → f .line ≡ r .line → ⊥
+  unfolding line-of
+  fact-or-root {f} {r} i j p =
+      placed-file .apart (f .line) (collect-intro line-of (fact-summary (s .decls) i) (List·Memᴰ·head refl))
+      (rw p (map-intro (λ (r : Root). r .line) j))
 
   -- no two of its records stand on one line
   pub read-file-lines : Distinct (collect line-of (s .decls))

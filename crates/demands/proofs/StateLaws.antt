@@ -24,7 +24,7 @@ use Rattle.demands.proofs.Disjuncts.{Parts, lawful-kind}
 use Rattle.demands.proofs.TermNumbers.{Below, terms-named, named-below}
 
 -- a name that is there leaves the names as they are, a new one stands at their end
-spell-cases : (names : List Name) (n : Name) → (T (mem n names) × (spell names n ≡ names)) ⊎ (T (not (mem n names)) × (spell names n ≡ names ++ (n ∷ [])))
+pub spell-cases : (names : List Name) (n : Name) → (T (mem n names) × (spell names n ≡ names)) ⊎ (T (not (mem n names)) × (spell names n ≡ names ++ (n ∷ [])))
 unfolding spell
 spell-cases names n = ⊎-elim (λ t. inl (t, cond-true (mem n names) names (names ++ (n ∷ [])) t)) (λ t. inr (t, cond-false (mem n names) names (names ++ (n ∷ [])) t)) (T-dec (mem n names))
 

@@ -12,6 +12,7 @@ pub mod Slices
 pub mod Room
 pub mod FileOrder
 pub mod Counts
+pub mod Spelling
 pub mod Asks
 pub mod Sixteen
 pub mod Moved
@@ -25,3 +26,5 @@ pub mod Bytes
 pub mod Printed
 pub mod Groups
 pub mod Sequence
+pub mod Reasons
+pub mod Explaining

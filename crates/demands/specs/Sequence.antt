@@ -1,5 +1,6 @@
 -- Document 02, Change 14, for every two accepted files: "The sequence of the export is no matter". What may differ are the line
--- numbers, the order of the ambients (last filed first) and with it that of the definitions and declarations.
+-- numbers, the order of the ambients (last filed first) and, with it and with that of the roots, the order of the definitions and
+-- declarations.
 use Prim.Native.Nat.{ℕ}
 use mathlib.Core.Path.{_≡_}
 use mathlib.Core.Logic.{_↔_}

@@ -1,17 +1,18 @@
--- The background of an ask, among the records of a file: its facts are those that the ask admits, all else stays.
+-- The background of an ask, among the records of a file: its facts are those that the ask admits, all else stays. And what a run of
+-- the ask scans first.
 use Prim.Native.Nat.{ℕ, _≤_}
 use native.Mathlib.Omega.{arith}
 use mathlib.Core.Path.{_≡_, refl, ap}
-use mathlib.Core.Bool.{Bool, true, false, cond}
-use mathlib.Core.List.{List, [], _∷_, _++_, List·Memᴰ}
-use lib.Dec.{T}
+use mathlib.Core.Bool.{Bool, true, false, cond, not}
+use mathlib.Core.List.{List, [], _∷_, _++_, List·Memᴰ, List·Memᴰ·not-nil, Memᴰ·cast}
+use lib.Dec.{T, eqb, eqb→eq, eqb-refl}
 use lib.ListN.{length}
 use Rattle.model.specs.Lists.{keep}
 use Rattle.model.specs.Summaries.{Fact}
-use Rattle.model.specs.Reading.{Ask, Summary, Sum-assume, Sum-definefun, Sum-declfun, Sum-retain}
-use Rattle.model.specs.Rounds.{admits, is-admitted, background, facts, definitions, declarations, macros}
+use Rattle.model.specs.Reading.{Ask, no-ambients, Root, Summary, Sum-assume, Sum-definefun, Sum-declfun, Sum-retain}
+use Rattle.model.specs.Rounds.{admits, is-admitted, background, facts, definitions, declarations, macros, is-ambient-root, asks-for, goal-roots, ambient-roots}
 use Rattle.model.specs.Also.{with-queries}
-use Rattle.model.proofs.ListLaws.{keep-append, keep-elim, keep-cong}
+use Rattle.model.proofs.ListLaws.{any-intro, any-elim, keep-append, keep-elim, keep-intro, keep-cong}
 
 module _ (a : Ask) where
   -- the facts of the background are those that the ask admits
@@ -98,3 +99,34 @@ background-groups a b decls e = keep-cong (is-admitted a) (is-admitted b) decls 
 pub background-with : (a : Ask) (qs : List ℕ) (decls : List Summary) → background (with-queries a qs) decls ≡ background a decls
 unfolding with-queries
 background-with a qs decls = background-groups (with-queries a qs) a decls refl
+
+module _ (a : Ask) (roots : List Root) where
+  -- a root of the ask's queries is a root whose query is one of them
+  pub goal-root-elim : {r : Root} → List·Memᴰ r (goal-roots a roots) → List·Memᴰ r roots × List·Memᴰ (r .query) (a .queries)
+  unfolding goal-roots asks-for
+  goal-root-elim {r} i =
+      let (j, t) = keep-elim (λ r. asks-for a (r .query)) roots i in
+      let (q, m, e) = any-elim (eqb (r .query)) (a .queries) t in
+      (j, Memᴰ·cast (eqb→eq (r .query) q e) m)
+
+  pub goal-root-intro : {r : Root} → List·Memᴰ r roots → List·Memᴰ (r .query) (a .queries) → List·Memᴰ r (goal-roots a roots)
+  unfolding goal-roots asks-for
+  goal-root-intro {r} i q = keep-intro (λ r. asks-for a (r .query)) i (any-intro (eqb (r .query)) q (eqb-refl (r .query)))
+
+module _ (a : Ask) (fs : List Fact) where
+  -- an ambient root that is scanned is one of the facts, where option 1 is off
+  pub ambient-root-elim : {f : Fact} → List·Memᴰ f (ambient-roots a fs) → List·Memᴰ f fs × T (is-ambient-root (f .kind)) × T (not (no-ambients a))
+  unfolding ambient-roots
+  ambient-root-elim {f} i = go (no-ambients a) i
+    where
+      go : (b : Bool) → List·Memᴰ f (cond b [] (keep (λ f. is-ambient-root (f .kind)) fs)) → List·Memᴰ f fs × T (is-ambient-root (f .kind)) × T (not b)
+      go true j = absurd (List·Memᴰ·not-nil j)
+      go false j = let (k, t) = keep-elim (λ f. is-ambient-root (f .kind)) fs j in (k, t, tt)
+
+  pub ambient-root-intro : {f : Fact} → List·Memᴰ f fs → T (is-ambient-root (f .kind)) → T (not (no-ambients a)) → List·Memᴰ f (ambient-roots a fs)
+  unfolding ambient-roots
+  ambient-root-intro {f} i t u = go (no-ambients a) u
+    where
+      go : (b : Bool) → T (not b) → List·Memᴰ f (cond b [] (keep (λ f. is-ambient-root (f .kind)) fs))
+      go true v = absurd v
+      go false v = keep-intro (λ f. is-ambient-root (f .kind)) i t

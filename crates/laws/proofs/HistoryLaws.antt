@@ -1,8 +1,8 @@
 -- The states of a history.
-use Prim.Native.Nat.{ℕ, zero, suc, _+_, _<_}
+use Prim.Native.Nat.{ℕ, zero, suc, _+_}
 use native.Mathlib.Omega.{arith}
-use mathlib.Core.Path.{_≡_, refl, sym}
-use mathlib.Core.List.{List, [], _∷_}
+use mathlib.Core.Path.{_≡_, refl, sym, ap}
+use mathlib.Core.List.{List, _∷_}
 use lib.ListN.{length}
 use Rattle.model.specs.Names.{Name}
 use Rattle.model.specs.Summaries.{Fact}
@@ -37,6 +37,11 @@ module _ (a : Ask) (decls : List Summary) (roots : List Root) where
   -- the history of a run has a state for each round, and the first
   pub history-length : length (history a decls roots) ≡ suc (run a decls roots .rounds)
   history-length = let e = states-count a (macros decls) (facts decls) (history-follows a decls roots) in omega arith
+
+  -- its first state is that before round 1
+  pub history-start : end-of (history a decls roots) 0 ≡ first-run
+  unfolding end-of
+  history-start = let (rest, q) = first-state a (macros decls) (facts decls) (history-follows a decls roots) in ap (λ (h : List Run). end-of h 0) q
 
   -- its last state is the run
   pub history-end : end-of (history a decls roots) (run a decls roots .rounds) ≡ run a decls roots

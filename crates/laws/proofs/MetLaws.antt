@@ -54,17 +54,25 @@ unfoldable pub met-with : Map (List Name) → List Fact → List Name → (Fact 
 met-with ms fs first set = met-from ms (first ++ free-names-of (keep set fs))
 
 module _ (ms : Map (List Name)) where
-  -- what a fact of a list meets, the list meets
-  pub met-fact : {l : List Fact} {f : Fact} → List·Memᴰ f l → Within (met-from ms (f .free-names)) (met-from ms (free-names-of l))
-  met-fact {l} {f} m = met-within ms (f .free-names) (free-names-of l) (λ n i. collect-intro (λ (f : Fact). f .free-names) m i)
+  -- what an item of a list meets, the list meets
+  pub met-collected : {A : Type 0} (free : A → List Name) {x : A} {l : List A} → List·Memᴰ x l → Within (met-from ms (free x)) (met-from ms (collect free l))
+  met-collected free {x} {l} i = met-within ms (free x) (collect free l) (λ n j. collect-intro free i j)
 
-  -- what a list of facts meets, one of them meets
+  -- what a list of items meets, one of them meets
+  pub collected-met : {A : Type 0} (free : A → List Name) (l : List A) (k : Name) → T (mem k (met-from ms (collect free l)))
+      → (x : A) × List·Memᴰ x l × T (mem k (met-from ms (free x)))
+  collected-met free l k t =
+      let (n, i, o) = met-elim ms (collect free l) t in
+      let (x, j, m) = collect-elim free l i in
+      (x, j, met-intro ms m o)
+
+  -- so it is with facts
+  pub met-fact : {l : List Fact} {f : Fact} → List·Memᴰ f l → Within (met-from ms (f .free-names)) (met-from ms (free-names-of l))
+  met-fact m = met-collected (λ (f : Fact). f .free-names) m
+
   pub fact-met : (l : List Fact) (k : Name) → T (mem k (met-from ms (free-names-of l)))
       → (f : Fact) × List·Memᴰ f l × T (mem k (met-from ms (f .free-names)))
-  fact-met l k t =
-      let (n, i, o) = met-elim ms (free-names-of l) t in
-      let (f, j, m) = collect-elim (λ (f : Fact). f .free-names) l i in
-      (f, j, met-intro ms m o)
+  fact-met l k t = collected-met (λ (f : Fact). f .free-names) l k t
 
   module _ (fs : List Fact) (first : List Name) where
     -- the names met from the first items are met

@@ -296,3 +296,14 @@ module _ (exclude : List Name) where
     -- what holds at the start, and is kept by every accepted line, holds of every accepted file
     pub kept-by-file : (file : List ℕ) (s : State) → read-file exclude file ≡ read s → P 1 start → P (1 + length (lines file)) s
     kept-by-file file s e p = kept-by-lines (lines file) 1 start s (file-read file s e) p
+
+-- before line 1 every count is within its limit
+start-within : T (all within (limits start))
+unfolding all limits start
+start-within = tt
+
+-- every count of an accepted file is within its limit
+pub file-within : (exclude : List Name) (file : List ℕ) (s : State) → read-file exclude file ≡ read s → T (all within (limits s))
+file-within exclude file s e =
+    kept-by-file exclude (λ n s. T (all within (limits s)))
+    (λ n s s′ line r h. let l = line-read exclude n s line s′ r in rw (l .after) (l .in-limits)) file s e start-within
