@@ -11,7 +11,8 @@ ghost use Rattle.records.specs.Columns.{record-line, ask-room};
 ghost use Rattle.records.specs.States.{uses-at};
 ghost use Rattle.scan.specs.Steps.{marks};
 ghost use Rattle.prune.specs.Listing.{most-stamps, taker, reached-at, kind-at, ambient-at, is-goal, reached-records, ambient-records, fact-records, goal-records, stamp-records, kind-records, decl-records, added-at, added-records, of-kind, group-records, groups-records};
-ghost use Rattle.prune.specs.Loops.{kept-column, queue-column, stamp-in, stamp-words, Index, Behind, Kept-behind, noted, Notes, Linked, Links, queue, queue-def, follow-name, follow-names, Readable, Queue-room, Queue-noted, Bodies, Stamps-followed, queue-part, Queue-records, Listable, Records-listed};
+ghost use Rattle.prune.specs.Loops.{kept-column, queue-column, stamp-in, stamp-words, Index, Behind, Kept-behind, noted, Notes, Linked, Links, queue};
+ghost use Rattle.prune.specs.Loops.{queue-def, follow-name, follow-names, Readable, Queue-room, Queue-noted, Bodies, Stamps-followed, queue-part, Queue-records, Listable, Records-listed};
 ghost use Rattle.prune.specs.Kept.{Run-over, Pruned};
 
 // The columns of the run's slice behind those of the run: the kept list; by rank, the next lower rank of the same stamp, and one;

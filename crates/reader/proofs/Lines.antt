@@ -54,7 +54,7 @@ use Rattle.records.proofs.Asking.{asks-length, asks-none}
 use Rattle.records.specs.Writing.{no-counts}
 use Rattle.filing.specs.Lines.{judged, Reads, goes-on, stops, Past}
 use Rattle.reader.specs.declared.Reading.the-variants as answer
-use Rattle.reader.specs.Lines.{kind-content, ask-kind, Tables-cleared, Reads-file, all-read, read-stops, File-read}
+use Rattle.reader.specs.Lines.{kind-content, ask-line-kind, Tables-cleared, Reads-file, all-read, read-stops, File-read}
 
 -- ---- the form of a line
 
@@ -108,12 +108,12 @@ not-false {x} {b} e h = go x e h
 
 -- what a line of a kind says
 module _ (grouped : Bool) (count : ℕ) (fs : List Field) {k : Kind} where
-  pub kind-ask : k ≡ kinded.Ask → kind-content k grouped count fs ≡ content (ask-kind false) grouped count fs
-  unfolding kind-content kind-result ask-kind
+  pub kind-ask : k ≡ kinded.Ask → kind-content k grouped count fs ≡ content (ask-line-kind false) grouped count fs
+  unfolding kind-content kind-result ask-line-kind
   kind-ask e = rw e
 
-  pub kind-ask2 : k ≡ kinded.Ask2 → kind-content k grouped count fs ≡ content (ask-kind true) grouped count fs
-  unfolding kind-content kind-result ask-kind
+  pub kind-ask2 : k ≡ kinded.Ask2 → kind-content k grouped count fs ≡ content (ask-line-kind true) grouped count fs
+  unfolding kind-content kind-result ask-line-kind
   kind-ask2 e = rw e
 
   pub kind-also : k ≡ kinded.Also → kind-content k grouped count fs ≡ content kind.Also grouped count fs

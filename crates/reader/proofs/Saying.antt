@@ -21,7 +21,7 @@ use Rattle.fields.proofs.Numbers.{number-or-field}
 use Rattle.records.specs.Columns.{asked-kind, also-kind}
 use Rattle.records.specs.Writing.{with-ask, Asked-at, Position-at}
 use Rattle.filing.proofs.Saying.{end-none, end-more, number-placed}
-use Rattle.reader.specs.Lines.{ask-kind, Asks, asks, not-asked}
+use Rattle.reader.specs.Lines.{ask-line-kind, Asks, asks, not-asked}
 
 -- ---- its fields
 
@@ -42,26 +42,26 @@ head-grouped false q options groups = refl
 
 module _ (form : Bool) (count : ℕ) (fs : List Field) where
   -- an ask line of either form, by the groups that it admits
-  ask-content : (grouped : Bool) → content (ask-kind grouped) form count fs
+  ask-content : (grouped : Bool) → content (ask-line-kind grouped) form count fs
       ≡ (next (number-field 255) fs >>= λ (q, gs). next (number-field 15) gs >>= λ (options, hs). groups-field grouped hs
       >>= λ (groups, is). end (head (ask-head grouped q options groups)) is)
-  unfolding content ask-kind ask-head
+  unfolding content ask-line-kind ask-head
   ask-content true = refl
   ask-content false = refl
 
-  ask-not : (grouped : Bool) {x : Refusal} → next (number-field 255) fs ≡ refused x → content (ask-kind grouped) form count fs ≡ refused x
+  ask-not : (grouped : Bool) {x : Refusal} → next (number-field 255) fs ≡ refused x → content (ask-line-kind grouped) form count fs ≡ refused x
   ask-not grouped a = ask-content grouped ∙ rw a
 
   module _ (grouped : Bool) {q : ℕ} {gs : List Field} (a : next (number-field 255) fs ≡ ok (q, gs)) where
-    ask-options-not : {x : Refusal} → next (number-field 15) gs ≡ refused x → content (ask-kind grouped) form count fs ≡ refused x
+    ask-options-not : {x : Refusal} → next (number-field 15) gs ≡ refused x → content (ask-line-kind grouped) form count fs ≡ refused x
     ask-options-not b = ask-content grouped ∙ rw (a, b)
 
     module _ {options : ℕ} {hs : List Field} (b : next (number-field 15) gs ≡ ok (options, hs)) where
-      ask-groups-not : {x : Refusal} → groups-field grouped hs ≡ refused x → content (ask-kind grouped) form count fs ≡ refused x
+      ask-groups-not : {x : Refusal} → groups-field grouped hs ≡ refused x → content (ask-line-kind grouped) form count fs ≡ refused x
       ask-groups-not d = ask-content grouped ∙ rw (a, b, d)
 
       ask-is : {groups : ℕ} {is : List Field} {r : Result Content} → groups-field grouped hs ≡ ok (groups, is)
-          → end (head (ask-head grouped q options groups)) is ≡ r → content (ask-kind grouped) form count fs ≡ r
+          → end (head (ask-head grouped q options groups)) is ≡ r → content (ask-line-kind grouped) form count fs ≡ r
       ask-is d e = ask-content grouped ∙ rw (a, b, d, e)
 
   also-is : {q : ℕ} {gs : List Field} → next (number-field 255) fs ≡ ok (q, gs) → end (head (also q)) gs ≡ ok (head (also q))
@@ -117,7 +117,7 @@ counts-plain k z e = rw (z, e, or-false (k .grouped))
 module _ {file : List ℕ} {c : Cursor} (k : Counts) (p : Placed file c) {r : NumberStep} (a : r ≡ number-at 255 file c) where
   -- the ask's query is refused
   pub asks-not : (grouped : Bool) {recs : List ℕ} {x : Refusal} → r ≡ numbered.Refused x
-      → Asks recs recs k (content (ask-kind grouped) (k .grouped) (k .terms) (fields-left file c)) (step.Refused x)
+      → Asks recs recs k (content (ask-line-kind grouped) (k .grouped) (k .terms) (fields-left file c)) (step.Refused x)
   asks-not grouped {x = x} b = not-asked {x = x} (ask-not (k .grouped) (k .terms) (fields-left file c) grouped (number-not p 255 a b)) refl
 
   module _ (grouped : Bool) {q : ℕ} {n : Cursor} (b : r ≡ numbered.Number q n) {s : NumberStep} (d : s ≡ number-at 15 file n) where
@@ -127,7 +127,7 @@ module _ {file : List ℕ} {c : Cursor} (k : Counts) (p : Placed file c) {r : Nu
 
     -- its options are refused
     pub asks-options-not : {recs : List ℕ} {x : Refusal} → s ≡ numbered.Refused x
-        → Asks recs recs k (content (ask-kind grouped) (k .grouped) (k .terms) (fields-left file c)) (step.Refused x)
+        → Asks recs recs k (content (ask-line-kind grouped) (k .grouped) (k .terms) (fields-left file c)) (step.Refused x)
     asks-options-not {x = x} e = not-asked {x = x}
         (ask-options-not (k .grouped) (k .terms) (fields-left file c) grouped (number-read p 255 a b) (number-not after 15 d e)) refl
 
@@ -138,7 +138,7 @@ module _ {file : List ℕ} {c : Cursor} (k : Counts) (p : Placed file c) {r : Nu
 
       -- its groups are refused
       pub asks-groups-not : {recs : List ℕ} {x : Refusal} → t ≡ numbered.Refused x
-          → Asks recs recs k (content (ask-kind grouped) (k .grouped) (k .terms) (fields-left file c)) (step.Refused x)
+          → Asks recs recs k (content (ask-line-kind grouped) (k .grouped) (k .terms) (fields-left file c)) (step.Refused x)
       unfolding number-result
       asks-groups-not {x = x} g = not-asked {x = x}
           (ask-groups-not (k .grouped) (k .terms) (fields-left file c) grouped (number-read p 255 a b) (number-read after 15 d e)
@@ -151,20 +151,20 @@ module _ {file : List ℕ} {c : Cursor} (k : Counts) (p : Placed file c) {r : Nu
 
         -- what its fields say
         line-is : {said : Result Content} → end (head (ask-head grouped q options groups)) (fields-left file l) ≡ said
-            → content (ask-kind grouped) (k .grouped) (k .terms) (fields-left file c) ≡ said
+            → content (ask-line-kind grouped) (k .grouped) (k .terms) (fields-left file c) ≡ said
         line-is h = ask-is (k .grouped) (k .terms) (fields-left file c) grouped (number-read p 255 a b) (number-read after 15 d e) groups-read h
 
         -- a field is left over
         pub asks-more : {recs : List ℕ} → l .at ≤ l .end
-            → Asks recs recs k (content (ask-kind grouped) (k .grouped) (k .terms) (fields-left file c)) (step.Refused refusal.Form)
+            → Asks recs recs k (content (ask-line-kind grouped) (k .grouped) (k .terms) (fields-left file c)) (step.Refused refusal.Form)
         asks-more h = not-asked {x = refusal.Form} (line-is (end-more (head (ask-head grouped q options groups)) file l h)) refl
 
         -- it asks
         pub asks-is : {recs recs′ : List ℕ} {f : Counts} → l .end < l .at → f ≡ with-ask k (k .grouped || grouped)
             → Asked-at recs recs′ k asked-kind q options groups
-            → Asks recs recs′ k (content (ask-kind grouped) (k .grouped) (k .terms) (fields-left file c)) (step.On f)
+            → Asks recs recs′ k (content (ask-line-kind grouped) (k .grouped) (k .terms) (fields-left file c)) (step.On f)
         asks-is {recs} {recs′} h z w =
-            let x : Asks recs recs′ k (content (ask-kind grouped) (k .grouped) (k .terms) (fields-left file c))
+            let x : Asks recs recs′ k (content (ask-line-kind grouped) (k .grouped) (k .terms) (fields-left file c))
             (step.On (with-ask k (k .grouped || is-grouped (ask-head grouped q options groups)))) =
             asks {h = ask-head grouped q options groups} (line-is (end-none (head (ask-head grouped q options groups)) file l h))
             (ask-position grouped (fields-left file m) groups-read w) in

@@ -29,9 +29,9 @@ unfoldable pub kind-content : Kind → Bool → ℕ → List Field → Result Co
 kind-content k grouped count fs = kind-result k >>= λ l. content l grouped count fs
 
 -- the kind of an ask line, with groups or without
-unfoldable pub ask-kind : Bool → LineKind
-ask-kind true = kind.Ask2
-ask-kind false = kind.Ask
+unfoldable pub ask-line-kind : Bool → LineKind
+ask-line-kind true = kind.Ask2
+ask-line-kind false = kind.Ask
 
 -- what reading an ask or an also line comes to: it stands behind the records, or its refusal
 pub data Asks (recs recs′ : List ℕ) (k : Counts) (said : Result Content) : Step → Type 0 where

@@ -18,7 +18,7 @@ ghost use Rattle.records.specs.Columns.{ask-room};
 ghost use Rattle.records.specs.States.{state-of};
 ghost use Rattle.records.specs.Adding.{Standing};
 ghost use Rattle.filing.specs.Lines.{Line-read};
-ghost use Rattle.reader.specs.Lines.{kind-content, ask-kind, Asks, Tables-cleared, File-read};
+ghost use Rattle.reader.specs.Lines.{kind-content, ask-line-kind, Asks, Tables-cleared, File-read};
 
 // What reading a file comes to: the counts after the last line, or a refusal and its line.
 pub enum Reading {
@@ -30,7 +30,7 @@ pub enum Reading {
 fn read_ask(file: &[u8], recs: &mut [u32], k: Counts, grouped: bool, c: Cursor) -> Step
     requires { ⌜ Placed (now file) c × (k .asks < ask-room) × (working-words ≤ length (now recs)) ⌝ }
     ensures { λ r. ⌜ Asks (now (recs .entry)) (now (recs .exit)) k
-        (content (ask-kind grouped) (k .grouped) (k .terms) (fields-left (now (file .entry)) c)) r ⌝ }
+        (content (ask-line-kind grouped) (k .grouped) (k .terms) (fields-left (now (file .entry)) c)) r ⌝ }
 {
     match c.number(file, model::MOST_QUERY) {
         NumberStep::Number(q, next) => match next.number(file, model::MOST_OPTIONS) {

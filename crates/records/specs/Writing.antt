@@ -6,7 +6,8 @@ use mathlib.Core.List.{List, [], _∷_}
 use lib.ListN.{length, getD, set}
 use Rattle.model.specs.Reading.{Head, ask, ask2, also, hide, most-groups, most-records}
 use Rattle.model.specs.declared.Counts.{Counts}
-use Rattle.records.specs.Columns.{record-word, record-kind, record-line, record-name, record-term, record-flag, uses-start, uses-end, entries-start, entries-end, summary-code, record-group, ask-query-column, ask-columns, ask-room, ask-query, ask-options, ask-kind, ask-groups, asked-kind, also-kind}
+use Rattle.records.specs.Columns.{record-word, record-kind, record-line, record-name, record-term, record-flag, uses-start, uses-end, entries-start, entries-end}
+use Rattle.records.specs.Columns.{summary-code, record-group, ask-query-column, ask-columns, ask-room, ask-query, ask-options, ask-kind, ask-groups, asked-kind, also-kind}
 use Rattle.words.specs.Slices.{Same-but}
 
 -- words into the columns of a record's row, from the c-th column on

@@ -8,7 +8,8 @@ use lib.Dec.{eqb}
 use Rattle.model.specs.Lists.{collect, holds, is-nil, or-else, when, _>>=_}
 use Rattle.model.specs.Names.{Name, bytes, same, starts-with}
 use Rattle.model.specs.Terms.{Node, FreeV, Leaf, Call, App, Forall, Exists, Let, Labeled, Term, term, references}
-use Rattle.model.specs.Summaries.{Kinded, Sum-triggers, two, op-of, op-number, op-args, call-one, call-two, head, is-empty, token, token-triggers, at, pattern-groups, group-names, triggers-of-term, is-ambient-refinement, has-eq, rule-1, rule-2, rule-3, rule-4, rule-5, rule-6, rule-7, rule-8, rule-9, rule-10, rule-11, rule-12, first-rule, maybe-add-ambient, summarize-kind}
+use Rattle.model.specs.Summaries.{Kinded, Sum-triggers, two, op-of, op-number, op-args, call-one, call-two, head, is-empty, token, token-triggers, at, pattern-groups, group-names, triggers-of-term}
+use Rattle.model.specs.Summaries.{is-ambient-refinement, has-eq, rule-1, rule-2, rule-3, rule-4, rule-5, rule-6, rule-7, rule-8, rule-9, rule-10, rule-11, rule-12, first-rule, maybe-add-ambient, summarize-kind}
 use Rattle.model.specs.declared.Op.{Op}
 use Rattle.model.specs.declared.Op.the-variants.{TrueOp, Iff, Eq, And}
 use Rattle.names.specs.Table.{name-of}
