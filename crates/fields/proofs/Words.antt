@@ -29,7 +29,7 @@ use Rattle.fields.specs.declared.RecordKind.the-variants as recorded
 use Rattle.fields.specs.declared.Kind.{Kind}
 use Rattle.fields.specs.declared.Kind.the-variants as kinded
 use Rattle.fields.specs.declared.OpWord.the-variants as is-op
-use Rattle.fields.specs.Wording.{key-from, key-of, is-byte, longest-word, is-short, Keyed, look, term-kind, record-line-kind, kind-result, stands, over, Placing, fixed-of, count-of, well-counted, as-op}
+use Rattle.fields.specs.Wording.{ask-line-kind, key-from, key-of, is-byte, longest-word, is-short, Keyed, look, term-kind, record-line-kind, kind-result, stands, over, Placing, fixed-of, count-of, well-counted, as-op}
 
 -- ---- keys
 
@@ -210,13 +210,10 @@ module _ {s : State} {k : Counts} (p : Placing s k) where
   asks-there h e = rw (p .no-hidden, eq-eqb (k .hides) 0 h) (e ∙ sym (and-true (in-head s)))
 
   -- an ask more than may be
-  pub over-ask : leb most-asks (k .asks) ≡ over s kinded.Ask
-  unfolding over place is-position
-  over-ask = rw (p .asks)
-
-  pub over-ask2 : leb most-asks (k .asks) ≡ over s kinded.Ask2
-  unfolding over place is-position
-  over-ask2 = rw (p .asks)
+  pub over-ask : (grouped : Bool) → leb most-asks (k .asks) ≡ over s (kinded.Ask grouped)
+  unfolding over place is-position ask-line-kind
+  over-ask true = rw (p .asks)
+  over-ask false = rw (p .asks)
 
   -- an also line more than may be
   pub over-also : leb most-asks (k .asks) ≡ over s kinded.Also
@@ -267,14 +264,11 @@ module _ {s : State} {k : Counts} (p : Placing s k) where
   stands-record recorded.Retain = later
   stands-record recorded.Root = later
 
--- an ask line of each form
-pub stands-ask : (s : State) → may-stand s (an-ask false) ≡ stands s kinded.Ask
-unfolding stands place
-stands-ask s = refl
-
-pub stands-ask2 : (s : State) → may-stand s (an-ask true) ≡ stands s kinded.Ask2
-unfolding stands place
-stands-ask2 s = refl
+-- an ask line of either form
+pub stands-ask : (s : State) (grouped : Bool) → may-stand s (an-ask grouped) ≡ stands s (kinded.Ask grouped)
+unfolding stands place ask-line-kind
+stands-ask s true = refl
+stands-ask s false = refl
 
 -- no kind
 pub stands-none : (s : State) (x : Refusal) → true ≡ stands s (kinded.No x)
@@ -326,8 +320,7 @@ placed-kind s k false = refl
 kind-tested : (s : State) (r : Kind) → (kind-result r >>= judged-kind s)
     ≡ cond (stands s r) (cond (over s r) (refused refusal.FullAsks) (kind-result r)) (refused refusal.Form)
 unfolding kind-result stands over
-kind-tested s kinded.Ask = placed-kind s kind.Ask (may-stand s (place kind.Ask))
-kind-tested s kinded.Ask2 = placed-kind s kind.Ask2 (may-stand s (place kind.Ask2))
+kind-tested s (kinded.Ask grouped) = placed-kind s (ask-line-kind grouped) (may-stand s (place (ask-line-kind grouped)))
 kind-tested s kinded.Also = placed-kind s kind.Also (may-stand s (place kind.Also))
 kind-tested s kinded.Hide = placed-kind s kind.Hide (may-stand s (place kind.Hide))
 kind-tested s (kinded.Term t) = placed-kind s (term-kind t) (may-stand s (place (term-kind t)))
@@ -405,8 +398,7 @@ fixed-some s kind.Root e = absurd (omega arith)
 -- where the count is 0 it is not fixed
 fixed-none : (s : State) (k : Kind) → count-of (fixed-of s k) ≡ 0 → fixed-of s k ≡ none
 unfolding fixed-of
-fixed-none s kinded.Ask e = fixed-some s kind.Ask e
-fixed-none s kinded.Ask2 e = fixed-some s kind.Ask2 e
+fixed-none s (kinded.Ask grouped) e = fixed-some s (ask-line-kind grouped) e
 fixed-none s kinded.Also e = fixed-some s kind.Also e
 fixed-none s kinded.Hide e = fixed-some s kind.Hide e
 fixed-none s (kinded.Term t) e = fixed-some s (term-kind t) e
@@ -458,8 +450,7 @@ parse-law s {grouped} {count} f fs r g d e = rw (← e, ← g, ← d) (go r)
     go : (r : Kind) → (kind-result r >>= (λ k. and-after fs k)
         >>= λ (k, gs). cond (wrong s (f ∷ fs) k) (refused refusal.Form) (content k (s .grouped) (length (s .terms)) gs))
         ≡ (kind-result r >>= λ k. cond (well-counted s r (f ∷ fs)) (content k (s .grouped) (length (s .terms)) fs) (refused refusal.Form))
-    go kinded.Ask = turned (wrong s (f ∷ fs) kind.Ask) (refused refusal.Form) (says kind.Ask)
-    go kinded.Ask2 = turned (wrong s (f ∷ fs) kind.Ask2) (refused refusal.Form) (says kind.Ask2)
+    go (kinded.Ask grouped) = turned (wrong s (f ∷ fs) (ask-line-kind grouped)) (refused refusal.Form) (says (ask-line-kind grouped))
     go kinded.Also = turned (wrong s (f ∷ fs) kind.Also) (refused refusal.Form) (says kind.Also)
     go kinded.Hide = turned (wrong s (f ∷ fs) kind.Hide) (refused refusal.Form) (says kind.Hide)
     go (kinded.Term t) = turned (wrong s (f ∷ fs) (term-kind t)) (refused refusal.Form) (says (term-kind t))

@@ -82,10 +82,14 @@ record-line-kind recorded.Def = kind.Def
 record-line-kind recorded.Retain = kind.Retain
 record-line-kind recorded.Root = kind.Root
 
+-- the kind of an ask line, with groups or without
+unfoldable pub ask-line-kind : Bool → LineKind
+ask-line-kind true = kind.Ask2
+ask-line-kind false = kind.Ask
+
 -- the kind of a line, or its refusal
 unfoldable pub kind-result : Kind → Result LineKind
-kind-result kinded.Ask = ok kind.Ask
-kind-result kinded.Ask2 = ok kind.Ask2
+kind-result (kinded.Ask grouped) = ok (ask-line-kind grouped)
 kind-result kinded.Also = ok kind.Also
 kind-result kinded.Hide = ok kind.Hide
 kind-result (kinded.Term t) = ok (term-kind t)
@@ -94,8 +98,7 @@ kind-result (kinded.No x) = refused x
 
 -- whether a line of the kind may stand next; what has no kind is refused for that
 unfoldable pub stands : State → Kind → Bool
-stands s kinded.Ask = may-stand s (place kind.Ask)
-stands s kinded.Ask2 = may-stand s (place kind.Ask2)
+stands s (kinded.Ask grouped) = may-stand s (place (ask-line-kind grouped))
 stands s kinded.Also = may-stand s (place kind.Also)
 stands s kinded.Hide = may-stand s (place kind.Hide)
 stands s (kinded.Term t) = may-stand s (place (term-kind t))
@@ -104,8 +107,7 @@ stands s (kinded.No x) = true
 
 -- whether a line of the kind is a position more than a file may have
 unfoldable pub over : State → Kind → Bool
-over s kinded.Ask = is-position (place kind.Ask) && leb most-asks (length (s .asks))
-over s kinded.Ask2 = is-position (place kind.Ask2) && leb most-asks (length (s .asks))
+over s (kinded.Ask grouped) = is-position (place (ask-line-kind grouped)) && leb most-asks (length (s .asks))
 over s kinded.Also = is-position (place kind.Also) && leb most-asks (length (s .asks))
 over s kinded.Hide = is-position (place kind.Hide) && leb most-asks (length (s .asks))
 over s (kinded.Term t) = is-position (place (term-kind t)) && leb most-asks (length (s .asks))
@@ -123,8 +125,7 @@ pub record Placing (s : State) (k : Counts) : Type 0 where
 
 -- the fields of the next line, the kind counted, where their count is fixed
 unfoldable pub fixed-of : State → Kind → Option ℕ
-fixed-of s kinded.Ask = fixed-count s kind.Ask
-fixed-of s kinded.Ask2 = fixed-count s kind.Ask2
+fixed-of s (kinded.Ask grouped) = fixed-count s (ask-line-kind grouped)
 fixed-of s kinded.Also = fixed-count s kind.Also
 fixed-of s kinded.Hide = fixed-count s kind.Hide
 fixed-of s (kinded.Term t) = fixed-count s (term-kind t)

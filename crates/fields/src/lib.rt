@@ -39,10 +39,9 @@ pub enum RecordKind {
     Root,
 }
 
-// The kind of a line, or the refusal of a line that has none.
+// The kind of a line, of an ask whether it has groups; or the refusal of a line that has none.
 pub enum Kind {
-    Ask,
-    Ask2,
+    Ask(bool),
     Also,
     Hide,
     Term(TermKind),
@@ -126,8 +125,8 @@ fn kind_of(key: u64) -> Kind
     ensures { λ r. ⌜ kind-result r ≡ need refusal.Form (look kinds key) ⌝ }
 {
     match key {
-        ASK => Kind::Ask,
-        ASK2 => Kind::Ask2,
+        ASK => Kind::Ask(false),
+        ASK2 => Kind::Ask(true),
         ALSO => Kind::Also,
         HIDE => Kind::Hide,
         FREE => Kind::Term(TermKind::Free),
@@ -189,8 +188,7 @@ fn may_stand(k: Counts, kind: Kind) -> bool
     ensures { λ r. ⌜ ((s : State) → Placing s k → r ≡ stands s kind) ⌝ }
 {
     match kind {
-        Kind::Ask => ask_stands(k, false),
-        Kind::Ask2 => ask_stands(k, true),
+        Kind::Ask(grouped) => ask_stands(k, grouped),
         Kind::Also => {
             if in_asks(k) {
                 return k.asks != 0;
@@ -214,8 +212,7 @@ fn too_many(k: Counts, kind: Kind) -> bool
     ensures { λ r. ⌜ ((s : State) → Placing s k → r ≡ over s kind) ⌝ }
 {
     match kind {
-        Kind::Ask => model::MOST_ASKS <= k.asks,
-        Kind::Ask2 => model::MOST_ASKS <= k.asks,
+        Kind::Ask(_) => model::MOST_ASKS <= k.asks,
         Kind::Also => model::MOST_ASKS <= k.asks,
         Kind::Hide => false,
         Kind::Term(_) => false,
@@ -293,8 +290,12 @@ fn fixed_count(k: Counts, kind: Kind) -> usize
     ensures { λ r. ⌜ ((s : State) → Placing s k → r ≡ count-of (fixed-of s kind)) ⌝ }
 {
     match kind {
-        Kind::Ask => 3,
-        Kind::Ask2 => 4,
+        Kind::Ask(grouped) => {
+            if grouped {
+                return 4;
+            }
+            3
+        }
         Kind::Also => 2,
         Kind::Hide => 2,
         Kind::Term(t) => term_count(t),

@@ -108,11 +108,10 @@ pub const MOST_KEPT: usize = MOST_ASKS * MOST_RECORDS;
 // The words of a working slice that a call uses.
 pub const WORKING_WORDS: usize = 16384;
 
-// How much of the tables the lines read so far fill: asks (the also lines among them), whether they are of the form with groups,
-// hide lines, names, references, terms, records (the hide lines among them), trigger entries, name uses; and the next mark.
+// How much of the tables the lines read so far fill: asks (the also lines among them), hide lines, names, references, terms,
+// records (the hide lines among them), trigger entries, name uses; the next mark; and whether the file is of the form with groups.
 pub struct Counts {
     pub asks: usize,
-    pub grouped: bool,
     pub hides: usize,
     pub names: usize,
     pub references: usize,
@@ -121,6 +120,7 @@ pub struct Counts {
     pub entries: usize,
     pub uses: usize,
     pub mark: usize,
+    pub grouped: bool,
 }
 
 // What a run is asked: the queries of the positions from `first` on before `end`, an options number, and the number of the groups

@@ -35,7 +35,7 @@ use Rattle.fields.specs.declared.Kind.{Kind}
 use Rattle.fields.specs.declared.Kind.the-variants as kinded
 use Rattle.fields.specs.declared.TermKind.{TermKind}
 use Rattle.fields.specs.declared.RecordKind.{RecordKind}
-use Rattle.fields.specs.Wording.{kind-result, term-kind, record-line-kind, Placing, fixed-of, well-counted}
+use Rattle.fields.specs.Wording.{ask-line-kind, kind-result, term-kind, record-line-kind, Placing, fixed-of, well-counted}
 use Rattle.fields.proofs.Words.{parse-law}
 use Rattle.words.proofs.Slices.{same-then, same-wider}
 use Rattle.records.specs.States.{asks-of, decls-of, roots-of, hides-of, hidden-of, state-of}
@@ -54,7 +54,7 @@ use Rattle.records.proofs.Asking.{asks-length, asks-none}
 use Rattle.records.specs.Writing.{no-counts}
 use Rattle.filing.specs.Lines.{judged, Reads, goes-on, stops, Past}
 use Rattle.reader.specs.declared.Reading.the-variants as answer
-use Rattle.reader.specs.Lines.{kind-content, ask-line-kind, Tables-cleared, Reads-file, all-read, read-stops, File-read}
+use Rattle.reader.specs.Lines.{kind-content, Tables-cleared, Reads-file, all-read, read-stops, File-read}
 
 -- ---- the form of a line
 
@@ -108,13 +108,9 @@ not-false {x} {b} e h = go x e h
 
 -- what a line of a kind says
 module _ (grouped : Bool) (count : ℕ) (fs : List Field) {k : Kind} where
-  pub kind-ask : k ≡ kinded.Ask → kind-content k grouped count fs ≡ content (ask-line-kind false) grouped count fs
-  unfolding kind-content kind-result ask-line-kind
+  pub kind-ask : {b : Bool} → k ≡ kinded.Ask b → kind-content k grouped count fs ≡ content (ask-line-kind b) grouped count fs
+  unfolding kind-content kind-result
   kind-ask e = rw e
-
-  pub kind-ask2 : k ≡ kinded.Ask2 → kind-content k grouped count fs ≡ content (ask-line-kind true) grouped count fs
-  unfolding kind-content kind-result ask-line-kind
-  kind-ask2 e = rw e
 
   pub kind-also : k ≡ kinded.Also → kind-content k grouped count fs ≡ content kind.Also grouped count fs
   unfolding kind-content kind-result
@@ -140,8 +136,7 @@ module _ (grouped : Bool) (count : ℕ) (fs : List Field) {k : Kind} where
 miscounted : (s : State) (k : Kind) (all : List Field) → false ≡ well-counted s k all
     → _≡_ {A = Result Content} (kind-result k >>= λ l. refused refusal.Form) (refused refusal.Form)
 unfolding kind-result well-counted fixed-of holds
-miscounted s kinded.Ask all c = refl
-miscounted s kinded.Ask2 all c = refl
+miscounted s (kinded.Ask grouped) all c = refl
 miscounted s kinded.Also all c = refl
 miscounted s kinded.Hide all c = refl
 miscounted s (kinded.Term t) all c = refl
@@ -221,15 +216,11 @@ module _ (s : State) {k : Counts} (f : Field) where
       let few = rw t at (kind-ok s f d .2) in
       omega (arith, p .asks, nleb→lt most-asks (length (s .asks)) few)
 
-  -- an ask line
-  pub ask-fits : {r : Kind} → Placing s k → kind-result r ≡ kind-field s f → r ≡ kinded.Ask → k .asks < ask-room
-  unfolding kind-result place is-position
-  ask-fits p e a = position-fits p (sym (rw a at e)) refl
-
-  -- with groups
-  pub ask2-fits : {r : Kind} → Placing s k → kind-result r ≡ kind-field s f → r ≡ kinded.Ask2 → k .asks < ask-room
-  unfolding kind-result place is-position
-  ask2-fits p e a = position-fits p (sym (rw a at e)) refl
+  -- an ask line, with groups or without
+  pub ask-fits : {r : Kind} → Placing s k → kind-result r ≡ kind-field s f → (grouped : Bool) → r ≡ kinded.Ask grouped → k .asks < ask-room
+  unfolding kind-result place is-position ask-line-kind
+  ask-fits p e true a = position-fits p (sym (rw a at e)) refl
+  ask-fits p e false a = position-fits p (sym (rw a at e)) refl
 
   -- an also line, and there is a position before it
   pub also-fits : {r : Kind} → Placing s k → kind-result r ≡ kind-field s f → r ≡ kinded.Also → (0 < k .asks) × (k .asks < ask-room)

@@ -21,7 +21,8 @@ use Rattle.fields.proofs.Numbers.{number-or-field}
 use Rattle.records.specs.Columns.{asked-kind, also-kind}
 use Rattle.records.specs.Writing.{with-ask, Asked-at, Position-at}
 use Rattle.filing.proofs.Saying.{end-none, end-more, number-placed}
-use Rattle.reader.specs.Lines.{ask-line-kind, Asks, asks, not-asked}
+use Rattle.fields.specs.Wording.{ask-line-kind}
+use Rattle.reader.specs.Lines.{Asks, asks, not-asked}
 
 -- ---- its fields
 

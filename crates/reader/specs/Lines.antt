@@ -2,7 +2,7 @@
 -- `model` gives.
 use Prim.Native.Nat.{ℕ, _≤_, _<_}
 use mathlib.Core.Path.{_≡_}
-use mathlib.Core.Bool.{Bool, true, false, _||_}
+use mathlib.Core.Bool.{Bool, _||_}
 use mathlib.Core.List.{List}
 use lib.ListN.{length, getD}
 use Rattle.model.specs.Summaries.{exclude-names}
@@ -10,8 +10,6 @@ use Rattle.model.specs.Lines.{Field}
 use Rattle.model.specs.Reading.{Result, ok, refused, _>>=_, Content, Head, head, is-grouped, content, read-file, read, refused-at}
 use Rattle.model.specs.Outcome.{most-bytes, working-words}
 use Rattle.model.specs.declared.Counts.{Counts}
-use Rattle.model.specs.declared.LineKind.{LineKind}
-use Rattle.model.specs.declared.LineKind.the-variants as kind
 use Rattle.model.specs.declared.Refusal.{Refusal}
 use Rattle.model.specs.declared.Step.{Step}
 use Rattle.model.specs.declared.Step.the-variants as step
@@ -27,11 +25,6 @@ use Rattle.reader.specs.declared.Reading.the-variants as answer
 -- what a line says by its kind
 unfoldable pub kind-content : Kind → Bool → ℕ → List Field → Result Content
 kind-content k grouped count fs = kind-result k >>= λ l. content l grouped count fs
-
--- the kind of an ask line, with groups or without
-unfoldable pub ask-line-kind : Bool → LineKind
-ask-line-kind true = kind.Ask2
-ask-line-kind false = kind.Ask
 
 -- what reading an ask or an also line comes to: it stands behind the records, or its refusal
 pub data Asks (recs recs′ : List ℕ) (k : Counts) (said : Result Content) : Step → Type 0 where

@@ -7,6 +7,7 @@ use text::FieldStep;
 use text::NumberStep;
 ghost use Prim.Native.Nat.{_≤_, _<_};
 ghost use mathlib.Core.Path.{_≡_};
+ghost use mathlib.Core.Bool.{Bool};
 ghost use lib.ListN.{length};
 ghost use Rattle.model.specs.Lists.{part};
 ghost use Rattle.model.specs.Lines.{fields};
@@ -14,11 +15,12 @@ ghost use Rattle.model.specs.Reading.{content, parse};
 ghost use Rattle.model.specs.Outcome.{working-words};
 ghost use Rattle.model.specs.declared.LineKind.the-variants as kind;
 ghost use Rattle.text.specs.Parts.{Placed, fields-left};
+ghost use Rattle.fields.specs.Wording.{ask-line-kind};
 ghost use Rattle.records.specs.Columns.{ask-room};
 ghost use Rattle.records.specs.States.{state-of};
 ghost use Rattle.records.specs.Adding.{Standing};
 ghost use Rattle.filing.specs.Lines.{Line-read};
-ghost use Rattle.reader.specs.Lines.{kind-content, ask-line-kind, Asks, Tables-cleared, File-read};
+ghost use Rattle.reader.specs.Lines.{kind-content, Asks, Tables-cleared, File-read};
 
 // What reading a file comes to: the counts after the last line, or a refusal and its line.
 pub enum Reading {
@@ -92,15 +94,14 @@ fn read_kind(
     c: Cursor,
 ) -> Step
     requires { ⌜ Standing (now file) (now names) (now refs) (now rows) (now recs) (now lists) k × Placed (now file) c
-        × (n < 4294967296) × (kind ≡ Kind.Ask → k .asks < ask-room) × (kind ≡ Kind.Ask2 → k .asks < ask-room)
+        × (n < 4294967296) × ((grouped : Bool) → kind ≡ Kind.Ask grouped → k .asks < ask-room)
         × (kind ≡ Kind.Also → (0 < k .asks) × (k .asks < ask-room)) ⌝ }
     ensures { λ r. ⌜ Line-read (now (file .entry)) (now (names .entry)) (now (refs .entry)) (now (rows .entry))
         (now (recs .entry)) (now (lists .entry)) (now (names .exit)) (now (refs .exit)) (now (rows .exit)) (now (recs .exit))
         (now (lists .exit)) k n (kind-content kind (k .grouped) (k .terms) (fields-left (now (file .entry)) c)) r ⌝ }
 {
     match kind {
-        Kind::Ask => read_ask(file, recs, k, false, c),
-        Kind::Ask2 => read_ask(file, recs, k, true, c),
+        Kind::Ask(grouped) => read_ask(file, recs, k, grouped, c),
         Kind::Also => read_also(file, recs, k, c),
         Kind::Hide => filing::read_hide(file, names, refs, rows, recs, lists, k, n, c),
         Kind::Term(t) => nodes::read_term(file, names, refs, rows, k, t, c),

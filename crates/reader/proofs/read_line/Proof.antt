@@ -1,7 +1,7 @@
 -- `reader::read_line` meets its contract: by its first field, its kind, the number of its fields, and the fields after.
 use Rattle.model.specs.declared.Refusal.the-variants as refusal
 use Rattle.filing.proofs.Recording.{line-not, line-said}
-use Rattle.reader.proofs.Lines.{fields-first, field-there, field-placed, not-true, not-false, parse-on, parse-count, placing, form-counted, terms-counted, ask-fits, ask2-fits, also-fits}
+use Rattle.reader.proofs.Lines.{fields-first, field-there, field-placed, not-true, not-false, parse-on, parse-count, placing, form-counted, terms-counted, ask-fits, also-fits}
 use borrow.Author.Needs.{needs}
 use Rattle.reader.proofs.read_line.Statement.{statement}
 use Rattle.reader.proofs.read_line.Tie as tie
@@ -48,7 +48,6 @@ read-kind-requires c κs =
       (field-placed (entry .pre .1) (entry .pre .2) (entry .pre .0 .tables .name-table .short) (at-field .field .ensures) (at-start .start .given .1)) .0,
       entry .pre .3,
       ask-fits _ _ p (at-line-kind .line-kind .ensures _ p),
-      ask2-fits _ _ p (at-line-kind .line-kind .ensures _ p),
       also-fits _ _ p (at-line-kind .line-kind .ensures _ p),
     )
 
