@@ -5,11 +5,19 @@ use Rattle.model.proofs.Printing.{Case, passes, All-pass}
 
 -- added definitions stand after those noted, in byte order of name
 added-defs : Case
-added-defs = record { file = ("ask,0,12" ∷ "free,B" ∷ "free,a" ∷ "free,Z" ∷ "free,m" ∷ "op,other,0,1,2" ∷ "def,n,4" ∷ "def,B,3" ∷ "def,a,3" ∷ "def,Z,3" ∷ "free,n" ∷ "free,k" ∷ "op,other,5,6" ∷ "def,k,3" ∷ "root,0,r,7" ∷ []); printed = ("kept,7,n" ∷ "kept,14,k" ∷ "kept,8,B" ∷ "kept,10,Z" ∷ "kept,9,a" ∷ "sum,5,0,1" ∷ []) }
+added-defs =
+    record {
+      file = ("ask,0,12" ∷ "free,B" ∷ "free,a" ∷ "free,Z" ∷ "free,m" ∷ "op,other,0,1,2" ∷ "def,n,4" ∷ "def,B,3" ∷ "def,a,3" ∷ "def,Z,3" ∷ "free,n" ∷ "free,k" ∷ "op,other,5,6" ∷ "def,k,3" ∷ "root,0,r,7" ∷ []);
+      printed = ("kept,7,n" ∷ "kept,14,k" ∷ "kept,8,B" ∷ "kept,10,Z" ∷ "kept,9,a" ∷ "sum,5,0,1" ∷ []);
+    }
 
 -- added declarations stand after those noted, in byte order of name, a prefix first
 added-funs : Case
-added-funs = record { file = ("ask,0,12" ∷ "free,ab" ∷ "free,a" ∷ "free,A" ∷ "op,other,0,1,2" ∷ "def,g,3" ∷ "fun,a" ∷ "fun,ab" ∷ "fun,A" ∷ "fun,zz" ∷ "free,g" ∷ "free,zz" ∷ "op,other,4,5" ∷ "root,0,r,6" ∷ []); printed = ("kept,6,g" ∷ "kept,10,zz" ∷ "kept,9,A" ∷ "kept,7,a" ∷ "kept,8,ab" ∷ "sum,5,0,1" ∷ []) }
+added-funs =
+    record {
+      file = ("ask,0,12" ∷ "free,ab" ∷ "free,a" ∷ "free,A" ∷ "op,other,0,1,2" ∷ "def,g,3" ∷ "fun,a" ∷ "fun,ab" ∷ "fun,A" ∷ "fun,zz" ∷ "free,g" ∷ "free,zz" ∷ "op,other,4,5" ∷ "root,0,r,6" ∷ []);
+      printed = ("kept,6,g" ∷ "kept,10,zz" ∷ "kept,9,A" ∷ "kept,7,a" ∷ "kept,8,ab" ∷ "sum,5,0,1" ∷ []);
+    }
 
 -- bodies are followed to any depth
 any-depth : Case
@@ -73,7 +81,11 @@ option-8-alone = record { file = ("ask,0,8" ∷ "free,f" ∷ "def,g,0" ∷ "fun,
 
 -- both groups at once: the fact, definitions noted and added, declarations noted and added
 both-groups : Case
-both-groups = record { file = ("ask,0,12" ∷ "free,p" ∷ "free,zf" ∷ "free,b" ∷ "free,a" ∷ "free,cf" ∷ "op,other,2,1" ∷ "def,n,5" ∷ "op,other,3,4" ∷ "def,b,6" ∷ "def,a,0" ∷ "fun,zf" ∷ "fun,cf" ∷ "fun,mf" ∷ "fun,p" ∷ "free,n" ∷ "free,mf" ∷ "op,other,0,7,8" ∷ "all,9,1,1,0" ∷ "assume,x,0,10" ∷ "root,0,r,0" ∷ []); printed = ("fact,20,triggers,{p} free={mf n p}" ∷ "kept,20,x" ∷ "kept,8,n" ∷ "kept,11,a" ∷ "kept,10,b" ∷ "kept,15,p" ∷ "kept,14,mf" ∷ "kept,13,cf" ∷ "kept,12,zf" ∷ "sum,8,1,2" ∷ []) }
+both-groups =
+    record {
+      file = ("ask,0,12" ∷ "free,p" ∷ "free,zf" ∷ "free,b" ∷ "free,a" ∷ "free,cf" ∷ "op,other,2,1" ∷ "def,n,5" ∷ "op,other,3,4" ∷ "def,b,6" ∷ "def,a,0" ∷ "fun,zf" ∷ "fun,cf" ∷ "fun,mf" ∷ "fun,p" ∷ "free,n" ∷ "free,mf" ∷ "op,other,0,7,8" ∷ "all,9,1,1,0" ∷ "assume,x,0,10" ∷ "root,0,r,0" ∷ []);
+      printed = ("fact,20,triggers,{p} free={mf n p}" ∷ "kept,20,x" ∷ "kept,8,n" ∷ "kept,11,a" ∷ "kept,10,b" ∷ "kept,15,p" ∷ "kept,14,mf" ∷ "kept,13,cf" ∷ "kept,12,zf" ∷ "sum,8,1,2" ∷ []);
+    }
 
 -- the table
 abbrev table : List Case

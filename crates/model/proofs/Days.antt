@@ -29,11 +29,19 @@ without-roots = record { file = "ask,7,0" ∷ "ask,0,0" ∷ background; printed 
 
 -- each ask has its own options
 own-options : Case
-own-options = record { file = ("ask,0,0" ∷ "ask,0,1" ∷ "ask,0,2" ∷ "ask,0,4" ∷ "free,p" ∷ "free,q" ∷ "label,1" ∷ "op,eq,0,0" ∷ "assume,a,1,3" ∷ "assume,m,0,2" ∷ "fun,p" ∷ "root,0,r,0" ∷ []); printed = ("fact,9,triggers,{p},{p} free={p}" ∷ "fact,10,ambient,0 free={q}" ∷ "kept,10,m" ∷ "sum,1,2,2" ∷ "sum,0,2,2" ∷ "kept,9,a" ∷ "kept,10,m" ∷ "sum,2,2,2" ∷ "kept,10,m" ∷ "kept,11,p" ∷ "sum,2,2,2" ∷ []) }
+own-options =
+    record {
+      file = ("ask,0,0" ∷ "ask,0,1" ∷ "ask,0,2" ∷ "ask,0,4" ∷ "free,p" ∷ "free,q" ∷ "label,1" ∷ "op,eq,0,0" ∷ "assume,a,1,3" ∷ "assume,m,0,2" ∷ "fun,p" ∷ "root,0,r,0" ∷ []);
+      printed = ("fact,9,triggers,{p},{p} free={p}" ∷ "fact,10,ambient,0 free={q}" ∷ "kept,10,m" ∷ "sum,1,2,2" ∷ "sum,0,2,2" ∷ "kept,9,a" ∷ "kept,10,m" ∷ "sum,2,2,2" ∷ "kept,10,m" ∷ "kept,11,p" ∷ "sum,2,2,2" ∷ []);
+    }
 
 -- the ambient roots are scanned for each, but for one with option 1
 own-ambient-roots : Case
-own-ambient-roots = record { file = ("ask,5,0" ∷ "ask,6,1" ∷ "ask,7,0" ∷ "free,p" ∷ "free,Tm_refine_1" ∷ "call,HasType,0,1" ∷ "assume,h,0,2" ∷ "op,eq,0,0" ∷ "assume,a,0,3" ∷ []); printed = ("fact,7,ambient,1 free={Tm_refine_1 p}" ∷ "fact,9,triggers,{p},{p} free={p}" ∷ "kept,9,a" ∷ "kept,7,h" ∷ "sum,2,2,2" ∷ "sum,0,0,1" ∷ "kept,9,a" ∷ "kept,7,h" ∷ "sum,2,2,2" ∷ []) }
+own-ambient-roots =
+    record {
+      file = ("ask,5,0" ∷ "ask,6,1" ∷ "ask,7,0" ∷ "free,p" ∷ "free,Tm_refine_1" ∷ "call,HasType,0,1" ∷ "assume,h,0,2" ∷ "op,eq,0,0" ∷ "assume,a,0,3" ∷ []);
+      printed = ("fact,7,ambient,1 free={Tm_refine_1 p}" ∷ "fact,9,triggers,{p},{p} free={p}" ∷ "kept,9,a" ∷ "kept,7,h" ∷ "sum,2,2,2" ∷ "sum,0,0,1" ∷ "kept,9,a" ∷ "kept,7,h" ∷ "sum,2,2,2" ∷ []);
+    }
 
 -- the roots of its own query alone tell which declarations are kept
 own-roots : Case
