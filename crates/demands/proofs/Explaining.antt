@@ -9,9 +9,10 @@ use lib.ListN.{length, drop}
 use lib.Seq.{take-at, drop-at}
 use Rattle.model.specs.Reading.{Ask, State}
 use Rattle.model.specs.Outcome.{Lent, Front, stopped, opened, front}
-use Rattle.model.specs.Reasons.{Row, rows, met-number}
+use Rattle.model.specs.Reasons.{rows, met-number}
 use Rattle.model.specs.Explaining.{refusal-at, no-position, told, row-table, nth-ask, reasons, explained, explanation, table-after}
 use Rattle.model.specs.declared.Refusal.{Refusal}
+use Rattle.model.specs.declared.Row.{Row}
 use Rattle.demands.specs.LinesRead.{Lines-read, At}
 use Rattle.demands.specs.Demand1.{Lines-judged}
 use Rattle.demands.specs.Explaining.{Short-table, with-table, Explained, Table-exact}

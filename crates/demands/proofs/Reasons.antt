@@ -15,9 +15,10 @@ use Rattle.model.specs.Summaries.{exclude-names, Fact}
 use Rattle.model.specs.Reading.{State, Ask, limits, most-entries}
 use Rattle.model.specs.Rounds.{Run, facts, listed, is-ambient, is-ambient-root, end-of, round-of, round-met}
 use Rattle.model.specs.Kept.{reached-facts}
-use Rattle.model.specs.Reasons.{Item, scanned-items, supplier, Row, met-listed, rows-of, rows, met-bits, met-number}
+use Rattle.model.specs.Reasons.{Item, scanned-items, supplier, met-listed, rows-of, rows, met-bits, met-number}
 use Rattle.model.specs.declared.AsumKind.{AsumKind}
 use Rattle.model.specs.declared.AsumKind.the-variants.{Drop, Ambient, Triggers}
+use Rattle.model.specs.declared.Row.{Row}
 use Rattle.model.proofs.ListLaws.{T-and, all-elim, keep-intro, keep-elim, collect-intro, collect-elim, concat-elim, map-intro, map-elim, count-keep, count-map, getD-mem, getD-map}
 use Rattle.model.proofs.SetLaws.{Ascending, ascending-tail, ascending-head, ascending-keep, ascending-from-list, ascending-ext, mem-keep, mem-intro, mem-elim, mem-from-list, order-irrefl}
 use Rattle.model.proofs.IndexLaws.{number-in}
@@ -89,10 +90,10 @@ listed-few (d ∷ ts) = omega (arith, length-append d (concat ts), listed-few ts
 
 -- the row of a fact, a name and its supplier
 abbrev row-of : List Name → Fact → Name → Item → Row
-row-of names f n i = record { line = f .line; number = name-number names n; supplier = i .line }
+row-of names f n i = record { line = f .line; number = name-number names n; cause = i .line }
 
 -- a row by its fields
-row-eq : (r : Row) {l n k : ℕ} → r .line ≡ l → r .number ≡ n → r .supplier ≡ k → r ≡ record { line = l; number = n; supplier = k }
+row-eq : (r : Row) {l n k : ℕ} → r .line ≡ l → r .number ≡ n → r .cause ≡ k → r ≡ record { line = l; number = n; cause = k }
 row-eq r x y z = rw (← x, ← y, ← z)
 
 -- the laws of a state hold of that of every accepted file
@@ -260,7 +261,7 @@ module _ (file : List ℕ) (s : State) (accepted : Lines-read file s) (a : Ask) 
         line = sym (ap (λ (r : Row). r .line) (m .is));
         number = made-number m;
         supplier-round = m .item .round;
-        supplied = subst (λ k. Supplies a s (m .name) k (m .item .round)) (ap (λ (r : Row). r .supplier) (m .is)) (Suppliers.supplier-is a s wf (m .name) (m .is-supplier));
+        supplied = subst (λ k. Supplies a s (m .name) k (m .item .round)) (ap (λ (r : Row). r .cause) (m .is)) (Suppliers.supplier-is a s wf (m .name) (m .is-supplier));
       }
 
   -- a row with a reason is the row of its fact and its name
@@ -295,7 +296,7 @@ module _ (file : List ℕ) (s : State) (accepted : Lines-read file s) (a : Ask) 
         of-name = number-in (s .names) (listed-numbered (d .is-reached .is-fact) (d .is-listed));
         only = λ r m p k.
             let q = row-reason m in
-            let y = subst (λ n. Supplies a s n (r .supplier) (q .supplier-round)) (reason-name q k) (q .supplied) in
+            let y = subst (λ n. Supplies a s n (r .cause) (q .supplier-round)) (reason-name q k) (q .supplied) in
             row-eq r p (number-only k) (Suppliers.one-supplier a s wf y x .0);
       }
 
@@ -428,11 +429,11 @@ module _ (file : List ℕ) (s : State) (accepted : Lines-read file s) (a : Ask) 
 
   -- the supplier of a row is of round 0 or a reached fact
   row-supplier : {f : Fact} (r : Row) → List·Memᴰ r (rows a s) → r .line ≡ f .line
-      → ((free : List Name) × Scanned a s (r .supplier) 0 free) ⊎ ((g : Fact) × Brought a s f g × (r .supplier ≡ g .line))
+      → ((free : List Name) × Scanned a s (r .cause) 0 free) ⊎ ((g : Fact) × Brought a s f g × (r .cause ≡ g .line))
   row-supplier {f} r i e = let q = row-reason i in go (q .supplied .is-scanned)
     where
-      go : {round : ℕ} {free : List Name} → Scanned a s (r .supplier) round free
-          → ((free : List Name) × Scanned a s (r .supplier) 0 free) ⊎ ((g : Fact) × Brought a s f g × (r .supplier ≡ g .line))
+      go : {round : ℕ} {free : List Name} → Scanned a s (r .cause) round free
+          → ((free : List Name) × Scanned a s (r .cause) 0 free) ⊎ ((g : Fact) × Brought a s f g × (r .cause ≡ g .line))
       go (root x j q p k n) = inl (x .free-names, root x j q p refl refl)
       go (ambient-root x j q u p k n) = inl (x .free-names, ambient-root x j q u p refl refl)
       go (reached-fact g x k p n) = inr (g, record { is-reached = x; row = r; is-row = i; of-fact = e; supplied = p }, p)
@@ -448,7 +449,7 @@ module _ (file : List ℕ) (s : State) (accepted : Lines-read file s) (a : Ask) 
       let c = of-round (q .supplied .is-scanned) in
       omega arith
     where
-      of-round : {round : ℕ} {free : List Name} → Scanned a s (b .row .supplier) round free → round-of states g ≡ round
+      of-round : {round : ℕ} {free : List Name} → Scanned a s (b .row .cause) round free → round-of states g ≡ round
       of-round (root x j q p k n) = absurd (fact-or-root exclude-names file s accepted (in-file (b .is-reached .is-fact)) j (sym (b .supplied) ∙ p))
       of-round (ambient-root x j q u p k n) =
           let e = by-line j (b .is-reached .is-fact) (sym p ∙ b .supplied) in

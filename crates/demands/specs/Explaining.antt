@@ -7,9 +7,10 @@ use mathlib.Core.List.{List, _∷_}
 use lib.ListN.{length, take, drop}
 use Rattle.model.specs.Reading.{Ask, State}
 use Rattle.model.specs.Outcome.{Lent, stopped, front}
-use Rattle.model.specs.Reasons.{Row, rows, met-number}
+use Rattle.model.specs.Reasons.{rows, met-number}
 use Rattle.model.specs.Explaining.{Explanation, refusal-at, no-position, told, row-table, explanation, table-after}
 use Rattle.model.specs.declared.Refusal.{Refusal}
+use Rattle.model.specs.declared.Row.{Row}
 use Rattle.demands.specs.LinesRead.{Lines-read, At}
 use Rattle.demands.specs.Demand1.{Short-slice, Lines-judged}
 

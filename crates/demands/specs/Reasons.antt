@@ -14,8 +14,9 @@ use Rattle.model.specs.Summaries.{Fact}
 use Rattle.model.specs.Reading.{Ask, no-ambients, Root, State}
 use Rattle.model.specs.Pruning.{try-find}
 use Rattle.model.specs.Rounds.{Run, facts, macros, listed, triggers-in, is-ambient-root, end-of}
-use Rattle.model.specs.Reasons.{Row, rows, met-bits, met-number}
+use Rattle.model.specs.Reasons.{rows, met-bits, met-number}
 use Rattle.model.specs.declared.Order.the-variants.{Before}
+use Rattle.model.specs.declared.Row.{Row}
 use Rattle.demands.specs.LinesRead.{Lines-read, records-for, Distinct}
 use Rattle.demands.specs.Demand3.{run-of, reached}
 use Rattle.demands.specs.History.{history-for}
@@ -96,7 +97,7 @@ pub record Reason (a : Ask) (s : State) (r : Row) : Type 0 where
   pub line : r .line ≡ fact .line
   pub number : Numbers s (r .number) name
   pub supplier-round : ℕ
-  pub supplied : Supplies a s name (r .supplier) supplier-round
+  pub supplied : Supplies a s name (r .cause) supplier-round
 
 -- the rows are those that have such a reason
 abbrev pub Rows-exact : Type 0
@@ -154,14 +155,14 @@ pub record Brought (a : Ask) (s : State) (f g : Fact) : Type 0 where
   pub row : Row
   pub is-row : List·Memᴰ row (rows a s)
   pub of-fact : row .line ≡ f .line
-  pub supplied : row .supplier ≡ g .line
+  pub supplied : row .cause ≡ g .line
 
 -- "who brought a fact in": it has a row, and whichever row is followed to its supplier, and on from there, the end is a root or an
 -- ambient root
 pub data Grounded (a : Ask) (s : State) : Fact → Type 0 where
   grounded : {f : Fact} → (r : Row) × List·Memᴰ r (rows a s) × (r .line ≡ f .line)
       → ((r : Row) → List·Memᴰ r (rows a s) → r .line ≡ f .line
-      → ((free : List Name) × Scanned a s (r .supplier) 0 free) ⊎ ((g : Fact) × Brought a s f g × (r .supplier ≡ g .line)))
+      → ((free : List Name) × Scanned a s (r .cause) 0 free) ⊎ ((g : Fact) × Brought a s f g × (r .cause ≡ g .line)))
       → ((g : Fact) → Brought a s f g → Grounded a s g)
       → Grounded a s f
 

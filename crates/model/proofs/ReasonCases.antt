@@ -16,10 +16,14 @@ use Rattle.model.specs.Rounds
 use Rattle.model.specs.Rounds.{facts}
 use Rattle.model.specs.Outcome.{working}
 use Rattle.model.specs.Reasons
-use Rattle.model.specs.Reasons.{Row}
+use Rattle.model.specs.declared.Row.{Row}
 use Rattle.model.specs.Explaining
-use Rattle.model.specs.Explaining.{Explanation, refusal-at, no-position, told, Why, explanation, why, table-after}
-use Rattle.model.specs.Text.{show, line}
+use Rattle.model.specs.Explaining.{Explanation, refusal-at, no-position, told, explanation, why, table-after}
+use Rattle.model.specs.Text.{show, line, refused-line}
+use Rattle.model.specs.declared.Refusal.the-variants as refusal
+use Rattle.model.specs.declared.Verdict.{Verdict}
+use Rattle.model.specs.declared.Verdict.the-variants.{Accepted, Refused}
+use Rattle.model.specs.declared.Why.{Why}
 use Rattle.model.proofs.Printing.{passes, text-of}
 
 -- a file by its name: its text, a position, and the text printed of the reasons there, the texts in pieces
@@ -43,22 +47,27 @@ name-of (read s) k = getD (s .names) k []
 -- the line of a row: its three numbers, then the names of the fact, of the number and of the supplier
 unfoldable row-line : Reading → Row → List ℕ
 row-line file r =
-    line (bytes "row" ∷ show (r .line) ∷ show (r .number) ∷ show (r .supplier)
-    ∷ name-at file (r .line) ∷ name-of file (r .number) ∷ name-at file (r .supplier) ∷ [])
+    line (bytes "row" ∷ show (r .line) ∷ show (r .number) ∷ show (r .cause)
+    ∷ name-at file (r .line) ∷ name-of file (r .number) ∷ name-at file (r .cause) ∷ [])
 
 -- the line of a count
 unfoldable count-line : String → ℕ → List ℕ
 count-line word n = line (bytes word ∷ show n ∷ [])
 
+-- the lines of a refusal
+unfoldable refused-lines : Verdict → ℕ → List (List ℕ)
+refused-lines Accepted place = []
+refused-lines (Refused r) place = refused-line r place ∷ []
+
 -- the lines printed of what the call comes to
 unfoldable shown : Reading → Explanation → Why → List (List ℕ)
-shown file (refusal-at r place) w = line (bytes "refused" ∷ show (w .refusal) ∷ show (w .place) ∷ []) ∷ []
-shown file no-position w = line (bytes "refused" ∷ show (w .refusal) ∷ show (w .place) ∷ []) ∷ []
+shown file (refusal-at r place) w = refused-lines (w .verdict) (w .place)
+shown file no-position w = refused-lines (w .verdict) (w .place)
 shown file (told given met) w = map (row-line file) given ++ (count-line "met" (w .met) ∷ count-line "rows" (w .rows) ∷ [])
 
 -- whether the definitions print of the file what it says, over slices that are long enough
 unfoldable explains : Reasoned → Bool
-unfolding passes text-of name-at name-of row-line count-line shown Lists.find-index Names.name-number Rounds.states-from Rounds.history
+unfolding passes text-of name-at name-of row-line count-line refused-lines shown Lists.find-index Names.name-number Rounds.states-from Rounds.history
     Rounds.end-of Rounds.round-of Reasons.first-items Reasons.reached-items Reasons.scanned-items Reasons.earlier Reasons.sooner
     Reasons.earliest Reasons.supplier Reasons.met-listed Reasons.rows-of Reasons.rows Reasons.met-bits Reasons.met-number
     Explaining.nth-ask Explaining.reasons Explaining.explained Explaining.explanation Explaining.why Explaining.table-after
@@ -317,15 +326,15 @@ over position table = explanation small position (replicate 6 (working 16384)) t
 
 -- a row that stands in the table before
 old : Row
-old = record { line = 7; number = 8; supplier = 9 }
+old = record { line = 7; number = 8; cause = 9 }
 
 -- 7: a table below 2,048 rows, before 15; a refusal has both counts 0 and touches no row; the rows past those filled stay
 table-left :
-    (why (over 0 2047) ≡ record { refusal = 7; place = 0; met = 0; rows = 0 })
-    × (why (over 0 2048) ≡ record { refusal = 15; place = 0; met = 0; rows = 0 })
-    × (why (over 1 2048) ≡ record { refusal = 0; place = 0; met = 1; rows = 1 })
+    (why (over 0 2047) ≡ record { verdict = Refused refusal.Working; place = 0; met = 0; rows = 0 })
+    × (why (over 0 2048) ≡ record { verdict = Refused refusal.Position; place = 0; met = 0; rows = 0 })
+    × (why (over 1 2048) ≡ record { verdict = Accepted; place = 0; met = 1; rows = 1 })
     × (table-after (over 1 2047) (old ∷ old ∷ []) ≡ old ∷ old ∷ [])
     × (table-after (over 2 2048) (old ∷ old ∷ []) ≡ old ∷ old ∷ [])
-    × (table-after (over 1 2048) (old ∷ old ∷ []) ≡ record { line = 4; number = 0; supplier = 5 } ∷ old ∷ [])
+    × (table-after (over 1 2048) (old ∷ old ∷ []) ≡ record { line = 4; number = 0; cause = 5 } ∷ old ∷ [])
 unfolding explains small over old
 table-left = (refl, refl, refl, refl, refl, refl)

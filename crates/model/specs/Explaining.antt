@@ -4,9 +4,13 @@ use mathlib.Core.List.{List, [], _∷_, _++_}
 use mathlib.Core.Option.{Option, none, some}
 use lib.ListN.{length, drop}
 use Rattle.model.specs.Reading.{Ask, State}
-use Rattle.model.specs.Outcome.{Lent, Front, stopped, opened, front, refusal-number}
-use Rattle.model.specs.Reasons.{Row, rows, met-number}
+use Rattle.model.specs.Outcome.{Lent, Front, stopped, opened, front}
+use Rattle.model.specs.Reasons.{rows, met-number}
 use Rattle.model.specs.declared.Refusal.{Refusal}
+use Rattle.model.specs.declared.Refusal.the-variants as refusal
+use Rattle.model.specs.declared.Row.{Row}
+use Rattle.model.specs.declared.Verdict.the-variants.{Accepted, Refused}
+use Rattle.model.specs.declared.Why.{Why}
 
 -- what the call comes to: a refusal of the front and its place; 15, the position has no ask or also line; or the rows, and how many
 -- of the numbered names are met
@@ -44,18 +48,11 @@ explained position (opened s) = reasons s (nth-ask (s .asks) position)
 unfoldable pub explanation : List ℕ → ℕ → List Lent → ℕ → Explanation
 explanation file position works table = explained position (front file (row-table table ∷ works))
 
--- the answer: the number of the refusal, 0 for none; its place; how many of the numbered names are met; how many rows are filled
-pub record Why : Type 0 where
-  pub refusal : ℕ
-  pub place : ℕ
-  pub met : ℕ
-  pub rows : ℕ
-
--- a refused one has both counts 0
+-- the answer's fields: a refused one has both counts 0
 unfoldable pub why : Explanation → Why
-why (refusal-at r place) = record { refusal = refusal-number r; place = place; met = 0; rows = 0 }
-why no-position = record { refusal = 15; place = 0; met = 0; rows = 0 }
-why (told given met) = record { refusal = 0; place = 0; met = met; rows = length given }
+why (refusal-at r place) = record { verdict = Refused r; place = place; met = 0; rows = 0 }
+why no-position = record { verdict = Refused refusal.Position; place = 0; met = 0; rows = 0 }
+why (told given met) = record { verdict = Accepted; place = 0; met = met; rows = length given }
 
 -- the table at exit: the rows from its start and nothing beyond; untouched by a refusal
 unfoldable pub table-after : Explanation → List Row → List Row

@@ -11,6 +11,7 @@ use Rattle.model.specs.Reading.{Ask, Root, Summary, State}
 use Rattle.model.specs.Pruning.{Map}
 use Rattle.model.specs.Rounds.{Run, background, facts, macros, met-from, listed, goal-roots, ambient-roots, run, history, end-of, round-of}
 use Rattle.model.specs.Kept.{reached-facts}
+use Rattle.model.specs.declared.Row.{Row}
 
 -- an item that a run scans: its line, its round, and the names that it has, opened macros included
 pub record Item : Type 0 where
@@ -55,20 +56,15 @@ earliest (i ∷ is) = some (fold-left sooner i is)
 unfoldable pub supplier : List Item → Name → Option Item
 supplier is n = earliest (keep (λ i. mem n (i .names)) is)
 
--- a row: the line of a fact, the number of one of its listed names, and the line of the name's supplier
-pub record Row : Type 0 where
-  pub line : ℕ
-  pub number : ℕ
-  pub supplier : ℕ
-
 -- the listed names of a fact that are met by the end of its round, each once, in byte order
 unfoldable pub met-listed : List Run → Fact → List Name
 met-listed h f = keep (λ n. mem n (end-of h (round-of h f) .met)) (from-list (listed f))
 
--- the rows of a reached fact, by the names in order of first spelling, the history of the run and its items
+-- the rows of a reached fact: its line, the number of a listed name, the line of the name's supplier; by the names in order of first
+-- spelling, the history of the run and its items
 unfoldable pub rows-of : List Name → List Run → List Item → Fact → List Row
 rows-of names h is f =
-    collect (λ n. map (λ i. record { line = f .line; number = name-number names n; supplier = i .line }) (to-list (supplier is n)))
+    collect (λ n. map (λ i. record { line = f .line; number = name-number names n; cause = i .line }) (to-list (supplier is n)))
     (met-listed h f)
 
 -- the rows of an ask, by the names of the reached facts and then by listed name

@@ -13,6 +13,7 @@ pub enum Refusal {
     FullRecords,
     FullTriggers,
     FullAsks,
+    Position,
 }
 
 // What a call comes to: the lists of the asks, or a refusal.
@@ -29,6 +30,40 @@ pub struct Answer {
     pub kept: [u32; 16],
     pub visits: [u32; 16],
     pub rounds: [u32; 16],
+}
+
+// What the call of reasons comes to: how many of the numbered names are met, and how many rows are filled. A refusal has its place,
+// and both counts 0; rows have place 0.
+pub struct Why {
+    pub verdict: Verdict,
+    pub place: u32,
+    pub met: usize,
+    pub rows: usize,
+}
+
+// What the call of the sweep comes to: the kept lines and the passes by the position of an ask or also line, 0 past the last. A
+// refusal has its place, and every count 0; lists have place 0.
+pub struct Swept {
+    pub verdict: Verdict,
+    pub place: u32,
+    pub kept: [u32; 16],
+    pub passes: [u32; 16],
+}
+
+// What the call of the check of definitions comes to: how many rows are listed. A refusal has its place, and no rows; rows have
+// place 0.
+pub struct Ordered {
+    pub verdict: Verdict,
+    pub place: u32,
+    pub rows: usize,
+}
+
+// A row of a lent table: a line, the number of a name in order of first spelling, and what the row says of the two.
+#[repr(C)]
+pub struct Row {
+    pub line: u32,
+    pub number: u32,
+    pub cause: u32,
 }
 
 // The kind of a summary: dropped, ambient (true: also a root), or so many disjuncts of trigger names.
@@ -104,6 +139,9 @@ pub const MOST_ASKS: usize = 16;
 
 // The lines that a call can keep: for each position every record line of a file.
 pub const MOST_KEPT: usize = MOST_ASKS * MOST_RECORDS;
+
+// The rows that the table of the call of reasons must have room for: one for each trigger entry.
+pub const MOST_ROWS: usize = MOST_ENTRIES;
 
 // The words of a working slice that a call uses.
 pub const WORKING_WORDS: usize = 16384;

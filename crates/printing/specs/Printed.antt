@@ -54,6 +54,7 @@ reason refusal.FullTerms = bytes "the file has more than 4,096 term lines or 16,
 reason refusal.FullRecords = bytes "the file has more than 1,024 record lines"
 reason refusal.FullTriggers = bytes "the file has more than 2,048 trigger entries or 6,144 name uses"
 reason refusal.FullAsks = bytes "the file has more than 16 ask and also lines"
+reason refusal.Position = bytes "the file has no ask or also line at this position"
 
 -- whether the place of a refusal is a line
 unfoldable pub has-line : Refusal → Bool
@@ -70,6 +71,7 @@ has-line refusal.FullTerms = true
 has-line refusal.FullRecords = true
 has-line refusal.FullTriggers = true
 has-line refusal.FullAsks = true
+has-line refusal.Position = false
 
 -- a refusal in words, after its line where it has one
 unfoldable pub reason-line : Refusal → ℕ → List ℕ

@@ -11,8 +11,9 @@ pub numbers : (1 ≡ refusal-number refusal.Form) × (2 ≡ refusal-number refus
     × (7 ≡ refusal-number refusal.Working) × (8 ≡ refusal-number refusal.Room) × (9 ≡ refusal-number refusal.Size)
     × (10 ≡ refusal-number refusal.FullTerms) × (11 ≡ refusal-number refusal.FullRecords)
     × (12 ≡ refusal-number refusal.FullTriggers) × (13 ≡ refusal-number refusal.FullAsks)
+    × (15 ≡ refusal-number refusal.Position)
 unfolding refusal-number
-numbers = (refl, refl, refl, refl, refl, refl, refl, refl, refl, refl, refl, refl, refl)
+numbers = (refl, refl, refl, refl, refl, refl, refl, refl, refl, refl, refl, refl, refl, refl)
 
 -- the number of a refusal that is known
 pub number-is : {r x : Refusal} {n : ℕ} → r ≡ x → n ≡ refusal-number x → n ≡ refusal-number r

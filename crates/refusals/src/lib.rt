@@ -20,5 +20,6 @@ pub fn refusal_number(r: Refusal) -> u32
         Refusal::FullRecords => 11,
         Refusal::FullTriggers => 12,
         Refusal::FullAsks => 13,
+        Refusal::Position => 15,
     }
 }

@@ -89,7 +89,7 @@ fn open_macro(
 }
 
 // Meets the free names of a record, and what they open to.
-fn meet_record(
+pub fn meet_record(
     names: &[u32],
     recs: &[u32],
     lists: &[u32],
@@ -144,7 +144,7 @@ fn entry_met(run: &[u32], x: usize) -> bool
 }
 
 // Whether a disjunct of the entries from `a` up to `e` is wholly met: each is given up at its first name that is not.
-fn fires(lists: &[u32], run: &[u32], a: usize, e: usize) -> bool
+pub fn fires(lists: &[u32], run: &[u32], a: usize, e: usize) -> bool
     requires { ⌜ (a ≤ e) × (e ≤ length (now lists)) × (most-names ≤ length (now run)) ⌝ }
     ensures { λ r. ⌜ r ≡ fires-in (now (run .entry)) true (part (now (lists .entry)) a e) ⌝ }
 {
@@ -168,7 +168,7 @@ fn fires(lists: &[u32], run: &[u32], a: usize, e: usize) -> bool
 }
 
 // Whether a record is retainable: its flag is 0, or option 2 is on.
-fn retained(recs: &[u32], a: Asked, i: usize) -> bool
+pub fn retained(recs: &[u32], a: Asked, i: usize) -> bool
     requires { ⌜ (i < most-records) × (working-words ≤ length (now recs)) ⌝ }
     ensures { λ r. ⌜ r ≡ retained (now (recs .entry)) a i ⌝ }
 {
@@ -180,7 +180,7 @@ fn retained(recs: &[u32], a: Asked, i: usize) -> bool
 }
 
 // Whether the first round scans a record: a root of the ask's queries or, without option 1, an ambient root that the ask admits.
-fn starts(recs: &[u32], a: Asked, i: usize) -> bool
+pub fn starts(recs: &[u32], a: Asked, i: usize) -> bool
     requires { ⌜ (i < most-records) × (a .end ≤ ask-room) × (working-words ≤ length (now recs)) ⌝ }
     ensures { λ r. ⌜ r ≡ starts-at (now (recs .entry)) a i ⌝ }
 {

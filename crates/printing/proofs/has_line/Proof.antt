@@ -44,6 +44,9 @@ enum-told-12 c = c .match .keys12
 enum-told-13 : tie.Need-enum-told-13
 enum-told-13 c = c .match .keys13
 
+enum-told-14 : tie.Need-enum-told-14
+enum-told-14 c = c .match .keys14
+
 returns : tie.Need-returns
 unfolding has-line
 returns c = line-is (c .enum-told .given .1) refl
@@ -96,6 +99,10 @@ returns-13 : tie.Need-returns-13
 unfolding has-line
 returns-13 c = line-is (c .enum-told13 .given .1) refl
 
+returns-14 : tie.Need-returns-14
+unfolding has-line
+returns-14 c = line-is (c .enum-told14 .given .1) refl
+
 pub has-line-spec : {M : Type 1} → statement M
 has-line-spec =
     tie.close
@@ -113,6 +120,7 @@ has-line-spec =
     enum-told-11
     enum-told-12
     enum-told-13
+    enum-told-14
     returns
     returns-2
     returns-3
@@ -125,4 +133,5 @@ has-line-spec =
     returns-10
     returns-11
     returns-12
-    returns-13)
+    returns-13
+    returns-14)

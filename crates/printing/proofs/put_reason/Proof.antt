@@ -123,6 +123,15 @@ slice-aggregate-put-13 c = search needs
 put-requires-13 : tie.Need-put-requires-13
 put-requires-13 c κs = search needs
 
+enum-told-14 : tie.Need-enum-told-14
+enum-told-14 c = c .match .keys14
+
+slice-aggregate-put-14 : tie.Need-slice-aggregate-put-14
+slice-aggregate-put-14 c = search needs
+
+put-requires-14 : tie.Need-put-requires-14
+put-requires-14 c κs = search needs
+
 same-length : tie.Need-same-length
 same-length c = search needs
 
@@ -253,6 +262,16 @@ returns-13 c =
     let at-enum-told13 = at-put13 .before .before .before in
     (rw (at-enum-told13 .enum-told13 .given .1) (at-put13 .put13 .ensures), omega (arith, at-put13 .put13 .ensures .ends))
 
+same-length-14 : tie.Need-same-length-14
+same-length-14 c = search needs
+
+returns-14 : tie.Need-returns-14
+unfolding reason bytes
+returns-14 c =
+    let at-put14 = c .before .before in
+    let at-enum-told14 = at-put14 .before .before .before in
+    (rw (at-enum-told14 .enum-told14 .given .1) (at-put14 .put14 .ensures), omega (arith, at-put14 .put14 .ensures .ends))
+
 pub put-reason-spec : {M : Type 1} → statement M
 put-reason-spec =
     tie.close
@@ -296,6 +315,9 @@ put-reason-spec =
     enum-told-13
     slice-aggregate-put-13
     put-requires-13
+    enum-told-14
+    slice-aggregate-put-14
+    put-requires-14
     same-length
     returns
     same-length-2
@@ -321,4 +343,6 @@ put-reason-spec =
     same-length-12
     returns-12
     same-length-13
-    returns-13)
+    returns-13
+    same-length-14
+    returns-14)

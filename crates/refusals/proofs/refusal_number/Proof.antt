@@ -42,6 +42,9 @@ enum-told-12 c = c .match .keys12
 enum-told-13 : tie.Need-enum-told-13
 enum-told-13 c = c .match .keys13
 
+enum-told-14 : tie.Need-enum-told-14
+enum-told-14 c = c .match .keys14
+
 returns : tie.Need-returns
 returns c = number-is (c .enum-told .given .1) (numbers .0)
 
@@ -81,6 +84,9 @@ returns-12 c = number-is (c .enum-told12 .given .1) (numbers .11)
 returns-13 : tie.Need-returns-13
 returns-13 c = number-is (c .enum-told13 .given .1) (numbers .12)
 
+returns-14 : tie.Need-returns-14
+returns-14 c = number-is (c .enum-told14 .given .1) (numbers .13)
+
 pub refusal-number-spec : {M : Type 1} → statement M
 refusal-number-spec =
     tie.close
@@ -98,6 +104,7 @@ refusal-number-spec =
     enum-told-11
     enum-told-12
     enum-told-13
+    enum-told-14
     returns
     returns-2
     returns-3
@@ -110,4 +117,5 @@ refusal-number-spec =
     returns-10
     returns-11
     returns-12
-    returns-13)
+    returns-13
+    returns-14)
