@@ -39,6 +39,126 @@ fn refused(r: Refusal, place: u32) -> Why
     }
 }
 
+// Tells the reasons of an ask over the tables: the rows stand in the slice of the references, which the reading has done with.
+fn tell(
+    file: &[u8],
+    names: &[u32],
+    refs: &mut [u32],
+    recs: &[u32],
+    lists: &[u32],
+    run: &mut [u32],
+    k: Counts,
+    a: Asked,
+) -> Why
+    requires { ⌜ Lent-tables (now file) (now names) (now refs) (now recs) (now lists) (now run) k a ⌝ }
+    ensures { λ r. ⌜ Tells-rows (now (file .entry)) (now (names .entry)) (now (recs .entry)) (now (lists .entry)) k a
+        (now (refs .entry)) (now (refs .exit)) (now (run .entry)) (now (run .exit)) r ⌝ }
+{
+    let rows = 0;
+    let met = 0;
+    Why {
+        verdict: Verdict::Accepted,
+        place: 0,
+        met,
+        rows,
+    }
+}
+
+// Moves the rows to the start of the run's slice and clears all else that a call uses.
+fn move_rows(
+    w0: &mut [u32],
+    w1: &mut [u32],
+    w2: &mut [u32],
+    w3: &mut [u32],
+    w4: &mut [u32],
+    w5: &mut [u32],
+    rows: usize,
+)
+    requires { ⌜ Long (six (now w0) (now w1) (now w2) (now w3) (now w4) (now w5)) × (rows ≤ 2048) ⌝ }
+    ensures { λ r. ⌜ Moves-rows rows
+        (six (now (w0 .entry)) (now (w1 .entry)) (now (w2 .entry)) (now (w3 .entry)) (now (w4 .entry)) (now (w5 .entry)))
+        (six (now (w0 .exit)) (now (w1 .exit)) (now (w2 .exit)) (now (w3 .exit)) (now (w4 .exit)) (now (w5 .exit))) ⌝ }
+{
+    words::clear(w5, 0, model::WORKING_WORDS);
+    words::copy(w1, 0, w5, 0, 2 * rows);
+    front::close_tables(w0, w1, w2, w3, w4);
+}
+
+// Tells the reasons at a position of a file that is open, or refuses with 15.
+fn answer_position(
+    file: &[u8],
+    position: usize,
+    w0: &mut [u32],
+    w1: &mut [u32],
+    w2: &mut [u32],
+    w3: &mut [u32],
+    w4: &mut [u32],
+    w5: &mut [u32],
+    k: Counts,
+) -> Why
+    requires { ⌜ Held-open (now file) (six (now w0) (now w1) (now w2) (now w3) (now w4) (now w5)) k ⌝ }
+    ensures { λ r. ⌜ Position-told (now (file .entry)) position k
+        (six (now (w0 .entry)) (now (w1 .entry)) (now (w2 .entry)) (now (w3 .entry)) (now (w4 .entry)) (now (w5 .entry)))
+        (six (now (w0 .exit)) (now (w1 .exit)) (now (w2 .exit)) (now (w3 .exit)) (now (w4 .exit)) (now (w5 .exit))) r ⌝ }
+{
+    if position == 0 {
+        front::close_file(w0, w1, w2, w3, w4, w5);
+        return refused(Refusal::Position, 0);
+    }
+    if k.asks < position {
+        front::close_file(w0, w1, w2, w3, w4, w5);
+        return refused(Refusal::Position, 0);
+    }
+    let a = records::ask_at(w3, position - 1);
+    let told = tell(file, w0, w1, w3, w4, w5, k, a);
+    move_rows(w0, w1, w2, w3, w4, w5, told.rows);
+    told
+}
+
+// Tells the reasons at a position of a file, over a table of so many rows, or refuses.
+pub fn explain(
+    file: &[u8],
+    position: usize,
+    w0: &mut [u32],
+    w1: &mut [u32],
+    w2: &mut [u32],
+    w3: &mut [u32],
+    w4: &mut [u32],
+    w5: &mut [u32],
+    room: usize,
+) -> Why
+    ensures { λ r. ⌜ Explains-to (now (file .entry)) position
+        (six (now (w0 .entry)) (now (w1 .entry)) (now (w2 .entry)) (now (w3 .entry)) (now (w4 .entry)) (now (w5 .entry))) room r
+        (six (now (w0 .exit)) (now (w1 .exit)) (now (w2 .exit)) (now (w3 .exit)) (now (w4 .exit)) (now (w5 .exit))) ⌝ }
+{
+    if room < model::MOST_ROWS {
+        return refused(Refusal::Working, 0);
+    }
+    match front::open_file(file, w0, w1, w2, w3, w4, w5) {
+        Opened::Read(k) => answer_position(file, position, w0, w1, w2, w3, w4, w5, k),
+        Opened::Refused(r, place) => refused(r, place),
+    }
+}
+
+// The same, with the answer in numbers.
+pub fn find_rows(
+    file: &[u8],
+    position: usize,
+    w0: &mut [u32],
+    w1: &mut [u32],
+    w2: &mut [u32],
+    w3: &mut [u32],
+    w4: &mut [u32],
+    w5: &mut [u32],
+    room: usize,
+) -> Reasons
+    ensures { λ r. ⌜ Found (now (file .entry)) position
+        (six (now (w0 .entry)) (now (w1 .entry)) (now (w2 .entry)) (now (w3 .entry)) (now (w4 .entry)) (now (w5 .entry))) room r
+        (six (now (w0 .exit)) (now (w1 .exit)) (now (w2 .exit)) (now (w3 .exit)) (now (w4 .exit)) (now (w5 .exit))) ⌝ }
+{
+    in_numbers(explain(file, position, w0, w1, w2, w3, w4, w5, room))
+}
+
 // The answer in numbers.
 fn in_numbers(w: Why) -> Reasons
     ensures { λ r. ⌜ r ≡ in-numbers w ⌝ }
