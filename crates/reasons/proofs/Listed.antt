@@ -8,12 +8,14 @@ use lib.Dec.{T, leb, eqb}
 use lib.ListN.{length, getD}
 use borrow.Author.Tests.{eq-eqb, ne-eqb, lt-ltb, le-ltb, le-leb, lt-leb}
 use Rattle.model.specs.Lists.{any, part}
+use Rattle.model.specs.declared.Counts.{Counts}
 use Rattle.model.proofs.ListLaws.{T-and}
 use Rattle.model.proofs.PartLaws.{part-cons, part-nil}
 use Rattle.triggers.specs.Entries.{entries-base, last-flag}
 use Rattle.records.specs.Columns.{entries-start, entries-end}
+use Rattle.scan.specs.Tables.{Laid}
 use Rattle.scan.specs.Steps.{reached-column, is-met}
-use Rattle.reasons.specs.Rows.{lists-name, row-due}
+use Rattle.reasons.specs.Rows.{lists-name, row-due, Entries-in}
 
 -- ---- the entries
 
@@ -48,6 +50,15 @@ module _ (lists : List ℕ) (n j e x : ℕ) (h : j < e) (room : entries-base + e
 pub listed-end : (lists : List ℕ) (n j e : ℕ) → e ≤ j → listed-from lists n j e ≡ false
 unfolding listed-from any
 listed-end lists n j e h = rw (part-nil lists (entries-base + j) (entries-base + e) (omega arith))
+
+-- the entries of a record of the tables can be read
+pub entries-in : {names recs lists : List ℕ} {k : Counts} {i : ℕ} → Laid names recs lists k → i < k .records → Entries-in recs lists i
+entries-in {i = i} x h = record {
+  record-room = x .record-room;
+  list-room = x .list-room;
+  low = omega (arith, x .few-records);
+  high = x .entry-place i h .1;
+}
 
 -- ---- a row
 

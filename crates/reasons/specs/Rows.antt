@@ -7,6 +7,7 @@ use mathlib.Core.List.{List, map}
 use lib.Dec.{T, leb, eqb}
 use lib.ListN.{length, getD, take}
 use Rattle.model.specs.Lists.{any, keep, collect}
+use Rattle.model.specs.Reading.{most-records, most-entries}
 use Rattle.model.specs.Outcome.{working-words}
 use Rattle.model.specs.declared.Counts.{Counts}
 use Rattle.model.specs.declared.Row.{Row}
@@ -14,7 +15,7 @@ use Rattle.words.specs.Slices.{Same-but}
 use Rattle.rows.specs.Rows.{words-of}
 use Rattle.names.specs.Table.{ranked}
 use Rattle.triggers.specs.Entries.{last-flag}
-use Rattle.records.specs.Columns.{record-line, taken-at}
+use Rattle.records.specs.Columns.{record-line, entries-end, taken-at}
 use Rattle.records.specs.States.{entries-at}
 use Rattle.scan.specs.Tables.{Laid}
 use Rattle.scan.specs.Steps.{reached-column, is-met}
@@ -58,6 +59,13 @@ rows-at names recs lists run noted named i =
 unfoldable pub rows-in : List ℕ → List ℕ → List ℕ → List ℕ → (ℕ → ℕ) → Counts → List Row
 rows-in names recs lists run noted k =
     collect (rows-at names recs lists run noted (k .names)) (reached-records names run (k .names))
+
+-- a record whose entries can be read
+pub record Entries-in (recs lists : List ℕ) (i : ℕ) : Type 0 where
+  pub record-room : working-words ≤ length recs
+  pub list-room : working-words ≤ length lists
+  pub low : i < most-records
+  pub high : entries-end recs i ≤ most-entries
 
 -- a word of the column of suppliers that has one: the number of a record on a small line, and one
 pub record Supplier (recs : List ℕ) (records word : ℕ) : Type 0 where

@@ -4,16 +4,16 @@ use model::Counts;
 ghost use Prim.Native.Nat.{_+_, _≤_, _<_};
 ghost use mathlib.Core.Path.{_≡_};
 ghost use lib.ListN.{length};
+ghost use Rattle.model.specs.Reading.{most-names};
 ghost use Rattle.model.specs.Outcome.{working-words};
-ghost use Rattle.scan.specs.Tables.{Laid};
-ghost use Rattle.reasons.specs.Rows.{most-rows, supplied, lists-name, row-due, rows-at, Explainable, Rows-behind, Rows-put};
+ghost use Rattle.reasons.specs.Rows.{most-rows, supplied, lists-name, row-due, rows-at, Entries-in, Explainable, Rows-behind, Rows-put};
 
 // The column of the run's slice that has, by name, the record of its supplier and one.
 const SUPPLIER: usize = 5120;
 
 // Whether an entry of a record has the name.
-fn lists_name(names: &[u32], recs: &[u32], lists: &[u32], k: Counts, i: usize, n: usize) -> bool
-    requires { ⌜ Laid (now names) (now recs) (now lists) k × (i < k .records) ⌝ }
+fn lists_name(recs: &[u32], lists: &[u32], i: usize, n: usize) -> bool
+    requires { ⌜ Entries-in (now recs) (now lists) i ⌝ }
     ensures { λ r. ⌜ r ≡ lists-name (now (recs .entry)) (now (lists .entry)) i n ⌝ }
 {
     let a = words::at(recs, records::ENTRIES_START + i);
@@ -30,17 +30,8 @@ fn lists_name(names: &[u32], recs: &[u32], lists: &[u32], k: Counts, i: usize, n
 }
 
 // Whether a reached record has a row for a name: met, no later than in the record's round, and listed.
-fn row_due(
-    names: &[u32],
-    recs: &[u32],
-    lists: &[u32],
-    run: &[u32],
-    k: Counts,
-    i: usize,
-    n: usize,
-) -> bool
-    requires { ⌜ Laid (now names) (now recs) (now lists) k × (working-words ≤ length (now run)) × (i < k .records)
-        × (n < k .names) ⌝ }
+fn row_due(recs: &[u32], lists: &[u32], run: &[u32], i: usize, n: usize) -> bool
+    requires { ⌜ Entries-in (now recs) (now lists) i × (working-words ≤ length (now run)) × (n < most-names) ⌝ }
     ensures { λ r. ⌜ r ≡ row-due (now (recs .entry)) (now (lists .entry)) (now (run .entry)) i n ⌝ }
 {
     let met = words::at(run, n);
@@ -50,7 +41,7 @@ fn row_due(
     if words::at(run, scan::REACHED + i) < met {
         return false;
     }
-    lists_name(names, recs, lists, k, i, n)
+    lists_name(recs, lists, i, n)
 }
 
 // Puts the rows of a record behind the first `at` rows, by listed name in byte order; how many there are then.
@@ -75,7 +66,7 @@ fn put_rows_of(
     while r < named {
         let n = words::at(names, names::INDEX + r);
         r += 1;
-        if !row_due(names, recs, lists, run, k, i, n) {
+        if !row_due(recs, lists, run, i, n) {
             continue;
         }
         let supplier = words::at(run, SUPPLIER + n);
