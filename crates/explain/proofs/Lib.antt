@@ -1,0 +1,2 @@
+pub mod SmallLines
+pub mod Laws
