@@ -1,2 +1,3 @@
 pub mod SmallLines
+pub mod Rows
 pub mod Laws

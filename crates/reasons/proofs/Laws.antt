@@ -10,6 +10,7 @@ use lib.Seq.{sets}
 use borrow.Author.Tests.{eq-eqb, ne-eqb}
 use Rattle.model.specs.Lists.{keep, collect}
 use Rattle.model.specs.Outcome.{working-words}
+use Rattle.model.specs.Explaining.{most-rows}
 use Rattle.model.specs.declared.Counts.{Counts}
 use Rattle.model.specs.declared.Row.{Row}
 use Rattle.model.proofs.ListLaws.{true-T}
@@ -23,7 +24,7 @@ use Rattle.prune.proofs.Writing.{Going, going-start, going-length, going-end, g
 use Rattle.prune.proofs.Gathering.{part-sets}
 use Rattle.prune.proofs.Members.{reached-low}
 use Rattle.prune.proofs.Ranges.{collect-collect}
-use Rattle.reasons.specs.Rows.{supplied, most-rows, row-due, row-at, rows-at, rows-in, Supplier, Explainable, Rows-behind, Rows-put}
+use Rattle.reasons.specs.Rows.{supplied, row-due, row-at, rows-at, rows-in, Supplier, Explainable, Rows-behind, Rows-put}
 use Rattle.reasons.proofs.Listed.{due-met}
 
 -- ---- rows written rank after rank

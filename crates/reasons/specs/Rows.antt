@@ -9,6 +9,7 @@ use lib.ListN.{length, getD, take}
 use Rattle.model.specs.Lists.{any, keep, collect}
 use Rattle.model.specs.Reading.{most-records, most-entries}
 use Rattle.model.specs.Outcome.{working-words}
+use Rattle.model.specs.Explaining.{most-rows}
 use Rattle.model.specs.declared.Counts.{Counts}
 use Rattle.model.specs.declared.Row.{Row}
 use Rattle.words.specs.Slices.{Same-but}
@@ -29,10 +30,6 @@ supplier-column = 5120
 -- the supplier of a name, and one, as it stands in the slice
 abbrev pub supplied : List ℕ → ℕ → ℕ
 supplied run n = getD run (supplier-column + n) 0
-
--- how many rows there is room for
-abbrev pub most-rows : ℕ
-most-rows = 2048
 
 -- the third number of a row is below this
 abbrev pub half-word : ℕ

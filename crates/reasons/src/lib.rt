@@ -6,7 +6,8 @@ ghost use mathlib.Core.Path.{_≡_};
 ghost use lib.ListN.{length};
 ghost use Rattle.model.specs.Reading.{most-names};
 ghost use Rattle.model.specs.Outcome.{working-words};
-ghost use Rattle.reasons.specs.Rows.{most-rows, supplied, lists-name, row-due, rows-at, Entries-in, Explainable, Rows-behind, Rows-put};
+ghost use Rattle.model.specs.Explaining.{most-rows};
+ghost use Rattle.reasons.specs.Rows.{supplied, lists-name, row-due, rows-at, Entries-in, Explainable, Rows-behind, Rows-put};
 
 // The column of the run's slice that has, by name, the record of its supplier and one.
 const SUPPLIER: usize = 5120;

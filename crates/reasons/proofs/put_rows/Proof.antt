@@ -1,10 +1,6 @@
 -- `reasons::put_rows` meets its contract. The loop's invariant: the rows of the ranks that are left are still to be put.
 use Prim.Native.Nat.{_-_}
 use native.Mathlib.Omega.{arith}
-use mathlib.Core.Path.{_∙_}
-use lib.ListN.{length}
-use Rattle.prune.proofs.Writing.{lists-length}
-use Rattle.reasons.specs.Rows.{most-rows}
 use Rattle.reasons.proofs.Laws.{Rising, rising-start, rising-length, rising-end, explainable-after, reached-rows, reached-below, reached-passed, reached-room, reached-put, all-ranks, all-fit, rows-put}
 use Rattle.reasons.proofs.put_rows.Statement.{statement}
 use Rattle.reasons.proofs.put_rows.Tie as tie
