@@ -1,3 +1,4 @@
 pub mod SmallLines
+pub mod Rows
 pub mod Laws
 pub mod Supplying
