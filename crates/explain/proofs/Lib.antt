@@ -1,4 +1,5 @@
 pub mod SmallLines
-pub mod Rows
-pub mod Laws
 pub mod Supplying
+pub mod Rows
+pub mod Telling
+pub mod Laws

@@ -54,8 +54,10 @@ fn tell(
     ensures { λ r. ⌜ Tells-rows (now (file .entry)) (now (names .entry)) (now (recs .entry)) (now (lists .entry)) k a
         (now (refs .entry)) (now (refs .exit)) (now (run .entry)) (now (run .exit)) r ⌝ }
 {
-    let rows = 0;
-    let met = 0;
+    scan::run_ask(file, names, recs, lists, run, k, a);
+    suppliers::find_suppliers(names, recs, lists, run, k, a);
+    let rows = reasons::put_rows(names, refs, recs, lists, run, k);
+    let met = bits::count_met(run, k.names);
     Why {
         verdict: Verdict::Accepted,
         place: 0,

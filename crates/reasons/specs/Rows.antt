@@ -20,12 +20,9 @@ use Rattle.records.specs.Columns.{record-line, entries-end, taken-at}
 use Rattle.records.specs.States.{entries-at}
 use Rattle.scan.specs.Tables.{Laid}
 use Rattle.scan.specs.Steps.{reached-column, is-met}
+use Rattle.suppliers.specs.Notes.{supplier-column}
 use Rattle.prune.specs.Listing.{from, reached-records}
 use Rattle.prune.specs.Loops.{Index, Behind}
-
--- the column of the run's slice that has, by name, the record of its supplier and one
-abbrev pub supplier-column : ℕ
-supplier-column = 5120
 
 -- the supplier of a name, and one, as it stands in the slice
 abbrev pub supplied : List ℕ → ℕ → ℕ

@@ -9,9 +9,6 @@ ghost use Rattle.model.specs.Outcome.{working-words};
 ghost use Rattle.model.specs.Explaining.{most-rows};
 ghost use Rattle.reasons.specs.Rows.{supplied, lists-name, row-due, rows-at, Entries-in, Explainable, Rows-behind, Rows-put};
 
-// The column of the run's slice that has, by name, the record of its supplier and one.
-const SUPPLIER: usize = 5120;
-
 // Whether an entry of a record has the name.
 fn lists_name(recs: &[u32], lists: &[u32], i: usize, n: usize) -> bool
     requires { ⌜ Entries-in (now recs) (now lists) i ⌝ }
@@ -70,7 +67,7 @@ fn put_rows_of(
         if !row_due(recs, lists, run, i, n) {
             continue;
         }
-        let supplier = words::at(run, SUPPLIER + n);
+        let supplier = words::at(run, suppliers::SUPPLIER + n);
         let line = recs[records::LINE + i];
         let cause = recs[records::LINE + (supplier - 1)];
         rows::put_row(refs, to, line, n as u32, cause);

@@ -1,5 +1,5 @@
--- `why::wimplejade_why` meets its contract: a walk of its MIR, by hand. The core, the writer and the clearing are called, one after the other; all that the proof knows of them is that they
--- meet their contracts.
+-- `wimplejade::wimplejade_why` meets its contract: a walk of its MIR, by hand. The core, the writer and the clearing are called, one after the other; all that the proof knows of them is
+-- that they meet their contracts.
 -- The first five working slices and the table are given up for good, to the core and to the writer. The last working slice is lent to the core as `&mut` and to the writer as `&`, each for a
 -- lifetime of the call, and is given up for good to the clearing.
 -- Assumes nothing.
@@ -67,11 +67,11 @@ use Rattle.explain.proofs.find_rows as find
 use Rattle.explain.proofs.find_rows.Symbol as find-def
 use Rattle.explain.proofs.find_rows.Symbol.{name as #explain·find-rows}
 use Rattle.explain.proofs.find_rows.Met as find-thm
 use Rattle.why.proofs.Laws.{called}
-use Rattle.why.proofs.wimplejade_why.Key.{name as #why·wimplejade-why}
-use Rattle.why.proofs.wimplejade_why as f
-use Rattle.why.proofs.wimplejade_why.Statement as stated
-use Rattle.why.proofs.wimplejade_why.Code as code
+use Rattle.wimplejade.proofs.wimplejade_why.Key.{name as #wimplejade·wimplejade-why}
+use Rattle.wimplejade.proofs.wimplejade_why as f
+use Rattle.wimplejade.proofs.wimplejade_why.Statement as stated
+use Rattle.wimplejade.proofs.wimplejade_why.Code as code
 
 abbrev stayed : Stays (f.ended .signature .params) (f.ended .kept)
 stayed = (
@@ -530,7 +530,7 @@ pub wimplejade-why-spec : {M : Type 1} → stated.statement M
 unfolding code.routine tablesOf
 wimplejade-why-spec 𝓤 H 𝓜 𝓖 𝓡 =
     entered 𝓤 H (tripleOf 𝓤 H (𝓖 .A) f.signature (f.spec 𝓤 H (𝓖 .A) (𝓜 .mem) (𝓡 .run)))
-    (tables 𝓤 H 𝓜 𝓡 code.env .C) (tables 𝓤 H 𝓜 𝓡 code.env .Λ) #why·wimplejade-why code.function (code.unfolded 𝓤 H 𝓜 𝓡)
+    (tables 𝓤 H 𝓜 𝓡 code.env .C) (tables 𝓤 H 𝓜 𝓡 code.env .Λ) #wimplejade·wimplejade-why code.function (code.unfolded 𝓤 H 𝓜 𝓡)
     (wimplejade-why-meets 𝓤 H (𝓖 .A) (givenOf 𝓤 H 𝓜 𝓖) (𝓜 .mem) (𝓡 .run) (tablesOf 𝓤 H 𝓜 (tables 𝓤 H 𝓜 𝓡 code.env))
     (cited 𝓤 H (Find 𝓤 H (𝓖 .A) (𝓜 .mem) (𝓡 .run)) 𝓜 𝓡 code.env #explain·find-rows find-def.routine code.calls-explain·find-rows (find-thm.met 𝓤 H 𝓜 𝓖 𝓡))
     (cited 𝓤 H (Write 𝓤 H (𝓖 .A) (𝓜 .mem) (𝓡 .run)) 𝓜 𝓡 code.env #rows·write-rows write-def.routine code.calls-rows·write-rows (write-thm.met 𝓤 H 𝓜 𝓖 𝓡))
