@@ -1,4 +1,5 @@
-//! Files that are full of what the reasons, the second engine and the order check tell, and the slices and tables lent for them.
+//! Files that are full of what the reasons, the second engine and the order check tell, and the slices and tables lent
+//! for them.
 
 use crate::case::Case;
 use crate::edges::Edge;
@@ -12,8 +13,8 @@ const FACTS: usize = limits::RECORDS - 1;
 /// The name that every fact of a chain waits for besides its own: the first one spelled, and the first in byte order.
 const COMMON: &str = "!";
 
-/// A chain of as many facts as there may be, of which each waits for the common name and for that of the one before, and the
-/// last for two more: as many trigger entries as there may be. Facts stand in this order.
+/// A chain of as many facts as there may be, of which each waits for the common name and for that of the one before,
+/// and the last for two more: as many trigger entries as there may be. Facts stand in this order.
 fn chain(mut text: Text, backwards: bool) -> Vec<u8> {
     let common: Vec<TermId> = [COMMON, "\"", "#"].map(|name| text.free(name)).into();
     let first = text.free("n");
@@ -60,8 +61,8 @@ pub fn most_passes(asks: usize) -> Vec<u8> {
     chain(Text::asks(&vec![(0, 0); asks]), true)
 }
 
-/// As many rows of the order check as there may be: every record is a definition of the same six names, one of them that of the
-/// last definition and the others without one.
+/// As many rows of the order check as there may be: every record is a definition of the same six names, one of them
+/// that of the last definition and the others without one.
 pub fn most_needs() -> Vec<u8> {
     let mut text = Text::ask(0, 0);
     let names = ["z5", "z4", "z3", "z2", "z1", "z0"];

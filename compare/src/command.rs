@@ -36,8 +36,8 @@ impl Command {
         }
     }
 
-    /// What is printed of a file, with working slices of these lengths and a result slice or a table of this one; definitions
-    /// and declarations stand in the order given.
+    /// What is printed of a file, with working slices of these lengths and a result slice or a table of this one;
+    /// definitions and declarations stand in the order given.
     pub fn printed_in(self, inner: Order, file: &[u8], works: [usize; 6], room: usize) -> String {
         match self {
             Command::List => filter_in(inner, file, works, room).to_string(),

@@ -1,11 +1,12 @@
 //! The fact filter of document 01 with Changes 1 to 3, 6 to 11 and 13 of document 02, written independently in plain Rust
 //! with the standard collections.
 //!
-//! It reads a file of terms, facts and roots, and keeps for each ask the facts that the roots of its query can touch, with
-//! the definitions and declarations that come with them; an also line adds the roots of a query to those of the line before.
-//! In a file of the newer form facts have groups, and an ask has to do with those facts alone whose group it admits.
-//! [`filter`] is the whole call, [`sweep`] its second engine; [`why`] says who brought each fact in, [`order`] which names of
-//! bodies stand late or nowhere, [`summaries`] how each fact is triggered. All answer with the refusals of these documents.
+//! It reads a file of terms, facts and roots, and keeps for each ask the facts that the roots of its query can touch,
+//! with the definitions and declarations that come with them; an also line adds the roots of a query to those of the
+//! line before. In a file of the newer form facts have groups, and an ask has to do with those facts alone whose group
+//! it admits. [`filter`] is the whole call, [`sweep`] its second engine; [`why`] says who brought each fact in,
+//! [`order`] which names of bodies stand late or nowhere, [`summaries`] how each fact is triggered. All answer with the
+//! refusals of these documents.
 
 mod asks;
 pub mod calls;

@@ -45,8 +45,8 @@ fn roots_of<'b>(background: &'b Background, queries: &'b [u32]) -> impl Iterator
     background.roots.iter().filter(|root| queries.contains(&root.query)).map(|root| &root.free)
 }
 
-/// The names that each macro opens to: the starting macros, as far as both names are spelled and no def replaces them, and the
-/// defs.
+/// The names that each macro opens to: the starting macros, as far as both names are spelled and no def replaces them,
+/// and the defs.
 pub fn macros(background: &Background) -> HashMap<NameId, Vec<NameId>> {
     let mut macros = HashMap::new();
     for (from, to) in BOX_MACROS {

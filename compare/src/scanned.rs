@@ -1,5 +1,5 @@
-//! What the reasons and the second engine ask of a file, in plain definitions: the items that a position starts from, the names
-//! met from an item, and when a fact is triggered or fires.
+//! What the reasons and the second engine ask of a file, in plain definitions: the items that a position starts from,
+//! the names met from an item, and when a fact is triggered or fires.
 
 use std::collections::HashMap;
 
@@ -41,8 +41,8 @@ impl Scanner {
         self.item(fact.line, fact.name, &fact.free)
     }
 
-    /// What a fresh run starts from: the roots of all queries of the position's chain, and without option 1 the ambient roots
-    /// that are admitted.
+    /// What a fresh run starts from: the roots of all queries of the position's chain, and without option 1 the ambient
+    /// roots that are admitted.
     pub fn start(&self, background: &Background, ask: &Ask) -> Vec<Item> {
         let roots = background.roots.iter().filter(|root| ask.queries.contains(&root.query));
         let ambients = background.facts.iter().filter(|fact| fact.kind == Kind::Ambient { root: true });

@@ -1,5 +1,5 @@
-//! Every `X.in` of a folder against its `X.out` and, where there is one, its `X.sum`; `X.args` is the command, where it is not the
-//! plain one.
+//! Every `X.in` of a folder against its `X.out` and, where there is one, its `X.sum`; `X.args` is the command, where it
+//! is not the plain one.
 
 use std::fs;
 use std::path::Path;

@@ -907,7 +907,8 @@ fn pairs_of_cases_differ_in_their_sequence() {
     assert_eq!(pairs, 8);
 }
 
-/// Changes 2, 9 and 10: the further calls refuse the files that the first one refuses, and the working slices, each at its place.
+/// Changes 2, 9 and 10: the further calls refuse the files that the first one refuses, and the working slices, each at
+/// its place.
 #[test]
 fn the_further_calls_refuse_what_the_first_one_refuses() {
     let mut refused = BTreeSet::new();
@@ -923,7 +924,8 @@ fn the_further_calls_refuse_what_the_first_one_refuses() {
     assert_eq!(refused, BTreeSet::from([1, 2, 3, 4, 5, 6, 7, 9, 10, 11, 12, 13]));
 }
 
-/// Change 10: the second engine has the first one's refusals and lists. Its passes are at most the facts with triggers plus one.
+/// Change 10: the second engine has the first one's refusals and lists. Its passes are at most the facts with triggers
+/// plus one.
 #[test]
 fn the_second_engine_gives_the_lists_of_the_first() {
     let (mut rooms, mut many) = (0, 0);
@@ -1020,10 +1022,10 @@ fn start(file: &[u8], chain: &[Position]) -> Vec<u32> {
     lines(file).iter().zip(1..).filter(|(line, number)| is_item(line, *number)).map(|(_, number)| number).collect()
 }
 
-/// Change 2: the rows at a position are of its reached facts, each of which has one, in their order; each name is one of the
-/// fact's listed names, in byte order and by its number; the supplier has the name and is the first that the position starts
-/// from, if one of these has it; suppliers lead back to what the position starts from. The met names that have numbers are those
-/// of what is scanned.
+/// Change 2: the rows at a position are of its reached facts, each of which has one, in their order; each name is one
+/// of the fact's listed names, in byte order and by its number; the supplier has the name and is the first that the
+/// position starts from, if one of these has it; suppliers lead back to what the position starts from. The met names
+/// that have numbers are those of what is scanned.
 #[test]
 fn every_reached_fact_has_its_reasons() {
     let (mut supplied_by_facts, mut tokens, mut opened) = (0, 0, 0);
@@ -1120,8 +1122,8 @@ fn reasons_and_passes_of_an_also_line_are_those_of_a_fresh_run() {
     assert!(others.0 > 40 && others.1 > 8, "{others:?}");
 }
 
-/// Changes 2, 10 and 14: in another sequence of the record lines each fact has rows of the same names and as many names are met,
-/// but suppliers and passes may be others.
+/// Changes 2, 10 and 14: in another sequence of the record lines each fact has rows of the same names and as many names
+/// are met, but suppliers and passes may be others.
 #[test]
 fn suppliers_and_passes_depend_on_the_sequence() {
     let mut random = Random::new(55);
@@ -1147,8 +1149,8 @@ fn suppliers_and_passes_depend_on_the_sequence() {
     assert!(suppliers > 10 && passes > 10, "{suppliers} {passes}");
 }
 
-/// Change 9: a row for each free name of each body whose def or fun stands on the same or a later line or nowhere, by line and
-/// then by name. Without a row of the first sort no definition depends on itself.
+/// Change 9: a row for each free name of each body whose def or fun stands on the same or a later line or nowhere, by
+/// line and then by name. Without a row of the first sort no definition depends on itself.
 #[test]
 fn names_of_bodies_that_stand_late_or_nowhere() {
     let (mut rows, mut without, mut circles) = ([0, 0], 0, 0);

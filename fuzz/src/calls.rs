@@ -2,8 +2,8 @@
 
 use wimplejade::MOST_ASKS;
 
-/// A row of a lent table: a line, the number of a name in order of first spelling, and the cause: the line of the supplier, or the
-/// sort. The C struct has these three words.
+/// A row of a lent table: a line, the number of a name in order of first spelling, and the cause: the line of the
+/// supplier, or the sort. The C struct has these three words.
 pub type Row = [u32; 3];
 
 /// The answer of the reasons as the library gives it.
@@ -50,8 +50,8 @@ pub type Sweep = fn(&[u8], [&mut [u32]; 6], &mut [u32]) -> Swept;
 /// The order check over lent slices and a lent table.
 pub type Order = fn(&[u8], [&mut [u32]; 6], &mut [Row]) -> Ordered;
 
-/// Declares a C function that takes a file, what is given, the six working slices and one more lent slice, and defines the safe
-/// call over it.
+/// Declares a C function that takes a file, what is given, the six working slices and one more lent slice, and defines
+/// the safe call over it.
 #[cfg(any(feature = "why", feature = "sweep", feature = "order"))]
 macro_rules! c_call {
     ($name:ident, $symbol:ident, ($($argument:ident: $sort:ty),*), $element:ty, $answer:ty) => {

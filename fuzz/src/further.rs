@@ -90,8 +90,8 @@ pub fn order_difference(call: Order, lender: &mut Lender, file: &[u8], lengths: 
     Some(format!("order check, {lengths:?}: {fault}"))
 }
 
-/// How the two engines differ on a file with slices that are long enough, if they do: their refusals and lists are the same, and
-/// the second has passes where the first has rounds.
+/// How the two engines differ on a file with slices that are long enough, if they do: their refusals and lists are the
+/// same, and the second has passes where the first has rounds.
 pub fn engines_difference(first: Call, second: Sweep, lender: &mut Lender, file: &[u8]) -> Option<String> {
     let kept: Option<Vec<Vec<u32>>> =
         lists(first, lender, file).map(|lists| lists.into_iter().map(|list| list.0).collect());
@@ -136,8 +136,8 @@ fn short_works(room: usize) -> impl Iterator<Item = Lengths> {
     })
 }
 
-/// Tries the reasons of a file: at its positions, and where it has none, with slices and tables of several lengths; as a whole at
-/// every position.
+/// Tries the reasons of a file: at its positions, and where it has none, with slices and tables of several lengths; as
+/// a whole at every position.
 pub fn try_why(call: Why, lender: &mut Lender, file: &[u8], whole: bool) -> Option<String> {
     let (mut random, count) = (random_of(file), positions(file).min(MOST_ASKS + 1));
     let mut positions: Vec<usize> = (1..=count).collect();

@@ -1,6 +1,7 @@
-//! Compares the proved filter with the independent version on random files, or on the files given; and with each other its
-//! answers to the two forms of an accepted file, and to the file and the same file with its record lines rearranged. With the
-//! features `why`, `sweep` and `order` the further calls are compared too, and the two engines with each other.
+//! Compares the proved filter with the independent version on random files, or on the files given; and with each other
+//! its answers to the two forms of an accepted file, and to the file and the same file with its record lines
+//! rearranged. With the features `why`, `sweep` and `order` the further calls are compared too, and the two engines
+//! with each other.
 //!
 //! `fuzz [--seed N] [--files N] [--from N] [--jobs N] [--save DIR]` makes files from a seed, tries each, and stops at the
 //! first difference: the file is made small and saved. `fuzz FILE..` tries these files instead. The status is 0 if nothing

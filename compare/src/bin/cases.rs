@@ -1,11 +1,13 @@
 //! The container of cases for the program `test_cases`.
 //!
-//! `cases build DIR OUT_STDIN OUT_STDOUT` builds the container from every `.in` of a folder that has no command, from probes of
-//! these files and from the edges of document 01, and beside it what the program prints. With calls at the end, `why`, `sweep` or
-//! `order`, it has the cases of these instead: the files of the folder whose command it is, the edges of the call, and the small
-//! files without a command once more. `cases answer` reads a container from standard input and prints the same.
+//! `cases build DIR OUT_STDIN OUT_STDOUT` builds the container from every `.in` of a folder that has no command, from
+//! probes of these files and from the edges of document 01, and beside it what the program prints. With calls at the
+//! end, `why`, `sweep` or `order`, it has the cases of these instead: the files of the folder whose command it is, the
+//! edges of the call, and the small files without a command once more. `cases answer` reads a container from standard
+//! input and prints the same.
 //!
-//! With `--by-line` at the end, definitions and declarations come by line; with `--numbers`, a row has its three numbers alone.
+//! With `--by-line` at the end, definitions and declarations come by line; with `--numbers`, a row has its three
+//! numbers alone.
 
 use std::collections::HashSet;
 use std::fs;

@@ -1,5 +1,5 @@
-//! Prints the small files of a folder as computed tables of the crate `model`: `tables DIR`; or those of a command as the entries
-//! of one table: `tables DIR why|sweep|order`.
+//! Prints the small files of a folder as computed tables of the crate `model`: `tables DIR`; or those of a command as
+//! the entries of one table: `tables DIR why|sweep|order`.
 
 use std::path::Path;
 use std::process::ExitCode;
