@@ -1,5 +1,5 @@
 -- What the core tells and leaves: a refusal of the front, 15, or the rows in words of the run's slice.
-use Prim.Native.Nat.{ℕ, zero, suc, _+_, _*_, _≤_, _<_}
+use Prim.Native.Nat.{ℕ, zero, suc, _+_, _*_, _-_, _≤_, _<_}
 use native.Mathlib.Omega.{arith}
 use mathlib.Core.Path.{_≡_, refl, sym, _∙_, ap, subst}
 use mathlib.Core.Bool.{Bool, true, false}
@@ -22,16 +22,17 @@ use Rattle.model.specs.declared.Refusal.the-variants as refusal
 use Rattle.model.specs.declared.Row.{Row}
 use Rattle.model.specs.declared.Why.{Why}
 use Rattle.demands.specs.LinesRead.{At}
+use Rattle.demands.proofs.Demand1.{file-opened}
 use Rattle.demands.proofs.Explaining.{ask-none, ask-some}
-use Rattle.words.specs.Slices.{Same-but, Zeroed}
+use Rattle.words.specs.Slices.{Zeroed, Copied}
 use Rattle.words.proofs.Slices.{same-then, same-wider}
 use Rattle.records.specs.States.{ask-at, asks-of, ask-of, asked-at, state-of}
 use Rattle.records.proofs.Asking.{asks-length}
 use Rattle.records.proofs.Chains.{asked-is}
 use Rattle.front.specs.Demand.{verdict-number}
-use Rattle.front.specs.Opening.{Long, Rest, Zeros, state-in, Open-file, Refused-file}
+use Rattle.front.specs.Opening.{Long, Rest, Zeros, Tables-zero, state-in, Open-file, Refused-file}
 use Rattle.front.proofs.Slices.{rest-self, rest-long, rest-then, slice-cleared, works-cleared, zeros-rest, front-own, left-own, front-short, left-untouched}
-use Rattle.front.proofs.Laws.{closed-file, rest-work}
+use Rattle.front.proofs.Laws.{open-read, few-asks, closed-file, rest-work}
 use Rattle.rows.specs.Rows.{rows-held, words-of}
 use Rattle.rows.specs.Left.{Rows-left}
 use Rattle.rows.proofs.Laws.{Small, rows-words, words-length}
@@ -146,7 +147,7 @@ rows-begin {n} source run rs count room stand moved small =
         getD-take (2 * n) run i 0 low ∙ moved i low ∙ sym (getD-take (2 * n) source i 0 low) ∙ ap (λ (l : List ℕ). getD l i 0) stand)
 
 -- moving rows changes no word past those that a call uses
-moves-rest : {n : ℕ} {u left : Working} → Moves-rows n u left → Rest u left
+pub moves-rest : {n : ℕ} {u left : Working} → Moves-rows n u left → Rest u left
 moves-rest m = record {
   on-names = m .names .same;
   on-refs = m .refs .same;
@@ -262,6 +263,46 @@ position-some {file} {position} {i} {k} {w0} {w1} {w2} {w3} {w4} {w5} {v1} {v5} 
           };
       rest = rest-then work moved;
     }
+
+-- the same by the position itself
+pub position-told : {file : List ℕ} {position : ℕ} {k : Counts} {a : Asked} {w0 w1 w2 w3 w4 w5 v1 v5 : List ℕ} {left : Working} {r : Why}
+    → Held-open file (six w0 w1 w2 w3 w4 w5) k → (position ≡ 0 → ⊥) → position ≤ k .asks → a ≡ asked-at w3 (position - 1)
+    → Tells-rows file w0 w3 w4 k a w1 v1 w5 v5 r → Moves-rows (r .rows) (six w0 v1 w2 w3 w4 v5) left
+    → Position-told file position k (six w0 w1 w2 w3 w4 w5) left r
+position-told {file} {position} {k} {a} {w0} {w1} {w2} {w3} {w4} {w5} {v1} {v5} {left} {r} h nonzero low is t m =
+    position-some h (go position nonzero) (omega (arith, go position nonzero))
+    (subst (λ (x : Asked). Tells-rows file w0 w3 w4 k x w1 v1 w5 v5 r) is t) m
+  where
+    go : (n : ℕ) → (n ≡ 0 → ⊥) → n ≡ suc (n - 1)
+    go zero other = absurd (other refl)
+    go (suc n) other = omega arith
+
+-- what the core asks of an open file
+pub held-open : {file : List ℕ} {lent held : Working} {k : Counts} → Open-file file lent held k → Held-open file held k
+held-open {file} {lent} {held} {k} f = record {
+  filled = f .filled;
+  long = rest-long (f .long) (f .rest);
+  few-asks = few-asks f;
+  small = file-opened file (sizes lent) (state-in file held k) .0 (f .state) .0 .fits;
+  read = open-read f;
+}
+
+-- rows moved and all else cleared
+pub moves-rows : {n : ℕ} {w0 w1 w2 w3 w4 w5 x v0 v1 v2 v3 v4 v5 : List ℕ} → n ≤ most-rows → Zeroed 0 working-words w5 x
+    → Copied w1 0 0 (2 * n) x v5 → Tables-zero (six w0 w1 w2 w3 w4 []) (six v0 v1 v2 v3 v4 [])
+    → Moves-rows n (six w0 w1 w2 w3 w4 w5) (six v0 v1 v2 v3 v4 v5)
+moves-rows {n} {w1 = w1} {v5 = v5} few z d t = record {
+  names = t .on-names;
+  refs = t .on-refs;
+  rows-cleared = t .on-rows;
+  recs = t .on-recs;
+  lists = t .on-lists;
+  moved = λ i h.
+      let e : 0 + i ≡ i = omega arith in
+      ap (λ j. getD v5 j 0) (sym e) ∙ d .words i h ∙ ap (λ j. getD w1 j 0) e;
+  cleared = λ i low high. d .same .same-words i (λ a b. omega arith) ∙ z .zero i (omega arith) (omega arith);
+  run = same-then (z .same) (same-wider 0 working-words (omega arith) (omega arith) (d .same));
+}
 
 -- the same in numbers
 pub found : {file : List ℕ} {position : ℕ} {lent held : Working} {room : ℕ} {a : Why} {r : Reasons}

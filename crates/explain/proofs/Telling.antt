@@ -1,7 +1,7 @@
 -- The reasons of an ask over filled tables: what the rows ask after the run and the pass of suppliers, and what is told.
 use Prim.Native.Nat.{ℕ, suc, _+_, _*_, _-_, _≤_, _<_}
 use native.Mathlib.Omega.{arith}
-use mathlib.Core.Path.{_≡_, refl, sym, _∙_, ap, subst}
+use mathlib.Core.Path.{_≡_, refl, sym, _∙_, ap, ap₂, subst}
 use mathlib.Core.Bool.{Bool}
 use mathlib.Core.List.{List}
 use mathlib.Core.Option.{some}
@@ -11,7 +11,7 @@ use lib.Seq.{ext-getD, getD-take, length-take-le}
 use Rattle.model.specs.Lists.{count}
 use Rattle.model.specs.Reading.{Ask, State}
 use Rattle.model.specs.Outcome.{most-bytes, working-words}
-use Rattle.model.specs.Reasons.{Item, scanned-items, supplier, rows, met-number}
+use Rattle.model.specs.Reasons.{Item, scanned-items, supplier, rows, met-bits, met-number}
 use Rattle.model.specs.Explaining.{told, reasons, why}
 use Rattle.model.specs.declared.Asked.{Asked}
 use Rattle.model.specs.declared.Counts.{Counts}
@@ -131,15 +131,26 @@ module _ {file names recs lists refs run v u : List ℕ} {k : Counts} {a : Asked
           let low : i < k .names = omega (arith, length-take-le (k .names) u (omega (arith, noted-long, lent .filled .table .few))) in
           getD-take (k .names) u i 0 low ∙ columns-stay i (omega (arith, lent .filled .table .few)) ∙ sym (getD-take (k .names) v i 0 low))
 
+  -- the term lines do not matter to the reasons
+  rows-any : (table : List ℕ) → rows q (state-of file names refs table recs lists k) ≡ rows q s
+  unfolding rows state-of
+  rows-any table = refl
+
+  met-any : (table : List ℕ) → met-number q (state-of file names refs table recs lists k) ≡ met-number q s
+  unfolding met-number met-bits state-of
+  met-any table = refl
+
   -- the answer, the rows and the slices
   pub tells-rows : {refs′ u′ : List ℕ} {r met : ℕ} → Rows-put names recs lists u k refs refs′ r → Met (k .names) u u′ met
       → Tells-rows file names recs lists k a refs refs′ run u′ (record { verdict = Accepted; place = 0; met = met; rows = r })
-  unfolding why reasons state-of
+  unfolding why reasons
   tells-rows {refs′} {u′} {r} {met} put m =
       let counted : r ≡ length (rows q s) = put .count ∙ ap length rows-there in
       record {
-        answered = λ table. rw (counted, met-there m);
-        stand = λ table. put .words ∙ ap words-of rows-there;
+        answered = λ table.
+            ap₂ (λ n j. record { verdict = Accepted; place = 0; met = n; rows = j }) (met-there m ∙ sym (met-any table))
+            (counted ∙ ap length (sym (rows-any table)));
+        stand = λ table. put .words ∙ ap words-of (rows-there ∙ sym (rows-any table));
         few = omega (arith, counted, rows-fit file s (lent .read) q);
         row-words = same-wider 0 working-words (omega arith) (omega (arith, counted, rows-fit file s (lent .read) q)) (put .same);
         run-words = same-then (same-wider 0 working-words (omega arith) (omega arith) (ran .same))

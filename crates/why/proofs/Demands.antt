@@ -2,11 +2,13 @@
 use Prim.Native.Nat.{ℕ, suc, _≤_, _<_}
 use native.Mathlib.Omega.{arith}
 use mathlib.Core.Path.{_≡_, refl, sym, _∙_, ap}
-use mathlib.Core.Logic.{_↔_, _⊎_, inl, inr}
+use mathlib.Core.Logic.{_↔_, _⊎_, inl, inr, ⊎-elim}
 use mathlib.Core.List.{List, [], _∷_, _++_}
-use lib.ListN.{length, take, drop}
+use lib.ListN.{length, take, drop, length-append}
+use Rattle.model.specs.Lines.{lines}
+use Rattle.model.specs.Summaries.{exclude-names}
 use Rattle.model.specs.Reading.{Ask, State}
-use Rattle.model.specs.Outcome.{refusal-number, Lent, stopped, front}
+use Rattle.model.specs.Outcome.{refusal-number, stopped, opened, front}
 use Rattle.model.specs.Working.{sizes}
 use Rattle.model.specs.Reasons.{rows, met-number}
 use Rattle.model.specs.Explaining.{Explanation, refusal-at, no-position, told, row-table, explanation, why, table-after}
@@ -15,12 +17,16 @@ use Rattle.model.specs.declared.Refusal.the-variants as refusal
 use Rattle.model.specs.declared.Row.{Row}
 use Rattle.model.specs.declared.Verdict.the-variants as verdict
 use Rattle.model.specs.declared.Why.{Why}
-use Rattle.demands.specs.Demand1.{Of-front, line}
+use Rattle.laws.proofs.ReadingLaws.{file-read}
+use Rattle.demands.specs.Demand1.{Of-front, line, Lines-judged}
+use Rattle.demands.specs.Asks.{asks-on}
 use Rattle.demands.specs.LinesRead.{Lines-read, At}
 use Rattle.demands.specs.Explaining.{When-15}
-use Rattle.demands.proofs.Demand1.{front-stops}
+use Rattle.demands.proofs.Demand1.{clash, front-stops, file-opened}
+use Rattle.demands.proofs.Asks.{asks-exact}
+use Rattle.demands.proofs.Spelling.{names-in-order}
 use Rattle.demands.proofs.Explaining.{explains, table-exact}
-use Rattle.demands.proofs.Reasons.{rows-exact, one-row, rows-in-order, supplier-lower, chains-end, met-exact}
+use Rattle.demands.proofs.Reasons.{rows-exact, one-row-each, rows-in-order, supplier-lower, chains-end, met-exact}
 use Rattle.front.specs.Demand.{verdict-number}
 use Rattle.front.proofs.Verdicts.{not-both, one-refusal, by-number, numbered, number-of}
 use Rattle.front.proofs.Demand.{Tells, front-demand}
@@ -133,19 +139,52 @@ module _ (c : Call) (exact : Exact c) where
       go (lacks is) = lacks-none is
       go (tells given met is) = absurd (other (accepts is))
 
+  -- where an ask stands at the position the call accepts, and nowhere else
+  There : Type 0
+  There =
+      Lines-judged (c .file) (counted c)
+      × ((s : State) × Lines-read (c .file) s × ((k : ℕ) × (c .position ≡ suc k) × (k < length (s .asks))))
+
+  accepted-there : Comes → Accepts c → There
+  unfolding There
+  accepted-there (stops r n is o) p = absurd (omega (arith, number-of-front is, numbered o .0))
+  accepted-there (lacks is) p = absurd (omega (arith, number-of-15 is))
+  accepted-there (tells given met is) p =
+      let (judged, (s, read, (a, (k, e, at), g, m, fits))) =
+      explains (c .file) (c .position) (sizes (c .lent)) (length (c .table)) .rows-told given met .0 is in
+      (judged, (s, read, (k, e, omega (arith, at .place, ap length (at .are), length-append (at .before) (a ∷ at .after)))))
+
+  there-accepted : Comes → There → Accepts c
+  unfolding There
+  there-accepted (stops r n is o) (judged, (s, read, place)) =
+      absurd (apart (file-opened (c .file) (counted c) s .1 (judged, read))
+      (explains (c .file) (c .position) (sizes (c .lent)) (length (c .table)) .refused r n .0 is))
+    where
+      apart : front (c .file) (counted c) ≡ opened s → front (c .file) (counted c) ≡ stopped r n → ⊥
+      apart x y = clash (cc)
+  there-accepted (lacks is) (judged, (s, read, (k, e, low))) =
+      let (judged′, (s′, read′, p)) = explains (c .file) (c .position) (sizes (c .lent)) (length (c .table)) .refused-15 .0 is in
+      let same = one (file-opened (c .file) (counted c) s .1 (judged, read)) (file-opened (c .file) (counted c) s′ .1 (judged′, read′)) in
+      absurd (⊎-elim (λ z. omega (arith, e)) (λ (h : length (s′ .asks) < c .position). omega (arith, e, low, ap (λ (s : State). length (s .asks)) same)) p)
+    where
+      one : {u v : State} → front (c .file) (counted c) ≡ opened u → front (c .file) (counted c) ≡ opened v → u ≡ v
+      one x y = cc
+  there-accepted (tells given met is) t = accepts is
+
   demand-1 : Demand-1 c
-  unfolding why
+  unfolding why There
   demand-1 = record {
     refusals = ways comes;
+    told = (accepted-there comes, there-accepted comes);
     front = front-demand (Refuses c) (c .file) (row-table (length (c .table)) ∷ []) (c .lent) (c .left) front-told (exact .slices);
     refused-15 = λ place. (to place comes, from place);
     no-counts = λ other. let n = none-left other in (n .0, n .1);
     no-row = λ other. none-left other .2;
   }
     where
-      ways : Comes → Accepts c ⊎ ((number : ℕ) × (1 ≤ number) × (number ≤ 15) × Refuses c number (c .answer .place))
-      ways (stops r n is o) = inr (refusal-number r, numbered o .0, omega (arith, numbered o .1), (number-of-front is, refl))
-      ways (lacks is) = inr (15, omega arith, omega arith, (number-of-15 is, refl))
+      ways : Comes → Accepts c ⊎ (((r : Refusal) × Of-front r × Refuses c (refusal-number r) (c .answer .place)) ⊎ Refuses c 15 0)
+      ways (stops r n is o) = inr (inl (r, o, (number-of-front is, refl)))
+      ways (lacks is) = inr (inr (number-of-15 is, place-of is))
       ways (tells given met is) = inl (accepts is)
 
       to : (place : ℕ) → Comes → Refuses c 15 place → (place ≡ 0) × When-15 (c .file) (c .position) (sizes (c .lent)) (length (c .table))
@@ -171,9 +210,11 @@ module _ (c : Call) (exact : Exact c) where
       record {
         rows-are = all;
         counted-rows = many ∙ ap length g;
+        place = place-of is;
+        spelled = names-in-order (c .file) s read;
         past = ap (λ (n : ℕ). drop n (c .table′)) many ∙ ap (drop (length given)) same ∙ past ∙ sym (ap (λ (n : ℕ). drop n (c .table)) many);
         exact = λ r. let x = rows-exact (c .file) s read a r in (λ i. x .0 (rw all at i), λ q. rw all (x .1 q));
-        one-row = one-row (c .file) s read a;
+        one-row = one-row-each (c .file) s read a;
         lower = λ r q. supplier-lower (c .file) s read a r q;
         in-order = rw all (rows-in-order (c .file) s read a);
         grounded = chains-end (c .file) s read a;
@@ -184,14 +225,14 @@ module _ (c : Call) (exact : Exact c) where
   demands : Demands c
   demands = record { demand-1 = demand-1; accepted = λ p. go p comes }
     where
-      go : Accepts c → Comes → (s : State) × Lines-read (c .file) s × ((a : Ask)
+      go : Accepts c → Comes → (s : State) × Lines-read (c .file) s × (s .asks ≡ asks-on (lines (c .file))) × ((a : Ask)
           × ((k : ℕ) × (c .position ≡ suc k) × At (s .asks) k a) × Told-of c s a)
       go p (stops r n is o) = absurd (omega (arith, number-of-front is, numbered o .0))
       go p (lacks is) = absurd (omega (arith, number-of-15 is))
       go p (tells given met is) =
           let (judged, (s, read, (a, there, g, m, fits))) =
           explains (c .file) (c .position) (sizes (c .lent)) (length (c .table)) .rows-told given met .0 is in
-          (s, read, (a, there, told-of s a given met read g m fits is))
+          (s, read, asks-exact (lines (c .file)) s (file-read exclude-names (c .file) s read), (a, there, told-of s a given met read g m fits is))
 
 pub demands-met : Demands-met
 demands-met c exact = demands c exact

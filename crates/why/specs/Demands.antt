@@ -1,18 +1,23 @@
 -- Document 02, Change 2, of a call of reasons: what it answers and leaves, for every file, position, table and lent slice.
-use Prim.Native.Nat.{ℕ, suc, _≤_}
+use Prim.Native.Nat.{ℕ, suc, _≤_, _<_}
 use mathlib.Core.Path.{_≡_}
 use mathlib.Core.Logic.{_↔_, _⊎_}
 use mathlib.Core.List.{List, _∷_, List·Memᴰ}
 use lib.ListN.{length, take, drop}
+use Rattle.model.specs.Lines.{lines}
 use Rattle.model.specs.Names.{Name}
 use Rattle.model.specs.Summaries.{Fact}
 use Rattle.model.specs.Reading.{Ask, State}
-use Rattle.model.specs.Outcome.{Lent}
+use Rattle.model.specs.Outcome.{Lent, refusal-number}
 use Rattle.model.specs.Working.{sizes}
 use Rattle.model.specs.Reasons.{rows, met-number}
 use Rattle.model.specs.Explaining.{row-table}
+use Rattle.model.specs.declared.Refusal.{Refusal}
 use Rattle.model.specs.declared.Row.{Row}
 use Rattle.demands.specs.LinesRead.{Lines-read, At, Distinct}
+use Rattle.demands.specs.Demand1.{Of-front, Lines-judged}
+use Rattle.demands.specs.Asks.{asks-on}
+use Rattle.demands.specs.Spelling.{Spelled-in-order}
 use Rattle.demands.specs.Explaining.{When-15}
 use Rattle.demands.specs.Reasons.{Reached-by, Row-due, Reason, Row-for, Rows-rise, Met-counted, Grounded}
 use Rattle.front.specs.Demand.{Front-demand}
@@ -33,7 +38,9 @@ Refuses c number place = (c .answer .refusal ≡ number) × (c .answer .place �
 -- demand 1: it accepts, or refuses with a refusal of the front or 15, each exactly under its condition; a refusal has no counts and
 -- "touches no row"
 pub record Demand-1 (c : Call) : Type 0 where
-  pub refusals : Accepts c ⊎ ((number : ℕ) × (1 ≤ number) × (number ≤ 15) × Refuses c number (c .answer .place))
+  pub refusals : Accepts c ⊎ (((r : Refusal) × Of-front r × Refuses c (refusal-number r) (c .answer .place)) ⊎ Refuses c 15 0)
+  pub told : Accepts c ↔ (Lines-judged (c .file) (counted c) × ((s : State) × Lines-read (c .file) s
+      × ((k : ℕ) × (c .position ≡ suc k) × (k < length (s .asks)))))
   pub front : Front-demand (Refuses c) (c .file) (counted c) (c .lent) (c .left)
   pub refused-15 : (place : ℕ)
       → Refuses c 15 place ↔ ((place ≡ 0) × When-15 (c .file) (c .position) (sizes (c .lent)) (length (c .table)))
@@ -49,6 +56,9 @@ pub record Told-of (c : Call) (s : State) (a : Ask) : Type 0 where
   pub rows-are : filled c ≡ rows a s
   pub counted-rows : c .answer .rows ≡ length (rows a s)
   pub past : drop (c .answer .rows) (c .table′) ≡ drop (c .answer .rows) (c .table)
+  pub place : c .answer .place ≡ 0
+  -- the numbers of names are those of first spelling, a trimmed token's after the names of its line
+  pub spelled : Spelled-in-order (c .file) s
   -- a row is filled exactly for a reason
   pub exact : (r : Row) → List·Memᴰ r (filled c) ↔ Reason a s r
   -- there is one for each reached fact and each of its listed names met by the end of its round
@@ -66,7 +76,7 @@ pub record Told-of (c : Call) (s : State) (a : Ask) : Type 0 where
 -- the demands of a call; where it accepts, of the state that reading its file ends in and of the ask at its position
 pub record Demands (c : Call) : Type 0 where
   pub demand-1 : Demand-1 c
-  pub accepted : Accepts c → (s : State) × Lines-read (c .file) s × ((a : Ask)
+  pub accepted : Accepts c → (s : State) × Lines-read (c .file) s × (s .asks ≡ asks-on (lines (c .file))) × ((a : Ask)
       × ((k : ℕ) × (c .position ≡ suc k) × At (s .asks) k a) × Told-of c s a)
 
 -- what a call leaves meets them

@@ -1,0 +1,41 @@
+-- `explain::tell` meets its contract.
+use native.Mathlib.Omega.{arith}
+use Rattle.scan.proofs.Joining.{laid}
+use Rattle.explain.proofs.Telling.{explainable, tells-rows}
+use Rattle.explain.proofs.tell.Statement.{statement}
+use Rattle.explain.proofs.tell.Tie as tie
+
+run-ask-requires : tie.Need-run-ask-requires
+run-ask-requires c κs = (c .before .before .before .before .before .before .before .pre .filled, c .before .before .before .before .before .before .before .pre .asked, omega (arith, c .before .before .before .before .before .before .before .pre .room))
+
+find-suppliers-requires : tie.Need-find-suppliers-requires
+find-suppliers-requires c κs = (laid (c .before .before .before .before .before .before .before .before .before .before .before .pre .filled), c .before .before .before .before .before .before .before .before .before .before .before .pre .asked, omega (arith, c .before .before .before .before .before .before .before .before .before .before .before .pre .room, c .before .before .before .run-ask .ensures .same .same-length))
+
+put-rows-requires : tie.Need-put-rows-requires
+put-rows-requires c κs = explainable (c .before .before .before .before .before .before .before .before .before .before .before .before .before .before .before .before .pre) (c .before .before .before .before .before .before .before .before .run-ask .ensures) (c .before .before .before .before .find-suppliers .ensures)
+
+count-met-requires : tie.Need-count-met-requires
+count-met-requires c κs =
+    (omega (arith, c .before .before .before .before .before .before .before .before .before .before .before .before .before .before .before .before .before .before .before .before .pre .room, c .before .before .before .before .before .before .before .before .before .before .before .before .run-ask .ensures .same .same-length, c .before .before .before .before .before .before .before .before .find-suppliers .ensures .same .same-length), c .before .before .before .before .before .before .before .before .before .before .before .before .before .before .before .before .before .before .before .before .pre .filled .table .few)
+
+same-length : tie.Need-same-length
+same-length c = c .before .before .before .before .before .before .put-rows .ensures .same .same-length
+
+same-length-2 : tie.Need-same-length-2
+same-length-2 c =
+    tells-rows (c .before .before .before .before .before .before .before .before .before .before .before .before .before .before .before .before .before .before .before .before .before .before .before .pre) (c .before .before .before .before .before .before .before .before .before .before .before .before .before .before .before .run-ask .ensures) (c .before .before .before .before .before .before .before .before .before .before .before .find-suppliers .ensures) (c .before .before .before .before .before .before .put-rows .ensures) (c .before .before .count-met .ensures) .run-words .same-length
+
+returns : tie.Need-returns
+returns c = tells-rows (c .before .before .before .before .before .before .before .before .before .before .before .before .before .before .before .before .before .before .before .before .before .before .before .pre) (c .before .before .before .before .before .before .before .before .before .before .before .before .before .before .before .run-ask .ensures) (c .before .before .before .before .before .before .before .before .before .before .before .find-suppliers .ensures) (c .before .before .before .before .before .before .put-rows .ensures) (c .before .before .count-met .ensures)
+
+pub tell-spec : {M : Type 1} → statement M
+tell-spec =
+    tie.close
+    (tie.spec
+    run-ask-requires
+    find-suppliers-requires
+    put-rows-requires
+    count-met-requires
+    same-length
+    same-length-2
+    returns)
