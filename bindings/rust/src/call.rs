@@ -97,7 +97,7 @@ pub fn filter(file: &[u8], working: [&mut [u32]; 6], result: &mut [u32]) -> Resu
     let answer = answer(file, working, result);
     match answer.refusal {
         0 => Ok(Counts { kept: answer.kept, visits: answer.visits, rounds: answer.rounds }),
-        number => Err(Refusal::of(number, answer.place).expect("a refusal is one of thirteen")),
+        number => Err(Refusal::of(number, answer.place).expect("a refusal has its number")),
     }
 }
 
