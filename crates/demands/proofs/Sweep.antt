@@ -120,7 +120,7 @@ sweep-tells file works room =
           (λ s e. accepted-asks file s (file-opened file works s .0 e .1) .few)));
       told = λ ps s e accepted i a h.
           let exact = ap (λ l. getD l i 0) (listed-passes file works room ps s e accepted)
-              ∙ count-at (λ a. sweep-of a s .passes) (s .asks) i a h in
+          ∙ count-at (λ a. sweep-of a s .passes) (s .asks) i a h in
           record {
             exact = exact;
             some = omega (arith, exact, passes-some file s accepted a);
