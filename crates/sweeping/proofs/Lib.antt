@@ -1,0 +1,5 @@
+pub mod Passes
+pub mod PassLaws
+pub mod Entries
+pub mod Passing
+pub mod Standing

@@ -2,7 +2,7 @@ use model::Asked;
 use model::Counts;
 ghost use Prim.Native.Nat.{ℕ, _+_, _≤_, _<_};
 ghost use mathlib.Core.Path.{_≡_};
-ghost use mathlib.Core.Bool.{false};
+ghost use mathlib.Core.Bool.{Bool};
 ghost use lib.ListN.{length};
 ghost use Rattle.model.specs.Lists.{any, part};
 ghost use Rattle.model.specs.Reading.{most-names, most-records, most-entries};
@@ -84,9 +84,9 @@ fn meet_first(names: &[u32], recs: &[u32], lists: &[u32], run: &mut [u32], k: Co
 // Passes over the records in line order: one that is added is reached, and its names are met at once. Whether one was added.
 fn pass(names: &[u32], recs: &[u32], lists: &[u32], run: &mut [u32], k: Counts, a: Asked) -> bool
     requires { ⌜ Laid (now names) (now recs) (now lists) k × (run-end ≤ length (now run)) ⌝ }
-    ensures { λ r. ⌜ ((n : ℕ) → sweeping (now (run .exit)) (n + 1) r
+    ensures { λ r. ⌜ ((n : ℕ) (b : Bool) → sweeping (now (run .exit)) (n + 1) r
         ≡ pass-all (held-of (now (names .entry)) (now (recs .entry)) (now (lists .entry)) k a)
-        (sweeping (now (run .entry)) n false)) ⌝ }
+        (sweeping (now (run .entry)) n b)) ⌝ }
 {
     let count = k.records;
     let mut added = false;
