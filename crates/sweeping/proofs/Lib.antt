@@ -3,3 +3,4 @@ pub mod PassLaws
 pub mod Entries
 pub mod Passing
 pub mod Standing
+pub mod Loops
