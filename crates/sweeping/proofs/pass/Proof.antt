@@ -1,86 +1,110 @@
-use borrow.Author.Needs.{needs}
+-- `sweeping::pass` meets its contract. The loop's invariant: the records so far are passed.
+use Prim.Native.Nat.{_-_}
 use native.Mathlib.Omega.{arith}
+use mathlib.Core.Path.{refl, _∙_}
+use lib.ListN.{length-set}
+use borrow.Author.Tests.{not-true, not-false}
+use Rattle.scan.specs.Tables.{held-of}
+use Rattle.sweeping.proofs.Entries.{adds-exact}
+use Rattle.sweeping.proofs.Loops.{Passing, pass-start, pass-skip, pass-next, pass-end}
 use Rattle.sweeping.proofs.pass.Statement.{statement}
 use Rattle.sweeping.proofs.pass.Tie as tie
-use Rattle.sweeping.proofs.pass.Reads as reads
-use Rattle.sweeping.proofs.pass.Lts as lts
-use Rattle.scan.proofs.meet_record.Reads as meet-record-reads
-use Rattle.sweeping.proofs.adds.Reads as adds-reads
 
 abbrev Inv-loop : tie.InvT-loop
-Inv-loop names recs lists run₀ k a count added₀ i₀ run added i = ?
+Inv-loop names recs lists run₀ k a count added₀ i₀ run added i = Passing (held-of names recs lists k a) run₀ count i run added
 
 abbrev μ-loop : tie.MeasureT-loop
-μ-loop names recs lists run₀ k a count added₀ i₀ run added i = ?
+μ-loop names recs lists run₀ k a count added₀ i₀ run added i = count - i
 
--- src/lib.rt:94:5
 loop-holds : tie.Need-loop-holds Inv-loop μ-loop
-loop-holds c = search needs
+loop-holds c = pass-start
 
--- src/lib.rt:96:9
 add-i : tie.Need-add-i Inv-loop μ-loop
-add-i c = search needs
+add-i c =
+    let pre = c .before .before .before .before .before .before .pre in
+    let few = pre .0 .few-records in
+    omega (arith, c .loop-test .taken)
 
--- src/lib.rt:97:13
 adds-requires : tie.Need-adds-requires Inv-loop μ-loop
-adds-requires c κs = search needs
+adds-requires c κs =
+    let test = c .before in
+    let loop = test .before in
+    let entry = loop .before .before .before .before .before in
+    let pre = entry .pre in
+    let few = pre .0 .few-records in
+    let same = loop .loop .inv .same-length in
+    let place = pre .0 .entry-place _ (test .loop-test .taken) in
+    (omega (arith, test .loop-test .taken), pre .0 .record-room, pre .0 .list-room, omega (arith, pre .1), place .0, place .1)
 
--- src/lib.rt:94:5
 loop-less : tie.Need-loop-less Inv-loop μ-loop
-loop-less c = search needs
+loop-less c = omega arith
 
--- src/lib.rt:94:5
 loop-again : tie.Need-loop-again Inv-loop μ-loop
-loop-again c = search needs
+loop-again c =
+    let adds = c .before in
+    let test = adds .before .before in
+    let loop = test .before in
+    let entry = loop .before .before .before .before .before in
+    pass-skip (loop .loop .inv) (test .loop-test .taken)
+    (adds .adds .ensures ∙ adds-exact (entry .pre .0) (entry .args .a) _ _ (test .loop-test .taken)) (not-true _ (c .if1 .taken))
 
--- src/lib.rt:100:13
 add-run : tie.Need-add-run Inv-loop μ-loop
-add-run c = search needs
+add-run c =
+    let test = c .before .before .before in
+    let entry = test .before .before .before .before .before .before in
+    let few = entry .pre .0 .few-records in
+    omega (arith, test .loop-test .taken)
 
--- src/lib.rt:100:9
 mul-run : tie.Need-mul-run Inv-loop μ-loop
-mul-run c = search needs
+mul-run c =
+    let test = c .before .before .before in
+    let entry = test .before .before .before .before .before .before in
+    let few = entry .pre .0 .few-records in
+    omega (arith, test .loop-test .taken)
 
--- src/lib.rt:100:9
 slice-write-run : tie.Need-slice-write-run Inv-loop μ-loop
-slice-write-run c = search needs
+slice-write-run c =
+    let test = c .before .before .before in
+    let loop = test .before in
+    let entry = loop .before .before .before .before .before in
+    let few = entry .pre .0 .few-records in
+    let same = loop .loop .inv .same-length in
+    omega (arith, test .loop-test .taken, entry .pre .1)
 
--- src/lib.rt:101:9
 meet-record-requires : tie.Need-meet-record-requires Inv-loop μ-loop
-meet-record-requires c κs = search needs
+meet-record-requires c κs =
+    let test = c .before .before .before .before in
+    let loop = test .before in
+    let entry = loop .before .before .before .before .before in
+    let pre = entry .pre in
+    let same = loop .loop .inv .same-length in
+    (pre .0, test .loop-test .taken, rw length-set (omega (arith, pre .1)), omega arith)
 
--- src/lib.rt:94:5
 loop-less-2 : tie.Need-loop-less-2 Inv-loop μ-loop
-loop-less-2 c = search needs
+loop-less-2 c = omega arith
 
--- src/lib.rt:94:5
 loop-again-2 : tie.Need-loop-again-2 Inv-loop μ-loop
-loop-again-2 c = search needs
+unfolding held-of
+loop-again-2 c =
+    let meet-record = c .before .before in
+    let if1 = meet-record .before .before in
+    let adds = if1 .before in
+    let test = adds .before .before in
+    let loop = test .before in
+    let entry = loop .before .before .before .before .before in
+    pass-next (loop .loop .inv) (test .loop-test .taken)
+    (adds .adds .ensures ∙ adds-exact (entry .pre .0) (entry .args .a) _ _ (test .loop-test .taken)) (not-false _ (if1 .if1 .left))
+    (meet-record .meet-record .ensures)
 
--- src/lib.rt:85:1
 same-length : tie.Need-same-length Inv-loop μ-loop
-same-length c = search needs
+same-length c = c .before .loop .inv .same-length
 
--- src/lib.rt:85:1
 returns : tie.Need-returns Inv-loop μ-loop
-returns c = search needs
+unfolding held-of
+returns c = pass-end (c .before .loop .inv) (c .loop-test .left) refl
 
 pub pass-spec : {M : Type 1} → statement M
 pass-spec =
     tie.close
-    (tie.spec
-    Inv-loop
-    μ-loop
-    loop-holds
-    add-i
-    adds-requires
-    loop-less
-    loop-again
-    add-run
-    mul-run
-    slice-write-run
-    meet-record-requires
-    loop-less-2
-    loop-again-2
-    same-length
-    returns)
+    (tie.spec Inv-loop μ-loop loop-holds add-i adds-requires loop-less loop-again add-run mul-run slice-write-run meet-record-requires
+    loop-less-2 loop-again-2 same-length returns)
