@@ -103,7 +103,7 @@ module _ (recs lists : List ℕ) (a : Asked) (w : List ℕ) (i : ℕ) {p : Bool}
 
 -- by the disjuncts
 pub adds-exact : {names recs lists : List ℕ} {k : Counts} (laid : Laid names recs lists k) (a : Asked) (w : List ℕ) (i : ℕ) → i < k .records
-    → adds-at recs lists a w i ≡ joins (held-of names recs lists k a) w i
+    → {b : Bool} → b ≡ adds-at recs lists a w i → b ≡ joins (held-of names recs lists k a) w i
 unfolding adds-at joins fires-now fires-on held-of
-adds-exact {recs = recs} {lists} laid a w i l =
-    rw (any-exact w (entries-at recs lists i), fires-exact w (entries-at recs lists i) (laid .entry-words i l .closed))
+adds-exact {recs = recs} {lists} laid a w i l e =
+    e ∙ rw (any-exact w (entries-at recs lists i), fires-exact w (entries-at recs lists i) (laid .entry-words i l .closed))

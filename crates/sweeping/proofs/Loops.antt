@@ -22,7 +22,7 @@ use Rattle.scan.proofs.Starting.{clear-length, clear-zero, clear-far, few-unrea
 use Rattle.sweeping.specs.Sweeping.{Sweeping, sweeping, adds-at, joins, joined, pass-record, passed, pass-all, Passes, last, more, met-of}
 use Rattle.sweeping.specs.Swept.{met-first}
 use Rattle.sweeping.proofs.Entries.{adds-exact}
-use Rattle.sweeping.proofs.Passing.{pass-behind, pass-fewer}
+use Rattle.sweeping.proofs.Passing.{met-behind, pass-behind, pass-fewer}
 
 -- ---- the first names
 
@@ -70,6 +70,13 @@ pub first-names : (names recs lists : List ℕ) (k : Counts) (a : Asked) {w v u 
 unfolding met-first
 first-names names recs lists k a {w} {v} long z m l =
     meet-end m l ∙ ap (met-of (held-of names recs lists k a) (starts-at recs a) (k .records)) (zeroed-is work-column w v (omega arith) z)
+
+-- it is as long
+pub first-length : {names recs lists : List ℕ} {k : Counts} → Laid names recs lists k → (a : Asked) (w : List ℕ) {u : List ℕ}
+    → u ≡ met-first names recs lists k a w → length u ≡ length w
+unfolding met-first held-of
+first-length {recs = recs} {k = k} laid a w e =
+    ap length e ∙ met-behind (laid .fits a) (starts-at recs a) (k .records) (omega arith) (zeroed-to work-column w) .same-length ∙ clear-length work-column w
 
 -- ---- a pass
 

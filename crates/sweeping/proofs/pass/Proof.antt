@@ -1,7 +1,7 @@
 -- `sweeping::pass` meets its contract. The loop's invariant: the records so far are passed.
 use Prim.Native.Nat.{_-_}
 use native.Mathlib.Omega.{arith}
-use mathlib.Core.Path.{refl, _∙_}
+use mathlib.Core.Path.{refl}
 use lib.ListN.{length-set}
 use borrow.Author.Tests.{not-true, not-false}
 use Rattle.scan.specs.Tables.{held-of}
@@ -46,7 +46,7 @@ loop-again c =
     let loop = test .before in
     let entry = loop .before .before .before .before .before in
     pass-skip (loop .loop .inv) (test .loop-test .taken)
-    (adds .adds .ensures ∙ adds-exact (entry .pre .0) (entry .args .a) _ _ (test .loop-test .taken)) (not-true _ (c .if1 .taken))
+    (adds-exact (entry .pre .0) (entry .args .a) _ _ (test .loop-test .taken) (adds .adds .ensures)) (not-true _ (c .if1 .taken))
 
 add-run : tie.Need-add-run Inv-loop μ-loop
 add-run c =
@@ -93,7 +93,7 @@ loop-again-2 c =
     let loop = test .before in
     let entry = loop .before .before .before .before .before in
     pass-next (loop .loop .inv) (test .loop-test .taken)
-    (adds .adds .ensures ∙ adds-exact (entry .pre .0) (entry .args .a) _ _ (test .loop-test .taken)) (not-false _ (if1 .if1 .left))
+    (adds-exact (entry .pre .0) (entry .args .a) _ _ (test .loop-test .taken) (adds .adds .ensures)) (not-false _ (if1 .if1 .left))
     (meet-record .meet-record .ensures)
 
 same-length : tie.Need-same-length Inv-loop μ-loop
