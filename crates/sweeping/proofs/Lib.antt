@@ -1,5 +1,3 @@
-pub mod Passes
-pub mod PassLaws
 pub mod Entries
 pub mod Passing
 pub mod Standing

@@ -1,10 +1,10 @@
 -- What the functions that meet the first names, pass and sweep cite.
-use Prim.Native.Nat.{ℕ, zero, suc, _+_, _≤_, _<_}
+use Prim.Native.Nat.{ℕ, zero, _+_, _≤_, _<_}
 use native.Mathlib.Omega.{arith}
 use native.Mathlib.Numerals.{add-one}
 use mathlib.Core.Path.{_≡_, refl, sym, _∙_, ap, subst}
-use mathlib.Core.Bool.{Bool, true, false, cond}
-use mathlib.Core.Logic.{_⊎_, inl, inr, ⊎-elim}
+use mathlib.Core.Bool.{Bool, true, false}
+use mathlib.Core.Logic.{_⊎_, ⊎-elim}
 use mathlib.Core.List.{List}
 use lib.ListN.{length, getD, set, length-set}
 use lib.Seq.{ext-getD}
@@ -12,16 +12,15 @@ use Rattle.model.specs.Reading.{most-records}
 use Rattle.model.specs.declared.Asked.{Asked}
 use Rattle.model.specs.declared.Counts.{Counts}
 use Rattle.terms.proofs.Laws.{below}
-use Rattle.words.specs.Slices.{Same-but, Zeroed}
+use Rattle.words.specs.Slices.{Zeroed}
 use Rattle.scan.specs.Held.{Held, Fits}
 use Rattle.scan.specs.Steps.{reached-column, work-column, run-end, marks, opened-all, unreached}
-use Rattle.scan.specs.Tables.{held-of, record-meets, Laid}
+use Rattle.scan.specs.Tables.{held-of, Laid}
 use Rattle.scan.specs.Starts.{zeroed-to, starts-at}
 use Rattle.scan.proofs.Marks.{marks-length}
 use Rattle.scan.proofs.Starting.{clear-length, clear-zero, clear-far, few-unreached}
-use Rattle.sweeping.specs.Sweeping.{Sweeping, sweeping, adds-at, joins, joined, pass-record, passed, pass-all, Passes, last, more, met-of}
+use Rattle.sweeping.specs.Sweeping.{Sweeping, sweeping, joins, joined, pass-record, passed, pass-all, Passes, last, more, met-of}
 use Rattle.sweeping.specs.Swept.{met-first}
-use Rattle.sweeping.proofs.Entries.{adds-exact}
 use Rattle.sweeping.proofs.Passing.{met-behind, pass-behind, pass-fewer}
 
 -- ---- the first names

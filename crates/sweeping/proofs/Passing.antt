@@ -1,16 +1,15 @@
 -- What a pass on numbers does to the slice: the records reached, those not reached, what it leaves.
 use Prim.Native.Nat.{ℕ, zero, suc, _+_, _≤_, _<_}
 use native.Mathlib.Omega.{arith}
-use mathlib.Core.Path.{_≡_, refl, sym, _∙_, ap}
+use mathlib.Core.Path.{_≡_, refl, _∙_, ap}
 use mathlib.Core.Bool.{Bool, true, false, cond, not, _&&_}
-use mathlib.Core.List.{List, List·Memᴰ}
+use mathlib.Core.List.{List}
 use lib.Dec.{T, ltb}
 use lib.ListN.{length, getD, set, length-set}
 use lib.Seq.{getD-set-same, getD-set-other}
-use Rattle.model.specs.Lists.{count}
 use Rattle.model.specs.Reading.{most-records}
 use Rattle.model.proofs.ListLaws.{T-and, branch, cond-case}
-use Rattle.scan.specs.Held.{Held, Fits, upto}
+use Rattle.scan.specs.Held.{Held, Fits}
 use Rattle.scan.specs.Steps.{reached-column, work-column, run-end, is-reached, marks, opened-all, unreached}
 use Rattle.scan.proofs.Numbers.{count-less}
 use Rattle.scan.proofs.Marks.{marks-length, marks-out}

@@ -26,7 +26,7 @@ use Rattle.scan.proofs.Round.{opened-small}
 use Rattle.scan.proofs.Meeting.{Agrees, fires-at, met-round}
 use Rattle.scan.proofs.Rounds.{label, reached-set}
 use Rattle.sweeping.specs.Sweeping.{Sweeping, sweeping, met-of, fires-now, joins, joined, pass-record, passed, pass-all, Passes, last, more}
-use Rattle.sweeping.proofs.Passes.{Sweeps, last as last-pass, more as more-passes}
+use Rattle.laws.specs.Passes.{Sweeps, last as last-pass, more as more-passes}
 use Rattle.sweeping.proofs.Passing.{joined-behind, joined-self, joined-other}
 
 -- the facts of the first n records, in line order

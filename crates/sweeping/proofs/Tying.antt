@@ -2,10 +2,10 @@
 use Prim.Native.Nat.{ℕ, zero, suc, _+_, _≤_, _<_}
 use native.Mathlib.Omega.{arith}
 use mathlib.Core.Path.{_≡_, sym, _∙_, ap, subst}
-use mathlib.Core.Bool.{Bool, false, cond}
+use mathlib.Core.Bool.{false, cond}
 use mathlib.Core.Logic.{_↔_, ⊎-elim}
 use mathlib.Core.List.{List, [], _∷_, _++_, map, List·Memᴰ}
-use lib.ListN.{length, getD}
+use lib.ListN.{length}
 use Rattle.model.specs.Lists.{collect}
 use Rattle.model.specs.Names.{Name}
 use Rattle.model.specs.Summaries.{Fact}
@@ -28,10 +28,10 @@ use Rattle.scan.proofs.Starting.{clear-length, clear-zero, clear-far}
 use Rattle.scan.proofs.Background.{no-facts, next-facts}
 use Rattle.scan.proofs.Joining.{laid, holds}
 use Rattle.scan.proofs.Asking.{first-in, first-all}
-use Rattle.sweeping.specs.Sweeping.{Sweeping, sweeping, met-of, Passes}
+use Rattle.sweeping.specs.Sweeping.{sweeping, Passes}
 use Rattle.sweeping.specs.Swept.{tables-sweep, met-first, Swept-through}
-use Rattle.sweeping.proofs.PassLaws.{sweep-ends}
-use Rattle.sweeping.proofs.Passing.{Same-behind, behind-trans, met-behind, passes-behind}
+use Rattle.laws.proofs.PassLaws.{sweep-ends}
+use Rattle.sweeping.proofs.Passing.{behind-trans, met-behind, passes-behind}
 use Rattle.sweeping.proofs.Standing.{facts-below, chosen, chosen-elim, chosen-intro, Stands, start-stands, passes-over}
 
 module _ {file names recs lists : List ℕ} {k : Counts} (x : Filled file names recs lists k) (a : Asked) where

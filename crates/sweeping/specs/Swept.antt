@@ -17,7 +17,7 @@ use Rattle.scan.specs.Held.{set-of}
 use Rattle.scan.specs.Steps.{work-column, is-met, is-reached}
 use Rattle.scan.specs.Tables.{held-of}
 use Rattle.scan.specs.Starts.{zeroed-to, starts-at}
-use Rattle.sweeping.specs.Sweeping.{Sweeping, sweeping, met-of, Passes}
+use Rattle.sweeping.specs.Sweeping.{sweeping, met-of, Passes}
 
 -- the sweep of `model` of an ask over its background
 unfoldable pub tables-sweep : List ℕ → List ℕ → List ℕ → List ℕ → Counts → Asked → Sweep

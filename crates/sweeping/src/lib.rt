@@ -45,10 +45,12 @@ fn adds(recs: &[u32], lists: &[u32], run: &[u32], a: Asked, i: usize) -> bool
         × (entries-end (now recs) i ≤ most-entries) ⌝ }
     ensures { λ r. ⌜ r ≡ adds-at (now (recs .entry)) (now (lists .entry)) a (now (run .entry)) i ⌝ }
 {
-    if !records::takes_part(recs, a, i) {
+    let admitted = records::takes_part(recs, a, i);
+    if !admitted {
         return false;
     }
-    if !scan::retained(recs, a, i) {
+    let retainable = scan::retained(recs, a, i);
+    if !retainable {
         return false;
     }
     if words::at(run, scan::REACHED + i) != 0 {
@@ -90,15 +92,15 @@ fn pass(names: &[u32], recs: &[u32], lists: &[u32], run: &mut [u32], k: Counts, 
 {
     let count = k.records;
     let mut added = false;
-    let mut i = 0;
-    while i < count {
-        let j = i;
-        i += 1;
-        if !adds(recs, lists, run, a, j) {
+    let mut next = 0;
+    while next < count {
+        let i = next;
+        next += 1;
+        if !adds(recs, lists, run, a, i) {
             continue;
         }
-        run[scan::REACHED + j] = 1;
-        scan::meet_record(names, recs, lists, run, k, j, 1);
+        run[scan::REACHED + i] = 1;
+        scan::meet_record(names, recs, lists, run, k, i, 1);
         added = true;
     }
     added

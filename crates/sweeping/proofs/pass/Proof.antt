@@ -11,16 +11,16 @@ use Rattle.sweeping.proofs.pass.Statement.{statement}
 use Rattle.sweeping.proofs.pass.Tie as tie
 
 abbrev Inv-loop : tie.InvT-loop
-Inv-loop names recs lists run₀ k a count added₀ i₀ run added i = Passing (held-of names recs lists k a) run₀ count i run added
+Inv-loop names recs lists run₀ k a count added₀ next₀ run added next = Passing (held-of names recs lists k a) run₀ count next run added
 
 abbrev μ-loop : tie.MeasureT-loop
-μ-loop names recs lists run₀ k a count added₀ i₀ run added i = count - i
+μ-loop names recs lists run₀ k a count added₀ next₀ run added next = count - next
 
 loop-holds : tie.Need-loop-holds Inv-loop μ-loop
 loop-holds c = pass-start
 
-add-i : tie.Need-add-i Inv-loop μ-loop
-add-i c =
+add-next : tie.Need-add-next Inv-loop μ-loop
+add-next c =
     let pre = c .before .before .before .before .before .before .pre in
     let few = pre .0 .few-records in
     omega (arith, c .loop-test .taken)
@@ -106,5 +106,5 @@ returns c = pass-end (c .before .loop .inv) (c .loop-test .left) refl
 pub pass-spec : {M : Type 1} → statement M
 pass-spec =
     tie.close
-    (tie.spec Inv-loop μ-loop loop-holds add-i adds-requires loop-less loop-again add-run mul-run slice-write-run meet-record-requires
+    (tie.spec Inv-loop μ-loop loop-holds add-next adds-requires loop-less loop-again add-run mul-run slice-write-run meet-record-requires
     loop-less-2 loop-again-2 same-length returns)

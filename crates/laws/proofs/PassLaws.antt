@@ -16,8 +16,8 @@ use Rattle.model.specs.Rounds.{facts, macros, fires, retainable}
 use Rattle.model.specs.Sweep.{Sweep, adds, with-added, pass-fact, begin-pass, pass, passes-from, has-triggers, facts-with-triggers, sweep-start, sweep}
 use Rattle.model.proofs.ListLaws.{T-and, T-dec, true-T, cond-true, cond-false, cond-ap, branch, keep-le, keep-less, count-keep, mem-not-nil, fold-left-case, fold-keeps}
 use Rattle.model.proofs.SetLaws.{Within, mem-add}
-use Rattle.sweeping.proofs.Passes.{Sweeps, last, more}
+use Rattle.laws.specs.Passes.{Sweeps, last, more}
 use Rattle.laws.proofs.FiringLaws.{fires-elim}
 
 -- what makes a fact added
 pub record Added (a : Ask) (s : Sweep) (f : Fact) : Type 0 where
