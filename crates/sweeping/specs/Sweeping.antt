@@ -1,5 +1,5 @@
--- A sweep on numbers, record after record. Its slice is that of a run without the worklist: by name the word 1 where it is met, by
--- record the word 1 where it is reached.
+-- A sweep on numbers, record after record. Its slice is that of a run without the worklist: by name the word 1 where it is
+-- met, by record the word 1 where it is reached.
 use Prim.Native.Nat.{ℕ, zero, suc, _+_, _%_}
 use mathlib.Core.Path.{_≡_}
 use mathlib.Core.Bool.{Bool, true, false, cond, not, _&&_}
@@ -41,7 +41,8 @@ adds-at recs lists a w i =
 module _ (h : Held) where
   -- ---- by the disjuncts
 
-  -- whether a record fires: a name of its disjuncts is met, and one of them wholly. The second alone would let an empty one fire
+  -- whether a record fires: a name of its disjuncts is met, and one of them wholly. The second alone would let an empty one
+  -- fire
   unfoldable pub fires-now : List ℕ → ℕ → Bool
   fires-now w i = any (any (is-met w)) (h .disjuncts i) && fires-on h (is-met w) i
 
@@ -74,4 +75,6 @@ module _ (h : Held) where
   -- before the first pass: the names met of those of the first n records of which the test holds
   unfoldable pub met-of : (ℕ → Bool) → ℕ → List ℕ → List ℕ
   met-of test zero w = w
-  met-of test (suc n) w = let before = met-of test n w in cond (test n) (marks 1 before (opened-all (h .opens) (h .frees n))) before
+  met-of test (suc n) w =
+      let before = met-of test n w in
+      cond (test n) (marks 1 before (opened-all (h .opens) (h .frees n))) before

@@ -27,10 +27,13 @@ tables-sweep file names recs lists k a =
 
 -- the slice before the first pass: its columns set to zero, the names of the records that start met
 unfoldable pub met-first : List ℕ → List ℕ → List ℕ → Counts → Asked → List ℕ → List ℕ
-met-first names recs lists k a w = met-of (held-of names recs lists k a) (starts-at recs a) (k .records) (zeroed-to work-column w)
+met-first names recs lists k a w =
+    met-of (held-of names recs lists k a) (starts-at recs a) (k .records) (zeroed-to work-column w)
 
--- the run's slice after it, and how many passes there were. A name of the sweep may have no number: a macro of the start opens to it
-pub record Swept-through (file names recs lists : List ℕ) (k : Counts) (a : Asked) (before after : List ℕ) (many : ℕ) : Type 0 where
+-- the run's slice after it, and how many passes there were. A name of the sweep may have no number: a macro of the start opens
+-- to it
+pub record Swept-through (file names recs lists : List ℕ) (k : Counts) (a : Asked) (before after : List ℕ)
+    (many : ℕ) : Type 0 where
   pub met : (n : ℕ) → n < k .names → is-met after n ≡ mem (name-of file names n) (tables-sweep file names recs lists k a .met)
   pub reached : set-of (λ i. name-of file names (record-name recs i)) (is-reached after) (k .records)
       ≡ tables-sweep file names recs lists k a .reached
@@ -39,4 +42,6 @@ pub record Swept-through (file names recs lists : List ℕ) (k : Counts) (a : As
   pub few : many ≤ most-records + 1
   pub same : Same-but 0 work-column before after
   -- every word: the passes on numbers, from the names that the records that start meet
-  pub words : Passes (held-of names recs lists k a) (sweeping (met-first names recs lists k a before) 0 false) (sweeping after many false)
+  pub words : Passes (held-of names recs lists k a)
+      (sweeping (met-first names recs lists k a before) 0 false)
+      (sweeping after many false)

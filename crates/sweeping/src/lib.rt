@@ -37,8 +37,8 @@ fn any_met(lists: &[u32], run: &[u32], a: usize, e: usize) -> bool
     false
 }
 
-// Whether a record is added: a retainable fact that the ask admits, not reached, and it fires on the names met now. `scan::fires`
-// alone would let an empty disjunct fire.
+// Whether a record is added: a retainable fact that the ask admits, not reached, and it fires on the names met now.
+// `scan::fires` alone would let an empty disjunct fire.
 fn adds(recs: &[u32], lists: &[u32], run: &[u32], a: Asked, i: usize) -> bool
     requires { ⌜ (i < most-records) × (working-words ≤ length (now recs)) × (working-words ≤ length (now lists))
         × (run-end ≤ length (now run)) × (entries-start (now recs) i ≤ entries-end (now recs) i)
