@@ -6,7 +6,9 @@ use std::path::Path;
 
 use compare::export::export;
 use compare::text::Text;
-use compare::{filter_file, forms, limits};
+use compare::{calls as call_files, filter_file, forms, limits, Command};
+
+use crate::sides;
 
 /// Where a file comes from.
 #[derive(Clone, Copy, PartialEq, Eq)]
@@ -14,13 +16,22 @@ pub enum Sort {
     Export,
     Real,
     Ugly,
+    Further,
 }
 
 /// A file that is timed.
 pub struct Sample {
     pub name: String,
     pub sort: Sort,
+    pub call: Command,
     pub file: Vec<u8>,
+}
+
+impl Sample {
+    /// A file of the first call.
+    fn new(name: impl Into<String>, sort: Sort, file: Vec<u8>) -> Self {
+        Sample { name: name.into(), sort, call: Command::List, file }
+    }
 }
 
 /// The seed of the files that look like exports.
@@ -43,7 +54,7 @@ pub fn exports() -> Vec<Sample> {
         (FIFTEEN_ALSO, fifteen_also()),
         (SIXTEEN_HALVES, sixteen_halves()),
     ];
-    files.map(|(name, file)| Sample { name: name.to_owned(), sort: Sort::Export, file }).into()
+    files.map(|(name, file)| Sample::new(name, Sort::Export, file)).into()
 }
 
 /// The longest file that looks like an export with its ask line sixteen times. Declarations that it does not keep give way
@@ -102,7 +113,7 @@ pub fn real(folder: &Path) -> io::Result<Vec<Sample>> {
         let path = entry?.path();
         if path.extension().is_some_and(|extension| extension == "in") {
             let name = path.file_stem().unwrap_or_default().to_string_lossy().into_owned();
-            samples.push(Sample { name, sort: Sort::Real, file: fs::read(&path)? });
+            samples.push(Sample::new(name, Sort::Real, fs::read(&path)?));
         }
     }
     samples.sort_by(|left, right| left.name.cmp(&right.name));
@@ -124,7 +135,31 @@ pub fn ugly() -> Vec<Sample> {
         ("refused at the last line", refused_last()),
         ("no file at all", Vec::new()),
     ];
-    files.map(|(name, file)| Sample { name: name.to_owned(), sort: Sort::Ugly, file }).into()
+    files.map(|(name, file)| Sample::new(name, Sort::Ugly, file)).into()
+}
+
+/// Files for the further calls that the library has: the longest that looks like an export, and those with the most rows or
+/// passes.
+pub fn further() -> Vec<Sample> {
+    let files: [(Command, &str, Vec<u8>); 9] = [
+        (sides::WHY, ONE_ASK, export(EXPORT_SEED, limits::BYTES)),
+        (sides::WHY, "2,048 rows, in 1,024 rounds", call_files::most_reasons()),
+        (sides::WHY, "2,048 rows, in one round", call_files::most_reasons_of_a_round()),
+        (Command::Sweep, ONE_ASK, export(EXPORT_SEED, limits::BYTES)),
+        (Command::Sweep, SIXTEEN_ASKS, sixteen_asks()),
+        (Command::Sweep, "1,024 passes", call_files::most_passes(1)),
+        (Command::Sweep, "1,024 passes for each of sixteen asks", call_files::most_passes(limits::ASKS)),
+        (Command::Order, ONE_ASK, export(EXPORT_SEED, limits::BYTES)),
+        (Command::Order, "6,144 rows", call_files::most_needs()),
+    ];
+    let there = files.into_iter().filter(|(call, _, _)| sides::is_there(*call));
+    let sample = |(call, name, file): (Command, &str, Vec<u8>)| Sample {
+        name: format!("{}: {name}", call.word()),
+        sort: Sort::Further,
+        call,
+        file,
+    };
+    there.map(sample).collect()
 }
 
 /// The most work that was found: a chain of nearly as many terms as there may be, walked three times for each fact but the

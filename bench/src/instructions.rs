@@ -3,9 +3,11 @@
 use std::fs;
 use std::io;
 use std::path::Path;
-use std::process::{Command, Stdio};
+use std::process::{self, Stdio};
 
-use crate::sides::{independent, Library, INDEPENDENT_SYMBOL, LIBRARY_SYMBOL};
+use compare::Command;
+
+use crate::sides::{independent, symbols, Library, CALLS};
 
 /// The option under which this program makes one call: its side and its file follow.
 pub const ONCE: &str = "--once";
@@ -19,38 +21,41 @@ pub struct Instructions {
 
 /// Whether valgrind is there.
 pub fn valgrind() -> bool {
-    let run = Command::new("valgrind").arg("--version").stdout(Stdio::null()).stderr(Stdio::null()).status();
+    let run = process::Command::new("valgrind").arg("--version").stdout(Stdio::null()).stderr(Stdio::null()).status();
     run.is_ok_and(|status| status.success())
 }
 
-/// Makes one call.
+/// Makes one call, by the symbol of its function.
 pub fn run_once(symbol: &str, path: &Path) -> io::Result<()> {
     let file = fs::read(path)?;
-    match symbol {
-        LIBRARY_SYMBOL => {
-            let _ = Library::new().call(&file);
+    for call in CALLS {
+        let (of_library, of_independent) = symbols(call);
+        if symbol == of_library {
+            let _ = Library::new().call(call, &file);
+            return Ok(());
         }
-        INDEPENDENT_SYMBOL => {
-            independent(&file);
+        if symbol == of_independent {
+            independent(call, &file);
+            return Ok(());
         }
-        _ => return Err(io::Error::other("no such side")),
     }
-    Ok(())
+    Err(io::Error::other("no such side"))
 }
 
-/// Counts the instructions of both sides on a file.
-pub fn count(file: &[u8]) -> io::Result<Instructions> {
-    let path = std::env::temp_dir().join(format!("wimplejade-bench-{}.in", std::process::id()));
+/// Counts the instructions of both sides in a call on a file.
+pub fn count(call: Command, file: &[u8]) -> io::Result<Instructions> {
+    let path = std::env::temp_dir().join(format!("wimplejade-bench-{}.in", process::id()));
     fs::write(&path, file)?;
-    let counts = count_side(LIBRARY_SYMBOL, &path)
-        .and_then(|library| Ok(Instructions { library, independent: count_side(INDEPENDENT_SYMBOL, &path)? }));
+    let (of_library, of_independent) = symbols(call);
+    let counts = count_side(of_library, &path)
+        .and_then(|library| Ok(Instructions { library, independent: count_side(of_independent, &path)? }));
     fs::remove_file(&path)?;
     counts
 }
 
 /// Runs this program under valgrind, which counts from where it enters the function to where it leaves it.
 fn count_side(symbol: &str, path: &Path) -> io::Result<u64> {
-    let output = Command::new("valgrind")
+    let output = process::Command::new("valgrind")
         .args(["--tool=callgrind", "--callgrind-out-file=/dev/null", "--main-stacksize=16777216"])
         .arg(format!("--toggle-collect={symbol}"))
         .arg(std::env::current_exe()?)

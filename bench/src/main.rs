@@ -1,12 +1,15 @@
 //! Times the proved filter beside the independent version, file by file, in one run.
 //!
 //! `bench [--real DIR] [--document FILE] [--picture FILE] [--quick]` prints a table: over files that look like what F*
-//! exports, over every `.in` of a folder of real queries, and over ugly ones. `--document` also puts it into a document,
+//! exports, over every `.in` of a folder of real queries, and over ugly ones; with the features `why`, `sweep` and `order`
+//! these calls too, over files of their own. `--document` also puts it into a document,
 //! between the lines `<!-- table -->` and `<!-- end of table -->`; `--picture` draws time against file size for both.
 //! `--quick` measures shortly, to see that all works. `--worst SEED SECONDS FILE` looks for the file on which the library takes
 //! longest instead, and writes it. Where valgrind is there, the instructions inside each call are
 //! counted as well: they do not depend on the load of the machine.
 
+#[path = "../../fuzz/src/calls.rs"]
+mod calls;
 mod date;
 mod files;
 mod instructions;
@@ -23,6 +26,7 @@ use std::process::ExitCode;
 use std::time::Duration;
 
 use compare::export::export;
+use compare::Command;
 use files::Sample;
 use table::Row;
 use timing::Times;
@@ -83,6 +87,7 @@ fn run(options: &Options) -> io::Result<()> {
         samples.extend(files::real(folder)?);
     }
     samples.extend(files::ugly());
+    samples.extend(files::further());
 
     let counting = instructions::valgrind();
     if !counting {
@@ -117,7 +122,7 @@ fn run(options: &Options) -> io::Result<()> {
             .map(|&bytes| {
                 eprintln!("a file of {bytes} bytes");
                 let file = export(files::EXPORT_SEED, bytes);
-                (file.len(), timing::time(&file, options.quick))
+                (file.len(), timing::time(Command::List, &file, options.quick))
             })
             .collect();
         fs::write(path, picture::draw(&points))?;
@@ -138,24 +143,25 @@ fn instructions_for(rows: &[Row], file: &str, other: &str) -> Option<f64> {
 fn worst(seed: u64, within: Duration, path: &Path) -> io::Result<()> {
     let (shape, file) = worst::search(seed, within);
     fs::write(path, &file)?;
-    let answer = sides::same_answer(&file).ok_or_else(|| io::Error::other("the two differ on this file"))?;
-    println!("{shape:?}: {} bytes, {answer}, {:.1} µs", file.len(), timing::time(&file, true).library);
+    let answer =
+        sides::same_answer(Command::List, &file).ok_or_else(|| io::Error::other("the two differ on this file"))?;
+    println!("{shape:?}: {} bytes, {answer}, {:.1} µs", file.len(), timing::time(Command::List, &file, true).library);
     if instructions::valgrind() {
-        println!("{} instructions", instructions::count(&file)?.library);
+        println!("{} instructions", instructions::count(Command::List, &file)?.library);
     }
     Ok(())
 }
 
 fn row(sample: &Sample, quick: bool, counting: bool) -> io::Result<Row> {
-    let answer = sides::same_answer(&sample.file)
+    let answer = sides::same_answer(sample.call, &sample.file)
         .ok_or_else(|| io::Error::other(format!("the two differ on {}", sample.name)))?;
     Ok(Row {
         name: sample.name.clone(),
         sort: sample.sort,
         bytes: sample.file.len(),
         answer,
-        times: timing::time(&sample.file, quick),
-        instructions: if counting { Some(instructions::count(&sample.file)?) } else { None },
+        times: timing::time(sample.call, &sample.file, quick),
+        instructions: if counting { Some(instructions::count(sample.call, &sample.file)?) } else { None },
     })
 }
 

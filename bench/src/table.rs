@@ -31,6 +31,7 @@ pub fn markdown(rows: &[Row]) -> String {
                 Sort::Export => "files that look like exports",
                 Sort::Real => "queries of real verifiers",
                 Sort::Ugly => "ugly files",
+                Sort::Further => "the further calls",
             };
             let _ = writeln!(text, "| **{title}** | | | | | | | | |");
         }

@@ -3,6 +3,8 @@
 use std::hint::black_box;
 use std::time::{Duration, Instant};
 
+use compare::Command;
+
 use crate::sides::{independent, Library};
 
 /// The least time of a call in microseconds.
@@ -22,14 +24,14 @@ const ALL_TURNS: Duration = Duration::from_secs(2);
 /// The same to see that all works.
 const QUICK_TURNS: Duration = Duration::from_millis(50);
 
-/// Times calls on a file. In turns each side makes as many calls as fill a turn; of the turns the best counts.
-pub fn time(file: &[u8], quick: bool) -> Times {
+/// Times a call on a file. In turns each side makes as many calls as fill a turn; of the turns the best counts.
+pub fn time(call: Command, file: &[u8], quick: bool) -> Times {
     let mut library = Library::new();
     let mut by_library = || {
-        let _ = black_box(library.call(black_box(file)));
+        let _ = black_box(library.call(call, black_box(file)));
     };
     let mut by_independent = || {
-        black_box(independent(black_box(file)));
+        black_box(independent(call, black_box(file)));
     };
     let (library_calls, independent_calls) = (calls(&mut by_library), calls(&mut by_independent));
     let mut best = Times { library: f64::INFINITY, independent: f64::INFINITY };

@@ -8,6 +8,7 @@ use std::time::{Duration, Instant};
 use compare::limits;
 use compare::random::Random;
 use compare::text::{TermId, Text};
+use compare::Command;
 
 use crate::sides::Library;
 
@@ -167,7 +168,7 @@ fn larger(left: (Duration, Shape), right: (Duration, Shape)) -> (Duration, Shape
 fn time(library: &mut Library, file: &[u8]) -> Duration {
     let mut once = || {
         let start = Instant::now();
-        let _ = library.call(file);
+        let _ = library.call(Command::List, file);
         start.elapsed()
     };
     once().min(once())

@@ -1,29 +1,40 @@
 //! Cases: a file with the lengths of the slices lent for it, and a container for many of them.
 //!
-//! In the container each case has a head line `case,NAME,LENGTH,W0,W1,W2,W3,W4,W5,ROOM`, then `LENGTH` bytes of file.
+//! In the container each case has a head line, then `LENGTH` bytes of file. The first word of the head line says the call:
+//!
+//!     case,NAME,LENGTH,W0,W1,W2,W3,W4,W5,ROOM
+//!     why,NAME,LENGTH,W0,W1,W2,W3,W4,W5,ROWS,POSITION
+//!     sweep,NAME,LENGTH,W0,W1,W2,W3,W4,W5,ROOM
+//!     order,NAME,LENGTH,W0,W1,W2,W3,W4,W5,ROWS
 
 use std::io::{self, Write};
 
 use crate::limits;
 use crate::reader::{self, Form};
 use crate::text::{Position, Text};
-use crate::{filter_in, Order, LONG_ENOUGH};
+use crate::{Command, Order, LONG_ENOUGH};
 
-/// A file and the lengths of the slices lent for it.
+/// A file, a call, and the lengths of the slices lent for it.
 #[derive(Clone, Debug, PartialEq, Eq)]
 pub struct Case {
     pub name: String,
+    pub call: Command,
     pub file: Vec<u8>,
     /// Words of the six working slices.
     pub works: [usize; 6],
-    /// Words of the result slice.
+    /// Words of the result slice, or rows of the table.
     pub room: usize,
 }
 
 impl Case {
-    /// A case whose slices are long enough.
+    /// A case of the lists whose slices are long enough.
     pub fn new(name: impl Into<String>, file: Vec<u8>) -> Self {
-        Case { name: name.into(), file, works: LONG_ENOUGH, room: limits::ROOM }
+        Case::of(Command::List, name, file)
+    }
+
+    /// A case of a call whose slices are long enough.
+    pub fn of(call: Command, name: impl Into<String>, file: Vec<u8>) -> Self {
+        Case { name: name.into(), call, file, works: LONG_ENOUGH, room: call.room() }
     }
 
     /// The same case with other working slices.
@@ -31,25 +42,46 @@ impl Case {
         Case { works, ..self }
     }
 
-    /// The same case with another result slice.
+    /// The same case with another result slice or table.
     pub fn with_room(self, room: usize) -> Self {
         Case { room, ..self }
     }
 
     /// Writes the head line and the file.
     pub fn write(&self, out: &mut impl Write) -> io::Result<()> {
-        write!(out, "case,{},{}", self.name, self.file.len())?;
+        write!(out, "{},{},{}", head_word(self.call), self.name, self.file.len())?;
         for words in self.works {
             write!(out, ",{words}")?;
         }
-        writeln!(out, ",{}", self.room)?;
+        write!(out, ",{}", self.room)?;
+        if let Command::Why(position) = self.call {
+            write!(out, ",{position}")?;
+        }
+        writeln!(out)?;
         out.write_all(&self.file)
     }
 
     /// What the program `test_cases` prints for the case.
     pub fn answer(&self, order: Order) -> String {
-        let outcome = filter_in(order, &self.file, self.works, self.room);
-        format!("case,{}\n{outcome}slices,ok\n", self.name)
+        let answer = self.call.printed_in(order, &self.file, self.works, self.room);
+        format!("case,{}\n{answer}slices,ok\n", self.name)
+    }
+
+    /// The same with the three numbers of a row alone.
+    pub fn answer_in_numbers(&self, order: Order) -> String {
+        let line = |line: &str| match line.match_indices(',').nth(3) {
+            Some((end, _)) if line.starts_with("row,") => format!("{}\n", &line[..end]),
+            _ => format!("{line}\n"),
+        };
+        self.answer(order).lines().map(line).collect()
+    }
+}
+
+/// The first word of the head line of a case.
+fn head_word(call: Command) -> &'static str {
+    match call {
+        Command::List => "case",
+        _ => call.word(),
     }
 }
 
@@ -112,13 +144,20 @@ pub fn read_all(mut bytes: &[u8]) -> Option<Vec<Case>> {
     while !bytes.is_empty() {
         let end = bytes.iter().position(|&byte| byte == b'\n')?;
         let head = std::str::from_utf8(&bytes[..end]).ok()?;
-        let mut fields = head.strip_prefix("case,")?.split(',');
-        let name = fields.next()?.to_owned();
-        let numbers: Vec<usize> = fields.map(|field| field.parse().ok()).collect::<Option<_>>()?;
+        let mut fields = head.split(',');
+        let (word, name) = (fields.next()?, fields.next()?.to_owned());
+        let mut numbers: Vec<usize> = fields.map(|field| field.parse().ok()).collect::<Option<_>>()?;
+        let call = match word {
+            "case" => Command::List,
+            "why" => Command::Why(numbers.pop()?),
+            "sweep" => Command::Sweep,
+            "order" => Command::Order,
+            _ => return None,
+        };
         let [length, works @ .., room] = numbers.as_slice() else { return None };
         let file = bytes[end + 1..].get(..*length)?.to_vec();
         bytes = &bytes[end + 1 + length..];
-        cases.push(Case { name, file, works: works.try_into().ok()?, room: *room });
+        cases.push(Case { name, call, file, works: works.try_into().ok()?, room: *room });
     }
     Some(cases)
 }
@@ -133,6 +172,9 @@ mod tests {
             Case::new("empty", Vec::new()),
             Case::new("newlines", b"\n\ncase,\n".to_vec()).with_room(0),
             Case::new("short", b"ask,0,0\n".to_vec()).with_works([1, 2, 3, 4, 5, 6]),
+            Case::of(Command::Why(3), "reasons", b"ask,0,0\n".to_vec()).with_room(2_047),
+            Case::of(Command::Sweep, "swept", b"why,\n".to_vec()),
+            Case::of(Command::Order, "order", b"ask,0,0\n".to_vec()).with_room(0),
         ];
         let mut bytes = Vec::new();
         for case in &cases {
@@ -194,6 +236,17 @@ mod tests {
         let case = Case::new("accepted", b"ask,0,0\nleaf\nassume,a,0,0\n".to_vec());
         assert_eq!(case.answer(Order::Source), "case,accepted\nkept,3,a\nsum,1,0,1\nslices,ok\n");
         assert_eq!(case.with_room(0).answer(Order::Source), "case,accepted\nrefused,8,1\nslices,ok\n");
+        let of_call =
+            |call, rest: &str| Case::of(call, "x", format!("ask,0,0\nfree,p\n{rest}root,0,r,0\n").into_bytes());
+        let case = of_call(Command::Why(1), "op,eq,0,0\nassume,a,0,1\n");
+        assert_eq!(case.answer(Order::Source), "case,x\nrow,4,0,5,a,p,r\nmet,1\nrows,1\nslices,ok\n");
+        assert_eq!(case.answer_in_numbers(Order::Source), "case,x\nrow,4,0,5\nmet,1\nrows,1\nslices,ok\n");
+        assert_eq!(case.with_room(2_047).answer(Order::Source), "case,x\nrefused,7,0\nslices,ok\n");
+        let case = of_call(Command::Sweep, "op,eq,0,0\nassume,a,0,1\n");
+        assert_eq!(case.answer_in_numbers(Order::Source), "case,x\nkept,4,a\npass,1,2\nslices,ok\n");
+        let case = of_call(Command::Order, "def,g,0\n");
+        assert_eq!(case.answer_in_numbers(Order::Source), "case,x\nrow,3,0,2\nrows,1\nslices,ok\n");
+        assert_eq!(case.with_room(0).answer(Order::Source), "case,x\nrefused,8,1\nslices,ok\n");
         let case = Case::new("two", b"ask,0,0\nask,0,1\nleaf\nassume,a,0,0\n".to_vec());
         assert_eq!(case.answer(Order::Source), "case,two\nkept,4,a\nsum,1,0,1\nsum,0,0,1\nslices,ok\n");
     }

@@ -1,15 +1,18 @@
-//! The fact filter of document 01 with Changes 1, 3, 6 to 8, 11 and 13 of document 02, written independently in plain Rust
+//! The fact filter of document 01 with Changes 1 to 3, 6 to 11 and 13 of document 02, written independently in plain Rust
 //! with the standard collections.
 //!
-//! It reads a file of terms, facts and roots, and keeps for each ask the facts that the roots of its query can touch, with
-//! the definitions and declarations that come with them; an also line adds the roots of a query to those of the line before.
-//! In a file of the newer form facts have groups, and an ask has to do with those facts alone whose group it admits.
-//! [`filter`] is the whole call; [`summaries`] says how each fact is triggered. Both answer with the refusals of these
-//! documents.
+//! It reads a file of terms, facts and roots, and keeps for each ask the facts that the roots of its query can touch,
+//! with the definitions and declarations that come with them; an also line adds the roots of a query to those of the
+//! line before. In a file of the newer form facts have groups, and an ask has to do with those facts alone whose group
+//! it admits. [`filter`] is the whole call, [`sweep`] its second engine; [`why`] says who brought each fact in,
+//! [`order`] which names of bodies stand late or nowhere, [`summaries`] how each fact is triggered. All answer with the
+//! refusals of these documents.
 
 mod asks;
+pub mod calls;
 pub mod case;
 mod chains;
+pub mod command;
 pub mod edges;
 pub mod export;
 mod fields;
@@ -18,19 +21,28 @@ pub mod generate;
 mod groups;
 pub mod limits;
 mod names;
+mod order;
 mod prune;
 pub mod random;
 mod reader;
 mod rules;
+mod scanned;
 pub mod sequence;
 mod several;
 #[cfg(test)]
 mod source;
+mod sweep;
 pub mod tables;
 mod terms;
 pub mod text;
+mod why;
 
 use std::fmt;
+
+pub use command::Command;
+pub use order::{Need, Needs, LATE, NEITHER};
+pub use sweep::Swept;
+pub use why::{Reason, Reasons};
 
 use rules::Kind;
 
@@ -139,12 +151,17 @@ pub fn filter(file: &[u8], works: [usize; 6], room: usize) -> Outcome<'_> {
     filter_in(Order::Source, file, works, room)
 }
 
+/// Reads a file, unless a working slice is too short.
+fn read(file: &[u8], works: [usize; 6]) -> Result<reader::Background<'_>, Refusal> {
+    if works.iter().any(|&words| words < limits::WORK_WORDS) {
+        return Err(Refusal { number: 7, place: 0 });
+    }
+    reader::read(file)
+}
+
 /// Filters a file, with definitions and declarations in the order given.
 pub fn filter_in(order: Order, file: &[u8], works: [usize; 6], room: usize) -> Outcome<'_> {
-    if works.iter().any(|&words| words < limits::WORK_WORDS) {
-        return Outcome::Refused { number: 7, place: 0 };
-    }
-    let background = match reader::read(file) {
+    let background = match read(file, works) {
         Ok(background) => background,
         Err(refusal) => return refusal.into(),
     };
@@ -163,6 +180,69 @@ pub fn filter_in(order: Order, file: &[u8], works: [usize; 6], room: usize) -> O
 /// Filters a file with slices that are long enough for every file.
 pub fn filter_file(file: &[u8]) -> Outcome<'_> {
     filter(file, LONG_ENOUGH, limits::ROOM)
+}
+
+/// A row of three numbers: a line, the number of a name in order of first spelling, and what the row says of the two.
+#[derive(Clone, Copy, Debug, PartialEq, Eq)]
+pub struct Row {
+    pub line: u32,
+    pub number: u32,
+    pub cause: u32,
+}
+
+/// The start of a printed row.
+impl fmt::Display for Row {
+    fn fmt(&self, out: &mut fmt::Formatter) -> fmt::Result {
+        write!(out, "row,{},{},{}", self.line, self.number, self.cause)
+    }
+}
+
+/// Why each fact came along that the ask or also line at a position, counted from 1, reaches.
+///
+/// `works` are the lengths of the six working slices in words, `rows` that of the table in rows.
+pub fn why(file: &[u8], position: usize, works: [usize; 6], rows: usize) -> Result<Reasons<'_>, Refusal> {
+    if rows < limits::REASON_ROWS {
+        return Err(Refusal { number: 7, place: 0 });
+    }
+    let background = read(file, works)?;
+    let ask = position.checked_sub(1).and_then(|index| background.asks.get(index));
+    let ask = ask.ok_or(Refusal { number: 15, place: 0 })?;
+    Ok(why::reasons(&background, ask))
+}
+
+/// The reasons of every ask and also line, in their sequence, with slices that are long enough.
+pub fn reasons(file: &[u8]) -> Result<Vec<Reasons<'_>>, Refusal> {
+    let background = reader::read(file)?;
+    Ok(background.asks.iter().map(|ask| why::reasons(&background, ask)).collect())
+}
+
+/// Filters a file by the second engine: the list and the passes of each ask and also line.
+///
+/// `works` are the lengths of the six working slices in words, `room` that of the result slice.
+pub fn sweep(file: &[u8], works: [usize; 6], room: usize) -> Result<Vec<Swept<'_>>, Refusal> {
+    sweep_in(Order::Source, file, works, room)
+}
+
+/// Filters a file by the second engine, with definitions and declarations in the order given.
+pub fn sweep_in(order: Order, file: &[u8], works: [usize; 6], room: usize) -> Result<Vec<Swept<'_>>, Refusal> {
+    let background = read(file, works)?;
+    let lists: Vec<Swept> = background.asks.iter().map(|ask| sweep::sweep(&background, ask, order)).collect();
+    let kept: usize = lists.iter().map(|list| list.lines.len()).sum();
+    if kept > room {
+        return Err(Refusal { number: 8, place: kept as u32 });
+    }
+    Ok(lists)
+}
+
+/// Checks over all def lines what must come before what.
+///
+/// `works` are the lengths of the six working slices in words, `rows` that of the table in rows.
+pub fn order(file: &[u8], works: [usize; 6], rows: usize) -> Result<Needs<'_>, Refusal> {
+    let needs = order::needs(&read(file, works)?);
+    if needs.0.len() > rows {
+        return Err(Refusal { number: 8, place: needs.0.len() as u32 });
+    }
+    Ok(needs)
 }
 
 /// How a fact is triggered.

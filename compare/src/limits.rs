@@ -32,3 +32,7 @@ pub const GROUPS: u32 = (1 << (GROUP + 1)) - 1;
 pub const WORK_WORDS: usize = 16_384;
 /// Words of a result slice that is long enough for every file: a list has at most every record line.
 pub const ROOM: usize = ASKS * RECORDS;
+/// Rows that the table of the reasons must have: one for each trigger entry.
+pub const REASON_ROWS: usize = ENTRIES;
+/// Rows of a table that is long enough for the check of every file: one for each name use.
+pub const ORDER_ROWS: usize = USES;

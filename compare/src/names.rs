@@ -84,6 +84,11 @@ impl NameSet {
         new
     }
 
+    /// Whether a name is in the set.
+    pub fn contains(&self, id: NameId) -> bool {
+        self.0[id / 64] >> (id % 64) & 1 == 1
+    }
+
     /// Adds every name of another set.
     pub fn add_all(&mut self, other: &NameSet) {
         for (word, more) in self.0.iter_mut().zip(other.0) {
@@ -157,6 +162,8 @@ mod tests {
             assert!(set.insert(id));
         }
         assert!(!set.insert(63));
+        assert!([0, 63, 64, 2047].iter().all(|&id| set.contains(id)));
+        assert!(![1, 62, 65, 2046].iter().any(|&id| set.contains(id)));
         assert_eq!(set.iter().collect::<Vec<_>>(), [0, 63, 64, 2047]);
         assert_eq!(set.len(), 4);
         let mut more = NameSet::empty();

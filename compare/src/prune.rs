@@ -45,13 +45,26 @@ fn roots_of<'b>(background: &'b Background, queries: &'b [u32]) -> impl Iterator
     background.roots.iter().filter(|root| queries.contains(&root.query)).map(|root| &root.free)
 }
 
+/// The names that each macro opens to: the starting macros, as far as both names are spelled and no def replaces them,
+/// and the defs.
+pub fn macros(background: &Background) -> HashMap<NameId, Vec<NameId>> {
+    let mut macros = HashMap::new();
+    for (from, to) in BOX_MACROS {
+        if let (Some(from), Some(to)) = (background.names.find(from), background.names.find(to)) {
+            macros.insert(from, vec![to]);
+        }
+    }
+    macros.extend(background.macros.iter().map(|(&name, free)| (name, free.iter().collect())));
+    macros
+}
+
 /// Whether a fact is ambient and counts for an ask.
-fn is_ambient(ask: &Ask, fact: &Fact) -> bool {
+pub fn is_ambient(ask: &Ask, fact: &Fact) -> bool {
     !ask.no_ambients && ask.admits(fact) && matches!(fact.kind, Kind::Ambient { .. })
 }
 
 /// What is kept where these facts are reached.
-fn records(background: &Background, ask: &Ask, reached: &HashSet<usize>, order: Order) -> Records {
+pub fn records(background: &Background, ask: &Ask, reached: &HashSet<usize>, order: Order) -> Records {
     let Background { names, facts, .. } = background;
     let mut kept: Vec<&Fact> = reached.iter().map(|&fact| &facts[fact]).collect();
     kept.sort_unstable_by_key(|fact| names.bytes(fact.name));
@@ -157,7 +170,7 @@ impl<'b> Scan<'b> {
         let mut scan = Scan {
             background,
             pretyping_axioms: ask.pretyping_axioms,
-            macros: HashMap::new(),
+            macros: macros(background),
             waiting: HashMap::new(),
             missing: Vec::new(),
             satisfied: Vec::new(),
@@ -166,12 +179,6 @@ impl<'b> Scan<'b> {
             visits: 0,
             rounds: 0,
         };
-        for (from, to) in BOX_MACROS {
-            if let (Some(from), Some(to)) = (background.names.find(from), background.names.find(to)) {
-                scan.macros.insert(from, vec![to]);
-            }
-        }
-        scan.macros.extend(background.macros.iter().map(|(&name, free)| (name, free.iter().collect())));
         for (fact, record) in background.facts.iter().enumerate() {
             let mut missing = Vec::new();
             let disjuncts: &[Vec<NameId>] = match &record.kind {

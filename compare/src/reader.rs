@@ -81,6 +81,8 @@ impl Ask {
 
 /// A `root` line.
 pub struct Root {
+    pub line: u32,
+    pub name: NameId,
     pub query: u32,
     pub free: NameSet,
 }
@@ -182,7 +184,7 @@ impl<'a> Reader<'a> {
             b"fun" => self.fun(number, fields),
             b"def" => self.def(number, fields),
             b"retain" => self.retain(fields),
-            b"root" => self.root(fields),
+            b"root" => self.root(number, fields),
             _ => Err(Fault::Form),
         }
     }
@@ -318,14 +320,14 @@ impl<'a> Reader<'a> {
         self.add_record()
     }
 
-    fn root(&mut self, mut fields: Fields<'a>) -> Result<(), Fault> {
+    fn root(&mut self, line: u32, mut fields: Fields<'a>) -> Result<(), Fault> {
         fields.exactly(3)?;
         let query = fields.number(limits::QUERY)?;
-        self.name(&mut fields)?;
+        let name = self.name(&mut fields)?;
         let term = fields.term(self.background.terms.len())?;
         self.add_record()?;
         let free = self.add_uses(term)?;
-        self.background.roots.push(Root { query, free });
+        self.background.roots.push(Root { line, name, query, free });
         Ok(())
     }
 

@@ -1,7 +1,10 @@
-//! Every `X.in` of a folder against its `X.out` and, where there is one, its `X.sum`.
+//! Every `X.in` of a folder against its `X.out` and, where there is one, its `X.sum`; `X.args` is the command, where it
+//! is not the plain one.
 
 use std::fs;
 use std::path::Path;
+
+use compare::Command;
 
 /// How two answers compare.
 #[derive(PartialEq)]
@@ -79,7 +82,8 @@ fn check_folder(folder: &Path, answers: Answers) {
         let name = input.file_stem().unwrap().to_string_lossy().into_owned();
         let file = fs::read(input).expect("the file can be read");
         let expected = fs::read_to_string(input.with_extension("out")).expect("an answer beside the file");
-        let actual = compare::filter_file(&file).to_string();
+        let command = fs::read_to_string(input.with_extension("args")).unwrap_or_default();
+        let actual = command.parse::<Command>().expect("a command").printed(&file);
         match compare(&file, &expected, &actual) {
             Verdict::Same => {}
             Verdict::OrderOnly if answers == Answers::Document01 => reordered.push(name.clone()),

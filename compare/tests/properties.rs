@@ -1,12 +1,15 @@
 //! What documents 01 and 02 say of every file, tried on random ones: each test changes a file and says how the answer moves.
 
-use std::collections::BTreeSet;
+use std::collections::{BTreeMap, BTreeSet};
 use std::fs;
 use std::path::Path;
 
 use compare::random::Random;
 use compare::text::Position;
-use compare::{filter, filter_file, forms, generate, limits, sequence, summaries, Outcome, Trigger, LONG_ENOUGH};
+use compare::{
+    filter, filter_file, forms, generate, limits, order, reasons, sequence, summaries, sweep, why, Needs, Outcome,
+    Reasons, Refusal, Row, Swept, Trigger, LATE, LONG_ENOUGH, NEITHER,
+};
 
 type Line = Vec<u8>;
 
@@ -902,4 +905,307 @@ fn pairs_of_cases_differ_in_their_sequence() {
         }
     }
     assert_eq!(pairs, 8);
+}
+
+/// Changes 2, 9 and 10: the further calls refuse the files that the first one refuses, and the working slices, each at
+/// its place.
+#[test]
+fn the_further_calls_refuse_what_the_first_one_refuses() {
+    let mut refused = BTreeSet::new();
+    for case in generate::cases(51, 1_500) {
+        let Outcome::Refused { number, place } = filter(&case.file, case.works, limits::ROOM) else { continue };
+        let refusal = Refusal { number, place };
+        assert_eq!(why(&case.file, 1, case.works, limits::REASON_ROWS), Err(refusal));
+        assert_eq!(why(&case.file, 0, case.works, limits::REASON_ROWS), Err(refusal));
+        assert_eq!(sweep(&case.file, case.works, limits::ROOM), Err(refusal));
+        assert_eq!(order(&case.file, case.works, limits::ORDER_ROWS), Err(refusal));
+        refused.insert(number);
+    }
+    assert_eq!(refused, BTreeSet::from([1, 2, 3, 4, 5, 6, 7, 9, 10, 11, 12, 13]));
+}
+
+/// Change 10: the second engine has the first one's refusals and lists. Its passes are at most the facts with triggers
+/// plus one.
+#[test]
+fn the_second_engine_gives_the_lists_of_the_first() {
+    let (mut rooms, mut many) = (0, 0);
+    for case in generate::cases(52, 1_500) {
+        let swept = sweep(&case.file, case.works, case.room);
+        let lists = match filter(&case.file, case.works, case.room) {
+            Outcome::Refused { number, place } => {
+                assert_eq!(swept, Err(Refusal { number, place }));
+                rooms += usize::from(number == 8);
+                continue;
+            }
+            Outcome::Kept(lists) => lists,
+        };
+        let swept = swept.expect("an accepted file");
+        let facts = summaries(&case.file).expect("an accepted file");
+        let most = 1 + facts.iter().filter(|fact| matches!(fact.trigger, Trigger::Names(_))).count();
+        assert_eq!(swept.len(), lists.len());
+        for (Swept { lines, names, passes }, list) in swept.iter().zip(&lists) {
+            assert_eq!((lines, names), (&list.lines, &list.names));
+            assert!((1..=most).contains(&(*passes as usize)), "{passes} of {most}");
+            many += usize::from(*passes > 2);
+        }
+    }
+    assert!(rooms > 3 && many > 50, "{rooms} {many}");
+}
+
+/// The names of an accepted file in order of first spelling. A listed name that is not spelled up to the fact's line is a
+/// trimmed token: it comes after the names of that line.
+fn spelled(file: &[u8]) -> Vec<Vec<u8>> {
+    let facts = summaries(file).expect("an accepted file");
+    let mut names: Vec<Vec<u8>> = Vec::new();
+    for (line, number) in lines(file).iter().zip(1..) {
+        let fields = fields(line);
+        let range = match fields[0].as_str() {
+            "hide" | "free" | "call" | "assume" | "fun" | "def" => 1..2,
+            "retain" => 1..fields.len(),
+            "root" => 2..3,
+            _ => 0..0,
+        };
+        let mut own: Vec<Vec<u8>> = fields[range].iter().map(|name| name.clone().into_bytes()).collect();
+        if let Some(Trigger::Names(sets)) = facts.iter().find(|fact| fact.line == number).map(|fact| &fact.trigger) {
+            own.extend(sets.iter().flatten().map(|name| name.to_vec()));
+        }
+        for name in own {
+            if !names.contains(&name) {
+                names.push(name);
+            }
+        }
+    }
+    names
+}
+
+/// The names that a macro opens to, by the lines of an accepted file alone.
+fn opened(file: &[u8]) -> BTreeMap<String, BTreeSet<String>> {
+    let boxes = ["BoxBool", "BoxInt", "BoxString", "BoxReal", "BoxProp"];
+    let starting = boxes.map(|name| (format!("is-{name}"), BTreeSet::from([name.to_owned()])));
+    let (mut macros, terms) = (BTreeMap::from(starting), free_names(file));
+    for line in lines(file).iter().filter(|line| kind(line) == "def") {
+        let fields = fields(line);
+        macros.insert(fields[1].clone(), terms[fields[2].parse::<usize>().unwrap()].clone());
+    }
+    macros
+}
+
+/// The names met from each line that is a fact or a root.
+fn met_from(file: &[u8]) -> BTreeMap<u32, BTreeSet<String>> {
+    let (macros, terms) = (opened(file), free_names(file));
+    let items = lines(file).into_iter().zip(1..).filter(|(line, _)| ["assume", "root"].contains(&kind(line).as_str()));
+    let met = |line: &Line| -> BTreeSet<String> {
+        let free = &terms[fields(line).last().unwrap().parse::<usize>().unwrap()];
+        free.iter().cloned().chain(free.iter().filter_map(|name| macros.get(name)).flatten().cloned()).collect()
+    };
+    items.map(|(line, number)| (number, met(&line))).collect()
+}
+
+/// The lines that a position starts from: the roots of its chain, and without option 1 the ambient roots that it admits.
+fn start(file: &[u8], chain: &[Position]) -> Vec<u32> {
+    let (options, groups) = match chain[0] {
+        Position::Ask(_, options) => (options, limits::GROUPS),
+        Position::Ask2(_, options, groups) => (options, groups),
+        Position::Also(_) => unreachable!("a chain begins with an ask line"),
+    };
+    let queries: Vec<String> = chain.iter().map(|position| position.query().to_string()).collect();
+    let ambients: Vec<u32> = summaries(file)
+        .expect("an accepted file")
+        .iter()
+        .filter(|fact| matches!(fact.trigger, Trigger::Ambient { root: true }))
+        .map(|fact| fact.line)
+        .collect();
+    let is_item = |line: &Line, number: u32| match kind(line).as_str() {
+        "root" => queries.contains(&fields(line)[1]),
+        _ => options & 1 == 0 && ambients.contains(&number) && is_admitted(groups, line),
+    };
+    lines(file).iter().zip(1..).filter(|(line, number)| is_item(line, *number)).map(|(_, number)| number).collect()
+}
+
+/// Change 2: the rows at a position are of its reached facts, each of which has one, in their order; each name is one
+/// of the fact's listed names, in byte order and by its number; the supplier has the name and is the first that the
+/// position starts from, if one of these has it; suppliers lead back to what the position starts from. The met names
+/// that have numbers are those of what is scanned.
+#[test]
+fn every_reached_fact_has_its_reasons() {
+    let (mut supplied_by_facts, mut tokens, mut opened) = (0, 0, 0);
+    for file in accepted(53, 300) {
+        let (names, met_from, text) = (spelled(&file), met_from(&file), lines(&file));
+        let facts = summaries(&file).expect("an accepted file");
+        let free = free_names(&file);
+        let all: Vec<Reasons> = reasons(&file).expect("an accepted file");
+        let mut told = all.iter().zip(lists(&file).unwrap()).zip(1..);
+        for chain in chains(&file) {
+            for end in 1..=chain.len() {
+                let ((reasons, list), position) = told.next().unwrap();
+                assert_eq!(why(&file, position, LONG_ENOUGH, limits::REASON_ROWS).as_ref(), Ok(reasons));
+                let start = start(&file, &chain[..end]);
+                let reached = facts_and_reached(&file, &list).1;
+                let mut with_rows: Vec<u32> = reasons.rows.iter().map(|reason| reason.row.line).collect();
+                with_rows.dedup();
+                assert_eq!(with_rows, reached);
+                assert!(reasons
+                    .rows
+                    .windows(2)
+                    .all(|pair| (pair[0].fact, pair[0].name) < (pair[1].fact, pair[1].name)));
+
+                for reason in &reasons.rows {
+                    let Row { line, number, cause } = reason.row;
+                    assert_eq!(names[number as usize], reason.name);
+                    let listed = facts.iter().find(|fact| fact.line == line).map(|fact| &fact.trigger);
+                    assert!(
+                        matches!(listed, Some(Trigger::Names(sets)) if sets.iter().flatten().any(|name| name == &reason.name))
+                    );
+                    let name = String::from_utf8(reason.name.to_vec()).unwrap();
+                    assert!(met_from[&cause].contains(&name));
+                    match start.iter().find(|item| met_from[item].contains(&name)) {
+                        Some(&first) => assert_eq!(cause, first),
+                        None => assert!(reached.contains(&cause)),
+                    }
+                    let supplier = fields(&text[cause as usize - 1]);
+                    supplied_by_facts += usize::from(reached.contains(&cause));
+                    tokens += usize::from(!met_from[&line].contains(&name));
+                    opened += usize::from(!free[supplier.last().unwrap().parse::<usize>().unwrap()].contains(&name));
+                }
+
+                // Round by round: a fact has a round once all its suppliers have one.
+                let mut settled: BTreeSet<u32> = start.iter().copied().collect();
+                while let Some(next) = reached.iter().find(|&&fact| {
+                    let mut own = reasons.rows.iter().filter(|reason| reason.row.line == fact);
+                    !settled.contains(&fact) && own.all(|reason| settled.contains(&reason.row.cause))
+                }) {
+                    settled.insert(*next);
+                }
+                assert!(reached.iter().all(|fact| settled.contains(fact)));
+                let met: BTreeSet<&String> = settled.iter().flat_map(|item| &met_from[item]).collect();
+                let numbered = names.iter().filter(|name| met.iter().any(|met| met.as_bytes() == &name[..])).count();
+                assert_eq!(reasons.met as usize, numbered);
+            }
+        }
+    }
+    let counts = (supplied_by_facts, tokens, opened);
+    assert!(supplied_by_facts > 100 && tokens > 10 && opened > 50, "{counts:?}");
+}
+
+/// Change 11: on an also line the reasons and the passes are those of a fresh run over all roots so far.
+#[test]
+fn reasons_and_passes_of_an_also_line_are_those_of_a_fresh_run() {
+    let mut others = (0, 0);
+    for file in accepted(54, 500) {
+        let (reasons, swept) = (reasons(&file).unwrap(), sweep(&file, LONG_ENOUGH, limits::ROOM).unwrap());
+        let (count, mut index) = (positions(&file).len(), 0);
+        for chain in chains(&file) {
+            for end in 1..=chain.len() {
+                // As many ask lines as there were ask and also lines, whose query has the roots of all queries so far.
+                let queries: Vec<String> = chain[..end].iter().map(|position| position.query().to_string()).collect();
+                let asks = with_positions(&file, &vec![chain[0]; count]);
+                if asks.len() > limits::BYTES {
+                    index += 1;
+                    continue;
+                }
+                let joined = each_line(&asks, |_, old| {
+                    let mut fields = fields(old);
+                    if fields[0] == "root" && queries.contains(&fields[1]) {
+                        fields[1] = queries[0].clone();
+                    }
+                    line(&fields)
+                });
+                assert_eq!(why(&joined, 1, LONG_ENOUGH, limits::REASON_ROWS).as_ref(), Ok(&reasons[index]));
+                let fresh = &sweep(&joined, LONG_ENOUGH, limits::ROOM).unwrap()[0];
+                assert_eq!((&fresh.lines, fresh.passes), (&swept[index].lines, swept[index].passes));
+                others.0 += usize::from(end > 1 && reasons[index] != reasons[index - 1]);
+                others.1 += usize::from(end > 1 && swept[index].passes != swept[index - 1].passes);
+                index += 1;
+            }
+        }
+    }
+    assert!(others.0 > 40 && others.1 > 8, "{others:?}");
+}
+
+/// Changes 2, 10 and 14: in another sequence of the record lines each fact has rows of the same names and as many names
+/// are met, but suppliers and passes may be others.
+#[test]
+fn suppliers_and_passes_depend_on_the_sequence() {
+    let mut random = Random::new(55);
+    let (mut suppliers, mut passes) = (0, 0);
+    for file in accepted(55, 400) {
+        let other = sequence::rearranged(&file, &mut random);
+        let (own, after) = (reasons(&file).unwrap(), reasons(&other).unwrap());
+        for (own, after) in own.iter().zip(&after) {
+            let names = |reasons: &Reasons| -> Vec<(Vec<u8>, Vec<u8>)> {
+                reasons.rows.iter().map(|reason| (reason.fact.to_vec(), reason.name.to_vec())).collect()
+            };
+            assert_eq!((names(own), own.met), (names(after), after.met));
+            let items = |reasons: &Reasons| -> Vec<Vec<u8>> {
+                reasons.rows.iter().map(|reason| reason.item.to_vec()).collect()
+            };
+            suppliers += usize::from(items(own) != items(after));
+        }
+        let told = |file: &[u8]| -> Vec<u32> {
+            sweep(file, LONG_ENOUGH, limits::ROOM).unwrap().iter().map(|list| list.passes).collect()
+        };
+        passes += usize::from(told(&file) != told(&other));
+    }
+    assert!(suppliers > 10 && passes > 10, "{suppliers} {passes}");
+}
+
+/// Change 9: a row for each free name of each body whose def or fun stands on the same or a later line or nowhere, by
+/// line and then by name. Without a row of the first sort no definition depends on itself.
+#[test]
+fn names_of_bodies_that_stand_late_or_nowhere() {
+    let (mut rows, mut without, mut circles) = ([0, 0], 0, 0);
+    for file in accepted(56, 500) {
+        let (names, terms) = (spelled(&file), free_names(&file));
+        let text: Vec<Vec<String>> = lines(&file).iter().map(|line| fields(line)).collect();
+        let line_of = |name: &String| {
+            let declares = |fields: &Vec<String>| ["def", "fun"].contains(&fields[0].as_str()) && fields[1] == *name;
+            text.iter().position(declares).map(|index| index as u32 + 1)
+        };
+        let defs: Vec<(u32, &String, &BTreeSet<String>)> = text
+            .iter()
+            .zip(1..)
+            .filter(|(fields, _)| fields[0] == "def")
+            .map(|(fields, line)| (line, &fields[1], &terms[fields[2].parse::<usize>().unwrap()]))
+            .collect();
+        let mut right = Vec::new();
+        for (line, _, body) in &defs {
+            for name in *body {
+                let number = names.iter().position(|spelled| spelled == name.as_bytes()).unwrap() as u32;
+                let cause = line_of(name).map_or(NEITHER, |at| if at >= *line { LATE } else { 0 });
+                if cause > 0 {
+                    right.push(Row { line: *line, number, cause });
+                }
+            }
+        }
+        let Needs(needs) = order(&file, LONG_ENOUGH, right.len()).expect("a table that is long enough");
+        assert_eq!(needs.iter().map(|need| need.row).collect::<Vec<Row>>(), right);
+        if let Some(less) = right.len().checked_sub(1) {
+            let refusal = Refusal { number: 8, place: right.len() as u32 };
+            assert_eq!(order(&file, LONG_ENOUGH, less), Err(refusal));
+        }
+
+        // What each definition depends on, to any depth.
+        let mut depends: BTreeMap<&String, BTreeSet<&String>> =
+            defs.iter().map(|(_, def, body)| (*def, body.iter().collect())).collect();
+        loop {
+            let before: usize = depends.values().map(BTreeSet::len).sum();
+            let further = depends.clone();
+            for names in depends.values_mut() {
+                let more: Vec<&String> = names.iter().filter_map(|name| further.get(name)).flatten().copied().collect();
+                names.extend(more);
+            }
+            if depends.values().map(BTreeSet::len).sum::<usize>() == before {
+                break;
+            }
+        }
+        let is_circle = depends.iter().any(|(def, names)| names.contains(def));
+        let is_late = right.iter().any(|row| row.cause == LATE);
+        assert!(is_late || !is_circle);
+        without += usize::from(!is_late && defs.len() > 1);
+        circles += usize::from(is_circle);
+        for row in right {
+            rows[row.cause as usize - 1] += 1;
+        }
+    }
+    assert!(rows.iter().all(|&rows| rows > 100) && without > 20 && circles > 20, "{rows:?} {without} {circles}");
 }

@@ -12,7 +12,7 @@ const GUARD: usize = 8;
 /// Words of dirt: more than any slice, so that a slice starts anywhere in it.
 const DIRT: usize = 2 * WORK_WORDS;
 
-/// Lends six working slices and a result slice, over and over.
+/// Lends six working slices and a result slice, or a table of rows, over and over.
 pub struct Lender {
     dirt: Vec<u32>,
     random: Random,
@@ -90,7 +90,7 @@ impl Lender {
         ([w0, w1, w2, w3, w4, w5], result)
     }
 
-    /// What is wrong with the slices after a call with this list, if anything is.
+    /// What is wrong with the slices after a call with this list, or with rows of these words, if anything is.
     pub fn fault(&self, lines: &[u32], untouched: bool) -> Option<String> {
         let [working @ .., result] = &self.lent;
         let cleared: &[u32] = if untouched { &[] } else { &[0; WORK_WORDS] };
@@ -99,7 +99,7 @@ impl Lender {
                 return Some(format!("working slice {index}: {fault}"));
             }
         }
-        result.fault(&self.dirt, lines).map(|fault| format!("result slice: {fault}"))
+        result.fault(&self.dirt, lines).map(|fault| format!("result slice or table: {fault}"))
     }
 }
 

@@ -1,6 +1,8 @@
 //! The proved filter against the independent version: the answer, the lists, the counts, and every word of the lent slices.
 
+pub mod calls;
 mod forms;
+mod further;
 mod lend;
 mod sequence;
 pub mod shrink;
@@ -11,6 +13,7 @@ use compare::{filter, limits, Outcome, LONG_ENOUGH};
 use wimplejade::{Answer, MOST_ASKS};
 
 pub use forms::form_difference;
+pub use further::{order_difference, sweep_difference, try_order, try_sweep, try_why, why_difference};
 pub use lend::Lender;
 pub use sequence::sequence_difference;
 

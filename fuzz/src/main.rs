@@ -1,5 +1,7 @@
-//! Compares the proved filter with the independent version on random files, or on the files given; and with each other its
-//! answers to the two forms of an accepted file, and to the file and the same file with its record lines rearranged.
+//! Compares the proved filter with the independent version on random files, or on the files given; and with each other
+//! its answers to the two forms of an accepted file, and to the file and the same file with its record lines
+//! rearranged. With the features `why`, `sweep` and `order` the further calls are compared too, and the two engines
+//! with each other.
 //!
 //! `fuzz [--seed N] [--files N] [--from N] [--jobs N] [--save DIR]` makes files from a seed, tries each, and stops at the
 //! first difference: the file is made small and saved. `fuzz FILE..` tries these files instead. The status is 0 if nothing
@@ -17,8 +19,9 @@ use std::time::{Duration, Instant};
 use compare::case::Case;
 use compare::edges::{self, Edge};
 use compare::random::Random;
-use compare::{filter_file, generate, Outcome};
+use compare::{calls as call_edges, filter_file, generate, Command, Outcome};
 use fuzz::shrink::shrink;
+use fuzz::{calls, try_order, try_sweep, try_why};
 use fuzz::{difference, expected, form_difference, sequence_difference, with_lengths, Lender, Lengths};
 use wimplejade::Filter;
 
@@ -137,6 +140,11 @@ fn worker(options: &Options, job: u64, progress: &Progress) -> Option<Failure> {
                 return Some(failure);
             }
         }
+        for Edge { case, .. } in call_edges::edges() {
+            if let Some(failure) = trial.run_call(case) {
+                return Some(failure);
+            }
+        }
     }
     for index in (options.from..options.from + options.files).skip(job as usize).step_by(options.jobs as usize) {
         if progress.stop.load(Ordering::Relaxed) {
@@ -178,10 +186,36 @@ impl Trial<'_> {
         if by_interface {
             why = why.or_else(|| interface_difference(&mut self.filter, &case.file, &outcome));
         }
+        why = why.or_else(|| further_difference(&mut self.lender, &case.file, false));
         self.progress.count(&lent, case.file.starts_with(b"ask2,"));
         let why = why?;
         Some(Failure { name: case.name, file: case.file, lengths, why })
     }
+}
+
+impl Trial<'_> {
+    /// Tries a case of a further call, with the lengths that it has.
+    fn run_call(&mut self, case: Case) -> Option<Failure> {
+        let lengths = Lengths { works: case.works, room: case.room };
+        let (lender, file) = (&mut self.lender, &case.file);
+        let why = match case.call {
+            Command::Why(position) => {
+                calls::WHY.and_then(|call| fuzz::why_difference(call, lender, file, position, lengths))
+            }
+            Command::Sweep => calls::SWEEP.and_then(|call| fuzz::sweep_difference(call, lender, file, lengths)),
+            Command::Order => calls::ORDER.and_then(|call| fuzz::order_difference(call, lender, file, lengths)),
+            Command::List => None,
+        };
+        why.map(|why| Failure { name: case.name, file: case.file, lengths, why })
+    }
+}
+
+/// How the further calls that are there differ on a file, if they do; as a whole with all lengths and positions.
+fn further_difference(lender: &mut Lender, file: &[u8], whole: bool) -> Option<String> {
+    calls::WHY
+        .and_then(|call| try_why(call, lender, file, whole))
+        .or_else(|| calls::SWEEP.and_then(|call| try_sweep(wimplejade::answer, call, lender, file, whole)))
+        .or_else(|| calls::ORDER.and_then(|call| try_order(call, lender, file, whole)))
 }
 
 /// How the safe interface differs, if it does.
@@ -200,6 +234,7 @@ fn differ(file: &[u8], lengths: Lengths) -> Option<String> {
         .or_else(|| form_difference(wimplejade::answer, &mut lender, file))
         .or_else(|| sequence_difference(wimplejade::answer, &mut lender, file, ALONE_REARRANGED))
         .or_else(|| interface_difference(&mut filter, file, &filter_file(file)))
+        .or_else(|| further_difference(&mut lender, file, true))
 }
 
 /// Makes a failing file small, saves it and says how to try it again.
@@ -326,6 +361,12 @@ impl Progress {
             (1..self.answers.len()).map(|number| format!("{number}: {}", count(number))).collect();
         let newer = self.newer.load(Ordering::Relaxed);
         println!("accepted: {}, of the newer form {newer}; refused: {}", count(0), refused.join(", "));
+        let further =
+            [("why", calls::WHY.is_some()), ("sweep", calls::SWEEP.is_some()), ("order", calls::ORDER.is_some())];
+        let further: Vec<&str> = further.into_iter().filter(|(_, is_there)| *is_there).map(|(name, _)| name).collect();
+        if !further.is_empty() {
+            println!("further calls: {}", further.join(", "));
+        }
         println!(
             "lists {}; of a file at most {}; of a list most rounds {}, most kept {}",
             self.lists.load(Ordering::Relaxed),

@@ -40,7 +40,7 @@ pub fn sequence_difference(call: Call, lender: &mut Lender, file: &[u8], times: 
 }
 
 /// The same numbers for the same file: one that differs does so again, however often it is rearranged then.
-fn random_of(file: &[u8]) -> Random {
+pub(crate) fn random_of(file: &[u8]) -> Random {
     Random::new(file.iter().fold(0, |seed, &byte| Random::new(seed ^ u64::from(byte)).bits()))
 }
 

@@ -127,7 +127,7 @@ module _ {file names recs lists : List ℕ} {k : Counts} (x : Filled file names 
         (in-all (record-name recs i) (x .recorded .named-in i l (λ z. omega (arith, part-kind recs (ask-of recs a) i (only-facts i l u))))))
 
     -- the reached facts
-    reached-are : reached-facts (facts (background-of name recs lists (ask-of recs a) (k .records))) (reached-of file names recs run k)
+    pub reached-are : reached-facts (facts (background-of name recs lists (ask-of recs a) (k .records))) (reached-of file names recs run k)
         ≡ map fact (reached-records names run (k .names))
     unfolding reached-facts picked keep
     reached-are =

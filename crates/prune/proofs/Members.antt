@@ -37,7 +37,7 @@ picked-elim pick l m = let (r, a, b) = collect-elim (λ r. record-behind (pick r
 picked-small : (pick : ℕ → ℕ) (l : List ℕ) (n : ℕ) → ((r : ℕ) → List·Memᴰ r l → pick r ≤ n) → {x : ℕ} → List·Memᴰ x (picked pick l) → x < n
 picked-small pick l n low m = let (r, i, e) = picked-elim pick l m in let b = low r i in omega arith
 
-reached-low : (names run : List ℕ) (r : ℕ) → reached-at names run r ≤ taker names r
+pub reached-low : (names run : List ℕ) (r : ℕ) → reached-at names run r ≤ taker names r
 unfolding reached-at
 reached-low names run r =
     cond-case (λ x. x ≤ taker names r) (eqb (taker names r) 0) (omega arith)

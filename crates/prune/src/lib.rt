@@ -45,7 +45,7 @@ fn taker(names: &[u32], named: usize, r: usize) -> usize
 }
 
 // The same where the record is reached.
-fn reached_at(names: &[u32], run: &[u32], named: usize, r: usize) -> usize
+pub fn reached_at(names: &[u32], run: &[u32], named: usize, r: usize) -> usize
     requires { ⌜ Index (now names) named × (working-words ≤ length (now run)) × (r < named) ⌝ }
     ensures { λ t. ⌜ (t ≡ reached-at (now (names .entry)) (now (run .entry)) r) × (t ≤ most-records) ⌝ }
 {

@@ -42,7 +42,7 @@ use Rattle.scan.proofs.Joining.{laid, holds}
 -- ---- the records that start
 
 -- the code of an ambient root
-root-code : (c : ℕ) → is-ambient-root (kind-of-code c) ≡ eqb c (code-of (Ambient true))
+pub root-code : (c : ℕ) → is-ambient-root (kind-of-code c) ≡ eqb c (code-of (Ambient true))
 unfolding is-ambient-root kind-of-code code-of
 root-code zero = refl
 root-code (suc zero) = refl
@@ -54,18 +54,18 @@ module _ (recs : List ℕ) (a : Asked) (i : ℕ) where
   abbrev ambient : Bool
   ambient = eqb (summary-code recs i) (code-of (Ambient true))
 
-  root-starts : record-kind recs i ≡ root-kind → T (asks-for (ask-of recs a) (record-flag recs i)) → T (starts-at recs a i)
+  pub root-starts : record-kind recs i ≡ root-kind → T (asks-for (ask-of recs a) (record-flag recs i)) → T (starts-at recs a i)
   unfolding starts-at
   root-starts e t = rw (eq-eqb (record-kind recs i) root-kind e) t
 
-  fact-starts : T (takes-part recs (ask-of recs a) i) → T ambient → T (not (no-ambients (ask-of recs a))) → T (starts-at recs a i)
+  pub fact-starts : T (takes-part recs (ask-of recs a) i) → T ambient → T (not (no-ambients (ask-of recs a))) → T (starts-at recs a i)
   unfolding starts-at
   fact-starts p f t =
       rw (part-kind recs (ask-of recs a) i p)
       (T-and ambient (takes-part recs (ask-of recs a) i && not (no-ambients (ask-of recs a))) .1
       (f, T-and (takes-part recs (ask-of recs a) i) (not (no-ambients (ask-of recs a))) .1 (p, t)))
 
-  starts-elim : T (starts-at recs a i)
+  pub starts-elim : T (starts-at recs a i)
       → ((record-kind recs i ≡ root-kind) × T (asks-for (ask-of recs a) (record-flag recs i)))
       ⊎ (T (takes-part recs (ask-of recs a) i) × T ambient × T (not (no-ambients (ask-of recs a))))
   unfolding starts-at

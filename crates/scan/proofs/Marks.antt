@@ -95,7 +95,7 @@ marks-in r w {k} p l e (List·Memᴰ·tail {x = n} {xs} m) =
 -- ---- met before, and first met in round r
 
 -- a number is in a list or not
-mem-dec : (n : ℕ) (l : List ℕ) → List·Memᴰ n l ⊎ (List·Memᴰ n l → ⊥)
+pub mem-dec : (n : ℕ) (l : List ℕ) → List·Memᴰ n l ⊎ (List·Memᴰ n l → ⊥)
 mem-dec n l =
     ⊎-elim (λ t. let (m, i, e) = any-elim (eqb n) l t in inl (Memᴰ·cast (eqb→eq n m e) i))
     (λ t. inr (λ m. T-not (any (eqb n) l) t (any-intro (eqb n) m (eqb-refl n)))) (T-dec (any (eqb n) l))

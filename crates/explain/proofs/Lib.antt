@@ -1,0 +1,5 @@
+pub mod SmallLines
+pub mod Supplying
+pub mod Rows
+pub mod Telling
+pub mod Laws

@@ -1,0 +1,1 @@
+// What a call of reasons promises; the call itself is `wimplejade_why` of the crate `wimplejade`.
