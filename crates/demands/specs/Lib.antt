@@ -28,3 +28,4 @@ pub mod Groups
 pub mod Sequence
 pub mod Reasons
 pub mod Explaining
+pub mod Sweep
