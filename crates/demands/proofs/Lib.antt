@@ -71,3 +71,5 @@ pub mod SequenceCases
 pub mod Suppliers
 pub mod Reasons
 pub mod Explaining
+pub mod Precedence
+pub mod Checking

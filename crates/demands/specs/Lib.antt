@@ -28,3 +28,5 @@ pub mod Groups
 pub mod Sequence
 pub mod Reasons
 pub mod Explaining
+pub mod Precedence
+pub mod Checking
