@@ -43,7 +43,7 @@ at-earlier {A} {l} {i} {x} {y} p = go (p .before) (p .are) (p .place)
     go (z ∷ before) e h = record { before = before; after = p .after; are = cc; place = omega arith }
 
 -- no ask is there exactly where the position is 0 or past the last
-ask-none : (asks : List Ask) (position : ℕ) → (nth-ask asks position ≡ none) ↔ ((position ≡ 0) ⊎ (length asks < position))
+pub ask-none : (asks : List Ask) (position : ℕ) → (nth-ask asks position ≡ none) ↔ ((position ≡ 0) ⊎ (length asks < position))
 unfolding nth-ask
 ask-none [] zero = (λ e. inl refl, λ p. refl)
 ask-none [] (suc n) = (λ e. inr (omega arith), λ p. refl)
@@ -58,7 +58,7 @@ ask-none (a ∷ asks) (suc (suc n)) = (
 )
 
 -- an ask is there exactly where it stands at the position, counted from 1
-ask-some : (asks : List Ask) (position : ℕ) (a : Ask) → (nth-ask asks position ≡ some a) ↔ ((k : ℕ) × (position ≡ suc k) × At asks k a)
+pub ask-some : (asks : List Ask) (position : ℕ) (a : Ask) → (nth-ask asks position ≡ some a) ↔ ((k : ℕ) × (position ≡ suc k) × At asks k a)
 unfolding nth-ask
 ask-some [] position a = (
   λ e. absurd (clash cc),

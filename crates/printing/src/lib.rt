@@ -305,7 +305,11 @@ fn put_reason(text: &mut [u8], at: usize, r: Refusal) -> usize
             b"the file has more than 2,048 trigger entries or 6,144 name uses",
         ),
         Refusal::FullAsks => put(text, at, b"the file has more than 16 ask and also lines"),
-        Refusal::Position => put(text, at, b"the file has no ask or also line at this position"),
+        Refusal::Position => put(
+            text,
+            at,
+            b"the file has no ask or also line at this position",
+        ),
     }
 }
 

@@ -4,9 +4,11 @@ ghost use Prim.Native.Nat.{_+_, _*_, _≤_, _<_};
 ghost use mathlib.Core.Path.{_≡_};
 ghost use mathlib.Core.List.{_++_};
 ghost use lib.ListN.{length, getD, set, drop};
+ghost use Rattle.words.specs.Slices.{Zeroed};
 ghost use Rattle.rows.specs.Rows.{row, pair, rows-held};
 
-// The row that stands in two words of a slice, behind i rows: its line, then the number of its name and its third number in one.
+// The row that stands in two words of a slice, behind i rows: its line, then the number of its name and its third number in
+// one.
 pub fn row_at(core: &[u32], i: usize) -> Row
     requires { ⌜ 2 * i + 1 < length (now core) ⌝ }
     ensures { λ r. ⌜ r ≡ row (getD (now (core .entry)) (2 * i) 0) (getD (now (core .entry)) (2 * i + 1) 0) ⌝ }
@@ -40,4 +42,12 @@ pub fn write_rows(core: &[u32], count: usize, rows: &mut [Row])
         rows[i] = row_at(core, i);
         i += 1;
     }
+}
+
+// Clears the words of the first rows of a slice.
+pub fn clear_rows(core: &mut [u32], count: usize)
+    requires { ⌜ 2 * count ≤ length (now core) ⌝ }
+    ensures { λ r. ⌜ Zeroed 0 (2 * count) (now (core .entry)) (now (core .exit)) ⌝ }
+{
+    words::clear(core, 0, 2 * count)
 }

@@ -1,7 +1,7 @@
--- `wimplejade::verdict_number` meets its contract.
-use Rattle.wimplejade.proofs.Laws.{accepted-number, refused-number}
-use Rattle.wimplejade.proofs.verdict_number.Statement.{statement}
-use Rattle.wimplejade.proofs.verdict_number.Tie as tie
+-- `front::verdict_number` meets its contract.
+use Rattle.front.proofs.Verdicts.{accepted-number, refused-number}
+use Rattle.front.proofs.verdict_number.Statement.{statement}
+use Rattle.front.proofs.verdict_number.Tie as tie
 
 enum-told : tie.Need-enum-told
 enum-told c = c .match .keys1
