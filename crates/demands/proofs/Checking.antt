@@ -15,8 +15,7 @@ use Rattle.model.specs.declared.Refusal.{Refusal}
 use Rattle.model.specs.declared.Refusal.the-variants as refusal
 use Rattle.model.specs.declared.Row.{Row}
 use Rattle.model.proofs.ListLaws.{T-dec, T-true, T-false}
-use Rattle.demands.specs.LinesRead.{Lines-read}
-use Rattle.demands.specs.Demand1.{Lines-judged, Of-front}
+use Rattle.demands.specs.Demand1.{Of-front}
 use Rattle.demands.specs.Checking.{When-table-short, When-rows-listed, Check-exact, Long-table, Rows-kept}
 use Rattle.demands.proofs.Demand1.{clash, file-opened, front-stops, not-8}
 use Rattle.demands.proofs.Slices.{front-length}

@@ -27,7 +27,6 @@ use Rattle.demands.specs.Reasons.{Numbers}
 use Rattle.demands.specs.Precedence.{Comes-late, Has-neither, Late-reason, Late-rows-exact, Row-before, Late-rise, none as no-row, one-more as one-row, Late-rows-in-order, Late-rows-bound, Depends, at-once, through, No-circle, Comes-before, Declared-before}
 use Rattle.demands.proofs.RecordLines.{rising-head, rising-tail, records-rise}
 use Rattle.demands.proofs.WellFormed.{accepted-well-formed}
-use Rattle.demands.proofs.StateLaws.{State-laws}
 use Rattle.demands.proofs.HistoryLaws.{le-or-lt}
 use Rattle.demands.proofs.Reasons.{accepted-laws, distinct-place}
 

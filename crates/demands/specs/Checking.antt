@@ -27,7 +27,8 @@ When-rows-listed file works room given =
 
 -- what the call comes to: a refusal of the front, each exactly as Demand1 says of the front; 8; or the rows
 pub record Checks (file : List ℕ) (works : List Lent) (room : ℕ) : Type 0 where
-  pub refused : (r : Refusal) (n : ℕ) → (r ≡ refusal.Room → ⊥) → (check file works room ≡ refusal-at r n) ↔ (front file works ≡ stopped r n)
+  pub refused : (r : Refusal) (n : ℕ) → (r ≡ refusal.Room → ⊥)
+      → (check file works room ≡ refusal-at r n) ↔ (front file works ≡ stopped r n)
   pub refused-8 : (place : ℕ) → (check file works room ≡ refusal-at refusal.Room place) ↔ When-table-short file works room place
   pub rows-listed : (given : List Row) → (check file works room ≡ listed-rows given) ↔ When-rows-listed file works room given
   pub own-refusal : (r : Refusal) (n : ℕ) → check file works room ≡ refusal-at r n → (r ≡ refusal.Room) ⊎ Of-front r
@@ -38,7 +39,8 @@ Check-exact = (file : List ℕ) (works : List Lent) (room : ℕ) → Checks file
 -- a table of 6,144 rows is never too short
 abbrev pub Long-table : Type 0
 Long-table =
-    (file : List ℕ) (works : List Lent) (room place : ℕ) → 6144 ≤ room → check file works room ≡ refusal-at refusal.Room place → ⊥
+    (file : List ℕ) (works : List Lent) (room place : ℕ) → 6144 ≤ room
+    → check file works room ≡ refusal-at refusal.Room place → ⊥
 
 -- "Only listed rows are written, none on a refusal, and their count is told"
 abbrev pub Table-left : Checked → List Row → Type 0

@@ -1,5 +1,5 @@
--- Document 02, Change 9, for every accepted file: which rows the check lists, in which order and how many at most; that without a
--- row of the first sort the definitions go in no circle; and that without any row every name is declared before it is used.
+-- Document 02, Change 9, for every accepted file: which rows the check lists, in which order and how many at most; that without
+-- a row of the first sort the definitions go in no circle; and that without any row every name is declared before it is used.
 use Prim.Native.Nat.{ℕ, _≤_, _<_}
 use mathlib.Core.Path.{_≡_}
 use mathlib.Core.Logic.{_↔_, _⊎_}

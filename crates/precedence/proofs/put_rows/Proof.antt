@@ -1,0 +1,64 @@
+-- `precedence::put_rows` meets its contract. The loop's invariant: the records whose rows are left.
+use native.Mathlib.Omega.{arith}
+use Prim.Native.Nat.{_-_}
+use mathlib.Core.Path.{_∙_}
+use Rattle.precedence.proofs.Putting.{rows-length-same, Defs-to, defs-start, defs-next, defs-room, defs-end}
+use native.Mathlib.Omega.{arith}
+use Rattle.precedence.proofs.put_rows.Statement.{statement}
+use Rattle.precedence.proofs.put_rows.Tie as tie
+
+abbrev Inv-loop : tie.InvT-loop
+Inv-loop names recs lists refs₀ run₀ k records to₀ i₀ refs run to i = Defs-to names recs lists refs₀ run₀ k refs run to i
+
+abbrev μ-loop : tie.MeasureT-loop
+μ-loop names recs lists refs₀ run₀ k records to₀ i₀ refs run to i = records - i
+
+clear-requires : tie.Need-clear-requires Inv-loop μ-loop
+clear-requires c κs = omega (arith, c .before .before .before .before .before .before .pre .1)
+
+loop-holds : tie.Need-loop-holds Inv-loop μ-loop
+loop-holds c = defs-start _ _ _ _ _ (c .before .before .clear .ensures)
+
+put-def-requires : tie.Need-put-def-requires Inv-loop μ-loop
+put-def-requires c κs = (
+  c .before .before .before .before .before .before .before .before .before .before .before .before .before .pre .0,
+  omega (arith, c .before .before .before .before .before .before .before .before .before .before .before .before .before .pre .1, c .before .before .before .before .before .before .clear .ensures .same .same-length, c .before .before .before .loop .inv .stamped .same .same-length),
+  omega (arith, c .before .before .before .before .before .before .before .before .before .before .before .before .before .pre .2, rows-length-same (c .before .before .before .loop .inv .rows)),
+  c .before .before .loop-test .taken,
+  c .before .before .before .loop .inv .stamped .below,
+  defs-room (c .before .before .before .loop .inv) (c .before .before .loop-test .taken) (c .before .before .before .before .before .before .before .before .before .before .before .before .before .pre .3),
+)
+
+add-i : tie.Need-add-i Inv-loop μ-loop
+add-i c = omega (arith, c .before .before .before .before .before .before .before .loop-test .taken, c .before .before .before .before .before .before .before .before .before .before .before .before .before .before .before .before .before .before .pre .0 .recorded .few)
+
+loop-less : tie.Need-loop-less Inv-loop μ-loop
+loop-less c = omega (arith, c .before .before .before .before .before .before .before .loop-test .taken)
+
+loop-again : tie.Need-loop-again Inv-loop μ-loop
+loop-again c = defs-next (c .before .before .before .before .before .before .before .before .loop .inv) (c .before .before .before .before .before .before .before .loop-test .taken) (c .before .before .before .before .put-def .ensures .0) (c .before .before .before .before .put-def .ensures .1)
+
+same-length : tie.Need-same-length Inv-loop μ-loop
+same-length c = c .before .loop .inv .stamped .same .same-length ∙ c .before .before .before .before .clear .ensures .same .same-length
+
+same-length-2 : tie.Need-same-length-2 Inv-loop μ-loop
+same-length-2 c = rows-length-same (c .before .loop .inv .rows)
+
+returns : tie.Need-returns Inv-loop μ-loop
+returns c = defs-end (c .before .loop .inv) (c .before .before .before .before .clear .ensures) (c .loop-test .left)
+
+pub put-rows-spec : {M : Type 1} → statement M
+put-rows-spec =
+    tie.close
+    (tie.spec
+    Inv-loop
+    μ-loop
+    clear-requires
+    loop-holds
+    put-def-requires
+    add-i
+    loop-less
+    loop-again
+    same-length
+    same-length-2
+    returns)
