@@ -1,4 +1,5 @@
 -- `precedence::find_rows` meets its contract.
+use Rattle.front.proofs.Slices.{six-lengths}
 use Rattle.precedence.proofs.Call.{found-rows}
 use Rattle.precedence.proofs.find_rows.Statement.{statement}
 use Rattle.precedence.proofs.find_rows.Tie as tie
@@ -9,26 +10,21 @@ check-order-requires c κs = tt
 in-numbers-requires : tie.Need-in-numbers-requires
 in-numbers-requires c κs = tt
 
-same-length : tie.Need-same-length
-same-length c = c .before .before .before .before .before .before .before .before .before .before .before .before .before .check-order .ensures .rest .on-names .same-length
-
-same-length-2 : tie.Need-same-length-2
-same-length-2 c = c .before .before .before .before .before .before .before .before .before .before .before .before .before .check-order .ensures .rest .on-refs .same-length
-
-same-length-3 : tie.Need-same-length-3
-same-length-3 c = c .before .before .before .before .before .before .before .before .before .before .before .before .before .check-order .ensures .rest .on-rows .same-length
-
-same-length-4 : tie.Need-same-length-4
-same-length-4 c = c .before .before .before .before .before .before .before .before .before .before .before .before .before .check-order .ensures .rest .on-recs .same-length
-
-same-length-5 : tie.Need-same-length-5
-same-length-5 c = c .before .before .before .before .before .before .before .before .before .before .before .before .before .check-order .ensures .rest .on-lists .same-length
-
-same-length-6 : tie.Need-same-length-6
-same-length-6 c = c .before .before .before .before .before .before .before .before .before .before .before .before .before .check-order .ensures .rest .on-run .same-length
+lengths :
+    tie.Need-same-length
+    × (tie.Need-same-length-2
+    × (tie.Need-same-length-3
+    × (tie.Need-same-length-4
+    × (tie.Need-same-length-5
+    × tie.Need-same-length-6))))
+lengths = six-lengths (λ c.
+    let check-order = c .before .before .before .before .before .before .before .before .before .before .before .before .before in
+    check-order .check-order .ensures .rest)
 
 returns : tie.Need-returns
-returns c = found-rows (c .before .before .before .before .before .before .before .before .before .before .before .before .before .check-order .ensures) (c .in-numbers .ensures)
+returns c =
+    let check-order = c .before .before .before .before .before .before .before .before .before .before .before .before .before in
+    found-rows (check-order .check-order .ensures) (c .in-numbers .ensures)
 
 pub find-rows-spec : {M : Type 1} → statement M
 find-rows-spec =
@@ -36,10 +32,10 @@ find-rows-spec =
     (tie.spec
     check-order-requires
     in-numbers-requires
-    same-length
-    same-length-2
-    same-length-3
-    same-length-4
-    same-length-5
-    same-length-6
+    (lengths .0)
+    (lengths .1 .0)
+    (lengths .1 .1 .0)
+    (lengths .1 .1 .1 .0)
+    (lengths .1 .1 .1 .1 .0)
+    (lengths .1 .1 .1 .1 .1)
     returns)

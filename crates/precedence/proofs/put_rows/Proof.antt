@@ -20,23 +20,34 @@ loop-holds : tie.Need-loop-holds Inv-loop μ-loop
 loop-holds c = defs-start _ _ _ _ _ (c .before .before .clear .ensures)
 
 put-def-requires : tie.Need-put-def-requires Inv-loop μ-loop
-put-def-requires c κs = (
-  c .before .before .before .before .before .before .before .before .before .before .before .before .before .pre .0,
-  omega (arith, c .before .before .before .before .before .before .before .before .before .before .before .before .before .pre .1, c .before .before .before .before .before .before .clear .ensures .same .same-length, c .before .before .before .loop .inv .stamped .same .same-length),
-  omega (arith, c .before .before .before .before .before .before .before .before .before .before .before .before .before .pre .2, rows-length-same (c .before .before .before .loop .inv .rows)),
-  c .before .before .loop-test .taken,
-  c .before .before .before .loop .inv .stamped .below,
-  defs-room (c .before .before .before .loop .inv) (c .before .before .loop-test .taken) (c .before .before .before .before .before .before .before .before .before .before .before .before .before .pre .3),
-)
+put-def-requires c κs =
+    let loop-test = c .before .before in
+    let loop = loop-test .before in
+    let clear = loop .before .before .before in
+    let entry = clear .before .before .before .before .before .before .before in (
+      entry .pre .0,
+      omega (arith, entry .pre .1, clear .clear .ensures .same .same-length, loop .loop .inv .stamped .same .same-length),
+      omega (arith, entry .pre .2, rows-length-same (loop .loop .inv .rows)),
+      loop-test .loop-test .taken,
+      loop .loop .inv .stamped .below,
+      defs-room (loop .loop .inv) (loop-test .loop-test .taken) (entry .pre .3),
+    )
 
 add-i : tie.Need-add-i Inv-loop μ-loop
-add-i c = omega (arith, c .before .before .before .before .before .before .before .loop-test .taken, c .before .before .before .before .before .before .before .before .before .before .before .before .before .before .before .before .before .before .pre .0 .recorded .few)
+add-i c =
+    let loop-test = c .before .before .before .before .before .before .before in
+    let entry = loop-test .before .before .before .before .before .before .before .before .before .before .before in
+    omega (arith, loop-test .loop-test .taken, entry .pre .0 .recorded .few)
 
 loop-less : tie.Need-loop-less Inv-loop μ-loop
 loop-less c = omega (arith, c .before .before .before .before .before .before .before .loop-test .taken)
 
 loop-again : tie.Need-loop-again Inv-loop μ-loop
-loop-again c = defs-next (c .before .before .before .before .before .before .before .before .loop .inv) (c .before .before .before .before .before .before .before .loop-test .taken) (c .before .before .before .before .put-def .ensures .0) (c .before .before .before .before .put-def .ensures .1)
+loop-again c =
+    let put-def = c .before .before .before .before in
+    let loop-test = put-def .before .before .before in
+    let loop = loop-test .before in
+    defs-next (loop .loop .inv) (loop-test .loop-test .taken) (put-def .put-def .ensures .0) (put-def .put-def .ensures .1)
 
 same-length : tie.Need-same-length Inv-loop μ-loop
 same-length c = c .before .loop .inv .stamped .same .same-length ∙ c .before .before .before .before .clear .ensures .same .same-length
