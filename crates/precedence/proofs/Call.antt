@@ -37,7 +37,7 @@ use Rattle.prune.specs.Listing.{from, is-among}
 use Rattle.prune.proofs.Writing.{column-same}
 use Rattle.prune.proofs.Gathering.{part-sets}
 use Rattle.precedence.specs.Sorts.{late-at, sorted-row, rank-row, body-rows, def-rows, all-late}
-use Rattle.precedence.specs.Call.{rows-of-check, Rows-put, Late-tables, Lists-rows, Orders, Found-rows, in-numbers}
+use Rattle.precedence.specs.Call.{rows-of-check, Late-put, Late-tables, Lists-rows, Orders, Found-rows, in-numbers}
 use Rattle.precedence.specs.declared.Late.{Late}
 use Rattle.precedence.proofs.Sorts.{late-bound}
 use Rattle.precedence.proofs.Listing.{late-is}
@@ -134,7 +134,7 @@ rows-stand rs run small e =
     ap (rows-held (length rs)) (sym (take-append-drop (2 * length rs) run) ∙ ap (_++ drop (2 * length rs) run) e)
     ∙ rows-words rs (drop (2 * length rs) run) small
 
-module _ {rs : List Row} {refs refs′ run run′ : List ℕ} {count : ℕ} (p : Rows-put rs refs refs′ run run′ count) where
+module _ {rs : List Row} {refs refs′ run run′ : List ℕ} {count : ℕ} (p : Late-put rs refs refs′ run run′ count) where
   -- as many as were put
   pub put-count : count ≡ length rs
   put-count = let a = p .put .count in let b = words-length rs in omega arith
@@ -216,13 +216,13 @@ unfolding rows-of-check
 refused-rows r place = refl
 
 -- the slices with the rows put
-pub put-rest : {rs : List Row} {refs refs′ run run′ : List ℕ} {count : ℕ} {names rows recs lists : List ℕ} → Rows-put rs refs refs′ run run′ count
+pub put-rest : {rs : List Row} {refs refs′ run run′ : List ℕ} {count : ℕ} {names rows recs lists : List ℕ} → Late-put rs refs refs′ run run′ count
     → length rs ≤ most-uses → Rest (six names refs rows recs lists run) (six names refs′ rows recs lists run′)
 put-rest p few = rest-work (put-stamps p) (put-same p few)
 
 -- a table that is too short
 pub short-listed : {rs : List Row} {refs refs′ run run′ : List ℕ} {count : ℕ} {names rows recs lists : List ℕ} {left : Working} {room : ℕ} {r : Ordered}
-    → Rows-put rs refs refs′ run run′ count → length rs ≤ most-uses → room < count
+    → Late-put rs refs refs′ run run′ count → length rs ≤ most-uses → room < count
     → Zeros (six names refs′ rows recs lists run′) left → r ≡ ordered (refusal-at refusal.Room count)
     → Lists-rows rs room (six names refs rows recs lists run) left r
 short-listed {rs} {refs} {refs′} {run} {run′} {count} {names} {rows} {recs} {lists} {left} {room} {r} p few h z e = record {
@@ -251,7 +251,7 @@ listed-given : (rs : List Row) → rows-of-check (listed-rows rs) ≡ rs
 unfolding rows-of-check
 listed-given rs = refl
 
-module _ {rs : List Row} {refs refs′ run run′ : List ℕ} {count : ℕ} (p : Rows-put rs refs refs′ run run′ count) (few : length rs ≤ most-uses)
+module _ {rs : List Row} {refs refs′ run run′ : List ℕ} {count : ℕ} (p : Late-put rs refs refs′ run run′ count) (few : length rs ≤ most-uses)
     {names rows recs lists v0 v1 v2 v3 v4 v5 : List ℕ} (t : Tables-zero (six names refs′ rows recs lists []) (six v0 v1 v2 v3 v4 []))
     (z : Zeroed (2 * count) (working-words - 2 * count) run′ v5) where
   -- the words past those that a call uses stay

@@ -21,7 +21,7 @@ use Rattle.prune.specs.Loops.{Index, Readable, Behind}
 use Rattle.prune.proofs.Writing.{Going, going-start, going-length, going-end, going-list, list-room, lists-none}
 use Rattle.precedence.specs.Sorts.{late-at, sorted-row, rank-row, body-rows, def-rows, all-late}
 use Rattle.precedence.specs.Loops.{Stamped-to, Rows-behind}
-use Rattle.precedence.specs.Call.{Rows-put}
+use Rattle.precedence.specs.Call.{Late-put}
 use Rattle.precedence.proofs.Sorts.{row-none, row-one}
 use Rattle.precedence.proofs.Stamps.{stamped-then, stamps-cleared}
 
@@ -162,6 +162,6 @@ module _ {names recs lists refs₀ run₀ : List ℕ} {k : Counts} {refs run : L
 
   -- all put
   pub defs-end : {before : List ℕ} → Zeroed 0 most-names before refs₀ → k .records ≤ i
-      → Rows-put (all-late names recs lists k) before refs run₀ run to
+      → Late-put (all-late names recs lists k) before refs run₀ run to
   unfolding all-late
   defs-end z h = record { put = rows-end (d .rows) h; stamped = same-then (z .same) (d .stamped .same) }

@@ -27,7 +27,7 @@ rows-of-check (refusal-at r place) = []
 rows-of-check (listed-rows rs) = rs
 
 -- rows put into words from the start of the run's slice on
-pub record Rows-put (rows : List Row) (refs refs′ run run′ : List ℕ) (count : ℕ) : Type 0 where
+pub record Late-put (rows : List Row) (refs refs′ run run′ : List ℕ) (count : ℕ) : Type 0 where
   pub put : Rows-behind run 0 rows run′ count
   pub stamped : Same-but 0 most-names refs refs′
 

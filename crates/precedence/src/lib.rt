@@ -17,7 +17,7 @@ ghost use Rattle.records.specs.Filing.{Records};
 ghost use Rattle.prune.specs.Loops.{Index, Readable};
 ghost use Rattle.precedence.specs.Sorts.{sort-at, late-at, body-rows, def-rows, all-late, has-stamp, stamps};
 ghost use Rattle.precedence.specs.Loops.{Checkable, Stamps-below, Stamped-to, Rows-behind};
-ghost use Rattle.precedence.specs.Call.{Rows-put, in-numbers, Late-tables, Lists-rows, Orders, Found-rows};
+ghost use Rattle.precedence.specs.Call.{Late-put, in-numbers, Late-tables, Lists-rows, Orders, Found-rows};
 
 // The answer in numbers: the number of the refusal, 0 for rows; its place; how many rows are listed.
 #[repr(C)]
@@ -145,7 +145,7 @@ pub fn put_rows(
 ) -> usize
     requires { ⌜ Checkable (now names) (now recs) (now lists) k × (working-words ≤ length (now refs))
         × (working-words ≤ length (now run)) × (length (all-late (now names) (now recs) (now lists) k) ≤ most-uses) ⌝ }
-    ensures { λ r. ⌜ Rows-put (all-late (now (names .entry)) (now (recs .entry)) (now (lists .entry)) k)
+    ensures { λ r. ⌜ Late-put (all-late (now (names .entry)) (now (recs .entry)) (now (lists .entry)) k)
         (now (refs .entry)) (now (refs .exit)) (now (run .entry)) (now (run .exit)) r ⌝ }
 {
     words::clear(refs, 0, model::MOST_NAMES);
