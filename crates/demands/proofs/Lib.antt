@@ -73,3 +73,5 @@ pub mod Reasons
 pub mod Explaining
 pub mod SweepLaws
 pub mod Sweep
+pub mod Precedence
+pub mod Checking

@@ -29,3 +29,5 @@ pub mod Sequence
 pub mod Reasons
 pub mod Explaining
 pub mod Sweep
+pub mod Precedence
+pub mod Checking
