@@ -1,8 +1,9 @@
-/* Filters one file, or standard input, and prints what the program factfilter prints: a list for each ask and also line, or the
- * rows of reasons at a position.
+/* Filters one file, or standard input, and prints what the program factfilter prints: a list for each ask and also line, by the
+ * first engine or by the second, or the rows of reasons at a position.
  *
  *     example [FILE]
  *     example why POSITION [FILE]
+ *     example sweep [FILE]
  *
  * A refusal is also said in words on standard error, and ends the program with status 1.
  */
@@ -37,6 +38,16 @@ static void print_name(struct wimplejade_name name)
     printf(",%.*s", (int)name.length, (const char *)name.bytes);
 }
 
+/* Prints kept lines. */
+static void print_kept(size_t bytes, const uint32_t *lines, uint32_t kept)
+{
+    for (uint32_t index = 0; index < kept; index++) {
+        printf("kept,%u", (unsigned)lines[index]);
+        print_name(wimplejade_name_on(file, bytes, lines[index]));
+        printf("\n");
+    }
+}
+
 /* Prints the list of each ask and also line. */
 static int print_lists(size_t bytes)
 {
@@ -46,11 +57,7 @@ static int print_lists(size_t bytes)
     }
     for (uint32_t position = 1; position <= wimplejade_asks(&answer); position++) {
         struct wimplejade_list list = wimplejade_list_at(&answer, slices.result, position);
-        for (uint32_t index = 0; index < list.kept; index++) {
-            printf("kept,%u", (unsigned)list.lines[index]);
-            print_name(wimplejade_name_on(file, bytes, list.lines[index]));
-            printf("\n");
-        }
+        print_kept(bytes, list.lines, list.kept);
         printf("sum,%u,%u,%u\n", (unsigned)list.kept, (unsigned)list.visits, (unsigned)list.rounds);
     }
     return 0;
@@ -76,13 +83,29 @@ static int print_reasons(size_t bytes, size_t position)
     return 0;
 }
 
+/* Prints the list of each ask and also line by the second engine. */
+static int print_swept(size_t bytes)
+{
+    struct wimplejade_swept answer = wimplejade_run_sweep(file, bytes, &slices);
+    if (answer.refusal != WIMPLEJADE_ACCEPTED) {
+        return refuse(answer.refusal, answer.place);
+    }
+    for (uint32_t position = 1; wimplejade_swept_at(&answer, slices.result, position).passes > 0; position++) {
+        struct wimplejade_swept_list list = wimplejade_swept_at(&answer, slices.result, position);
+        print_kept(bytes, list.lines, list.kept);
+        printf("pass,%u,%u\n", (unsigned)list.kept, (unsigned)list.passes);
+    }
+    return 0;
+}
+
 int main(int count, char **arguments)
 {
     FILE *input = stdin;
     int why = count > 2 && strcmp(arguments[1], "why") == 0;
-    int words = why ? 3 : 1;
+    int sweep = count > 1 && strcmp(arguments[1], "sweep") == 0;
+    int words = why ? 3 : sweep ? 2 : 1;
     if (count > words + 1) {
-        fprintf(stderr, "usage: example [why POSITION] [FILE]\n");
+        fprintf(stderr, "usage: example [why POSITION | sweep] [FILE]\n");
         return 2;
     }
     if (count > words) {
@@ -97,7 +120,9 @@ int main(int count, char **arguments)
         perror("example");
         return 2;
     }
-    int status = why ? print_reasons(bytes, strtoul(arguments[2], NULL, 10)) : print_lists(bytes);
+    int status = why     ? print_reasons(bytes, strtoul(arguments[2], NULL, 10))
+                 : sweep ? print_swept(bytes)
+                         : print_lists(bytes);
     if (fflush(stdout) != 0) {
         perror("example");
         return 2;

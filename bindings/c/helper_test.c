@@ -161,5 +161,21 @@ int main(void)
     check(reasons.refusal == WIMPLEJADE_NUMBER && reasons.place == 1, "reasons of a refused file");
     check(row_is(0, 8, 0, 9) && row_is(1, 8, 1, 6) && row_is(2, 6, 0, 9), "rows that no call has touched");
     check(sizeof(struct wimplejade_row) == 12 && sizeof reasons == 24, "the bytes of a row and of reasons");
+
+    text = "ask,0,0\nalso,1\nask,9,1\nfree,p\nfree,q\nall,0,1,1,1\nassume,on_q,0,2\nall,1,1,1,0\nassume,on_p,0,3\nleaf\n"
+           "assume,loose,0,4\nroot,0,goal,0\nroot,1,goal,1\n";
+    struct wimplejade_swept swept = wimplejade_run_sweep((const uint8_t *)text, strlen(text), &slices);
+    struct wimplejade_swept_list first = wimplejade_swept_at(&swept, slices.result, 1);
+    struct wimplejade_swept_list second = wimplejade_swept_at(&swept, slices.result, 2);
+    struct wimplejade_swept_list third = wimplejade_swept_at(&swept, slices.result, 3);
+    check(swept.refusal == WIMPLEJADE_ACCEPTED && first.kept == 3 && second.kept == 3 && third.kept == 0, "swept lists");
+    check(first.lines[0] == 9 && first.lines[1] == 7 && first.lines[2] == 11 && second.lines == first.lines + 3, "swept lines");
+    check(first.passes == 3 && second.passes == 2 && third.passes == 1, "passes");
+    check(wimplejade_swept_at(&swept, slices.result, 0).passes == 0 && wimplejade_swept_at(&swept, slices.result, 4).passes == 0
+              && wimplejade_swept_at(&swept, slices.result, 17).passes == 0,
+          "no passes there");
+    swept = wimplejade_run_sweep((const uint8_t *)"ask,0,16\n", 9, &slices);
+    check(swept.refusal == WIMPLEJADE_NUMBER && swept.place == 1 && swept.passes[0] == 0, "a sweep of a refused file");
+    check(sizeof swept == 136, "the bytes of a swept answer");
     return wrong;
 }

@@ -62,6 +62,12 @@ static void *run_why(void *unused)
     return unused;
 }
 
+static void *run_sweep(void *unused)
+{
+    refusal = wimplejade_run_sweep((const uint8_t *)file, bytes, &slices).refusal;
+    return unused;
+}
+
 /* The functions. */
 static const struct {
     const char *name;
@@ -69,6 +75,7 @@ static const struct {
 } calls[] = {
     {"filter", run_filter},
     {"why", run_why},
+    {"sweep", run_sweep},
 };
 
 /* Runs a function in a thread of its own, and tells how much of the thread's stack was used. */

@@ -1,5 +1,5 @@
-/* The fact filter, proved in Rattle, as C functions: wimplejade_filter, which filters a file, and wimplejade_why, which says
- * why each fact came along.
+/* The fact filter, proved in Rattle, as C functions: wimplejade_filter, which filters a file, wimplejade_why, which says why
+ * each fact came along, and wimplejade_sweep, which filters by a second engine.
  *
  * The archive is libwimplejade.a: `rt staticlib wimplejade` proves the crate and writes it to target/staticlib, `make install`
  * puts it beside this header. It is for x86-64 Linux and needs no other library. docs/FORMAT.md of the repository describes
@@ -158,6 +158,33 @@ struct wimplejade_reasons wimplejade_why(const uint8_t *file, size_t file_bytes,
                                          uint32_t *working4, size_t working4_words,
                                          uint32_t *working5, size_t working5_words,
                                          struct wimplejade_row *rows, size_t row_count);
+
+/* The answer of wimplejade_sweep: the counts of each ask and also line, those of line 1 at index 0. Past the last of these
+ * lines, and after a refusal, they are 0; the passes of a line are 1 at least. */
+struct wimplejade_swept {
+    uint32_t refusal; /* one of enum wimplejade_refusal */
+    uint32_t place;
+    uint32_t kept[WIMPLEJADE_MOST_ASKS];   /* how many lines are kept */
+    uint32_t passes[WIMPLEJADE_MOST_ASKS]; /* the passes, the last one counted */
+};
+
+/* Filters a file by a second engine, for all its ask and also lines. Refusals and lists are those of wimplejade_filter, and
+ * `result` is written as there; it is proved that both reach the same facts and meet the same names.
+ *
+ * The engine passes over all admitted facts by line, adds each one that fires on the names met so far and may be reached, and
+ * meets its names at once; it repeats this until a pass adds none. The passes are at most the facts with triggers plus one. On
+ * an also line they are those of a run over all roots of its chain so far. There are no visits and no rounds.
+ *
+ * It is there to be followed by hand and compared with; for the lists alone wimplejade_filter takes less time.
+ */
+struct wimplejade_swept wimplejade_sweep(const uint8_t *file, size_t file_bytes,
+                                         uint32_t *working0, size_t working0_words,
+                                         uint32_t *working1, size_t working1_words,
+                                         uint32_t *working2, size_t working2_words,
+                                         uint32_t *working3, size_t working3_words,
+                                         uint32_t *working4, size_t working4_words,
+                                         uint32_t *working5, size_t working5_words,
+                                         uint32_t *result, size_t result_words);
 
 #ifdef __cplusplus
 }

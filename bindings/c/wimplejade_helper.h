@@ -41,6 +41,19 @@ static inline struct wimplejade_reasons wimplejade_run_why(const uint8_t *file, 
         slices->rows, WIMPLEJADE_MOST_ROWS);
 }
 
+/* Filters a file by the second engine, with these slices. slices->result then holds the lists, which wimplejade_swept_at finds;
+ * refusals 7 and 8 do not occur. */
+static inline struct wimplejade_swept wimplejade_run_sweep(const uint8_t *file, size_t file_bytes,
+                                                           struct wimplejade_slices *slices)
+{
+    uint32_t (*working)[WIMPLEJADE_WORKING_WORDS] = slices->working;
+    return wimplejade_sweep(
+        file, file_bytes,
+        working[0], WIMPLEJADE_WORKING_WORDS, working[1], WIMPLEJADE_WORKING_WORDS, working[2], WIMPLEJADE_WORKING_WORDS,
+        working[3], WIMPLEJADE_WORKING_WORDS, working[4], WIMPLEJADE_WORKING_WORDS, working[5], WIMPLEJADE_WORKING_WORDS,
+        slices->result, WIMPLEJADE_MOST_KEPT);
+}
+
 /* How many ask and also lines were answered: none after a refusal. */
 static inline uint32_t wimplejade_asks(const struct wimplejade_answer *answer)
 {
@@ -74,6 +87,29 @@ static inline struct wimplejade_list wimplejade_list_at(const struct wimplejade_
     list.kept = answer->kept[position - 1];
     list.visits = answer->visits[position - 1];
     list.rounds = answer->rounds[position - 1];
+    return list;
+}
+
+/* What one ask or also line keeps by the second engine, and its passes; no passes where no line is answered. */
+struct wimplejade_swept_list {
+    const uint32_t *lines;
+    uint32_t kept;
+    uint32_t passes;
+};
+
+/* The list of the second engine for the ask or also line at a position, as wimplejade_list_at finds that of the first. */
+static inline struct wimplejade_swept_list wimplejade_swept_at(const struct wimplejade_swept *answer, const uint32_t *result,
+                                                               uint32_t position)
+{
+    struct wimplejade_swept_list list = {result, 0, 0};
+    if (position == 0 || position > WIMPLEJADE_MOST_ASKS) {
+        return list;
+    }
+    for (uint32_t before = 0; before < position - 1; before++) {
+        list.lines += answer->kept[before];
+    }
+    list.kept = answer->kept[position - 1];
+    list.passes = answer->passes[position - 1];
     return list;
 }
 

@@ -79,9 +79,22 @@
 //! # Ok::<(), wimplejade::Refusal>(())
 //! ```
 //!
-//! What is proved are the calls, [`answer`] and [`why_answer`], over slices that their caller lends. [`filter`] and [`why`]
-//! give their answers as a `Result`, [`Filter`] lends them slices of its own and finds the names of lines and numbers; these
-//! and the declarations of the C functions are plain Rust.
+//! [`Filter::sweep`] gives the lists of [`Filter::run`] by a second engine, which passes over all facts by line until a pass
+//! adds none, and tells its passes.
+//!
+//! ```
+//! let file = b"ask,0,0\nfree,p\nfree,q\nall,0,1,1,1\nassume,on_q,0,2\nall,1,1,1,0\nassume,on_p,0,3\nroot,0,goal,0\n";
+//!
+//! let mut filter = wimplejade::Filter::new();
+//! let swept = filter.sweep(file)?;
+//! assert_eq!((swept.lists()[0].records.len(), swept.lists()[0].passes), (2, 3));
+//! assert_eq!(swept.lists()[0].records, filter.run(file)?.lists()[0].records);
+//! # Ok::<(), wimplejade::Refusal>(())
+//! ```
+//!
+//! What is proved are the calls, [`answer`], [`why_answer`] and [`sweep_answer`], over slices that their caller lends.
+//! [`filter`], [`why`] and [`sweep`] give their answers as a `Result`, [`Filter`] lends them slices of its own and finds the
+//! names of lines and numbers; these and the declarations of the C functions are plain Rust.
 //!
 //! # Stack and time
 //!
@@ -96,11 +109,13 @@
 mod call;
 mod names;
 mod refusal;
+mod sweep;
 mod why;
 
 pub use call::{answer, filter, Answer, Counts};
 pub use names::Names;
 pub use refusal::Refusal;
+pub use sweep::{sweep, sweep_answer, SweepAnswer, SweepCounts, Swept, SweptList};
 pub use why::{why, why_answer, Reason, Reasons, Row, WhyAnswer, WhyCounts, MOST_ROWS};
 
 use std::fmt;
