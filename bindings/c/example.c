@@ -1,9 +1,10 @@
 /* Filters one file, or standard input, and prints what the program factfilter prints: a list for each ask and also line, by the
- * first engine or by the second, or the rows of reasons at a position.
+ * first engine or by the second, the rows of reasons at a position, or those of the order check.
  *
  *     example [FILE]
  *     example why POSITION [FILE]
  *     example sweep [FILE]
+ *     example order [FILE]
  *
  * A refusal is also said in words on standard error, and ends the program with status 1.
  */
@@ -98,14 +99,34 @@ static int print_swept(size_t bytes)
     return 0;
 }
 
+/* Prints the rows of the order check. */
+static int print_order(size_t bytes)
+{
+    struct wimplejade_late answer = wimplejade_run_order(file, bytes, &slices);
+    if (answer.refusal != WIMPLEJADE_ACCEPTED) {
+        return refuse(answer.refusal, answer.place);
+    }
+    wimplejade_number_names(file, bytes, &names);
+    for (size_t index = 0; index < answer.rows; index++) {
+        struct wimplejade_row row = slices.rows[index];
+        printf("row,%u,%u,%u", (unsigned)row.line, (unsigned)row.number, (unsigned)row.cause);
+        print_name(wimplejade_name_on(file, bytes, row.line));
+        print_name(names.name[row.number]);
+        printf("\n");
+    }
+    printf("rows,%zu\n", answer.rows);
+    return 0;
+}
+
 int main(int count, char **arguments)
 {
     FILE *input = stdin;
     int why = count > 2 && strcmp(arguments[1], "why") == 0;
     int sweep = count > 1 && strcmp(arguments[1], "sweep") == 0;
-    int words = why ? 3 : sweep ? 2 : 1;
+    int order = count > 1 && strcmp(arguments[1], "order") == 0;
+    int words = why ? 3 : sweep || order ? 2 : 1;
     if (count > words + 1) {
-        fprintf(stderr, "usage: example [why POSITION | sweep] [FILE]\n");
+        fprintf(stderr, "usage: example [why POSITION | sweep | order] [FILE]\n");
         return 2;
     }
     if (count > words) {
@@ -122,6 +143,7 @@ int main(int count, char **arguments)
     }
     int status = why     ? print_reasons(bytes, strtoul(arguments[2], NULL, 10))
                  : sweep ? print_swept(bytes)
+                 : order ? print_order(bytes)
                          : print_lists(bytes);
     if (fflush(stdout) != 0) {
         perror("example");

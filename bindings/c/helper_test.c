@@ -177,5 +177,22 @@ int main(void)
     swept = wimplejade_run_sweep((const uint8_t *)"ask,0,16\n", 9, &slices);
     check(swept.refusal == WIMPLEJADE_NUMBER && swept.place == 1 && swept.passes[0] == 0, "a sweep of a refused file");
     check(sizeof swept == 136, "the bytes of a swept answer");
+
+    text = "ask,0,0\nfree,x\nfree,h\nop,other,0,1\ndef,g,2\ndef,h,0\nfun,f\nfree,f\ndef,k,3\n";
+    struct wimplejade_late late = wimplejade_run_order((const uint8_t *)text, strlen(text), &slices);
+    check(late.refusal == WIMPLEJADE_ACCEPTED && late.place == 0 && late.rows == 3, "the order check");
+    check(row_is(0, 5, 1, WIMPLEJADE_LATER) && row_is(1, 5, 0, WIMPLEJADE_NEITHER) && row_is(2, 6, 0, WIMPLEJADE_NEITHER),
+          "the rows of the order check");
+    uint32_t (*working)[WIMPLEJADE_WORKING_WORDS] = slices.working;
+    const size_t words = WIMPLEJADE_WORKING_WORDS;
+    late = wimplejade_order((const uint8_t *)text, strlen(text), working[0], words, working[1], words, working[2], words,
+                            working[3], words, working[4], words, working[5], words, slices.rows + 3, 2);
+    check(late.refusal == WIMPLEJADE_ROOM && late.place == 3 && late.rows == 0, "a table that is too short");
+    late = wimplejade_run_order((const uint8_t *)"ask,0,16\n", 9, &slices);
+    check(late.refusal == WIMPLEJADE_NUMBER && late.place == 1 && late.rows == 0, "the order check of a refused file");
+    check(sizeof late == 16, "the bytes of an answer of the order check");
+    for (uint32_t sort = 0; sort <= 2; sort++) {
+        check((strcmp(wimplejade_sort_words(sort), wimplejade_sort_words(3)) == 0) == (sort == 0), "words of a sort");
+    }
     return wrong;
 }

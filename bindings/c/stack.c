@@ -68,6 +68,12 @@ static void *run_sweep(void *unused)
     return unused;
 }
 
+static void *run_order(void *unused)
+{
+    refusal = wimplejade_run_order((const uint8_t *)file, bytes, &slices).refusal;
+    return unused;
+}
+
 /* The functions. */
 static const struct {
     const char *name;
@@ -76,6 +82,7 @@ static const struct {
     {"filter", run_filter},
     {"why", run_why},
     {"sweep", run_sweep},
+    {"order", run_order},
 };
 
 /* Runs a function in a thread of its own, and tells how much of the thread's stack was used. */

@@ -1,5 +1,6 @@
 /* The fact filter, proved in Rattle, as C functions: wimplejade_filter, which filters a file, wimplejade_why, which says why
- * each fact came along, and wimplejade_sweep, which filters by a second engine.
+ * each fact came along, wimplejade_sweep, which filters by a second engine, and wimplejade_order, which checks what must come
+ * before what.
  *
  * The archive is libwimplejade.a: `rt staticlib wimplejade` proves the crate and writes it to target/staticlib, `make install`
  * puts it beside this header. It is for x86-64 Linux and needs no other library. docs/FORMAT.md of the repository describes
@@ -39,6 +40,9 @@ extern "C" {
 /* The rows that the table of wimplejade_why must have at least. No file has more. */
 #define WIMPLEJADE_MOST_ROWS 2048
 
+/* The most rows of wimplejade_order: with a table of so many, or more, it is never refused with WIMPLEJADE_ROOM. */
+#define WIMPLEJADE_MOST_LATE_ROWS 6144
+
 /* The bytes that a file may have. */
 #define WIMPLEJADE_MOST_BYTES 65535
 
@@ -57,7 +61,8 @@ enum wimplejade_refusal {
     WIMPLEJADE_REPEATED = 5,       /* the name of an earlier assume, fun or def; the line */
     WIMPLEJADE_FULL_NAMES = 6,     /* more than 2,048 names; the line */
     WIMPLEJADE_WORKING = 7,        /* a working slice, or the table of wimplejade_why, is too short; 0 */
-    WIMPLEJADE_ROOM = 8,           /* the result slice is shorter than all lists end to end; how many lines they have */
+    WIMPLEJADE_ROOM = 8,           /* the result slice is shorter than all lists end to end; how many lines they have; or the
+                                      table of wimplejade_order is too short; how many rows there are */
     WIMPLEJADE_SIZE = 9,           /* the file has more than WIMPLEJADE_MOST_BYTES; 0 */
     WIMPLEJADE_FULL_TERMS = 10,    /* more than 4,096 term lines or 16,384 references in them; the line */
     WIMPLEJADE_FULL_RECORDS = 11,  /* more than 1,024 record lines; the line */
@@ -125,9 +130,10 @@ struct wimplejade_answer wimplejade_filter(const uint8_t *file, size_t file_byte
  * them first, line by line and from the left; a token that rule 4 of docs/FORMAT.md shortens, if it was not spelled before,
  * comes after the name of its fact. */
 struct wimplejade_row {
-    uint32_t line;   /* the line of a reached fact */
-    uint32_t number; /* the number of a name that the fact waits for */
-    uint32_t cause;  /* the line of the item that supplied the name: a root, an ambient root or a fact */
+    uint32_t line;   /* the line of a reached fact; of wimplejade_order that of a definition */
+    uint32_t number; /* the number of a name that the fact waits for; of wimplejade_order that of a free name of the body */
+    uint32_t cause;  /* the line of the item that supplied the name: a root, an ambient root or a fact; of wimplejade_order the
+                        sort, one of enum wimplejade_sort */
 };
 
 /* The answer of wimplejade_why. After a refusal `met` and `rows` are 0. */
@@ -185,6 +191,37 @@ struct wimplejade_swept wimplejade_sweep(const uint8_t *file, size_t file_bytes,
                                          uint32_t *working4, size_t working4_words,
                                          uint32_t *working5, size_t working5_words,
                                          uint32_t *result, size_t result_words);
+
+/* Why wimplejade_order lists a name. */
+enum wimplejade_sort {
+    WIMPLEJADE_LATER = 1,  /* its def or fun stands on the line of the definition, or on a later one */
+    WIMPLEJADE_NEITHER = 2 /* the file has neither a def nor a fun of it */
+};
+
+/* The answer of wimplejade_order. After a refusal `rows` is 0. */
+struct wimplejade_late {
+    uint32_t refusal; /* one of enum wimplejade_refusal */
+    uint32_t place;
+    size_t rows; /* how many rows are listed */
+};
+
+/* Checks over all def lines what must come before what. There is a row for each free name of the body of a definition that the
+ * solver cannot know there, by the definition's line and then by name in byte order. Neither the nine names nor hidden ones are
+ * free; ask and also lines, options and groups do not matter.
+ *
+ * It is proved: if an accepted call lists no row of sort WIMPLEJADE_LATER, no definition depends on itself through the free
+ * names of bodies.
+ *
+ * Accepted, `rows` holds rows from its start, as many as the answer says, and past them what it held before.
+ */
+struct wimplejade_late wimplejade_order(const uint8_t *file, size_t file_bytes,
+                                        uint32_t *working0, size_t working0_words,
+                                        uint32_t *working1, size_t working1_words,
+                                        uint32_t *working2, size_t working2_words,
+                                        uint32_t *working3, size_t working3_words,
+                                        uint32_t *working4, size_t working4_words,
+                                        uint32_t *working5, size_t working5_words,
+                                        struct wimplejade_row *rows, size_t row_count);
 
 #ifdef __cplusplus
 }

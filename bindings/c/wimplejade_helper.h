@@ -9,12 +9,12 @@
 
 #include <string.h>
 
-/* The slices of a call, long enough for every file: some 480 KB, so a static object or one from calloc. Its words have to be
+/* The slices of a call, long enough for every file: some 530 KB, so a static object or one from calloc. Its words have to be
  * written once before the first call, which both of these do; after that it serves any number of calls, one at a time. */
 struct wimplejade_slices {
     uint32_t working[6][WIMPLEJADE_WORKING_WORDS];
     uint32_t result[WIMPLEJADE_MOST_KEPT];
-    struct wimplejade_row rows[WIMPLEJADE_MOST_ROWS];
+    struct wimplejade_row rows[WIMPLEJADE_MOST_LATE_ROWS];
 };
 
 /* Filters a file with these slices. slices->result then holds the lists, which wimplejade_list_at finds; refusals 7 and 8 do
@@ -38,7 +38,7 @@ static inline struct wimplejade_reasons wimplejade_run_why(const uint8_t *file, 
         file, file_bytes, position,
         working[0], WIMPLEJADE_WORKING_WORDS, working[1], WIMPLEJADE_WORKING_WORDS, working[2], WIMPLEJADE_WORKING_WORDS,
         working[3], WIMPLEJADE_WORKING_WORDS, working[4], WIMPLEJADE_WORKING_WORDS, working[5], WIMPLEJADE_WORKING_WORDS,
-        slices->rows, WIMPLEJADE_MOST_ROWS);
+        slices->rows, WIMPLEJADE_MOST_LATE_ROWS);
 }
 
 /* Filters a file by the second engine, with these slices. slices->result then holds the lists, which wimplejade_swept_at finds;
@@ -52,6 +52,18 @@ static inline struct wimplejade_swept wimplejade_run_sweep(const uint8_t *file, 
         working[0], WIMPLEJADE_WORKING_WORDS, working[1], WIMPLEJADE_WORKING_WORDS, working[2], WIMPLEJADE_WORKING_WORDS,
         working[3], WIMPLEJADE_WORKING_WORDS, working[4], WIMPLEJADE_WORKING_WORDS, working[5], WIMPLEJADE_WORKING_WORDS,
         slices->result, WIMPLEJADE_MOST_KEPT);
+}
+
+/* Checks what must come before what, with these slices. slices->rows then holds the rows; refusals 7 and 8 do not occur. */
+static inline struct wimplejade_late wimplejade_run_order(const uint8_t *file, size_t file_bytes,
+                                                          struct wimplejade_slices *slices)
+{
+    uint32_t (*working)[WIMPLEJADE_WORKING_WORDS] = slices->working;
+    return wimplejade_order(
+        file, file_bytes,
+        working[0], WIMPLEJADE_WORKING_WORDS, working[1], WIMPLEJADE_WORKING_WORDS, working[2], WIMPLEJADE_WORKING_WORDS,
+        working[3], WIMPLEJADE_WORKING_WORDS, working[4], WIMPLEJADE_WORKING_WORDS, working[5], WIMPLEJADE_WORKING_WORDS,
+        slices->rows, WIMPLEJADE_MOST_LATE_ROWS);
 }
 
 /* How many ask and also lines were answered: none after a refusal. */
@@ -125,7 +137,7 @@ static inline const char *wimplejade_words(uint32_t refusal)
     case WIMPLEJADE_REPEATED: return "the name is taken by an earlier assume, fun or def";
     case WIMPLEJADE_FULL_NAMES: return "the file has more than 2,048 names";
     case WIMPLEJADE_WORKING: return "a working slice, or the table of reasons, is too short";
-    case WIMPLEJADE_ROOM: return "the result slice is too short";
+    case WIMPLEJADE_ROOM: return "the result slice, or the table of the order check, is too short";
     case WIMPLEJADE_SIZE: return "the file has more than 65,535 bytes";
     case WIMPLEJADE_FULL_TERMS: return "the file has more than 4,096 term lines or 16,384 references";
     case WIMPLEJADE_FULL_RECORDS: return "the file has more than 1,024 record lines";
@@ -133,6 +145,16 @@ static inline const char *wimplejade_words(uint32_t refusal)
     case WIMPLEJADE_FULL_ASKS: return "the file has more than 16 ask and also lines";
     case WIMPLEJADE_POSITION: return "the file has no ask or also line at this position";
     default: return "a refusal that this header does not know";
+    }
+}
+
+/* The sort of a row of wimplejade_order in words. */
+static inline const char *wimplejade_sort_words(uint32_t sort)
+{
+    switch (sort) {
+    case WIMPLEJADE_LATER: return "its def or fun stands on the same line or a later one";
+    case WIMPLEJADE_NEITHER: return "it has neither a def nor a fun";
+    default: return "a sort that this header does not know";
     }
 }
 

@@ -92,9 +92,24 @@
 //! # Ok::<(), wimplejade::Refusal>(())
 //! ```
 //!
-//! What is proved are the calls, [`answer`], [`why_answer`] and [`sweep_answer`], over slices that their caller lends.
-//! [`filter`], [`why`] and [`sweep`] give their answers as a `Result`, [`Filter`] lends them slices of its own and finds the
-//! names of lines and numbers; these and the declarations of the C functions are plain Rust.
+//! [`Filter::order`] lists what the bodies of definitions name too early: what has its `def` or `fun` on the same line or
+//! below, and what has neither.
+//!
+//! ```
+//! let file = b"ask,0,0\nfree,x\nfree,h\nop,other,0,1\ndef,g,2\nfun,h\n";
+//!
+//! let mut filter = wimplejade::Filter::new();
+//! let late = filter.order(file)?;
+//! for (need, told) in late.all().iter().zip(["g, h: 1", "g, x: 2"]) {
+//!     assert_eq!(format!("{}, {}: {}", need.def, need.name_str(), need.sort.number()), told);
+//! }
+//! assert!(!late.is_in_order());
+//! # Ok::<(), wimplejade::Refusal>(())
+//! ```
+//!
+//! What is proved are the calls, [`answer`], [`why_answer`], [`sweep_answer`] and [`order_answer`], over slices that their
+//! caller lends. [`filter`], [`why`], [`sweep`] and [`order`] give their answers as a `Result`, [`Filter`] lends them slices of
+//! its own and finds the names of lines and numbers; these and the declarations of the C functions are plain Rust.
 //!
 //! # Stack and time
 //!
@@ -108,12 +123,14 @@
 
 mod call;
 mod names;
+mod order;
 mod refusal;
 mod sweep;
 mod why;
 
 pub use call::{answer, filter, Answer, Counts};
 pub use names::Names;
+pub use order::{order, order_answer, Late, Need, OrderAnswer, Sort, MOST_LATE_ROWS};
 pub use refusal::Refusal;
 pub use sweep::{sweep, sweep_answer, SweepAnswer, SweepCounts, Swept, SweptList};
 pub use why::{why, why_answer, Reason, Reasons, Row, WhyAnswer, WhyCounts, MOST_ROWS};

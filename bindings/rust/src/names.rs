@@ -2,7 +2,8 @@
 
 use std::collections::HashSet;
 
-/// The names of an accepted file by their numbers, which the rows of [`why`](crate::why) have.
+/// The names of an accepted file by their numbers, which the rows of [`why`](crate::why) and
+/// [`order`](crate::order) have.
 ///
 /// Names are numbered from 0 in the order in which the file spells them first, line by line and from the left. A token that
 /// rule 4 of `docs/FORMAT.md` shortens takes its number after the name of its fact, unless it has one. This is plain Rust over

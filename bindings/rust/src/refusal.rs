@@ -73,6 +73,11 @@ pub enum Refusal {
     },
     /// 15: the position that is named has no ask or also line.
     Position,
+    /// 8 of the order check: the table has fewer rows than are to be listed.
+    Table {
+        /// How many rows are to be listed.
+        rows: u32,
+    },
 }
 
 impl Refusal {
@@ -115,14 +120,16 @@ impl Refusal {
             Refusal::FullTriggers { .. } => 12,
             Refusal::FullAsks { .. } => 13,
             Refusal::Position => 15,
+            Refusal::Table { .. } => 8,
         }
     }
 
-    /// The place of the refusal: the line, for 8 the number of kept lines in all lists, for 7, 9 and 15 it is 0.
+    /// The place of the refusal: the line, for 8 the number of kept lines in all lists, or of rows, for 7, 9 and 15 it is 0.
     #[must_use]
     pub fn place(&self) -> u32 {
         self.line().unwrap_or(match self {
             Refusal::Room { kept } => *kept,
+            Refusal::Table { rows } => *rows,
             _ => 0,
         })
     }
@@ -141,7 +148,7 @@ impl Refusal {
             | Refusal::FullRecords { line }
             | Refusal::FullTriggers { line }
             | Refusal::FullAsks { line } => Some(*line),
-            Refusal::Working | Refusal::Room { .. } | Refusal::Size | Refusal::Position => None,
+            Refusal::Working | Refusal::Room { .. } | Refusal::Size | Refusal::Position | Refusal::Table { .. } => None,
         }
     }
 }
@@ -169,6 +176,7 @@ impl fmt::Display for Refusal {
             }
             Refusal::FullAsks { .. } => write!(out, "the file has more than 16 ask and also lines"),
             Refusal::Position => write!(out, "the file has no ask or also line at this position"),
+            Refusal::Table { rows } => write!(out, "the table is too short for {rows} rows"),
         }
     }
 }

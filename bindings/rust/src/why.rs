@@ -8,7 +8,7 @@ use crate::{record_on, Filter, Names, Record, Refusal};
 /// Rows that the table of [`why`] must have. No file has more.
 pub const MOST_ROWS: usize = 2_048;
 
-/// A row of a table, as the library fills it.
+/// A row of a table, as the library fills it: of [`why`] as said here, of [`order`](crate::order()) as said there.
 #[repr(C)]
 #[derive(Clone, Copy, Debug, Default, PartialEq, Eq, Hash)]
 pub struct Row {
