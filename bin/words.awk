@@ -1,9 +1,11 @@
-# Says in words why a line is refused with 1 to 5, 10 or 13: which condition it is, which field, what stands there.
+# Says in words why a line is refused with 1 to 5, 10 or 13: which condition it is, which field, what stands there; and of 15
+# which positions there are.
 #
-#     od -An -v -tu1 FILE | awk -v number=NUMBER -v place=PLACE -f words.awk
+#     od -An -v -tu1 FILE | awk -v number=NUMBER -v place=PLACE -v position=POSITION -f words.awk
 #
 # The input is the bytes of the file as decimal numbers. The line is judged once more, in the order of docs/FORMAT.md; if that
-# does not come to the same number, nothing is printed. Only words depend on this: number and place are the filter's.
+# does not come to the same number, nothing is printed. Only words depend on this: number and place are the filter's. POSITION
+# matters for 15 alone.
 
 BEGIN {
     # What stands in the fields after the kind: a query, options, groups, a flag, a group, a name, a word of an op, a term,
@@ -69,6 +71,10 @@ BEGIN {
 END {
     if (!judged && length_of_line) end_line(0)
     if (!judged && place == 1 && number == 1) print "line 1: the file is empty; its first line is " first_line
+    if (number == 15) {
+        print "position " position " has no ask or also line; the file has " \
+            (position_lines == 1 ? "one, at position 1" : "them at positions 1 to " position_lines)
+    }
 }
 
 # Judges the line that has been gathered if it is the refused one, else notes what later lines depend on.

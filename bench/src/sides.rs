@@ -163,7 +163,7 @@ fn are(table: &[Row], rows: impl ExactSizeIterator<Item = compare::Row>) -> bool
 fn same_reasons(call: Command, file: &[u8], answer: Reasons, table: &[Row]) -> Option<String> {
     let Command::Why(position) = call else { return None };
     let told = compare::why(file, position, LONG_ENOUGH, limits::REASON_ROWS).ok()?;
-    let right = Reasons { refusal: 0, place: 0, met: told.met, rows: told.rows.len() as u32 };
+    let right = Reasons { refusal: 0, place: 0, met: told.met as usize, rows: told.rows.len() };
     let same = answer == right && are(table, told.rows.iter().map(|reason| reason.row));
     same.then(|| format!("{} rows, {} names met", right.rows, right.met))
 }
@@ -186,7 +186,7 @@ fn same_sweep(file: &[u8], answer: Swept, result: &[u32]) -> Option<String> {
 
 fn same_order(file: &[u8], answer: Ordered, table: &[Row]) -> Option<String> {
     let Needs(needs) = compare::order(file, LONG_ENOUGH, limits::ORDER_ROWS).ok()?;
-    let right = Ordered { refusal: 0, place: 0, rows: needs.len() as u32 };
+    let right = Ordered { refusal: 0, place: 0, rows: needs.len() };
     let same = answer == right && are(table, needs.iter().map(|need| need.row));
     same.then(|| format!("{} rows", right.rows))
 }

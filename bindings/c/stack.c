@@ -1,4 +1,4 @@
-/* Measures the stack that a call takes on files of the deepest terms:
+/* Measures the stack that a call of each function takes on files of the deepest terms:
  *
  *     stack
  *
@@ -22,7 +22,7 @@
 static char file[WIMPLEJADE_MOST_BYTES + 1];
 static size_t bytes;
 static struct wimplejade_slices slices;
-static struct wimplejade_answer answer;
+static uint32_t refusal;
 
 /* The ways in which a term names the one before; %d stands for its number. */
 static const char *const links[] = {
@@ -50,11 +50,40 @@ static void make_file(const char *link)
     add("root,0,r,%d\n", last);
 }
 
-static void *run(void *unused)
+static void *run_filter(void *unused)
 {
-    answer = wimplejade_run((const uint8_t *)file, bytes, &slices);
+    refusal = wimplejade_run((const uint8_t *)file, bytes, &slices).refusal;
     return unused;
 }
+
+static void *run_why(void *unused)
+{
+    refusal = wimplejade_run_why((const uint8_t *)file, bytes, 1, &slices).refusal;
+    return unused;
+}
+
+static void *run_sweep(void *unused)
+{
+    refusal = wimplejade_run_sweep((const uint8_t *)file, bytes, &slices).refusal;
+    return unused;
+}
+
+static void *run_order(void *unused)
+{
+    refusal = wimplejade_run_order((const uint8_t *)file, bytes, &slices).refusal;
+    return unused;
+}
+
+/* The functions. */
+static const struct {
+    const char *name;
+    void *(*run)(void *);
+} calls[] = {
+    {"filter", run_filter},
+    {"why", run_why},
+    {"sweep", run_sweep},
+    {"order", run_order},
+};
 
 /* Runs a function in a thread of its own, and tells how much of the thread's stack was used. */
 static size_t stack_used(void *(*body)(void *))
@@ -91,15 +120,17 @@ int main(void)
 {
     size_t own = stack_used(nothing);
     size_t most = 0;
-    for (size_t index = 0; index < sizeof links / sizeof links[0]; index++) {
-        make_file(links[index]);
-        size_t used = stack_used(run) - own;
-        printf("%7zu bytes of stack, %5zu bytes of file, refusal %u: %.*s\n", used, bytes, (unsigned)answer.refusal,
-               (int)strcspn(links[index], "\n"), links[index]);
-        if (answer.refusal != WIMPLEJADE_ACCEPTED) {
-            return 1;
+    for (size_t call = 0; call < sizeof calls / sizeof calls[0]; call++) {
+        for (size_t index = 0; index < sizeof links / sizeof links[0]; index++) {
+            make_file(links[index]);
+            size_t used = stack_used(calls[call].run) - own;
+            printf("%7zu bytes of stack, %5zu bytes of file, refusal %u: %s, %.*s\n", used, bytes, (unsigned)refusal,
+                   calls[call].name, (int)strcspn(links[index], "\n"), links[index]);
+            if (refusal != WIMPLEJADE_ACCEPTED) {
+                return 1;
+            }
+            most = used > most ? used : most;
         }
-        most = used > most ? used : most;
     }
     printf("%7zu bytes at most; the header asks for %u\n", most, WIMPLEJADE_STACK_BYTES);
     return most > WIMPLEJADE_STACK_BYTES;

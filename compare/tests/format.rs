@@ -3,12 +3,17 @@
 use std::fs;
 use std::path::Path;
 
-use compare::{filter_file, limits, summaries};
+use compare::{filter_file, limits, summaries, Command};
 
 /// The page.
 fn page() -> String {
     let path = Path::new(env!("CARGO_MANIFEST_DIR")).join("../docs/FORMAT.md");
     fs::read_to_string(path).expect("the page can be read")
+}
+
+/// The command of these words.
+fn parsed(words: &str) -> Command {
+    words.parse().unwrap_or_else(|error| panic!("{error}"))
 }
 
 /// The rows of the table with this head, as their cells.
@@ -24,6 +29,8 @@ fn table<'p>(page: &'p str, head: &str) -> Vec<Vec<&'p str>> {
 enum Shown {
     Answer,
     Summaries,
+    /// What a command prints.
+    Printed(Command),
 }
 
 /// A file of the page, with what is shown beside it.
@@ -35,8 +42,9 @@ struct Example {
     text: String,
 }
 
-/// The files of the page: blocks marked `file`, each with blocks marked `answer`, `answer FIRST-LINE` or `summaries` after
-/// it, and tables headed `file`, `answer` and `why`, in which each piece of code is a line.
+/// The files of the page: blocks marked `file`, each with blocks marked `answer`, `answer FIRST-LINE`, `summaries` or by a
+/// command after it, and tables headed `file`, `answer` and `why`, in which each piece of code is a line. A command `why` has
+/// `--rows` behind it; without, a block is what the script alone prints.
 fn examples(page: &str) -> Vec<Example> {
     let mut examples = Vec::new();
     let mut file = None::<String>;
@@ -50,14 +58,19 @@ fn examples(page: &str) -> Vec<Example> {
                 .take_while(|line| *line != "```")
                 .map(|line| line.to_owned() + "\n")
                 .collect();
+            let command = mark.strip_suffix(" --rows").unwrap_or(mark);
             let (mark, first) = mark.split_once(' ').map_or((mark, None), |(mark, first)| (mark, Some(first)));
-            let shown = match mark {
+            let (shown, first) = match mark {
                 "file" => {
                     file = Some(text);
                     continue;
                 }
-                "answer" => Shown::Answer,
-                "summaries" => Shown::Summaries,
+                "answer" => (Shown::Answer, first),
+                "summaries" => (Shown::Summaries, None),
+                "why" if first.is_some_and(|words| words.ends_with("--rows")) => {
+                    (Shown::Printed(parsed(command)), None)
+                }
+                "sweep" | "order" => (Shown::Printed(parsed(command)), None),
                 _ => continue,
             };
             let mut file = file.clone().unwrap_or_else(|| panic!("line {at}: an answer without a file"));
@@ -83,12 +96,13 @@ fn examples(page: &str) -> Vec<Example> {
 #[test]
 fn the_page_says_what_is_answered() {
     let examples = examples(&page());
-    for shown in [Shown::Answer, Shown::Summaries] {
+    for shown in [Shown::Answer, Shown::Summaries, Shown::Printed(Command::Why(1))] {
         assert!(examples.iter().any(|example| example.shown == shown));
     }
     for Example { at, file, shown, text } in examples {
         let actual = match shown {
             Shown::Answer => filter_file(file.as_bytes()).to_string(),
+            Shown::Printed(command) => command.printed(file.as_bytes()),
             Shown::Summaries => {
                 summaries(file.as_bytes()).expect("an accepted file").iter().map(ToString::to_string).collect()
             }

@@ -14,9 +14,9 @@ pub struct Reasons {
     pub refusal: u32,
     pub place: u32,
     /// How many of the numbered names are met.
-    pub met: u32,
+    pub met: usize,
     /// How many rows are filled.
-    pub rows: u32,
+    pub rows: usize,
 }
 
 /// The answer of the second engine as the library gives it, its counts by position.
@@ -38,7 +38,7 @@ pub struct Ordered {
     pub refusal: u32,
     pub place: u32,
     /// How many rows are listed.
-    pub rows: u32,
+    pub rows: usize,
 }
 
 /// The reasons at a position, over lent slices and a lent table.

@@ -40,7 +40,7 @@ pub fn why_difference(
     let told = compare::why(file, position, lengths.works, lengths.room);
     let (refusal, place) = number_and_place(&told);
     let (rows, met) = told.map_or((Vec::new(), 0), |told| (told.rows, told.met));
-    let right = Reasons { refusal, place, met, rows: rows.len() as u32 };
+    let right = Reasons { refusal, place, met: met as usize, rows: rows.len() };
     lender.lend(in_words(lengths));
     let (working, table) = lender.slices();
     let answer = call(file, position, working, table.as_chunks_mut().0);
@@ -78,7 +78,7 @@ pub fn order_difference(call: Order, lender: &mut Lender, file: &[u8], lengths: 
     let told = compare::order(file, lengths.works, lengths.room);
     let (refusal, place) = number_and_place(&told);
     let needs = told.map_or(Vec::new(), |Needs(needs)| needs);
-    let right = Ordered { refusal, place, rows: needs.len() as u32 };
+    let right = Ordered { refusal, place, rows: needs.len() };
     lender.lend(in_words(lengths));
     let (working, table) = lender.slices();
     let answer = call(file, working, table.as_chunks_mut().0);
@@ -230,7 +230,7 @@ mod tests {
         clear(working, refusal);
         let (rows, met) = told.map_or((Vec::new(), 0), |told| (told.rows, told.met));
         put(table, &rows.iter().map(|reason| reason.row).collect::<Vec<_>>());
-        Reasons { refusal, place, met, rows: rows.len() as u32 }
+        Reasons { refusal, place, met: met as usize, rows: rows.len() }
     }
 
     /// The second engine of the independent version.
@@ -256,7 +256,7 @@ mod tests {
         clear(working, refusal);
         let needs = told.map_or(Vec::new(), |Needs(needs)| needs);
         put(table, &needs.iter().map(|need| need.row).collect::<Vec<_>>());
-        Ordered { refusal, place, rows: needs.len() as u32 }
+        Ordered { refusal, place, rows: needs.len() }
     }
 
     /// The random files that calls are tried on.
@@ -320,11 +320,11 @@ mod tests {
         let wrong: [(&str, Why); 12] = [
             ("a name more met", |file, position, working, table| {
                 let told = right_why(file, position, working, table);
-                Reasons { met: told.met + u32::from(told.rows > 1), ..told }
+                Reasons { met: told.met + usize::from(told.rows > 1), ..told }
             }),
             ("a refusal with a count", |file, position, working, table| {
                 let told = right_why(file, position, working, table);
-                Reasons { rows: told.rows + u32::from(told.refusal == 15), ..told }
+                Reasons { rows: told.rows + usize::from(told.refusal == 15), ..told }
             }),
             ("position 0 is the first", |file, position, working, table| {
                 right_why(file, position.max(1), working, table)
@@ -349,17 +349,17 @@ mod tests {
                 let told = right_why(file, position, working, table);
                 let roots = file.split(|&byte| byte == b'\n').zip(1..).filter(|(line, _)| line.starts_with(b"root,"));
                 let last = roots.map(|(_, line)| line).last().unwrap_or_default();
-                table[..told.rows as usize].iter_mut().for_each(|row| row[2] = row[2].max(last));
+                table[..told.rows].iter_mut().for_each(|row| row[2] = row[2].max(last));
                 told
             }),
             ("rows in another order", |file, position, working, table| {
                 let told = right_why(file, position, working, table);
-                table[..told.rows as usize].reverse();
+                table[..told.rows].reverse();
                 told
             }),
             ("a word past the rows", |file, position, working, table| {
                 let told = right_why(file, position, working, table);
-                if let Some(row) = table.get_mut(told.rows as usize) {
+                if let Some(row) = table.get_mut(told.rows) {
                     row[2] ^= 1;
                 }
                 told
@@ -447,18 +447,18 @@ mod tests {
         let wrong: [(&str, Order); 7] = [
             ("the sorts exchanged", |file, working, table| {
                 let told = right_order(file, working, table);
-                table[..told.rows as usize].iter_mut().for_each(|row| row[2] = 3 - row[2]);
+                table[..told.rows].iter_mut().for_each(|row| row[2] = 3 - row[2]);
                 told
             }),
             ("rows of the second sort alone", |file, working, table| {
                 let told = right_order(file, working, table);
-                let mut rows: Vec<Words> = table[..told.rows as usize].to_vec();
+                let mut rows: Vec<Words> = table[..told.rows].to_vec();
                 rows.retain(|row| row[2] == 2);
-                Ordered { rows: rows.len() as u32, ..told }
+                Ordered { rows: rows.len(), ..told }
             }),
             ("numbers lower by one", |file, working, table| {
                 let told = right_order(file, working, table);
-                table[..told.rows as usize].iter_mut().for_each(|row| row[1] = row[1].saturating_sub(1));
+                table[..told.rows].iter_mut().for_each(|row| row[1] = row[1].saturating_sub(1));
                 told
             }),
             ("the rows there are as the place of 8", |file, working, table| {
@@ -474,7 +474,7 @@ mod tests {
             }),
             ("a row past the last", |file, working, table| {
                 let told = right_order(file, working, table);
-                if let (0, Some(row)) = (told.refusal, table.get_mut(told.rows as usize)) {
+                if let (0, Some(row)) = (told.refusal, table.get_mut(told.rows)) {
                     row[0] ^= 1;
                 }
                 told

@@ -74,13 +74,21 @@ impl Counts {
     ///
     /// The slice is shorter than the kept lines, so it is not that of the call.
     pub fn lists<'r>(&self, result: &'r [u32]) -> impl ExactSizeIterator<Item = &'r [u32]> + 'r {
-        let (kept, mut rest) = (self.kept, result);
-        (0..self.asks()).map(move |index| {
-            let (list, after) = rest.split_at(kept[index] as usize);
-            rest = after;
-            list
-        })
+        parted(self.kept, self.asks(), result)
     }
+}
+
+/// The parts of a result slice for so many positions, by how many lines each keeps.
+pub(crate) fn parted(
+    kept: [u32; MOST_ASKS],
+    asks: usize,
+    mut result: &[u32],
+) -> impl ExactSizeIterator<Item = &[u32]> + '_ {
+    (0..asks).map(move |index| {
+        let (list, after) = result.split_at(kept[index] as usize);
+        result = after;
+        list
+    })
 }
 
 /// Filters a file with lent slices.
@@ -97,7 +105,7 @@ pub fn filter(file: &[u8], working: [&mut [u32]; 6], result: &mut [u32]) -> Resu
     let answer = answer(file, working, result);
     match answer.refusal {
         0 => Ok(Counts { kept: answer.kept, visits: answer.visits, rounds: answer.rounds }),
-        number => Err(Refusal::of(number, answer.place).expect("a refusal is one of thirteen")),
+        number => Err(Refusal::of(number, answer.place).expect("a refusal has its number")),
     }
 }
 

@@ -65,9 +65,51 @@
 //! # Ok::<(), wimplejade::Refusal>(())
 //! ```
 //!
-//! What is proved is the call, [`answer`], over slices that its caller lends. [`filter`] gives its answer as a `Result`,
-//! [`Filter`] lends it slices of its own and finds the names of the kept lines; these and the declaration of the C function
-//! are plain Rust.
+//! [`Filter::why`] says why each fact came along: which of the names that it waits for were met, and which item supplied them.
+//!
+//! ```
+//! let file = b"ask,0,0\nfree,p\nfree,q\nall,1,1,1,0\nassume,on_p,0,2\nall,0,1,1,1\nassume,on_q,0,3\nroot,0,goal,0\n";
+//!
+//! let mut filter = wimplejade::Filter::new();
+//! let reasons = filter.why(file, 1)?;
+//! for (reason, told) in reasons.chain(7).iter().zip(["on_q: q from on_p", "on_p: p from goal"]) {
+//!     assert_eq!(format!("{}: {} from {}", reason.fact, reason.name_str(), reason.supplier), told);
+//! }
+//! assert_eq!((reasons.round(7), reasons.met()), (Some(2), 2));
+//! # Ok::<(), wimplejade::Refusal>(())
+//! ```
+//!
+//! [`Filter::sweep`] gives the lists of [`Filter::run`] by a second engine, which passes over all facts by line until a pass
+//! adds none, and tells its passes.
+//!
+//! ```
+//! let file = b"ask,0,0\nfree,p\nfree,q\nall,0,1,1,1\nassume,on_q,0,2\nall,1,1,1,0\nassume,on_p,0,3\nroot,0,goal,0\n";
+//!
+//! let mut filter = wimplejade::Filter::new();
+//! let swept = filter.sweep(file)?;
+//! assert_eq!((swept.lists()[0].records.len(), swept.lists()[0].passes), (2, 3));
+//! assert_eq!(swept.lists()[0].records, filter.run(file)?.lists()[0].records);
+//! # Ok::<(), wimplejade::Refusal>(())
+//! ```
+//!
+//! [`Filter::order`] lists what the bodies of definitions name too early: what has its `def` or `fun` on the same line or
+//! below, and what has neither.
+//!
+//! ```
+//! let file = b"ask,0,0\nfree,x\nfree,h\nop,other,0,1\ndef,g,2\nfun,h\n";
+//!
+//! let mut filter = wimplejade::Filter::new();
+//! let late = filter.order(file)?;
+//! for (need, told) in late.all().iter().zip(["g, h: 1", "g, x: 2"]) {
+//!     assert_eq!(format!("{}, {}: {}", need.def, need.name_str(), need.sort.number()), told);
+//! }
+//! assert!(!late.is_in_order());
+//! # Ok::<(), wimplejade::Refusal>(())
+//! ```
+//!
+//! What is proved are the calls, [`answer`], [`why_answer`], [`sweep_answer`] and [`order_answer`], over slices that their
+//! caller lends. [`filter`], [`why`], [`sweep`] and [`order`] give their answers as a `Result`, [`Filter`] lends them slices of
+//! its own and finds the names of lines and numbers; these and the declarations of the C functions are plain Rust.
 //!
 //! # Stack and time
 //!
@@ -80,10 +122,18 @@
 #![deny(missing_docs)]
 
 mod call;
+mod names;
+mod order;
 mod refusal;
+mod sweep;
+mod why;
 
 pub use call::{answer, filter, Answer, Counts};
+pub use names::Names;
+pub use order::{order, order_answer, Late, Need, OrderAnswer, Sort, MOST_LATE_ROWS};
 pub use refusal::Refusal;
+pub use sweep::{sweep, sweep_answer, SweepAnswer, SweepCounts, Swept, SweptList};
+pub use why::{why, why_answer, Reason, Reasons, Row, WhyAnswer, WhyCounts, MOST_ROWS};
 
 use std::fmt;
 
@@ -107,18 +157,21 @@ pub const MOST_BYTES: usize = 65_535;
 /// Stack, in bytes, that is enough for every call.
 pub const STACK_BYTES: usize = 2 << 20;
 
-/// A filter with the slices that a call needs, some 460 KB. It can run any number of files, one after the other.
+/// A filter with the slices that a call needs, some 460 KB, and a table once it is needed. It can run any number of files, one
+/// after the other.
 #[derive(Clone, Debug)]
 pub struct Filter {
     working: [Vec<u32>; 6],
     result: Vec<u32>,
+    rows: Vec<Row>,
 }
 
 impl Filter {
     /// A filter whose slices are long enough for every file.
     #[must_use]
     pub fn new() -> Self {
-        Filter { working: std::array::from_fn(|_| vec![0; WORKING_WORDS]), result: vec![0; MOST_KEPT] }
+        let working = std::array::from_fn(|_| vec![0; WORKING_WORDS]);
+        Filter { working, result: vec![0; MOST_KEPT], rows: Vec::new() }
     }
 
     /// Filters a file, for all its ask and also lines.
@@ -130,9 +183,8 @@ impl Filter {
     pub fn run<'f>(&mut self, file: &'f [u8]) -> Result<Kept<'f>, Refusal> {
         let counts = filter(file, self.working.each_mut().map(Vec::as_mut_slice), &mut self.result)?;
         let lines: Vec<&[u8]> = file.split(|&byte| byte == b'\n').collect();
-        let record = |&line: &u32| Record { line, name: name(lines[line as usize - 1]) };
         let list = |(index, kept): (usize, &[u32])| List {
-            records: kept.iter().map(record).collect(),
+            records: kept.iter().map(|&line| record_on(&lines, line)).collect(),
             visits: counts.visits[index],
             rounds: counts.rounds[index],
         };
@@ -146,9 +198,11 @@ impl Default for Filter {
     }
 }
 
-/// The name of an assume, def or fun line: its second field.
-fn name(line: &[u8]) -> &[u8] {
-    line.split(|&byte| byte == b',').nth(1).expect("a kept line is an assume, def or fun line")
+/// The record on a line: the name of an assume, def or fun line is its second field, that of a root line its third.
+fn record_on<'f>(lines: &[&'f [u8]], line: u32) -> Record<'f> {
+    let mut fields = lines[line as usize - 1].split(|&byte| byte == b',');
+    let before = usize::from(fields.next() == Some(b"root"));
+    Record { line, name: fields.nth(before).expect("a line that is told is an assume, def, fun or root line") }
 }
 
 /// What a file keeps: a list for each of its ask and also lines.
@@ -270,7 +324,7 @@ impl<'l, 'f> IntoIterator for &'l List<'f> {
     }
 }
 
-/// A kept record.
+/// A kept record, or one that a reason names.
 #[derive(Clone, Copy, Debug, PartialEq, Eq)]
 #[non_exhaustive]
 pub struct Record<'f> {
@@ -285,5 +339,12 @@ impl<'f> Record<'f> {
     #[must_use]
     pub fn name_str(&self) -> &'f str {
         std::str::from_utf8(self.name).expect("the names of an accepted file are ASCII")
+    }
+}
+
+/// Its name.
+impl fmt::Display for Record<'_> {
+    fn fmt(&self, out: &mut fmt::Formatter) -> fmt::Result {
+        out.write_str(self.name_str())
     }
 }

@@ -5,7 +5,7 @@ use std::fmt;
 
 /// Why a call is refused. Lines are counted from 1. A line that passes several limits is refused with the lowest number.
 ///
-/// A refused call has written nothing to the result slice.
+/// A refused call has written nothing to the result slice, or to the table.
 #[derive(Clone, Copy, Debug, PartialEq, Eq, Hash)]
 #[non_exhaustive]
 pub enum Refusal {
@@ -41,7 +41,8 @@ pub enum Refusal {
         /// The line, from 1.
         line: u32,
     },
-    /// 7: a working slice has fewer than [`WORKING_WORDS`](crate::WORKING_WORDS) words.
+    /// 7: a working slice has fewer than [`WORKING_WORDS`](crate::WORKING_WORDS) words, or the table of reasons fewer than
+    /// [`MOST_ROWS`](crate::MOST_ROWS) rows.
     Working,
     /// 8: the result slice has fewer words than lines are kept in all lists.
     Room {
@@ -70,10 +71,17 @@ pub enum Refusal {
         /// The line, from 1.
         line: u32,
     },
+    /// 15: the position that is named has no ask or also line.
+    Position,
+    /// 8 of the order check: the table has fewer rows than are to be listed.
+    Table {
+        /// How many rows are to be listed.
+        rows: u32,
+    },
 }
 
 impl Refusal {
-    /// The refusal of a number from 1 to 13 at a place.
+    /// The refusal of a number from 1 to 13, or 15, at a place.
     pub(crate) fn of(number: u32, place: u32) -> Option<Self> {
         Some(match number {
             1 => Refusal::Form { line: place },
@@ -89,11 +97,12 @@ impl Refusal {
             11 => Refusal::FullRecords { line: place },
             12 => Refusal::FullTriggers { line: place },
             13 => Refusal::FullAsks { line: place },
+            15 => Refusal::Position,
             _ => return None,
         })
     }
 
-    /// The number of the refusal, from 1 to 13.
+    /// The number of the refusal, from 1 to 13, or 15.
     #[must_use]
     pub fn number(&self) -> u32 {
         match self {
@@ -110,14 +119,17 @@ impl Refusal {
             Refusal::FullRecords { .. } => 11,
             Refusal::FullTriggers { .. } => 12,
             Refusal::FullAsks { .. } => 13,
+            Refusal::Position => 15,
+            Refusal::Table { .. } => 8,
         }
     }
 
-    /// The place of the refusal: the line, for 8 the number of kept lines in all lists, for 7 and 9 it is 0.
+    /// The place of the refusal: the line, for 8 the number of kept lines in all lists, or of rows, for 7, 9 and 15 it is 0.
     #[must_use]
     pub fn place(&self) -> u32 {
         self.line().unwrap_or(match self {
             Refusal::Room { kept } => *kept,
+            Refusal::Table { rows } => *rows,
             _ => 0,
         })
     }
@@ -136,7 +148,7 @@ impl Refusal {
             | Refusal::FullRecords { line }
             | Refusal::FullTriggers { line }
             | Refusal::FullAsks { line } => Some(*line),
-            Refusal::Working | Refusal::Room { .. } | Refusal::Size => None,
+            Refusal::Working | Refusal::Room { .. } | Refusal::Size | Refusal::Position | Refusal::Table { .. } => None,
         }
     }
 }
@@ -154,7 +166,7 @@ impl fmt::Display for Refusal {
             Refusal::Term { .. } => write!(out, "no term line before has this number"),
             Refusal::Repeated { .. } => write!(out, "the name is taken by an earlier assume, fun or def"),
             Refusal::FullNames { .. } => write!(out, "the file has more than 2,048 names"),
-            Refusal::Working => write!(out, "a working slice is too short"),
+            Refusal::Working => write!(out, "a working slice, or the table of reasons, is too short"),
             Refusal::Room { kept } => write!(out, "the result slice is too short for {kept} kept lines"),
             Refusal::Size => write!(out, "the file has more than 65,535 bytes"),
             Refusal::FullTerms { .. } => write!(out, "the file has more than 4,096 term lines or 16,384 references"),
@@ -163,6 +175,8 @@ impl fmt::Display for Refusal {
                 write!(out, "the file has more than 2,048 trigger entries or 6,144 name uses")
             }
             Refusal::FullAsks { .. } => write!(out, "the file has more than 16 ask and also lines"),
+            Refusal::Position => write!(out, "the file has no ask or also line at this position"),
+            Refusal::Table { rows } => write!(out, "the table is too short for {rows} rows"),
         }
     }
 }
@@ -175,14 +189,15 @@ mod tests {
 
     #[test]
     fn each_number_is_one_refusal() {
-        for number in 1..=13 {
+        for number in (1..=13).chain([15]) {
             let refusal = Refusal::of(number, 20).unwrap();
             assert_eq!(refusal.number(), number);
-            assert_eq!(refusal.place(), if [7, 9].contains(&number) { 0 } else { 20 });
-            assert_eq!(refusal.line(), (![7, 8, 9].contains(&number)).then_some(20));
+            assert_eq!(refusal.place(), if [7, 9, 15].contains(&number) { 0 } else { 20 });
+            assert_eq!(refusal.line(), (![7, 8, 9, 15].contains(&number)).then_some(20));
         }
-        assert_eq!(Refusal::of(0, 0), None);
-        assert_eq!(Refusal::of(14, 0), None);
+        for number in [0, 14, 16] {
+            assert_eq!(Refusal::of(number, 0), None);
+        }
     }
 
     #[test]
@@ -190,6 +205,7 @@ mod tests {
         assert_eq!(Refusal::Name { line: 7 }.to_string(), "line 7: a field is no name");
         assert_eq!(Refusal::Room { kept: 3 }.to_string(), "the result slice is too short for 3 kept lines");
         assert_eq!(Refusal::Size.to_string(), "the file has more than 65,535 bytes");
+        assert_eq!(Refusal::Position.to_string(), "the file has no ask or also line at this position");
         for (number, full) in [
             (6, "2,048 names"),
             (10, "4,096 term lines or 16,384 references"),

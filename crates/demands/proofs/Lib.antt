@@ -71,3 +71,7 @@ pub mod SequenceCases
 pub mod Suppliers
 pub mod Reasons
 pub mod Explaining
+pub mod SweepLaws
+pub mod Sweep
+pub mod Precedence
+pub mod Checking

@@ -61,7 +61,7 @@ to-list-few f none = omega arith
 to-list-few f (some x) = omega arith
 
 -- in a list that holds nothing twice equal elements stand at one place
-distinct-place : {A : Type 0} {l : List A} → Distinct l → (j k : ℕ) (d : A) → j < length l → k < length l → getD l j d ≡ getD l k d → j ≡ k
+pub distinct-place : {A : Type 0} {l : List A} → Distinct l → (j k : ℕ) (d : A) → j < length l → k < length l → getD l j d ≡ getD l k d → j ≡ k
 distinct-place nothing-twice j k d p q e = absurd (omega arith)
 distinct-place (once-more {a} {l} new r) zero zero d p q e = refl
 distinct-place (once-more {a} {l} new r) zero (suc k) d p q e = absurd (new (Memᴰ·cast e (getD-mem l k d (omega arith))))

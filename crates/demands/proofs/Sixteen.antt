@@ -18,7 +18,7 @@ use Rattle.demands.proofs.Demand1.{answers-filtered, list-given}
 use Rattle.demands.proofs.Asks.{accepted-asks}
 
 -- at most sixteen counts are padded to sixteen
-padded-length : (counts : List ℕ) → length counts ≤ 16 → length (padded counts) ≡ 16
+pub padded-length : (counts : List ℕ) → length counts ≤ 16 → length (padded counts) ≡ 16
 unfolding padded
 padded-length counts h =
     length-append counts (replicate (16 - length counts) 0) ∙ ap (length counts +_) (length-replicate {A = ℕ} (16 - length counts) 0) ∙ omega arith
@@ -50,12 +50,12 @@ answer-sixteen file works room =
 -- ---- the count at a place
 
 -- counts of a list, padded, where an element stands
-module _ (f : Position → ℕ) (before : List Position) (p : Position) (after : List Position) where
+module _ {A : Type 0} (f : A → ℕ) (before : List A) (p : A) (after : List A) where
   padded-split : padded (map f (before ++ (p ∷ after))) ≡ map f before ++ (f p ∷ (map f after ++ replicate (16 - length (map f (before ++ (p ∷ after)))) 0))
   unfolding padded
   padded-split = ap (_++ replicate (16 - length (map f (before ++ (p ∷ after)))) 0) (map-append f before (p ∷ after)) ∙ append-assoc (map f before) (f p ∷ map f after) _
 
-  padded-at : getD (padded (map f (before ++ (p ∷ after)))) (length before) 0 ≡ f p
+  pub padded-at : getD (padded (map f (before ++ (p ∷ after)))) (length before) 0 ≡ f p
   padded-at = ap (λ l. getD l (length before) 0) padded-split ∙ getD-at (map f before) (f p) _ 0 (length before) (map-length f before)
 
   -- those before it
@@ -114,7 +114,7 @@ zeros-at zero i = refl
 zeros-at (suc n) zero = refl
 zeros-at (suc n) (suc i) = zeros-at n i
 
-padded-past : (counts : List ℕ) (i : ℕ) → length counts ≤ i → getD (padded counts) i 0 ≡ 0
+pub padded-past : (counts : List ℕ) (i : ℕ) → length counts ≤ i → getD (padded counts) i 0 ≡ 0
 unfolding padded
 padded-past counts i h =
     let there : i ≡ length counts + (i - length counts) = omega arith in

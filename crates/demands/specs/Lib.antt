@@ -28,3 +28,6 @@ pub mod Groups
 pub mod Sequence
 pub mod Reasons
 pub mod Explaining
+pub mod Sweep
+pub mod Precedence
+pub mod Checking

@@ -12,3 +12,4 @@ pub mod AlikeLaws
 pub mod StretchLaws
 pub mod OptionLaws
 pub mod BodyLaws
+pub mod PassLaws

@@ -2,3 +2,4 @@ pub mod Limits
 pub mod Fuel
 pub mod History
 pub mod Places
+pub mod Passes

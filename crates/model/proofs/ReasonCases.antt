@@ -316,6 +316,257 @@ files-3-explained : All-explained files-3
 unfolding explains files-3
 files-3-explained = (refl, (refl, (refl, (refl, (refl, (refl, (refl, tt)))))))
 
+-- why-16th-position to why-hidden-token-met-through-a-starting-macro-alone
+files-4 : List Reasoned
+files-4 =
+    record {
+      name = "why-16th-position";
+      position = 16;
+      file = "ask,1,0\nask,1,0\nask,1,0\nask,1,0\nask,1,0\nask,1,0\nask,1,0\nask,1,0\nask,1,0\nask,1,0\nask,1,0\n"
+          ∷ "ask,1,0\nask,1,0\nask,1,0\nask,1,0\nask,0,0\nfree,p\nop,eq,0,0\nassume,a,0,1\nroot,0,r,0\n"
+          ∷ [];
+      printed = "row,19,0,20,a,p,r\nmet,1\nrows,1\n" ∷ [];
+    }
+    ∷ record {
+      name = "why-17th-position-is-15";
+      position = 17;
+      file = "ask,0,0\nask,0,0\nask,0,0\nask,0,0\nask,0,0\nask,0,0\nask,0,0\nask,0,0\nask,0,0\nask,0,0\nask,0,0\n"
+          ∷ "ask,0,0\nask,0,0\nask,0,0\nask,0,0\nask,0,0\nfree,p\nop,eq,0,0\nassume,a,0,1\nroot,0,r,0\n"
+          ∷ [];
+      printed = "refused,15,0\n" ∷ [];
+    }
+    ∷ record {
+      name = "why-also-line-of-three-with-the-groups-of-its-ask";
+      position = 3;
+      file = "ask2,0,0,2\nalso,1\nalso,2\nfree,p\nfree,q\nfree,s\nop,eq,0,1\nassume,a,0,0,3\nassume,b,0,1,3\n"
+          ∷ "op,eq,1,2\nassume,c,0,1,4\nroot,0,r,0\nroot,1,r,1\nroot,2,r,2\n"
+          ∷ [];
+      printed = "row,9,0,12,b,p,r\nrow,9,1,13,b,q,r\nrow,11,1,13,c,q,r\nrow,11,2,14,c,s,r\nmet,3\nrows,4\n" ∷ [];
+    }
+    ∷ record {
+      name = "why-ambient-without-root-supplies-nothing";
+      position = 1;
+      file = "ask,0,0\nfree,p\nfree,q\nop,other,0,1\nassume,h,0,2\nop,eq,1,1\nassume,a,0,3\nroot,0,r,0\n" ∷ [];
+      printed = "met,1\nrows,0\n" ∷ [];
+    }
+    ∷ record {
+      name = "why-fact-of-a-lower-round-opens-what-a-lower-line-has-free";
+      position = 1;
+      file = "ask,0,0\nfree,p\nfree,q\nfree,k\nfree,g\ndef,g,2\nop,and,0,2\nall,4,1,1,1\nassume,a,0,5\nop,and,1,3\n"
+          ∷ "all,6,1,1,0\nassume,b,0,7\nleaf\nall,8,1,1,2\nassume,c,0,9\nroot,0,r,0\n"
+          ∷ [];
+      printed = "row,9,1,12,a,q,b\nrow,12,0,16,b,p,r\nrow,15,2,12,c,k,b\nmet,4\nrows,3\n" ∷ [];
+    }
+    ∷ record {
+      name = "why-fact-waits-for-a-name-of-a-later-round";
+      position = 1;
+      file = "ask,0,0\nfree,p\nfree,q\nfree,s\nall,2,1,2,0,1\nassume,a,0,3\nall,1,1,1,0\nassume,b,0,4\nleaf\n"
+          ∷ "all,5,1,1,2\nassume,c,0,6\nroot,0,r,0\n"
+          ∷ [];
+      printed = "row,6,0,12,a,p,r\nrow,6,1,8,a,q,b\nrow,8,0,12,b,p,r\nrow,11,2,6,c,s,a\nmet,3\nrows,4\n" ∷ [];
+    }
+    ∷ record {
+      name = "why-fires-by-an-empty-disjunct-row-for-the-name-met";
+      position = 1;
+      file = "ask,0,0\nfree,p\nfree,q\nleaf\nall,2,2,0,2,0,1\nassume,a,0,3\nroot,0,r,0\n" ∷ [];
+      printed = "row,6,0,7,a,p,r\nmet,2\nrows,1\n" ∷ [];
+    }
+    ∷ record {
+      name = "why-free-on-a-lower-line-than-opened";
+      position = 1;
+      file = "ask,0,0\nfree,k\nfree,g\ndef,g,0\nleaf\nall,2,1,1,0\nassume,a,0,3\nroot,0,r1,0\nroot,0,r2,1\n" ∷ [];
+      printed = "row,7,0,8,a,k,r1\nmet,2\nrows,1\n" ∷ [];
+    }
+    ∷ record {
+      name = "why-hidden-name-has-no-row";
+      position = 1;
+      file = "ask,0,0\nhide,q\nfree,p\nfree,q\nop,eq,0,1\nassume,a,0,2\nop,and,0,1\nroot,0,r,3\n" ∷ [];
+      printed = "row,6,1,8,a,p,r\nmet,1\nrows,1\n" ∷ [];
+    }
+    ∷ record {
+      name = "why-hidden-token-met-through-a-starting-macro-alone";
+      position = 1;
+      file = "ask,0,0\nhide,BoxReal\nfree,__uu__PartialApp\nfree,BoxReal\ncall,ApplyTT,0,1\ncall,Valid,2\n"
+          ∷ "assume,t,0,3\nfree,is-BoxReal\nfree,BoxReal\nop,and,4,5\nroot,0,r,6\n"
+          ∷ [];
+      printed = "row,7,0,11,t,BoxReal,r\nmet,3\nrows,1\n" ∷ [];
+    }
+    ∷ []
+
+files-4-explained : All-explained files-4
+unfolding explains files-4
+files-4-explained = (refl, (refl, (refl, (refl, (refl, (refl, (refl, (refl, (refl, (refl, tt))))))))))
+
+-- why-listed-name-of-a-fact-of-the-same-round-has-no-row to why-retain-and-root-names-are-numbered
+files-5 : List Reasoned
+files-5 =
+    record {
+      name = "why-listed-name-of-a-fact-of-the-same-round-has-no-row";
+      position = 1;
+      file = "ask,0,0\nfree,p\nfree,q\nop,and,0,1\nall,2,2,1,0,1,1\nassume,a,0,3\nall,1,1,1,0\nassume,b,0,4\n"
+          ∷ "root,0,r,0\n"
+          ∷ [];
+      printed = "row,6,0,9,a,p,r\nrow,8,0,9,b,p,r\nmet,2\nrows,2\n" ∷ [];
+    }
+    ∷ record {
+      name = "why-macro-is-met-and-numbered";
+      position = 1;
+      file = "ask,0,0\nfree,g\nfree,k\nfree,m\nop,and,1,2\ndef,g,3\nop,eq,0,1\nassume,a,0,4\nroot,0,r,0\n" ∷ [];
+      printed = "row,8,0,9,a,g,r\nrow,8,1,9,a,k,r\nmet,3\nrows,2\n" ∷ [];
+    }
+    ∷ record {
+      name = "why-macros-open-one-level";
+      position = 1;
+      file = "ask,0,0\nfree,g\nfree,h\nfree,k\ndef,g,1\ndef,h,2\nop,eq,1,2\nassume,a,0,3\nroot,0,r,0\n" ∷ [];
+      printed = "row,8,1,9,a,h,r\nmet,3\nrows,1\n" ∷ [];
+    }
+    ∷ record {
+      name = "why-names-that-are-prefixes-in-byte-order";
+      position = 1;
+      file = "ask,0,0\nfree,pq\nfree,p\nfree,!\nfree,~\nop,and,0,1,2,3\nleaf\nall,5,1,4,0,1,2,3\nassume,ab,0,6\n"
+          ∷ "assume,a,0,6\nroot,0,r,4\n"
+          ∷ [];
+      printed = "row,10,2,11,a,!,r\nrow,10,1,11,a,p,r\nrow,10,0,11,a,pq,r\nrow,10,3,11,a,~,r\nrow,9,2,11,ab,!,r\n"
+          ∷ "row,9,1,11,ab,p,r\nrow,9,0,11,ab,pq,r\nrow,9,3,11,ab,~,r\nmet,4\nrows,8\n"
+          ∷ [];
+    }
+    ∷ record {
+      name = "why-opened-and-free-in-facts-of-a-round";
+      position = 1;
+      file = "ask,0,0\nfree,p\nfree,k\nfree,g\ndef,g,1\nall,2,1,1,0\nassume,z,0,3\nall,1,1,1,0\nassume,b,0,4\nleaf\n"
+          ∷ "all,5,1,1,1\nassume,a,0,6\nroot,0,r,0\n"
+          ∷ [];
+      printed = "row,12,1,7,a,k,z\nrow,9,0,13,b,p,r\nrow,7,0,13,z,p,r\nmet,3\nrows,3\n" ∷ [];
+    }
+    ∷ record {
+      name = "why-opened-on-a-lower-line-than-free";
+      position = 1;
+      file = "ask,0,0\nfree,k\nfree,g\ndef,g,0\nleaf\nall,2,1,1,0\nassume,a,0,3\nroot,0,r1,1\nroot,0,r2,0\n" ∷ [];
+      printed = "row,7,0,8,a,k,r1\nmet,2\nrows,1\n" ∷ [];
+    }
+    ∷ record {
+      name = "why-options-12-change-no-row";
+      position = 1;
+      file = "ask,0,12\nfree,p\nfree,q\nfun,q\ndef,g,1\nfree,g\nop,eq,0,2\nassume,a,0,3\nroot,0,r,0\n" ∷ [];
+      printed = "row,8,0,9,a,p,r\nmet,3\nrows,1\n" ∷ [];
+    }
+    ∷ record {
+      name = "why-pretyping-fact-supplies-nothing";
+      position = 1;
+      file = "ask,0,0\nfree,p\nfree,q\nall,1,1,1,0\nassume,a,1,2\nleaf\nall,3,1,1,1\nassume,b,0,4\nroot,0,r,0\n" ∷ [];
+      printed = "met,1\nrows,0\n" ∷ [];
+    }
+    ∷ record {
+      name = "why-pretyping-fact-with-option-2-has-rows-and-supplies";
+      position = 1;
+      file = "ask,0,2\nfree,p\nfree,q\nall,1,1,1,0\nassume,a,1,2\nleaf\nall,3,1,1,1\nassume,b,0,4\nroot,0,r,0\n" ∷ [];
+      printed = "row,5,0,9,a,p,r\nrow,8,1,5,b,q,a\nmet,2\nrows,2\n" ∷ [];
+    }
+    ∷ record {
+      name = "why-retain-and-root-names-are-numbered";
+      position = 1;
+      file = "ask,0,0\nretain,z,y\nfree,p\nroot,0,x,0\nop,eq,0,0\nfree,w\nassume,a,0,1\nop,eq,2,2\nassume,b,0,3\n"
+          ∷ "root,0,v,2\n"
+          ∷ [];
+      printed = "row,7,2,4,a,p,x\nrow,9,4,10,b,w,v\nmet,2\nrows,2\n" ∷ [];
+    }
+    ∷ []
+
+files-5-explained : All-explained files-5
+unfolding explains files-5
+files-5-explained = (refl, (refl, (refl, (refl, (refl, (refl, (refl, (refl, (refl, (refl, tt))))))))))
+
+-- why-token-is-its-facts-name to why-trimmed-token-not-met-where-a-def-replaces-the-macro
+files-6 : List Reasoned
+files-6 =
+    record {
+      name = "why-token-is-its-facts-name";
+      position = 1;
+      file = "ask,0,0\nfree,__uu__PartialApp\nfree,f@tok\ncall,ApplyTT,0,1\ncall,Valid,2\nassume,f@tok,0,3\nfree,p\n"
+          ∷ "op,eq,4,4\nassume,a,0,5\nfree,f\nop,and,4,6\nroot,0,r,7\n"
+          ∷ [];
+      printed = "row,9,5,12,a,p,r\nrow,6,4,12,f@tok,f,r\nmet,4\nrows,2\n" ∷ [];
+    }
+    ∷ record {
+      name = "why-token-not-trimmed-by-an-assumption_-fact";
+      position = 1;
+      file = "ask,0,0\nfree,__uu__PartialApp\nfree,f@tok\ncall,ApplyTT,0,1\ncall,Valid,2\nassume,assumption_t,0,3\n"
+          ∷ "free,p\nop,eq,4,4\nassume,a,0,5\nop,and,1,4,0\nroot,0,r,6\n"
+          ∷ [];
+      printed = "row,9,5,11,a,p,r\nrow,6,0,11,assumption_t,__uu__PartialApp,r\nrow,6,1,11,assumption_t,f@tok,r\nmet,3\n"
+          ∷ "rows,3\n"
+          ∷ [];
+    }
+    ∷ record {
+      name = "why-token-of-a-fact-admitted-by-the-second-ask";
+      position = 2;
+      file = "ask2,0,0,1\nask2,0,0,2\nfree,__uu__PartialApp\nfree,f@tok\ncall,ApplyTT,0,1\ncall,Valid,2\n"
+          ∷ "assume,t,0,1,3\nfree,f\nop,eq,4,4\nassume,a,0,0,5\nroot,0,r,4\n"
+          ∷ [];
+      printed = "row,7,5,11,t,f,r\nmet,3\nrows,1\n" ∷ [];
+    }
+    ∷ record {
+      name = "why-token-of-a-fact-not-admitted-is-met";
+      position = 1;
+      file = "ask2,0,0,1\nask2,0,0,2\nfree,__uu__PartialApp\nfree,f@tok\ncall,ApplyTT,0,1\ncall,Valid,2\n"
+          ∷ "assume,t,0,1,3\nfree,f\nop,eq,4,4\nassume,a,0,0,5\nroot,0,r,4\n"
+          ∷ [];
+      printed = "row,10,5,11,a,f,r\nmet,1\nrows,1\n" ∷ [];
+    }
+    ∷ record {
+      name = "why-token-of-a-fact-not-admitted-shifts-later-names";
+      position = 1;
+      file = "ask2,0,0,1\nfree,__uu__PartialApp\nfree,f@tok\ncall,ApplyTT,0,1\ncall,Valid,2\nassume,t,0,1,3\nfree,p\n"
+          ∷ "op,eq,4,4\nassume,a,0,0,5\nroot,0,r,4\n"
+          ∷ [];
+      printed = "row,9,6,10,a,p,r\nmet,1\nrows,1\n" ∷ [];
+    }
+    ∷ record {
+      name = "why-token-of-an-assumption_-fact-trimmed-by-another-fact";
+      position = 1;
+      file = "ask,0,0\nfree,__uu__PartialApp\nfree,f@tok\ncall,ApplyTT,0,1\ncall,Valid,2\nassume,assumption_t,0,3\n"
+          ∷ "fun,p\nassume,t,0,3\nfree,f\nroot,0,r,4\n"
+          ∷ [];
+      printed = "row,6,0,8,assumption_t,__uu__PartialApp,t\nrow,6,1,8,assumption_t,f@tok,t\nrow,8,7,10,t,f,r\nmet,3\n"
+          ∷ "rows,3\n"
+          ∷ [];
+    }
+    ∷ record {
+      name = "why-token-without-ending-is-its-facts-name";
+      position = 1;
+      file = "ask,0,0\nfree,__uu__PartialApp\nfree,t\ncall,ApplyTT,0,1\ncall,Valid,2\nassume,t,0,3\nroot,0,r,1\n" ∷ [];
+      printed = "row,6,1,7,t,t,r\nmet,2\nrows,1\n" ∷ [];
+    }
+    ∷ record {
+      name = "why-trimmed-token-is-its-facts-name";
+      position = 1;
+      file = "ask,0,0\nfree,__uu__PartialApp\nfree,f@tok\ncall,ApplyTT,0,1\ncall,Valid,2\nassume,f,0,3\nfree,p\n"
+          ∷ "op,eq,4,4\nassume,a,0,5\ncall,f,4\nroot,0,r,6\n"
+          ∷ [];
+      printed = "row,9,5,11,a,p,r\nrow,6,4,11,f,f,r\nmet,4\nrows,2\n" ∷ [];
+    }
+    ∷ record {
+      name = "why-trimmed-token-met-through-a-starting-macro-alone";
+      position = 1;
+      file = "ask,0,0\nfree,__uu__PartialApp\nfree,BoxInt@tok\ncall,ApplyTT,0,1\ncall,Valid,2\nassume,t,0,3\n"
+          ∷ "free,is-BoxInt\nroot,0,r,4\n"
+          ∷ [];
+      printed = "row,6,5,8,t,BoxInt,r\nmet,4\nrows,1\n" ∷ [];
+    }
+    ∷ record {
+      name = "why-trimmed-token-not-met-where-a-def-replaces-the-macro";
+      position = 1;
+      file = "ask,0,0\nfree,__uu__PartialApp\nfree,BoxInt@tok\ncall,ApplyTT,0,1\ncall,Valid,2\nassume,t,0,3\nfree,p\n"
+          ∷ "def,is-BoxInt,4\nfree,is-BoxInt\nroot,0,r,5\n"
+          ∷ [];
+      printed = "met,2\nrows,0\n" ∷ [];
+    }
+    ∷ []
+
+files-6-explained : All-explained files-6
+unfolding explains files-6
+files-6-explained = (refl, (refl, (refl, (refl, (refl, (refl, (refl, (refl, (refl, (refl, tt))))))))))
+
 -- a file with one row, at position 1
 small : List ℕ
 small = text-of ("ask,0,0\nfree,p\nop,eq,0,0\nassume,a,0,1\nroot,0,r,0\n" ∷ [])

@@ -1,9 +1,9 @@
 -- Texts: a number in decimal, fields parted by commas, and the printed form of an answer: document 01, F10; document 02, Change
--- 7: a `sum` line after each list.
+-- 7: a `sum` line after each list; Change 10: a `pass` line in its place.
 use Prim.Native.Nat.{ℕ, zero, suc, _+_, _/_, _%_}
 use mathlib.Core.Bool.{cond}
 use mathlib.Core.List.{List, [], _∷_, _++_, map}
-use lib.ListN.{length, drop}
+use lib.ListN.{length, drop, getD}
 use lib.Dec.{ltb}
 use Rattle.model.specs.Lists.{collect}
 use Rattle.model.specs.Names.{Name, bytes}
@@ -68,3 +68,18 @@ printed-list file p = map (kept-line file) (p .kept) ++ (sum-line (length (p .ke
 unfoldable pub printed : List ℕ → Outcome → List (List ℕ)
 printed file (refusal-at r place) = refused-line r place ∷ []
 printed file (lists ps) = collect (printed-list file) ps
+
+-- the line after a list of the sweep
+unfoldable pub pass-line : ℕ → ℕ → List ℕ
+pass-line kept passes = line (bytes "pass" ∷ show kept ∷ show passes ∷ [])
+
+-- the lines printed of the lists of the sweep, each with its passes: one for each kept record, then their count and the passes
+unfoldable pub pass-lists : List ℕ → List Position → List ℕ → List (List ℕ)
+pass-lists file [] passes = []
+pass-lists file (p ∷ ps) passes =
+    map (kept-line file) (p .kept) ++ pass-line (length (p .kept)) (getD passes 0 0) ∷ pass-lists file ps (drop 1 passes)
+
+-- the lines printed of what a call of the sweep comes to, with its passes by position
+unfoldable pub printed-sweep : List ℕ → Outcome → List ℕ → List (List ℕ)
+printed-sweep file (refusal-at r place) passes = refused-line r place ∷ []
+printed-sweep file (lists ps) passes = pass-lists file ps passes

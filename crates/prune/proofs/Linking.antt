@@ -203,7 +203,7 @@ module _ {file names recs lists : List ℕ} {k : Counts} (x : Filled file names 
   free = free-at (name-of file names) recs lists
 
   -- a name is free in a record where its number is among the uses
-  free-has : (i m : ℕ) → i < k .records → m < k .names → mem (name m) (free i) ≡ is-among m (uses-at recs lists i)
+  pub free-has : (i m : ℕ) → i < k .records → m < k .names → mem (name m) (free i) ≡ is-among m (uses-at recs lists i)
   unfolding free-at is-among
   free-has i m h l =
       T-ext

@@ -119,10 +119,11 @@ module _ {file names recs lists : List ℕ} {k : Counts} (x : Filled file names 
       go false n = keep-intro (λ (f : Fact). is-ambient-root (f .kind)) m t
 
   -- a record that starts, with this free name
-  abbrev Starts : Name → Type 0
+  abbrev pub Starts : Name → Type 0
   Starts y = (i : ℕ) × (i < k .records) × T (starts-at recs a i) × List·Memᴰ y (map name (uses-at recs lists i))
 
-  first-in : (y : Name) → List·Memᴰ y (first-scanned (ask-of recs a) fs roots) → Starts y
+  -- what round 1 scans are names of records that start
+  pub first-in : (y : Name) → List·Memᴰ y (first-scanned (ask-of recs a) fs roots) → Starts y
   unfolding first-scanned goal-roots fact-at
   first-in y m =
       ⊎-elim
@@ -153,7 +154,8 @@ module _ {file names recs lists : List ℕ} {k : Counts} (x : Filled file names 
           let w = subst (λ b. T b) (root-code (summary-code recs i)) (subst (λ (f : Fact). T (is-ambient-root (f .kind))) e t) in
           (i, l, fact-starts recs a i c w n, free-in i (subst (λ (f : Fact). List·Memᴰ y (f .free-names)) e v))
 
-  first-all : (i : ℕ) → i < k .records → T (starts-at recs a i) → (y : Name) → List·Memᴰ y (map name (uses-at recs lists i))
+  -- the names of the records that start are what round 1 scans
+  pub first-all : (i : ℕ) → i < k .records → T (starts-at recs a i) → (y : Name) → List·Memᴰ y (map name (uses-at recs lists i))
       → List·Memᴰ y (first-scanned (ask-of recs a) fs roots)
   unfolding first-scanned goal-roots fact-at
   first-all i l t y m =

@@ -1,0 +1,5 @@
+pub mod Sorts
+pub mod Stamps
+pub mod Putting
+pub mod Listing
+pub mod Call
