@@ -1,20 +1,27 @@
 -- Laws of the program.
-use Prim.Native.Nat.{ℕ, _≤_}
+use Prim.Native.Nat.{ℕ, zero, suc, _*_, _≤_, _<_}
+use native.Mathlib.Nat.{zero-add}
 use native.Mathlib.Omega.{arith}
 use mathlib.Core.Path.{_≡_, refl, sym, _∙_, ap}
 use mathlib.Core.Bool.{true, false, cond}
-use mathlib.Core.List.{List}
-use lib.ListN.{length}
+use mathlib.Core.List.{List, [], _∷_}
+use lib.ListN.{length, getD}
 use Rattle.model.specs.Lists.{any}
 use Rattle.model.specs.Outcome.{most-kept, too-short}
 use Rattle.model.specs.Working.{Working, sizes}
+use Rattle.model.specs.Explaining.{Explanation, refusal-at, no-position, told, most-rows, why}
 use Rattle.model.specs.declared.Answer.{Answer}
+use Rattle.model.specs.declared.Why.{Why}
+use Rattle.words.specs.Slices.{Copied}
+use Rattle.rows.specs.Rows.{rows-held}
 use Rattle.demands.specs.Demand1.{Short-slice}
 use Rattle.demands.proofs.Demand1.{short-true}
 use Rattle.filter.specs.Demands.{Kept-promise}
 use Rattle.filter.proofs.Demands.{room-enough-of-calls}
+use Rattle.explain.specs.Call.{rows-told, Explains-to}
 use Rattle.factfilter.specs.Input.{bytes-read}
 use Rattle.factfilter.specs.Filters.{own-slices, Filters}
+use Rattle.factfilter.specs.Explains.{row-words, own-explanation, Explains}
 use Rattle.factfilter.specs.declared.Input.{Input}
 use Rattle.factfilter.specs.declared.Input.the-variants.{Bytes}
 
@@ -37,4 +44,44 @@ filters file out a out′ lent left p e long =
       gives = rw e at (p .exact .gives);
       never-7 = λ seven. own-long (rw e at (p .demands .demand-1 .front .refused-7 (a .place) .0 (seven, refl) .1));
       never-8 = λ eight. room-enough-of-calls _ (p .exact) long (a .place) (eight, refl);
+    }
+
+-- the rows in words are those in the words that were copied
+pub rows-copied : (n : ℕ) (ws vs : List ℕ) → 2 * n ≤ length ws → 2 * n ≤ length vs
+    → ((i : ℕ) → i < 2 * n → getD vs i 0 ≡ getD ws i 0) → rows-held n vs ≡ rows-held n ws
+unfolding rows-held
+rows-copied zero ws vs h k same = refl
+rows-copied (suc n) [] vs h k same = absurd (omega arith)
+rows-copied (suc n) (a ∷ []) vs h k same = absurd (omega arith)
+rows-copied (suc n) (a ∷ b ∷ ws) [] h k same = absurd (omega arith)
+rows-copied (suc n) (a ∷ b ∷ ws) (c ∷ []) h k same = absurd (omega arith)
+rows-copied (suc n) (a ∷ b ∷ ws) (c ∷ d ∷ vs) h k same =
+    let rest = rows-copied n ws vs (omega arith) (omega arith) (λ i l. same (suc (suc i)) (omega arith)) in
+    let first : c ≡ a = same 0 (omega arith) in
+    let second : d ≡ b = same 1 (omega arith) in
+    rw (first, second, rest)
+
+-- an answer tells how many rows there are
+rows-count : (e : Explanation) → why e .rows ≡ length (rows-told e)
+unfolding why rows-told
+rows-count (refusal-at r place) = refl
+rows-count no-position = refl
+rows-count (told given met) = refl
+
+-- what `explain` tells, its rows copied, is what the program asks of it
+pub explains : (file : List ℕ) (position : ℕ) (lent left : Working) (w : Why) (rows rows′ : List ℕ)
+    → Explains-to file position lent most-rows w left → sizes lent ≡ own-slices → row-words ≤ length rows
+    → Copied (left .run) 0 0 (2 * w .rows) rows rows′ → Explains file position w rows′
+explains file position lent left w rows rows′ t e long copied =
+    let told : w ≡ why (own-explanation file position) = rw e at (t .answered) in
+    let count : w .rows ≡ length (rows-told (own-explanation file position)) =
+    ap (λ a. a .rows) told ∙ rows-count (own-explanation file position) in
+    let stand : rows-held (length (rows-told (own-explanation file position))) (left .run)
+    ≡ rows-told (own-explanation file position) = rw e at (t .left .stand) in
+    let inside : 2 * length (rows-told (own-explanation file position)) ≤ length (left .run) = rw e at (t .left .inside) in
+    let room : 2 * w .rows ≤ length rows′ = omega (arith, t .fits, copied .same .same-length) in
+    record {
+      answered = told;
+      stand = rows-copied (w .rows) (left .run) rows′ (rw count inside) room (λ i l. simp zero-add at (copied .words i l)) ∙ rw count stand;
+      room = room;
     }

@@ -1,15 +1,24 @@
-// Document 01's program: reads a file from standard input and prints the kept records of each ask, or the refusal. A refusal
-// is said in words on standard error too.
+// Document 01's program: reads a file from standard input and prints what a call comes to, the kept records of each ask or, by a
+// word, document 02's further calls; or the refusal. A refusal is said in words on standard error too.
+mod errors;
+mod list;
+mod why;
+
 use libc::STDERR_FILENO;
 use libc::STDIN_FILENO;
-use model::Answer;
-use model::Verdict;
+use text::Cursor;
+use text::NumberStep;
 ghost use Prim.Native.Nat.{_≤_};
 ghost use lib.ListN.{length};
-ghost use Rattle.model.specs.Outcome.{Outcome, most-kept};
-ghost use Rattle.printing.specs.Answers.{Told};
 ghost use Rattle.factfilter.specs.Input.{bytes-read};
-ghost use Rattle.factfilter.specs.Filters.{Filters};
+
+// What the words after the program's name ask for: the lists, the reasons at a position; or they ask for nothing that there is.
+enum Command {
+    List,
+    Why(usize),
+    NoPosition,
+    Unknown,
+}
 
 // What reading standard input comes to: so many bytes to its end or up to a full buffer, or a read that failed.
 enum Input {
@@ -36,65 +45,83 @@ fn read_input(buffer: &mut [u8]) -> Input
     Input::Bytes(n)
 }
 
-// Prints the lines of an answer; whether each was written.
-fn print(file: &[u8], a: Answer, out: &[u32]) -> bool
-    requires { ⌜ (length (now file) ≤ 65536) × ((o : Outcome) × Told a (now out) o) ⌝ }
+// The position that a word is: a decimal number of at most 65,535.
+fn position_of(word: &[u8]) -> Command
+    requires { ⌜ length (now word) ≤ 64 ⌝ }
 {
-    let mut starts = [0u32; 65536];
-    let mut text = [0u8; 65664];
-    printing::print(file, a, out, &mut starts, &mut text)
-}
-
-// Says a refusal in words on standard error.
-fn explain(a: Answer) {
-    let v = a.verdict;
-    if let Verdict::Refused(r) = v {
-        let mut text = [0u8; 128];
-        let n = printing::reason_line(r, a.place, &mut text);
-        io::write_all(STDERR_FILENO, &text[..n]);
+    let c = Cursor {
+        at: 0,
+        end: word.len(),
+    };
+    match c.number(word, text::MOST_NUMBER) {
+        NumberStep::Number(n, _) => Command::Why(n as usize),
+        NumberStep::Refused(_) => Command::NoPosition,
     }
 }
 
-// Filters a file over working slices of its own and a result slice that is long enough for every accepted file.
-fn filter_file(file: &[u8], out: &mut [u32]) -> Answer
-    requires { ⌜ most-kept ≤ length (now out) ⌝ }
-    ensures { λ a. ⌜ Filters (now (file .entry)) (now (out .entry)) a (now (out .exit)) ⌝ }
-{
-    let mut w0 = [0u32; model::WORKING_WORDS];
-    let mut w1 = [0u32; model::WORKING_WORDS];
-    let mut w2 = [0u32; model::WORKING_WORDS];
-    let mut w3 = [0u32; model::WORKING_WORDS];
-    let mut w4 = [0u32; model::WORKING_WORDS];
-    let mut w5 = [0u32; model::WORKING_WORDS];
-    filter::filter(
-        file,
-        &mut w0,
-        &mut w1,
-        &mut w2,
-        &mut w3,
-        &mut w4,
-        &mut w5,
-        out,
-    )
+// What the position behind `why` asks for, the only word there.
+fn ask_why(count: usize) -> Command {
+    if count != 3 {
+        return Command::NoPosition;
+    }
+    let mut word = [0u8; 64];
+    let n = os::arg(2, &mut word);
+    position_of(&word[..n])
 }
 
-// Filters a file and prints the answer.
-fn run(file: &[u8])
+// What a word asks for, of so many with the program's name.
+fn ask_word(word: &[u8], count: usize) -> Command {
+    let end = word.len();
+    if text::same_text(word, 0, end, b"why") {
+        return ask_why(count);
+    }
+    if count != 2 {
+        return Command::Unknown;
+    }
+    if text::same_text(word, 0, end, b"list") {
+        return Command::List;
+    }
+    Command::Unknown
+}
+
+// What the words after the program's name ask for.
+fn read_command() -> Command {
+    let count = os::arg_count();
+    if count < 2 {
+        return Command::List;
+    }
+    let mut word = [0u8; 64];
+    let n = os::arg(1, &mut word);
+    ask_word(&word[..n], count)
+}
+
+// Does what is asked for with the file on standard input.
+fn answer(file: &[u8], c: Command)
     requires { ⌜ length (now file) ≤ 65536 ⌝ }
 {
-    let mut out = [0u32; model::MOST_KEPT];
-    let a = filter_file(file, &mut out);
-    if !print(file, a, &out) {
-        io::write_all(STDERR_FILENO, b"standard output cannot be written\n");
-        return;
+    match c {
+        Command::List => list::run(file),
+        Command::Why(position) => why::run(file, position),
+        Command::NoPosition => {
+            io::write_all(
+                STDERR_FILENO,
+                b"why takes a position, a number of at most 65,535\n",
+            );
+        }
+        Command::Unknown => {
+            io::write_all(
+                STDERR_FILENO,
+                b"there is no such word: none, list, or why POSITION\n",
+            );
+        }
     }
-    explain(a);
 }
 
 fn main() {
+    let c = read_command();
     let mut buffer = io::large_buffer();
     match read_input(&mut buffer) {
-        Input::Bytes(n) => run(&buffer[..n]),
+        Input::Bytes(n) => answer(&buffer[..n], c),
         Input::Failed => {
             io::write_all(STDERR_FILENO, b"standard input cannot be read\n");
         }

@@ -12,11 +12,16 @@ use borrow.Author.Count.{below-more}
 use borrow.Author.Tests.{leb-true, leb-false}
 use Rattle.model.specs.Lists.{part}
 use Rattle.model.specs.Lines.{lines, Field, fields, field-cons}
+use Rattle.model.specs.Names.{bytes, same}
 use Rattle.model.specs.Text.{first-bytes, second, name-on}
 use Rattle.model.proofs.PartLaws.{part-cons, part-drop, part-length, part-nil, part-take}
 use Rattle.text.specs.Parts.{before, mark-at}
 use Rattle.text.proofs.Laws.{mark-from, mark-to, line-ended, line-last, line-none}
-use Rattle.printing.specs.Printed.{Starts}
+use Rattle.model.specs.declared.Row.{Row}
+use Rattle.names.specs.Table.{name-start, name-length, name-of, Table}
+use Rattle.printing.specs.Rows.{line-bytes, record-name, item-on, row-line}
+use Rattle.printing.specs.Printed.{Text-begins, Starts, Line-span, Number-named, Row-told}
+use Rattle.printing.specs.declared.Span.{Span}
 
 -- ---- where lines start
 
@@ -135,32 +140,107 @@ second-some s a e m n inside d h k l =
     let to-comma = comma-before s (m + 1) e (rw k at l) in
     rw (fields-cut (part s a e), comma-on s a e, ← d, part-cons s m e h inside, fields-cut (part s (m + 1) e), to-comma, ← k)
 
--- ---- the name on a line
+-- ---- the name of a fact or a root
 
--- line 0 has none
-pub name-zero : (file : List ℕ) (n : ℕ) → n ≡ 0 → [] ≡ name-on file n
-unfolding name-on
-name-zero file zero h = refl
-name-zero file (suc n) h = absurd (omega arith)
+-- the fields of a part up to its first comma, and those after it
+fields-some : (s : List ℕ) (a e m : ℕ) → e ≤ length s → m ≡ mark-at 0x2c s a e → m < e
+    → fields (part s a e) ≡ part s a m ∷ fields (part s (m + 1) e)
+unfolding after
+fields-some s a e m inside d h =
+    let near : m ≤ e = omega arith in
+    let within : mark-at 0x2c s a e ≤ e = rw d at near in
+    rw (fields-cut (part s a e), comma-before s a e within, comma-on s a e, ← d, part-cons s m e h inside)
 
--- the name on a line, by its place from 0
-name-at : (file : List ℕ) (n : ℕ) → 0 < n → name-on file n ≡ second (fields (first-bytes (drop (n - 1) (lines file))))
-unfolding name-on
-name-at file zero h = absurd (omega arith)
-name-at file (suc n) h =
+-- no comma
+pub record-none : (s : List ℕ) (a e m : ℕ) → m ≡ mark-at 0x2c s a e → e ≤ m → part s e e ≡ record-name (fields (part s a e))
+unfolding second after record-name
+record-none s a e m d h =
+    rw (part-nil s e e (omega arith), fields-cut (part s a e), comma-on s a e, ← d, part-nil s m e h)
+    (none (same (take (before 0x2c (part s a e)) (part s a e)) (bytes "root")))
+  where
+    none : (t : Bool) → _≡_ {A = List ℕ} [] (cond t [] [])
+    none true = refl
+    none false = refl
+
+-- a root line
+pub record-root : (s : List ℕ) (a e m : ℕ) → e ≤ length s → m ≡ mark-at 0x2c s a e → m < e
+    → same (part s a m) (bytes "root") ≡ true → second (fields (part s (m + 1) e)) ≡ record-name (fields (part s a e))
+unfolding record-name
+record-root s a e m inside d h t = rw (fields-some s a e m inside d h, t)
+
+-- another
+pub record-other : (s : List ℕ) (a e m : ℕ) → e ≤ length s → m ≡ mark-at 0x2c s a e → m < e
+    → same (part s a m) (bytes "root") ≡ false → second (fields (part s a e)) ≡ record-name (fields (part s a e))
+unfolding record-name
+record-other s a e m inside d h t = rw (fields-some s a e m inside d h, t)
+
+-- ---- the part of a line
+
+-- line 0 has no bytes
+pub span-zero : (file : List ℕ) (n : ℕ) → n ≡ 0 → Line-span file n (record { start = 0; end = 0 })
+unfolding line-bytes
+span-zero file zero h = record { ordered = omega arith; inside = omega arith; bytes-of = refl }
+span-zero file (suc n) h = absurd (omega arith)
+
+-- the bytes of a line, by its place from 0
+bytes-at : (file : List ℕ) (n : ℕ) → 0 < n → line-bytes file n ≡ first-bytes (drop (n - 1) (lines file))
+unfolding line-bytes
+bytes-at file zero h = absurd (omega arith)
+bytes-at file (suc n) h =
     let e : suc n - 1 ≡ n = omega arith in
     rw e
 
 -- no such line
-pub name-none : (file starts : List ℕ) (many n : ℕ) → Starts file starts many → many < n → [] ≡ name-on file n
-unfolding second first-bytes fields
-name-none file starts many n s h =
-    sym (name-at file n (omega arith) ∙ rw (drop-of-length-le (lines file) {i = n - 1} (omega (arith, s .all))))
+pub span-none : (file starts : List ℕ) (many n : ℕ) → Starts file starts many → many < n
+    → Line-span file n (record { start = 0; end = 0 })
+unfolding first-bytes
+span-none file starts many n s h =
+    let none = drop-of-length-le (lines file) {i = n - 1} (omega (arith, s .all)) in
+    record { ordered = omega arith; inside = omega arith; bytes-of = sym (bytes-at file n (omega arith) ∙ rw none) }
 
 -- a line that is there, up to its end
-pub name-there : (file starts : List ℕ) (many n e : ℕ) → Starts file starts many → 0 < n → n ≤ many
+pub span-there : (file starts : List ℕ) (many n e : ℕ) → Starts file starts many → 0 < n → n ≤ many
     → e ≡ mark-at 0x0a file (getD starts (n - 1) 0) (length file)
-    → second (fields (part file (getD starts (n - 1) 0) e)) ≡ name-on file n
-name-there file starts many n e s h k d =
+    → Line-span file n (record { start = getD starts (n - 1) 0; end = e })
+span-there file starts many n e s h k d =
     let l : n - 1 < many = omega arith in
-    sym (name-at file n h ∙ rw (s .each (n - 1) l, line-here file (getD starts (n - 1) 0) e (s .inside (n - 1) l) d .0))
+    let inside = s .inside (n - 1) l in
+    record {
+      ordered = mark-from e 0x0a file (getD starts (n - 1) 0) (length file) d;
+      inside = mark-to e 0x0a file (getD starts (n - 1) 0) (length file) d (omega arith) (omega arith);
+      bytes-of = sym (bytes-at file n h ∙ rw (s .each (n - 1) l, line-here file (getD starts (n - 1) 0) e inside d .0));
+    }
+
+-- the name on a line is the second field of its bytes
+pub name-of-line : (file : List ℕ) (n : ℕ) → second (fields (line-bytes file n)) ≡ name-on file n
+unfolding name-on line-bytes second fields
+name-of-line file zero = refl
+name-of-line file (suc n) = refl
+
+-- so of the part where the line stands
+pub name-in : {file : List ℕ} {n : ℕ} {s : Span} → Line-span file n s
+    → second (fields (part file (s .start) (s .end))) ≡ name-on file n
+name-in {file} {n} l = ap (λ b. second (fields b)) (l .bytes-of) ∙ name-of-line file n
+
+-- the name of the fact or root there
+pub item-in : {file : List ℕ} {n : ℕ} {s : Span} → Line-span file n s
+    → record-name (fields (part file (s .start) (s .end))) ≡ item-on file n
+unfolding item-on
+item-in l = ap (λ b. record-name (fields b)) (l .bytes-of)
+
+-- ---- rows
+
+-- the name of a number is a part of the file
+pub named-short : (file names : List ℕ) (named n : ℕ) (name : List ℕ) → Table file names named → n < named
+    → name ≡ name-of file names n → length name ≤ length file
+unfolding name-of
+named-short file names named n name t h e =
+    rw e (part-short file (name-start names n) (name-start names n + name-length names n) (t .inside n h))
+
+-- the line of a row, its name found
+pub row-told : (file names : List ℕ) (named : ℕ) (r q : Row) (name text : List ℕ) (n : ℕ) → r ≡ q
+    → Number-named file names named (r .number) name → Text-begins (row-line file name r) text n → Row-told file names named q text n
+row-told file names named r q name text n e found b =
+    let told : Row-told file names named r text n =
+    record { begins = λ h. rw (found .is-name h) at b; inside = b .inside } in
+    rw e at told

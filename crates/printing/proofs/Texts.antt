@@ -5,7 +5,7 @@ use native.Mathlib.Nat.{add-zero, mod-lt, mod-eq-of-lt, div-lt-iff-lt-mul, le-di
 use native.Mathlib.Omega.{arith}
 use mathlib.Core.Path.{_≡_, refl, sym, ap, _∙_}
 use mathlib.Core.Bool.{Bool, true, false}
-use mathlib.Core.List.{List, _++_, append-assoc, append-nil}
+use mathlib.Core.List.{List, [], _∷_, _++_, append-assoc, append-nil}
 use lib.Dec.{leb}
 use lib.ListN.{length, take, getD, set, length-append, length-set, length-take}
 use lib.Seq.{take-suc, take-suc-set, take-all}
@@ -15,6 +15,8 @@ use Rattle.model.specs.Names.{bytes}
 use Rattle.model.specs.Outcome.{refusal-number}
 use Rattle.model.specs.Text.{digits, show, comma, name-on, line, kept-line, sum-line, refused-line}
 use Rattle.model.specs.declared.Refusal.{Refusal}
+use Rattle.model.specs.declared.Row.{Row}
+use Rattle.printing.specs.Rows.{item-on, row-numbers, row-fields, row-line, count-line}
 use Rattle.printing.specs.Printed.{Bytes-put, Text-begins, reason, has-line, reason-line}
 
 -- ---- bytes
@@ -112,16 +114,16 @@ pub shown : (k n : ℕ) → k ≤ 20 → io.Fewest 10 1 n k → io.digits 10 k n
 unfolding show
 shown k n h f = digits-shown 20 k n h f
 
--- a word has at most ten digits
-pub few-digits : (k n : ℕ) → io.Fewest 10 1 n k → n < 4294967296 → k ≤ 10
-few-digits k n (some, below, above) h = go (leb k 10) refl
+-- a count has at most twenty digits
+pub few-digits : (k n : ℕ) → io.Fewest 10 1 n k → n < 18446744073709551616 → k ≤ 20
+few-digits k n (some, below, above) h = go (leb k 20) refl
   where
-    go : (t : Bool) → leb k 10 ≡ t → k ≤ 10
-    go true t = leb-true k 10 t
+    go : (t : Bool) → leb k 20 ≡ t → k ≤ 20
+    go true t = leb-true k 20 t
     go false t =
-        let large : 10 ^ 10 ≤ 10 ^ (k - 1) =
-        pow-le-pow-right {n = 10} (omega arith) {i = 10} {j = k - 1} (omega (arith, leb-false k 10 t)) in
-        let most : 10 ^ (k - 1) ≤ n = above (omega (arith, leb-false k 10 t)) in
+        let large : 10 ^ 20 ≤ 10 ^ (k - 1) =
+        pow-le-pow-right {n = 10} (omega arith) {i = 20} {j = k - 1} (omega (arith, leb-false k 20 t)) in
+        let most : 10 ^ (k - 1) ≤ n = above (omega (arith, leb-false k 20 t)) in
         absurd (omega arith)
 
 -- ---- lines
@@ -138,6 +140,55 @@ pub sum-parts : (kept visits rounds : ℕ)
     ≡ sum-line kept visits rounds
 unfolding sum-line line comma bytes
 sum-parts kept visits rounds = simp append-assoc
+
+-- the parts of the numbers of a row
+pub numbers-parts : (r : Row)
+    → ((((bytes "row," ++ show (r .line)) ++ bytes ",") ++ show (r .number)) ++ bytes ",") ++ show (r .cause) ≡ comma (row-numbers r)
+unfolding row-numbers comma bytes
+numbers-parts r = simp append-assoc
+
+-- more fields behind some
+comma-more : (f : List ℕ) (fs : List (List ℕ)) (g : List ℕ) (gs : List (List ℕ))
+    → comma ((f ∷ fs) ++ (g ∷ gs)) ≡ comma (f ∷ fs) ++ 0x2c ∷ comma (g ∷ gs)
+unfolding comma
+comma-more f [] g gs = refl
+comma-more f (h ∷ fs) g gs =
+    ap (λ l. f ++ 0x2c ∷ l) (comma-more h fs g gs) ∙ sym (append-assoc f (0x2c ∷ comma (h ∷ fs)) (0x2c ∷ comma (g ∷ gs)))
+
+-- two fields more in parts
+two-more : (x y z : List ℕ) → (((x ++ bytes ",") ++ y) ++ bytes ",") ++ z ≡ x ++ 0x2c ∷ (y ++ 0x2c ∷ z)
+unfolding bytes
+two-more x y z = simp append-assoc
+
+-- one field more and the end of a line in parts
+one-more : (x y : List ℕ) → ((x ++ bytes ",") ++ y) ++ bytes "\n" ≡ (x ++ 0x2c ∷ y) ++ (0x0a ∷ [])
+unfolding bytes
+one-more x y = simp append-assoc
+
+-- the parts of the fields of a row
+pub row-parts : (file name : List ℕ) (r : Row) (of : List ℕ) → of ≡ name-on file (r .line)
+    → (((comma (row-numbers r) ++ bytes ",") ++ of) ++ bytes ",") ++ name ≡ comma (row-fields file name r)
+unfolding row-fields row-numbers comma
+row-parts file name r of q =
+    let numbers = show (r .line) ∷ show (r .number) ∷ show (r .cause) ∷ [] in
+    two-more (comma (bytes "row" ∷ numbers)) of name
+    ∙ ap (λ l. comma (bytes "row" ∷ numbers) ++ 0x2c ∷ (l ++ 0x2c ∷ name)) q
+    ∙ sym (comma-more (bytes "row") numbers (name-on file (r .line)) (name ∷ []))
+
+-- those of the line of a row of reasons
+pub reason-row-parts : (file name : List ℕ) (r : Row) (item : List ℕ) → item ≡ item-on file (r .cause)
+    → ((comma (row-fields file name r) ++ bytes ",") ++ item) ++ bytes "\n" ≡ row-line file name r
+unfolding row-line row-fields row-numbers line comma
+reason-row-parts file name r item q =
+    let rest = show (r .line) ∷ show (r .number) ∷ show (r .cause) ∷ name-on file (r .line) ∷ name ∷ [] in
+    one-more (comma (bytes "row" ∷ rest)) item
+    ∙ ap (λ l. (comma (bytes "row" ∷ rest) ++ 0x2c ∷ l) ++ (0x0a ∷ [])) q
+    ∙ ap (_++ (0x0a ∷ [])) (sym (comma-more (bytes "row") rest (item-on file (r .cause)) []))
+
+-- those of the line of a count
+pub count-parts : (word : List ℕ) (n : ℕ) → ((word ++ bytes ",") ++ show n) ++ bytes "\n" ≡ count-line word n
+unfolding count-line line comma bytes
+count-parts word n = simp append-assoc
 
 -- the parts of the line of a refusal
 pub refused-parts : (r : Refusal) (place number : ℕ) → number ≡ refusal-number r

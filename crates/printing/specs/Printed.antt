@@ -6,11 +6,16 @@ use mathlib.Core.List.{List, [], _∷_, _++_}
 use lib.ListN.{length, take, drop, getD}
 use denote.Ref.{RefT}
 use Rattle.model.specs.Names.{bytes}
+use Rattle.model.specs.Lists.{part}
 use Rattle.model.specs.Lines.{lines}
 use Rattle.model.specs.Text.{show}
 use Rattle.model.specs.declared.Refusal.{Refusal}
+use Rattle.model.specs.declared.Row.{Row}
 use Rattle.model.specs.declared.Refusal.the-variants as refusal
 use Rattle.text.specs.Parts.{Is-part}
+use Rattle.names.specs.Table.{name-of}
+use Rattle.printing.specs.Rows.{line-bytes, row-line}
+use Rattle.printing.specs.declared.Span.{Span}
 
 -- bytes stand in a text from a place on, up to `end`, behind what stood there
 pub record Bytes-put (at : ℕ) (new before after : List ℕ) (end : ℕ) : Type 0 where
@@ -38,6 +43,22 @@ Same-from n before after = (k : ℕ) → n ≤ k → getD after k 0 ≡ getD bef
 -- a slice is a part of another, in its place
 abbrev pub Lies-in : RefT (List ℕ) → RefT (List ℕ) → Type 0
 Lies-in s r = (a : ℕ) × (e : ℕ) × Is-part s a e r
+
+-- the part where a line of a file stands, by its number from 1
+pub record Line-span (file : List ℕ) (n : ℕ) (s : Span) : Type 0 where
+  pub ordered : s .start ≤ s .end
+  pub inside : s .end ≤ length file
+  pub bytes-of : part file (s .start) (s .end) ≡ line-bytes file n
+
+-- bytes are the name of a number, where the table has it
+pub record Number-named (file names : List ℕ) (named number : ℕ) (name : List ℕ) : Type 0 where
+  pub short : length name ≤ length file
+  pub is-name : number < named → name ≡ name-of file names number
+
+-- a text begins with the line of a row of reasons, where the table has its number
+pub record Row-told (file names : List ℕ) (named : ℕ) (r : Row) (text : List ℕ) (n : ℕ) : Type 0 where
+  pub begins : r .number < named → Text-begins (row-line file (name-of file names (r .number)) r) text n
+  pub inside : n ≤ length text
 
 -- why a refusal is given
 unfoldable pub reason : Refusal → List ℕ

@@ -1,10 +1,11 @@
-// The printed form of an answer: document 01's lines, one at a time into a lent slice, and all to standard output. A refusal in
-// words.
+// The printed form of an answer: document 01's lines, one at a time into a lent slice, and all to standard output; the same of the
+// rows of reasons. A refusal in words.
 use libc::STDOUT_FILENO;
 use model::Answer;
 use model::Refusal;
+use model::Row;
 use model::Verdict;
-ghost use Prim.Native.Nat.{ℕ, _+_, _≤_, _<_};
+ghost use Prim.Native.Nat.{ℕ, _+_, _*_, _≤_, _<_};
 ghost use mathlib.Core.Path.{_≡_};
 ghost use mathlib.Core.List.{List, []};
 ghost use lib.ListN.{length, getD};
@@ -12,7 +13,11 @@ ghost use Rattle.model.specs.Lists.{part, sum};
 ghost use Rattle.model.specs.Lines.{fields};
 ghost use Rattle.model.specs.Outcome.{Outcome};
 ghost use Rattle.model.specs.Text.{show, second, name-on, kept-line, sum-line, refused-line, printed};
-ghost use Rattle.printing.specs.Printed.{Bytes-put, Text-begins, Starts, Same-from, Lies-in};
+ghost use Rattle.printing.specs.Rows.{line-bytes, record-name, item-on, row-numbers, row-fields, row-line, count-line};
+ghost use Rattle.model.specs.Text.{comma};
+ghost use Rattle.names.specs.Table.{Table};
+ghost use Rattle.rows.specs.Rows.{row};
+ghost use Rattle.printing.specs.Printed.{Bytes-put, Text-begins, Starts, Same-from, Lies-in, Line-span, Number-named, Row-told};
 ghost use Rattle.printing.specs.Printed.{reason, has-line, reason-line};
 ghost use Rattle.printing.specs.Answers.{Told, Line-told, Found-line};
 
@@ -21,6 +26,12 @@ struct Line {
     position: usize,
     start: usize,
     index: usize,
+}
+
+// A part of the file: where it starts and ends.
+struct Span {
+    start: usize,
+    end: usize,
 }
 
 // Writes bytes from a place on; where they end.
@@ -36,14 +47,22 @@ fn put(text: &mut [u8], at: usize, bytes: &[u8]) -> usize
     at + bytes.len()
 }
 
-// Writes a number in decimal from a place on; where it ends.
-fn put_number(text: &mut [u8], at: usize, n: u32) -> usize
+// Writes a count in decimal from a place on; where it ends.
+fn put_count(text: &mut [u8], at: usize, n: usize) -> usize
     requires { ⌜ at + 20 ≤ length (now text) ⌝ }
     ensures { λ r. ⌜ Bytes-put at (show n) (now (text .entry)) (now (text .exit)) r × (r ≤ at + 20) ⌝ }
 {
     let mut digits = [0u8; 20];
     let k = io::decimal(n as u64, &mut digits);
     put(text, at, &digits[..k])
+}
+
+// Writes a number in decimal from a place on; where it ends.
+fn put_number(text: &mut [u8], at: usize, n: u32) -> usize
+    requires { ⌜ at + 20 ≤ length (now text) ⌝ }
+    ensures { λ r. ⌜ Bytes-put at (show n) (now (text .entry)) (now (text .exit)) r × (r ≤ at + 20) ⌝ }
+{
+    put_count(text, at, n as usize)
 }
 
 // Where each line of a file starts; how many lines there are.
@@ -77,22 +96,57 @@ fn second_field(file: &[u8], start: usize, end: usize) -> &[u8]
     &file[from..upto]
 }
 
+// The name in the fields of a part of the file, in its place: the third field of a root line, else the second.
+fn record_name(file: &[u8], start: usize, end: usize) -> &[u8]
+    requires { ⌜ (start ≤ end) × (end ≤ length (now file)) ⌝ }
+    ensures { λ r. ⌜ (now r ≡ record-name (fields (part (now (file .entry)) start end)))
+        × (length (now r) ≤ length (now (file .entry))) × Lies-in (file .entry) r ⌝ }
+{
+    let comma = text::find(file, b',', start, end);
+    if comma == end {
+        return &file[end..end];
+    }
+    if text::same_text(file, start, comma, b"root") {
+        return second_field(file, comma + 1, end);
+    }
+    second_field(file, start, end)
+}
+
+// Where a line of the file stands; an empty part where there is no such line.
+fn line_span(file: &[u8], starts: &[u32], many: usize, line: u32) -> Span
+    requires { ⌜ Starts (now file) (now starts) many ⌝ }
+    ensures { λ s. ⌜ Line-span (now (file .entry)) line s ⌝ }
+{
+    let n = line as usize;
+    if n == 0 {
+        return Span { start: 0, end: 0 };
+    }
+    if many < n {
+        return Span { start: 0, end: 0 };
+    }
+    let start = starts[n - 1] as usize;
+    let end = text::find(file, b'\n', start, file.len());
+    Span { start, end }
+}
+
 // The name on a line, its second field, in its place in the file.
 fn name_on<'a>(file: &'a [u8], starts: &[u32], many: usize, line: u32) -> &'a [u8]
     requires { ⌜ Starts (now file) (now starts) many ⌝ }
     ensures { λ r. ⌜ (now r ≡ name-on (now (file .entry)) line) × (length (now r) ≤ length (now (file .entry)))
         × Lies-in (file .entry) r ⌝ }
 {
-    let n = line as usize;
-    if n == 0 {
-        return &file[..0];
-    }
-    if many < n {
-        return &file[..0];
-    }
-    let start = starts[n - 1] as usize;
-    let end = text::find(file, b'\n', start, file.len());
-    second_field(file, start, end)
+    let s = line_span(file, starts, many, line);
+    second_field(file, s.start, s.end)
+}
+
+// The name of the fact or root on a line, in its place in the file.
+fn item_on<'a>(file: &'a [u8], starts: &[u32], many: usize, line: u32) -> &'a [u8]
+    requires { ⌜ Starts (now file) (now starts) many ⌝ }
+    ensures { λ r. ⌜ (now r ≡ item-on (now (file .entry)) line) × (length (now r) ≤ length (now (file .entry)))
+        × Lies-in (file .entry) r ⌝ }
+{
+    let s = line_span(file, starts, many, line);
+    record_name(file, s.start, s.end)
 }
 
 // Writes the line of a kept record; its length.
@@ -131,6 +185,58 @@ fn refused_line(r: Refusal, place: u32, text: &mut [u8]) -> usize
     at = put_number(text, at, refusals::refusal_number(r));
     at = put(text, at, b",");
     at = put_number(text, at, place);
+    put(text, at, b"\n")
+}
+
+// Writes the numbers of a row; where they end.
+fn put_numbers(r: Row, text: &mut [u8]) -> usize
+    requires { ⌜ 80 ≤ length (now text) ⌝ }
+    ensures { λ e. ⌜ Bytes-put 0 (comma (row-numbers r)) (now (text .entry)) (now (text .exit)) e × (e ≤ 66) ⌝ }
+{
+    let mut at = put(text, 0, b"row,");
+    at = put_number(text, at, r.line);
+    at = put(text, at, b",");
+    at = put_number(text, at, r.number);
+    at = put(text, at, b",");
+    put_number(text, at, r.cause)
+}
+
+// Writes the fields of a row, the name of its number handed in; where they end.
+fn put_row(file: &[u8], starts: &[u32], many: usize, r: Row, name: &[u8], text: &mut [u8]) -> usize
+    requires { ⌜ Starts (now file) (now starts) many × (length (now name) ≤ length (now file))
+        × (2 * length (now file) + 80 ≤ length (now text)) ⌝ }
+    ensures { λ e. ⌜ Bytes-put 0 (comma (row-fields (now (file .entry)) (now (name .entry)) r)) (now (text .entry))
+        (now (text .exit)) e × (e ≤ 2 * length (now (file .entry)) + 68) ⌝ }
+{
+    let of = name_on(file, starts, many, r.line);
+    let mut at = put_numbers(r, text);
+    at = put(text, at, b",");
+    at = put(text, at, of);
+    at = put(text, at, b",");
+    put(text, at, name)
+}
+
+// Writes the line of a row of reasons, the name of its number handed in; its length.
+fn row_line(file: &[u8], starts: &[u32], many: usize, r: Row, name: &[u8], text: &mut [u8]) -> usize
+    requires { ⌜ Starts (now file) (now starts) many × (length (now name) ≤ length (now file))
+        × (3 * length (now file) + 128 ≤ length (now text)) ⌝ }
+    ensures { λ n. ⌜ Text-begins (row-line (now (file .entry)) (now (name .entry)) r) (now (text .exit)) n ⌝ }
+{
+    let item = item_on(file, starts, many, r.cause);
+    let mut at = put_row(file, starts, many, r, name, text);
+    at = put(text, at, b",");
+    at = put(text, at, item);
+    put(text, at, b"\n")
+}
+
+// Writes the line of a count behind its word; its length.
+fn count_line(word: &[u8], n: usize, text: &mut [u8]) -> usize
+    requires { ⌜ length (now word) + 32 ≤ length (now text) ⌝ }
+    ensures { λ r. ⌜ Text-begins (count-line (now (word .entry)) n) (now (text .exit)) r ⌝ }
+{
+    let mut at = put(text, 0, word);
+    at = put(text, at, b",");
+    at = put_count(text, at, n);
     put(text, at, b"\n")
 }
 
@@ -258,6 +364,80 @@ pub fn print(file: &[u8], a: Answer, out: &[u32], starts: &mut [u32], text: &mut
         j += 1;
     }
     true
+}
+
+// The name of a number, in its place in the file; an empty part where the table has no such number.
+fn name_of<'a>(file: &'a [u8], names: &[u32], named: usize, number: u32) -> &'a [u8]
+    requires { ⌜ Table (now file) (now names) named ⌝ }
+    ensures { λ r. ⌜ Number-named (now (file .entry)) (now (names .entry)) named number (now r) ⌝ }
+{
+    let n = number as usize;
+    if named <= n {
+        return &file[..0];
+    }
+    names::name_part(file, names, named, n)
+}
+
+// Writes the line of a row of reasons that stands in two words, by its place from 0; its length.
+fn reason_row(
+    file: &[u8],
+    starts: &[u32],
+    many: usize,
+    names: &[u32],
+    named: usize,
+    rows: &[u32],
+    i: usize,
+    text: &mut [u8],
+) -> usize
+    requires { ⌜ Starts (now file) (now starts) many × Table (now file) (now names) named × (2 * i + 1 < length (now rows))
+        × (3 * length (now file) + 128 ≤ length (now text)) ⌝ }
+    ensures { λ n. ⌜ Row-told (now (file .entry)) (now (names .entry)) named
+        (row (getD (now (rows .entry)) (2 * i) 0) (getD (now (rows .entry)) (2 * i + 1) 0)) (now (text .exit)) n ⌝ }
+{
+    let r = rows::row_at(rows, i);
+    let name = name_of(file, names, named, r.number);
+    row_line(file, starts, many, r, name, text)
+}
+
+// Prints rows of reasons that stand in words, with the names of their numbers, line by line; whether each line was written.
+pub fn print_reasons(
+    file: &[u8],
+    names: &[u32],
+    named: usize,
+    rows: &[u32],
+    count: usize,
+    starts: &mut [u32],
+    text: &mut [u8],
+) -> bool
+    requires { ⌜ Table (now file) (now names) named × (2 * count ≤ length (now rows)) × (length (now file) ≤ length (now starts))
+        × (3 * length (now file) + 128 ≤ length (now text)) ⌝ }
+{
+    let many = line_starts(file, starts);
+    let mut i: usize = 0;
+    while i < count {
+        let n = reason_row(file, starts, many, names, named, rows, i, text);
+        if !io::write_all(STDOUT_FILENO, &text[..n]) {
+            return false;
+        }
+        i += 1;
+    }
+    true
+}
+
+// Prints the line of a count behind its word; whether it was written.
+pub fn print_count(word: &[u8], n: usize) -> bool
+    requires { ⌜ length (now word) ≤ 32 ⌝ }
+{
+    let mut text = [0u8; 64];
+    let k = count_line(word, n, &mut text);
+    io::write_all(STDOUT_FILENO, &text[..k])
+}
+
+// Prints the line of a refusal; whether it was written.
+pub fn print_refusal(r: Refusal, place: u32) -> bool {
+    let mut text = [0u8; 128];
+    let n = refused_line(r, place, &mut text);
+    io::write_all(STDOUT_FILENO, &text[..n])
 }
 
 // The sum of the counts of an answer.

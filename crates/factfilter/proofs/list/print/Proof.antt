@@ -1,8 +1,8 @@
--- `factfilter::print` is safe and ends.
+-- `factfilter::list::print` is safe and ends.
 use borrow.Author.Needs.{needs}
 use native.Mathlib.Omega.{arith}
-use Rattle.factfilter.proofs.print.Statement.{statement}
-use Rattle.factfilter.proofs.print.Tie as tie
+use Rattle.factfilter.proofs.list.print.Statement.{statement}
+use Rattle.factfilter.proofs.list.print.Tie as tie
 
 slice-aggregate-print : tie.Need-slice-aggregate-print
 slice-aggregate-print c = search needs

@@ -1,9 +1,9 @@
--- `factfilter::filter_file` meets its contract: what `filter` promises of a call over six slices of the words that it uses.
+-- `factfilter::list::filter_file` meets its contract: what `filter` promises of a call over six slices of the words that it uses.
 use mathlib.Core.Path.{refl}
 use Rattle.factfilter.proofs.Laws.{filters}
 use borrow.Author.Needs.{needs}
-use Rattle.factfilter.proofs.filter_file.Statement.{statement}
-use Rattle.factfilter.proofs.filter_file.Tie as tie
+use Rattle.factfilter.proofs.list.filter_file.Statement.{statement}
+use Rattle.factfilter.proofs.list.filter_file.Tie as tie
 
 slice-aggregate-filter : tie.Need-slice-aggregate-filter
 slice-aggregate-filter c = search needs

@@ -1,8 +1,8 @@
--- `factfilter::explain` is safe and ends.
+-- `factfilter::errors::say_refusal` is safe and ends.
 use Rattle.printing.proofs.Texts.{counted}
 use borrow.Author.Needs.{needs}
-use Rattle.factfilter.proofs.explain.Statement.{statement}
-use Rattle.factfilter.proofs.explain.Tie as tie
+use Rattle.factfilter.proofs.errors.say_refusal.Statement.{statement}
+use Rattle.factfilter.proofs.errors.say_refusal.Tie as tie
 
 enum-known-v : tie.Need-enum-known-v
 enum-known-v c = search needs
@@ -31,8 +31,8 @@ returns c = search needs
 returns-2 : tie.Need-returns-2
 returns-2 c = search needs
 
-pub explain-spec : {M : Type 1} → statement M
-explain-spec =
+pub say-refusal-spec : {M : Type 1} → statement M
+say-refusal-spec =
     tie.close
     (tie.spec
     enum-known-v
