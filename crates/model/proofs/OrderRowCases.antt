@@ -18,13 +18,14 @@ use Rattle.model.specs.Outcome.{working}
 use Rattle.model.specs.Precedence
 use Rattle.model.specs.Checking
 use Rattle.model.specs.Checking.{Checked, refusal-at, listed-rows, check, ordered, rows-after}
-use Rattle.model.specs.Text.{show, line, refused-line}
+use Rattle.model.specs.Text
+use Rattle.model.specs.Text.{late-line, count-line}
 use Rattle.model.specs.declared.Ordered.{Ordered}
 use Rattle.model.specs.declared.Refusal.the-variants as refusal
 use Rattle.model.specs.declared.Row.{Row}
 use Rattle.model.specs.declared.Verdict.{Verdict}
 use Rattle.model.specs.declared.Verdict.the-variants.{Accepted, Refused}
-use Rattle.model.proofs.Printing.{passes, text-of}
+use Rattle.model.proofs.Printing.{passes, text-of, name-of, refused-lines}
 
 -- a file by its name: the rows of the table, its text, and the text printed of the check, the texts in pieces
 record Checked-case : Type 0 where
@@ -33,39 +34,20 @@ record Checked-case : Type 0 where
   file : List String
   printed : List String
 
--- the name of the def on a line of a file that was read
-unfoldable def-at : Reading → ℕ → Name
-def-at (refused-at r place) n = []
-def-at (read s) n = concat (map (λ d. d .name) (keep (λ d. eqb (d .line) n) (definitions (s .decls))))
-
--- the name of a number
-unfoldable name-of : Reading → ℕ → Name
-name-of (refused-at r place) k = []
-name-of (read s) k = getD (s .names) k []
-
--- the line of a row: its three numbers, then the names of the def and of the number
-unfoldable row-line : Reading → Row → List ℕ
-row-line file r =
-    line (bytes "row" ∷ show (r .line) ∷ show (r .number) ∷ show (r .cause) ∷ def-at file (r .line) ∷ name-of file (r .number) ∷ [])
-
--- the lines of a refusal
-unfoldable refused-lines : Verdict → ℕ → List (List ℕ)
-refused-lines Accepted place = []
-refused-lines (Refused r) place = refused-line r place ∷ []
-
 -- the lines printed of what the call comes to
-unfoldable shown : Reading → Checked → Ordered → List (List ℕ)
-shown file (refusal-at r place) o = refused-lines (o .verdict) (o .place)
-shown file (listed-rows given) o = map (row-line file) given ++ (line (bytes "rows" ∷ show (o .rows) ∷ []) ∷ [])
+unfoldable shown : List ℕ → Reading → Checked → Ordered → List (List ℕ)
+shown file found (refusal-at r place) o = refused-lines (o .verdict) (o .place)
+shown file found (listed-rows given) o =
+    map (λ r. late-line file (name-of found (r .number)) r) given ++ (count-line (bytes "rows") (o .rows) ∷ [])
 
 -- whether the definitions print of the file what it says, over slices that are long enough
 unfoldable lists-them : Checked-case → Bool
-unfolding passes text-of def-at name-of row-line refused-lines shown Lists.find-index Names.name-number Precedence.parts Precedence.sort-of
+unfolding passes text-of name-of refused-lines shown Text.row-numbers Text.row-fields Text.late-line Text.count-line Lists.find-index Names.name-number Precedence.parts Precedence.sort-of
     Precedence.late-in Precedence.late-rows Checking.checked Checking.rows-fitting Checking.check Checking.ordered Checking.rows-after
 lists-them c =
     let file = text-of (c .file) in
     let found = check file (replicate 6 (working 16384)) (c .room) in
-    same (concat (shown (read-file exclude-names file) found (ordered found))) (text-of (c .printed))
+    same (concat (shown file (read-file exclude-names file) found (ordered found))) (text-of (c .printed))
 
 -- that they do of each file
 abbrev All-listed : List Checked-case → Type 0

@@ -4,27 +4,26 @@ use Prim.Native.String.{String}
 use mathlib.Core.Path.{_≡_, refl}
 use mathlib.Core.Bool.{Bool, true}
 use mathlib.Core.List.{List, [], _∷_, _++_, map}
-use lib.Dec.{eqb}
 use lib.ListN.{getD, replicate}
 use Rattle.model.specs.Lists
-use Rattle.model.specs.Lists.{keep, concat}
+use Rattle.model.specs.Lists.{concat}
 use Rattle.model.specs.Names
 use Rattle.model.specs.Names.{Name, bytes, same}
 use Rattle.model.specs.Summaries.{exclude-names}
 use Rattle.model.specs.Reading.{Reading, read, refused-at, read-file}
 use Rattle.model.specs.Rounds
-use Rattle.model.specs.Rounds.{facts}
 use Rattle.model.specs.Outcome.{working}
 use Rattle.model.specs.Reasons
-use Rattle.model.specs.declared.Row.{Row}
 use Rattle.model.specs.Explaining
 use Rattle.model.specs.Explaining.{Explanation, refusal-at, no-position, told, explanation, why, table-after}
-use Rattle.model.specs.Text.{show, line, refused-line}
+use Rattle.model.specs.Text
+use Rattle.model.specs.Text.{refused-line, row-line, count-line}
 use Rattle.model.specs.declared.Refusal.the-variants as refusal
+use Rattle.model.specs.declared.Row.{Row}
 use Rattle.model.specs.declared.Verdict.{Verdict}
 use Rattle.model.specs.declared.Verdict.the-variants.{Accepted, Refused}
 use Rattle.model.specs.declared.Why.{Why}
-use Rattle.model.proofs.Printing.{passes, text-of}
+use Rattle.model.proofs.Printing.{passes, text-of, name-of, refused-lines}
 
 -- a file by its name: its text, a position, and the text printed of the reasons there, the texts in pieces
 record Reasoned : Type 0 where
@@ -33,48 +32,25 @@ record Reasoned : Type 0 where
   file : List String
   printed : List String
 
--- the name of the fact or root on a line of a file that was read
-unfoldable name-at : Reading → ℕ → Name
-name-at (refused-at r place) n = []
-name-at (read s) n =
-    concat (map (λ f. f .name) (keep (λ f. eqb (f .line) n) (facts (s .decls))) ++ map (λ r. r .name) (keep (λ r. eqb (r .line) n) (s .roots)))
-
--- the name of a number
-unfoldable name-of : Reading → ℕ → Name
-name-of (refused-at r place) k = []
-name-of (read s) k = getD (s .names) k []
-
--- the line of a row: its three numbers, then the names of the fact, of the number and of the supplier
-unfoldable row-line : Reading → Row → List ℕ
-row-line file r =
-    line (bytes "row" ∷ show (r .line) ∷ show (r .number) ∷ show (r .cause)
-    ∷ name-at file (r .line) ∷ name-of file (r .number) ∷ name-at file (r .cause) ∷ [])
-
--- the line of a count
-unfoldable count-line : String → ℕ → List ℕ
-count-line word n = line (bytes word ∷ show n ∷ [])
-
--- the lines of a refusal
-unfoldable refused-lines : Verdict → ℕ → List (List ℕ)
-refused-lines Accepted place = []
-refused-lines (Refused r) place = refused-line r place ∷ []
-
 -- the lines printed of what the call comes to
-unfoldable shown : Reading → Explanation → Why → List (List ℕ)
-shown file (refusal-at r place) w = refused-lines (w .verdict) (w .place)
-shown file no-position w = refused-lines (w .verdict) (w .place)
-shown file (told given met) w = map (row-line file) given ++ (count-line "met" (w .met) ∷ count-line "rows" (w .rows) ∷ [])
+unfoldable shown : List ℕ → Reading → Explanation → Why → List (List ℕ)
+shown file found (refusal-at r place) w = refused-lines (w .verdict) (w .place)
+shown file found no-position w = refused-lines (w .verdict) (w .place)
+shown file found (told given met) w =
+    map (λ r. row-line file (name-of found (r .number)) r) given
+    ++ (count-line (bytes "met") (w .met) ∷ count-line (bytes "rows") (w .rows) ∷ [])
 
 -- whether the definitions print of the file what it says, over slices that are long enough
 unfoldable explains : Reasoned → Bool
-unfolding passes text-of name-at name-of row-line count-line refused-lines shown Lists.find-index Names.name-number Rounds.states-from Rounds.history
+unfolding passes text-of name-of refused-lines shown Text.line-bytes Text.record-name Text.item-on Text.row-numbers Text.row-fields Text.row-line
+    Text.count-line Lists.find-index Names.name-number Rounds.states-from Rounds.history
     Rounds.end-of Rounds.round-of Reasons.first-items Reasons.reached-items Reasons.scanned-items Reasons.earlier Reasons.sooner
     Reasons.earliest Reasons.supplier Reasons.met-listed Reasons.rows-of Reasons.rows Reasons.met-bits Reasons.met-number
     Explaining.nth-ask Explaining.reasons Explaining.explained Explaining.explanation Explaining.why Explaining.table-after
 explains c =
     let file = text-of (c .file) in
     let e = explanation file (c .position) (replicate 6 (working 16384)) 2048 in
-    same (concat (shown (read-file exclude-names file) e (why e))) (text-of (c .printed))
+    same (concat (shown file (read-file exclude-names file) e (why e))) (text-of (c .printed))
 
 -- that they do of each file
 abbrev All-explained : List Reasoned → Type 0

@@ -1,15 +1,17 @@
 -- Texts: a number in decimal, fields parted by commas, and the printed form of an answer: document 01, F10; document 02, Change
--- 7: a `sum` line after each list; Change 10: a `pass` line in its place.
+-- 7: a `sum` line after each list; Change 10: a `pass` line in its place; Changes 2
+-- and 9: the lines of rows with their names.
 use Prim.Native.Nat.{ℕ, zero, suc, _+_, _/_, _%_}
 use mathlib.Core.Bool.{cond}
 use mathlib.Core.List.{List, [], _∷_, _++_, map}
 use lib.ListN.{length, drop, getD}
 use lib.Dec.{ltb}
 use Rattle.model.specs.Lists.{collect}
-use Rattle.model.specs.Names.{Name, bytes}
+use Rattle.model.specs.Names.{Name, bytes, same}
 use Rattle.model.specs.Lines.{Line, lines, Field, fields}
 use Rattle.model.specs.Outcome.{Position, Outcome, refusal-at, lists, refusal-number}
 use Rattle.model.specs.declared.Refusal.{Refusal}
+use Rattle.model.specs.declared.Row.{Row}
 
 -- the decimal digits of a number below ten to the fuel
 unfoldable pub digits : ℕ → ℕ → Field
@@ -83,3 +85,37 @@ pass-lists file (p ∷ ps) passes =
 unfoldable pub printed-sweep : List ℕ → Outcome → List ℕ → List (List ℕ)
 printed-sweep file (refusal-at r place) passes = refused-line r place ∷ []
 printed-sweep file (lists ps) passes = pass-lists file ps passes
+
+-- the bytes of a line of a file, by its number from 1; none where there is no such line
+unfoldable pub line-bytes : List ℕ → ℕ → List ℕ
+line-bytes file zero = []
+line-bytes file (suc n) = first-bytes (drop n (lines file))
+
+-- the name in the fields of a fact or a root: the third on a root line, else the second
+unfoldable pub record-name : List Field → Name
+record-name [] = []
+record-name (kind ∷ rest) = cond (same kind (bytes "root")) (second rest) (second (kind ∷ rest))
+
+-- the name of the fact or root on a line of a file, by the line's number from 1
+unfoldable pub item-on : List ℕ → ℕ → Name
+item-on file n = record-name (fields (line-bytes file n))
+
+-- the first fields of a row: its three numbers
+unfoldable pub row-numbers : Row → List Field
+row-numbers r = bytes "row" ∷ show (r .line) ∷ show (r .number) ∷ show (r .cause) ∷ []
+
+-- the fields of a row: these, the name on its line, and the name of its number
+unfoldable pub row-fields : List ℕ → Name → Row → List Field
+row-fields file name r = row-numbers r ++ (name-on file (r .line) ∷ name ∷ [])
+
+-- the line of a row of reasons: its fields, then the name of the supplier
+unfoldable pub row-line : List ℕ → Name → Row → List ℕ
+row-line file name r = line (row-fields file name r ++ (item-on file (r .cause) ∷ []))
+
+-- the line of a row of the check: its fields alone
+unfoldable pub late-line : List ℕ → Name → Row → List ℕ
+late-line file name r = line (row-fields file name r)
+
+-- the line of a count behind its word
+unfoldable pub count-line : List ℕ → ℕ → List ℕ
+count-line word n = line (word ∷ show n ∷ [])
