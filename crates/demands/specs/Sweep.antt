@@ -1,5 +1,5 @@
--- Document 02, Change 10, for every accepted file and every ask over it, also lines included: the sweep ends as the rounds do, and
--- its passes are told.
+-- Document 02, Change 10, for every accepted file and every ask over it, also lines included: the sweep ends as the rounds do,
+-- and its passes are told.
 use Prim.Native.Nat.{ℕ, suc, _≤_}
 use mathlib.Core.Path.{_≡_}
 use mathlib.Core.List.{List}
@@ -58,8 +58,8 @@ pub record Passes-at (passes : List ℕ) (s : State) (i : ℕ) (a : Ask) : Type 
   pub some : 1 ≤ getD passes i 0
   pub few : getD passes i 0 ≤ suc (facts-with-triggers (facts (records-for a s)))
 
--- "Its refusals and list are the first engine's": verdict, place and kept counts; its passes "are told exactly for each ask", sixteen
--- counts, 0 past the last position and in a refused answer
+-- "Its refusals and list are the first engine's": verdict, place and kept counts; its passes "are told exactly for each ask",
+-- sixteen counts, 0 past the last position and in a refused answer
 pub record Tells-sweep (file : List ℕ) (works : List Lent) (room : ℕ) : Type 0 where
   pub first : As-first (sweep-answer file works room) (answer (outcome file works room))
   pub sixteen : length (sweep-answer file works room .passes) ≡ 16

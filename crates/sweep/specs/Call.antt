@@ -42,7 +42,8 @@ pub record Exact (c : Call) : Type 0 where
 
 -- the answer of an outcome, the passes of its positions given
 unfoldable pub telling : Outcome → List ℕ → Swept
-telling (outcomes.refusal-at r place) passes = record { verdict = Refused r; place = place; kept = padded []; passes = padded [] }
+telling (outcomes.refusal-at r place) passes =
+    record { verdict = Refused r; place = place; kept = padded []; passes = padded [] }
 telling (outcomes.lists ps) passes =
     record { verdict = Accepted; place = 0; kept = padded (map (λ p. length (p .kept)) ps); passes = padded passes }
 
@@ -80,8 +81,8 @@ pub record Settles (a : Swept) (total : ℕ) (lines out : List ℕ) (r : Swept) 
       → Gives (fitting (length out) (outcomes.lists ps)) passes out r out′
   pub same-length : length out′ ≡ length out
 
--- what the sweeps and the lists ask: tables filled from the file, slices for the lists and the run, no more positions than a file
--- may have, no list of more lines than a file has records, and sweeps that reach what runs do
+-- what the sweeps and the lists ask: tables filled from the file, slices for the lists and the run, no more positions than a
+-- file may have, no list of more lines than a file has records, and sweeps that reach what runs do
 pub record Sweeps-over (file names refs recs lists run : List ℕ) (k : Counts) : Type 0 where
   pub filled : Filled file names recs lists k
   pub list-room : working-words ≤ length refs

@@ -40,8 +40,9 @@ pub record None-told (a : Swept) (i : ℕ) : Type 0 where
   pub kept : getD (a .kept) i 0 ≡ 0
   pub passes : getD (a .passes) i 0 ≡ 0
 
--- demand 1: "the call still returns, with a list or with one of" the refusals 1 to 13 "and its place, each under its condition ..
--- and never otherwise. A refusal writes nothing to the result slice, and the working slices come back as document 01 fixes."
+-- demand 1: "the call still returns, with a list or with one of" the refusals 1 to 13 "and its place, each under its
+-- condition .. and never otherwise. A refusal writes nothing to the result slice, and the working slices come back as document 01
+-- fixes."
 pub record Demand-1 (c : Call) : Type 0 where
   pub refusals : Accepts c ⊎ ((number : ℕ) × (1 ≤ number) × (number ≤ 13) × Refuses c number (c .answer .place))
   pub listed : Accepts c
@@ -56,8 +57,8 @@ pub record Call-lists (c : Call) (i : ℕ) (lines : List ℕ) : Type 0 where
   pub count : getD (c .answer .kept) i 0 ≡ length lines
   pub listed : take (getD (c .answer .kept) i 0) (drop (sum (take i (c .answer .kept))) (c .out′)) ≡ lines
 
--- document 02, Change 7: the asks are those of the ask and also lines, in their order, each in range; the result slice begins with
--- their lists, end to end, and is as it was behind them; counts past the last position are 0
+-- document 02, Change 7: the asks are those of the ask and also lines, in their order, each in range; the result slice begins
+-- with their lists, end to end, and is as it was behind them; counts past the last position are 0
 pub record In-sequence (c : Call) (s : State) : Type 0 where
   pub asked : s .asks ≡ asks-on (lines (c .file))
   pub good : Good-asks s

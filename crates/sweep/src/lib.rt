@@ -40,8 +40,8 @@ fn refused(r: Refusal, place: u32) -> Swept
     }
 }
 
-// Sweeps the ask of a position over the tables, from the start on an also line too, and lists the kept lines from a place of the
-// references' slice on, which the reading has done with.
+// Sweeps the ask of a position over the tables, from the start on an also line too, and lists the kept lines from a place of
+// the references' slice on, which the reading has done with.
 fn list_ask(
     file: &[u8],
     names: &[u32],
