@@ -2,7 +2,7 @@
 use Prim.Native.Nat.{ℕ, zero, suc, _+_, _-_, _%_, _≤_, _<_}
 use native.Mathlib.Omega.{arith}
 use mathlib.Core.Path.{_≡_, refl, sym, _∙_, ap, ap₂, subst}
-use mathlib.Core.Bool.{Bool, true, false, cond, _&&_}
+use mathlib.Core.Bool.{Bool, true, false, _&&_}
 use mathlib.Core.Logic.{⊎-elim}
 use mathlib.Core.List.{List, [], _∷_, _++_, map, map-map, map-append, List·Memᴰ}
 use mathlib.Core.Option.{some}
@@ -16,7 +16,7 @@ use Rattle.model.specs.Summaries.{Fact}
 use Rattle.model.specs.Reading.{Ask, State}
 use Rattle.model.specs.Rounds.{facts, listed, round-met, round-of}
 use Rattle.model.specs.Kept.{reached-facts}
-use Rattle.model.specs.Reasons.{Item, scanned-items, supplier, met-listed, rows-of, rows, met-bits, met-number}
+use Rattle.model.specs.Reasons.{Item, scanned-items, supplier, rows-of, rows, met-bits, met-number}
 use Rattle.model.specs.declared.Asked.{Asked}
 use Rattle.model.specs.declared.Counts.{Counts}
 use Rattle.model.specs.declared.Row.{Row}
@@ -31,8 +31,8 @@ use Rattle.demands.proofs.Reasons.{listed-by-rank}
 use Rattle.names.specs.Table.{name-of, table-names, ranked}
 use Rattle.names.proofs.Laws.{listed as values, names-length, names-at, names-intro, names-elim, distinct}
 use Rattle.triggers.specs.Entries.{disjuncts-of, last-flag, no-name}
-use Rattle.records.specs.Columns.{record-line, record-name, taken-at}
-use Rattle.records.specs.States.{entries-at, fact-at, background-of, takes-part, ask-of, state-of}
+use Rattle.records.specs.Columns.{record-line, record-name}
+use Rattle.records.specs.States.{entries-at, fact-at, background-of, ask-of, state-of}
 use Rattle.macros.specs.Macros.{Filled}
 use Rattle.scan.specs.Steps.{reached-column, run-end, is-met, is-reached}
 use Rattle.scan.specs.Runs.{tables-run, tables-history, Ran}

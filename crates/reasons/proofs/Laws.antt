@@ -4,8 +4,7 @@ use native.Mathlib.Omega.{arith}
 use mathlib.Core.Path.{_≡_, refl, sym, _∙_, ap}
 use mathlib.Core.Bool.{Bool, true, false, cond}
 use mathlib.Core.List.{List, [], _∷_, _++_, map, append-nil}
-use lib.Dec.{T}
-use lib.ListN.{length, getD, set, take, length-append}
+use lib.ListN.{length, set, take}
 use lib.Seq.{sets}
 use borrow.Author.Tests.{eq-eqb, ne-eqb}
 use Rattle.model.specs.Lists.{keep, collect}
@@ -14,12 +13,11 @@ use Rattle.model.specs.Explaining.{most-rows}
 use Rattle.model.specs.declared.Counts.{Counts}
 use Rattle.model.specs.declared.Row.{Row}
 use Rattle.model.proofs.ListLaws.{true-T}
-use Rattle.words.specs.Slices.{Same-but}
 use Rattle.rows.specs.Rows.{pair, words-of}
 use Rattle.rows.proofs.Laws.{words-append, words-length}
 use Rattle.names.specs.Table.{ranked}
 use Rattle.records.specs.Columns.{record-line}
-use Rattle.prune.specs.Listing.{from, record-behind, picked, taker, reached-at}
+use Rattle.prune.specs.Listing.{from, record-behind, picked, reached-at}
 use Rattle.prune.proofs.Writing.{Going, going-start, going-length, going-end, going-list, list-room, lists-none, column-same}
 use Rattle.prune.proofs.Gathering.{part-sets}
 use Rattle.prune.proofs.Members.{reached-low}

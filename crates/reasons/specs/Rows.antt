@@ -1,5 +1,5 @@
--- The rows on numbers: the reached records by the byte order of their names, and for each the names by rank that it lists and that
--- were met no later than its round.
+-- The rows on numbers: the reached records by the byte order of their names, and for each the names by rank that it lists and
+-- that were met no later than its round.
 use Prim.Native.Nat.{ℕ, _+_, _*_, _-_, _%_, _≤_, _<_}
 use mathlib.Core.Path.{_≡_}
 use mathlib.Core.Bool.{Bool, _&&_}

@@ -7,7 +7,8 @@ ghost use lib.ListN.{length};
 ghost use Rattle.model.specs.Reading.{most-names};
 ghost use Rattle.model.specs.Outcome.{working-words};
 ghost use Rattle.model.specs.Explaining.{most-rows};
-ghost use Rattle.reasons.specs.Rows.{supplied, lists-name, row-due, rows-at, Entries-in, Explainable, Rows-behind, Rows-put};
+ghost use Rattle.reasons.specs.Rows.{supplied, lists-name, row-due, rows-at};
+ghost use Rattle.reasons.specs.Rows.{Entries-in, Explainable, Rows-behind, Rows-put};
 
 // Whether an entry of a record has the name.
 fn lists_name(recs: &[u32], lists: &[u32], i: usize, n: usize) -> bool
@@ -76,8 +77,8 @@ fn put_rows_of(
     to
 }
 
-// Puts the rows of all reached facts into words, by the names of the facts and then by listed name, both in byte order; how many
-// there are.
+// Puts the rows of all reached facts into words, by the names of the facts and then by listed name, both in byte order; how
+// many there are.
 pub fn put_rows(
     names: &[u32],
     refs: &mut [u32],
