@@ -13,13 +13,12 @@ use borrow.Author.Tests.{leb-true, leb-false}
 use Rattle.model.specs.Lists.{part}
 use Rattle.model.specs.Lines.{lines, Field, fields, field-cons}
 use Rattle.model.specs.Names.{bytes, same}
-use Rattle.model.specs.Text.{first-bytes, second, name-on}
+use Rattle.model.specs.Text.{first-bytes, second, name-on, line-bytes, record-name, item-on, row-line}
 use Rattle.model.proofs.PartLaws.{part-cons, part-drop, part-length, part-nil, part-take}
 use Rattle.text.specs.Parts.{before, mark-at}
 use Rattle.text.proofs.Laws.{mark-from, mark-to, line-ended, line-last, line-none}
 use Rattle.model.specs.declared.Row.{Row}
 use Rattle.names.specs.Table.{name-start, name-length, name-of, Table}
-use Rattle.printing.specs.Rows.{line-bytes, record-name, item-on, row-line}
 use Rattle.printing.specs.Printed.{Text-begins, Starts, Line-span, Number-named, Row-told}
 use Rattle.printing.specs.declared.Span.{Span}
 

@@ -14,9 +14,9 @@ use Rattle.io.specs.Digits as io
 use Rattle.model.specs.Names.{bytes}
 use Rattle.model.specs.Outcome.{refusal-number}
 use Rattle.model.specs.Text.{digits, show, comma, name-on, line, kept-line, sum-line, refused-line}
+use Rattle.model.specs.Text.{pass-line, item-on, row-numbers, row-fields, row-line, count-line}
 use Rattle.model.specs.declared.Refusal.{Refusal}
 use Rattle.model.specs.declared.Row.{Row}
-use Rattle.printing.specs.Rows.{item-on, row-numbers, row-fields, row-line, count-line}
 use Rattle.printing.specs.Printed.{Bytes-put, Text-begins, reason, has-line, reason-line}
 
 -- ---- bytes
@@ -140,6 +140,12 @@ pub sum-parts : (kept visits rounds : ℕ)
     ≡ sum-line kept visits rounds
 unfolding sum-line line comma bytes
 sum-parts kept visits rounds = simp append-assoc
+
+-- the parts of the line after a list of the sweep
+pub pass-parts : (kept passes : ℕ)
+    → (((bytes "pass," ++ show kept) ++ bytes ",") ++ show passes) ++ bytes "\n" ≡ pass-line kept passes
+unfolding pass-line line comma bytes
+pass-parts kept passes = simp append-assoc
 
 -- the parts of the numbers of a row
 pub numbers-parts : (r : Row)

@@ -8,13 +8,12 @@ use denote.Ref.{RefT}
 use Rattle.model.specs.Names.{bytes}
 use Rattle.model.specs.Lists.{part}
 use Rattle.model.specs.Lines.{lines}
-use Rattle.model.specs.Text.{show}
+use Rattle.model.specs.Text.{show, line-bytes, row-line}
 use Rattle.model.specs.declared.Refusal.{Refusal}
 use Rattle.model.specs.declared.Row.{Row}
 use Rattle.model.specs.declared.Refusal.the-variants as refusal
 use Rattle.text.specs.Parts.{Is-part}
 use Rattle.names.specs.Table.{name-of}
-use Rattle.printing.specs.Rows.{line-bytes, row-line}
 use Rattle.printing.specs.declared.Span.{Span}
 
 -- bytes stand in a text from a place on, up to `end`, behind what stood there

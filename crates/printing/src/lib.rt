@@ -1,9 +1,10 @@
 // The printed form of an answer: document 01's lines, one at a time into a lent slice, and all to standard output; the same of the
-// rows of reasons. A refusal in words.
+// rows of reasons and of the sweep. A refusal in words.
 use libc::STDOUT_FILENO;
 use model::Answer;
 use model::Refusal;
 use model::Row;
+use model::Swept;
 use model::Verdict;
 ghost use Prim.Native.Nat.{ℕ, _+_, _*_, _≤_, _<_};
 ghost use mathlib.Core.Path.{_≡_};
@@ -12,9 +13,8 @@ ghost use lib.ListN.{length, getD};
 ghost use Rattle.model.specs.Lists.{part, sum};
 ghost use Rattle.model.specs.Lines.{fields};
 ghost use Rattle.model.specs.Outcome.{Outcome};
-ghost use Rattle.model.specs.Text.{show, second, name-on, kept-line, sum-line, refused-line, printed};
-ghost use Rattle.printing.specs.Rows.{line-bytes, record-name, item-on, row-numbers, row-fields, row-line, count-line};
-ghost use Rattle.model.specs.Text.{comma};
+ghost use Rattle.model.specs.Text.{show, second, name-on, kept-line, sum-line, refused-line, printed, pass-line};
+ghost use Rattle.model.specs.Text.{comma, record-name, item-on, row-numbers, row-fields, row-line, count-line};
 ghost use Rattle.names.specs.Table.{Table};
 ghost use Rattle.rows.specs.Rows.{row};
 ghost use Rattle.printing.specs.Printed.{Bytes-put, Text-begins, Starts, Same-from, Lies-in, Line-span, Number-named, Row-told};
@@ -240,6 +240,18 @@ fn count_line(word: &[u8], n: usize, text: &mut [u8]) -> usize
     put(text, at, b"\n")
 }
 
+// Writes the line after a list of the sweep; its length.
+fn pass_line(kept: u32, passes: u32, text: &mut [u8]) -> usize
+    requires { ⌜ 128 ≤ length (now text) ⌝ }
+    ensures { λ n. ⌜ Text-begins (pass-line kept passes) (now (text .exit)) n ⌝ }
+{
+    let mut at = put(text, 0, b"pass,");
+    at = put_number(text, at, kept);
+    at = put(text, at, b",");
+    at = put_number(text, at, passes);
+    put(text, at, b"\n")
+}
+
 // Finds a line of the printed lists, by its place from 0, from the counts of the lists: each has a line more, its sum.
 fn find_line(kept: [u32; 16], j: usize) -> Line
     requires { ⌜ j < sum kept + length kept ⌝ }
@@ -364,6 +376,85 @@ pub fn print(file: &[u8], a: Answer, out: &[u32], starts: &mut [u32], text: &mut
         j += 1;
     }
     true
+}
+
+// Prints the lines of some kept records, so many words of the result slice from a place on; whether each was written.
+fn print_kept(
+    file: &[u8],
+    starts: &[u32],
+    many: usize,
+    out: &[u32],
+    from: usize,
+    count: usize,
+    text: &mut [u8],
+) -> bool
+    requires { ⌜ Starts (now file) (now starts) many × (from + count ≤ length (now out))
+        × (length (now file) + 128 ≤ length (now text)) ⌝ }
+{
+    let mut i: usize = 0;
+    while i < count {
+        let n = kept_line(file, starts, many, out[from + i], text);
+        if !io::write_all(STDOUT_FILENO, &text[..n]) {
+            return false;
+        }
+        i += 1;
+    }
+    true
+}
+
+// Prints the line after a list of the sweep; whether it was written.
+fn print_pass(kept: u32, passes: u32) -> bool {
+    let mut text = [0u8; 128];
+    let n = pass_line(kept, passes, &mut text);
+    io::write_all(STDOUT_FILENO, &text[..n])
+}
+
+// Prints the lists of the sweep by their counts; whether each line was written. A position that was asked has a pass.
+fn print_passes(
+    file: &[u8],
+    kept: [u32; 16],
+    passes: [u32; 16],
+    out: &[u32],
+    starts: &mut [u32],
+    text: &mut [u8],
+) -> bool
+    requires { ⌜ (length (now file) ≤ length (now starts)) × (length (now file) < 4294967296)
+        × (length (now file) + 128 ≤ length (now text)) × (sum kept ≤ length (now out)) ⌝ }
+{
+    let many = line_starts(file, starts);
+    let mut from: usize = 0;
+    let mut p: usize = 0;
+    while p < model::MOST_ASKS {
+        if passes[p] == 0 {
+            return true;
+        }
+        let count = kept[p] as usize;
+        if !print_kept(file, starts, many, out, from, count, text) {
+            return false;
+        }
+        if !print_pass(kept[p], passes[p]) {
+            return false;
+        }
+        from += count;
+        p += 1;
+    }
+    true
+}
+
+// Prints what the call of the sweep comes to, line by line; whether each line was written.
+pub fn print_sweep(file: &[u8], a: Swept, out: &[u32], starts: &mut [u32], text: &mut [u8]) -> bool
+    requires { ⌜ (length (now file) ≤ length (now starts)) × (length (now file) < 4294967296)
+        × (length (now file) + 128 ≤ length (now text)) × (sum (a .kept) ≤ length (now out)) ⌝ }
+{
+    let v = a.verdict;
+    match v {
+        Verdict::Accepted => {
+            let kept = a.kept;
+            let passes = a.passes;
+            print_passes(file, kept, passes, out, starts, text)
+        }
+        Verdict::Refused(r) => print_refusal(r, a.place),
+    }
 }
 
 // The name of a number, in its place in the file; an empty part where the table has no such number.

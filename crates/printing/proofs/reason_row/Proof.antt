@@ -1,7 +1,6 @@
 -- `printing::reason_row` meets its contract.
 use Rattle.printing.proofs.Lines.{row-told}
 use borrow.Author.Needs.{needs}
-use native.Mathlib.Omega.{arith}
 use Rattle.printing.proofs.reason_row.Statement.{statement}
 use Rattle.printing.proofs.reason_row.Tie as tie
 

@@ -1,5 +1,4 @@
 -- `printing::record_name` meets its contract.
-use Prim.Native.Nat.{_+_}
 use mathlib.Core.Path.{refl, sym, _∙_}
 use Rattle.model.specs.Names.{bytes}
 use Rattle.text.proofs.Laws.{mark-from, mark-to}
