@@ -13,13 +13,13 @@ use borrow.Author.Tests.{leb-true, leb-false}
 use Rattle.model.specs.Lists.{part}
 use Rattle.model.specs.Lines.{lines, Field, fields, field-cons}
 use Rattle.model.specs.Names.{bytes, same}
-use Rattle.model.specs.Text.{first-bytes, second, name-on, line-bytes, record-name, item-on, row-line}
+use Rattle.model.specs.Text.{first-bytes, second, name-on, line-bytes, record-name, item-on, row-line, late-line}
 use Rattle.model.proofs.PartLaws.{part-cons, part-drop, part-length, part-nil, part-take}
 use Rattle.text.specs.Parts.{before, mark-at}
 use Rattle.text.proofs.Laws.{mark-from, mark-to, line-ended, line-last, line-none}
 use Rattle.model.specs.declared.Row.{Row}
 use Rattle.names.specs.Table.{name-start, name-length, name-of, Table}
-use Rattle.printing.specs.Printed.{Text-begins, Starts, Line-span, Number-named, Row-told}
+use Rattle.printing.specs.Printed.{Text-begins, Starts, Line-span, Number-named, table-line, Row-told}
 use Rattle.printing.specs.declared.Span.{Span}
 
 -- ---- where lines start
@@ -237,9 +237,22 @@ named-short file names named n name t h e =
     rw e (part-short file (name-start names n) (name-start names n + name-length names n) (t .inside n h))
 
 -- the line of a row, its name found
-pub row-told : (file names : List ℕ) (named : ℕ) (r q : Row) (name text : List ℕ) (n : ℕ) → r ≡ q
-    → Number-named file names named (r .number) name → Text-begins (row-line file name r) text n → Row-told file names named q text n
-row-told file names named r q name text n e found b =
-    let told : Row-told file names named r text n =
+pub row-told : (file names : List ℕ) (named : ℕ) (r q : Row) (reasons : Bool) (name text : List ℕ) (n : ℕ) → r ≡ q
+    → Number-named file names named (r .number) name → Text-begins (table-line reasons file name r) text n
+    → Row-told file names named q reasons text n
+row-told file names named r q reasons name text n e found b =
+    let told : Row-told file names named r reasons text n =
     record { begins = λ h. rw (found .is-name h) at b; inside = b .inside } in
     rw e at told
+
+-- a line of reasons
+pub reasons-line : (file name text : List ℕ) (r : Row) (n : ℕ) (reasons : Bool) → reasons ≡ true
+    → Text-begins (row-line file name r) text n → Text-begins (table-line reasons file name r) text n
+unfolding table-line
+reasons-line file name text r n reasons e b = rw e b
+
+-- a line of the check
+pub check-line : (file name text : List ℕ) (r : Row) (n : ℕ) (reasons : Bool) → reasons ≡ false
+    → Text-begins (late-line file name r) text n → Text-begins (table-line reasons file name r) text n
+unfolding table-line
+check-line file name text r n reasons e b = rw e b

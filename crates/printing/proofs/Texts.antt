@@ -14,7 +14,7 @@ use Rattle.io.specs.Digits as io
 use Rattle.model.specs.Names.{bytes}
 use Rattle.model.specs.Outcome.{refusal-number}
 use Rattle.model.specs.Text.{digits, show, comma, name-on, line, kept-line, sum-line, refused-line}
-use Rattle.model.specs.Text.{pass-line, item-on, row-numbers, row-fields, row-line, count-line}
+use Rattle.model.specs.Text.{pass-line, item-on, row-numbers, row-fields, row-line, late-line, count-line}
 use Rattle.model.specs.declared.Refusal.{Refusal}
 use Rattle.model.specs.declared.Row.{Row}
 use Rattle.printing.specs.Printed.{Bytes-put, Text-begins, reason, has-line, reason-line}
@@ -190,6 +190,11 @@ reason-row-parts file name r item q =
     one-more (comma (bytes "row" ∷ rest)) item
     ∙ ap (λ l. (comma (bytes "row" ∷ rest) ++ 0x2c ∷ l) ++ (0x0a ∷ [])) q
     ∙ ap (_++ (0x0a ∷ [])) (sym (comma-more (bytes "row") rest (item-on file (r .cause)) []))
+
+-- those of the line of a row of the check
+pub late-row-parts : (file name : List ℕ) (r : Row) → comma (row-fields file name r) ++ bytes "\n" ≡ late-line file name r
+unfolding late-line line bytes
+late-row-parts file name r = refl
 
 -- those of the line of a count
 pub count-parts : (word : List ℕ) (n : ℕ) → ((word ++ bytes ",") ++ show n) ++ bytes "\n" ≡ count-line word n

@@ -5,10 +5,10 @@ use mathlib.Core.Bool.{Bool, true, false, cond}
 use mathlib.Core.List.{List, [], _∷_, _++_}
 use lib.ListN.{length, take, drop, getD}
 use denote.Ref.{RefT}
-use Rattle.model.specs.Names.{bytes}
+use Rattle.model.specs.Names.{Name, bytes}
 use Rattle.model.specs.Lists.{part}
 use Rattle.model.specs.Lines.{lines}
-use Rattle.model.specs.Text.{show, line-bytes, row-line}
+use Rattle.model.specs.Text.{show, line-bytes, row-line, late-line}
 use Rattle.model.specs.declared.Refusal.{Refusal}
 use Rattle.model.specs.declared.Row.{Row}
 use Rattle.model.specs.declared.Refusal.the-variants as refusal
@@ -54,9 +54,13 @@ pub record Number-named (file names : List ℕ) (named number : ℕ) (name : Lis
   pub short : length name ≤ length file
   pub is-name : number < named → name ≡ name-of file names number
 
--- a text begins with the line of a row of reasons, where the table has its number
-pub record Row-told (file names : List ℕ) (named : ℕ) (r : Row) (text : List ℕ) (n : ℕ) : Type 0 where
-  pub begins : r .number < named → Text-begins (row-line file (name-of file names (r .number)) r) text n
+-- the line of a row of reasons, or of the check
+unfoldable pub table-line : Bool → List ℕ → Name → Row → List ℕ
+table-line reasons file name r = cond reasons (row-line file name r) (late-line file name r)
+
+-- a text begins with the line of a row, where the table has its number
+pub record Row-told (file names : List ℕ) (named : ℕ) (r : Row) (reasons : Bool) (text : List ℕ) (n : ℕ) : Type 0 where
+  pub begins : r .number < named → Text-begins (table-line reasons file (name-of file names (r .number)) r) text n
   pub inside : n ≤ length text
 
 -- why a refusal is given

@@ -1,5 +1,5 @@
 // The printed form of an answer: document 01's lines, one at a time into a lent slice, and all to standard output; the same of the
-// rows of reasons and of the sweep. A refusal in words.
+// lists of the sweep and of the rows of reasons and of the check. A refusal in words.
 use libc::STDOUT_FILENO;
 use model::Answer;
 use model::Refusal;
@@ -14,7 +14,7 @@ ghost use Rattle.model.specs.Lists.{part, sum};
 ghost use Rattle.model.specs.Lines.{fields};
 ghost use Rattle.model.specs.Outcome.{Outcome};
 ghost use Rattle.model.specs.Text.{show, second, name-on, kept-line, sum-line, refused-line, printed, pass-line};
-ghost use Rattle.model.specs.Text.{comma, record-name, item-on, row-numbers, row-fields, row-line, count-line};
+ghost use Rattle.model.specs.Text.{comma, record-name, item-on, row-numbers, row-fields, row-line, late-line, count-line};
 ghost use Rattle.names.specs.Table.{Table};
 ghost use Rattle.rows.specs.Rows.{row};
 ghost use Rattle.printing.specs.Printed.{Bytes-put, Text-begins, Starts, Same-from, Lies-in, Line-span, Number-named, Row-told};
@@ -226,6 +226,23 @@ fn row_line(file: &[u8], starts: &[u32], many: usize, r: Row, name: &[u8], text:
     let mut at = put_row(file, starts, many, r, name, text);
     at = put(text, at, b",");
     at = put(text, at, item);
+    put(text, at, b"\n")
+}
+
+// Writes the line of a row of the check, the name of its number handed in; its length.
+fn late_line(
+    file: &[u8],
+    starts: &[u32],
+    many: usize,
+    r: Row,
+    name: &[u8],
+    text: &mut [u8],
+) -> usize
+    requires { ⌜ Starts (now file) (now starts) many × (length (now name) ≤ length (now file))
+        × (3 * length (now file) + 128 ≤ length (now text)) ⌝ }
+    ensures { λ n. ⌜ Text-begins (late-line (now (file .entry)) (now (name .entry)) r) (now (text .exit)) n ⌝ }
+{
+    let at = put_row(file, starts, many, r, name, text);
     put(text, at, b"\n")
 }
 
@@ -469,8 +486,8 @@ fn name_of<'a>(file: &'a [u8], names: &[u32], named: usize, number: u32) -> &'a 
     names::name_part(file, names, named, n)
 }
 
-// Writes the line of a row of reasons that stands in two words, by its place from 0; its length.
-fn reason_row(
+// Writes the line of a row that stands in two words, by its place from 0, one of reasons or of the check; its length.
+fn table_line(
     file: &[u8],
     starts: &[u32],
     many: usize,
@@ -478,25 +495,31 @@ fn reason_row(
     named: usize,
     rows: &[u32],
     i: usize,
+    reasons: bool,
     text: &mut [u8],
 ) -> usize
     requires { ⌜ Starts (now file) (now starts) many × Table (now file) (now names) named × (2 * i + 1 < length (now rows))
         × (3 * length (now file) + 128 ≤ length (now text)) ⌝ }
     ensures { λ n. ⌜ Row-told (now (file .entry)) (now (names .entry)) named
-        (row (getD (now (rows .entry)) (2 * i) 0) (getD (now (rows .entry)) (2 * i + 1) 0)) (now (text .exit)) n ⌝ }
+        (row (getD (now (rows .entry)) (2 * i) 0) (getD (now (rows .entry)) (2 * i + 1) 0)) reasons (now (text .exit)) n ⌝ }
 {
     let r = rows::row_at(rows, i);
     let name = name_of(file, names, named, r.number);
-    row_line(file, starts, many, r, name, text)
+    if reasons {
+        return row_line(file, starts, many, r, name, text);
+    }
+    late_line(file, starts, many, r, name, text)
 }
 
-// Prints rows of reasons that stand in words, with the names of their numbers, line by line; whether each line was written.
-pub fn print_reasons(
+// Prints rows that stand in words, of reasons or of the check, with the names of their numbers, line by line; whether each line
+// was written.
+pub fn print_rows(
     file: &[u8],
     names: &[u32],
     named: usize,
     rows: &[u32],
     count: usize,
+    reasons: bool,
     starts: &mut [u32],
     text: &mut [u8],
 ) -> bool
@@ -506,7 +529,7 @@ pub fn print_reasons(
     let many = line_starts(file, starts);
     let mut i: usize = 0;
     while i < count {
-        let n = reason_row(file, starts, many, names, named, rows, i, text);
+        let n = table_line(file, starts, many, names, named, rows, i, reasons, text);
         if !io::write_all(STDOUT_FILENO, &text[..n]) {
             return false;
         }

@@ -1,18 +1,18 @@
--- `printing::print_reasons` is safe and ends. The loop's invariant: the text has its length.
+-- `printing::print_rows` is safe and ends. The loop's invariant: the text has its length.
 use Prim.Native.Nat.{_-_}
 use mathlib.Core.Path.{_≡_, refl}
 use lib.ListN.{length}
 use Rattle.printing.proofs.Texts.{counted}
 use borrow.Author.Needs.{needs}
 use native.Mathlib.Omega.{arith}
-use Rattle.printing.proofs.print_reasons.Statement.{statement}
-use Rattle.printing.proofs.print_reasons.Tie as tie
+use Rattle.printing.proofs.print_rows.Statement.{statement}
+use Rattle.printing.proofs.print_rows.Tie as tie
 
 abbrev Inv-loop : tie.InvT-loop
-Inv-loop file names named rows count starts text₀ many i₀ text i = length text ≡ length text₀
+Inv-loop file names named rows count reasons starts text₀ many i₀ text i = length text ≡ length text₀
 
 abbrev μ-loop : tie.MeasureT-loop
-μ-loop file names named rows count starts text₀ many i₀ text i = count - i
+μ-loop file names named rows count reasons starts text₀ many i₀ text i = count - i
 
 line-starts-requires : tie.Need-line-starts-requires Inv-loop μ-loop
 line-starts-requires c κs = (c .before .before .before .before .before .before .pre .2, omega (arith, c .before .before .before .before .before .before .pre .0 .short))
@@ -20,15 +20,15 @@ line-starts-requires c κs = (c .before .before .before .before .before .before 
 loop-holds : tie.Need-loop-holds Inv-loop μ-loop
 loop-holds c = refl
 
-reason-row-requires : tie.Need-reason-row-requires Inv-loop μ-loop
-reason-row-requires c κs =
+table-line-requires : tie.Need-table-line-requires Inv-loop μ-loop
+table-line-requires c κs =
     (c .before .before .before .before .before .before .line-starts .ensures .0, c .before .before .before .before .before .before .before .before .before .before .before .before .before .pre .0, omega (arith, c .before .before .before .before .before .before .before .before .before .before .before .before .before .pre .1), omega (arith, c .before .before .before .before .before .before .before .before .before .before .before .before .before .pre .3, c .before .before .before .loop .inv))
 
 slice-reshare-prefix-write-all : tie.Need-slice-reshare-prefix-write-all Inv-loop μ-loop
-slice-reshare-prefix-write-all c = c .before .before .reason-row .ensures .inside
+slice-reshare-prefix-write-all c = c .before .before .table-line .ensures .inside
 
 slice-aggregate-write-all : tie.Need-slice-aggregate-write-all Inv-loop μ-loop
-slice-aggregate-write-all c = counted _ _ (c .before .before .before .reason-row .ensures .inside)
+slice-aggregate-write-all c = counted _ _ (c .before .before .before .table-line .ensures .inside)
 
 write-all-requires : tie.Need-write-all-requires Inv-loop μ-loop
 write-all-requires c κs = tt
@@ -60,15 +60,15 @@ same-length-4 c = search needs
 returns-2 : tie.Need-returns-2 Inv-loop μ-loop
 returns-2 c = tt
 
-pub print-reasons-spec : {M : Type 1} → statement M
-print-reasons-spec =
+pub print-rows-spec : {M : Type 1} → statement M
+print-rows-spec =
     tie.close
     (tie.spec
     Inv-loop
     μ-loop
     line-starts-requires
     loop-holds
-    reason-row-requires
+    table-line-requires
     slice-reshare-prefix-write-all
     slice-aggregate-write-all
     write-all-requires
