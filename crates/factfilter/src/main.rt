@@ -2,6 +2,8 @@
 // word, document 02's further calls; or the refusal. A refusal is said in words on standard error too.
 mod errors;
 mod list;
+mod order;
+mod swept;
 mod why;
 
 use libc::STDERR_FILENO;
@@ -12,10 +14,17 @@ ghost use Prim.Native.Nat.{_≤_};
 ghost use lib.ListN.{length};
 ghost use Rattle.factfilter.specs.Input.{bytes-read};
 
-// What the words after the program's name ask for: the lists, the reasons at a position; or they ask for nothing that there is.
-enum Command {
+// A call: the lists, the reasons at a position, the lists by the second engine, or the check of definitions.
+enum Call {
     List,
     Why(usize),
+    Sweep,
+    Order,
+}
+
+// What the words after the program's name ask for: a call; or there is none, for want of a position or as no word says it.
+enum Command {
+    Call(Call),
     NoPosition,
     Unknown,
 }
@@ -54,7 +63,7 @@ fn position_of(word: &[u8]) -> Command
         end: word.len(),
     };
     match c.number(word, text::MOST_NUMBER) {
-        NumberStep::Number(n, _) => Command::Why(n as usize),
+        NumberStep::Number(n, _) => Command::Call(Call::Why(n as usize)),
         NumberStep::Refused(_) => Command::NoPosition,
     }
 }
@@ -79,7 +88,13 @@ fn ask_word(word: &[u8], count: usize) -> Command {
         return Command::Unknown;
     }
     if text::same_text(word, 0, end, b"list") {
-        return Command::List;
+        return Command::Call(Call::List);
+    }
+    if text::same_text(word, 0, end, b"sweep") {
+        return Command::Call(Call::Sweep);
+    }
+    if text::same_text(word, 0, end, b"order") {
+        return Command::Call(Call::Order);
     }
     Command::Unknown
 }
@@ -88,20 +103,39 @@ fn ask_word(word: &[u8], count: usize) -> Command {
 fn read_command() -> Command {
     let count = os::arg_count();
     if count < 2 {
-        return Command::List;
+        return Command::Call(Call::List);
     }
     let mut word = [0u8; 64];
     let n = os::arg(1, &mut word);
     ask_word(&word[..n], count)
 }
 
-// Does what is asked for with the file on standard input.
-fn answer(file: &[u8], c: Command)
+// Makes a call of a file and prints what it comes to.
+fn run(file: &[u8], c: Call)
     requires { ⌜ length (now file) ≤ 65536 ⌝ }
 {
     match c {
-        Command::List => list::run(file),
-        Command::Why(position) => why::run(file, position),
+        Call::List => list::run(file),
+        Call::Why(position) => why::run(file, position),
+        Call::Sweep => swept::run(file),
+        Call::Order => order::run(file),
+    }
+}
+
+// Makes a call of the file on standard input.
+fn answer(c: Call) {
+    let mut buffer = io::large_buffer();
+    match read_input(&mut buffer) {
+        Input::Bytes(n) => run(&buffer[..n], c),
+        Input::Failed => {
+            io::write_all(STDERR_FILENO, b"standard input cannot be read\n");
+        }
+    }
+}
+
+fn main() {
+    match read_command() {
+        Command::Call(c) => answer(c),
         Command::NoPosition => {
             io::write_all(
                 STDERR_FILENO,
@@ -111,19 +145,8 @@ fn answer(file: &[u8], c: Command)
         Command::Unknown => {
             io::write_all(
                 STDERR_FILENO,
-                b"there is no such word: none, list, or why POSITION\n",
+                b"there is no such word; there are list, why POSITION, sweep and order\n",
             );
-        }
-    }
-}
-
-fn main() {
-    let c = read_command();
-    let mut buffer = io::large_buffer();
-    match read_input(&mut buffer) {
-        Input::Bytes(n) => answer(&buffer[..n], c),
-        Input::Failed => {
-            io::write_all(STDERR_FILENO, b"standard input cannot be read\n");
         }
     }
 }

@@ -1,14 +1,11 @@
--- `factfilter::main` is safe and ends.
+-- `factfilter::answer` is safe and ends.
 use lib.ListN.{length-take}
 use Rattle.printing.proofs.Texts.{counted}
 use Rattle.factfilter.proofs.Laws.{read-within}
 use borrow.Author.Needs.{needs}
 use native.Mathlib.Omega.{arith}
-use Rattle.factfilter.proofs.main.Statement.{statement}
-use Rattle.factfilter.proofs.main.Tie as tie
-
-read-command-requires : tie.Need-read-command-requires
-read-command-requires c κs = search needs
+use Rattle.factfilter.proofs.answer.Statement.{statement}
+use Rattle.factfilter.proofs.answer.Tie as tie
 
 large-buffer-requires : tie.Need-large-buffer-requires
 large-buffer-requires c κs = search needs
@@ -25,11 +22,11 @@ enum-known-n c = search needs
 array-share-prefix-buffer : tie.Need-array-share-prefix-buffer
 array-share-prefix-buffer c = read-within _ _ _ (c .before .n .given .1) (c .before .before .before .before .read-input .ensures)
 
-slice-aggregate-answer : tie.Need-slice-aggregate-answer
-slice-aggregate-answer c = counted _ _ (read-within _ _ _ (c .before .before .n .given .1) (c .before .before .before .before .before .read-input .ensures))
+slice-aggregate-run : tie.Need-slice-aggregate-run
+slice-aggregate-run c = counted _ _ (read-within _ _ _ (c .before .before .n .given .1) (c .before .before .before .before .before .read-input .ensures))
 
-answer-requires : tie.Need-answer-requires
-answer-requires c κs =
+run-requires : tie.Need-run-requires
+run-requires c κs =
     let within = read-within _ _ _ (c .before .before .n .given .1) (c .before .before .before .before .before .read-input .ensures) in
     simp length-take (omega arith)
 
@@ -48,18 +45,17 @@ returns c = search needs
 returns-2 : tie.Need-returns-2
 returns-2 c = search needs
 
-pub main-spec : {M : Type 1} → statement M
-main-spec =
+pub answer-spec : {M : Type 1} → statement M
+answer-spec =
     tie.close
     (tie.spec
-    read-command-requires
     large-buffer-requires
     slice-aggregate-read-input
     read-input-requires
     enum-known-n
     array-share-prefix-buffer
-    slice-aggregate-answer
-    answer-requires
+    slice-aggregate-run
+    run-requires
     enum-told
     slice-aggregate-write-all
     write-all-requires
