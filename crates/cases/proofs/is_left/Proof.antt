@@ -1,10 +1,10 @@
--- `test_cases::is_left` is safe and ends. The loop's invariant: the place is in the slice.
+-- `cases::is_left` is safe and ends. The loop's invariant: the place is in the slice.
 use Prim.Native.Nat.{_-_, _≤_}
 use lib.ListN.{length}
 use borrow.Author.Needs.{needs}
 use native.Mathlib.Omega.{arith}
-use Rattle.test_cases.proofs.is_left.Statement.{statement}
-use Rattle.test_cases.proofs.is_left.Tie as tie
+use Rattle.cases.proofs.is_left.Statement.{statement}
+use Rattle.cases.proofs.is_left.Tie as tie
 
 abbrev Inv-loop : tie.InvT-loop
 Inv-loop w slice zeros i₀ i = i ≤ length w

@@ -1,10 +1,10 @@
--- `test_cases::is_left_from` is safe and ends.
+-- `cases::is_left_from` is safe and ends.
 use Prim.Native.Nat.{_-_}
 use lib.ListN.{length}
 use borrow.Author.Needs.{needs}
 use native.Mathlib.Omega.{arith}
-use Rattle.test_cases.proofs.is_left_from.Statement.{statement}
-use Rattle.test_cases.proofs.is_left_from.Tie as tie
+use Rattle.cases.proofs.is_left_from.Statement.{statement}
+use Rattle.cases.proofs.is_left_from.Tie as tie
 
 abbrev Inv-loop : tie.InvT-loop
 Inv-loop w slice from i₀ i = Unit {0}

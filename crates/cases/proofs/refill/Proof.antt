@@ -1,11 +1,11 @@
--- `test_cases::refill` meets its contract. The loop's invariant: the window has its length.
+-- `cases::refill` meets its contract. The loop's invariant: the window has its length.
 use Prim.Native.Nat.{_-_}
 use mathlib.Core.Path.{_≡_, refl, _∙_}
 use lib.ListN.{length, length-set, length-take, length-drop}
 use borrow.Author.Needs.{needs}
 use native.Mathlib.Omega.{arith}
-use Rattle.test_cases.proofs.refill.Statement.{statement}
-use Rattle.test_cases.proofs.refill.Tie as tie
+use Rattle.cases.proofs.refill.Statement.{statement}
+use Rattle.cases.proofs.refill.Tie as tie
 
 abbrev Inv-loop : tie.InvT-loop
 Inv-loop window₀ from to kept i₀ window i = length window ≡ length window₀

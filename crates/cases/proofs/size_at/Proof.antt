@@ -1,9 +1,9 @@
--- `test_cases::size_at` meets its contract. The loop's invariant: the number is at most the largest.
+-- `cases::size_at` meets its contract. The loop's invariant: the number is at most the largest.
 use Prim.Native.Nat.{_-_, _≤_}
 use lib.ListN.{length}
 use native.Mathlib.Omega.{arith}
-use Rattle.test_cases.proofs.size_at.Statement.{statement}
-use Rattle.test_cases.proofs.size_at.Tie as tie
+use Rattle.cases.proofs.size_at.Statement.{statement}
+use Rattle.cases.proofs.size_at.Tie as tie
 
 abbrev Inv-loop : tie.InvT-loop
 Inv-loop head at most n₀ i₀ n i = n ≤ most

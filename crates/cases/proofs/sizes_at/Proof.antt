@@ -1,9 +1,9 @@
--- `test_cases::sizes_at` meets its contract.
+-- `cases::sizes_at` meets its contract.
 use mathlib.Core.Path.{refl}
-use Rattle.test_cases.proofs.Laws.{words-within}
+use Rattle.cases.proofs.Laws.{words-within}
 use borrow.Author.Needs.{needs}
-use Rattle.test_cases.proofs.sizes_at.Statement.{statement}
-use Rattle.test_cases.proofs.sizes_at.Tie as tie
+use Rattle.cases.proofs.sizes_at.Statement.{statement}
+use Rattle.cases.proofs.sizes_at.Tie as tie
 
 size-at-requires : tie.Need-size-at-requires
 size-at-requires c κs = search needs
@@ -101,37 +101,33 @@ enum-told-8 c = search needs
 returns-8 : tie.Need-returns-8
 returns-8 c = search needs
 
+size-at-requires-9 : tie.Need-size-at-requires-9
+size-at-requires-9 c κs = search needs
+
+enum-known-position : tie.Need-enum-known-position
+enum-known-position c = search needs
+
+enum-told-9 : tie.Need-enum-told-9
+enum-told-9 c = search needs
+
 returns-9 : tie.Need-returns-9
-returns-9 c =
-    let at-room = c .before in
-    let at-size-at8 = at-room .before .before in
-    let at-n5 = at-size-at8 .before .before in
-    let at-size-at7 = at-n5 .before .before in
-    let at-n4 = at-size-at7 .before .before in
-    let at-size-at6 = at-n4 .before .before in
-    let at-n3 = at-size-at6 .before .before in
-    let at-size-at5 = at-n3 .before .before in
-    let at-n2 = at-size-at5 .before .before in
-    let at-size-at4 = at-n2 .before .before in
-    let at-n1 = at-size-at4 .before .before in
-    let at-size-at3 = at-n1 .before .before in
-    let at-n0 = at-size-at3 .before .before in
-    let at-size-at2 = at-n0 .before .before in
-    let at-length = at-size-at2 .before .before in
-    let at-size-at = at-length .before .before in (
-      refl,
-      refl,
-      record {
-        file = words-within _ _ _ _ (at-length .length .given .1) (at-size-at .size-at .ensures);
-        work-0 = words-within _ _ _ _ (at-n0 .n0 .given .1) (at-size-at2 .size-at2 .ensures);
-        work-1 = words-within _ _ _ _ (at-n1 .n1 .given .1) (at-size-at3 .size-at3 .ensures);
-        work-2 = words-within _ _ _ _ (at-n2 .n2 .given .1) (at-size-at4 .size-at4 .ensures);
-        work-3 = words-within _ _ _ _ (at-n3 .n3 .given .1) (at-size-at5 .size-at5 .ensures);
-        work-4 = words-within _ _ _ _ (at-n4 .n4 .given .1) (at-size-at6 .size-at6 .ensures);
-        work-5 = words-within _ _ _ _ (at-n5 .n5 .given .1) (at-size-at7 .size-at7 .ensures);
-        result = words-within _ _ _ _ (at-room .room .given .1) (at-size-at8 .size-at8 .ensures);
-      },
-    )
+returns-9 c = search needs
+
+returns-10 : tie.Need-returns-10
+returns-10 c = (
+  refl,
+  refl,
+  record {
+    file = words-within _ _ _ _ (c .before .before .before .before .before .before .before .before .before .before .before .before .before .before .before .before .before .before .before .before .before .before .before .before .before .before .before .before .before .before .before .before .before .length .given .1) (c .before .before .before .before .before .before .before .before .before .before .before .before .before .before .before .before .before .before .before .before .before .before .before .before .before .before .before .before .before .before .before .before .before .before .before .size-at .ensures);
+    work-0 = words-within _ _ _ _ (c .before .before .before .before .before .before .before .before .before .before .before .before .before .before .before .before .before .before .before .before .before .before .before .before .before .before .before .before .before .n0 .given .1) (c .before .before .before .before .before .before .before .before .before .before .before .before .before .before .before .before .before .before .before .before .before .before .before .before .before .before .before .before .before .before .before .size-at2 .ensures);
+    work-1 = words-within _ _ _ _ (c .before .before .before .before .before .before .before .before .before .before .before .before .before .before .before .before .before .before .before .before .before .before .before .before .before .n1 .given .1) (c .before .before .before .before .before .before .before .before .before .before .before .before .before .before .before .before .before .before .before .before .before .before .before .before .before .before .before .size-at3 .ensures);
+    work-2 = words-within _ _ _ _ (c .before .before .before .before .before .before .before .before .before .before .before .before .before .before .before .before .before .before .before .before .before .n2 .given .1) (c .before .before .before .before .before .before .before .before .before .before .before .before .before .before .before .before .before .before .before .before .before .before .before .size-at4 .ensures);
+    work-3 = words-within _ _ _ _ (c .before .before .before .before .before .before .before .before .before .before .before .before .before .before .before .before .before .n3 .given .1) (c .before .before .before .before .before .before .before .before .before .before .before .before .before .before .before .before .before .before .before .size-at5 .ensures);
+    work-4 = words-within _ _ _ _ (c .before .before .before .before .before .before .before .before .before .before .before .before .before .n4 .given .1) (c .before .before .before .before .before .before .before .before .before .before .before .before .before .before .before .size-at6 .ensures);
+    work-5 = words-within _ _ _ _ (c .before .before .before .before .before .before .before .before .before .n5 .given .1) (c .before .before .before .before .before .before .before .before .before .before .before .size-at7 .ensures);
+    result = words-within _ _ _ _ (c .before .before .before .before .before .room .given .1) (c .before .before .before .before .before .before .before .size-at8 .ensures);
+  },
+)
 
 pub sizes-at-spec : {M : Type 1} → statement M
 sizes-at-spec =
@@ -169,4 +165,8 @@ sizes-at-spec =
     enum-known-room
     enum-told-8
     returns-8
-    returns-9)
+    size-at-requires-9
+    enum-known-position
+    enum-told-9
+    returns-9
+    returns-10)

@@ -1,11 +1,11 @@
--- `test_cases::soil` is safe and ends. The loop's invariant: the slice has its length.
+-- `cases::soil` is safe and ends. The loop's invariant: the slice has its length.
 use Prim.Native.Nat.{_-_}
 use mathlib.Core.Path.{_≡_, refl}
 use lib.ListN.{length, length-set}
 use borrow.Author.Needs.{needs}
 use native.Mathlib.Omega.{arith}
-use Rattle.test_cases.proofs.soil.Statement.{statement}
-use Rattle.test_cases.proofs.soil.Tie as tie
+use Rattle.cases.proofs.soil.Statement.{statement}
+use Rattle.cases.proofs.soil.Tie as tie
 
 abbrev Inv-loop : tie.InvT-loop
 Inv-loop w₀ slice i₀ w i = length w ≡ length w₀

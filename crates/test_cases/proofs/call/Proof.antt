@@ -9,7 +9,7 @@ slice-relend-prefix-filter : tie.Need-slice-relend-prefix-filter
 slice-relend-prefix-filter c = search needs
 
 slice-aggregate-filter : tie.Need-slice-aggregate-filter
-slice-aggregate-filter c = counted _ _ (c .before .before .before .before .before .before .before .before .before .pre .lent-0)
+slice-aggregate-filter c = counted _ _ (c .before .before .before .before .before .before .before .before .before .pre .0 .lent-0)
 
 slice-relend-prefix-filter-2 : tie.Need-slice-relend-prefix-filter-2
 slice-relend-prefix-filter-2 c = search needs
@@ -17,7 +17,7 @@ slice-relend-prefix-filter-2 c = search needs
 slice-aggregate-filter-2 : tie.Need-slice-aggregate-filter-2
 slice-aggregate-filter-2 c =
     let at-entry = c .before .before .before .before .before .before .before .before .before .before in
-    counted _ _ (at-entry .pre .lent-1)
+    counted _ _ (at-entry .pre .0 .lent-1)
 
 slice-relend-prefix-filter-3 : tie.Need-slice-relend-prefix-filter-3
 slice-relend-prefix-filter-3 c = search needs
@@ -25,7 +25,7 @@ slice-relend-prefix-filter-3 c = search needs
 slice-aggregate-filter-3 : tie.Need-slice-aggregate-filter-3
 slice-aggregate-filter-3 c =
     let at-entry = c .before .before .before .before .before .before .before .before .before .before .before in
-    counted _ _ (at-entry .pre .lent-2)
+    counted _ _ (at-entry .pre .0 .lent-2)
 
 slice-relend-prefix-filter-4 : tie.Need-slice-relend-prefix-filter-4
 slice-relend-prefix-filter-4 c = search needs
@@ -33,7 +33,7 @@ slice-relend-prefix-filter-4 c = search needs
 slice-aggregate-filter-4 : tie.Need-slice-aggregate-filter-4
 slice-aggregate-filter-4 c =
     let at-entry = c .before .before .before .before .before .before .before .before .before .before .before .before in
-    counted _ _ (at-entry .pre .lent-3)
+    counted _ _ (at-entry .pre .0 .lent-3)
 
 slice-relend-prefix-filter-5 : tie.Need-slice-relend-prefix-filter-5
 slice-relend-prefix-filter-5 c = search needs
@@ -41,7 +41,7 @@ slice-relend-prefix-filter-5 c = search needs
 slice-aggregate-filter-5 : tie.Need-slice-aggregate-filter-5
 slice-aggregate-filter-5 c =
     let at-pre = c .before .before .before .before .before .before .before .before .before .before .before .before .before in
-    counted _ _ (at-pre .pre .lent-4)
+    counted _ _ (at-pre .pre .0 .lent-4)
 
 slice-relend-prefix-filter-6 : tie.Need-slice-relend-prefix-filter-6
 slice-relend-prefix-filter-6 c = search needs
@@ -50,7 +50,7 @@ slice-aggregate-filter-6 : tie.Need-slice-aggregate-filter-6
 slice-aggregate-filter-6 c =
     let at-slices = c .before .before .before .before .before .before .before in
     let at-pre = at-slices .before .before .before .before .before .before .before in
-    counted _ _ (at-pre .pre .lent-5)
+    counted _ _ (at-pre .pre .0 .lent-5)
 
 slice-relend-prefix-filter-7 : tie.Need-slice-relend-prefix-filter-7
 slice-relend-prefix-filter-7 c = search needs
@@ -59,7 +59,7 @@ slice-aggregate-filter-7 : tie.Need-slice-aggregate-filter-7
 slice-aggregate-filter-7 c =
     let at-slices = c .before .before .before .before .before .before .before in
     let at-pre = at-slices .before .before .before .before .before .before .before .before in
-    counted _ _ (at-pre .pre .lent-out)
+    counted _ _ (at-pre .pre .1)
 
 filter-requires : tie.Need-filter-requires
 filter-requires c κs = search needs

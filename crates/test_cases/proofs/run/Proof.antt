@@ -89,6 +89,15 @@ sum-counts-requires c κs =
     let (o, told) = at-call .call .ensures in
     omega (arith, told-room _ _ o told)
 
+zeros-after-requires : tie.Need-zeros-after-requires
+zeros-after-requires c κs = tt
+
+slice-aggregate-is-left-from : tie.Need-slice-aggregate-is-left-from
+slice-aggregate-is-left-from c = search needs
+
+is-left-from-requires : tie.Need-is-left-from-requires
+is-left-from-requires c κs = tt
+
 slice-aggregate-put-slices : tie.Need-slice-aggregate-put-slices
 slice-aggregate-put-slices c = search needs
 
@@ -106,9 +115,6 @@ slice-aggregate-put-slices-5 c = search needs
 
 slice-aggregate-put-slices-6 : tie.Need-slice-aggregate-put-slices-6
 slice-aggregate-put-slices-6 c = search needs
-
-slice-aggregate-put-slices-7 : tie.Need-slice-aggregate-put-slices-7
-slice-aggregate-put-slices-7 c = search needs
 
 put-slices-requires : tie.Need-put-slices-requires
 put-slices-requires c κs = tt
@@ -145,12 +151,14 @@ run-spec =
     slice-aggregate-print
     print-requires
     sum-counts-requires
+    zeros-after-requires
+    slice-aggregate-is-left-from
+    is-left-from-requires
     slice-aggregate-put-slices
     slice-aggregate-put-slices-2
     slice-aggregate-put-slices-3
     slice-aggregate-put-slices-4
     slice-aggregate-put-slices-5
     slice-aggregate-put-slices-6
-    slice-aggregate-put-slices-7
     put-slices-requires
     returns)

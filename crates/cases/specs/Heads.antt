@@ -1,13 +1,16 @@
 -- Head lines and the sizes that they give.
-use Prim.Native.Nat.{ℕ, _≤_}
+use Prim.Native.Nat.{ℕ, _+_, _≤_}
 use mathlib.Core.Path.{_≡_}
 use mathlib.Core.List.{List}
 use lib.ListN.{length}
-use Rattle.test_cases.specs.declared.Sizes.{Sizes}
-use Rattle.test_cases.specs.declared.Size.{Size}
-use Rattle.test_cases.specs.declared.Size.the-variants as size
-use Rattle.test_cases.specs.declared.Head.{Head}
-use Rattle.test_cases.specs.declared.Head.the-variants as head
+use Rattle.cases.specs.declared.Sizes.{Sizes}
+use Rattle.cases.specs.declared.Size.{Size}
+use Rattle.cases.specs.declared.Size.the-variants as size
+use Rattle.cases.specs.declared.Head.{Head}
+use Rattle.cases.specs.declared.Head.the-variants as head
+use Rattle.cases.specs.declared.Case.{Case}
+use Rattle.cases.specs.declared.Begun.{Begun}
+use Rattle.cases.specs.declared.Begun.the-variants as begun
 
 -- the longest file, working slice and result slice of a case
 abbrev pub most-file : ℕ
@@ -30,15 +33,14 @@ pub record Sized (s : Sizes) : Type 0 where
   pub work-5 : s .n5 ≤ most-work
   pub result : s .room ≤ most-room
 
--- slices that are long enough to lend these sizes of them
-pub record Lends (w0 w1 w2 w3 w4 w5 out : List ℕ) (s : Sizes) : Type 0 where
+-- working slices that are long enough to lend these sizes of them
+pub record Lends (w0 w1 w2 w3 w4 w5 : List ℕ) (s : Sizes) : Type 0 where
   pub lent-0 : s .n0 ≤ length w0
   pub lent-1 : s .n1 ≤ length w1
   pub lent-2 : s .n2 ≤ length w2
   pub lent-3 : s .n3 ≤ length w3
   pub lent-4 : s .n4 ≤ length w4
   pub lent-5 : s .n5 ≤ length w5
-  pub lent-out : s .room ≤ length out
 
 -- a number that is at most so large
 abbrev pub At-most : ℕ → Size → Type 0
@@ -54,3 +56,15 @@ Head-fits start end head.Bad = Unit {0}
 abbrev pub Name-placed : ℕ → Head → Type 0
 Name-placed room (head.Case a e s) = (a ≤ e) × (e ≤ room) × Sized s
 Name-placed room head.Bad = Unit {0}
+
+-- a case whose file lies in its window
+pub record Case-in (room : ℕ) (c : Case) : Type 0 where
+  pub ordered : c .start ≤ c .end
+  pub inside : c .end ≤ room
+  pub short : c .end ≤ c .start + most-file
+  pub sized : Sized (c .sizes)
+
+-- there is one, or none
+abbrev pub Case-placed : ℕ → Begun → Type 0
+Case-placed room (begun.At c) = Case-in room c
+Case-placed room begun.Nothing = Unit {0}
