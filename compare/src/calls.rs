@@ -99,11 +99,9 @@ pub fn edges() -> Vec<Edge> {
         add("works-none", 7, good.clone().with_works([0; 6]));
         add("works-uneven", 0, good.clone().with_works(uneven));
         add("works-uneven-refused", 3, of(b"ask,0,16\n").with_works(uneven));
-        add("works-7-before-9", 7, of(&[b'x'; limits::BYTES + 1]).with_works(short));
         add("works-7-before-1", 7, of(b"").with_works(short));
         add("works-7-before-the-last-refusal", 7, good.with_works(short).with_room(0));
         add("bytes-9", 9, of(&[b'x'; limits::BYTES + 1]));
-        add("bytes-1", 1, of(&[b'x'; limits::BYTES]));
         add("empty-1", 1, of(b""));
         let mut seventeen = b"ask,0,0\n".repeat(limits::ASKS + 1);
         seventeen.extend_from_slice(b"leaf\n");
@@ -117,11 +115,11 @@ pub fn edges() -> Vec<Edge> {
     for (position, number) in [(0, 15), (1, 0), (2, 0), (3, 15), (17, 15), (65_536, 15)] {
         add(&format!("position-{position}"), number, why(position, file));
     }
+    add("bytes-1", 1, why(1, &[b'x'; limits::BYTES]));
     add("rows-7-before-9", 7, why(1, &[b'x'; limits::BYTES + 1]).with_room(2_047));
     add("rows-7-before-a-line", 7, why(1, b"ask\n").with_room(2_047));
     add("rows-7-before-15", 7, why(0, file).with_room(2_047));
     add("line-before-15", 1, why(0, b"ask\n"));
-    add("bytes-9-before-15", 9, why(0, &[b'x'; limits::BYTES + 1]));
     add("most-rows", 0, why(1, &most_reasons()));
     add("most-rows-of-a-round", 0, why(1, &most_reasons_of_a_round()));
     add("most-rows-backwards", 0, why(1, &most_passes(1)).with_room(2_050));
@@ -134,7 +132,6 @@ pub fn edges() -> Vec<Edge> {
     add("room-a-line-before-8", 1, sweep(b"ask,0,0\nleaf\nassume,a,0,0\nleaf").with_room(0));
     add("room-0-none-kept", 0, sweep(b"ask,0,0\n").with_room(0));
     add("most-passes", 0, sweep(&most_passes(1)));
-    add("most-passes-of-three", 0, sweep(&most_passes(3)));
     for (room, number) in [(FACTS * 3 - 1, 8), (FACTS * 3, 0)] {
         add(&format!("most-passes-of-three-room-{room}"), number, sweep(&most_passes(3)).with_room(room));
     }

@@ -1,0 +1,1 @@
+-- No definitions: the contracts cite those of others.
