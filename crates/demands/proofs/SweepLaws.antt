@@ -1,4 +1,5 @@
 -- What holds at each fact of a sweep, and so at its end: the least closed set.
+use Prim.Native.Nat.{ℕ}
 use mathlib.Core.Path.{_≡_, refl, sym, _∙_}
 use mathlib.Core.Logic.{inl, inr, ⊎-elim}
 use mathlib.Core.Bool.{Bool, false}
@@ -16,7 +17,7 @@ use Rattle.model.proofs.SetLaws.{Within, empty, mem-add, mem-union, ascending-a
 use Rattle.laws.specs.Passes.{Sweeps, last, more}
 use Rattle.laws.proofs.MetLaws.{met-with, with-first, with-fact, with-elim, with-more, ascending-with}
 use Rattle.laws.proofs.FiringLaws.{fires-more}
-use Rattle.laws.proofs.PassLaws.{Added, adds-elim, adds-intro, pass-case, none-added}
+use Rattle.laws.proofs.PassLaws.{Added, adds-elim, adds-intro, pass-case, none-added, same-adds-none}
 use Rattle.demands.specs.LinesRead.{Distinct}
 use Rattle.demands.proofs.Facts.{fact-names, by-name}
 use Rattle.demands.proofs.Settled.{named-in, Closed-from, Settled}
@@ -111,6 +112,6 @@ module _ (a : Ask) (ms : Map (List Name)) (fs : List Fact) where
         })
 
     -- so does a sweep at its end
-    pub sweep-settles : (first : List Name) {s end : Sweep} → Sweeps a ms fs s end → Sweeping first s → Settled (retainable a) ms fs first (end .met) (end .reached)
-    sweep-settles first (last {s} e) h = swept-last first s h e
+    pub sweep-settles : (first : List Name) {n : ℕ} {s end : Sweep} → Sweeps a ms fs n s end → Sweeping first s → Settled (retainable a) ms fs first (end .met) (end .reached)
+    sweep-settles first (last {s} e) h = swept-last first s h (same-adds-none a ms fs s e)
     sweep-settles first (more {s} e r) h = sweep-settles first r (swept-pass first s h)

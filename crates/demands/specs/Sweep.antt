@@ -30,11 +30,13 @@ pub record Same-end (a : Ask) (s : State) : Type 0 where
 abbrev pub Sweep-is-run : Type 0
 Sweep-is-run = (file : List ℕ) (s : State) → Lines-read file s → (a : Ask) → Same-end a s
 
--- "repeats until a pass adds none", "the last one counted": each pass but the last adds a fact, the last none
+-- "repeats until a pass adds none", "the last one counted": each pass but the last leaves more facts reached, the last the same,
+-- and the passes are as many
 abbrev pub Passes-exact : Type 0
 Passes-exact =
     (file : List ℕ) (s : State) → Lines-read file s → (a : Ask)
-    → Sweeps a (macros (records-for a s)) (facts (records-for a s)) (sweep-start a (records-for a s) (s .roots)) (sweep-of a s)
+    → Sweeps a (macros (records-for a s)) (facts (records-for a s)) (sweep-of a s .passes)
+    (sweep-start a (records-for a s) (s .roots)) (sweep-of a s)
 
 -- "at most the facts with triggers plus one"
 abbrev pub Passes-bound : Type 0

@@ -1,7 +1,7 @@
 -- What a pass over facts adds; the passes end for their own reason, and how many there are at most.
 use Prim.Native.Nat.{ℕ, zero, suc, _+_, _≤_, _<_}
 use native.Mathlib.Omega.{arith}
-use mathlib.Core.Path.{_≡_, refl, sym, _∙_, ap}
+use mathlib.Core.Path.{_≡_, refl, sym, _∙_, ap, subst}
 use mathlib.Core.Logic.{_⊎_, inl, inr, ⊎-elim}
 use mathlib.Core.Bool.{Bool, true, false, cond, not, _&&_}
 use mathlib.Core.List.{List, [], _∷_, List·Memᴰ, List·Memᴰ·head, List·Memᴰ·tail, List·Memᴰ·cases-cons, List·Memᴰ·not-nil}
@@ -168,39 +168,74 @@ module _ (a : Ask) (ms : Map (List Name)) (fs : List Fact) where
       (not-T (has-triggers f && not (mem (f .name) (pass a ms fs s .reached)))
       (λ t. T-not (mem (f .name) (pass a ms fs s .reached)) (T-and (has-triggers f) (not (mem (f .name) (pass a ms fs s .reached))) .0 t .1) (n .is-now)))
 
+  -- a pass that adds none leaves the facts reached, and one that leaves them adds none
+  pub none-reached : (s : Sweep) → pass a ms fs s .added ≡ false → pass a ms fs s .reached ≡ s .reached
+  unfolding pass begin-pass
+  none-reached s e = ap (λ (s : Sweep). s .reached) (none-added a ms fs (begin-pass s) e .0)
+
+  pub some-reached : (s : Sweep) → pass a ms fs s .added ≡ true → pass a ms fs s .reached ≡ s .reached → ⊥
+  unfolding pass begin-pass
+  some-reached s e same =
+      let n = some-added a ms fs (begin-pass s) refl e in
+      T-not (mem (n .fact .name) (s .reached)) (n .was-not) (subst (λ l. T (mem (n .fact .name) l)) same (n .is-now))
+
+  pub same-adds-none : (s : Sweep) → pass a ms fs s .reached ≡ s .reached → pass a ms fs s .added ≡ false
+  same-adds-none s same = go (pass a ms fs s .added) refl
+    where
+      go : (b : Bool) → pass a ms fs s .added ≡ b → b ≡ false
+      go true e = absurd (some-reached s e same)
+      go false e = refl
+
+  pub other-adds-some : (s : Sweep) → (pass a ms fs s .reached ≡ s .reached → ⊥) → pass a ms fs s .added ≡ true
+  other-adds-some s other = go (pass a ms fs s .added) refl
+    where
+      go : (b : Bool) → pass a ms fs s .added ≡ b → b ≡ true
+      go true e = refl
+      go false e = absurd (other (none-reached s e))
+
   -- with more fuel than facts are unreached, the passes end for their own reason
-  pub passes-end : (fuel : ℕ) (s : Sweep) → length (unreached s) < fuel → Sweeps a ms fs s (passes-from a ms fs fuel s)
+  pub passes-end : (fuel : ℕ) (s : Sweep) → length (unreached s) < fuel → (n : ℕ) × Sweeps a ms fs n s (passes-from a ms fs fuel s)
   unfolding passes-from
   passes-end zero s h = absurd (omega arith)
   passes-end (suc fuel) s h = go (pass a ms fs s .added) refl (passes-end fuel (pass a ms fs s))
     where
       go : (b : Bool) → pass a ms fs s .added ≡ b
-          → (length (unreached (pass a ms fs s)) < fuel → Sweeps a ms fs (pass a ms fs s) (passes-from a ms fs fuel (pass a ms fs s)))
-          → Sweeps a ms fs s (cond b (passes-from a ms fs fuel (pass a ms fs s)) (pass a ms fs s))
-      go true e below = let l = unreached-falls s e in more e (below (omega arith))
-      go false e below = last e
+          → (length (unreached (pass a ms fs s)) < fuel → (n : ℕ) × Sweeps a ms fs n (pass a ms fs s) (passes-from a ms fs fuel (pass a ms fs s)))
+          → (n : ℕ) × Sweeps a ms fs n s (cond b (passes-from a ms fs fuel (pass a ms fs s)) (pass a ms fs s))
+      go true e below =
+          let l = unreached-falls s e in
+          let (n, r) = below (omega arith) in
+          (suc n, more (some-reached s e) r)
+      go false e below = (1, last (none-reached s e))
 
-  -- the passes are at most one more than the facts that are unreached before them
-  pub passes-few : {s end : Sweep} → Sweeps a ms fs s end → end .passes ≤ s .passes + suc (length (unreached s))
-  passes-few (last {s} e) = omega (arith, pass-counted a ms fs s)
-  passes-few (more {s} e r) = let l = unreached-falls s e in let i = passes-few r in omega (arith, pass-counted a ms fs s)
+  -- they are at most one more than the facts that are unreached before them
+  pub passes-few : {n : ℕ} {s end : Sweep} → Sweeps a ms fs n s end → n ≤ suc (length (unreached s))
+  passes-few (last {s} e) = omega arith
+  passes-few (more {s} e r) = let l = unreached-falls s (other-adds-some s e) in let i = passes-few r in omega arith
 
-  -- there is one more at least
-  pub passes-grow : {s end : Sweep} → Sweeps a ms fs s end → s .passes < end .passes
-  passes-grow (last {s} e) = omega (arith, pass-counted a ms fs s)
-  passes-grow (more {s} e r) = let i = passes-grow r in omega (arith, pass-counted a ms fs s)
+  -- there is one at least
+  pub passes-some : {n : ℕ} {s end : Sweep} → Sweeps a ms fs n s end → 1 ≤ n
+  passes-some (last e) = omega arith
+  passes-some (more e r) = omega arith
+
+  -- and each is counted
+  pub passes-counted : {n : ℕ} {s end : Sweep} → Sweeps a ms fs n s end → end .passes ≡ s .passes + n
+  passes-counted (last {s} e) = pass-counted a ms fs s
+  passes-counted (more {n} {s} e r) = let c = pass-counted a ms fs s in let i = passes-counted r in omega arith
 
 module _ (a : Ask) (decls : List Summary) (roots : List Root) where
-  -- the sweep of the records of a file ends with the pass that adds none
-  pub sweep-ends : Sweeps a (macros decls) (facts decls) (sweep-start a decls roots) (sweep a decls roots)
-  unfolding sweep
+  -- the sweep of the records of a file ends with the pass that adds none, and tells how many there were
+  pub sweep-ends : Sweeps a (macros decls) (facts decls) (sweep a decls roots .passes) (sweep-start a decls roots) (sweep a decls roots)
+  unfolding sweep sweep-start
   sweep-ends =
-      passes-end a (macros decls) (facts decls) (suc (facts-with-triggers (facts decls))) (sweep-start a decls roots)
-      (omega (arith, unreached-few a (macros decls) (facts decls) (sweep-start a decls roots)))
+      let start = sweep-start a decls roots in
+      let (n, r) = passes-end a (macros decls) (facts decls) (suc (facts-with-triggers (facts decls))) start
+      (omega (arith, unreached-few a (macros decls) (facts decls) start)) in
+      let c : n ≡ sweep a decls roots .passes = sym (passes-counted a (macros decls) (facts decls) r) in
+      subst (λ n. Sweeps a (macros decls) (facts decls) n start (sweep a decls roots)) c r
 
   -- its passes are at most one more than the facts with triggers
   pub sweep-bound : sweep a decls roots .passes ≤ suc (facts-with-triggers (facts decls))
-  unfolding sweep-start
   sweep-bound =
       omega (
         arith,
@@ -210,4 +245,4 @@ module _ (a : Ask) (decls : List Summary) (roots : List Root) where
 
   -- it has a pass
   pub sweep-some : 1 ≤ sweep a decls roots .passes
-  sweep-some = omega (arith, passes-grow a (macros decls) (facts decls) sweep-ends)
+  sweep-some = passes-some a (macros decls) (facts decls) sweep-ends

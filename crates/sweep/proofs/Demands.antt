@@ -86,15 +86,16 @@ module _ (c : Call) (exact : Exact c) where
           },
           λ i a h.
               let listing = positions i a h .demand-3 .lists in
+              let told = subst (λ (l : List ℕ). Passes-at l s i a) (sym (ap (λ (a : Swept). a .passes) (exact .answered)))
+              (passes .told ps s e reads i a h) in
               record {
                 lists = record {
                   count = ap (λ l. getD l i 0) (tells .kept) ∙ listing .count;
                   listed = ap (λ l. take (getD l i 0) (drop (sum (take i l)) (c .out′))) (tells .kept) ∙ listing .listed;
                 };
                 same = sweep-is-run (c .file) s reads a;
-                passes = subst (λ (l : List ℕ). Passes-at l s i a) (sym (ap (λ (a : Swept). a .passes) (exact .answered)))
-                    (passes .told ps s e reads i a h);
-                passes-end = passes-exact (c .file) s reads a;
+                passes = told;
+                passes-end = rw (told .exact) (passes-exact (c .file) s reads a);
               },
         )
 

@@ -73,8 +73,8 @@ pub record Position-demands (c : Call) (s : State) (i : ℕ) (a : Ask) : Type 0 
   pub same : Same-end a s
   -- "Its passes, the last one counted, are told exactly for each ask and are at most the facts with triggers plus one"
   pub passes : Passes-at (c .answer .passes) s i a
-  pub passes-end : Sweeps a (macros (records-for a s)) (facts (records-for a s)) (sweep-start a (records-for a s) (s .roots))
-      (sweep-of a s)
+  pub passes-end : Sweeps a (macros (records-for a s)) (facts (records-for a s)) (getD (c .answer .passes) i 0)
+      (sweep-start a (records-for a s) (s .roots)) (sweep-of a s)
 
 -- the demands of a call; where it accepts, of the state that reading its file ends in and of each of its asks
 pub record Demands (c : Call) : Type 0 where

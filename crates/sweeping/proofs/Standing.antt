@@ -27,6 +27,7 @@ use Rattle.scan.proofs.Meeting.{Agrees, fires-at, met-round}
 use Rattle.scan.proofs.Rounds.{label, reached-set}
 use Rattle.sweeping.specs.Sweeping.{Sweeping, sweeping, met-of, fires-now, joins, joined, pass-record, passed, pass-all, Passes, last, more}
 use Rattle.laws.specs.Passes.{Sweeps, last as last-pass, more as more-passes}
+use Rattle.laws.proofs.PassLaws.{same-adds-none, other-adds-some}
 use Rattle.sweeping.proofs.Passing.{joined-behind, joined-self, joined-other}
 
 -- the facts of the first n records, in line order
@@ -290,8 +291,8 @@ module _ {h : Held} {name : ℕ → Name} {a : Ask} {ms : Map (List Name)} {fs :
         }))
 
     -- and passes to the end are the sweep
-    pub passes-over : {s end : Sweeping} → Passes h s end → {m over : Sweep} → Stands h name s m → Sweeps a ms fs m over → Stands h name end over
+    pub passes-over : {s end : Sweeping} → Passes h s end → {n : ℕ} {m over : Sweep} → Stands h name s m → Sweeps a ms fs n m over → Stands h name end over
     passes-over (last {s} e) {m} at (last-pass e′) = pass-all-stands at
-    passes-over (last {s} e) {m} at (more-passes e′ r) = absurd (differ (sym e ∙ sym (pass-all-stands at .added-is) ∙ e′))
-    passes-over (more {s} e p) {m} at (last-pass e′) = absurd (differ (sym e′ ∙ pass-all-stands at .added-is ∙ e))
+    passes-over (last {s} e) {m} at (more-passes e′ r) = absurd (differ (sym e ∙ sym (pass-all-stands at .added-is) ∙ other-adds-some a ms fs m e′))
+    passes-over (more {s} e p) {m} at (last-pass e′) = absurd (differ (sym (same-adds-none a ms fs m e′) ∙ pass-all-stands at .added-is ∙ e))
     passes-over (more {s} e p) {m} at (more-passes e′ r) = passes-over p (pass-all-stands at) r
