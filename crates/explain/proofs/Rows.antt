@@ -34,13 +34,13 @@ use Rattle.triggers.specs.Entries.{disjuncts-of, last-flag, no-name}
 use Rattle.records.specs.Columns.{record-line, record-name}
 use Rattle.records.specs.States.{entries-at, fact-at, background-of, ask-of, state-of}
 use Rattle.macros.specs.Macros.{Filled}
-use Rattle.scan.specs.Steps.{reached-column, run-end, is-met, is-reached}
+use Rattle.firing.specs.Met.{reached-column, run-end, is-met, is-reached}
 use Rattle.scan.specs.Runs.{tables-run, tables-history, Ran}
 use Rattle.scan.specs.declared.Scan.{Scan}
-use Rattle.scan.proofs.Numbers.{set-intro}
-use Rattle.scan.proofs.Background.{facts-intro}
-use Rattle.scan.proofs.Listing.{word-listed, listed-word}
-use Rattle.scan.proofs.Joining.{laid}
+use Rattle.firing.proofs.Numbers.{set-intro}
+use Rattle.firing.proofs.Background.{facts-intro}
+use Rattle.firing.proofs.Listing.{word-listed, listed-word}
+use Rattle.firing.proofs.Joining.{laid}
 use Rattle.prune.specs.Listing.{from, record-behind, picked, reached-at, reached-records}
 use Rattle.prune.specs.Kept.{reached-of}
 use Rattle.prune.proofs.Picking.{reached-same}

@@ -33,16 +33,16 @@ use Rattle.records.specs.Columns.{record-kind, record-line, record-name, record
 use Rattle.records.specs.States.{uses-at, free-at, fact-at, background-of, takes-part, ask-of, state-of}
 use Rattle.records.proofs.Taking.{part-kind}
 use Rattle.macros.specs.Macros.{Filled}
-use Rattle.scan.specs.Held.{Held}
-use Rattle.scan.specs.Tables.{held-of}
-use Rattle.scan.specs.Steps.{reached-column, is-met, is-reached, opened-all}
-use Rattle.scan.specs.Starts.{starts-at}
+use Rattle.firing.specs.Held.{Held}
+use Rattle.firing.specs.Tables.{held-of, starts-at}
+use Rattle.firing.specs.Met.{reached-column, is-met, is-reached}
+use Rattle.firing.specs.Firing.{opened-all}
 use Rattle.scan.specs.Runs.{tables-run, tables-history, Ran}
 use Rattle.scan.specs.declared.Scan.{Scan}
-use Rattle.scan.proofs.Numbers.{set-intro, set-elim}
-use Rattle.scan.proofs.Background.{facts-elim, facts-intro, root-of, roots-elim, roots-intro}
-use Rattle.scan.proofs.Joining.{laid, holds}
-use Rattle.scan.proofs.Asking.{root-code, root-starts, fact-starts, starts-elim, free-in, free-out}
+use Rattle.firing.proofs.Numbers.{set-intro, set-elim}
+use Rattle.firing.proofs.Background.{facts-elim, facts-intro, root-of, roots-elim, roots-intro}
+use Rattle.firing.proofs.Joining.{laid, holds}
+use Rattle.firing.proofs.Starting.{root-code, root-starts, fact-starts, starts-elim, free-in, free-out}
 use Rattle.suppliers.specs.Notes.{supplier-column, was-scanned, Supplying, Found, nobody, lowest, Suppliers-noted}
 use Rattle.suppliers.proofs.Passing.{suppliers-found}
 

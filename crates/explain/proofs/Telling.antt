@@ -27,10 +27,10 @@ use Rattle.words.proofs.Slices.{same-then, same-wider}
 use Rattle.records.specs.Columns.{record-line, taken-at}
 use Rattle.records.specs.States.{ask-of, state-of}
 use Rattle.macros.specs.Macros.{Filled}
-use Rattle.scan.specs.Steps.{run-end, is-met}
+use Rattle.firing.specs.Met.{run-end, is-met}
 use Rattle.scan.specs.Runs.{Ran}
 use Rattle.scan.specs.declared.Scan.{Scan}
-use Rattle.scan.proofs.Joining.{laid}
+use Rattle.firing.proofs.Joining.{laid}
 use Rattle.suppliers.specs.Notes.{supplier-column, Suppliers-noted}
 use Rattle.prune.specs.Loops.{Index}
 use Rattle.rows.specs.Rows.{words-of}

@@ -25,8 +25,8 @@ use Rattle.terms.proofs.Laws.{equal}
 use Rattle.records.specs.Columns.{record-kind, record-line, assume-kind, fun-kind, def-kind}
 use Rattle.records.specs.States.{uses-at, free-at, decl-at, decls-of, state-of}
 use Rattle.macros.specs.Macros.{Filled}
-use Rattle.scan.proofs.Background.{is-definition, def-at}
-use Rattle.scan.proofs.Joining.{uses-low}
+use Rattle.firing.proofs.Background.{is-definition, def-at}
+use Rattle.firing.proofs.Joining.{uses-low}
 use Rattle.prune.specs.Listing.{from, record-behind, taker, kind-at, is-among}
 use Rattle.prune.proofs.Ranges.{collect-keep, from-below}
 use Rattle.prune.proofs.Filed.{fun-at, definitions-are}

@@ -14,7 +14,7 @@ use Rattle.model.proofs.ListLaws.{keep-append}
 use Rattle.laws.proofs.Records.{declarations-append}
 use Rattle.records.specs.Columns.{record-kind, fun-kind}
 use Rattle.records.specs.States.{fact-at, decl-at, summary-at, decls-of, roots-of, background-of, takes-part}
-use Rattle.scan.proofs.Background.{is-definition, is-root, def-at, root-of, no-facts, next-facts, no-defs, next-defs, no-roots, next-roots}
+use Rattle.firing.proofs.Background.{is-definition, is-root, def-at, root-of, no-facts, next-facts, no-defs, next-defs, no-roots, next-roots}
 use Rattle.prune.specs.Listing.{from}
 use Rattle.prune.proofs.Ranges.{from-snoc}
 

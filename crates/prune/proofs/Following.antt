@@ -17,7 +17,7 @@ use Rattle.terms.proofs.Laws.{equal}
 use Rattle.records.specs.Columns.{taken-at}
 use Rattle.records.specs.States.{uses-at}
 use Rattle.macros.specs.Macros.{is-def}
-use Rattle.scan.proofs.Numbers.{count-some, count-less}
+use Rattle.firing.proofs.Numbers.{count-some, count-less}
 use Rattle.prune.specs.Listing.{followed-stamp}
 use Rattle.prune.specs.Follow.{body-at, Stamps-grown, Stamps-closed}
 use Rattle.prune.specs.Loops.{stamp-column, queue-column, stamp-of, Queue, queue, queued, queue-def, follow-name, follow-names, Queue-of, Noted, unnoted, Queue-room, Queue-noted}

@@ -26,11 +26,11 @@ use Rattle.names.proofs.Laws.{distinct}
 use Rattle.records.specs.Columns.{record-kind, record-line, record-name, assume-kind, fun-kind, def-kind, taken-at}
 use Rattle.records.specs.States.{uses-at, free-at, fact-at, decl-at, decls-of, roots-of, background-of, takes-part, ask-of}
 use Rattle.macros.specs.Macros.{is-def, Filled}
-use Rattle.scan.specs.Held.{set-of}
-use Rattle.scan.specs.Steps.{is-reached}
-use Rattle.scan.proofs.Numbers.{set-intro, set-elim, set-ascending}
-use Rattle.scan.proofs.Background.{def-at, defs-elim, defs-intro}
-use Rattle.scan.proofs.Joining.{uses-low}
+use Rattle.firing.specs.Held.{set-of}
+use Rattle.firing.specs.Met.{is-reached}
+use Rattle.firing.proofs.Numbers.{set-intro, set-elim, set-ascending}
+use Rattle.firing.proofs.Background.{def-at, defs-elim, defs-intro}
+use Rattle.firing.proofs.Joining.{uses-low}
 use Rattle.prune.specs.Listing.{most-stamps, from, record-behind, picked, taker, kind-at, fact-records, kept-items, stamped, kind-records, item-stamp, followed-stamp, added-at, added-records, of-kind, group-records, groups-records, kept-records}
 use Rattle.prune.specs.Follow.{body-at, Stamps-closed, Stamps, Stamped}
 use Rattle.prune.specs.Kept.{reached-of, kept-of}

@@ -22,12 +22,12 @@ use Rattle.names.proofs.Laws.{listed, listed-intro, listed-ascending, distinct}
 use Rattle.records.specs.Columns.{record-kind, record-name, record-flag, record-group, summary-code, kind-of-code, assume-kind, fun-kind, def-kind}
 use Rattle.records.specs.States.{uses-at, free-at, fact-at, decl-at, decls-of, roots-of, background-of, takes-part, ask-of}
 use Rattle.macros.specs.Macros.{Filled}
-use Rattle.scan.specs.Held.{upto}
-use Rattle.scan.specs.Steps.{is-reached}
-use Rattle.scan.proofs.Numbers.{set-elim, set-ascending, upto-elim}
+use Rattle.firing.specs.Held.{upto}
+use Rattle.firing.specs.Met.{is-reached}
+use Rattle.firing.proofs.Numbers.{set-elim, set-ascending, upto-elim}
 use Rattle.records.proofs.Taking.{part-kind, part-admits}
-use Rattle.scan.proofs.Background.{is-definition, is-root, def-at, root-of}
-use Rattle.scan.proofs.Joining.{uses-low}
+use Rattle.firing.proofs.Background.{is-definition, is-root, def-at, root-of}
+use Rattle.firing.proofs.Joining.{uses-low}
 use Rattle.prune.specs.Listing.{from, record-behind, picked, reached-at, kind-at, ambient-at, is-goal, reached-records, ambient-records, fact-records, goal-records, kept-items, is-among, stamped, stamp-records, kind-records}
 use Rattle.prune.specs.Kept.{reached-of}
 use Rattle.prune.proofs.Ranges.{keep-keep, keep-comm, keep-reverse, keep-collect-one, keep-map, collect-keep, reverse-collect, collect-collect, from-below, from-snoc, upto-reverse, upto-reverse-1}

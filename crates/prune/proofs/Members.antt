@@ -11,10 +11,10 @@ use Rattle.model.specs.declared.Asked.{Asked}
 use Rattle.model.specs.declared.Counts.{Counts}
 use Rattle.model.proofs.ListLaws.{cond-case, keep-elim, collect-elim}
 use Rattle.records.specs.States.{ask-of}
-use Rattle.scan.specs.Held.{upto}
-use Rattle.scan.specs.Steps.{is-reached}
-use Rattle.scan.proofs.Numbers.{upto-elim}
-use Rattle.scan.proofs.Background.{only}
+use Rattle.firing.specs.Held.{upto}
+use Rattle.firing.specs.Met.{is-reached}
+use Rattle.firing.proofs.Numbers.{upto-elim}
+use Rattle.firing.proofs.Background.{only}
 use Rattle.prune.specs.Listing.{from, record-behind, picked, taker, reached-at, ambient-at, is-goal, reached-records, ambient-records, goal-records, followed-stamp, added-at, added-records}
 use Rattle.prune.proofs.Ranges.{from-below}
 use Rattle.prune.proofs.Picking.{ambient-small}

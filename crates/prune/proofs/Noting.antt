@@ -16,8 +16,8 @@ use Rattle.model.proofs.PartLaws.{part-cons, part-nil, part-elim}
 use Rattle.records.specs.Columns.{uses-start, uses-end}
 use Rattle.records.specs.States.{uses-at}
 use Rattle.records.specs.Filing.{Records}
-use Rattle.scan.specs.Steps.{mark, marks, is-met}
-use Rattle.scan.proofs.Marks.{mark-length, marks-nil, marks-cons, marks-length, marks-old, marks-out, met-in, new-intro}
+use Rattle.firing.specs.Met.{mark, marks, is-met}
+use Rattle.firing.proofs.Marks.{mark-length, marks-nil, marks-cons, marks-length, marks-old, marks-out, met-in, new-intro}
 use Rattle.prune.specs.Listing.{from, is-goal, goal-records, is-among, stamped}
 use Rattle.prune.specs.Loops.{kept-column, stamp-column, stamp-words, noted, Notes}
 use Rattle.prune.proofs.Picking.{kept-skip, kept-take, kept-end}

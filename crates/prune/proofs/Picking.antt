@@ -15,8 +15,8 @@ use Rattle.model.proofs.ListLaws.{cond-case}
 use Rattle.names.specs.Table.{ranked}
 use Rattle.records.specs.Columns.{record-kind, record-flag, summary-code, kind-of-code, root-kind, taken-at}
 use Rattle.records.specs.States.{takes-part, ask-of}
-use Rattle.scan.specs.Held.{upto}
-use Rattle.scan.specs.Steps.{is-reached, reached-column}
+use Rattle.firing.specs.Held.{upto}
+use Rattle.firing.specs.Met.{is-reached, reached-column}
 use Rattle.prune.specs.Listing.{from, record-behind, picked, taker, reached-at, kind-at, ambient-at, is-goal}
 use Rattle.prune.specs.Loops.{kept-column, Index}
 

@@ -19,8 +19,8 @@ use Rattle.words.proofs.Slices.{same-self, same-then, same-set}
 use Rattle.terms.proofs.Laws.{equal}
 use Rattle.records.specs.Columns.{record-kind, def-kind, taken-at}
 use Rattle.macros.specs.Macros.{is-def}
-use Rattle.scan.specs.Held.{upto}
-use Rattle.scan.proofs.Numbers.{upto-elim}
+use Rattle.firing.specs.Held.{upto}
+use Rattle.firing.proofs.Numbers.{upto-elim}
 use Rattle.prune.specs.Loops.{stamp-column, queue-column, stamp-of, Queue, queue, queued, queue-def, Queue-of, Noted, unnoted, Queue-noted}
 
 -- a word of the taken column that is that of a def

@@ -13,8 +13,8 @@ use Rattle.model.proofs.ListLaws.{keep-cong, collect-cong}
 use Rattle.terms.proofs.Laws.{equal}
 use Rattle.records.specs.Columns.{def-kind, fun-kind}
 use Rattle.records.specs.Filing.{newest}
-use Rattle.scan.specs.Held.{upto}
-use Rattle.scan.proofs.Numbers.{upto-elim}
+use Rattle.firing.specs.Held.{upto}
+use Rattle.firing.proofs.Numbers.{upto-elim}
 use Rattle.prune.specs.Listing.{most-stamps, from, picked, kind-at, stamp-records, kind-records, decl-records, followed-stamp, added-at, added-records, of-kind, group-records, groups-records}
 use Rattle.prune.specs.Follow.{Stamps-grown, Stamps-closed}
 use Rattle.prune.specs.Loops.{below-column, highest-column, Linked}

@@ -9,7 +9,7 @@ use lib.Dec.{T, not-T}
 use Rattle.model.specs.Lists.{keep, collect}
 use Rattle.model.proofs.ListLaws.{cond-true, cond-false, keep-cong, keep-none, keep-append, collect-append}
 use Rattle.terms.proofs.Laws.{equal}
-use Rattle.scan.specs.Held.{upto}
+use Rattle.firing.specs.Held.{upto}
 use Rattle.prune.specs.Listing.{from}
 
 -- ---- what is kept and collected

@@ -14,9 +14,9 @@ use Rattle.names.specs.Table.{ranked}
 use Rattle.records.specs.Columns.{def-kind, fun-kind}
 use Rattle.records.specs.Filing.{newest}
 use Rattle.records.proofs.Chaining.{newest-low}
-use Rattle.scan.specs.Held.{upto}
-use Rattle.scan.proofs.Numbers.{upto-elim}
-use Rattle.scan.proofs.Visited.{newest-at}
+use Rattle.firing.specs.Held.{upto}
+use Rattle.firing.proofs.Numbers.{upto-elim}
+use Rattle.firing.proofs.Newest.{newest-at}
 use Rattle.prune.specs.Listing.{most-stamps, record-behind, picked, kind-at, stamp-records, kind-records, decl-records}
 use Rattle.prune.specs.Loops.{kept-column, below-column, highest-column, stamp-column, stamp-in, Index, Kept-behind, Linked}
 use Rattle.prune.proofs.Chains.{linked-same}

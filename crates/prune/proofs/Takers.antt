@@ -22,9 +22,9 @@ use Rattle.terms.proofs.Laws.{equal}
 use Rattle.records.specs.Columns.{record-kind, record-name, assume-kind, fun-kind, def-kind, retain-kind, taken-at}
 use Rattle.records.specs.States.{ask-of}
 use Rattle.macros.specs.Macros.{Filled}
-use Rattle.scan.specs.Held.{upto}
-use Rattle.scan.specs.Steps.{is-reached}
-use Rattle.scan.proofs.Numbers.{set-intro, set-elim, upto-elim}
+use Rattle.firing.specs.Held.{upto}
+use Rattle.firing.specs.Met.{is-reached}
+use Rattle.firing.proofs.Numbers.{set-intro, set-elim, upto-elim}
 use Rattle.prune.specs.Listing.{from, record-behind, taker, reached-at, kind-at, reached-records, fact-records, kept-items, stamp-records, kind-records, added-records, of-kind, group-records, groups-records, kept-records}
 use Rattle.prune.specs.Kept.{reached-of}
 use Rattle.prune.proofs.Members.{one-elim, picked-elim, reached-small, added-small, ambients-small, goals-small}

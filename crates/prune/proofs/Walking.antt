@@ -9,7 +9,7 @@ use Rattle.model.specs.Reading.{no-ambients, most-records}
 use Rattle.model.specs.declared.Asked.{Asked}
 use Rattle.model.specs.declared.Counts.{Counts}
 use Rattle.records.specs.States.{ask-of}
-use Rattle.scan.specs.Held.{upto}
+use Rattle.firing.specs.Held.{upto}
 use Rattle.prune.specs.Listing.{from, picked, ambient-at, ambient-records}
 use Rattle.prune.specs.Loops.{kept-column, Behind, Kept-behind}
 use Rattle.prune.proofs.Picking.{from-next, from-end, picked-next, picked-end}

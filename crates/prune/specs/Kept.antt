@@ -16,8 +16,8 @@ use Rattle.words.specs.Slices.{Same-but}
 use Rattle.records.specs.Columns.{record-name, ask-room}
 use Rattle.records.specs.States.{roots-of, background-of, takes-part, ask-of}
 use Rattle.macros.specs.Macros.{Filled}
-use Rattle.scan.specs.Held.{set-of}
-use Rattle.scan.specs.Steps.{is-reached, run-end}
+use Rattle.firing.specs.Held.{set-of}
+use Rattle.firing.specs.Met.{is-reached, run-end}
 use Rattle.prune.specs.Loops.{kept-column, prune-room}
 
 -- the names of the reached records

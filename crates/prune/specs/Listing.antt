@@ -13,8 +13,8 @@ use Rattle.model.specs.declared.Counts.{Counts}
 use Rattle.names.specs.Table.{ranked}
 use Rattle.records.specs.Columns.{record-kind, record-flag, summary-code, kind-of-code, fun-kind, def-kind, root-kind, taken-at}
 use Rattle.records.specs.States.{uses-at, takes-part, ask-of}
-use Rattle.scan.specs.Held.{upto}
-use Rattle.scan.specs.Steps.{is-reached}
+use Rattle.firing.specs.Held.{upto}
+use Rattle.firing.specs.Met.{is-reached}
 
 -- n numbers from i on
 unfoldable pub from : ℕ → ℕ → List ℕ

@@ -17,8 +17,8 @@ use Rattle.records.specs.Columns.{taken-at, ask-room}
 use Rattle.records.specs.States.{uses-at}
 use Rattle.records.specs.Filing.{Records, newest}
 use Rattle.macros.specs.Macros.{is-def}
-use Rattle.scan.specs.Held.{upto}
-use Rattle.scan.specs.Steps.{marks}
+use Rattle.firing.specs.Held.{upto}
+use Rattle.firing.specs.Met.{marks}
 use Rattle.prune.specs.Listing.{most-stamps, fact-records, followed-stamp, kept-records}
 use Rattle.prune.specs.Follow.{body-at, Stamps-closed, Stamped}
 

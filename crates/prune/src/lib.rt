@@ -9,7 +9,7 @@ ghost use Rattle.model.specs.Reading.{most-names, most-records};
 ghost use Rattle.model.specs.Outcome.{working-words};
 ghost use Rattle.records.specs.Columns.{record-line, ask-room};
 ghost use Rattle.records.specs.States.{uses-at};
-ghost use Rattle.scan.specs.Steps.{marks};
+ghost use Rattle.firing.specs.Met.{marks};
 ghost use Rattle.prune.specs.Listing.{most-stamps, taker, reached-at, kind-at, ambient-at, is-goal, reached-records, ambient-records, fact-records, goal-records, stamp-records, kind-records, decl-records, added-at, added-records, of-kind, group-records, groups-records};
 ghost use Rattle.prune.specs.Loops.{kept-column, queue-column, stamp-in, stamp-words, Index, Behind, Kept-behind, noted, Notes, Linked, Links, queue};
 ghost use Rattle.prune.specs.Loops.{queue-def, follow-name, follow-names, Readable, Queue-room, Queue-noted, Bodies, Stamps-followed, queue-part, Queue-records, Listable, Records-listed};
@@ -53,7 +53,7 @@ pub fn reached_at(names: &[u32], run: &[u32], named: usize, r: usize) -> usize
     if t == 0 {
         return 0;
     }
-    if words::at(run, scan::REACHED + (t - 1)) == 0 {
+    if words::at(run, firing::REACHED + (t - 1)) == 0 {
         return 0;
     }
     t
@@ -142,7 +142,7 @@ fn note_record(recs: &[u32], lists: &[u32], run: &mut [u32], k: Counts, i: usize
     let e = words::at(recs, records::USES_END + i);
     let mut j = a;
     while j < e {
-        scan::meet(run, STAMP + words::at(lists, j), stamp);
+        firing::meet(run, STAMP + words::at(lists, j), stamp);
         j += 1;
     }
 }

@@ -13,8 +13,8 @@ use Rattle.model.proofs.ListLaws.{T-and}
 use Rattle.model.proofs.PartLaws.{part-cons, part-nil}
 use Rattle.triggers.specs.Entries.{entries-base, last-flag}
 use Rattle.records.specs.Columns.{entries-start, entries-end}
-use Rattle.scan.specs.Tables.{Laid}
-use Rattle.scan.specs.Steps.{reached-column, is-met}
+use Rattle.firing.specs.Tables.{Laid}
+use Rattle.firing.specs.Met.{reached-column, is-met}
 use Rattle.reasons.specs.Rows.{lists-name, row-due, Entries-in}
 
 -- ---- the entries

@@ -18,8 +18,8 @@ use Rattle.names.specs.Table.{ranked}
 use Rattle.triggers.specs.Entries.{last-flag}
 use Rattle.records.specs.Columns.{record-line, entries-end, taken-at}
 use Rattle.records.specs.States.{entries-at}
-use Rattle.scan.specs.Tables.{Laid}
-use Rattle.scan.specs.Steps.{reached-column, is-met}
+use Rattle.firing.specs.Tables.{Laid}
+use Rattle.firing.specs.Met.{reached-column, is-met}
 use Rattle.suppliers.specs.Notes.{supplier-column}
 use Rattle.prune.specs.Listing.{from, reached-records}
 use Rattle.prune.specs.Loops.{Index, Behind}

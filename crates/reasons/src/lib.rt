@@ -37,7 +37,7 @@ fn row_due(recs: &[u32], lists: &[u32], run: &[u32], i: usize, n: usize) -> bool
     if met == 0 {
         return false;
     }
-    if words::at(run, scan::REACHED + i) < met {
+    if words::at(run, firing::REACHED + i) < met {
         return false;
     }
     lists_name(recs, lists, i, n)

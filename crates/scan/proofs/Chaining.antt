@@ -17,12 +17,13 @@ use Rattle.records.specs.Columns.{entry-name, entry-fact, next-entry, first-ent
 use Rattle.records.specs.States.{takes-part, ask-of}
 use Rattle.records.specs.Filing.{newest}
 use Rattle.records.proofs.Chaining.{newest-low}
-use Rattle.scan.specs.Held.{Held, upto, waiting}
-use Rattle.scan.specs.Tables.{waits-on, held-of, Laid}
+use Rattle.firing.specs.Held.{Held, upto, waiting}
+use Rattle.firing.specs.Tables.{waits-on, held-of, Laid}
 use Rattle.scan.specs.Steps.{Going, visit, visits-of, visited, visit-phase, Room, Steady}
-use Rattle.scan.proofs.Numbers.{count-upto}
-use Rattle.scan.proofs.Visited.{newest-value, newest-waiting, waiting-first, waiting-skip, visited-elim, visited-length}
-use Rattle.scan.proofs.Waiting.{owner-part, waits-is, waits-not, waits-part}
+use Rattle.firing.proofs.Numbers.{count-upto}
+use Rattle.firing.proofs.Newest.{newest-value}
+use Rattle.scan.proofs.Visited.{newest-waiting, waiting-first, waiting-skip, visited-elim, visited-length}
+use Rattle.firing.proofs.Waiting.{owner-part, waits-is, waits-not, waits-part}
 use Rattle.scan.proofs.Visits.{Fired, room-then, visit-fired, visits-fired}
 
 -- ---- the chain of a name

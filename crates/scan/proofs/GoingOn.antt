@@ -16,17 +16,19 @@ use Rattle.model.specs.Rounds.{Run, facts, macros}
 use Rattle.model.specs.Also.{also-scanned, stretch-start, stretch}
 use Rattle.model.proofs.ListLaws.{count-cong, count-keep, keep-le, keep-cong}
 use Rattle.laws.proofs.StretchLaws.{later, ends-later, stretch-ends}
-use Rattle.scan.specs.Held.{Held, Fits, Holds, upto, set-of}
-use Rattle.scan.specs.Steps.{Going, going, run-end, reached-column, is-met, is-reached, items, unmet, round, Ready, Rounds, last as last-round, more as more-rounds}
+use Rattle.firing.specs.Held.{Held, Fits, Holds, upto, set-of}
+use Rattle.firing.specs.Met.{run-end, reached-column, is-met, is-reached, unmet}
+use Rattle.scan.specs.Steps.{Going, going, items, round, Ready, Rounds, last as last-round, more as more-rounds}
 use Rattle.scan.specs.Starts.{pushed}
 use Rattle.scan.specs.Chains.{emptied}
 use Rattle.scan.specs.declared.Scan.{Scan}
-use Rattle.scan.proofs.Numbers.{upto-elim}
+use Rattle.firing.proofs.Numbers.{upto-elim}
 use Rattle.scan.proofs.Round.{then-ready, then-room, then-rounds, then-unmet, then-low, then-visits, then-facts, is-met-then, met-stays}
-use Rattle.scan.proofs.Meeting.{Agrees}
-use Rattle.scan.proofs.Rounds.{label, reached-set, At}
+use Rattle.firing.proofs.Meeting.{Agrees, label, reached-set}
+use Rattle.scan.proofs.Rounds.{At}
 use Rattle.scan.proofs.Running.{Over, rounds-over}
-use Rattle.scan.proofs.Starting.{Pushed, pushed-is, no-items, few-unreached}
+use Rattle.firing.proofs.Clearing.{few-unreached}
+use Rattle.scan.proofs.Starting.{Pushed, pushed-is, no-items}
 
 -- between two stretches, after so many lines of the chain: all that was reached is scanned. The worklist is not looked at
 pub record Rested (h : Held) (lines : ℕ) (g : Going) : Type 0 where

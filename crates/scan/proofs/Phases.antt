@@ -11,13 +11,16 @@ use Rattle.model.specs.Reading.{most-names, most-entries}
 use Rattle.model.specs.declared.Asked.{Asked}
 use Rattle.model.specs.declared.Counts.{Counts}
 use Rattle.model.proofs.PartLaws.{part-cons, part-nil, part-intro}
-use Rattle.scan.specs.Held.{Held}
-use Rattle.scan.specs.Tables.{waits-on, held-of, record-meets, Laid}
-use Rattle.scan.specs.Steps.{Going, going, work-column, is-met, marks, scanned-by, items, met-phase, visit-phase, round, Rounds, last, more, Steady, Ready, unmet}
+use Rattle.firing.specs.Held.{Held}
+use Rattle.firing.specs.Tables.{waits-on, held-of, record-meets, Laid}
+use Rattle.firing.specs.Met.{work-column, is-met, marks, unmet}
+use Rattle.firing.specs.Firing.{scanned-by}
+use Rattle.scan.specs.Steps.{Going, going, items, met-phase, visit-phase, round, Rounds, last, more, Steady, Ready}
 use Rattle.scan.specs.declared.Scan.{Scan}
-use Rattle.scan.proofs.Numbers.{count-upto}
-use Rattle.scan.proofs.Marks.{marks-nil, marks-append, marks-length, marks-out}
-use Rattle.scan.proofs.Round.{opened-small, met-room, then-unmet, then-ready, then-length}
+use Rattle.firing.proofs.Numbers.{count-upto}
+use Rattle.firing.proofs.Marks.{marks-nil, marks-append, marks-length, marks-out}
+use Rattle.firing.proofs.Meeting.{opened-small}
+use Rattle.scan.proofs.Round.{met-room, then-unmet, then-ready, then-length}
 
 -- ---- meeting
 

@@ -4,17 +4,20 @@ use native.Mathlib.Omega.{arith}
 use mathlib.Core.Path.{_≡_, refl, sym, _∙_, ap, subst}
 use mathlib.Core.Bool.{Bool, true, false, not, _&&_}
 use mathlib.Core.Logic.{_⊎_, inl, inr, ⊎-elim}
-use mathlib.Core.List.{List, _∷_, List·Memᴰ, List·Memᴰ·cases-cons}
+use mathlib.Core.List.{List, List·Memᴰ}
 use lib.Dec.{T, T-not, not-T, eqb, ltb, ltb→lt}
 use lib.ListN.{length, getD}
 use Rattle.model.specs.Lists.{any, count}
 use Rattle.model.specs.Reading.{most-names, most-records}
 use Rattle.model.proofs.ListLaws.{T-dec, T-true, T-false, true-T, any-elim, count-keep, count-cong, keep-less, collect-elim}
 use Rattle.model.proofs.PartLaws.{part-elim, part-intro}
-use Rattle.scan.specs.Held.{Held, Fits, upto}
-use Rattle.scan.specs.Steps.{Going, reached-column, work-column, run-end, is-met, is-reached, marks, opened-all, scanned-by, fires-on, visited, items, met-phase, visit-phase, round, unreached, unmet, Room, Ready}
-use Rattle.scan.proofs.Numbers.{upto-intro, upto-elim, count-both}
-use Rattle.scan.proofs.Marks.{marks-length, marks-out, marks-low, met-old, new-elim, old-or-new}
+use Rattle.firing.specs.Held.{Held, Fits, upto}
+use Rattle.firing.specs.Met.{reached-column, work-column, run-end, is-met, is-reached, marks, unreached, unmet}
+use Rattle.firing.specs.Firing.{opened-all, scanned-by, fires-on}
+use Rattle.scan.specs.Steps.{Going, visited, items, met-phase, visit-phase, round, Room, Ready}
+use Rattle.firing.proofs.Numbers.{upto-intro, upto-elim, count-both}
+use Rattle.firing.proofs.Marks.{marks-length, marks-out, marks-low, met-old, new-elim, old-or-new}
+use Rattle.firing.proofs.Meeting.{opened-small}
 use Rattle.scan.proofs.Visited.{visited-elim, visited-length}
 use Rattle.scan.proofs.Visits.{Fired, room-then, visits-fired}
 
@@ -29,14 +32,6 @@ met-then h g = marks (round-of g) (g .run) (scanned-by h (items g))
 -- the entries that it visits
 unfoldable pub visited-then : Held → Going → List ℕ
 visited-then h g = visited h (round-of g) (met-then h g) (h .named)
-
--- what a record meets are names
-pub opened-small : (h : Held) → Fits h → (i n : ℕ) → i < h .records → List·Memᴰ n (opened-all (h .opens) (h .frees i)) → n < h .named
-unfolding opened-all
-opened-small h fits i n l m =
-    let (b, z, s) = collect-elim (λ n. n ∷ h .opens n) (h .frees i) m in
-    let x = fits .frees-small i b l z in
-    ⊎-elim (λ (q : n ≡ b). omega arith) (λ q. fits .opens-small b n x q) (List·Memᴰ·cases-cons s)
 
 module _ (h : Held) (fits : Fits h) (g : Going) (ready : Ready h g) where
   pub long : h .named ≤ length (g .run)

@@ -15,21 +15,15 @@ use Rattle.model.specs.Rounds.{Run, met-after, lies-within, triggers-in, trigge
 use Rattle.model.proofs.ListLaws.{T-ext, T-and, any-intro, any-elim, keep-intro, keep-elim, collect-intro, collect-elim, map-intro, map-elim, not-nil-mem, mem-not-nil}
 use Rattle.model.proofs.SetLaws.{Ascending, ascending-ext, ascending-union, mem-intro, mem-elim, mem-from-list}
 use Rattle.laws.proofs.ReachedLaws.{reached-elim, reached-stays, reached-intro}
-use Rattle.scan.specs.Held.{Held, Fits, Holds, set-of}
-use Rattle.scan.specs.Steps.{Going, is-met, is-reached, scanned-by, fires-on, items, met-phase, round, Ready}
-use Rattle.scan.proofs.Numbers.{set-intro, set-elim, set-at, set-ascending}
-use Rattle.scan.proofs.Marks.{new-intro}
+use Rattle.firing.specs.Held.{Held, Fits, Holds}
+use Rattle.firing.specs.Met.{is-met, is-reached}
+use Rattle.firing.specs.Firing.{scanned-by, fires-on}
+use Rattle.scan.specs.Steps.{Going, items, met-phase, round, Ready}
+use Rattle.firing.proofs.Numbers.{set-intro, set-elim, set-at, set-ascending}
+use Rattle.firing.proofs.Marks.{new-intro}
 use Rattle.scan.proofs.Visited.{visited-intro}
 use Rattle.scan.proofs.Round.{round-of, met-then, visited-then, long, high-reached, fired, few, small-fact, work-elim, work-intro, is-met-then, visited-new, then-triggered, then-rounds, then-facts}
-use Rattle.scan.proofs.Meeting.{Agrees, fires-at, met-round}
-
--- the name of a record
-abbrev pub label : Held → (ℕ → Name) → ℕ → Name
-label h name i = name (h .row-name i)
-
--- the names of the records reached
-abbrev pub reached-set : Held → (ℕ → Name) → List ℕ → List Name
-reached-set h name w = set-of (label h name) (is-reached w) (h .records)
+use Rattle.firing.proofs.Meeting.{Agrees, fires-at, met-round, label, reached-set}
 
 -- the numbers stand before a round of a run of `model` that scans these names
 pub record At (h : Held) (name : ℕ → Name) (g : Going) (run : Run) (scanned : List Name) : Type 0 where

@@ -17,11 +17,12 @@ use Rattle.model.proofs.ListLaws.{true-T, false-T, count-cong}
 use Rattle.laws.specs.Fuel.{Ends, last, more}
 use Rattle.terms.proofs.Laws.{below}
 use Rattle.words.specs.Slices.{Same-but}
-use Rattle.scan.specs.Held.{Held, Fits, Holds, upto}
-use Rattle.scan.specs.Steps.{Going, run-end, is-met, is-reached, round, Ready, Rounds, last as last-round, more as more-rounds}
+use Rattle.firing.specs.Held.{Held, Fits, Holds, upto}
+use Rattle.firing.specs.Met.{run-end, is-met, is-reached}
+use Rattle.scan.specs.Steps.{Going, round, Ready, Rounds, last as last-round, more as more-rounds}
 use Rattle.scan.proofs.Round.{then-ready, then-length, then-far, then-visits, then-facts}
-use Rattle.scan.proofs.Meeting.{Agrees}
-use Rattle.scan.proofs.Rounds.{reached-set, At, at-then, triggered-then}
+use Rattle.firing.proofs.Meeting.{Agrees, reached-set}
+use Rattle.scan.proofs.Rounds.{At, at-then, triggered-then}
 
 module _ {a : Ask} {ms : Map (List Name)} {fs : List Fact} where
   goes-on : {run end : Run} {scanned : List Name} → Ends a ms fs run scanned end → T (not (is-nil (triggered ms fs run scanned)))

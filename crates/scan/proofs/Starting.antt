@@ -9,78 +9,19 @@ use mathlib.Core.List.{List, [], _∷_, _++_, List·Memᴰ, List·Memᴰ·head, 
 use lib.Dec.{T, T-not, ltb}
 use lib.ListN.{length, getD, set, length-set}
 use lib.Seq.{getD-set-same, getD-set-other}
-use borrow.Author.Tests.{eq-eqb, ne-eqb, le-ltb, ltb-true}
+use borrow.Author.Tests.{le-ltb, ltb-true}
 use Rattle.model.specs.Lists.{count}
-use Rattle.model.specs.Reading.{most-records, no-ambients}
-use Rattle.model.specs.Rounds.{asks-for}
-use Rattle.model.specs.declared.Asked.{Asked}
+use Rattle.model.specs.Reading.{most-records}
 use Rattle.model.proofs.ListLaws.{true-T, false-T}
 use Rattle.model.proofs.PartLaws.{part-nil, part-snoc, part-agree}
 use Rattle.terms.proofs.Laws.{equal}
-use Rattle.records.specs.Columns.{record-kind, record-flag, summary-code, assume-kind, root-kind, code-of}
-use Rattle.records.specs.States.{takes-part, ask-of}
-use Rattle.scan.specs.Held.{Held, Fits, upto}
-use Rattle.scan.specs.Steps.{Going, going, reached-column, work-column, run-end, work-room, is-met, is-reached, items, unreached, unmet, Ready}
-use Rattle.scan.specs.Starts.{zeroed-to, first-scan, starts-at, push, pushed}
+use Rattle.firing.specs.Held.{Held, Fits, upto}
+use Rattle.firing.specs.Met.{reached-column, work-column, run-end, is-met, is-reached, zeroed-to}
+use Rattle.scan.specs.Steps.{Going, going, work-room, items, Ready}
+use Rattle.scan.specs.Starts.{first-scan, push, pushed}
 use Rattle.scan.specs.declared.Scan.{Scan}
-use Rattle.scan.proofs.Numbers.{count-upto, count-none}
-
--- ---- clearing
-
-pub clear-start : (w : List ℕ) → w ≡ zeroed-to 0 w
-unfolding zeroed-to
-clear-start w = refl
-
-pub clear-next : (n : ℕ) (w v : List ℕ) → v ≡ zeroed-to n w → set v n 0 ≡ zeroed-to (n + 1) w
-unfolding zeroed-to
-clear-next n w v e = rw (add-one n, e)
-
-pub clear-end : {n m : ℕ} (w v : List ℕ) → v ≡ zeroed-to n w → n ≤ m → m ≤ n → v ≡ zeroed-to m w
-clear-end {n} {m} w v e a b = let z : n ≡ m = omega arith in subst (λ k. v ≡ zeroed-to k w) z e
-
-pub clear-length : (n : ℕ) (w : List ℕ) → length (zeroed-to n w) ≡ length w
-unfolding zeroed-to
-clear-length zero w = refl
-clear-length (suc n) w = length-set (zeroed-to n w) n 0 ∙ clear-length n w
-
-pub clear-zero : (n : ℕ) (w : List ℕ) → n ≤ length w → (i : ℕ) → i < n → _≡_ {A = ℕ} (getD (zeroed-to n w) i 0) 0
-unfolding zeroed-to
-clear-zero zero w l i k = absurd (omega arith)
-clear-zero (suc n) w l i k =
-    ⊎-elim
-    (λ (q : i ≡ n). rw q (getD-set-same (zeroed-to n w) n 0 0 (let e = clear-length n w in omega arith)))
-    (λ d. getD-set-other (zeroed-to n w) n i 0 0 d ∙ clear-zero n w (omega arith) i (omega (arith, d)))
-    (equal i n)
-
-pub clear-far : (n : ℕ) (w : List ℕ) (i : ℕ) → n ≤ i → getD (zeroed-to n w) i 0 ≡ getD w i 0
-unfolding zeroed-to
-clear-far zero w i k = refl
-clear-far (suc n) w i k = getD-set-other (zeroed-to n w) n i 0 0 (λ e. omega arith) ∙ clear-far n w i (omega arith)
-
--- ---- which records round 1 scans
-
-module _ (recs : List ℕ) (a : Asked) (i x : ℕ) (e : x ≡ record-kind recs i) where
-  pub starts-root : (y : ℕ) → {b : Bool} → x ≡ root-kind → y ≡ record-flag recs i → b ≡ asks-for (ask-of recs a) y → b ≡ starts-at recs a i
-  unfolding starts-at
-  starts-root y p q f = f ∙ rw (← e, eq-eqb x root-kind p, q)
-
-  pub starts-no : (y : ℕ) → (x ≡ root-kind → ⊥) → y ≡ summary-code recs i → (y ≡ 2 → ⊥) → false ≡ starts-at recs a i
-  unfolding starts-at code-of
-  starts-no y p q d = rw (← e, ne-eqb x root-kind p, ← q, ne-eqb y 2 d)
-
-  -- an ambient root by whether it takes part
-  by-part : (y : ℕ) {b : Bool} → (x ≡ root-kind → ⊥) → y ≡ summary-code recs i → y ≡ 2 → b ≡ takes-part recs (ask-of recs a) i
-      → (b && not (no-ambients (ask-of recs a))) ≡ starts-at recs a i
-  unfolding starts-at code-of
-  by-part y p q d f = rw (← e, ne-eqb x root-kind p, ← q, eq-eqb y 2 d, ← f)
-
-  pub starts-apart : (y : ℕ) {b : Bool} → (x ≡ root-kind → ⊥) → y ≡ summary-code recs i → y ≡ 2 → b ≡ takes-part recs (ask-of recs a) i
-      → b ≡ false → false ≡ starts-at recs a i
-  starts-apart y p q d f g = by-part y p q d (sym g ∙ f)
-
-  pub starts-ambient : (y : ℕ) {b : Bool} (off : Bool) → (x ≡ root-kind → ⊥) → y ≡ summary-code recs i → y ≡ 2
-      → b ≡ takes-part recs (ask-of recs a) i → b ≡ true → off ≡ no-ambients (ask-of recs a) → not off ≡ starts-at recs a i
-  starts-ambient y off p q d f g o = ap not o ∙ by-part y p q d (sym g ∙ f)
+use Rattle.firing.proofs.Numbers.{count-none}
+use Rattle.firing.proofs.Clearing.{clear-length, clear-zero, few-unreached, few-unmet}
 
 -- ---- the worklist
 
@@ -236,14 +177,6 @@ none-reached w i e = false-T (le-ltb 0 (getD w (reached-column + i) 0) (omega ar
 pub no-items : (w : List ℕ) (i : ℕ) → List·Memᴰ i (items (going first-scan w)) → ⊥
 unfolding items
 no-items w i m = List·Memᴰ·not-nil (rw (part-nil w work-column work-column (omega arith)) at m)
-
-pub few-unreached : (w : List ℕ) → unreached w ≤ most-records
-unfolding unreached
-few-unreached w = count-upto (λ i. not (is-reached w i)) most-records
-
-pub few-unmet : (n : ℕ) (w : List ℕ) → unmet n w ≤ n
-unfolding unmet
-few-unmet n w = count-upto (λ m. not (is-met w m)) n
 
 -- nothing is met or reached, and what the next round scans are the records of which the test holds
 pub record Begun (h : Held) (test : ℕ → Bool) (g : Going) : Type 0 where

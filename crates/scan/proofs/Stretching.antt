@@ -26,21 +26,23 @@ use Rattle.records.specs.Columns.{record-kind, record-name, record-flag, summar
 use Rattle.records.specs.States.{uses-at, decls-of, roots-of, background-of, takes-part, queries-of, ask-of}
 use Rattle.records.proofs.Chains.{no-queries, one-query}
 use Rattle.macros.specs.Macros.{Filled}
-use Rattle.scan.specs.Held.{Held, upto, set-of}
-use Rattle.scan.specs.Tables.{waits-on, held-of}
-use Rattle.scan.specs.Steps.{Going, going, run-end, work-column, reached-column, is-met, is-reached, unmet, Ready, Rounds}
-use Rattle.scan.specs.Starts.{zeroed-to, first-scan, starts-at, pushed}
+use Rattle.firing.specs.Held.{Held, upto, set-of}
+use Rattle.firing.specs.Tables.{waits-on, held-of, starts-at}
+use Rattle.firing.specs.Met.{run-end, work-column, reached-column, is-met, is-reached, unmet, zeroed-to}
+use Rattle.scan.specs.Steps.{Going, going, Ready, Rounds}
+use Rattle.scan.specs.Starts.{first-scan, pushed}
 use Rattle.scan.specs.Runs.{tables-run, Ran}
 use Rattle.scan.specs.Chains.{root-for, emptied, before-last, tables-chain, Chain-stands, Went-on}
 use Rattle.scan.specs.declared.Scan.{Scan}
-use Rattle.scan.proofs.Numbers.{upto-elim, count-upto}
+use Rattle.firing.proofs.Numbers.{upto-elim, count-upto}
 use Rattle.records.proofs.Taking.{part-groups}
 use Rattle.scan.proofs.Visits.{or-none}
 use Rattle.scan.proofs.Running.{Over, count-visits, rounds-same}
-use Rattle.scan.proofs.Starting.{few-unmet, begun}
-use Rattle.scan.proofs.Background.{roots-elim, roots-intro}
-use Rattle.scan.proofs.Joining.{laid, holds}
-use Rattle.scan.proofs.Asking.{free-in, free-out}
+use Rattle.firing.proofs.Clearing.{few-unmet}
+use Rattle.scan.proofs.Starting.{begun}
+use Rattle.firing.proofs.Background.{roots-elim, roots-intro}
+use Rattle.firing.proofs.Joining.{laid, holds}
+use Rattle.firing.proofs.Starting.{free-in, free-out}
 use Rattle.scan.proofs.GoingOn.{Rested, rounds-rested, Begun-again, begun-again, stretch-over}
 
 -- ---- the queries of an ask

@@ -17,12 +17,15 @@ use Rattle.model.proofs.ListLaws.{T-dec, true-T, false-T}
 use Rattle.model.proofs.IndexLaws.{index-here, index-later}
 use Rattle.laws.specs.History.{Is-history, last, more}
 use Rattle.laws.proofs.HistoryLaws.{first-state}
-use Rattle.scan.specs.Held.{Held, Fits, Holds}
-use Rattle.scan.specs.Steps.{Going, reached-column, is-met, is-reached, scanned-by, items, met-phase, round, Ready, Rounds, last as last-round, more as more-rounds}
-use Rattle.scan.proofs.Marks.{marks-old, new-intro}
+use Rattle.firing.specs.Held.{Held, Fits, Holds}
+use Rattle.firing.specs.Met.{reached-column, is-met, is-reached}
+use Rattle.firing.specs.Firing.{scanned-by}
+use Rattle.scan.specs.Steps.{Going, items, met-phase, round, Ready, Rounds, last as last-round, more as more-rounds}
+use Rattle.firing.proofs.Marks.{marks-old, new-intro}
 use Rattle.scan.proofs.Round.{round-of, met-then, long, high-same, high-reached, fired, is-met-then, then-ready, then-facts}
-use Rattle.scan.proofs.Numbers.{set-at}
-use Rattle.scan.proofs.Rounds.{label, At, at-then, triggered-then, reached-at}
+use Rattle.firing.proofs.Numbers.{set-at}
+use Rattle.firing.proofs.Meeting.{label}
+use Rattle.scan.proofs.Rounds.{At, at-then, triggered-then, reached-at}
 
 -- ---- one round
 

@@ -6,30 +6,23 @@ use mathlib.Core.Bool.{Bool, true, false, not, _||_}
 use mathlib.Core.List.{List}
 use lib.Dec.{T, ltb}
 use lib.ListN.{getD, set}
-use borrow.Author.Tests.{eq-eqb, ne-eqb, lt-ltb, le-ltb}
+use borrow.Author.Tests.{lt-ltb, le-ltb}
 use Rattle.model.specs.Lists.{part}
-use Rattle.model.specs.Reading.{most-records, most-entries, pretyping-axioms}
+use Rattle.model.specs.Reading.{most-records, most-entries}
 use Rattle.model.specs.declared.Asked.{Asked}
 use Rattle.model.specs.declared.Counts.{Counts}
 use Rattle.model.proofs.ListLaws.{false-T}
 use Rattle.triggers.specs.Entries.{entries-base}
-use Rattle.records.specs.Columns.{record-flag, entries-start, entries-end, entry-fact}
-use Rattle.records.specs.States.{entries-at, ask-of}
-use Rattle.scan.specs.Tables.{retained, held-of, Laid}
-use Rattle.scan.specs.Steps.{Going, going, reached-column, work-column, is-met, is-reached, fires-in, fires-on, counted, reach-record, visit, unreached, work-room, Room}
+use Rattle.records.specs.Columns.{entries-start, entries-end, entry-fact}
+use Rattle.records.specs.States.{entries-at}
+use Rattle.firing.specs.Tables.{retained, held-of, Laid}
+use Rattle.firing.specs.Met.{reached-column, work-column, is-met, is-reached, unreached}
+use Rattle.firing.specs.Firing.{fires-in, fires-on}
+use Rattle.scan.specs.Steps.{Going, going, counted, reach-record, visit, work-room, Room}
 use Rattle.scan.specs.declared.Scan.{Scan}
-use Rattle.scan.proofs.Numbers.{count-some}
-use Rattle.scan.proofs.Firing.{fires-exact}
+use Rattle.firing.proofs.Numbers.{count-some}
+use Rattle.firing.proofs.Firing.{fires-exact}
 use Rattle.scan.proofs.Visits.{or-none}
-
--- whether a record is retainable
-pub flag-off : (recs : List ℕ) (a : Asked) (i x : ℕ) → x ≡ record-flag recs i → (x ≡ 1 → ⊥) → true ≡ retained recs a i
-unfolding retained
-flag-off recs a i x e d = rw (← e, ne-eqb x 1 d)
-
-pub flag-on : (recs : List ℕ) (a : Asked) (i x : ℕ) (b : Bool) → x ≡ record-flag recs i → x ≡ 1 → b ≡ pretyping-axioms (ask-of recs a) → b ≡ retained recs a i
-unfolding retained
-flag-on recs a i x b e d o = rw (← e, eq-eqb x 1 d, o)
 
 or-true : (b : Bool) → (b || true) ≡ true
 or-true true = refl

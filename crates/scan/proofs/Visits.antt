@@ -12,9 +12,11 @@ use Rattle.model.specs.Lists.{any, all, fold-left}
 use Rattle.model.specs.Reading.{most-names, most-records}
 use Rattle.model.proofs.ListLaws.{any-cong, any-append, all-intro, all-elim, T-ext, T-and, T-dec, branch}
 use Rattle.terms.proofs.Laws.{equal, below}
-use Rattle.scan.specs.Held.{Held, Fits}
-use Rattle.scan.specs.Steps.{Going, reached-column, work-column, run-end, work-room, is-met, is-reached, fires-on, reach-record, counted, visit, visits-of, unreached, Room}
-use Rattle.scan.proofs.Numbers.{count-less, count-some}
+use Rattle.firing.specs.Held.{Held, Fits}
+use Rattle.firing.specs.Met.{reached-column, work-column, run-end, is-met, is-reached, unreached}
+use Rattle.firing.specs.Firing.{fires-on}
+use Rattle.scan.specs.Steps.{Going, work-room, reach-record, counted, visit, visits-of, Room}
+use Rattle.firing.proofs.Numbers.{count-less, count-some}
 
 all-cong : (p q : ℕ → Bool) (l : List ℕ) → ((n : ℕ) → List·Memᴰ n l → p n ≡ q n) → all p l ≡ all q l
 all-cong p q l e =

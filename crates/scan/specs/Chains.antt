@@ -15,9 +15,10 @@ use Rattle.names.specs.Table.{name-of}
 use Rattle.words.specs.Slices.{Same-but}
 use Rattle.records.specs.Columns.{record-kind, record-name, record-flag, root-kind, ask-query}
 use Rattle.records.specs.States.{roots-of, background-of, takes-part, ask-of}
-use Rattle.scan.specs.Held.{set-of}
-use Rattle.scan.specs.Steps.{run-end, is-met, is-reached, unmet, going, Rounds}
-use Rattle.scan.specs.Tables.{held-of}
+use Rattle.firing.specs.Held.{set-of}
+use Rattle.firing.specs.Met.{run-end, is-met, is-reached, unmet}
+use Rattle.scan.specs.Steps.{going, Rounds}
+use Rattle.firing.specs.Tables.{held-of}
 use Rattle.scan.specs.Starts.{pushed}
 use Rattle.scan.specs.declared.Scan.{Scan}
 

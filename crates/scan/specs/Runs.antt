@@ -12,10 +12,11 @@ use Rattle.names.specs.Table.{name-of}
 use Rattle.words.specs.Slices.{Same-but}
 use Rattle.records.specs.Columns.{record-name}
 use Rattle.records.specs.States.{fact-at, roots-of, background-of, takes-part, ask-of}
-use Rattle.scan.specs.Held.{set-of}
-use Rattle.scan.specs.Steps.{reached-column, work-column, run-end, is-met, is-reached, going, Rounds}
-use Rattle.scan.specs.Tables.{held-of}
-use Rattle.scan.specs.Starts.{zeroed-to, first-scan, starts-at, pushed}
+use Rattle.firing.specs.Held.{set-of}
+use Rattle.firing.specs.Met.{reached-column, work-column, run-end, is-met, is-reached, zeroed-to}
+use Rattle.scan.specs.Steps.{going, Rounds}
+use Rattle.firing.specs.Tables.{held-of, starts-at}
+use Rattle.scan.specs.Starts.{first-scan, pushed}
 use Rattle.scan.specs.declared.Scan.{Scan}
 
 -- the run of `model` of an ask over its background

@@ -15,10 +15,11 @@ use Rattle.model.proofs.ListLaws.{true-T, false-T, fold-left-append, collect-el
 use Rattle.terms.proofs.Laws.{equal}
 use Rattle.words.specs.Slices.{Same-but}
 use Rattle.words.proofs.Slices.{same-self, same-then}
-use Rattle.scan.specs.Held.{Held, Fits}
-use Rattle.scan.specs.Steps.{reached-column, is-reached, opened-all}
+use Rattle.firing.specs.Held.{Held, Fits}
+use Rattle.firing.specs.Met.{reached-column, is-reached}
+use Rattle.firing.specs.Firing.{opened-all}
 use Rattle.suppliers.specs.Notes.{supplier-column, goes-before, note, notes, was-scanned, noted, Supplying, Found, nobody, lowest, Notable}
-use Rattle.scan.proofs.Marks.{mem-dec}
+use Rattle.firing.proofs.Marks.{mem-dec}
 
 -- a record goes before none, and not before itself
 pub before-none : (line : ℕ → ℕ) (i word : ℕ) → word ≡ 0 → goes-before line i word ≡ true

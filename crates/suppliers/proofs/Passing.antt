@@ -20,9 +20,9 @@ use Rattle.words.proofs.Slices.{same-then}
 use Rattle.records.specs.Columns.{record-line, uses-start, uses-end}
 use Rattle.records.specs.States.{uses-at}
 use Rattle.macros.specs.Macros.{opened-word, opens-at}
-use Rattle.scan.specs.Tables.{held-of, record-meets, Laid}
-use Rattle.scan.specs.Steps.{reached-column, is-reached, opened-all}
-use Rattle.scan.specs.Starts.{starts-at}
+use Rattle.firing.specs.Tables.{held-of, record-meets, Laid, starts-at}
+use Rattle.firing.specs.Met.{reached-column, is-reached}
+use Rattle.firing.specs.Firing.{opened-all}
 use Rattle.suppliers.specs.Notes.{supplier-column, goes-before, note, notes, was-scanned, noted, Found, Notable, Suppliers-noted}
 use Rattle.suppliers.proofs.Noting.{notes-nil, notes-cons, notes-append, notes-length, note-notable, notes-notable, noted-same, noted-found, found-same}
 

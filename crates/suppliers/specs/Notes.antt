@@ -13,10 +13,10 @@ use Rattle.model.specs.declared.Asked.{Asked}
 use Rattle.model.specs.declared.Counts.{Counts}
 use Rattle.words.specs.Slices.{Same-but, Zeroed}
 use Rattle.records.specs.Columns.{record-line}
-use Rattle.scan.specs.Held.{Held}
-use Rattle.scan.specs.Steps.{reached-column, run-end, is-reached, opened-all}
-use Rattle.scan.specs.Starts.{starts-at}
-use Rattle.scan.specs.Tables.{held-of}
+use Rattle.firing.specs.Held.{Held}
+use Rattle.firing.specs.Met.{reached-column, run-end, is-reached}
+use Rattle.firing.specs.Firing.{opened-all}
+use Rattle.firing.specs.Tables.{starts-at, held-of}
 
 -- the first word of the column of suppliers, by name: one more than the record, 0 where none is noted
 abbrev pub supplier-column : ℕ

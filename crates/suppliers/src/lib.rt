@@ -8,8 +8,7 @@ ghost use Rattle.model.specs.Reading.{most-names, most-records};
 ghost use Rattle.model.specs.Outcome.{working-words};
 ghost use Rattle.records.specs.Columns.{record-line, macro-at, ask-room};
 ghost use Rattle.macros.specs.Macros.{opens-at};
-ghost use Rattle.scan.specs.Tables.{record-meets, Laid};
-ghost use Rattle.scan.specs.Starts.{starts-at};
+ghost use Rattle.firing.specs.Tables.{record-meets, Laid, starts-at};
 ghost use Rattle.suppliers.specs.Notes.{goes-before, note, notes, was-scanned, Notable, Suppliers-noted};
 
 // The column of the run's slice behind those of the run: by name, the record that supplies it, and one.
@@ -38,7 +37,7 @@ fn note(recs: &[u32], run: &mut [u32], i: usize, n: usize)
     if met == 0 {
         return;
     }
-    if met - 1 != words::at(run, scan::REACHED + i) {
+    if met - 1 != words::at(run, firing::REACHED + i) {
         return;
     }
     if !goes_before(recs, i, words::at(run, SUPPLIER + n)) {
@@ -111,10 +110,10 @@ fn was_scanned(recs: &[u32], run: &[u32], a: Asked, i: usize) -> bool
         × (working-words ≤ length (now run)) ⌝ }
     ensures { λ r. ⌜ r ≡ was-scanned (starts-at (now (recs .entry)) a) (now (run .entry)) i ⌝ }
 {
-    if scan::starts(recs, a, i) {
+    if firing::starts(recs, a, i) {
         return true;
     }
-    words::at(run, scan::REACHED + i) != 0
+    words::at(run, firing::REACHED + i) != 0
 }
 
 // Notes, after a run of the ask, for each name the record that supplies it: of the round before that in which the name was first

@@ -23,7 +23,7 @@ use Rattle.records.proofs.Chains.{asked-is}
 use Rattle.records.specs.Columns.{ask-room}
 use Rattle.records.specs.States.{decls-of, roots-of, asks-of, state-of, ask-of, asked-at}
 use Rattle.front.specs.Opening.{state-in, Open-file, Refused-file}
-use Rattle.scan.specs.Steps.{work-column, run-end}
+use Rattle.firing.specs.Met.{work-column, run-end}
 use Rattle.scan.specs.Runs.{tables-run}
 use Rattle.sweeping.specs.Swept.{tables-sweep, Swept-through}
 use Rattle.prune.specs.Loops.{kept-column, prune-room}

@@ -15,9 +15,10 @@ use Rattle.model.proofs.PartLaws.{part-cons, part-nil}
 use Rattle.triggers.specs.Entries.{entry-number, before-first, disjuncts-of-words, last-flag, no-name, entries-base}
 use Rattle.records.specs.Columns.{entries-start, entries-end}
 use Rattle.records.specs.States.{entries-at, takes-part, ask-of}
-use Rattle.scan.specs.Steps.{reached-column, is-met, is-reached, fires-in, fires-on}
-use Rattle.scan.specs.Tables.{retained, held-of, Laid}
-use Rattle.scan.proofs.Firing.{fires-exact}
+use Rattle.firing.specs.Met.{reached-column, is-met, is-reached}
+use Rattle.firing.specs.Firing.{fires-in, fires-on}
+use Rattle.firing.specs.Tables.{retained, held-of, Laid}
+use Rattle.firing.proofs.Firing.{fires-exact}
 use Rattle.sweeping.specs.Sweeping.{name-met, adds-at, fires-now, joins}
 
 -- ---- the loop

@@ -13,12 +13,12 @@ use Rattle.model.specs.declared.Asked.{Asked}
 use Rattle.model.specs.declared.Counts.{Counts}
 use Rattle.terms.proofs.Laws.{below}
 use Rattle.words.specs.Slices.{Zeroed}
-use Rattle.scan.specs.Held.{Held, Fits}
-use Rattle.scan.specs.Steps.{reached-column, work-column, run-end, marks, opened-all, unreached}
-use Rattle.scan.specs.Tables.{held-of, Laid}
-use Rattle.scan.specs.Starts.{zeroed-to, starts-at}
-use Rattle.scan.proofs.Marks.{marks-length}
-use Rattle.scan.proofs.Starting.{clear-length, clear-zero, clear-far, few-unreached}
+use Rattle.firing.specs.Held.{Held, Fits}
+use Rattle.firing.specs.Met.{reached-column, work-column, run-end, marks, unreached, zeroed-to}
+use Rattle.firing.specs.Firing.{opened-all}
+use Rattle.firing.specs.Tables.{held-of, Laid, starts-at}
+use Rattle.firing.proofs.Marks.{marks-length}
+use Rattle.firing.proofs.Clearing.{clear-length, clear-zero, clear-far, few-unreached}
 use Rattle.sweeping.specs.Sweeping.{Sweeping, sweeping, joins, joined, pass-record, passed, pass-all, Passes, last, more, met-of}
 use Rattle.sweeping.specs.Swept.{met-first}
 use Rattle.sweeping.proofs.Passing.{met-behind, pass-behind, pass-fewer}

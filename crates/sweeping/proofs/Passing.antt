@@ -9,11 +9,12 @@ use lib.ListN.{length, getD, set, length-set}
 use lib.Seq.{getD-set-same, getD-set-other}
 use Rattle.model.specs.Reading.{most-records}
 use Rattle.model.proofs.ListLaws.{T-and, branch, cond-case}
-use Rattle.scan.specs.Held.{Held, Fits}
-use Rattle.scan.specs.Steps.{reached-column, work-column, run-end, is-reached, marks, opened-all, unreached}
-use Rattle.scan.proofs.Numbers.{count-less}
-use Rattle.scan.proofs.Marks.{marks-length, marks-out}
-use Rattle.scan.proofs.Round.{opened-small}
+use Rattle.firing.specs.Held.{Held, Fits}
+use Rattle.firing.specs.Met.{reached-column, work-column, run-end, is-reached, marks, unreached}
+use Rattle.firing.specs.Firing.{opened-all}
+use Rattle.firing.proofs.Numbers.{count-less}
+use Rattle.firing.proofs.Marks.{marks-length, marks-out}
+use Rattle.firing.proofs.Meeting.{opened-small}
 use Rattle.sweeping.specs.Sweeping.{Sweeping, sweeping, joins, joined, pass-record, passed, pass-all, Passes, last, more, fires-now, met-of}
 
 -- two slices that are the same behind the two columns

@@ -18,13 +18,12 @@ use Rattle.model.specs.Sweep.{Sweep, adds, with-added, pass-fact, begin-pass, p
 use Rattle.model.proofs.ListLaws.{T-ext, any-intro, any-elim, collect-append, collect-elim, concat-intro, concat-elim, map-intro, map-elim, fold-left-append}
 use Rattle.model.proofs.SetLaws.{Ascending, union-mem, ascending-ext, ascending-add, mem-add, mem-intro, mem-elim, mem-from-list}
 use Rattle.terms.proofs.Laws.{equal}
-use Rattle.scan.specs.Held.{Held, Fits, Holds}
-use Rattle.scan.specs.Steps.{reached-column, work-column, run-end, is-met, is-reached, marks, opened-all, scanned-by}
-use Rattle.scan.proofs.Numbers.{set-intro, set-elim, set-at, set-none, set-ascending}
-use Rattle.scan.proofs.Marks.{marks-nil, marks-append, marks-length, marks-out}
-use Rattle.scan.proofs.Round.{opened-small}
-use Rattle.scan.proofs.Meeting.{Agrees, fires-at, met-round}
-use Rattle.scan.proofs.Rounds.{label, reached-set}
+use Rattle.firing.specs.Held.{Held, Fits, Holds}
+use Rattle.firing.specs.Met.{reached-column, work-column, run-end, is-met, is-reached, marks}
+use Rattle.firing.specs.Firing.{opened-all, scanned-by}
+use Rattle.firing.proofs.Numbers.{set-intro, set-elim, set-at, set-none, set-ascending}
+use Rattle.firing.proofs.Marks.{marks-nil, marks-append, marks-length, marks-out}
+use Rattle.firing.proofs.Meeting.{opened-small, Agrees, fires-at, met-round, label, reached-set}
 use Rattle.sweeping.specs.Sweeping.{Sweeping, sweeping, met-of, fires-now, joins, joined, pass-record, passed, pass-all, Passes, last, more}
 use Rattle.laws.specs.Passes.{Sweeps, last as last-pass, more as more-passes}
 use Rattle.laws.proofs.PassLaws.{same-adds-none, other-adds-some}

@@ -20,14 +20,13 @@ use Rattle.terms.proofs.Laws.{below}
 use Rattle.words.specs.Slices.{Same-but}
 use Rattle.records.specs.States.{uses-at, fact-at, roots-of, background-of, takes-part, ask-of}
 use Rattle.macros.specs.Macros.{Filled}
-use Rattle.scan.specs.Held.{Held}
-use Rattle.scan.specs.Steps.{work-column, run-end}
-use Rattle.scan.specs.Tables.{held-of}
-use Rattle.scan.specs.Starts.{zeroed-to, starts-at}
-use Rattle.scan.proofs.Starting.{clear-length, clear-zero, clear-far}
-use Rattle.scan.proofs.Background.{no-facts, next-facts}
-use Rattle.scan.proofs.Joining.{laid, holds}
-use Rattle.scan.proofs.Asking.{first-in, first-all}
+use Rattle.firing.specs.Held.{Held}
+use Rattle.firing.specs.Met.{work-column, run-end, zeroed-to}
+use Rattle.firing.specs.Tables.{held-of, starts-at}
+use Rattle.firing.proofs.Clearing.{clear-length, clear-zero, clear-far}
+use Rattle.firing.proofs.Background.{no-facts, next-facts}
+use Rattle.firing.proofs.Joining.{laid, holds}
+use Rattle.firing.proofs.Starting.{first-in, first-all}
 use Rattle.sweeping.specs.Sweeping.{sweeping, Passes}
 use Rattle.sweeping.specs.Swept.{tables-sweep, met-first, Swept-through}
 use Rattle.laws.proofs.PassLaws.{sweep-ends}

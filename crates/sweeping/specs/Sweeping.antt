@@ -10,9 +10,10 @@ use Rattle.model.specs.Lists.{any}
 use Rattle.model.specs.declared.Asked.{Asked}
 use Rattle.triggers.specs.Entries.{last-flag, no-name}
 use Rattle.records.specs.States.{entries-at, takes-part, ask-of}
-use Rattle.scan.specs.Held.{Held}
-use Rattle.scan.specs.Steps.{reached-column, is-met, is-reached, marks, opened-all, fires-in, fires-on}
-use Rattle.scan.specs.Tables.{retained}
+use Rattle.firing.specs.Held.{Held}
+use Rattle.firing.specs.Met.{reached-column, is-met, is-reached, marks}
+use Rattle.firing.specs.Firing.{opened-all, fires-in, fires-on}
+use Rattle.firing.specs.Tables.{retained}
 
 -- the state of a sweep and its slice
 pub record Sweeping : Type 0 where

@@ -13,10 +13,9 @@ use Rattle.names.specs.Table.{name-of}
 use Rattle.words.specs.Slices.{Same-but}
 use Rattle.records.specs.Columns.{record-name}
 use Rattle.records.specs.States.{roots-of, background-of, takes-part, ask-of}
-use Rattle.scan.specs.Held.{set-of}
-use Rattle.scan.specs.Steps.{work-column, is-met, is-reached}
-use Rattle.scan.specs.Tables.{held-of}
-use Rattle.scan.specs.Starts.{zeroed-to, starts-at}
+use Rattle.firing.specs.Held.{set-of}
+use Rattle.firing.specs.Met.{work-column, is-met, is-reached, zeroed-to}
+use Rattle.firing.specs.Tables.{held-of, starts-at}
 use Rattle.sweeping.specs.Sweeping.{sweeping, met-of, Passes}
 
 -- the sweep of `model` of an ask over its background

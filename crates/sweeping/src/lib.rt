@@ -9,12 +9,12 @@ ghost use Rattle.model.specs.Reading.{most-names, most-records, most-entries};
 ghost use Rattle.model.specs.Outcome.{working-words};
 ghost use Rattle.records.specs.Columns.{entries-start, entries-end, ask-room};
 ghost use Rattle.macros.specs.Macros.{Filled};
-ghost use Rattle.scan.specs.Tables.{held-of, Laid};
-ghost use Rattle.scan.specs.Steps.{work-column, run-end};
+ghost use Rattle.firing.specs.Tables.{held-of, Laid};
+ghost use Rattle.firing.specs.Met.{work-column, run-end};
 ghost use Rattle.sweeping.specs.Sweeping.{sweeping, name-met, adds-at, pass-all};
 ghost use Rattle.sweeping.specs.Swept.{met-first, Swept-through};
 
-// The words of the run's slice that a sweep writes: by name, from word 0 on, 1 where it is met; by record, from `scan::REACHED`
+// The words of the run's slice that a sweep writes: by name, from word 0 on, 1 where it is met; by record, from `firing::REACHED`
 // on, 1 where it is reached.
 const COLUMNS: usize = 3072;
 
@@ -38,7 +38,7 @@ fn any_met(lists: &[u32], run: &[u32], a: usize, e: usize) -> bool
 }
 
 // Whether a record is added: a retainable fact that the ask admits, not reached, and it fires on the names met now.
-// `scan::fires` alone would let an empty disjunct fire.
+// `firing::fires` alone would let an empty disjunct fire.
 fn adds(recs: &[u32], lists: &[u32], run: &[u32], a: Asked, i: usize) -> bool
     requires { ⌜ (i < most-records) × (working-words ≤ length (now recs)) × (working-words ≤ length (now lists))
         × (run-end ≤ length (now run)) × (entries-start (now recs) i ≤ entries-end (now recs) i)
@@ -49,11 +49,11 @@ fn adds(recs: &[u32], lists: &[u32], run: &[u32], a: Asked, i: usize) -> bool
     if !admitted {
         return false;
     }
-    let retainable = scan::retained(recs, a, i);
+    let retainable = firing::retained(recs, a, i);
     if !retainable {
         return false;
     }
-    if words::at(run, scan::REACHED + i) != 0 {
+    if words::at(run, firing::REACHED + i) != 0 {
         return false;
     }
     let start = triggers::ENTRIES + words::at(recs, records::ENTRIES_START + i);
@@ -61,7 +61,7 @@ fn adds(recs: &[u32], lists: &[u32], run: &[u32], a: Asked, i: usize) -> bool
     if !any_met(lists, run, start, end) {
         return false;
     }
-    scan::fires(lists, run, start, end)
+    firing::fires(lists, run, start, end)
 }
 
 // Clears the columns and meets the names of the records that start.
@@ -76,10 +76,10 @@ fn meet_first(names: &[u32], recs: &[u32], lists: &[u32], run: &mut [u32], k: Co
     while i < count {
         let j = i;
         i += 1;
-        if !scan::starts(recs, a, j) {
+        if !firing::starts(recs, a, j) {
             continue;
         }
-        scan::meet_record(names, recs, lists, run, k, j, 1);
+        firing::meet_record(names, recs, lists, run, k, j, 1);
     }
 }
 
@@ -99,8 +99,8 @@ fn pass(names: &[u32], recs: &[u32], lists: &[u32], run: &mut [u32], k: Counts, 
         if !adds(recs, lists, run, a, i) {
             continue;
         }
-        run[scan::REACHED + i] = 1;
-        scan::meet_record(names, recs, lists, run, k, i, 1);
+        run[firing::REACHED + i] = 1;
+        firing::meet_record(names, recs, lists, run, k, i, 1);
         added = true;
     }
     added

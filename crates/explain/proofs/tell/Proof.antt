@@ -1,6 +1,6 @@
 -- `explain::tell` meets its contract.
 use native.Mathlib.Omega.{arith}
-use Rattle.scan.proofs.Joining.{laid}
+use Rattle.firing.proofs.Joining.{laid}
 use Rattle.explain.proofs.Telling.{explainable, tells-rows}
 use Rattle.explain.proofs.tell.Statement.{statement}
 use Rattle.explain.proofs.tell.Tie as tie

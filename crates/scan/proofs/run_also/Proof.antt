@@ -1,6 +1,6 @@
 -- `scan::run_also` meets its contract.
 use native.Mathlib.Omega.{arith}
-use Rattle.scan.proofs.Joining.{laid}
+use Rattle.firing.proofs.Joining.{laid}
 use Rattle.scan.proofs.Stretching.{also-ready, went-on}
 use Rattle.scan.proofs.run_also.Statement.{statement}
 use Rattle.scan.proofs.run_also.Tie as tie

@@ -3,8 +3,9 @@ use native.Mathlib.Omega.{arith}
 use mathlib.Core.Path.{_∙_, ap}
 use lib.ListN.{length}
 use Rattle.scan.specs.Steps.{Going}
-use Rattle.scan.proofs.Starting.{clear-length, roots-on}
-use Rattle.scan.proofs.Joining.{laid}
+use Rattle.firing.proofs.Clearing.{clear-length}
+use Rattle.scan.proofs.Starting.{roots-on}
+use Rattle.firing.proofs.Joining.{laid}
 use Rattle.scan.proofs.Asking.{first-ready, ran}
 use Rattle.scan.proofs.run_ask.Statement.{statement}
 use Rattle.scan.proofs.run_ask.Tie as tie

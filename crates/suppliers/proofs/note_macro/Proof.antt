@@ -2,7 +2,7 @@
 use native.Mathlib.Omega.{arith}
 use mathlib.Core.Path.{ap, _∙_}
 use lib.ListN.{length}
-use Rattle.scan.proofs.Meets.{open-place, open-small}
+use Rattle.firing.proofs.Meets.{open-place, open-small}
 use Rattle.suppliers.proofs.Noting.{note-length, notes-length}
 use Rattle.suppliers.proofs.Passing.{open-none, open-record, open-name}
 use Rattle.suppliers.proofs.note_macro.Statement.{statement}

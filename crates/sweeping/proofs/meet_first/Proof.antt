@@ -3,8 +3,7 @@ use Prim.Native.Nat.{_-_}
 use native.Mathlib.Omega.{arith}
 use mathlib.Core.Path.{refl, _∙_}
 use borrow.Author.Tests.{not-true, not-false}
-use Rattle.scan.specs.Tables.{held-of}
-use Rattle.scan.specs.Starts.{starts-at}
+use Rattle.firing.specs.Tables.{held-of, starts-at}
 use Rattle.sweeping.proofs.Loops.{Meeting, meet-start, meet-skip, meet-next, first-names}
 use Rattle.sweeping.proofs.meet_first.Statement.{statement}
 use Rattle.sweeping.proofs.meet_first.Tie as tie

@@ -4,7 +4,7 @@ use native.Mathlib.Omega.{arith}
 use mathlib.Core.Path.{refl}
 use lib.ListN.{length-set}
 use borrow.Author.Tests.{not-true, not-false}
-use Rattle.scan.specs.Tables.{held-of}
+use Rattle.firing.specs.Tables.{held-of}
 use Rattle.sweeping.proofs.Entries.{adds-exact}
 use Rattle.sweeping.proofs.Loops.{Passing, pass-start, pass-skip, pass-next, pass-end}
 use Rattle.sweeping.proofs.pass.Statement.{statement}

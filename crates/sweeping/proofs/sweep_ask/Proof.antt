@@ -2,9 +2,9 @@
 use native.Mathlib.Omega.{arith}
 use mathlib.Core.Path.{_∙_}
 use borrow.Author.Tests.{not-true, not-false}
-use Rattle.scan.specs.Tables.{held-of}
-use Rattle.scan.specs.Steps.{unreached}
-use Rattle.scan.proofs.Joining.{laid}
+use Rattle.firing.specs.Tables.{held-of}
+use Rattle.firing.specs.Met.{unreached}
+use Rattle.firing.proofs.Joining.{laid}
 use Rattle.sweeping.proofs.Loops.{first-length, Sweeping-on, on-start, on-length, on-less, on-next, on-end, on-few}
 use Rattle.sweeping.proofs.Tying.{swept-from}
 use Rattle.sweeping.proofs.sweep_ask.Statement.{statement}

@@ -2,7 +2,7 @@
 use Prim.Native.Nat.{_-_}
 use native.Mathlib.Omega.{arith}
 use borrow.Author.Tests.{not-true, not-false}
-use Rattle.scan.specs.Starts.{starts-at}
+use Rattle.firing.specs.Tables.{starts-at}
 use Rattle.scan.proofs.Starting.{Adding, add-start, add-skip, add-next, add-end}
 use Rattle.scan.proofs.Scan.add_roots.Statement.{statement}
 use Rattle.scan.proofs.Scan.add_roots.Tie as tie

@@ -1,7 +1,8 @@
 -- `scan::Scan::go_on` meets its contract. Each round but the last meets a name: the names not met are fewer.
 use borrow.Author.Tests.{not-true, not-false}
-use Rattle.scan.specs.Tables.{held-of}
-use Rattle.scan.specs.Steps.{going, unmet}
+use Rattle.firing.specs.Tables.{held-of}
+use Rattle.firing.specs.Met.{unmet}
+use Rattle.scan.specs.Steps.{going}
 use Rattle.scan.proofs.Phases.{Going-on, on-start, on-next, on-less, on-end, on-length}
 use Rattle.scan.proofs.Scan.go_on.Statement.{statement}
 use Rattle.scan.proofs.Scan.go_on.Tie as tie

@@ -1,7 +1,7 @@
 -- `scan::Scan::meet_items` meets its contract. The loop's invariant: the items so far are met.
 use Prim.Native.Nat.{_-_}
 use native.Mathlib.Omega.{arith}
-use Rattle.scan.specs.Tables.{record-meets}
+use Rattle.firing.specs.Tables.{record-meets}
 use Rattle.scan.proofs.Phases.{Scanned, scan-start, scan-item, scan-next, scan-end}
 use Rattle.scan.proofs.Scan.meet_items.Statement.{statement}
 use Rattle.scan.proofs.Scan.meet_items.Tie as tie

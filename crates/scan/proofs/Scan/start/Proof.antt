@@ -3,9 +3,10 @@ use Prim.Native.Nat.{_-_, _≤_}
 use native.Mathlib.Omega.{arith}
 use mathlib.Core.Path.{_≡_, ap, _∙_}
 use lib.ListN.{length}
-use Rattle.scan.specs.Steps.{going, work-column}
-use Rattle.scan.specs.Starts.{zeroed-to, first-scan}
-use Rattle.scan.proofs.Starting.{clear-start, clear-next, clear-length, clear-end}
+use Rattle.firing.specs.Met.{work-column, zeroed-to}
+use Rattle.scan.specs.Steps.{going}
+use Rattle.scan.specs.Starts.{first-scan}
+use Rattle.firing.proofs.Clearing.{clear-start, clear-next, clear-length, clear-end}
 use Rattle.scan.proofs.Scan.start.Statement.{statement}
 use Rattle.scan.proofs.Scan.start.Tie as tie
 

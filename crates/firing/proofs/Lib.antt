@@ -1,0 +1,14 @@
+pub mod Numbers
+pub mod Newest
+pub mod Marks
+pub mod Clearing
+pub mod Waiting
+pub mod Firing
+pub mod Meeting
+pub mod Meets
+pub mod Asked
+pub mod Listing
+pub mod Background
+pub mod Opening
+pub mod Joining
+pub mod Starting

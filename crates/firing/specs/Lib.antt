@@ -1,0 +1,4 @@
+pub mod Held
+pub mod Met
+pub mod Firing
+pub mod Tables
