@@ -231,7 +231,7 @@ module _ (a : Ask) (decls : List Summary) (roots : List Root) where
       let start = sweep-start a decls roots in
       let (n, r) = passes-end a (macros decls) (facts decls) (suc (facts-with-triggers (facts decls))) start
       (omega (arith, unreached-few a (macros decls) (facts decls) start)) in
-      let c : n ≡ sweep a decls roots .passes = sym (passes-counted a (macros decls) (facts decls) r) in
+      let c : n ≡ sweep a decls roots .passes = omega (arith, passes-counted a (macros decls) (facts decls) r) in
       subst (λ n. Sweeps a (macros decls) (facts decls) n start (sweep a decls roots)) c r
 
   -- its passes are at most one more than the facts with triggers

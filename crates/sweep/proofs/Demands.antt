@@ -89,6 +89,7 @@ module _ (c : Call) (exact : Exact c) where
               let told = subst (λ (l : List ℕ). Passes-at l s i a) (sym (ap (λ (a : Swept). a .passes) (exact .answered)))
               (passes .told ps s e reads i a h) in
               record {
+                summaries = positions i a h .demand-2 .summaries;
                 lists = record {
                   count = ap (λ l. getD l i 0) (tells .kept) ∙ listing .count;
                   listed = ap (λ l. take (getD l i 0) (drop (sum (take i l)) (c .out′))) (tells .kept) ∙ listing .listed;

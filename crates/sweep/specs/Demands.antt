@@ -17,6 +17,7 @@ use Rattle.laws.specs.Passes.{Sweeps}
 use Rattle.demands.specs.LinesRead.{Lines-read, records-for, At}
 use Rattle.demands.specs.Demand1.{Lines-judged, When-8, all-lengths}
 use Rattle.demands.specs.Demand2.{followed-list}
+use Rattle.demands.specs.FileOrder.{In-order}
 use Rattle.demands.specs.Asks.{asks-on, Good-asks}
 use Rattle.demands.specs.Sweep.{sweep-of, Same-end, Passes-at}
 use Rattle.front.specs.Demand.{verdict-number, Front-demand}
@@ -67,6 +68,8 @@ pub record In-sequence (c : Call) (s : State) : Type 0 where
 
 -- of the ask at a position
 pub record Position-demands (c : Call) (s : State) (i : ℕ) (a : Ask) : Type 0 where
+  -- the facts that it asks of are the summaries of the assume lines
+  pub summaries : In-order (c .file) s
   -- its list is that of the first engine's run, with what bodies add
   pub lists : Call-lists c i (followed-list a s)
   -- "it is proved to reach the same facts and meet the same names as the first engine"
