@@ -27,33 +27,40 @@ pub struct Late {
     pub rows: usize,
 }
 
-// The sort of a name that is free in the body of a def: 1 where its def or fun stands on the same or a later line, 2 where it
-// has neither; 0 where it stands before.
+// The sorts of a row: the def or fun of its name comes late, or there is neither; and of a name that has no row.
+const LATE: usize = 1;
+
+const NEITHER: usize = 2;
+
+const NO_ROW: usize = 0;
+
+// The sort of a name that is free in the body of a def: late where its def or fun stands on the same or a later line, neither
+// where it has none; no row where it stands before.
 fn sort_at(names: &[u32], recs: &[u32], i: usize, n: usize) -> usize
     requires { ⌜ Readable (now names) (now recs) n × (i < most-records) ⌝ }
     ensures { λ s. ⌜ s ≡ sort-at (now (names .entry)) (now (recs .entry)) i n ⌝ }
 {
     let taken = words::at(names, records::TAKEN + n);
     if taken == 0 {
-        return 2;
+        return NEITHER;
     }
     if words::at(recs, records::KIND + (taken - 1)) == records::ASSUME {
-        return 2;
+        return NEITHER;
     }
     let line = words::at(recs, records::LINE + i);
     if words::at(recs, records::LINE + (taken - 1)) < line {
-        return 0;
+        return NO_ROW;
     }
-    1
+    LATE
 }
 
-// The same of any name: 0 too where it is not free in the body, and so has not the stamp of the def.
+// The same of any name: no row too where it is not free in the body, and so has not the stamp of the def.
 fn late_at(names: &[u32], recs: &[u32], refs: &[u32], i: usize, n: usize) -> usize
     requires { ⌜ Readable (now names) (now recs) n × (i < most-records) × (working-words ≤ length (now refs)) ⌝ }
     ensures { λ s. ⌜ s ≡ late-at (now (names .entry)) (now (recs .entry)) (has-stamp (now (refs .entry)) i) i n ⌝ }
 {
     if words::at(refs, n) != i + 1 {
-        return 0;
+        return NO_ROW;
     }
     sort_at(names, recs, i, n)
 }
@@ -82,7 +89,7 @@ fn put_body(
         let n = words::at(names, names::INDEX + r);
         let s = late_at(names, recs, refs, i, n);
         r += 1;
-        if s == 0 {
+        if s == NO_ROW {
             continue;
         }
         rows::put_row(run, to, line, n as u32, s as u32);
