@@ -246,6 +246,12 @@ files-3 =
       printed = "row,3,0,1,g,g\nrows,1\n" ∷ [];
     }
     ∷ record {
+      name = "order-own-name-and-a-hidden-name";
+      room = 6144;
+      file = "ask,0,0\nhide,h\nfree,g\nfree,h\nop,and,0,1\ndef,g,2\ndef,h,2\n" ∷ [];
+      printed = "row,6,1,1,g,g\nrows,1\n" ∷ [];
+    }
+    ∷ record {
       name = "order-pattern-names-count";
       room = 6144;
       file = "ask,0,0\nfree,x\nleaf\nall,1,1,1,0\ndef,g,2\n" ∷ [];
@@ -302,6 +308,12 @@ files-3 =
       printed = "row,10,5,1,g,f\nrow,10,6,2,g,x\nrow,11,6,2,f,x\nrows,3\n" ∷ [];
     }
     ∷ record {
+      name = "order-two-defs-of-one-name-are-5";
+      room = 6144;
+      file = "ask,0,0\nleaf\ndef,h,0\nfree,h\ndef,g,1\ndef,h,0\n" ∷ [];
+      printed = "refused,5,6\n" ∷ [];
+    }
+    ∷ record {
       name = "order-two-that-use-each-other-one-row";
       room = 6144;
       file = "ask,0,0\nfree,h\nfree,g\ndef,g,0\ndef,h,1\n" ∷ [];
@@ -311,7 +323,7 @@ files-3 =
 
 files-3-listed : All-listed files-3
 unfolding lists-them files-3
-files-3-listed = (refl, (refl, (refl, (refl, (refl, (refl, (refl, (refl, (refl, (refl, (refl, tt)))))))))))
+files-3-listed = (refl, (refl, (refl, (refl, (refl, (refl, (refl, (refl, (refl, (refl, (refl, (refl, (refl, tt)))))))))))))
 
 -- tables one row too short and exactly long enough, and refusals of lines before 8
 tables : List Checked-case
@@ -384,7 +396,9 @@ table-left :
     × (ordered (over 2) ≡ record { verdict = Accepted; place = 0; rows = 2 })
     × (ordered (check small (replicate 6 (working 16383)) 0) ≡ record { verdict = Refused refusal.Working; place = 0; rows = 0 })
     × (rows-after (over 1) (old ∷ []) ≡ old ∷ [])
+    × (rows-after (over 2) (old ∷ old ∷ [])
+    ≡ record { line = 5; number = 1; cause = 1 } ∷ record { line = 5; number = 0; cause = 2 } ∷ [])
     × (rows-after (over 3) (old ∷ old ∷ old ∷ [])
     ≡ record { line = 5; number = 1; cause = 1 } ∷ record { line = 5; number = 0; cause = 2 } ∷ old ∷ [])
 unfolding lists-them small over old
-table-left = (refl, refl, refl, refl, refl)
+table-left = (refl, refl, refl, refl, refl, refl)

@@ -543,6 +543,97 @@ files-6-explained : All-explained files-6
 unfolding explains files-6
 files-6-explained = (refl, (refl, (refl, (refl, (refl, (refl, (refl, (refl, (refl, (refl, tt))))))))))
 
+-- why-also-line-of-an-earlier-query to why-two-tokens-trimmed-to-one-name
+files-7 : List Reasoned
+files-7 =
+    record {
+      name = "why-also-line-of-an-earlier-query";
+      position = 3;
+      file = "ask,0,0\nalso,1\nalso,0\nfree,p\nfree,q\nop,eq,0,1\nassume,a,0,2\nroot,0,r,0\nroot,1,s,1\n" ∷ [];
+      printed = "row,7,0,8,a,p,r\nrow,7,1,9,a,q,s\nmet,2\nrows,2\n" ∷ [];
+    }
+    ∷ record {
+      name = "why-also-line-of-the-query-of-its-ask";
+      position = 2;
+      file = "ask,0,0\nalso,0\nfree,p\nfree,q\nall,1,1,1,0\nassume,b,0,2\nleaf\nall,3,1,1,1\nassume,a,0,4\n"
+          ∷ "root,0,r,0\n"
+          ∷ [];
+      printed = "row,9,1,6,a,q,b\nrow,6,0,10,b,p,r\nmet,2\nrows,2\n" ∷ [];
+    }
+    ∷ record {
+      name = "why-ambient-root-admitted-by-the-second-ask-supplies";
+      position = 2;
+      file = "ask2,0,0,2\nask2,0,0,3\nfree,p\nfree,Tm_refine_1\ncall,HasType,0,1\nassume,h,0,0,2\nop,eq,0,0\n"
+          ∷ "assume,a,0,1,3\nroot,0,r,0\n"
+          ∷ [];
+      printed = "row,8,0,6,a,p,h\nmet,2\nrows,1\n" ∷ [];
+    }
+    ∷ record {
+      name = "why-ambient-root-not-admitted-supplies-nothing";
+      position = 1;
+      file = "ask2,0,0,2\nask2,0,0,3\nfree,p\nfree,Tm_refine_1\ncall,HasType,0,1\nassume,h,0,0,2\nop,eq,0,0\n"
+          ∷ "assume,a,0,1,3\nroot,0,r,0\n"
+          ∷ [];
+      printed = "row,8,0,9,a,p,r\nmet,1\nrows,1\n" ∷ [];
+    }
+    ∷ record {
+      name = "why-hidden-macro-opens-nothing";
+      position = 1;
+      file = "ask,0,0\nhide,g\nfree,g\nfree,k\ndef,g,1\nop,eq,1,1\nassume,a,0,2\nroot,0,r,0\nroot,0,s,1\n" ∷ [];
+      printed = "row,7,1,9,a,k,s\nmet,1\nrows,1\n" ∷ [];
+    }
+    ∷ record {
+      name = "why-hidden-starting-macro-opens-nothing";
+      position = 1;
+      file = "ask,0,0\nhide,is-BoxInt\nfree,is-BoxInt\nfree,BoxInt\nop,eq,1,1\nassume,a,0,2\nroot,0,r,0\nroot,0,s,1\n" ∷ [];
+      printed = "row,6,1,8,a,BoxInt,s\nmet,1\nrows,1\n" ∷ [];
+    }
+    ∷ record {
+      name = "why-hidden-token-alone-meets-nothing";
+      position = 1;
+      file = "ask,0,0\nhide,f@tok\nfree,__uu__PartialApp\nfree,f@tok\ncall,ApplyTT,0,1\ncall,Valid,2\nassume,t,0,3\n"
+          ∷ "root,0,r,1\n"
+          ∷ [];
+      printed = "met,0\nrows,0\n" ∷ [];
+    }
+    ∷ record {
+      name = "why-hidden-token-has-no-row-its-trimmed-name-has";
+      position = 1;
+      file = "ask,0,0\nhide,f@tok\nfree,__uu__PartialApp\nfree,f@tok\ncall,ApplyTT,0,1\ncall,Valid,2\nassume,t,0,3\n"
+          ∷ "free,f\nop,and,4,1\nroot,0,r,5\n"
+          ∷ [];
+      printed = "row,7,5,10,t,f,r\nmet,2\nrows,1\n" ∷ [];
+    }
+    ∷ record {
+      name = "why-hidden-trimmed-name-has-no-row-its-token-has";
+      position = 1;
+      file = "ask,0,0\nhide,f\nfree,__uu__PartialApp\nfree,f@tok\ncall,ApplyTT,0,1\ncall,Valid,2\nassume,t,0,3\n"
+          ∷ "free,f\nop,and,4,1\nroot,0,r,5\n"
+          ∷ [];
+      printed = "row,7,2,10,t,f@tok,r\nmet,2\nrows,1\n" ∷ [];
+    }
+    ∷ record {
+      name = "why-hidden-trimmed-name-met-through-a-starting-macro";
+      position = 1;
+      file = "ask,0,0\nhide,BoxInt\nhide,BoxInt@tok\nfree,__uu__PartialApp\nfree,BoxInt@tok\ncall,ApplyTT,0,1\n"
+          ∷ "call,Valid,2\nassume,t,0,3\nfree,is-BoxInt\nop,and,4,1\nroot,0,r,5\n"
+          ∷ [];
+      printed = "row,8,0,11,t,BoxInt,r\nmet,3\nrows,1\n" ∷ [];
+    }
+    ∷ record {
+      name = "why-two-tokens-trimmed-to-one-name";
+      position = 1;
+      file = "ask,0,0\nfree,__uu__PartialApp\nfree,f@tok\ncall,ApplyTT,0,1\ncall,Valid,2\nassume,u,0,3\ncall,f@tok\n"
+          ∷ "call,ApplyTT,0,4\ncall,Valid,5\nassume,t,0,6\nall,1,1,1,1\nassume,v,0,7\nfree,f\nroot,0,r,8\n"
+          ∷ [];
+      printed = "row,10,5,14,t,f,r\nrow,6,5,14,u,f,r\nrow,12,1,6,v,f@tok,u\nmet,3\nrows,3\n" ∷ [];
+    }
+    ∷ []
+
+files-7-explained : All-explained files-7
+unfolding explains files-7
+files-7-explained = (refl, (refl, (refl, (refl, (refl, (refl, (refl, (refl, (refl, (refl, (refl, tt)))))))))))
+
 -- a file with one row, at position 1
 small : List ℕ
 small = text-of ("ask,0,0\nfree,p\nop,eq,0,0\nassume,a,0,1\nroot,0,r,0\n" ∷ [])
@@ -565,3 +656,25 @@ table-left :
     × (table-after (over 1 2048) (old ∷ old ∷ []) ≡ record { line = 4; number = 0; cause = 5 } ∷ old ∷ [])
 unfolding explains small over old
 table-left = (refl, refl, refl, refl, refl, refl)
+
+-- a file of 65,536 bytes that has no other fault
+long : List ℕ
+long = text-of ("ask,0,0\nretain,aa" ∷ replicate 32759 ",a" ++ ("\n" ∷ []))
+
+-- the call of the long file at a position that has no ask line, the slices and the table long enough
+over-long : Explanation
+over-long = explanation long 0 (replicate 6 (working 16384)) 2048
+
+-- the call at a position that has none, with the last working slice one word short
+short-slice : Explanation
+short-slice = explanation small 2 (replicate 5 (working 16384) ++ (working 16383 ∷ [])) 2048
+
+-- before 15: 9, and 7 of a working slice; 7 of a table one row short; both counts are 0 and no row is touched
+first-refusals :
+    (why over-long ≡ record { verdict = Refused refusal.Size; place = 0; met = 0; rows = 0 })
+    × (why short-slice ≡ record { verdict = Refused refusal.Working; place = 0; met = 0; rows = 0 })
+    × (why (over 1 2047) ≡ record { verdict = Refused refusal.Working; place = 0; met = 0; rows = 0 })
+    × (table-after over-long (old ∷ old ∷ []) ≡ old ∷ old ∷ [])
+    × (table-after short-slice (old ∷ old ∷ []) ≡ old ∷ old ∷ [])
+unfolding explains small over old long over-long short-slice
+first-refusals = (refl, refl, refl, refl, refl)

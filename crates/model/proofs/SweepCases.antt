@@ -6,7 +6,7 @@ use mathlib.Core.List.{List, [], _∷_}
 use lib.ListN.{replicate}
 use Rattle.model.specs.Lists.{concat}
 use Rattle.model.specs.Names.{same}
-use Rattle.model.specs.Outcome.{working, most-kept, outcome}
+use Rattle.model.specs.Outcome.{working, most-kept, outcome, result-after}
 use Rattle.model.specs.Sweep
 use Rattle.model.specs.Sweep.{sweep-answer}
 use Rattle.model.specs.Text
@@ -241,6 +241,13 @@ files-3 =
       printed = "kept,6,a\npass,1,2\npass,0,1\n" ∷ [];
     }
     ∷ record {
+      name = "three-passes-on-one-position-and-one-on-another";
+      file = "ask,1,0\nask,0,0\nfree,p\nfree,q\nleaf\nall,2,1,1,1\nassume,b,0,3\nall,1,1,1,0\nassume,a,0,4\n"
+          ∷ "assume,k,0,2\nroot,0,r,0\n"
+          ∷ [];
+      printed = "kept,10,k\npass,1,1\nkept,9,a\nkept,7,b\nkept,10,k\npass,3,3\n" ∷ [];
+    }
+    ∷ record {
       name = "trimmed-token-of-a-fact-not-admitted";
       file = "ask2,0,0,1\nask2,0,0,3\nfree,__uu__PartialApp\nfree,f@tok\ncall,ApplyTT,0,1\ncall,Valid,2\n"
           ∷ "assume,t,0,1,3\nfree,f\nfree,p\nall,5,1,1,4\nassume,a,0,0,6\nroot,0,r,4\n"
@@ -308,7 +315,7 @@ files-3 =
 
 files-3-swept : All-swept files-3
 unfolding sweeps files-3
-files-3-swept = (refl, (refl, (refl, (refl, (refl, (refl, (refl, (refl, (refl, (refl, (refl, (refl, tt))))))))))))
+files-3-swept = (refl, (refl, (refl, (refl, (refl, (refl, (refl, (refl, (refl, (refl, (refl, (refl, (refl, tt)))))))))))))
 
 -- a file with a list of one line for its first ask and none for its second
 two-asks : List ℕ
@@ -324,3 +331,29 @@ answers :
     × (over 0 ≡ record { verdict = Refused refusal.Room; place = 1; kept = replicate 16 0; passes = replicate 16 0 })
 unfolding sweeps two-asks over
 answers = (refl, refl)
+
+-- a file with a list of one line after one pass, and one of three lines after three
+two-lists : List ℕ
+two-lists =
+    text-of
+    ("ask,1,0\nask,0,0\nfree,p\nfree,q\nleaf\nall,2,1,1,1\nassume,b,0,3\nall,1,1,1,0\nassume,a,0,4\n"
+    ∷ "assume,k,0,2\nroot,0,r,0\n"
+    ∷ [])
+
+-- its answer over a result slice of so many words, the working slices long enough
+both : ℕ → Swept
+both room = sweep-answer two-lists (replicate 6 (working 16384)) room
+
+-- the result slice at exit
+after : ℕ → List ℕ → List ℕ
+after room out = result-after (outcome two-lists (replicate 6 (working 16384)) room) out
+
+-- a slice one word short for both lists is 8 with the words needed, every count 0, and is as it was; one just long enough has both
+rooms :
+    (both 3 ≡ record { verdict = Refused refusal.Room; place = 4; kept = replicate 16 0; passes = replicate 16 0 })
+    × (both 4 ≡ record { verdict = Accepted; place = 0; kept = 1 ∷ 3 ∷ replicate 14 0; passes = 1 ∷ 3 ∷ replicate 14 0 })
+    × (after 3 (5 ∷ 6 ∷ 5 ∷ []) ≡ 5 ∷ 6 ∷ 5 ∷ [])
+    × (after 4 (5 ∷ 6 ∷ 5 ∷ 6 ∷ []) ≡ 10 ∷ 9 ∷ 7 ∷ 10 ∷ [])
+    × (after 5 (5 ∷ 6 ∷ 5 ∷ 6 ∷ 5 ∷ []) ≡ 10 ∷ 9 ∷ 7 ∷ 10 ∷ 5 ∷ [])
+unfolding sweeps two-lists both after
+rooms = (refl, refl, refl, refl, refl)
