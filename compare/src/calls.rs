@@ -120,6 +120,9 @@ pub fn edges() -> Vec<Edge> {
     add("rows-7-before-a-line", 7, why(1, b"ask\n").with_room(2_047));
     add("rows-7-before-15", 7, why(0, file).with_room(2_047));
     add("line-before-15", 1, why(0, b"ask\n"));
+    add("works-7-before-15", 7, why(0, file).with_works(short));
+    add("bytes-9-before-15", 9, why(0, &one_retain_line(limits::BYTES + 1)));
+    add("bytes-15", 15, why(0, &one_retain_line(limits::BYTES)));
     add("most-rows", 0, why(1, &most_reasons()));
     add("most-rows-of-a-round", 0, why(1, &most_reasons_of_a_round()));
     add("most-rows-backwards", 0, why(1, &most_passes(1)).with_room(2_050));
@@ -131,6 +134,11 @@ pub fn edges() -> Vec<Edge> {
     }
     add("room-a-line-before-8", 1, sweep(b"ask,0,0\nleaf\nassume,a,0,0\nleaf").with_room(0));
     add("room-0-none-kept", 0, sweep(b"ask,0,0\n").with_room(0));
+    let two_lists = b"ask,1,0\nask,0,0\nfree,p\nfree,q\nleaf\nall,2,1,1,1\nassume,b,0,3\nall,1,1,1,0\nassume,a,0,4\n\
+        assume,k,0,2\nroot,0,r,0\n";
+    for (room, number) in [(3, 8), (4, 0), (5, 0)] {
+        add(&format!("two-lists-room-{room}"), number, sweep(two_lists).with_room(room));
+    }
     add("most-passes", 0, sweep(&most_passes(1)));
     for (room, number) in [(FACTS * 3 - 1, 8), (FACTS * 3, 0)] {
         add(&format!("most-passes-of-three-room-{room}"), number, sweep(&most_passes(3)).with_room(room));
@@ -148,6 +156,17 @@ pub fn edges() -> Vec<Edge> {
         add(&format!("most-rows-{rows}"), number, order(&most_needs()).with_room(rows));
     }
     edges
+}
+
+/// An ask line and a retain line: so many bytes, and no fault but their number.
+fn one_retain_line(bytes: usize) -> Vec<u8> {
+    let mut file = b"ask,0,0\nretain".to_vec();
+    if bytes % 2 == 0 {
+        file.extend_from_slice(b",aa");
+    }
+    file.extend(b",a".repeat((bytes - file.len()) / 2));
+    file.push(b'\n');
+    file
 }
 
 /// As many names as there may be, nearly all of them met, and a fact that waits for the last one.
