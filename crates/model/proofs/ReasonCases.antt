@@ -4,23 +4,22 @@ use Prim.Native.String.{String}
 use mathlib.Core.Path.{_≡_, refl}
 use mathlib.Core.Bool.{Bool, true}
 use mathlib.Core.List.{List, [], _∷_, _++_, map}
-use lib.ListN.{getD, replicate}
+use lib.ListN.{replicate}
 use Rattle.model.specs.Lists
 use Rattle.model.specs.Lists.{concat}
 use Rattle.model.specs.Names
-use Rattle.model.specs.Names.{Name, bytes, same}
+use Rattle.model.specs.Names.{bytes, same}
 use Rattle.model.specs.Summaries.{exclude-names}
-use Rattle.model.specs.Reading.{Reading, read, refused-at, read-file}
+use Rattle.model.specs.Reading.{Reading, read-file}
 use Rattle.model.specs.Rounds
 use Rattle.model.specs.Outcome.{working}
 use Rattle.model.specs.Reasons
 use Rattle.model.specs.Explaining
 use Rattle.model.specs.Explaining.{Explanation, refusal-at, no-position, told, explanation, why, table-after}
 use Rattle.model.specs.Text
-use Rattle.model.specs.Text.{refused-line, row-line, count-line}
+use Rattle.model.specs.Text.{row-line, count-line}
 use Rattle.model.specs.declared.Refusal.the-variants as refusal
 use Rattle.model.specs.declared.Row.{Row}
-use Rattle.model.specs.declared.Verdict.{Verdict}
 use Rattle.model.specs.declared.Verdict.the-variants.{Accepted, Refused}
 use Rattle.model.specs.declared.Why.{Why}
 use Rattle.model.proofs.Printing.{passes, text-of, name-of, refused-lines}
