@@ -17,19 +17,19 @@ use borrow.Author.Tests.{lt-ltb}
 use Rattle.model.specs.Lists.{count}
 use Rattle.model.proofs.PartLaws.{part-same}
 use Rattle.words.specs.Slices.{Zeroed}
-use Rattle.bits.specs.Bits.{bits-from, ones-of, Set-bit, marks, Unmarked, Marked, met-column, Met}
+use Rattle.bits.specs.Bits.{bits-from, ones-of, Set-bit, is-nonzero, Unmarked, Marked, met-column, Met}
 use Rattle.bits.proofs.Laws.{bits-length, bit-from, ones-append}
 
 -- ---- plain lists
-map-append : (xs ys : List ℕ) → map marks (xs ++ ys) ≡ map marks xs ++ map marks ys
+map-append : (xs ys : List ℕ) → map is-nonzero (xs ++ ys) ≡ map is-nonzero xs ++ map is-nonzero ys
 map-append [] ys = refl
-map-append (x ∷ xs) ys = ap (λ (bs : List Bool). marks x ∷ bs) (map-append xs ys)
+map-append (x ∷ xs) ys = ap (λ (bs : List Bool). is-nonzero x ∷ bs) (map-append xs ys)
 
-column-next : (C : List ℕ) (n : ℕ) → n < length C → map marks (take (suc n) C) ≡ map marks (take n C) ++ (marks (getD C n 0) ∷ [])
+column-next : (C : List ℕ) (n : ℕ) → n < length C → map is-nonzero (take (suc n) C) ≡ map is-nonzero (take n C) ++ (is-nonzero (getD C n 0) ∷ [])
 column-next C n h = rw (take-suc C n 0 h, map-append)
 
-column-length : (C : List ℕ) (n : ℕ) → n ≤ length C → length (map marks (take n C)) ≡ n
-column-length C n h = length-map (take n C) marks ∙ length-take-le n C h
+column-length : (C : List ℕ) (n : ℕ) → n ≤ length C → length (map is-nonzero (take n C)) ≡ n
+column-length C n h = length-map (take n C) is-nonzero ∙ length-take-le n C h
 
 -- the bit b at the seam
 row-next : (A B : List Bool) (n : ℕ) (b : Bool) → length A ≡ n → n < length B → set (A ++ drop n B) n b ≡ (A ++ (b ∷ [])) ++ drop (suc n) B
@@ -61,8 +61,8 @@ module _ {column size base : ℕ} {ws : List ℕ} (u : Unmarked column size base
     the-word = m .same .same-words (column + n) (λ a b. omega arith) ∙ sym (getD-drop column ws n 0)
 
     -- the bits of one word more
-    one-more : (b : Bool) → marks (getD (drop column ws) n 0) ≡ b
-        → (map marks (take n (drop column ws)) ++ (b ∷ [])) ++ drop (suc n) (bits-from base ws) ≡ map marks (take (n + 1) (drop column ws)) ++ drop (n + 1) (bits-from base ws)
+    one-more : (b : Bool) → is-nonzero (getD (drop column ws) n 0) ≡ b
+        → (map is-nonzero (take n (drop column ws)) ++ (b ∷ [])) ++ drop (suc n) (bits-from base ws) ≡ map is-nonzero (take (n + 1) (drop column ws)) ++ drop (n + 1) (bits-from base ws)
     one-more b e = rw (add-one n, column-next (drop column ws) n in-column, e)
 
     pub next-marked : (w′ : List ℕ) → Set-bit base n w w′ → (getD w (column + n) 0 ≡ 0 → ⊥) → Marked column (n + 1) base ws w′
@@ -71,7 +71,7 @@ module _ {column size base : ℕ} {ws : List ℕ} (u : Unmarked column size base
         let short : n ≤ length (drop column ws) = omega (arith, in-column) in
         let long : n < length (bits-from base ws) = omega (arith, row-length) in
         record {
-          bits = s .bits ∙ ap (λ (l : List Bool). set l n true) (m .bits) ∙ row-next (map marks (take n (drop column ws))) (bits-from base ws) n true (column-length
+          bits = s .bits ∙ ap (λ (l : List Bool). set l n true) (m .bits) ∙ row-next (map is-nonzero (take n (drop column ws))) (bits-from base ws) n true (column-length
               (drop column ws) n short) long
               ∙ one-more true (lt-ltb 0 (getD (drop column ws) n 0) some);
           same = record {
@@ -84,12 +84,12 @@ module _ {column size base : ℕ} {ws : List ℕ} (u : Unmarked column size base
     next-unmarked z =
         let long : n < length (bits-from base ws) = omega (arith, row-length) in
         record {
-          bits = m .bits ∙ row-skip (map marks (take n (drop column ws))) (bits-from base ws) n long (no-bit n (omega arith)) ∙ one-more false (ap marks (sym the-word ∙ z));
+          bits = m .bits ∙ row-skip (map is-nonzero (take n (drop column ws))) (bits-from base ws) n long (no-bit n (omega arith)) ∙ one-more false (ap is-nonzero (sym the-word ∙ z));
           same = m .same;
         }
 
 -- ---- the count
-count-marks : (xs : List ℕ) → ones-of (map marks xs) ≡ count marks xs
+count-marks : (xs : List ℕ) → ones-of (map is-nonzero xs) ≡ count is-nonzero xs
 unfolding ones-of count
 count-marks [] = refl
 count-marks (x ∷ xs) = rw (count-marks xs)
@@ -117,26 +117,26 @@ module _ {named : ℕ} {before after : List ℕ} {r : ℕ} (u : Unmarked 0 named
       getD-take (2048 - named) after-names i false small ∙ getD-drop named (bits-from met-column before) i false
       ∙ no-bit u (named + i) (omega arith) ∙ sym (getD-replicate (2048 - named) i false false small))
 
-  the-row : take 2048 (bits-from met-column after) ≡ map marks (take named before) ++ replicate (2048 - named) false
+  the-row : take 2048 (bits-from met-column after) ≡ map is-nonzero (take named before) ++ replicate (2048 - named) false
   the-row =
       let long : named ≤ length before = omega arith in
-      let seam : 2048 ≡ length (map marks (take named before)) + (2048 - named) = omega (arith, column-length before named long) in
+      let seam : 2048 ≡ length (map is-nonzero (take named before)) + (2048 - named) = omega (arith, column-length before named long) in
       ap (λ (l : List Bool). take 2048 l) (m .bits)
-      ∙ ap (λ (n : ℕ). take n (map marks (take named before) ++ drop named (bits-from met-column before))) seam
-      ∙ take-append-add (map marks (take named before)) (drop named (bits-from met-column before)) (2048 - named)
-      ∙ ap (λ (l : List Bool). map marks (take named before) ++ l) rest
+      ∙ ap (λ (n : ℕ). take n (map is-nonzero (take named before) ++ drop named (bits-from met-column before))) seam
+      ∙ take-append-add (map is-nonzero (take named before)) (drop named (bits-from met-column before)) (2048 - named)
+      ∙ ap (λ (l : List Bool). map is-nonzero (take named before) ++ l) rest
 
   all-marked : Met named before after r
   all-marked =
       record {
         row = the-row;
         ones = e;
-        met = e ∙ ap ones-of the-row ∙ ones-append (map marks (take named before)) (replicate (2048 - named) false) ∙ sums;
+        met = e ∙ ap ones-of the-row ∙ ones-append (map is-nonzero (take named before)) (replicate (2048 - named) false) ∙ sums;
         same = m .same;
       }
     where
-      sums : ones-of (map marks (take named before)) + ones-of (replicate (2048 - named) false) ≡ count marks (take named before)
-      sums = rw (count-marks, no-ones-in, add-zero (count marks (take named before)))
+      sums : ones-of (map is-nonzero (take named before)) + ones-of (replicate (2048 - named) false) ≡ count is-nonzero (take named before)
+      sums = rw (count-marks, no-ones-in, add-zero (count is-nonzero (take named before)))
 
 -- the words of the names are not those of the bits
 same-names : {named : ℕ} {before mid : List ℕ} → met-column + 64 ≤ length before → named ≤ 2048 → Zeroed met-column 64 before mid
@@ -152,9 +152,9 @@ all-counted {named} {before} {mid} {after} space few z m e =
     let names = same-names space few z in
     let all = all-marked (clear-unmarked space few z) m e in
     record {
-      row = all .row ∙ ap (λ (l : List ℕ). map marks l ++ replicate (2048 - named) false) names;
+      row = all .row ∙ ap (λ (l : List ℕ). map is-nonzero l ++ replicate (2048 - named) false) names;
       ones = e;
-      met = all .met ∙ ap (λ (l : List ℕ). count marks l) names;
+      met = all .met ∙ ap (λ (l : List ℕ). count is-nonzero l) names;
       same = record {
         same-length = m .same .same-length ∙ z .same .same-length;
         same-words = λ i out. m .same .same-words i out ∙ z .same .same-words i out;
@@ -163,7 +163,7 @@ all-counted {named} {before} {mid} {after} space few z m e =
 
 -- bits that say of each number below their count whether its word is not zero have as many ones as those words
 pub bits-counted : (ws : List ℕ) (bs : List Bool) → length bs ≤ length ws
-    → ((i : ℕ) → i < length bs → marks (getD ws i 0) ≡ getD bs i false) → count marks (take (length bs) ws) ≡ count (λ b. b) bs
+    → ((i : ℕ) → i < length bs → is-nonzero (getD ws i 0) ≡ getD bs i false) → count is-nonzero (take (length bs) ws) ≡ count (λ b. b) bs
 unfolding count
 bits-counted ws [] h same = refl
 bits-counted [] (b ∷ bs) h same = absurd (omega arith)

@@ -32,8 +32,8 @@ pub record Set-bit (base n : ℕ) (before after : List ℕ) : Type 0 where
   pub same : Same-but (base + n / 32) 1 before after
 
 -- whether a word is not zero
-abbrev pub marks : ℕ → Bool
-marks w = ltb 0 w
+abbrev pub is-nonzero : ℕ → Bool
+is-nonzero w = ltb 0 w
 
 -- a column of words before 64 words that are all zero
 pub record Unmarked (column size base : ℕ) (ws : List ℕ) : Type 0 where
@@ -44,7 +44,7 @@ pub record Unmarked (column size base : ℕ) (ws : List ℕ) : Type 0 where
 
 -- the bits from a word on are those of the column's words, and past them as they were
 pub record Marked (column size base : ℕ) (before after : List ℕ) : Type 0 where
-  pub bits : bits-from base after ≡ map marks (take size (drop column before)) ++ drop size (bits-from base before)
+  pub bits : bits-from base after ≡ map is-nonzero (take size (drop column before)) ++ drop size (bits-from base before)
   pub same : Same-but base 64 before after
 
 -- the first of the 64 words of the run's slice that hold the bits of the met names
@@ -53,7 +53,7 @@ met-column = 7168
 
 -- the row of bits of the met names, and how many they are
 pub record Met (named : ℕ) (before after : List ℕ) (r : ℕ) : Type 0 where
-  pub row : take 2048 (bits-from met-column after) ≡ map marks (take named before) ++ replicate (2048 - named) false
+  pub row : take 2048 (bits-from met-column after) ≡ map is-nonzero (take named before) ++ replicate (2048 - named) false
   pub ones : r ≡ ones-of (take 2048 (bits-from met-column after))
-  pub met : r ≡ count marks (take named before)
+  pub met : r ≡ count is-nonzero (take named before)
   pub same : Same-but met-column 64 before after

@@ -10,7 +10,7 @@ use lib.Seq.{take-at, drop-at}
 use Rattle.model.specs.Reading.{State}
 use Rattle.model.specs.Outcome.{Lent, Front, stopped, opened, front}
 use Rattle.model.specs.Precedence.{late-rows}
-use Rattle.model.specs.Checking.{Checked, refusal-at, listed-rows, checked, rows-fitting, check, rows-after}
+use Rattle.model.specs.Checking.{Checked, refusal-at, listed-rows, checked, rows-fitting, check, table-after}
 use Rattle.model.specs.declared.Refusal.{Refusal}
 use Rattle.model.specs.declared.Refusal.the-variants as refusal
 use Rattle.model.specs.declared.Row.{Row}
@@ -122,7 +122,7 @@ long-table file works room place h e =
 
 -- the table after a call
 pub rows-kept : Rows-kept
-unfolding rows-after
+unfolding table-after
 rows-kept (refusal-at r place) table = refl
 rows-kept (listed-rows given) table =
     λ h. (front-length given table (length given) refl h, take-at given (drop (length given) table) (length given) refl, drop-at given (drop (length given) table) (length given) refl)

@@ -7,7 +7,7 @@ use lib.ListN.{length, take, drop}
 use Rattle.model.specs.Reading.{State}
 use Rattle.model.specs.Outcome.{Lent, stopped, front}
 use Rattle.model.specs.Precedence.{late-rows}
-use Rattle.model.specs.Checking.{Checked, refusal-at, listed-rows, check, rows-after}
+use Rattle.model.specs.Checking.{Checked, refusal-at, listed-rows, check, table-after}
 use Rattle.model.specs.declared.Refusal.{Refusal}
 use Rattle.model.specs.declared.Refusal.the-variants as refusal
 use Rattle.model.specs.declared.Row.{Row}
@@ -44,12 +44,12 @@ Long-table =
 
 -- "Only listed rows are written, none on a refusal, and their count is told"
 abbrev pub Table-left : Checked → List Row → Type 0
-Table-left (refusal-at r place) table = rows-after (refusal-at r place) table ≡ table
+Table-left (refusal-at r place) table = table-after (refusal-at r place) table ≡ table
 Table-left (listed-rows given) table =
     length given ≤ length table
-    → (length (rows-after (listed-rows given) table) ≡ length table)
-    × (take (length given) (rows-after (listed-rows given) table) ≡ given)
-    × (drop (length given) (rows-after (listed-rows given) table) ≡ drop (length given) table)
+    → (length (table-after (listed-rows given) table) ≡ length table)
+    × (take (length given) (table-after (listed-rows given) table) ≡ given)
+    × (drop (length given) (table-after (listed-rows given) table) ≡ drop (length given) table)
 
 abbrev pub Rows-kept : Type 0
 Rows-kept = (c : Checked) (table : List Row) → Table-left c table

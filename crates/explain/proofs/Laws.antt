@@ -36,7 +36,7 @@ use Rattle.front.proofs.Laws.{open-read, few-asks, closed-file, rest-work}
 use Rattle.rows.specs.Rows.{rows-held, words-of}
 use Rattle.rows.specs.Left.{Rows-left}
 use Rattle.rows.proofs.Laws.{Small, rows-words, words-length}
-use Rattle.explain.specs.Call.{rows-told, Tells-rows, Moves-rows, Held-open, Explains-to, Position-told, Found, in-numbers}
+use Rattle.explain.specs.Call.{rows-told, Tells-rows, Moves-rows, Held-open, Explains-to, Position-told, Found-reasons, reasons-in-numbers}
 use Rattle.explain.specs.declared.Reasons.{Reasons}
 use Rattle.explain.proofs.SmallLines.{rows-small}
 
@@ -306,10 +306,10 @@ moves-rows {n} {w1 = w1} {v5 = v5} few z d t = record {
 
 -- the same in numbers
 pub found : {file : List ℕ} {position : ℕ} {lent held : Working} {room : ℕ} {a : Why} {r : Reasons}
-    → Explains-to file position lent room a held → r ≡ in-numbers a → Found file position lent room r held
-unfolding in-numbers why rows-told
+    → Explains-to file position lent room a held → r ≡ reasons-in-numbers a → Found-reasons file position lent room r held
+unfolding reasons-in-numbers why rows-told
 found {file} {position} {lent} {held} {room} {a} {r} x is = record {
-  answered = is ∙ ap in-numbers (x .answered);
+  answered = is ∙ ap reasons-in-numbers (x .answered);
   fits = rw is (x .fits);
   held-rows = rw is (rw (x .answered) (go (explanation file position (sizes lent) room) (x .left)));
   left = x .left;
@@ -322,6 +322,6 @@ found {file} {position} {lent} {held} {room} {a} {r} x is = record {
 
 -- the fields of the answer in numbers
 pub numbers-are : (a : Why) {n : ℕ} → n ≡ verdict-number (a .verdict)
-    → record { refusal = n; place = a .place; met = a .met; rows = a .rows } ≡ in-numbers a
-unfolding in-numbers
+    → record { refusal = n; place = a .place; met = a .met; rows = a .rows } ≡ reasons-in-numbers a
+unfolding reasons-in-numbers
 numbers-are a e = rw e

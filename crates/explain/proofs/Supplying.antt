@@ -43,7 +43,7 @@ use Rattle.firing.proofs.Numbers.{set-intro, set-elim}
 use Rattle.firing.proofs.Background.{facts-elim, facts-intro, root-of, roots-elim, roots-intro}
 use Rattle.firing.proofs.Joining.{laid, holds}
 use Rattle.firing.proofs.Starting.{root-code, root-starts, fact-starts, starts-elim, free-in, free-out}
-use Rattle.suppliers.specs.Notes.{supplier-column, was-scanned, Supplying, Found, nobody, lowest, Suppliers-noted}
+use Rattle.suppliers.specs.Notes.{supplier-column, was-scanned, Supplying, Noted-supplier, nobody, lowest, Suppliers-noted}
 use Rattle.suppliers.proofs.Passing.{suppliers-found}
 
 -- an ambient root is ambient
@@ -241,7 +241,7 @@ module _ {file names recs lists : List ℕ} {k : Counts} (x : Filled file names 
     first-time = let (j, e, f) = Suppliers.first-met-in q s wf (name n) is-met-name in (j, ran .met-round n ln met ∙ e, f)
 
     -- the column has the supplier
-    pub column-supplier : {word : ℕ} → Found h (record-line recs) (starts-at recs a) v (k .records) n word
+    pub column-supplier : {word : ℕ} → Noted-supplier h (record-line recs) (starts-at recs a) v (k .records) n word
         → (i : ℕ) × (word ≡ suc i) × (i < k .records) × Supplies q s (name n) (record-line recs i) (round-at i)
     column-supplier (nobody e f) =
         let (j, y, m) = first-time in
@@ -280,7 +280,7 @@ module _ {file names recs lists : List ℕ} {k : Counts} (x : Filled file names 
         )
 
     -- the item that the definition gives is on the line of the column's record
-    pub column-item : {word : ℕ} → Found h (record-line recs) (starts-at recs a) v (k .records) n word
+    pub column-item : {word : ℕ} → Noted-supplier h (record-line recs) (starts-at recs a) v (k .records) n word
         → Supplier-at (scanned-items q (records-for q s) (s .roots)) (name n) recs (k .records) word
     column-item y =
         let (i, e, l, z) = column-supplier y in

@@ -25,8 +25,8 @@ use Rattle.rows.specs.Left.{Rows-left}
 use Rattle.explain.specs.declared.Reasons.{Reasons}
 
 -- the answer in numbers
-unfoldable pub in-numbers : Why → Reasons
-in-numbers w = record { refusal = verdict-number (w .verdict); place = w .place; met = w .met; rows = w .rows }
+unfoldable pub reasons-in-numbers : Why → Reasons
+reasons-in-numbers w = record { refusal = verdict-number (w .verdict); place = w .place; met = w .met; rows = w .rows }
 
 -- the rows that a call tells: none after a refusal
 unfoldable pub rows-told : Explanation → List Row
@@ -86,8 +86,8 @@ pub record Position-told (file : List ℕ) (position : ℕ) (k : Counts) (held l
   pub rest : Rest held left
 
 -- the same in numbers
-pub record Found (file : List ℕ) (position : ℕ) (lent : Working) (room : ℕ) (r : Reasons) (held : Working) : Type 0 where
-  pub answered : r ≡ in-numbers (why (explanation file position (sizes lent) room))
+pub record Found-reasons (file : List ℕ) (position : ℕ) (lent : Working) (room : ℕ) (r : Reasons) (held : Working) : Type 0 where
+  pub answered : r ≡ reasons-in-numbers (why (explanation file position (sizes lent) room))
   pub fits : r .rows ≤ room
   pub held-rows : 2 * r .rows ≤ length (held .run)
   pub left : Rows-left (row-table room ∷ sizes lent) lent held (rows-told (explanation file position (sizes lent) room))

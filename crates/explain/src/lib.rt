@@ -14,7 +14,7 @@ ghost use Rattle.model.specs.Working.{six};
 ghost use Rattle.model.specs.Explaining.{refusal-at, why};
 ghost use Rattle.words.specs.Slices.{Zeroed};
 ghost use Rattle.front.specs.Opening.{Long};
-ghost use Rattle.explain.specs.Call.{in-numbers, Lent-tables, Tells-rows, Moves-rows, Held-open, Position-told};
+ghost use Rattle.explain.specs.Call.{reasons-in-numbers, Lent-tables, Tells-rows, Moves-rows, Held-open, Position-told};
 ghost use Rattle.explain.specs.Call.{Explains-to, Found};
 
 // The answer in numbers: the number of the refusal, 0 for rows; its place; how many of the numbered names are met; how many rows
@@ -163,7 +163,7 @@ pub fn find_rows(
 
 // The answer in numbers.
 fn in_numbers(w: Why) -> Reasons
-    ensures { λ r. ⌜ r ≡ in-numbers w ⌝ }
+    ensures { λ r. ⌜ r ≡ reasons-in-numbers w ⌝ }
 {
     let verdict = w.verdict;
     Reasons {

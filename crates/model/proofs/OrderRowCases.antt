@@ -14,7 +14,7 @@ use Rattle.model.specs.Reading.{Reading, read-file}
 use Rattle.model.specs.Outcome.{working}
 use Rattle.model.specs.Precedence
 use Rattle.model.specs.Checking
-use Rattle.model.specs.Checking.{Checked, refusal-at, listed-rows, check, ordered, rows-after}
+use Rattle.model.specs.Checking.{Checked, refusal-at, listed-rows, check, ordered, table-after}
 use Rattle.model.specs.Text
 use Rattle.model.specs.Text.{late-line, count-line}
 use Rattle.model.specs.declared.Ordered.{Ordered}
@@ -39,7 +39,7 @@ shown file found (listed-rows given) o =
 -- whether the definitions print of the file what it says, over slices that are long enough
 unfoldable lists-them : Checked-case → Bool
 unfolding passes text-of name-of refused-lines shown Text.row-numbers Text.row-fields Text.late-line Text.count-line Lists.find-index Names.name-number Precedence.parts Precedence.sort-of
-    Precedence.late-in Precedence.late-rows Checking.checked Checking.rows-fitting Checking.check Checking.ordered Checking.rows-after
+    Precedence.late-in Precedence.late-rows Checking.checked Checking.rows-fitting Checking.check Checking.ordered Checking.table-after
 lists-them c =
     let file = text-of (c .file) in
     let found = check file (replicate 6 (working 16384)) (c .room) in
@@ -391,10 +391,10 @@ table-left :
     (ordered (over 1) ≡ record { verdict = Refused refusal.Room; place = 2; rows = 0 })
     × (ordered (over 2) ≡ record { verdict = Accepted; place = 0; rows = 2 })
     × (ordered (check small (replicate 6 (working 16383)) 0) ≡ record { verdict = Refused refusal.Working; place = 0; rows = 0 })
-    × (rows-after (over 1) (old ∷ []) ≡ old ∷ [])
-    × (rows-after (over 2) (old ∷ old ∷ [])
+    × (table-after (over 1) (old ∷ []) ≡ old ∷ [])
+    × (table-after (over 2) (old ∷ old ∷ [])
     ≡ record { line = 5; number = 1; cause = 1 } ∷ record { line = 5; number = 0; cause = 2 } ∷ [])
-    × (rows-after (over 3) (old ∷ old ∷ old ∷ [])
+    × (table-after (over 3) (old ∷ old ∷ old ∷ [])
     ≡ record { line = 5; number = 1; cause = 1 } ∷ record { line = 5; number = 0; cause = 2 } ∷ old ∷ [])
 unfolding lists-them small over old
 table-left = (refl, refl, refl, refl, refl, refl)

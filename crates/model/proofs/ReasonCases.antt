@@ -41,7 +41,7 @@ shown file found (told given met) w =
 
 -- whether the definitions print of the file what it says, over slices that are long enough
 unfoldable explains : Reasoned → Bool
-unfolding passes text-of name-of refused-lines shown Text.line-bytes Text.record-name Text.item-on Text.row-numbers Text.row-fields Text.row-line
+unfolding passes text-of name-of refused-lines shown Text.bytes-on Text.name-in-fields Text.item-on Text.row-numbers Text.row-fields Text.row-line
     Text.count-line Lists.find-index Names.name-number Rounds.states-from Rounds.history
     Rounds.end-of Rounds.round-of Reasons.first-items Reasons.reached-items Reasons.scanned-items Reasons.earlier Reasons.sooner
     Reasons.earliest Reasons.supplier Reasons.met-listed Reasons.rows-of Reasons.rows Reasons.met-bits Reasons.met-number

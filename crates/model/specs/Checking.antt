@@ -37,6 +37,6 @@ ordered (refusal-at r place) = record { verdict = Refused r; place = place; rows
 ordered (listed-rows rs) = record { verdict = Accepted; place = 0; rows = length rs }
 
 -- the table at exit: the rows from its start and nothing beyond; untouched by a refusal
-unfoldable pub rows-after : Checked → List Row → List Row
-rows-after (refusal-at r place) table = table
-rows-after (listed-rows rs) table = rs ++ drop (length rs) table
+unfoldable pub table-after : Checked → List Row → List Row
+table-after (refusal-at r place) table = table
+table-after (listed-rows rs) table = rs ++ drop (length rs) table

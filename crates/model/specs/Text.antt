@@ -87,18 +87,18 @@ printed-sweep file (refusal-at r place) passes = refused-line r place ∷ []
 printed-sweep file (lists ps) passes = pass-lists file ps passes
 
 -- the bytes of a line of a file, by its number from 1; none where there is no such line
-unfoldable pub line-bytes : List ℕ → ℕ → List ℕ
-line-bytes file zero = []
-line-bytes file (suc n) = first-bytes (drop n (lines file))
+unfoldable pub bytes-on : List ℕ → ℕ → List ℕ
+bytes-on file zero = []
+bytes-on file (suc n) = first-bytes (drop n (lines file))
 
 -- the name in the fields of a fact or a root: the third on a root line, else the second
-unfoldable pub record-name : List Field → Name
-record-name [] = []
-record-name (kind ∷ rest) = cond (same kind (bytes "root")) (second rest) (second (kind ∷ rest))
+unfoldable pub name-in-fields : List Field → Name
+name-in-fields [] = []
+name-in-fields (kind ∷ rest) = cond (same kind (bytes "root")) (second rest) (second (kind ∷ rest))
 
 -- the name of the fact or root on a line of a file, by the line's number from 1
 unfoldable pub item-on : List ℕ → ℕ → Name
-item-on file n = record-name (fields (line-bytes file n))
+item-on file n = name-in-fields (fields (bytes-on file n))
 
 -- the first fields of a row: its three numbers
 unfoldable pub row-numbers : Row → List Field

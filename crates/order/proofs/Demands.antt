@@ -8,7 +8,7 @@ use lib.ListN.{length, take, drop}
 use Rattle.model.specs.Reading.{State}
 use Rattle.model.specs.Outcome.{refusal-number, stopped, opened, front}
 use Rattle.model.specs.Precedence.{late-rows}
-use Rattle.model.specs.Checking.{Checked, refusal-at, listed-rows, ordered, rows-after}
+use Rattle.model.specs.Checking.{Checked, refusal-at, listed-rows, ordered, table-after}
 use Rattle.model.specs.declared.Refusal.{Refusal}
 use Rattle.model.specs.declared.Refusal.the-variants as refusal
 use Rattle.model.specs.declared.Row.{Row}
@@ -23,7 +23,7 @@ use Rattle.demands.proofs.Precedence.{late-rows-exact, late-rows-in-order, late
 use Rattle.front.specs.Demand.{verdict-number}
 use Rattle.front.proofs.Verdicts.{not-both, one-refusal, by-number, numbered, number-of}
 use Rattle.front.proofs.Demand.{Tells, front-demand}
-use Rattle.precedence.specs.Call.{in-numbers}
+use Rattle.precedence.specs.Call.{check-in-numbers}
 use Rattle.precedence.specs.declared.Late.{Late}
 use Rattle.order.specs.Call.{Call, comes-to, Exact}
 use Rattle.order.specs.Demands.{works, Accepts, Refuses, Demand-1, written, Lists, Demands, Demands-met, Kept-promise}
@@ -39,11 +39,11 @@ module _ (c : Call) (exact : Exact c) where
 
   -- each field of the answer is that of what it comes to
   number-is : c .answer .refusal ≡ verdict-number (ordered e .verdict)
-  unfolding in-numbers
+  unfolding check-in-numbers
   number-is = ap (λ (r : Late). r .refusal) (exact .answered)
 
   place-is : c .answer .place ≡ ordered e .place
-  unfolding in-numbers
+  unfolding check-in-numbers
   place-is = ap (λ (r : Late). r .place) (exact .answered)
 
   refusal-of : {x : Checked} → e ≡ x → c .answer .refusal ≡ verdict-number (ordered x .verdict)
@@ -53,11 +53,11 @@ module _ (c : Call) (exact : Exact c) where
   place-of is = place-is ∙ ap (λ (x : Checked). ordered x .place) is
 
   count-of : {x : Checked} → e ≡ x → c .answer .rows ≡ ordered x .rows
-  unfolding in-numbers
+  unfolding check-in-numbers
   count-of is = ap (λ (r : Late). r .rows) (exact .answered) ∙ ap (λ (x : Checked). ordered x .rows) is
 
-  table-of : {x : Checked} → e ≡ x → c .table′ ≡ rows-after x (c .table)
-  table-of is = exact .table ∙ ap (λ (x : Checked). rows-after x (c .table)) is
+  table-of : {x : Checked} → e ≡ x → c .table′ ≡ table-after x (c .table)
+  table-of is = exact .table ∙ ap (λ (x : Checked). table-after x (c .table)) is
 
   -- the two things that it comes to
   data Comes : Type 0 where
@@ -115,7 +115,7 @@ module _ (c : Call) (exact : Exact c) where
   accepts is = refusal-of is
 
   refused-none : {r : Refusal} {n : ℕ} → e ≡ refusal-at r n → (c .answer .rows ≡ 0) × (c .table′ ≡ c .table)
-  unfolding ordered rows-after
+  unfolding ordered table-after
   refused-none is = (count-of is, table-of is)
 
   none-left : (Accepts c → ⊥) → (c .answer .rows ≡ 0) × (c .table′ ≡ c .table)

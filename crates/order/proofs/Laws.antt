@@ -4,25 +4,25 @@ use mathlib.Core.Path.{_≡_, refl, ap, _∙_}
 use mathlib.Core.List.{List, _++_}
 use lib.ListN.{length, drop}
 use Rattle.model.specs.Working.{Working, six}
-use Rattle.model.specs.Checking.{Checked, refusal-at, listed-rows, ordered, rows-after}
+use Rattle.model.specs.Checking.{Checked, refusal-at, listed-rows, ordered, table-after}
 use Rattle.model.specs.declared.Row.{Row}
 use Rattle.words.specs.Slices.{Zeroed}
 use Rattle.rows.specs.Rows.{rows-held}
 use Rattle.rows.proofs.Leaving.{rows-listed, slices-left}
-use Rattle.precedence.specs.Call.{in-numbers, rows-of-check, Found-rows}
+use Rattle.precedence.specs.Call.{check-in-numbers, rows-of-check, Found-rows}
 use Rattle.precedence.specs.declared.Late.{Late}
 use Rattle.order.specs.Call.{Exact}
 use Rattle.order.specs.Demands.{Kept-promise}
 use Rattle.order.proofs.Demands.{promise}
 
 -- the number of rows is told, and the table has these rows
-rows-number : (e : Checked) → in-numbers (ordered e) .rows ≡ length (rows-of-check e)
-unfolding in-numbers ordered rows-of-check
+rows-number : (e : Checked) → check-in-numbers (ordered e) .rows ≡ length (rows-of-check e)
+unfolding check-in-numbers ordered rows-of-check
 rows-number (refusal-at r place) = refl
 rows-number (listed-rows rs) = refl
 
-table-told : (e : Checked) (table : List Row) → rows-of-check e ++ drop (length (rows-of-check e)) table ≡ rows-after e table
-unfolding rows-of-check rows-after
+table-told : (e : Checked) (table : List Row) → rows-of-check e ++ drop (length (rows-of-check e)) table ≡ table-after e table
+unfolding rows-of-check table-after
 table-told (refusal-at r place) table = refl
 table-told (listed-rows rs) table = refl
 

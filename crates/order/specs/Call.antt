@@ -4,9 +4,9 @@ use mathlib.Core.Path.{_≡_}
 use mathlib.Core.List.{List}
 use lib.ListN.{length}
 use Rattle.model.specs.Working.{Working, sizes, works-after}
-use Rattle.model.specs.Checking.{Checked, check, ordered, rows-after}
+use Rattle.model.specs.Checking.{Checked, check, ordered, table-after}
 use Rattle.model.specs.declared.Row.{Row}
-use Rattle.precedence.specs.Call.{in-numbers}
+use Rattle.precedence.specs.Call.{check-in-numbers}
 use Rattle.precedence.specs.declared.Late.{Late}
 
 -- a call: the file and what is lent, the answer, what is left
@@ -24,6 +24,6 @@ comes-to c = check (c .file) (sizes (c .lent)) (length (c .table))
 
 -- everything that a call leaves: the answer, the table, the working slices
 pub record Exact (c : Call) : Type 0 where
-  pub answered : c .answer ≡ in-numbers (ordered (comes-to c))
-  pub table : c .table′ ≡ rows-after (comes-to c) (c .table)
+  pub answered : c .answer ≡ check-in-numbers (ordered (comes-to c))
+  pub table : c .table′ ≡ table-after (comes-to c) (c .table)
   pub slices : c .left ≡ works-after (sizes (c .lent)) (c .lent)

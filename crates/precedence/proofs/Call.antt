@@ -37,7 +37,7 @@ use Rattle.prune.specs.Listing.{from, is-among}
 use Rattle.prune.proofs.Writing.{column-same}
 use Rattle.prune.proofs.Gathering.{part-sets}
 use Rattle.precedence.specs.Sorts.{late-at, sorted-row, rank-row, body-rows, def-rows, all-late}
-use Rattle.precedence.specs.Call.{rows-of-check, Late-put, Late-tables, Lists-rows, Orders, Found-rows, in-numbers}
+use Rattle.precedence.specs.Call.{rows-of-check, Late-put, Late-tables, Lists-rows, Orders, Found-rows, check-in-numbers}
 use Rattle.precedence.specs.declared.Late.{Late}
 use Rattle.precedence.proofs.Sorts.{late-bound}
 use Rattle.precedence.proofs.Listing.{late-is}
@@ -202,8 +202,8 @@ unfolding ordered
 refused-is r place = refl
 
 -- an answer in numbers
-pub numbers-are : (o : Ordered) {n : ℕ} → n ≡ verdict-number (o .verdict) → record { refusal = n; place = o .place; rows = o .rows } ≡ in-numbers o
-unfolding in-numbers
+pub numbers-are : (o : Ordered) {n : ℕ} → n ≡ verdict-number (o .verdict) → record { refusal = n; place = o .place; rows = o .rows } ≡ check-in-numbers o
+unfolding check-in-numbers
 numbers-are o e = rw e
 
 -- it has no rows
@@ -338,14 +338,14 @@ ordered-count (refusal-at r place) = refl
 ordered-count (listed-rows rs) = refl
 
 -- the answer in numbers
-pub found-rows : {file : List ℕ} {lent held : Working} {room : ℕ} {o : Ordered} {r : Late} → Orders file lent room o held → r ≡ in-numbers o
+pub found-rows : {file : List ℕ} {lent held : Working} {room : ℕ} {o : Ordered} {r : Late} → Orders file lent room o held → r ≡ check-in-numbers o
     → Found-rows file lent room r held
-unfolding in-numbers
+unfolding check-in-numbers
 found-rows {file} {lent} {held} {room} {o} {r} x e =
     let n : r .rows ≡ o .rows = ap (λ (l : Late). l .rows) e in
     let m : o .rows ≡ length (rows-of-check (check file (sizes lent) room)) = ap (λ (o : Ordered). o .rows) (x .answered) ∙ ordered-count _ in
     record {
-      told = e ∙ ap in-numbers (x .answered);
+      told = e ∙ ap check-in-numbers (x .answered);
       fits = omega (arith, n, x .fits);
       held-rows = omega (arith, n, m, x .left .inside);
       left = x .left;

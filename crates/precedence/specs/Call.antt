@@ -18,8 +18,8 @@ use Rattle.precedence.specs.Loops.{Checkable, Rows-behind}
 use Rattle.precedence.specs.declared.Late.{Late}
 
 -- the answer in numbers
-unfoldable pub in-numbers : Ordered → Late
-in-numbers o = record { refusal = verdict-number (o .verdict); place = o .place; rows = o .rows }
+unfoldable pub check-in-numbers : Ordered → Late
+check-in-numbers o = record { refusal = verdict-number (o .verdict); place = o .place; rows = o .rows }
 
 -- the rows that a call lists: none after a refusal
 unfoldable pub rows-of-check : Checked → List Row
@@ -54,7 +54,7 @@ pub record Orders (file : List ℕ) (lent : Working) (room : ℕ) (r : Ordered) 
 
 -- the same in numbers
 pub record Found-rows (file : List ℕ) (lent : Working) (room : ℕ) (r : Late) (held : Working) : Type 0 where
-  pub told : r ≡ in-numbers (ordered (check file (sizes lent) room))
+  pub told : r ≡ check-in-numbers (ordered (check file (sizes lent) room))
   pub fits : r .rows ≤ room
   pub held-rows : 2 * r .rows ≤ length (held .run)
   pub left : Rows-left (sizes lent) lent held (rows-of-check (check file (sizes lent) room))

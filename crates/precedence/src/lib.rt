@@ -17,7 +17,7 @@ ghost use Rattle.records.specs.Filing.{Records};
 ghost use Rattle.prune.specs.Loops.{Index, Readable};
 ghost use Rattle.precedence.specs.Sorts.{sort-at, late-at, body-rows, def-rows, all-late, has-stamp, stamps};
 ghost use Rattle.precedence.specs.Loops.{Checkable, Stamps-below, Stamped-to, Rows-behind};
-ghost use Rattle.precedence.specs.Call.{Late-put, in-numbers, Late-tables, Lists-rows, Orders, Found-rows};
+ghost use Rattle.precedence.specs.Call.{Late-put, check-in-numbers, Late-tables, Lists-rows, Orders, Found-rows};
 
 // The answer in numbers: the number of the refusal, 0 for rows; its place; how many rows are listed.
 #[repr(C)]
@@ -231,7 +231,7 @@ pub fn check_order(
 
 // The answer in numbers.
 fn in_numbers(o: Ordered) -> Late
-    ensures { λ r. ⌜ r ≡ in-numbers o ⌝ }
+    ensures { λ r. ⌜ r ≡ check-in-numbers o ⌝ }
 {
     let verdict = o.verdict;
     Late {

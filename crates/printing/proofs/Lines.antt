@@ -13,7 +13,7 @@ use borrow.Author.Tests.{leb-true, leb-false}
 use Rattle.model.specs.Lists.{part}
 use Rattle.model.specs.Lines.{lines, Field, fields, field-cons}
 use Rattle.model.specs.Names.{bytes, same}
-use Rattle.model.specs.Text.{first-bytes, second, name-on, line-bytes, record-name, item-on, row-line, late-line}
+use Rattle.model.specs.Text.{first-bytes, second, name-on, bytes-on, name-in-fields, item-on, row-line, late-line}
 use Rattle.model.proofs.PartLaws.{part-cons, part-drop, part-length, part-nil, part-take}
 use Rattle.text.specs.Parts.{before, mark-at}
 use Rattle.text.proofs.Laws.{mark-from, mark-to, line-ended, line-last, line-none}
@@ -151,8 +151,8 @@ fields-some s a e m inside d h =
     rw (fields-cut (part s a e), comma-before s a e within, comma-on s a e, ← d, part-cons s m e h inside)
 
 -- no comma
-pub record-none : (s : List ℕ) (a e m : ℕ) → m ≡ mark-at 0x2c s a e → e ≤ m → part s e e ≡ record-name (fields (part s a e))
-unfolding second after record-name
+pub record-none : (s : List ℕ) (a e m : ℕ) → m ≡ mark-at 0x2c s a e → e ≤ m → part s e e ≡ name-in-fields (fields (part s a e))
+unfolding second after name-in-fields
 record-none s a e m d h =
     rw (part-nil s e e (omega arith), fields-cut (part s a e), comma-on s a e, ← d, part-nil s m e h)
     (none (same (take (before 0x2c (part s a e)) (part s a e)) (bytes "root")))
@@ -163,27 +163,27 @@ record-none s a e m d h =
 
 -- a root line
 pub record-root : (s : List ℕ) (a e m : ℕ) → e ≤ length s → m ≡ mark-at 0x2c s a e → m < e
-    → same (part s a m) (bytes "root") ≡ true → second (fields (part s (m + 1) e)) ≡ record-name (fields (part s a e))
-unfolding record-name
+    → same (part s a m) (bytes "root") ≡ true → second (fields (part s (m + 1) e)) ≡ name-in-fields (fields (part s a e))
+unfolding name-in-fields
 record-root s a e m inside d h t = rw (fields-some s a e m inside d h, t)
 
 -- another
 pub record-other : (s : List ℕ) (a e m : ℕ) → e ≤ length s → m ≡ mark-at 0x2c s a e → m < e
-    → same (part s a m) (bytes "root") ≡ false → second (fields (part s a e)) ≡ record-name (fields (part s a e))
-unfolding record-name
+    → same (part s a m) (bytes "root") ≡ false → second (fields (part s a e)) ≡ name-in-fields (fields (part s a e))
+unfolding name-in-fields
 record-other s a e m inside d h t = rw (fields-some s a e m inside d h, t)
 
 -- ---- the part of a line
 
 -- line 0 has no bytes
 pub span-zero : (file : List ℕ) (n : ℕ) → n ≡ 0 → Line-span file n (record { start = 0; end = 0 })
-unfolding line-bytes
+unfolding bytes-on
 span-zero file zero h = record { ordered = omega arith; inside = omega arith; bytes-of = refl }
 span-zero file (suc n) h = absurd (omega arith)
 
 -- the bytes of a line, by its place from 0
-bytes-at : (file : List ℕ) (n : ℕ) → 0 < n → line-bytes file n ≡ first-bytes (drop (n - 1) (lines file))
-unfolding line-bytes
+bytes-at : (file : List ℕ) (n : ℕ) → 0 < n → bytes-on file n ≡ first-bytes (drop (n - 1) (lines file))
+unfolding bytes-on
 bytes-at file zero h = absurd (omega arith)
 bytes-at file (suc n) h =
     let e : suc n - 1 ≡ n = omega arith in
@@ -211,8 +211,8 @@ span-there file starts many n e s h k d =
     }
 
 -- the name on a line is the second field of its bytes
-pub name-of-line : (file : List ℕ) (n : ℕ) → second (fields (line-bytes file n)) ≡ name-on file n
-unfolding name-on line-bytes second fields
+pub name-of-line : (file : List ℕ) (n : ℕ) → second (fields (bytes-on file n)) ≡ name-on file n
+unfolding name-on bytes-on second fields
 name-of-line file zero = refl
 name-of-line file (suc n) = refl
 
@@ -223,9 +223,9 @@ name-in {file} {n} l = ap (λ b. second (fields b)) (l .bytes-of) ∙ name-of-li
 
 -- the name of the fact or root there
 pub item-in : {file : List ℕ} {n : ℕ} {s : Span} → Line-span file n s
-    → record-name (fields (part file (s .start) (s .end))) ≡ item-on file n
+    → name-in-fields (fields (part file (s .start) (s .end))) ≡ item-on file n
 unfolding item-on
-item-in l = ap (λ b. record-name (fields b)) (l .bytes-of)
+item-in l = ap (λ b. name-in-fields (fields b)) (l .bytes-of)
 
 -- ---- rows
 

@@ -8,7 +8,7 @@ use denote.Ref.{RefT}
 use Rattle.model.specs.Names.{Name, bytes}
 use Rattle.model.specs.Lists.{part}
 use Rattle.model.specs.Lines.{lines}
-use Rattle.model.specs.Text.{show, line-bytes, row-line, late-line}
+use Rattle.model.specs.Text.{show, bytes-on, row-line, late-line}
 use Rattle.model.specs.declared.Refusal.{Refusal}
 use Rattle.model.specs.declared.Row.{Row}
 use Rattle.model.specs.declared.Refusal.the-variants as refusal
@@ -47,7 +47,7 @@ Lies-in s r = (a : ℕ) × (e : ℕ) × Is-part s a e r
 pub record Line-span (file : List ℕ) (n : ℕ) (s : Span) : Type 0 where
   pub ordered : s .start ≤ s .end
   pub inside : s .end ≤ length file
-  pub bytes-of : part file (s .start) (s .end) ≡ line-bytes file n
+  pub bytes-of : part file (s .start) (s .end) ≡ bytes-on file n
 
 -- bytes are the name of a number, where the table has it
 pub record Number-named (file names : List ℕ) (named number : ℕ) (name : List ℕ) : Type 0 where

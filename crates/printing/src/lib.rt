@@ -14,7 +14,7 @@ ghost use Rattle.model.specs.Lists.{part, sum};
 ghost use Rattle.model.specs.Lines.{fields};
 ghost use Rattle.model.specs.Outcome.{Outcome};
 ghost use Rattle.model.specs.Text.{show, second, name-on, kept-line, sum-line, refused-line, printed, pass-line};
-ghost use Rattle.model.specs.Text.{comma, record-name, item-on, row-numbers, row-fields, row-line, late-line, count-line};
+ghost use Rattle.model.specs.Text.{comma, name-in-fields, item-on, row-numbers, row-fields, row-line, late-line, count-line};
 ghost use Rattle.names.specs.Table.{Table};
 ghost use Rattle.rows.specs.Rows.{row};
 ghost use Rattle.printing.specs.Printed.{Bytes-put, Text-begins, Starts, Same-from, Lies-in, Line-span, Number-named, Row-told};
@@ -99,7 +99,7 @@ fn second_field(file: &[u8], start: usize, end: usize) -> &[u8]
 // The name in the fields of a part of the file, in its place: the third field of a root line, else the second.
 fn record_name(file: &[u8], start: usize, end: usize) -> &[u8]
     requires { ⌜ (start ≤ end) × (end ≤ length (now file)) ⌝ }
-    ensures { λ r. ⌜ (now r ≡ record-name (fields (part (now (file .entry)) start end)))
+    ensures { λ r. ⌜ (now r ≡ name-in-fields (fields (part (now (file .entry)) start end)))
         × (length (now r) ≤ length (now (file .entry))) × Lies-in (file .entry) r ⌝ }
 {
     let comma = text::find(file, b',', start, end);

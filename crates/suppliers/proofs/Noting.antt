@@ -18,7 +18,7 @@ use Rattle.words.proofs.Slices.{same-self, same-then}
 use Rattle.firing.specs.Held.{Held, Fits}
 use Rattle.firing.specs.Met.{reached-column, is-reached}
 use Rattle.firing.specs.Firing.{opened-all}
-use Rattle.suppliers.specs.Notes.{supplier-column, goes-before, note, notes, was-scanned, noted, Supplying, Found, nobody, lowest, Notable}
+use Rattle.suppliers.specs.Notes.{supplier-column, goes-before, note, notes, was-scanned, noted-suppliers, Supplying, Noted-supplier, nobody, lowest, Notable}
 use Rattle.firing.proofs.Marks.{mem-dec}
 
 -- a record goes before none, and not before itself
@@ -188,31 +188,31 @@ module _ (line : ℕ → ℕ) where
 -- ---- the records
 
 module _ (h : Held) (fits : Fits h) (line : ℕ → ℕ) (starts : ℕ → Bool) (w : List ℕ) (long : supplier-column + most-names ≤ length w) where
-  pub noted-length : (m : ℕ) → length (noted h line starts m w) ≡ length w
-  unfolding noted
+  pub noted-length : (m : ℕ) → length (noted-suppliers h line starts m w) ≡ length w
+  unfolding noted-suppliers
   noted-length zero = refl
-  noted-length (suc m) = go (was-scanned starts (noted h line starts m w) m) (noted-length m)
+  noted-length (suc m) = go (was-scanned starts (noted-suppliers h line starts m w) m) (noted-length m)
     where
-      go : (b : Bool) → length (noted h line starts m w) ≡ length w
-          → length (cond b (notes line m (noted h line starts m w) (opened-all (h .opens) (h .frees m))) (noted h line starts m w)) ≡ length w
-      go true e = notes-length line m (noted h line starts m w) (opened-all (h .opens) (h .frees m)) ∙ e
+      go : (b : Bool) → length (noted-suppliers h line starts m w) ≡ length w
+          → length (cond b (notes line m (noted-suppliers h line starts m w) (opened-all (h .opens) (h .frees m))) (noted-suppliers h line starts m w)) ≡ length w
+      go true e = notes-length line m (noted-suppliers h line starts m w) (opened-all (h .opens) (h .frees m)) ∙ e
       go false e = e
 
-  pub noted-low : (m k : ℕ) → k < supplier-column → getD (noted h line starts m w) k 0 ≡ getD w k 0
-  unfolding noted
+  pub noted-low : (m k : ℕ) → k < supplier-column → getD (noted-suppliers h line starts m w) k 0 ≡ getD w k 0
+  unfolding noted-suppliers
   noted-low zero k l = refl
-  noted-low (suc m) k l = go (was-scanned starts (noted h line starts m w) m) (noted-low m k l)
+  noted-low (suc m) k l = go (was-scanned starts (noted-suppliers h line starts m w) m) (noted-low m k l)
     where
-      go : (b : Bool) → getD (noted h line starts m w) k 0 ≡ getD w k 0
-          → getD (cond b (notes line m (noted h line starts m w) (opened-all (h .opens) (h .frees m))) (noted h line starts m w)) k 0 ≡ getD w k 0
-      go true e = notes-low line m (noted h line starts m w) (opened-all (h .opens) (h .frees m)) k l ∙ e
+      go : (b : Bool) → getD (noted-suppliers h line starts m w) k 0 ≡ getD w k 0
+          → getD (cond b (notes line m (noted-suppliers h line starts m w) (opened-all (h .opens) (h .frees m))) (noted-suppliers h line starts m w)) k 0 ≡ getD w k 0
+      go true e = notes-low line m (noted-suppliers h line starts m w) (opened-all (h .opens) (h .frees m)) k l ∙ e
       go false e = e
 
   -- no word is written but in the column
-  pub noted-same : (m : ℕ) → m ≤ h .records → Same-but supplier-column most-names w (noted h line starts m w)
-  unfolding noted opened-all
+  pub noted-same : (m : ℕ) → m ≤ h .records → Same-but supplier-column most-names w (noted-suppliers h line starts m w)
+  unfolding noted-suppliers opened-all
   noted-same zero l = same-self supplier-column most-names w
-  noted-same (suc m) l = go (was-scanned starts (noted h line starts m w) m) (noted-same m (omega arith))
+  noted-same (suc m) l = go (was-scanned starts (noted-suppliers h line starts m w) m) (noted-same m (omega arith))
     where
       low : (n : ℕ) → List·Memᴰ n (opened-all (h .opens) (h .frees m)) → n < most-names
       low n j =
@@ -221,14 +221,14 @@ module _ (h : Held) (fits : Fits h) (line : ℕ → ℕ) (starts : ℕ → Bool)
           let few = fits .few-names in
           ⊎-elim (λ (q : n ≡ b). omega arith) (λ q. let s = fits .opens-small b n lb q in omega arith) (List·Memᴰ·cases-cons z)
 
-      go : (b : Bool) → Same-but supplier-column most-names w (noted h line starts m w)
+      go : (b : Bool) → Same-but supplier-column most-names w (noted-suppliers h line starts m w)
           → Same-but supplier-column most-names w
-          (cond b (notes line m (noted h line starts m w) (opened-all (h .opens) (h .frees m))) (noted h line starts m w))
-      go true s = same-then s (notes-same line m (noted h line starts m w) (opened-all (h .opens) (h .frees m)) low)
+          (cond b (notes line m (noted-suppliers h line starts m w) (opened-all (h .opens) (h .frees m))) (noted-suppliers h line starts m w))
+      go true s = same-then s (notes-same line m (noted-suppliers h line starts m w) (opened-all (h .opens) (h .frees m)) low)
       go false s = s
 
   -- whether a record was scanned does not change
-  scanned-same : (m i : ℕ) → i < most-records → was-scanned starts (noted h line starts m w) i ≡ was-scanned starts w i
+  scanned-same : (m i : ℕ) → i < most-records → was-scanned starts (noted-suppliers h line starts m w) i ≡ was-scanned starts w i
   unfolding was-scanned is-reached
   scanned-same m i l = ap (λ (x : ℕ). starts i || ltb 0 x) (noted-low m (reached-column + i) (omega arith))
 
@@ -239,13 +239,13 @@ module _ (h : Held) (fits : Fits h) (line : ℕ → ℕ) (starts : ℕ → Bool)
     passes : (Supplying h starts w m n → ⊥) → word′ ≡ word → Stepped m n word word′
 
   step : (m n : ℕ) → m < h .records → n < h .named → (word word′ : ℕ)
-      → word ≡ getD (noted h line starts m w) (supplier-column + n) 0 → word′ ≡ getD (noted h line starts (suc m) w) (supplier-column + n) 0
+      → word ≡ getD (noted-suppliers h line starts m w) (supplier-column + n) 0 → word′ ≡ getD (noted-suppliers h line starts (suc m) w) (supplier-column + n) 0
       → Stepped m n word word′
-  unfolding noted
-  step m n lm ln word word′ is is′ = go (was-scanned starts (noted h line starts m w) m) refl is′
+  unfolding noted-suppliers
+  step m n lm ln word word′ is is′ = go (was-scanned starts (noted-suppliers h line starts m w) m) refl is′
     where
       v : List ℕ
-      v = noted h line starts m w
+      v = noted-suppliers h line starts m w
 
       ns : List ℕ
       ns = opened-all (h .opens) (h .frees m)
@@ -289,14 +289,14 @@ module _ (h : Held) (fits : Fits h) (line : ℕ → ℕ) (starts : ℕ → Bool)
 
   -- after the pass over m records the word of a name is that of the one on the lowest line that supplies it
   pub noted-found : (m n : ℕ) → m ≤ h .records → n < h .named → getD w (supplier-column + n) 0 ≡ 0
-      → Found h line starts w m n (getD (noted h line starts m w) (supplier-column + n) 0)
-  unfolding noted
+      → Noted-supplier h line starts w m n (getD (noted-suppliers h line starts m w) (supplier-column + n) 0)
+  unfolding noted-suppliers
   noted-found zero n lm ln z = nobody z (λ i l x. omega arith)
   noted-found (suc m) n lm ln z =
       go (noted-found m n (omega arith) ln z)
-      (step m n (omega arith) ln (getD (noted h line starts m w) (supplier-column + n) 0) (getD (noted h line starts (suc m) w) (supplier-column + n) 0) refl refl)
+      (step m n (omega arith) ln (getD (noted-suppliers h line starts m w) (supplier-column + n) 0) (getD (noted-suppliers h line starts (suc m) w) (supplier-column + n) 0) refl refl)
     where
-      go : {word word′ : ℕ} → Found h line starts w m n word → Stepped m n word word′ → Found h line starts w (suc m) n word′
+      go : {word word′ : ℕ} → Noted-supplier h line starts w m n word → Stepped m n word word′ → Noted-supplier h line starts w (suc m) n word′
       go (nobody e f) (taken x g q) =
           lowest m q (omega arith) x (more-records m (λ j. Supplying h starts w j n → line m ≤ line j) (λ j l y. absurd (f j l y)) (λ y. omega arith))
       go {word} (nobody e f) (stays x g q) = absurd (false-T (sym (before-none line m word e) ∙ g))
@@ -330,7 +330,7 @@ module _ (h : Held) (fits : Fits h) (line : ℕ → ℕ) (starts : ℕ → Bool)
     in-time = sym (same n (omega arith)) ∙ x .in-time ∙ ap suc (same (reached-column + i) (omega arith));
   }
 
-  pub found-same : {m n word : ℕ} → m ≤ h .records → n < h .named → Found h line starts w m n word → Found h line starts v m n word
+  pub found-same : {m n word : ℕ} → m ≤ h .records → n < h .named → Noted-supplier h line starts w m n word → Noted-supplier h line starts v m n word
   found-same {m} {n} lm ln (nobody e f) =
       let few = fits .few-records in
       let named = fits .few-names in

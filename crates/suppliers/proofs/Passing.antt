@@ -23,7 +23,7 @@ use Rattle.macros.specs.Macros.{opened-word, opens-at}
 use Rattle.firing.specs.Tables.{held-of, record-meets, Laid, starts-at}
 use Rattle.firing.specs.Met.{reached-column, is-reached}
 use Rattle.firing.specs.Firing.{opened-all}
-use Rattle.suppliers.specs.Notes.{supplier-column, goes-before, note, notes, was-scanned, noted, Found, Notable, Suppliers-noted}
+use Rattle.suppliers.specs.Notes.{supplier-column, goes-before, note, notes, was-scanned, noted-suppliers, Noted-supplier, Notable, Suppliers-noted}
 use Rattle.suppliers.proofs.Noting.{notes-nil, notes-cons, notes-append, notes-length, note-notable, notes-notable, noted-same, noted-found, found-same}
 
 -- ---- one name
@@ -170,17 +170,17 @@ pub record Passed (names recs lists : List ℕ) (k : Counts) (a : Asked) (cleare
   pub within : i ≤ k .records
   pub notable : Notable recs w
   pub same-length : length w ≡ length cleared
-  pub is : w ≡ noted (held-of names recs lists k a) (record-line recs) (starts-at recs a) i cleared
+  pub is : w ≡ noted-suppliers (held-of names recs lists k a) (record-line recs) (starts-at recs a) i cleared
 
 module _ {names recs lists : List ℕ} {k : Counts} {a : Asked} {cleared : List ℕ} where
   pub pass-start : Notable recs cleared → Passed names recs lists k a cleared cleared 0
-  unfolding noted
+  unfolding noted-suppliers
   pass-start x = record { within = omega arith; notable = x; same-length = refl; is = refl }
 
   module _ {w : List ℕ} {i : ℕ} (x : Passed names recs lists k a cleared w i) (l : i < k .records)
       {b : Bool} (p : b ≡ was-scanned (starts-at recs a) w i) where
     pub pass-over : b ≡ false → Passed names recs lists k a cleared w (i + 1)
-    unfolding noted held-of
+    unfolding noted-suppliers held-of
     pass-over f = record {
       within = omega arith;
       notable = x .notable;
@@ -190,7 +190,7 @@ module _ {names recs lists : List ℕ} {k : Counts} {a : Asked} {cleared : List 
 
     pub pass-next : {v : List ℕ} → i < most-records → b ≡ true → v ≡ notes (record-line recs) i w (record-meets names recs lists i)
         → Passed names recs lists k a cleared v (i + 1)
-    unfolding noted held-of
+    unfolding noted-suppliers held-of
     pass-next s t d = record {
       within = omega arith;
       notable = subst (Notable recs) (sym d) (notes-notable (record-line recs) i {w = w} (record-meets names recs lists i) s (x .notable));
@@ -204,7 +204,7 @@ module _ {names recs lists : List ℕ} {k : Counts} {a : Asked} {cleared : List 
   pass-end {before} {w} {i} laid room z x l =
       let h = x .within in
       let e : i ≡ k .records = omega arith in
-      let is = subst (λ n. w ≡ noted (held-of names recs lists k a) (record-line recs) (starts-at recs a) n cleared) e (x .is) in
+      let is = subst (λ n. w ≡ noted-suppliers (held-of names recs lists k a) (record-line recs) (starts-at recs a) n cleared) e (x .is) in
       record {
         cleared = cleared;
         zeroed = z;
@@ -217,7 +217,7 @@ module _ {names recs lists : List ℕ} {k : Counts} {a : Asked} {cleared : List 
 -- the column after the pass: of each name the record on the lowest line that supplies it
 pub suppliers-found : {names recs lists : List ℕ} {k : Counts} {a : Asked} {before after : List ℕ} → Laid names recs lists k → working-words ≤ length before
     → Suppliers-noted names recs lists k a before after → (n : ℕ) → n < k .names
-    → Found (held-of names recs lists k a) (record-line recs) (starts-at recs a) before (k .records) n (getD after (supplier-column + n) 0)
+    → Noted-supplier (held-of names recs lists k a) (record-line recs) (starts-at recs a) before (k .records) n (getD after (supplier-column + n) 0)
 unfolding held-of
 suppliers-found {names} {recs} {lists} {k} {a} {before} {after} laid room x n l =
     let h = held-of names recs lists k a in

@@ -42,10 +42,10 @@ unfoldable pub was-scanned : (ℕ → Bool) → List ℕ → ℕ → Bool
 was-scanned starts w i = starts i || is-reached w i
 
 -- the pass over the first m records
-unfoldable pub noted : Held → (ℕ → ℕ) → (ℕ → Bool) → ℕ → List ℕ → List ℕ
-noted h line starts zero w = w
-noted h line starts (suc m) w =
-    let before = noted h line starts m w in
+unfoldable pub noted-suppliers : Held → (ℕ → ℕ) → (ℕ → Bool) → ℕ → List ℕ → List ℕ
+noted-suppliers h line starts zero w = w
+noted-suppliers h line starts (suc m) w =
+    let before = noted-suppliers h line starts m w in
     cond (was-scanned starts before m) (notes line m before (opened-all (h .opens) (h .frees m))) before
 
 -- a scanned record that has a name, of the round before that of the name's first meeting
@@ -56,11 +56,11 @@ pub record Supplying (h : Held) (starts : ℕ → Bool) (w : List ℕ) (i n : �
 
 -- what stands in the column after the pass over m records: none of them supplies the name, or one that does and is on the lowest
 -- line
-pub data Found (h : Held) (line : ℕ → ℕ) (starts : ℕ → Bool) (w : List ℕ) (m n word : ℕ) : Type 0 where
-  nobody : word ≡ 0 → ((i : ℕ) → i < m → Supplying h starts w i n → ⊥) → Found h line starts w m n word
+pub data Noted-supplier (h : Held) (line : ℕ → ℕ) (starts : ℕ → Bool) (w : List ℕ) (m n word : ℕ) : Type 0 where
+  nobody : word ≡ 0 → ((i : ℕ) → i < m → Supplying h starts w i n → ⊥) → Noted-supplier h line starts w m n word
   lowest : (i : ℕ) → word ≡ suc i → i < m → Supplying h starts w i n
       → ((j : ℕ) → j < m → Supplying h starts w j n → line i ≤ line j)
-      → Found h line starts w m n word
+      → Noted-supplier h line starts w m n word
 
 -- what a note asks of the slices: the words of the column are 0 or name a record
 pub record Notable (recs run : List ℕ) : Type 0 where
@@ -72,5 +72,5 @@ pub record Notable (recs run : List ℕ) : Type 0 where
 pub record Suppliers-noted (names recs lists : List ℕ) (k : Counts) (a : Asked) (before after : List ℕ) : Type 0 where
   pub cleared : List ℕ
   pub zeroed : Zeroed supplier-column most-names before cleared
-  pub is-noted : after ≡ noted (held-of names recs lists k a) (record-line recs) (starts-at recs a) (k .records) cleared
+  pub is-noted : after ≡ noted-suppliers (held-of names recs lists k a) (record-line recs) (starts-at recs a) (k .records) cleared
   pub same : Same-but supplier-column most-names before after

@@ -22,7 +22,7 @@ use Rattle.filter.specs.Call as first
 use Rattle.filter.specs.Demands as first-demands
 use Rattle.filter.proofs.Demands.{told-lists, either, demands-met as first-met}
 use Rattle.sweep.specs.Call.{Call, comes-to, Exact}
-use Rattle.sweep.specs.Demands.{works, Accepts, None-told, Demand-1, Call-lists, In-sequence, Position-demands, Demands-met, Kept-promise, As-first-of-calls}
+use Rattle.sweep.specs.Demands.{works, Accepts, None-swept, Demand-1, Call-lists, In-sequence, Position-demands, Demands-met, Kept-promise, As-first-of-calls}
 
 -- what an outcome writes to a result slice
 writes : (o : Outcome) → (written : List ℕ) × ((out : List ℕ) → result-after o out ≡ written ++ drop (length written) out)

@@ -37,7 +37,7 @@ abbrev pub Refuses : Call → ℕ → ℕ → Type 0
 Refuses c number place = (verdict-number (c .answer .verdict) ≡ number) × (c .answer .place ≡ place)
 
 -- the counts at a position are 0
-pub record None-told (a : Swept) (i : ℕ) : Type 0 where
+pub record None-swept (a : Swept) (i : ℕ) : Type 0 where
   pub kept : getD (a .kept) i 0 ≡ 0
   pub passes : getD (a .passes) i 0 ≡ 0
 
@@ -50,7 +50,7 @@ pub record Demand-1 (c : Call) : Type 0 where
       ↔ (Lines-judged (c .file) (works c) × ((s : State) × Lines-read (c .file) s × (all-lengths s ≤ length (c .out))))
   pub front : Front-demand (Refuses c) (c .file) (works c) (c .lent) (c .left)
   pub refused-8 : (place : ℕ) → Refuses c 8 place ↔ When-8 (c .file) (works c) (length (c .out)) place
-  pub no-counts : (Accepts c → ⊥) → (i : ℕ) → None-told (c .answer) i
+  pub no-counts : (Accepts c → ⊥) → (i : ℕ) → None-swept (c .answer) i
   pub nothing-written : (Accepts c → ⊥) → c .out′ ≡ c .out
 
 -- the call lists these lines at a position: as many as its count says, behind the lists of the positions before it
@@ -64,7 +64,7 @@ pub record In-sequence (c : Call) (s : State) : Type 0 where
   pub asked : s .asks ≡ asks-on (lines (c .file))
   pub good : Good-asks s
   pub result : c .out′ ≡ all-kept (filtered s) ++ drop (length (all-kept (filtered s))) (c .out)
-  pub past : (i : ℕ) → length (s .asks) ≤ i → None-told (c .answer) i
+  pub past : (i : ℕ) → length (s .asks) ≤ i → None-swept (c .answer) i
 
 -- of the ask at a position
 pub record Position-demands (c : Call) (s : State) (i : ℕ) (a : Ask) : Type 0 where
@@ -95,7 +95,7 @@ pub record Kept-promise (c : Call) : Type 0 where
   pub demands : Demands c
 
 -- a call of the first engine and one of the second answer alike: verdict, place, kept counts, and the lines written
-pub record Same-answer (c : first.Call) (d : Call) : Type 0 where
+pub record Answered-alike (c : first.Call) (d : Call) : Type 0 where
   pub verdict : d .answer .verdict ≡ c .answer .verdict
   pub place : d .answer .place ≡ c .answer .place
   pub kept : d .answer .kept ≡ c .answer .kept
@@ -109,4 +109,4 @@ abbrev pub As-first-of-calls : Type 0
 As-first-of-calls =
     (c : first.Call) (d : Call) → first.Exact c → Exact d
     → d .file ≡ c .file → sizes (d .lent) ≡ sizes (c .lent) → length (d .out) ≡ length (c .out)
-    → Same-answer c d
+    → Answered-alike c d

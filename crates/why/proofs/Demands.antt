@@ -30,10 +30,10 @@ use Rattle.demands.proofs.Reasons.{rows-exact, one-row-each, rows-in-order, sup
 use Rattle.front.specs.Demand.{verdict-number}
 use Rattle.front.proofs.Verdicts.{not-both, one-refusal, by-number, numbered, number-of}
 use Rattle.front.proofs.Demand.{Tells, front-demand}
-use Rattle.explain.specs.Call.{in-numbers}
+use Rattle.explain.specs.Call.{reasons-in-numbers}
 use Rattle.explain.specs.declared.Reasons.{Reasons}
 use Rattle.why.specs.Call.{Call, comes-to, Exact}
-use Rattle.why.specs.Demands.{counted, Accepts, Refuses, Demand-1, filled, Told-of, Demands, Demands-met, Kept-promise}
+use Rattle.why.specs.Demands.{all-slices, Accepts, Refuses, Demand-1, filled, Told-of, Demands, Demands-met, Kept-promise}
 
 -- 15 is no refusal of the front
 not-15 : {r : Refusal} → Of-front r → r ≡ refusal.Position → ⊥
@@ -48,11 +48,11 @@ module _ (c : Call) (exact : Exact c) where
 
   -- the number and the place are those of the verdict
   number-is : c .answer .refusal ≡ verdict-number (why e .verdict)
-  unfolding in-numbers
+  unfolding reasons-in-numbers
   number-is = ap (λ (r : Reasons). r .refusal) (exact .answered)
 
   place-is : c .answer .place ≡ why e .place
-  unfolding in-numbers
+  unfolding reasons-in-numbers
   place-is = ap (λ (r : Reasons). r .place) (exact .answered)
 
   refuses : (r : Refusal) (n : ℕ) → Refuses c (refusal-number r) n ↔ ((why e .verdict ≡ verdict.Refused r) × (why e .place ≡ n))
@@ -72,12 +72,12 @@ module _ (c : Call) (exact : Exact c) where
     where
       go : (x : Explanation) → e ≡ x → Comes
       go (refusal-at r n) q =
-          stops r n q (front-stops (c .file) (counted c) r n (explains (c .file) (c .position) (sizes (c .lent)) (length (c .table)) .refused r n .0 q))
+          stops r n q (front-stops (c .file) (all-slices c) r n (explains (c .file) (c .position) (sizes (c .lent)) (length (c .table)) .refused r n .0 q))
       go no-position q = lacks q
       go (told given met) q = tells given met q
 
   -- a refusal of the front
-  front-told : Tells (Refuses c) (c .file) (counted c)
+  front-told : Tells (Refuses c) (c .file) (all-slices c)
   unfolding why
   front-told r n o =
       let x = explains (c .file) (c .position) (sizes (c .lent)) (length (c .table)) .refused r n in (
@@ -101,7 +101,7 @@ module _ (c : Call) (exact : Exact c) where
   place-of is = place-is ∙ ap (λ (x : Explanation). why x .place) is
 
   counts-of : {x : Explanation} → e ≡ x → (c .answer .met ≡ why x .met) × (c .answer .rows ≡ why x .rows)
-  unfolding in-numbers
+  unfolding reasons-in-numbers
   counts-of is = (
     ap (λ (r : Reasons). r .met) (exact .answered) ∙ ap (λ (x : Explanation). why x .met) is,
     ap (λ (r : Reasons). r .rows) (exact .answered) ∙ ap (λ (x : Explanation). why x .rows) is,
@@ -142,7 +142,7 @@ module _ (c : Call) (exact : Exact c) where
   -- where an ask stands at the position the call accepts, and nowhere else
   There : Type 0
   There =
-      Lines-judged (c .file) (counted c)
+      Lines-judged (c .file) (all-slices c)
       × ((s : State) × Lines-read (c .file) s × ((k : ℕ) × (c .position ≡ suc k) × (k < length (s .asks))))
 
   accepted-there : Comes → Accepts c → There
@@ -157,17 +157,17 @@ module _ (c : Call) (exact : Exact c) where
   there-accepted : Comes → There → Accepts c
   unfolding There
   there-accepted (stops r n is o) (judged, (s, read, place)) =
-      absurd (apart (file-opened (c .file) (counted c) s .1 (judged, read))
+      absurd (apart (file-opened (c .file) (all-slices c) s .1 (judged, read))
       (explains (c .file) (c .position) (sizes (c .lent)) (length (c .table)) .refused r n .0 is))
     where
-      apart : front (c .file) (counted c) ≡ opened s → front (c .file) (counted c) ≡ stopped r n → ⊥
+      apart : front (c .file) (all-slices c) ≡ opened s → front (c .file) (all-slices c) ≡ stopped r n → ⊥
       apart x y = clash (cc)
   there-accepted (lacks is) (judged, (s, read, (k, e, low))) =
       let (judged′, (s′, read′, p)) = explains (c .file) (c .position) (sizes (c .lent)) (length (c .table)) .refused-15 .0 is in
-      let same = one (file-opened (c .file) (counted c) s .1 (judged, read)) (file-opened (c .file) (counted c) s′ .1 (judged′, read′)) in
+      let same = one (file-opened (c .file) (all-slices c) s .1 (judged, read)) (file-opened (c .file) (all-slices c) s′ .1 (judged′, read′)) in
       absurd (⊎-elim (λ z. omega (arith, e)) (λ (h : length (s′ .asks) < c .position). omega (arith, e, low, ap (λ (s : State). length (s .asks)) same)) p)
     where
-      one : {u v : State} → front (c .file) (counted c) ≡ opened u → front (c .file) (counted c) ≡ opened v → u ≡ v
+      one : {u v : State} → front (c .file) (all-slices c) ≡ opened u → front (c .file) (all-slices c) ≡ opened v → u ≡ v
       one x y = cc
   there-accepted (tells given met is) t = accepts is
 

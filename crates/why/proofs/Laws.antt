@@ -10,15 +10,15 @@ use Rattle.model.specs.declared.Why.{Why}
 use Rattle.words.specs.Slices.{Zeroed}
 use Rattle.rows.specs.Rows.{rows-held}
 use Rattle.rows.proofs.Leaving.{rows-listed, slices-left}
-use Rattle.explain.specs.Call.{in-numbers, rows-told, Found}
+use Rattle.explain.specs.Call.{reasons-in-numbers, rows-told, Found-reasons}
 use Rattle.explain.specs.declared.Reasons.{Reasons}
 use Rattle.why.specs.Call.{Exact}
 use Rattle.why.specs.Demands.{Kept-promise}
 use Rattle.why.proofs.Demands.{promise}
 
 -- the number of rows is told, and the table has these rows
-rows-number : (e : Explanation) → in-numbers (why e) .rows ≡ length (rows-told e)
-unfolding in-numbers why rows-told
+rows-number : (e : Explanation) → reasons-in-numbers (why e) .rows ≡ length (rows-told e)
+unfolding reasons-in-numbers why rows-told
 rows-number (refusal-at r place) = refl
 rows-number no-position = refl
 rows-number (told given met) = refl
@@ -31,7 +31,7 @@ table-told (told given met) table = refl
 
 -- what the call leaves
 exact-call : {file : List ℕ} {position : ℕ} {lent held : Working} {table table′ : List Row} {r : Reasons} {run : List ℕ}
-    → Found file position lent (length table) r held → table′ ≡ rows-held (r .rows) (held .run) ++ drop (r .rows) table
+    → Found-reasons file position lent (length table) r held → table′ ≡ rows-held (r .rows) (held .run) ++ drop (r .rows) table
     → Zeroed 0 (2 * r .rows) (held .run) run
     → Exact (record {
       file = file;
@@ -52,7 +52,7 @@ exact-call {table} found written zeroed =
 
 -- and so what it promises
 pub called : {file : List ℕ} {position : ℕ} {lent held : Working} {table table′ : List Row} {r : Reasons} {run : List ℕ}
-    → Found file position lent (length table) r held → table′ ≡ rows-held (r .rows) (held .run) ++ drop (r .rows) table
+    → Found-reasons file position lent (length table) r held → table′ ≡ rows-held (r .rows) (held .run) ++ drop (r .rows) table
     → Zeroed 0 (2 * r .rows) (held .run) run
     → Kept-promise (record {
       file = file;

@@ -24,8 +24,8 @@ use Rattle.front.specs.Demand.{Front-demand}
 use Rattle.why.specs.Call.{Call, Exact}
 
 -- its slices as 7 counts them: the table and the working slices
-abbrev pub counted : Call → List Lent
-counted c = row-table (length (c .table)) ∷ sizes (c .lent)
+abbrev pub all-slices : Call → List Lent
+all-slices c = row-table (length (c .table)) ∷ sizes (c .lent)
 
 -- the call accepts the file
 abbrev pub Accepts : Call → Type 0
@@ -39,9 +39,9 @@ Refuses c number place = (c .answer .refusal ≡ number) × (c .answer .place �
 -- "touches no row"
 pub record Demand-1 (c : Call) : Type 0 where
   pub refusals : Accepts c ⊎ (((r : Refusal) × Of-front r × Refuses c (refusal-number r) (c .answer .place)) ⊎ Refuses c 15 0)
-  pub told : Accepts c ↔ (Lines-judged (c .file) (counted c) × ((s : State) × Lines-read (c .file) s
+  pub told : Accepts c ↔ (Lines-judged (c .file) (all-slices c) × ((s : State) × Lines-read (c .file) s
       × ((k : ℕ) × (c .position ≡ suc k) × (k < length (s .asks)))))
-  pub front : Front-demand (Refuses c) (c .file) (counted c) (c .lent) (c .left)
+  pub front : Front-demand (Refuses c) (c .file) (all-slices c) (c .lent) (c .left)
   pub refused-15 : (place : ℕ)
       → Refuses c 15 place ↔ ((place ≡ 0) × When-15 (c .file) (c .position) (sizes (c .lent)) (length (c .table)))
   pub no-counts : (Accepts c → ⊥) → (c .answer .met ≡ 0) × (c .answer .rows ≡ 0)

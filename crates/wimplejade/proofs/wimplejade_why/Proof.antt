@@ -59,7 +59,7 @@ use Rattle.rows.proofs.clear_rows as clear
 use Rattle.rows.proofs.clear_rows.Symbol as clear-def
 use Rattle.rows.proofs.clear_rows.Symbol.{name as #rows·clear-rows}
 use Rattle.rows.proofs.clear_rows.Met as clear-thm
-use Rattle.explain.specs.Call.{Found}
+use Rattle.explain.specs.Call.{Found-reasons}
 use Rattle.explain.specs.declared.Reasons.{Reasons}
 use Rattle.explain.proofs.Reasons as T
 use Rattle.explain.proofs.Reasons.Laws as T′
@@ -192,7 +192,7 @@ module _ {M : Type 1} (𝓤 : URA M) (H : Heap 𝓤) (A : Atoms 𝓤) (W : Given
     find-asked = qed W (find-tokens ∷ ‵ find-owns ∷ []) ∵ join ! $ frame ! $ done !
 
     abbrev find-fact : Reasons → Lists → Type 0
-    find-fact r zs = (Found (file .now) position (six (a .now) (b .now) (c .now) (d .now) (e .now) fs) (length (rows .now)) r (six (zs .1 .1 .0) (zs .1 .1 .1 .0) (zs .1 .1 .1 .1 .0)
+    find-fact r zs = (Found-reasons (file .now) position (six (a .now) (b .now) (c .now) (d .now) (e .now) fs) (length (rows .now)) r (six (zs .1 .1 .0) (zs .1 .1 .1 .0) (zs .1 .1 .1 .1 .0)
         (zs .1 .1 .1 .1 .1 .0) (zs .1 .1 .1 .1 .1 .1 .0) (zs .1 .1 .1 .1 .1 .1 .1 .0))) × (length (zs .1 .1 .0) ≡ length (a .now)) × (length (zs .1 .1 .1 .0) ≡ length (b .now)) × (length
         (zs .1 .1 .1 .1 .0) ≡ length (c .now)) × (length (zs .1 .1 .1 .1 .1 .0) ≡ length (d .now)) × (length (zs .1 .1 .1 .1 .1 .1 .0) ≡ length (e .now)) × (length
         (zs .1 .1 .1 .1 .1 .1 .1 .0) ≡ length fs)
@@ -207,10 +207,10 @@ module _ {M : Type 1} (𝓤 : URA M) (H : Heap 𝓤) (A : Atoms 𝓤) (W : Given
         qed W (raw (Find 𝓤 H A mem run .post to-find u) ∷ []) ∵ updating ! $
         use1 W (later (some (λ (r : Reasons). (find-tokens ⊛ ‵ (T.the-row .own r (u ∷ []))) ⊛ raw (ensured 𝓤 H A find.ended (find.clauses 𝓤 H A mem run) find-κs find-args tt r))))
         (id⊢ 𝓤 _) $ await ! tt $ pick ! (λ r.
-        split ! $ move ! (1 ∷ []) $ use1 W (some (λ (zs : Lists). ‵ (lasts find.ended find-κs find-args zs) ⊛ raw (fact 𝓤 (Found (file .now) position (six (a .now) (b .now) (c .now)
+        split ! $ move ! (1 ∷ []) $ use1 W (some (λ (zs : Lists). ‵ (lasts find.ended find-κs find-args zs) ⊛ raw (fact 𝓤 (Found-reasons (file .now) position (six (a .now) (b .now) (c .now)
         (d .now) (e .now) fs) (length (rows .now)) r (six (zs .1 .1 .0) (zs .1 .1 .1 .0) (zs .1 .1 .1 .1 .0) (zs .1 .1 .1 .1 .1 .0) (zs .1 .1 .1 .1 .1 .1 .0)
         (zs .1 .1 .1 .1 .1 .1 .1 .0)))))) (id⊢ 𝓤 _) $ pick ! (λ zs.
-        split ! $ move ! (1 ∷ []) $ heard ! (Found (file .now) position (six (a .now) (b .now) (c .now) (d .now) (e .now) fs) (length (rows .now)) r (six (zs .1 .1 .0) (zs .1 .1 .1 .0)
+        split ! $ move ! (1 ∷ []) $ heard ! (Found-reasons (file .now) position (six (a .now) (b .now) (c .now) (d .now) (e .now) fs) (length (rows .now)) r (six (zs .1 .1 .0) (zs .1 .1 .1 .0)
         (zs .1 .1 .1 .1 .0) (zs .1 .1 .1 .1 .1 .0) (zs .1 .1 .1 .1 .1 .1 .0) (zs .1 .1 .1 .1 .1 .1 .1 .0))) (λ e.
         -- [what says the last lists; the tokens and the result]
         fsplit ! $ drop ! $ fsplit ! $ drop ! $ fsplit ! $ fsplit ! $ move ! (1 ∷ []) $ feqL ! (λ l-a. move ! (1 ∷ []) $ fsplit ! $ fsplit ! $ move ! (1 ∷ []) $
