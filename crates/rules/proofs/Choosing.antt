@@ -1,15 +1,15 @@
 -- What the chosen rule makes of a fact is what `model`'s twelve rules do.
-use Prim.Native.Nat.{ℕ, _<_}
-use mathlib.Core.Path.{_≡_, refl, ap}
+use Prim.Native.Nat.{ℕ, suc, _<_}
+use mathlib.Core.Path.{_≡_, refl, sym, ap, _∙_}
 use mathlib.Core.Bool.{Bool, true, false, cond}
 use mathlib.Core.Option.{Option, none, some, Option·getD}
 use mathlib.Core.List.{List, [], _∷_, map}
 use lib.Dec.{eqb}
-use Rattle.model.specs.Lists.{collect, holds, is-nil, or-else, when, _>>=_}
+use Rattle.model.specs.Lists.{find-index, collect, holds, is-nil, or-else, when, _>>=_}
 use Rattle.model.specs.Names.{Name, bytes, same, starts-with}
 use Rattle.model.specs.Terms.{Node, FreeV, Leaf, Call, App, Forall, Exists, Let, Labeled, Term, term, references}
 use Rattle.model.specs.Summaries.{Kinded, Sum-triggers, two, op-of, op-number, op-args, call-one, call-two, head, is-empty, token, token-triggers, at, pattern-groups, group-names, triggers-of-term}
-use Rattle.model.specs.Summaries.{is-ambient-refinement, has-eq, rule-1, rule-2, rule-3, rule-4, rule-5, rule-6, rule-7, rule-8, rule-9, rule-10, rule-11, rule-12, first-rule, maybe-add-ambient, summarize-kind}
+use Rattle.model.specs.Summaries.{is-ambient-refinement, has-eq, rule-1, rule-2, rule-3, rule-4, rule-5, rule-6, rule-7, rule-8, rule-9, rule-10, rule-11, rule-12, first-rule, rules, maybe-add-ambient, summarize-kind, rule-number}
 use Rattle.model.specs.declared.Op.{Op}
 use Rattle.model.specs.declared.Op.the-variants.{TrueOp, Iff, Eq, And}
 use Rattle.names.specs.Table.{name-of}
@@ -17,15 +17,22 @@ use Rattle.terms.specs.Rows.{row-head, groups-at}
 use Rattle.rules.specs.declared.Choice.{Choice}
 use Rattle.rules.specs.declared.Choice.the-variants as choice
 use Rattle.rules.specs.Views.{Tables, terms-in}
-use Rattle.rules.specs.Choices.{refinement-kind, parts-kind, kinded, choose-1, choose-2, choose-3, choose-4, choose-5, choose-6, choose-7, choose-8, choose-9, choose-10, choose-11, choose-12, token-choice, first-choice, ambient-choice, kind-choice}
+use Rattle.rules.specs.Choices.{refinement-kind, parts-kind, kinded, choose-1, choose-2, choose-3, choose-4, choose-5, choose-6, choose-7, choose-8, choose-9, choose-10, choose-11, choose-12, token-choice, first-choice, ambient-choice, ambient-number, kind-choice}
 use Rattle.rules.proofs.Meaning.{apply-tt, one-inside, token-named, two-inside, valid}
 use Rattle.rules.proofs.Counting.{no-groups}
+use Rattle.rules.proofs.Rules.{twelve, place-in, choice-place}
 
 -- a value that is there under a test is the value
 when-is : {A : Type 0} (b : Bool) {x y : A} → when b x ≡ some y → x ≡ y
 unfolding when
 when-is true e = cc
 when-is false e = cc
+
+-- a list is empty where its values under a function are none
+nil-map : {A B : Type 0} (f : A → B) (l : List A) → is-nil (map f l) ≡ is-nil l
+unfolding is-nil
+nil-map f [] = refl
+nil-map f (x ∷ l) = refl
 
 -- the terms that an `op` names are its arguments
 op-names : (word : Op) (node : Node) {ts : List ℕ} → op-args word node ≡ some ts → references node ≡ ts
@@ -47,6 +54,14 @@ record Makes (exclude : List Name) (terms : List Term) (name : ℕ → Name) (c 
 data Kinds (exclude : List Name) (terms : List Term) (name : ℕ → Name) : Option Choice → Option Kinded → Type 0 where
   neither : Kinds exclude terms name none none
   both : {c : Choice} {k : Kinded} → Makes exclude terms name c k → Kinds exclude terms name (some c) (some k)
+
+-- two lists of rules agree on a fact, rule by rule
+data Agree (exclude : List Name) (terms : List Term) (name : ℕ → Name) (fact : Name) (t : ℕ)
+    : List (Name → ℕ → Option Choice) → List (Name → ℕ → Option Kinded) → Type 0 where
+  no-rules : Agree exclude terms name fact t [] []
+  rule-more : {choose : Name → ℕ → Option Choice} {rule : Name → ℕ → Option Kinded} {choices : List (Name → ℕ → Option Choice)}
+      {kinds : List (Name → ℕ → Option Kinded)} → Kinds exclude terms name (choose fact t) (rule fact t)
+      → Agree exclude terms name fact t choices kinds → Agree exclude terms name fact t (choose ∷ choices) (rule ∷ kinds)
 
 module _ {exclude : List Name} {terms : List Term} {name : ℕ → Name} where
   -- they agree from a value that may be missing, where they agree from each value
@@ -73,6 +88,32 @@ module _ {exclude : List Name} {terms : List Term} {name : ℕ → Name} where
       → Makes exclude terms name (Option·getD o c) (Option·getD q k)
   kinds-default neither h = h
   kinds-default (both e) h = e
+
+  -- where they agree, a rule holds in the one list where it does in the other
+  kinds-place : {o : Option Choice} {q : Option Kinded} {m n : ℕ} → Kinds exclude terms name o q → m ≡ n
+      → cond (holds (λ c. true) o) 0 (suc m) ≡ cond (holds (λ k. true) q) 0 (suc n)
+  unfolding holds
+  kinds-place neither e = ap suc e
+  kinds-place (both m) e = refl
+
+-- the first choice makes what the first rule gives
+agree-makes : {exclude : List Name} {terms : List Term} {name : ℕ → Name} {fact : Name} {t : ℕ} (rows : List ℕ)
+    {choices : List (Name → ℕ → Option Choice)} {kinds : List (Name → ℕ → Option Kinded)}
+    → Agree exclude terms name fact t choices kinds
+    → Makes exclude terms name (first-choice terms rows choices fact t) (first-rule exclude terms kinds fact t)
+unfolding first-choice first-rule kinded
+agree-makes rows no-rules = record { makes = refl }
+agree-makes rows (rule-more k a) = kinds-default k (agree-makes rows a)
+
+-- the first that holds has one place in both
+agree-place : {exclude : List Name} {terms : List Term} {name : ℕ → Name} {fact : Name} {t : ℕ}
+    {choices : List (Name → ℕ → Option Choice)} {kinds : List (Name → ℕ → Option Kinded)}
+    → Agree exclude terms name fact t choices kinds
+    → find-index (λ (choose : Name → ℕ → Option Choice). holds (λ c. true) (choose fact t)) choices
+    ≡ find-index (λ (rule : Name → ℕ → Option Kinded). holds (λ k. true) (rule fact t)) kinds
+unfolding find-index
+agree-place no-rules = refl
+agree-place (rule-more k a) = kinds-place k (agree-place a)
 
 module _ (exclude : List Name) (terms : List Term) (rows : List ℕ) (name : ℕ → Name) (fact : Name) (t : ℕ) where
   -- the two rules 1 agree
@@ -154,38 +195,49 @@ module _ (exclude : List Name) (terms : List Term) (rows : List ℕ) (name : ℕ
   unfolding choose-11 rule-11 kinded
   kinds-11 = kinds-bind (op-args TrueOp (at terms t)) (λ ts is. both (record { makes = refl }))
 
-  -- the last choice makes what the last rule gives
-  kinds-12 : Makes exclude terms name (first-choice terms rows (choose-12 terms rows ∷ []) fact t)
-      (first-rule exclude terms (rule-12 exclude terms ∷ []) fact t)
-  unfolding first-choice choose-12 first-rule rule-12 kinded
-  kinds-12 = record { makes = refl }
+  -- the two rules 12 agree
+  kinds-12 : Kinds exclude terms name (choose-12 terms rows fact t) (rule-12 exclude terms fact t)
+  unfolding choose-12 rule-12 kinded
+  kinds-12 = both (record { makes = refl })
 
 module _ {file names refs rows : List ℕ} {named used many t : ℕ} (tables : Tables file names refs rows named used many) (l : t < many) (fact : Name) where
   -- the terms of the tables
   abbrev terms : List Term
   terms = terms-in file names refs rows used many
 
-  -- the first choice for a term without groups makes what the first rule gives
-  chosen : pattern-groups terms t ≡ [] → (exclude : List Name)
-      → Makes exclude terms (name-of file names) (ambient-choice terms rows fact t) (maybe-add-ambient exclude terms fact t)
-  unfolding ambient-choice first-choice maybe-add-ambient first-rule at triggers-of-term
-  chosen e exclude =
+  -- the twelve choices for a term without groups agree with the twelve rules
+  twelve-agree : pattern-groups terms t ≡ [] → (exclude : List Name)
+      → Agree exclude terms (name-of file names) fact t (twelve terms rows) (rules exclude terms)
+  unfolding at triggers-of-term
+  twelve-agree e exclude =
       let name = name-of file names in
       let none : triggers-of-term exclude terms t ≡ [] = ap (map (group-names exclude terms)) e in
-      kinds-default (kinds-1 exclude terms rows name fact t)
-      (kinds-default (kinds-2 exclude terms rows name fact t none)
-      (kinds-default (kinds-3 exclude terms rows name fact t)
-      (kinds-default
+      rule-more (kinds-1 exclude terms rows name fact t)
+      (rule-more (kinds-2 exclude terms rows name fact t none)
+      (rule-more (kinds-3 exclude terms rows name fact t)
+      (rule-more
       (kinds-4 exclude terms rows name fact t (λ a f x n is-valid is-applied is.
       token-named tables (two-inside tables (one-inside tables l valid is-valid) apply-tt is-applied .1) is))
-      (kinds-default (kinds-5 exclude terms rows name fact t)
-      (kinds-default (kinds-6 exclude terms rows name fact t)
-      (kinds-default (kinds-7 exclude terms rows name fact t)
-      (kinds-default (kinds-8 exclude terms rows name fact t)
-      (kinds-default (kinds-9 exclude terms rows name fact t)
-      (kinds-default (kinds-10 exclude terms rows name fact t)
-      (kinds-default (kinds-11 exclude terms rows name fact t)
-      (kinds-12 exclude terms rows name fact t)))))))))))
+      (rule-more (kinds-5 exclude terms rows name fact t)
+      (rule-more (kinds-6 exclude terms rows name fact t)
+      (rule-more (kinds-7 exclude terms rows name fact t)
+      (rule-more (kinds-8 exclude terms rows name fact t)
+      (rule-more (kinds-9 exclude terms rows name fact t)
+      (rule-more (kinds-10 exclude terms rows name fact t)
+      (rule-more (kinds-11 exclude terms rows name fact t)
+      (rule-more (kinds-12 exclude terms rows name fact t) no-rules)))))))))))
+
+  -- the first choice makes what the first rule gives
+  chosen : pattern-groups terms t ≡ [] → (exclude : List Name)
+      → Makes exclude terms (name-of file names) (ambient-choice terms rows fact t) (maybe-add-ambient exclude terms fact t)
+  unfolding ambient-choice maybe-add-ambient
+  chosen e exclude = agree-makes rows (twelve-agree e exclude)
+
+  -- and its number is that of the first rule
+  pub ambient-numbered : groups-at rows t ≡ 0 → {n : ℕ} → n ≡ choice-place terms rows fact t → (exclude : List Name)
+      → suc n ≡ ambient-number exclude terms fact t
+  unfolding ambient-number place-in
+  ambient-numbered e f exclude = ap suc (f ∙ agree-place (twelve-agree (no-groups tables l e) exclude))
 
   -- what the twelve rules choose for a term without groups makes of the fact what `maybe_add_ambient` does
   pub ambient-kinded : groups-at rows t ≡ 0 → {c : Choice} → c ≡ ambient-choice terms rows fact t → (exclude : List Name)
@@ -203,3 +255,13 @@ module _ {file names refs rows : List ℕ} {named used many t : ℕ} (tables : T
           ≡ cond (is-nil (map (group-names exclude terms) gs)) (maybe-add-ambient exclude terms fact t) (Sum-triggers (map (group-names exclude terms) gs))
       go [] e = chosen e exclude .makes
       go (x ∷ xs) e = ap (λ gs. Sum-triggers (map (group-names exclude terms) gs)) e
+
+  -- the number of a fact with triggers is 0, that of another its rule's
+  pub number-groups : is-nil (pattern-groups terms t) ≡ false → (exclude : List Name) → 0 ≡ rule-number exclude terms fact t
+  unfolding rule-number triggers-of-term
+  number-groups e exclude = sym (rw (nil-map (group-names exclude terms) (pattern-groups terms t) ∙ e))
+
+  pub number-rules : is-nil (pattern-groups terms t) ≡ true → (exclude : List Name)
+      → ambient-number exclude terms fact t ≡ rule-number exclude terms fact t
+  unfolding rule-number ambient-number triggers-of-term
+  number-rules e exclude = sym (rw (nil-map (group-names exclude terms) (pattern-groups terms t) ∙ e))

@@ -1,11 +1,11 @@
 -- The twelve rules: what each chooses by what its term's line is, and the first that holds.
-use Prim.Native.Nat.{ℕ}
+use Prim.Native.Nat.{ℕ, suc, _+_}
 use native.Mathlib.Omega.{arith}
 use mathlib.Core.Path.{_≡_, refl, sym, ap, _∙_}
-use mathlib.Core.Bool.{Bool, true, false}
+use mathlib.Core.Bool.{Bool, true, false, cond}
 use mathlib.Core.Option.{Option, none, some, Option·getD}
 use mathlib.Core.List.{List, [], _∷_}
-use Rattle.model.specs.Lists.{holds, is-nil, or-else, when, _>>=_}
+use Rattle.model.specs.Lists.{find-index, holds, is-nil, or-else, when, _>>=_}
 use Rattle.model.specs.Names.{Name, bytes, same, starts-with}
 use Rattle.model.specs.Terms.{Term, term}
 use Rattle.model.specs.Summaries.{two, op-args, call-args, call-one, call-two, head, token, at, pattern-groups, is-ambient-refinement, ambient-refinement-payload, has-eq}
@@ -29,10 +29,6 @@ pub tries-yes : {o : Option Choice} {named many : ℕ} {r : Tried} {c : Choice} 
 tries-yes (holds-not e) f = let z : _≡_ {A = ℕ} 0 1 = cc in let n : ⊥ = omega arith in absurd n
 tries-yes {c} (chooses {c = d} e w) f = let same : d ≡ c = cc in (e ∙ ap some same, rw same at w)
 
--- the rules that are left choose what becomes of a fact
-pub record Left (terms : List Term) (rows : List ℕ) (fact : Name) (t : ℕ) (rules : List (Name → ℕ → Option Choice)) : Type 0 where
-  pub left : ambient-choice terms rows fact t ≡ first-choice terms rows rules fact t
-
 module _ (terms : List Term) (rows : List ℕ) where
   -- the twelve rules in their order
   abbrev pub twelve : List (Name → ℕ → Option Choice)
@@ -51,30 +47,55 @@ module _ (terms : List Term) (rows : List ℕ) where
       ∷ choose-12 terms rows
       ∷ []
 
+-- the place of the first rule that holds, from 0
+unfoldable pub place-in : Name → ℕ → List (Name → ℕ → Option Choice) → ℕ
+place-in fact t rules = find-index (λ (choose : Name → ℕ → Option Choice). holds (λ c. true) (choose fact t)) rules
+
+-- its place among the twelve
+abbrev pub choice-place : List Term → List ℕ → Name → ℕ → ℕ
+choice-place terms rows fact t = place-in fact t (twelve terms rows)
+
+-- the rules that are left after the first k choose what becomes of a fact
+pub record Left (terms : List Term) (rows : List ℕ) (fact : Name) (t k : ℕ)
+    (rules : List (Name → ℕ → Option Choice)) : Type 0 where
+  pub left : ambient-choice terms rows fact t ≡ first-choice terms rows rules fact t
+  pub passed : choice-place terms rows fact t ≡ k + place-in fact t rules
+
+-- the k-th rule, from 0, takes the fact, with this choice
+pub record Takes (terms : List Term) (rows : List ℕ) (fact : Name) (t k : ℕ) (c : Choice) : Type 0 where
+  pub choice : c ≡ ambient-choice terms rows fact t
+  pub place : k ≡ choice-place terms rows fact t
+
 module _ (terms : List Term) (rows : List ℕ) (fact : Name) (t : ℕ) where
   -- ---- whether a rule holds
 
   -- at first all are left
-  pub all-rules : Left terms rows fact t (twelve terms rows)
+  pub all-rules : Left terms rows fact t 0 (twelve terms rows)
   unfolding ambient-choice
-  all-rules = record { left = refl }
+  all-rules = record { left = refl; passed = omega arith }
 
-  -- a rule that does not hold leaves the fact to the rules after it
-  pub after : {rule : Name → ℕ → Option Choice} {rules : List (Name → ℕ → Option Choice)} → Left terms rows fact t (rule ∷ rules) → rule fact t ≡ none
-      → Left terms rows fact t rules
-  unfolding first-choice
-  after {rules} w e = record { left = w .left ∙ ap (λ o. Option·getD o (first-choice terms rows rules fact t)) e }
+  module _ {k : ℕ} {rule : Name → ℕ → Option Choice} {rules : List (Name → ℕ → Option Choice)}
+      (w : Left terms rows fact t k (rule ∷ rules)) where
+    -- a rule that does not hold leaves the fact to the rules after it
+    pub after : rule fact t ≡ none → Left terms rows fact t (suc k) rules
+    unfolding first-choice place-in find-index holds
+    after e = record {
+      left = w .left ∙ ap (λ o. Option·getD o (first-choice terms rows rules fact t)) e;
+      passed = w .passed ∙ ap (λ o. k + cond (holds (λ c. true) o) 0 (suc (place-in fact t rules))) e ∙ omega arith;
+    }
 
-  -- the first that holds is the choice
-  pub stop : {rule : Name → ℕ → Option Choice} {rules : List (Name → ℕ → Option Choice)} → Left terms rows fact t (rule ∷ rules)
-      → {c : Choice} → rule fact t ≡ some c → c ≡ ambient-choice terms rows fact t
-  unfolding first-choice
-  stop {rules} w e = sym (w .left ∙ ap (λ o. Option·getD o (first-choice terms rows rules fact t)) e)
+    -- the first that holds is the choice
+    pub stop : {c : Choice} → rule fact t ≡ some c → Takes terms rows fact t k c
+    unfolding first-choice place-in find-index holds
+    stop e = record {
+      choice = sym (w .left ∙ ap (λ o. Option·getD o (first-choice terms rows rules fact t)) e);
+      place = sym (w .passed ∙ ap (λ o. k + cond (holds (λ c. true) o) 0 (suc (place-in fact t rules))) e ∙ omega arith);
+    }
 
   -- the last rule holds of every fact
-  pub last-rule : Left terms rows fact t (choose-12 terms rows ∷ []) → choice.Ambient ≡ ambient-choice terms rows fact t
-  unfolding first-choice choose-12
-  last-rule w = sym (w .left)
+  pub last-rule : {k : ℕ} → Left terms rows fact t k (choose-12 terms rows ∷ []) → Takes terms rows fact t k choice.Ambient
+  unfolding choose-12
+  last-rule w = stop w refl
 
   -- the choice of a fact with triggers is these
   pub kind-groups : is-nil (pattern-groups terms t) ≡ false → choice.Groups t ≡ kind-choice terms rows fact t

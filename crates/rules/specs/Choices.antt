@@ -1,13 +1,13 @@
 -- The choice among the rules: what each makes of a fact, and which is taken.
-use Prim.Native.Nat.{ℕ, _<_}
+use Prim.Native.Nat.{ℕ, suc, _<_}
 use mathlib.Core.Path.{_≡_}
 use mathlib.Core.Bool.{true, false, cond}
 use mathlib.Core.List.{List, [], _∷_}
 use mathlib.Core.Option.{Option, none, some, Option·getD}
-use Rattle.model.specs.Lists.{collect, holds, is-nil, or-else, when, _>>=_}
+use Rattle.model.specs.Lists.{find-index, collect, holds, is-nil, or-else, when, _>>=_}
 use Rattle.model.specs.Names.{Name, bytes, same, starts-with}
 use Rattle.model.specs.Terms.{Term, term, references}
-use Rattle.model.specs.Summaries.{Kinded, Sum-drop, Sum-ambient, Sum-triggers, at, two, op-args, call-one, call-two, head, is-empty, token, token-triggers, has-eq, is-ambient-refinement, ambient-refinement-payload, pattern-groups, free-top-level-names, triggers-of-term}
+use Rattle.model.specs.Summaries.{Kinded, Sum-drop, Sum-ambient, Sum-triggers, at, two, op-args, call-one, call-two, head, is-empty, token, token-triggers, has-eq, is-ambient-refinement, ambient-refinement-payload, pattern-groups, free-top-level-names, triggers-of-term, rules}
 use Rattle.model.specs.declared.Op.the-variants.{TrueOp, Iff, Eq, And}
 use Rattle.names.specs.Table.{name-of}
 use Rattle.terms.specs.Rows.{row-head}
@@ -15,6 +15,7 @@ use Rattle.rules.specs.declared.Argument.{Argument}
 use Rattle.rules.specs.declared.Argument.the-variants as argument
 use Rattle.rules.specs.declared.Choice.{Choice}
 use Rattle.rules.specs.declared.Choice.the-variants as choice
+use Rattle.rules.specs.declared.Ruled.{Ruled}
 use Rattle.rules.specs.declared.Tried.{Tried}
 use Rattle.rules.specs.declared.Tried.the-variants as tried
 use Rattle.rules.specs.Views.{Tables, terms-in}
@@ -146,6 +147,11 @@ module _ (terms : List Term) (rows : List ℕ) where
       let ambient = ambient-choice name t in
       cond (is-nil (pattern-groups terms t)) ambient (choice.Groups t)
 
+-- the number of the first of the twelve rules that holds, from 1
+unfoldable pub ambient-number : List Name → List Term → Name → ℕ → ℕ
+ambient-number exclude terms name t =
+    suc (find-index (λ (rule : Name → ℕ → Option Kinded). holds (λ k. true) (rule name t)) (rules exclude terms))
+
 -- the numbers of a choice are those of terms and names of the tables
 unfoldable pub Within : ℕ → ℕ → Choice → Type 0
 Within named many (choice.One t) = t < many
@@ -180,6 +186,14 @@ pub record Chosen (choose : List Term → List ℕ → Name → ℕ → Choice) 
   pub kind : (exclude : List Name) → kinded exclude (terms-in file names refs rows used many) (name-of file names) r
       ≡ make exclude (terms-in file names refs rows used many) (name-of file names name) t
   pub within : Within named many r
+
+-- such a choice with the number of its rule, which is that of `model` whatever names are excluded
+pub record Ruled-as (choose : List Term → List ℕ → Name → ℕ → Choice) (make : List Name → List Term → Name → ℕ → Kinded)
+    (number : List Name → List Term → Name → ℕ → ℕ) (file names refs rows : List ℕ) (named used many name t : ℕ) (r : Ruled)
+    : Type 0 where
+  pub chosen : Chosen choose make file names refs rows named used many name t (r .choice)
+  pub numbered : (exclude : List Name)
+      → r .rule ≡ number exclude (terms-in file names refs rows used many) (name-of file names name) t
 
 -- an argument that may be missing
 unfoldable pub as-option : Argument → Option ℕ

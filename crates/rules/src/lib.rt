@@ -1,15 +1,16 @@
 ghost use Prim.Native.Nat.{ℕ, _+_, _≤_, _<_};
 ghost use mathlib.Core.Path.{_≡_};
+ghost use mathlib.Core.List.{List};
 ghost use lib.Dec.{T};
 ghost use lib.ListN.{length};
-ghost use Rattle.model.specs.Names.{starts-with};
+ghost use Rattle.model.specs.Names.{Name, starts-with};
 ghost use Rattle.model.specs.Reading.{most-names, most-terms};
 ghost use Rattle.model.specs.Outcome.{working-words};
-ghost use Rattle.model.specs.Summaries.{is-ambient-refinement, ambient-refinement-payload, has-eq, maybe-add-ambient, summarize-kind};
+ghost use Rattle.model.specs.Summaries.{is-ambient-refinement, ambient-refinement-payload, has-eq, maybe-add-ambient, summarize-kind, rule-number};
 ghost use Rattle.names.specs.Table.{Table, name-of};
 ghost use Rattle.terms.specs.Rows.{row-kind, row-head, row-start, row-end, has-head, groups-at, Rows};
 ghost use Rattle.rules.specs.Views.{Tables, terms-in, is-call-at, is-head-at, is-op-at, call-one-at, call-two-at, op-two-at, row-count, row-argument};
-ghost use Rattle.rules.specs.Choices.{Rule, Of-tables, Chosen, choose-1, choose-2, choose-3, choose-4, choose-5, choose-6, choose-7, choose-8, choose-9, choose-10, choose-11, token-choice, ambient-choice, kind-choice, Within, as-option};
+ghost use Rattle.rules.specs.Choices.{Rule, Of-tables, Chosen, Ruled-as, choose-1, choose-2, choose-3, choose-4, choose-5, choose-6, choose-7, choose-8, choose-9, choose-10, choose-11, token-choice, ambient-choice, ambient-number, kind-choice, Within, as-option};
 
 // Where the disjuncts of a fact's trigger names come from.
 pub enum Choice {
@@ -31,6 +32,12 @@ pub enum Choice {
     Drop,
     // The fact is ambient, and no root.
     Ambient,
+}
+
+// What becomes of a fact: the number of the rule that says it, 0 where its own triggers do, and the choice.
+struct Ruled {
+    rule: usize,
+    choice: Choice,
 }
 
 // What a rule comes to: it does not hold, or its choice.
@@ -633,49 +640,110 @@ fn maybe_add_ambient(
     many: usize,
     name: usize,
     t: usize,
-) -> Choice
+) -> Ruled
     requires { ⌜ Of-tables (now file) (now names) (now refs) (now rows) named used many name t
         × (groups-at (now rows) t ≡ 0) ⌝ }
-    ensures { λ r. ⌜ Chosen ambient-choice maybe-add-ambient (now (file .entry)) (now (names .entry)) (now (refs .entry))
-        (now (rows .entry)) named used many name t r ⌝ }
+    ensures { λ r. ⌜ Ruled-as ambient-choice maybe-add-ambient ambient-number (now (file .entry)) (now (names .entry))
+        (now (refs .entry)) (now (rows .entry)) named used many name t r ⌝ }
 {
     if let Tried::Yes(chosen) = rule_1(file, names, refs, rows, named, used, many, name, t) {
-        return chosen;
+        return Ruled {
+            rule: 1,
+            choice: chosen,
+        };
     }
     if let Tried::Yes(chosen) = rule_2(file, names, refs, rows, named, used, many, name, t) {
-        return chosen;
+        return Ruled {
+            rule: 2,
+            choice: chosen,
+        };
     }
     if let Tried::Yes(chosen) = rule_3(file, names, refs, rows, named, used, many, name, t) {
-        return chosen;
+        return Ruled {
+            rule: 3,
+            choice: chosen,
+        };
     }
     if let Tried::Yes(chosen) = rule_4(file, names, refs, rows, named, used, many, name, t) {
-        return chosen;
+        return Ruled {
+            rule: 4,
+            choice: chosen,
+        };
     }
     if let Tried::Yes(chosen) = rule_5(file, names, refs, rows, named, used, many, name, t) {
-        return chosen;
+        return Ruled {
+            rule: 5,
+            choice: chosen,
+        };
     }
     if let Tried::Yes(chosen) = rule_6(file, names, refs, rows, named, used, many, name, t) {
-        return chosen;
+        return Ruled {
+            rule: 6,
+            choice: chosen,
+        };
     }
     if let Tried::Yes(chosen) = rule_7(file, names, refs, rows, named, used, many, name, t) {
-        return chosen;
+        return Ruled {
+            rule: 7,
+            choice: chosen,
+        };
     }
     if let Tried::Yes(chosen) = rule_8(file, names, refs, rows, named, used, many, name, t) {
-        return chosen;
+        return Ruled {
+            rule: 8,
+            choice: chosen,
+        };
     }
     if let Tried::Yes(chosen) = rule_9(file, names, refs, rows, named, used, many, name, t) {
-        return chosen;
+        return Ruled {
+            rule: 9,
+            choice: chosen,
+        };
     }
     if let Tried::Yes(chosen) = rule_10(file, names, refs, rows, named, used, many, name, t) {
-        return chosen;
+        return Ruled {
+            rule: 10,
+            choice: chosen,
+        };
     }
     if let Tried::Yes(chosen) = rule_11(file, names, refs, rows, named, used, many, name, t) {
-        return chosen;
+        return Ruled {
+            rule: 11,
+            choice: chosen,
+        };
     }
-    Choice::Ambient
+    Ruled {
+        rule: 12,
+        choice: Choice::Ambient,
+    }
 }
 
-// The kind of a fact, of its name and term: by its triggers if it has any, else by the twelve rules.
+// What becomes of a fact, of its name and term: by its triggers if it has any, else by the twelve rules.
+fn choose_rule(
+    file: &[u8],
+    names: &[u32],
+    refs: &[u32],
+    rows: &[u32],
+    named: usize,
+    used: usize,
+    many: usize,
+    name: usize,
+    t: usize,
+) -> Ruled
+    requires { ⌜ Of-tables (now file) (now names) (now refs) (now rows) named used many name t ⌝ }
+    ensures { λ r. ⌜ Ruled-as kind-choice summarize-kind rule-number (now (file .entry)) (now (names .entry))
+        (now (refs .entry)) (now (rows .entry)) named used many name t r ⌝ }
+{
+    if terms::group_count(rows, t) == 0 {
+        return maybe_add_ambient(file, names, refs, rows, named, used, many, name, t);
+    }
+    Ruled {
+        rule: 0,
+        choice: Choice::Groups(t),
+    }
+}
+
+// The kind of a fact.
 pub fn summarize_kind(
     file: &[u8],
     names: &[u32],
@@ -691,8 +759,26 @@ pub fn summarize_kind(
     ensures { λ r. ⌜ Chosen kind-choice summarize-kind (now (file .entry)) (now (names .entry)) (now (refs .entry))
         (now (rows .entry)) named used many name t r ⌝ }
 {
-    if terms::group_count(rows, t) == 0 {
-        return maybe_add_ambient(file, names, refs, rows, named, used, many, name, t);
-    }
-    Choice::Groups(t)
+    let ruled = choose_rule(file, names, refs, rows, named, used, many, name, t);
+    ruled.choice
+}
+
+// The number of the rule that gives a fact its kind, 0 where its own triggers do.
+pub fn rule_of(
+    file: &[u8],
+    names: &[u32],
+    refs: &[u32],
+    rows: &[u32],
+    named: usize,
+    used: usize,
+    many: usize,
+    name: usize,
+    t: usize,
+) -> usize
+    requires { ⌜ Of-tables (now file) (now names) (now refs) (now rows) named used many name t ⌝ }
+    ensures { λ r. ⌜ ((exclude : List Name) → r ≡ rule-number exclude (terms-in (now (file .entry)) (now (names .entry))
+        (now (refs .entry)) (now (rows .entry)) used many) (name-of (now (file .entry)) (now (names .entry)) name) t) ⌝ }
+{
+    let ruled = choose_rule(file, names, refs, rows, named, used, many, name, t);
+    ruled.rule
 }

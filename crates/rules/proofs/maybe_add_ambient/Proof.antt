@@ -1,6 +1,5 @@
 -- `rules::maybe_add_ambient` meets its contract: the first rule that holds.
-use Prim.Native.Nat.{ℕ}
-use mathlib.Core.Path.{_≡_}
+use Prim.Native.Nat.{ℕ, suc}
 use mathlib.Core.List.{List}
 use lib.ListN.{drop}
 use Rattle.model.specs.Names.{Name}
@@ -9,9 +8,9 @@ use Rattle.model.specs.Summaries.{maybe-add-ambient}
 use Rattle.names.specs.Table.{name-of}
 use Rattle.rules.specs.Views.{terms-in}
 use Rattle.rules.specs.declared.Choice.{Choice}
-use Rattle.rules.specs.Choices.{ambient-choice, Within, Chosen}
-use Rattle.rules.proofs.Choosing.{ambient-kinded}
-use Rattle.rules.proofs.Rules.{tries-no, tries-yes, Left, twelve, all-rules, after, stop, last-rule}
+use Rattle.rules.specs.Choices.{ambient-choice, ambient-number, Within, Ruled-as}
+use Rattle.rules.proofs.Choosing.{ambient-kinded, ambient-numbered}
+use Rattle.rules.proofs.Rules.{tries-no, tries-yes, Left, Takes, twelve, all-rules, after, stop, last-rule}
 use Rattle.rules.proofs.maybe_add_ambient.Statement.{statement}
 use Rattle.rules.proofs.maybe_add_ambient.Tie as tie
 
@@ -29,13 +28,22 @@ rows s = s .args .rows .now
 
 -- the rules after the k-th choose
 abbrev Rest : tie.Start → ℕ → Type 0
-Rest s k = Left (terms s) (rows s) (fact s) (s .args .t) (drop k (twelve (terms s) (rows s)))
+Rest s k = Left (terms s) (rows s) (fact s) (s .args .t) k (drop k (twelve (terms s) (rows s)))
 
 -- what is promised of the first choice
-promised : (s : tie.Start) {c : Choice} → c ≡ ambient-choice (terms s) (rows s) (fact s) (s .args .t) → Within (s .args .named) (s .args .many) c
-    → Chosen ambient-choice maybe-add-ambient (s .args .file .now) (s .args .names .now) (s .args .refs .now) (rows s)
-    (s .args .named) (s .args .used) (s .args .many) (s .args .name) (s .args .t) c
-promised s e w = record { choice = e; kind = ambient-kinded (s .pre .0 .0) (s .pre .0 .2) (fact s) (s .pre .1) e; within = w }
+promised : (s : tie.Start) {k : ℕ} {c : Choice} → Takes (terms s) (rows s) (fact s) (s .args .t) k c
+    → Within (s .args .named) (s .args .many) c
+    → Ruled-as ambient-choice maybe-add-ambient ambient-number (s .args .file .now) (s .args .names .now)
+    (s .args .refs .now) (rows s) (s .args .named)
+    (s .args .used) (s .args .many) (s .args .name) (s .args .t) (record { rule = suc k; choice = c })
+promised s e w = record {
+  chosen = record {
+    choice = e .choice;
+    kind = ambient-kinded (s .pre .0 .0) (s .pre .0 .2) (fact s) (s .pre .1) (e .choice);
+    within = w;
+  };
+  numbered = ambient-numbered (s .pre .0 .0) (s .pre .0 .2) (fact s) (s .pre .1) (e .place);
+}
 
 -- the function's start, from where rule 1 does not hold
 abbrev start-1 : tie.After-enum-told → tie.Start
