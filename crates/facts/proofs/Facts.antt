@@ -185,7 +185,7 @@ module _ {file names refs rows recs lists : List ℕ} {k : Counts} (st : Standin
 -- ---- the fact there
 
 module _ {file names refs rows recs lists names₁ rows′ lists₁ names′ recs′ lists′ : List ℕ} {k : Counts} (st : Standing file names refs rows recs lists k)
-    (line : ℕ) {i : ℕ} (known : i < k .names) (flag group t : ℕ) {x : Summary} {next : Counts}
+    (line : ℕ) {i : ℕ} (known : i < k .names) (flag group t : ℕ) (term : t < k .terms) {x : Summary} {next : Counts}
     (few : k .records < most-records) (free : taken-at names i ≡ 0)
     (done : summarized.Done x ≡ limited (summed file names refs rows recs k i t))
     (filed-lists : Lists (excluded-of (name-of file names) recs (k .records)) file names refs rows (k .names) (k .references) (k .terms) i t names₁ rows′ lists₁ (k .entries) (k .uses) x)
@@ -286,6 +286,7 @@ module _ {file names refs rows recs lists names₁ rows′ lists₁ names′ rec
         row = row;
         small-kind = omega arith;
         known = λ e. omega (arith, known, more);
+        termed = λ e. term;
         lists-length = size ∙ slices .lists-length;
         few-uses = within .3;
         more-uses = omega arith;
@@ -448,9 +449,10 @@ fact-past {names₁ = names₁} {i = i} {k = k} s few low p =
 -- the fact there, by what the code has found
 pub fact-added : {file names refs rows recs lists names₁ rows′ lists₁ names′ recs′ lists′ : List ℕ} {k : Counts} → Standing file names refs rows recs lists k
     → (line : ℕ) → {i : ℕ} → i < k .names
-    → {w : ℕ} → w ≡ taken-at names i → (flag group t : ℕ) → {x : Summary} {next : Counts} → w ≤ 0 → k .records < most-records
+    → {w : ℕ} → w ≡ taken-at names i → (flag group t : ℕ) → t < k .terms → {x : Summary} {next : Counts} → w ≤ 0 → k .records < most-records
     → summarized.Done x ≡ limited (summed file names refs rows recs k i t)
     → Lists (excluded-of (name-of file names) recs (k .records)) file names refs rows (k .names) (k .references) (k .terms) i t names₁ rows′ lists₁ (k .entries) (k .uses) x
     → Slices names rows lists names₁ rows′ lists₁ (k .entries) (k .uses) → Puts names₁ recs lists₁ names′ recs′ lists′ k line i flag group t x next
     → Adds file names refs rows recs lists names′ rows′ recs′ lists′ k line (said file names i flag group t) (step.On next)
-fact-added st line known is flag group t h few done filed-lists slices puts = fact-there st line known flag group t few (omega arith) done filed-lists slices puts
+fact-added st line known is flag group t term h few done filed-lists slices puts =
+    fact-there st line known flag group t term few (omega arith) done filed-lists slices puts

@@ -125,6 +125,7 @@ module _ {file names refs rows recs lists names′ : List ℕ} {k : Counts} {nam
   standing-spelled table = record {
     tables = record { name-table = table; term-table = rows-named (longer .more) (table .few) (st .tables .term-table) };
     recorded = records-named (longer .more) (st .recorded);
+    termed = st .termed;
     fresh = record {
       row-marks = st .fresh .row-marks;
       name-marks = λ n h. rw (longer .kept .same-words (8192 + n) (λ a b. omega arith)) (st .fresh .name-marks n h);

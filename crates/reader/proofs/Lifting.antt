@@ -119,6 +119,7 @@ module _ {file names refs rows recs lists names′ refs′ rows′ : List ℕ} {
       record {
         tables = g .tables;
         recorded = s .recorded;
+        termed = λ i l q. omega (arith, s .termed i l q);
         fresh = record {
           row-marks = λ t l. rw (kept .rows-kept .same-words (12288 + t) (λ a b. omega arith)) (st .fresh .row-marks t l);
           name-marks = s .fresh .name-marks;

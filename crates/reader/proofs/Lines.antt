@@ -54,7 +54,7 @@ use Rattle.records.proofs.Asking.{asks-length, asks-none}
 use Rattle.records.specs.Writing.{no-counts}
 use Rattle.filing.specs.Lines.{judged, Reads, goes-on, stops, Past}
 use Rattle.reader.specs.declared.Reading.the-variants as answer
-use Rattle.reader.specs.Lines.{kind-content, Tables-cleared, Reads-file, all-read, read-stops, File-read}
+use Rattle.reader.specs.Lines.{kind-content, Tables-cleared, Reads-file, all-read, read-stops, Terms-stand, File-read}
 
 -- ---- the form of a line
 
@@ -374,6 +374,19 @@ opened-state {file} {names} {refs} {rows} {recs} {lists} {names′} {k} st o =
       terms-named (name-of file names′) (name-of file names) (kept .name) (st .tables .term-table),
     )
 
+-- a file that is refused is not read
+pub no-terms : {refs rows recs : List ℕ} {x : Refusal} {n : ℕ} (k : Counts) → answer.Refused x n ≡ answer.Read k
+    → Terms-stand refs rows recs k
+no-terms k e = let z : _≡_ {A = ℕ} 0 1 = cc in let n : ⊥ = omega arith in absurd n
+
+-- tables that stand have their terms
+terms-there : {file names refs rows recs lists : List ℕ} {k : Counts} → Standing file names refs rows recs lists k
+    → (k′ : Counts) → answer.Read k ≡ answer.Read k′ → Terms-stand refs rows recs k′
+terms-there {refs = refs} {rows} {recs} {k = k} st k′ e =
+    let same : k ≡ k′ = cc in
+    let stand : Terms-stand refs rows recs k = record { term-table = st .tables .term-table; termed = st .termed } in
+    rw same at stand
+
 -- all lines are read, and the macro column is filled
 pub opened-read : {file names refs rows recs lists names₀ refs₀ rows₀ recs₀ lists₀ names′ : List ℕ} {k : Counts} {n from : ℕ}
     → Reading-on file names refs rows recs lists k n from
@@ -388,4 +401,5 @@ opened-read {k = k} o h p x = record {
     record-words = p .record-words;
     list-words = p .list-words;
   };
+  terms = terms-there (o .standing);
 }

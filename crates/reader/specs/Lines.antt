@@ -15,7 +15,9 @@ use Rattle.model.specs.declared.Step.{Step}
 use Rattle.model.specs.declared.Step.the-variants as step
 use Rattle.fields.specs.declared.Kind.{Kind}
 use Rattle.fields.specs.Wording.{kind-result}
+use Rattle.terms.specs.Rows.{Rows}
 use Rattle.records.specs.States.{state-of}
+use Rattle.records.specs.Filing.{Termed}
 use Rattle.macros.specs.Macros.{Filled}
 use Rattle.records.specs.Writing.{with-ask, Position-at}
 use Rattle.filing.specs.Lines.{Past}
@@ -50,7 +52,13 @@ pub data Reads-file (file names′ refs′ rows′ recs′ lists′ : List ℕ) 
   read-stops : {x : Refusal} {n : ℕ} → read-file exclude-names file ≡ refused-at x n
       → Reads-file file names′ refs′ rows′ recs′ lists′ (answer.Refused x n)
 
+-- the term table of a file that is read stands, and the term of each of its facts is one of it
+pub record Terms-stand (refs rows recs : List ℕ) (k : Counts) : Type 0 where
+  pub term-table : Rows refs rows (k .references) (k .terms) (k .names)
+  pub termed : Termed recs (k .records) (k .terms)
+
 -- what reading a file leaves in the slices and answers
 pub record File-read (file names refs rows recs lists names′ refs′ rows′ recs′ lists′ : List ℕ) (r : Reading) : Type 0 where
   pub reads : Reads-file file names′ refs′ rows′ recs′ lists′ r
   pub past : Past names refs rows recs lists names′ refs′ rows′ recs′ lists′
+  pub terms : (k : Counts) → r ≡ answer.Read k → Terms-stand refs′ rows′ recs′ k

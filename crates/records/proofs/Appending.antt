@@ -2,7 +2,7 @@
 use Prim.Native.Nat.{ℕ, zero, suc, _+_, _-_, _*_, _≤_, _<_}
 use native.Mathlib.Numerals.{add-one}
 use native.Mathlib.Omega.{arith}
-use mathlib.Core.Path.{_≡_, refl, ap, _∙_}
+use mathlib.Core.Path.{_≡_, refl, sym, ap, _∙_}
 use mathlib.Core.Bool.{true, false, or-false}
 use mathlib.Core.Logic.{_⊎_, inl, inr, ⊎-elim}
 use mathlib.Core.List.{List, [], _∷_, _++_, map, map-append, append-nil}
@@ -33,7 +33,7 @@ use Rattle.triggers.proofs.Marked.{terms-marked}
 use Rattle.model.specs.declared.Step.the-variants as step
 use Rattle.records.specs.Columns.{record-kind, assume-kind, retain-kind, root-kind, hide-kind, entry-word, entry-name, entry-fact, ask-query-column, ask-options-column, ask-kind-column, ask-groups-column, ask-query, ask-options, ask-kind}
 use Rattle.records.specs.States.{summary-at, root-at, hides-at, decls-of, roots-of, hides-of, hidden-of, excluded-of, also-at, ask-at, asks-of, state-of}
-use Rattle.records.specs.Filing.{Records, Chained, Filing, Taken}
+use Rattle.records.specs.Filing.{Records, Termed, Chained, Filing, Taken}
 use Rattle.records.specs.Writing.{with-line, Rowed, Ask-stays}
 use Rattle.records.specs.Adding.{Standing, Adds, stops, added}
 use Rattle.records.proofs.Recording.{Agree, hides-known, hides-stay, decls-stay, roots-stay, records-length}
@@ -133,6 +133,7 @@ pub record Appends (file names rows recs lists names′ rows′ recs′ lists′
   pub row : Rowed recs recs′ k (with-line k hides′ named′ entries′ uses′ mark′) kind line name term flag code group
   pub small-kind : kind ≤ hide-kind
   pub known : (kind ≡ retain-kind → ⊥) → name < named′
+  pub termed : kind ≡ assume-kind → term < k .terms
   pub lists-length : length lists′ ≡ length lists
   pub few-uses : uses′ ≤ most-uses
   pub more-uses : k .uses ≤ uses′
@@ -235,6 +236,14 @@ module _ {file names refs rows recs lists names′ rows′ recs′ lists′ : Li
             (below e (k .entries));
       }
 
+  termed-then : Termed recs′ (k .records + 1) (k .terms)
+  termed-then j l q = ⊎-elim
+      (λ (e : j ≡ k .records). rw (e, a .row .term-is) (a .termed (sym (a .row .kind-is) ∙ (rw e at q))))
+      (λ (e : j ≡ k .records → ⊥).
+      let b : j < k .records = omega arith in
+      rw (before 3 j b) (st .termed j b (sym (before 0 j b) ∙ q)))
+      (equal j (k .records))
+
   -- the hide lines are those before, and the record if it is one
   hides-then : hides-of recs′ (k .records + 1) ≡ hides-of recs (k .records) ++ hides-at recs′ (k .records) kind
   unfolding hides-of
@@ -245,6 +254,7 @@ module _ {file names refs rows recs lists names′ rows′ recs′ lists′ : Li
   standing-then = record {
     tables = record { name-table = a .table; term-table = rows-named (a .more) (a .table .few) (rows-marked (a .row-words) (st .tables .term-table)) };
     recorded = records-then;
+    termed = termed-then;
     fresh = a .fresh;
     few-marks = a .few-marks;
     stocked = record { filing = filing-then; taken = a .taken; chained = a .chained };

@@ -172,6 +172,7 @@ module _ {file names refs rows recs lists recs′ : List ℕ} {k : Counts} {kind
   ask-standing grouped = record {
     tables = st .tables;
     recorded = records-there;
+    termed = λ i l q. rw (row-words 3 i (omega arith) l) (st .termed i l (sym (row-words 0 i (omega arith) l) ∙ q));
     fresh = st .fresh;
     few-marks = st .few-marks;
     stocked = record {

@@ -95,6 +95,7 @@ module _ {file names refs rows recs lists names′ : List ℕ} {k : Counts} (st 
         row = row;
         small-kind = small;
         known = known;
+        termed = λ e. absurd (other e);
         lists-length = lists-words .same-length;
         few-uses = few-uses;
         more-uses = more;

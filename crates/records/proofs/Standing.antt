@@ -64,6 +64,7 @@ module _ (file names refs rows recs lists : List ℕ) (short : length file ≤ 6
       use-words = λ j h. absurd (omega arith);
       entry-words = λ e h. absurd (omega arith);
     };
+    termed = λ i h q. absurd (omega arith);
     fresh = record {
       row-marks = λ t l. omega (arith, rows-zero (12288 + t) (omega arith));
       name-marks = λ n l. omega (arith, names-zero (8192 + n) (omega arith));

@@ -16,12 +16,13 @@ use Rattle.rules.specs.Views.{Tables}
 use Rattle.model.specs.declared.Step.{Step}
 use Rattle.model.specs.declared.Step.the-variants as step
 use Rattle.records.specs.States.{state-of}
-use Rattle.records.specs.Filing.{Records, Stocked, Hiding}
+use Rattle.records.specs.Filing.{Records, Termed, Stocked, Hiding}
 
 -- the tables between two lines; a record takes at most two marks beside one for each of its entries
 pub record Standing (file names refs rows recs lists : List ℕ) (k : Counts) : Type 0 where
   pub tables : Tables file names refs rows (k .names) (k .references) (k .terms)
   pub recorded : Records recs lists (k .names) (k .records) (k .entries) (k .uses)
+  pub termed : Termed recs (k .records) (k .terms)
   pub fresh : Fresh names rows (k .mark)
   pub few-marks : k .mark ≤ 2 * k .records + k .entries + 1
   pub stocked : Stocked file names recs lists (k .records) (k .entries)

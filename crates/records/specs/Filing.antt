@@ -12,7 +12,7 @@ use Rattle.model.specs.Reading.{most-names, most-records, most-entries, most-us
 use Rattle.model.specs.Outcome.{working-words}
 use Rattle.names.specs.Table.{name-of, Excludes}
 use Rattle.triggers.specs.Entries.{disjuncts-of, last-flag, no-name}
-use Rattle.records.specs.Columns.{record-kind, record-name, uses-start, uses-end, entries-start, entries-end, assume-kind, retain-kind, hide-kind, entry-word, entry-name, entry-fact, next-entry, taken-at, first-entry}
+use Rattle.records.specs.Columns.{record-kind, record-name, record-term, uses-start, uses-end, entries-start, entries-end, assume-kind, retain-kind, hide-kind, entry-word, entry-name, entry-fact, next-entry, taken-at, first-entry}
 use Rattle.records.specs.States.{entries-at, hides-of, excluded-of}
 
 -- the record table: each row has its kind, its name (a retain has none) and its two lists, and the words in use are numbers of
@@ -30,6 +30,10 @@ pub record Records (recs lists : List ℕ) (named records filed uses : ℕ) : Ty
   pub entries-in : (i : ℕ) → i < records → entries-end recs i ≤ filed
   pub use-words : (j : ℕ) → j < uses → getD lists j 0 < named
   pub entry-words : (e : ℕ) → e < filed → (entry-name lists e < named) ⊎ (entry-name lists e ≡ no-name)
+
+-- the term of each fact is one of the table
+abbrev pub Termed : List ℕ → ℕ → ℕ → Type 0
+Termed recs records terms = (i : ℕ) → i < records → record-kind recs i ≡ assume-kind → record-term recs i < terms
 
 -- one more than the last number below e of which f is n, 0 where there is none
 unfoldable pub newest : (ℕ → ℕ) → ℕ → ℕ → ℕ

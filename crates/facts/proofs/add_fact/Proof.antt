@@ -121,7 +121,8 @@ returns-4 c =
     let free = at-if2 .if2 .left in
     let room = at-if3 .if3 .left in
     let puts = at-put-fact .put-fact .ensures in (
-      fact-added st (entry .args .line) known (at-at .at .ensures) (entry .args .flag) (entry .args .group) (entry .args .t) free room done filed-lists slices puts,
+      fact-added st (entry .args .line) known (at-at .at .ensures) (entry .args .flag) (entry .args .group) (entry .args .t)
+          (entry .pre .1) free room done filed-lists slices puts,
       fact-past slices (limited-done _ done .2) (omega (arith, st .tables .name-table .few, known)) puts,
     )
 

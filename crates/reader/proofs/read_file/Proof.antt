@@ -7,7 +7,7 @@ use Rattle.macros.proofs.Filling.{standing-opens}
 use Rattle.filing.specs.Lines.{Past}
 use Rattle.filing.proofs.Naming.{past-none}
 use Rattle.reader.specs.Lines.{read-stops}
-use Rattle.reader.proofs.Lines.{past-more, Reading-on, no-lines, on-first, cleared-standing, on-open, on-next, on-refused, opened-read, lower}
+use Rattle.reader.proofs.Lines.{past-more, Reading-on, no-lines, on-first, cleared-standing, on-open, on-next, on-refused, no-terms, opened-read, lower}
 use Rattle.reader.proofs.read_file.Statement.{statement}
 use Rattle.reader.proofs.read_file.Tie as tie
 
@@ -19,7 +19,7 @@ abbrev μ-loop : tie.MeasureT-loop
 μ-loop file names₀ refs₀ rows₀ recs₀ lists₀ k₀ n₀ from₀ names refs rows recs lists k n from = length file - from
 
 returns : tie.Need-returns Inv-loop μ-loop
-returns c = record { reads = read-stops (no-lines _ (c .if1 .taken)); past = past-none _ _ _ _ _ }
+returns c = record { reads = read-stops (no-lines _ (c .if1 .taken)); past = past-none _ _ _ _ _; terms = no-terms }
 
 loop-holds : tie.Need-loop-holds Inv-loop μ-loop
 loop-holds c =
@@ -60,6 +60,7 @@ returns-2 c =
     record {
       reads = on-open (at-loop .loop .inv .0) (c .before .before .loop-test .taken) (c .before .find .ensures) (c .if2 .taken);
       past = at-loop .loop .inv .1;
+      terms = no-terms;
     }
 
 read-line-requires : tie.Need-read-line-requires Inv-loop μ-loop
@@ -120,6 +121,7 @@ returns-3 c =
           (lower _ _ (mark-to _ _ _ _ _ (at-find .find .ensures) (at-loop .loop .inv .0 .inside) (omega arith)) (at-if2 .if2 .left))
           (at-read-line .read-line .ensures .reads) (c .before .r .given .1);
       past = past-more (at-loop .loop .inv .1) (at-read-line .read-line .ensures .past);
+      terms = no-terms;
     }
 
 add-n : tie.Need-add-n Inv-loop μ-loop
