@@ -3,14 +3,12 @@ use Prim.Native.Nat.{ℕ, zero, suc, _+_, _*_, _-_, _≤_, _<_}
 use native.Mathlib.Omega.{arith}
 use mathlib.Core.Path.{_≡_, refl, sym, _∙_, ap, subst}
 use mathlib.Core.Bool.{Bool, true, false}
-use mathlib.Core.Logic.{_⊎_, inl, inr}
+use mathlib.Core.Logic.{_⊎_}
 use mathlib.Core.List.{List, [], _∷_, _++_, append-assoc}
-use mathlib.Core.Option.{Option, none, some}
+use mathlib.Core.Option.{none, some}
 use lib.Dec.{ltb}
-use lib.ListN.{length, getD, take, drop, take-append-drop}
-use lib.Seq.{ext-getD, getD-take, length-take-le}
+use lib.ListN.{length, getD, take}
 use borrow.Author.Tests.{ltb-true, ltb-false}
-use Rattle.model.specs.Reading.{Ask}
 use Rattle.model.specs.Outcome.{Lent, working-words, stopped, front}
 use Rattle.model.specs.Working.{Working, six, sizes, works-after}
 use Rattle.model.specs.Reasons.{rows, met-number}
@@ -33,9 +31,10 @@ use Rattle.front.specs.Demand.{verdict-number}
 use Rattle.front.specs.Opening.{Long, Rest, Zeros, Tables-zero, state-in, Open-file, Refused-file}
 use Rattle.front.proofs.Slices.{rest-self, rest-long, rest-then, slice-cleared, works-cleared, zeros-rest, front-own, left-own, front-short, left-untouched}
 use Rattle.front.proofs.Laws.{open-read, few-asks, closed-file, rest-work}
-use Rattle.rows.specs.Rows.{rows-held, words-of}
+use Rattle.rows.specs.Rows.{words-of}
 use Rattle.rows.specs.Left.{Rows-left}
-use Rattle.rows.proofs.Laws.{Small, rows-words, words-length}
+use Rattle.rows.proofs.Laws.{Small}
+use Rattle.rows.proofs.Leaving.{none-left, rows-begin, front-cleared}
 use Rattle.explain.specs.Call.{rows-told, Tells-rows, Moves-rows, Held-open, Explains-to, Position-told, Found-reasons, reasons-in-numbers}
 use Rattle.explain.specs.declared.Reasons.{Reasons}
 use Rattle.explain.proofs.SmallLines.{rows-small}
@@ -95,24 +94,6 @@ module _ (file : List ℕ) (position : ℕ) (lent : Working) (room : ℕ) where
 
 -- ---- what is left
 
--- no word changed
-zeroed-none : {l m : List ℕ} → Zeroed 0 0 l m → m ≡ l
-zeroed-none {l} {m} z = ext-getD 0 m l (z .same .same-length) (λ i h. z .same .same-words i (λ a b. omega arith))
-
--- without rows the slices are those of the end
-none-left : {works : List Lent} {lent left : Working} → left ≡ works-after works lent → Rows-left works lent left []
-unfolding rows-held
-none-left {works} {lent} {left} e = record {
-  names = ap (λ (w : Working). w .names) e;
-  refs = ap (λ (w : Working). w .refs) e;
-  rows = ap (λ (w : Working). w .rows) e;
-  recs = ap (λ (w : Working). w .recs) e;
-  lists = ap (λ (w : Working). w .lists) e;
-  inside = omega arith;
-  stand = refl;
-  cleared = λ run z. zeroed-none z ∙ ap (λ (w : Working). w .run) e;
-}
-
 -- slices that 7 counts beside these and that are long enough change nothing
 left-with : {works more : List Lent} {lent left : Working} {rs : List Row} → works-after more lent ≡ works-after works lent
     → Rows-left works lent left rs → Rows-left more lent left rs
@@ -126,25 +107,6 @@ left-with e l = record {
   stand = l .stand;
   cleared = λ run z. l .cleared run z ∙ sym (ap (λ (w : Working). w .run) e);
 }
-
--- the words of the rows stand at the start of a slice
-rows-begin : {n : ℕ} (source run : List ℕ) (rs : List Row) → n ≡ length rs → 2 * n ≤ length run
-    → take (2 * n) source ≡ words-of rs → ((i : ℕ) → i < 2 * n → getD run i 0 ≡ getD source i 0)
-    → Small rs → rows-held (length rs) run ≡ rs
-rows-begin {n} source run rs count room stand moved small =
-    ap (rows-held (length rs)) (sym (take-append-drop (2 * n) run) ∙ ap (_++ drop (2 * n) run) first)
-    ∙ rows-words rs (drop (2 * n) run) small
-  where
-    size : length (words-of rs) ≡ 2 * length rs
-    size = words-length rs
-
-    taken : length (take (2 * n) run) ≡ 2 * n
-    taken = length-take-le (2 * n) run room
-
-    first : take (2 * n) run ≡ words-of rs
-    first = ext-getD 0 (take (2 * n) run) (words-of rs) (omega (arith, size, taken, count)) (λ i h.
-        let low : i < 2 * n = omega (arith, taken) in
-        getD-take (2 * n) run i 0 low ∙ moved i low ∙ sym (getD-take (2 * n) source i 0 low) ∙ ap (λ (l : List ℕ). getD l i 0) stand)
 
 -- moving rows changes no word past those that a call uses
 pub moves-rest : {n : ℕ} {u left : Working} → Moves-rows n u left → Rest u left
@@ -161,16 +123,7 @@ moves-rest m = record {
 module _ {lent u left : Working} {n : ℕ} (long : Long lent) (rest : Rest lent u) (moved : Moves-rows n u left) (few : n ≤ most-rows) where
   -- the run's slice, once these words are cleared
   run-cleared : (run : List ℕ) → Zeroed 0 (2 * n) (left .run) run → Zeroed 0 working-words (u .run) run
-  run-cleared run z = record {
-    same = same-then (moved .run) (same-wider 0 working-words (omega arith) (omega arith) (z .same));
-    zero = λ i a b. go i b (ltb i (2 * n)) refl;
-  }
-    where
-      go : (i : ℕ) → i < 0 + working-words → (t : Bool) → ltb i (2 * n) ≡ t → getD run i 0 ≡ 0
-      go i b true e = let l = ltb-true i (2 * n) e in z .zero i (omega arith) (omega arith)
-      go i b false e =
-          let l = ltb-false i (2 * n) e in
-          z .same .same-words i (λ x y. omega arith) ∙ moved .cleared i l (omega arith)
+  run-cleared run z = front-cleared (omega arith) (moved .run) (moved .cleared) z
 
   some-left : (rs : List Row) → n ≡ length rs → take (2 * n) (u .refs) ≡ words-of rs
       → Small rs → Rows-left (sizes lent) lent left rs

@@ -22,23 +22,19 @@ use Rattle.model.specs.declared.Counts.{Counts}
 use Rattle.model.specs.declared.Row.{Row}
 use Rattle.model.proofs.ListLaws.{T-ext, true-T, any-intro, any-elim, keep-elim, keep-cong, keep-all, count-append, count-cong, count-map, collect-elim, collect-cong, collect-map, collect-one, map-cong, map-elim}
 use Rattle.model.proofs.SetLaws.{ascending-from-list, mem-intro, mem-elim, mem-from-list}
-use Rattle.model.proofs.IndexLaws.{number-in}
 use Rattle.demands.specs.LinesRead.{Lines-read, records-for}
 use Rattle.demands.specs.Demand3.{run-of}
 use Rattle.demands.specs.History.{history-for}
-use Rattle.demands.specs.Reasons.{Reached-by}
 use Rattle.demands.proofs.Reasons.{listed-by-rank}
 use Rattle.names.specs.Table.{name-of, table-names, ranked}
-use Rattle.names.proofs.Laws.{listed as values, names-length, names-at, names-intro, names-elim, distinct}
+use Rattle.names.proofs.Laws.{listed as values, names-intro, names-elim, distinct}
 use Rattle.triggers.specs.Entries.{disjuncts-of, last-flag, no-name}
-use Rattle.records.specs.Columns.{record-line, record-name}
+use Rattle.records.specs.Columns.{record-line}
 use Rattle.records.specs.States.{entries-at, fact-at, background-of, ask-of, state-of}
 use Rattle.macros.specs.Macros.{Filled}
 use Rattle.firing.specs.Met.{reached-column, run-end, is-met, is-reached}
 use Rattle.scan.specs.Runs.{tables-run, tables-history, Ran}
 use Rattle.scan.specs.declared.Scan.{Scan}
-use Rattle.firing.proofs.Numbers.{set-intro}
-use Rattle.firing.proofs.Background.{facts-intro}
 use Rattle.firing.proofs.Listing.{word-listed, listed-word}
 use Rattle.firing.proofs.Joining.{laid}
 use Rattle.prune.specs.Listing.{from, record-behind, picked, reached-at, reached-records}
@@ -46,9 +42,10 @@ use Rattle.prune.specs.Kept.{reached-of}
 use Rattle.prune.proofs.Picking.{reached-same}
 use Rattle.prune.proofs.Ranges.{keep-map, from-below, from-snoc}
 use Rattle.prune.proofs.Takers.{reached-record}
-use Rattle.prune.proofs.Linking.{in-all, by-rank, reached-are}
+use Rattle.prune.proofs.Linking.{in-all, number-is, by-rank, reached-are}
 use Rattle.reasons.specs.Rows.{lists-name, row-due, row-at, rows-at, rows-in}
 use Rattle.reasons.proofs.Listed.{due-met}
+use Rattle.explain.proofs.Supplying.{fact-reached}
 
 -- two tests of three parts
 and-cong : {a a′ b b′ c c′ : Bool} → a ≡ a′ → b ≡ b′ → (T b → c ≡ c′) → (a && (b && c)) ≡ (a′ && (b′ && c′))
@@ -87,14 +84,6 @@ module _ {file names recs lists : List ℕ} {k : Counts} (x : Filled file names 
       (λ r i. mem-from-list (name (ranked names r)) (table-names file names (k .names)) .1
       (names-intro file names (k .names) (ranked names r) (x .table .numbers r (from-below (k .names) i)))))
       ∙ sym (map-map name (ranked names) (from 0 (k .names)))
-
-  -- the number of a name
-  number-is : (n : ℕ) → n < k .names → name-number (table-names file names (k .names)) (name n) ≡ n
-  number-is n l =
-      let all = table-names file names (k .names) in
-      let (h, e) = number-in all (mem-elim (names-intro file names (k .names) n l)) in
-      let q = subst (λ z. name-number all (name n) < z) (names-length file names (k .names)) h in
-      distinct (x .table) (name-number all (name n)) n q l (sym (names-at file names (k .names) (name-number all (name n)) q) ∙ e)
 
   -- a record lists a name where its fact does
   lists-is : (i n : ℕ) → i < k .records → n < k .names → mem (name n) (listed (fact i)) ≡ lists-name recs lists i n
@@ -186,13 +175,6 @@ module _ {file names recs lists : List ℕ} {k : Counts} (x : Filled file names 
       × (it .line ≡ record-line recs (noted n - 1))
 
   module _ (i : ℕ) (li : i < k .records) (reached : T (is-reached v i)) where
-    fact-is-reached : Reached-by q s (fact x i)
-    unfolding state-of fact-at tables-run
-    fact-is-reached = record {
-      is-fact = facts-intro (name x) recs lists q (k .records) i li (ran .only-facts i li reached);
-      is-reached = subst (λ ns. T (mem (name x (record-name recs i)) ns)) (ran .reached) (set-intro (λ i. name x (record-name recs i)) (is-reached v) li reached);
-    }
-
     due-is : (n : ℕ) → n < k .names → in-time (fact x i) (name x n) ≡ row-due recs lists v i n
     unfolding row-due state-of tables-run tables-history
     due-is n l =
@@ -215,7 +197,7 @@ module _ {file names recs lists : List ℕ} {k : Counts} (x : Filled file names 
       unfolding rows-of rows-at
       rows-are-at =
           let ranks = map (ranked names) (from 0 (k .names)) in
-          ap (collect rows-for) (listed-by-rank file s accepted q fact-is-reached ∙ ap (keep (in-time (fact x i))) ranked-names ∙ keep-map (in-time (fact x i)) (name x) ranks
+          ap (collect rows-for) (listed-by-rank file s accepted q (fact-reached refs table a ran i li reached) ∙ ap (keep (in-time (fact x i))) ranked-names ∙ keep-map (in-time (fact x i)) (name x) ranks
           ∙ ap (map (name x)) (keep-cong (λ n. in-time (fact x i) (name x n)) (row-due recs lists v i) ranks (λ n m. due-is n (ranks-small x n m))))
           ∙ collect-map rows-for (name x) (keep (row-due recs lists v i) ranks)
           ∙ collect-cong (λ n. rows-for (name x n)) (λ n. row-at recs noted i n ∷ []) (keep (row-due recs lists v i) ranks)

@@ -1,10 +1,10 @@
 -- The lines of the scanned items are lines of the file, so that each fits half a word.
-use Prim.Native.Nat.{ℕ, suc, _+_, _≤_, _<_}
+use Prim.Native.Nat.{ℕ, _≤_, _<_}
 use native.Mathlib.Omega.{arith}
 use mathlib.Core.Path.{_≡_, refl, ap}
-use mathlib.Core.List.{List, [], _∷_, _++_, List·Memᴰ, List·Memᴰ·head, List·Memᴰ·tail, List·Memᴰ·not-nil, List·Memᴰ·eq-of-singleton}
+use mathlib.Core.List.{List, [], _∷_, List·Memᴰ, List·Memᴰ·head, List·Memᴰ·tail, List·Memᴰ·not-nil, List·Memᴰ·eq-of-singleton}
 use lib.ListN.{length, length-append}
-use Rattle.model.specs.Lines.{Line, lines}
+use Rattle.model.specs.Lines.{Line}
 use Rattle.model.specs.Names.{Name}
 use Rattle.model.specs.Terms.{Term}
 use Rattle.model.specs.Summaries.{Fact, summarize-assumption}
@@ -15,7 +15,7 @@ use Rattle.model.specs.declared.Row.{Row}
 use Rattle.model.proofs.ListLaws.{collect-elim}
 use Rattle.demands.specs.LinesRead.{Lines-read}
 use Rattle.demands.specs.Demand1.{Reached-line}
-use Rattle.demands.specs.FileOrder.{Said, fact-said, root-said, In-order}
+use Rattle.demands.specs.FileOrder.{fact-said, root-said}
 use Rattle.demands.specs.Reasons.{Scanned, root as a-root, ambient-root, reached-fact}
 use Rattle.demands.proofs.FileOrder.{file-order}
 use Rattle.demands.proofs.Background.{admitted-fact}

@@ -71,6 +71,18 @@ pub record Supplier-at (is : List Item) (n : Name) (recs : List ℕ) (records wo
   pub supplier-is : supplier is n ≡ some item
   pub line-is : item .line ≡ record-line recs number
 
+-- the fact of a record that is reached
+pub fact-reached : {file names recs lists : List ℕ} {k : Counts} (refs rows : List ℕ) (a : Asked) {w v : List ℕ} {sc : Scan}
+    → Ran file names recs lists k a w v sc → (i : ℕ) → i < k .records → T (is-reached v i)
+    → Reached-by (ask-of recs a) (state-of file names refs rows recs lists k) (fact-at (name-of file names) recs lists i)
+unfolding state-of fact-at tables-run
+fact-reached {file} {names} {recs} {lists} {k} refs rows a {v = v} ran i l t =
+    let named : ℕ → Name = λ i. name-of file names (record-name recs i) in
+    record {
+      is-fact = facts-intro (name-of file names) recs lists (ask-of recs a) (k .records) i l (ran .only-facts i l t);
+      is-reached = subst (λ ns. T (mem (named i) ns)) (ran .reached) (set-intro named (is-reached v) l t);
+    }
+
 module _ {file names recs lists : List ℕ} {k : Counts} (x : Filled file names recs lists k) (refs rows : List ℕ) (a : Asked)
     (wf : Well-formed (records-for (ask-of recs a) (state-of file names refs rows recs lists k)) (state-of file names refs rows recs lists k .roots))
     {w v : List ℕ} {sc : Scan} (ran : Ran file names recs lists k a w v sc) where
@@ -100,15 +112,7 @@ module _ {file names recs lists : List ℕ} {k : Counts} (x : Filled file names 
   unfolding state-of
   fact-here i l c = facts-intro name recs lists q (k .records) i l c
 
-  -- the record of a fact that is reached, and back
-  pub fact-reached : (i : ℕ) → i < k .records → T (is-reached v i) → Reached-by q s (fact-at name recs lists i)
-  unfolding state-of fact-at tables-run
-  fact-reached i l t = record {
-    is-fact = facts-intro name recs lists q (k .records) i l (ran .only-facts i l t);
-    is-reached = subst (λ ns. T (mem (name (record-name recs i)) ns)) (ran .reached)
-        (set-intro (λ i. name (record-name recs i)) (is-reached v) l t);
-  }
-
+  -- the record of a fact that is reached
   reached-record : (i : ℕ) → i < k .records → T (takes-part recs q i) → Reached-by q s (fact-at name recs lists i) → T (is-reached v i)
   unfolding state-of fact-at tables-run held-of
   reached-record i l c r =
@@ -122,7 +126,7 @@ module _ {file names recs lists : List ℕ} {k : Counts} (x : Filled file names 
   -- an ambient root is not reached
   ambient-unreached : (i : ℕ) → i < k .records → T (is-ambient-root (fact-at name recs lists i .kind)) → T (is-reached v i) → ⊥
   ambient-unreached i l b t =
-      let r = fact-reached i l t in
+      let r = fact-reached refs rows a ran i l t in
       T-not (is-ambient (fact-at name recs lists i .kind))
       (reached-no-ambient q (records-for q s) (s .roots) wf (fact-at name recs lists i) (r .is-fact) (r .is-reached))
       (root-ambient (fact-at name recs lists i .kind) b)
@@ -150,7 +154,7 @@ module _ {file names recs lists : List ℕ} {k : Counts} (x : Filled file names 
       let b = subst (λ z. T z) (sym (root-code (summary-code recs i))) y in
       ambient-root (fact-at name recs lists i) (fact-here i l c) b n refl (round-none i (ambient-unreached i l b)) refl)
       (starts-elim recs a i u))
-      (λ u. let r = fact-reached i l u in
+      (λ u. let r = fact-reached refs rows a ran i l u in
       reached-fact (fact-at name recs lists i) r
       (subst (Its-round q s (fact-at name recs lists i)) (sym (record-round i l u)) (Suppliers.its-round q s wf (fact-at name recs lists i) r)) refl refl)
       (T-or (starts-at recs a i) (is-reached v i) .0 t)

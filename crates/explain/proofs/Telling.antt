@@ -1,8 +1,7 @@
 -- The reasons of an ask over filled tables: what the rows ask after the run and the pass of suppliers, and what is told.
-use Prim.Native.Nat.{ℕ, suc, _+_, _*_, _-_, _≤_, _<_}
+use Prim.Native.Nat.{ℕ, _-_, _≤_, _<_}
 use native.Mathlib.Omega.{arith}
 use mathlib.Core.Path.{_≡_, refl, sym, _∙_, ap, ap₂, subst}
-use mathlib.Core.Bool.{Bool}
 use mathlib.Core.List.{List}
 use mathlib.Core.Option.{some}
 use lib.Dec.{T, ltb}
@@ -10,29 +9,26 @@ use lib.ListN.{length, getD, take}
 use lib.Seq.{ext-getD, getD-take, length-take-le}
 use Rattle.model.specs.Lists.{count}
 use Rattle.model.specs.Reading.{Ask, State}
-use Rattle.model.specs.Outcome.{most-bytes, working-words}
-use Rattle.model.specs.Reasons.{Item, scanned-items, supplier, rows, met-bits, met-number}
-use Rattle.model.specs.Explaining.{told, reasons, why}
+use Rattle.model.specs.Outcome.{working-words}
+use Rattle.model.specs.Reasons.{scanned-items, rows, met-bits, met-number}
+use Rattle.model.specs.Explaining.{reasons, why}
 use Rattle.model.specs.declared.Asked.{Asked}
 use Rattle.model.specs.declared.Counts.{Counts}
 use Rattle.model.specs.declared.Verdict.the-variants.{Accepted}
-use Rattle.model.specs.declared.Why.{Why}
-use Rattle.demands.specs.LinesRead.{Lines-read, records-for}
+use Rattle.demands.specs.LinesRead.{records-for}
 use Rattle.demands.proofs.Background.{well-for}
 use Rattle.demands.proofs.Suppliers
 use Rattle.demands.proofs.Reasons.{rows-fit}
-use Rattle.names.specs.Table.{name-of, ranked}
-use Rattle.words.specs.Slices.{Same-but}
+use Rattle.names.specs.Table.{name-of}
 use Rattle.words.proofs.Slices.{same-then, same-wider}
-use Rattle.records.specs.Columns.{record-line, taken-at}
+use Rattle.records.specs.Columns.{record-line}
 use Rattle.records.specs.States.{ask-of, state-of}
-use Rattle.macros.specs.Macros.{Filled}
 use Rattle.firing.specs.Met.{run-end, is-met}
 use Rattle.scan.specs.Runs.{Ran}
 use Rattle.scan.specs.declared.Scan.{Scan}
 use Rattle.firing.proofs.Joining.{laid}
-use Rattle.suppliers.specs.Notes.{supplier-column, Suppliers-noted}
-use Rattle.prune.specs.Loops.{Index}
+use Rattle.suppliers.specs.Notes.{Suppliers-noted}
+use Rattle.prune.proofs.Linking.{index-filled}
 use Rattle.rows.specs.Rows.{words-of}
 use Rattle.reasons.specs.Rows.{supplied, rows-in, Supplier, Explainable, Rows-put}
 use Rattle.bits.specs.Bits.{Met}
@@ -40,17 +36,6 @@ use Rattle.explain.specs.Call.{Tells-rows, Lent-tables}
 use Rattle.explain.proofs.SmallLines.{scanned-small}
 use Rattle.explain.proofs.Supplying.{Supplier-at, noted-item}
 use Rattle.explain.proofs.Rows.{rows-same, rows-are, met-counted}
-
--- the names in byte order
-index : {file names recs lists : List ℕ} {k : Counts} → Filled file names recs lists k → Index names (k .names)
-index {names = names} {k = k} x =
-    let l = laid x in
-    record {
-      room = l .name-room;
-      few = x .table .few;
-      numbers = x .table .numbers;
-      takers = λ n h. omega (arith, l .few-records, x .stocked .taken .low n (omega (arith, x .table .few)));
-    }
 
 module _ {file names recs lists refs run v u : List ℕ} {k : Counts} {a : Asked} (lent : Lent-tables file names refs recs lists run k a)
     {sc : Scan} (ran : Ran file names recs lists k a run v sc) (noted : Suppliers-noted names recs lists k a v u) where
@@ -109,7 +94,7 @@ module _ {file names recs lists refs run v u : List ℕ} {k : Counts} {a : Asked
   pub explainable : Explainable names refs recs lists u k
   explainable = record {
     laid = laid (lent .filled);
-    index = index (lent .filled);
+    index = index-filled (lent .filled);
     took = λ n h. lent .filled .stocked .taken .low n (omega (arith, lent .filled .table .few));
     row-room = lent .row-room;
     run-room = noted-long;

@@ -8,14 +8,11 @@ use model::Verdict;
 use model::Why;
 ghost use Prim.Native.Nat.{_*_, _≤_, _<_};
 ghost use mathlib.Core.Path.{_≡_};
-ghost use lib.ListN.{length};
-ghost use Rattle.model.specs.Outcome.{working-words};
 ghost use Rattle.model.specs.Working.{six};
 ghost use Rattle.model.specs.Explaining.{refusal-at, why};
-ghost use Rattle.words.specs.Slices.{Zeroed};
 ghost use Rattle.front.specs.Opening.{Long};
 ghost use Rattle.explain.specs.Call.{reasons-in-numbers, Lent-tables, Tells-rows, Moves-rows, Held-open, Position-told};
-ghost use Rattle.explain.specs.Call.{Explains-to, Found};
+ghost use Rattle.explain.specs.Call.{Explains-to, Found-reasons};
 
 // The answer in numbers: the number of the refusal, 0 for rows; its place; how many of the numbered names are met; how many rows
 // are filled.
@@ -154,7 +151,7 @@ pub fn find_rows(
     w5: &mut [u32],
     room: usize,
 ) -> Reasons
-    ensures { λ r. ⌜ Found (now (file .entry)) position
+    ensures { λ r. ⌜ Found-reasons (now (file .entry)) position
         (six (now (w0 .entry)) (now (w1 .entry)) (now (w2 .entry)) (now (w3 .entry)) (now (w4 .entry)) (now (w5 .entry))) room r
         (six (now (w0 .exit)) (now (w1 .exit)) (now (w2 .exit)) (now (w3 .exit)) (now (w4 .exit)) (now (w5 .exit))) ⌝ }
 {

@@ -4,7 +4,6 @@ use mathlib.Core.Path.{_≡_, sym, _∙_, ap}
 use mathlib.Core.Bool.{Bool, true, false, not, _&&_}
 use mathlib.Core.List.{List}
 use borrow.Author.Tests.{eq-eqb, ne-eqb}
-use Rattle.model.specs.Lists.{part}
 use Rattle.model.specs.Reading.{no-ambients, pretyping-axioms}
 use Rattle.model.specs.Rounds.{asks-for}
 use Rattle.model.specs.declared.Asked.{Asked}

@@ -3,18 +3,18 @@ use Prim.Native.Nat.{ℕ, zero, suc, _+_, _-_, _%_, _≤_, _<_}
 use native.Mathlib.Omega.{arith}
 use mathlib.Core.Path.{_≡_, refl, sym, ap, ap₂, _∙_}
 use mathlib.Core.Bool.{Bool, true, false, cond, _&&_}
-use mathlib.Core.Logic.{_⊎_, inl, inr, ⊎-elim}
+use mathlib.Core.Logic.{_⊎_, ⊎-elim}
 use mathlib.Core.List.{List, [], _∷_, _++_, append-nil, List·Memᴰ, List·Memᴰ·head, List·Memᴰ·not-nil, List·Memᴰ·cases-cons, List·Memᴰ·append-cases, Memᴰ·append-left, Memᴰ·append-right}
 use lib.ListN.{length, getD}
 use lib.Dec.{T, ltb, eqb}
-use borrow.Author.Tests.{ne-eqb, lt-ltb, ltb-true, ltb-false}
+use borrow.Author.Tests.{ne-eqb, ltb-true, ltb-false}
 use Rattle.model.specs.Lists.{keep, count, collect, concat, part}
 use Rattle.model.specs.Names.{Name}
 use Rattle.model.specs.Summaries.{entries, Fact}
 use Rattle.model.specs.Reading.{Ask, Decl, Sum-assume, Root}
 use Rattle.model.specs.Rounds.{admits, is-admitted, background, facts, definitions, listed, filed}
 use Rattle.model.proofs.ListLaws.{count-append, collect-append}
-use Rattle.model.proofs.PartLaws.{part-nil, part-length}
+use Rattle.model.proofs.PartLaws.{part-length}
 use Rattle.laws.proofs.BackgroundLaws.{background-append}
 use Rattle.laws.proofs.Records.{facts-append, definitions-append}
 use Rattle.terms.proofs.Laws.{equal}

@@ -1,12 +1,12 @@
 -- The demands of a call of the order check.
-use Prim.Native.Nat.{ℕ, _≤_, _<_}
+use Prim.Native.Nat.{ℕ, _≤_}
 use native.Mathlib.Omega.{arith}
 use mathlib.Core.Path.{_≡_, refl, sym, _∙_, ap}
-use mathlib.Core.Logic.{_↔_, _⊎_, inl, inr, ⊎-elim}
-use mathlib.Core.List.{List, [], _∷_, List·Memᴰ}
+use mathlib.Core.Logic.{_↔_, _⊎_, inl, inr}
+use mathlib.Core.List.{List, [], _∷_}
 use lib.ListN.{length, take, drop}
 use Rattle.model.specs.Reading.{State}
-use Rattle.model.specs.Outcome.{refusal-number, stopped, opened, front}
+use Rattle.model.specs.Outcome.{refusal-number, front}
 use Rattle.model.specs.Precedence.{late-rows}
 use Rattle.model.specs.Checking.{Checked, refusal-at, listed-rows, ordered, table-after}
 use Rattle.model.specs.declared.Refusal.{Refusal}
@@ -15,7 +15,6 @@ use Rattle.model.specs.declared.Row.{Row}
 use Rattle.model.specs.declared.Verdict.the-variants as verdict
 use Rattle.demands.specs.LinesRead.{Lines-read}
 use Rattle.demands.specs.Demand1.{Of-front, Lines-judged}
-use Rattle.demands.specs.Checking.{When-table-short}
 use Rattle.demands.proofs.Demand1.{not-8}
 use Rattle.demands.proofs.Spelling.{names-in-order}
 use Rattle.demands.proofs.Checking.{check-exact, rows-kept}

@@ -4,14 +4,13 @@ use native.Mathlib.Omega.{arith}
 use mathlib.Core.Path.{_≡_, refl, sym, _∙_, ap}
 use mathlib.Core.Bool.{Bool, true, false, cond}
 use mathlib.Core.List.{List, [], _∷_, _++_}
-use lib.Dec.{eqb, ltb}
-use lib.ListN.{length, getD, take, drop, take-append-drop}
-use lib.Seq.{sets, ext-getD, getD-take, length-take-le}
-use borrow.Author.Tests.{ltb-true, ltb-false, le-leb, lt-leb}
+use lib.Dec.{eqb}
+use lib.ListN.{length, getD}
+use borrow.Author.Tests.{le-leb, lt-leb}
 use Rattle.model.specs.Lists.{collect}
 use Rattle.model.specs.Reading.{most-uses}
-use Rattle.model.specs.Outcome.{Lent, working-words}
-use Rattle.model.specs.Working.{Working, six, sizes, works-after}
+use Rattle.model.specs.Outcome.{working-words}
+use Rattle.model.specs.Working.{Working, six, sizes}
 use Rattle.model.specs.Checking.{Checked, refusal-at, listed-rows, checked, rows-fitting, check, ordered}
 use Rattle.model.specs.declared.Counts.{Counts}
 use Rattle.model.specs.declared.Ordered.{Ordered}
@@ -30,12 +29,14 @@ use Rattle.front.specs.Demand.{verdict-number}
 use Rattle.front.specs.Opening.{Long, Rest, Zeros, Tables-zero, state-in, Open-file, Refused-file}
 use Rattle.front.proofs.Slices.{rest-long, rest-then, slice-cleared, works-cleared, zeros-rest, left-cleared}
 use Rattle.front.proofs.Laws.{open-read, rest-work}
-use Rattle.rows.specs.Rows.{rows-held, words-of}
+use Rattle.rows.specs.Rows.{rows-held}
 use Rattle.rows.specs.Left.{Rows-left}
-use Rattle.rows.proofs.Laws.{Small, rows-words, words-length}
+use Rattle.rows.proofs.Laws.{Small, words-length}
+use Rattle.rows.proofs.Leaving.{none-left, rows-begin, front-cleared}
 use Rattle.prune.specs.Listing.{from, is-among}
 use Rattle.prune.proofs.Writing.{column-same}
-use Rattle.prune.proofs.Gathering.{part-sets}
+use Rattle.prune.proofs.Rows.{rows-count, rows-words-put}
+use Rattle.prune.proofs.Linking.{index-filled}
 use Rattle.precedence.specs.Sorts.{late-at, sorted-row, rank-row, body-rows, def-rows, all-late}
 use Rattle.precedence.specs.Call.{rows-of-check, Late-put, Late-tables, Lists-rows, Orders, Found-rows, check-in-numbers}
 use Rattle.precedence.specs.declared.Late.{Late}
@@ -85,12 +86,7 @@ late-small names recs lists k =
 pub open-late : {file : List ℕ} {lent held : Working} {k : Counts} → Open-file file lent held k → Late-tables held k
 open-late {file} {lent} {held} {k} f = record {
   checkable = record {
-    index = record {
-      room = x .table .room;
-      few = x .table .few;
-      numbers = x .table .numbers;
-      takers = λ n h. let a = x .stocked .taken .low n (omega (arith, x .table .few)) in omega (arith, x .recorded .few);
-    };
+    index = index-filled x;
     recorded = x .recorded;
   };
   long = rest-long (f .long) (f .rest);
@@ -110,34 +106,10 @@ open-checked {file} {lent} {held} {k} room f =
 
 -- ---- what is left
 
--- no word changed
-zeroed-none : {l m : List ℕ} → Zeroed 0 0 l m → m ≡ l
-zeroed-none {l} {m} z = ext-getD 0 m l (z .same .same-length) (λ i h. z .same .same-words i (λ a b. omega arith))
-
--- without rows the slices are those of the end
-none-left : {works : List Lent} {lent left : Working} → left ≡ works-after works lent → Rows-left works lent left []
-unfolding rows-held
-none-left {works} {lent} {left} e = record {
-  names = ap (λ (w : Working). w .names) e;
-  refs = ap (λ (w : Working). w .refs) e;
-  rows = ap (λ (w : Working). w .rows) e;
-  recs = ap (λ (w : Working). w .recs) e;
-  lists = ap (λ (w : Working). w .lists) e;
-  inside = omega arith;
-  stand = refl;
-  cleared = λ run z. zeroed-none z ∙ ap (λ (w : Working). w .run) e;
-}
-
--- rows whose words stand at the start of a slice
-rows-stand : (rs : List Row) (run : List ℕ) → Small rs → take (2 * length rs) run ≡ words-of rs → rows-held (length rs) run ≡ rs
-rows-stand rs run small e =
-    ap (rows-held (length rs)) (sym (take-append-drop (2 * length rs) run) ∙ ap (_++ drop (2 * length rs) run) e)
-    ∙ rows-words rs (drop (2 * length rs) run) small
-
 module _ {rs : List Row} {refs refs′ run run′ : List ℕ} {count : ℕ} (p : Late-put rs refs refs′ run run′ count) where
   -- as many as were put
   pub put-count : count ≡ length rs
-  put-count = let a = p .put .count in let b = words-length rs in omega arith
+  put-count = rows-count rs count (p .put)
 
   -- they change no other words
   pub put-same : length rs ≤ most-uses → Same-but 0 working-words run run′
@@ -148,42 +120,20 @@ module _ {rs : List Row} {refs refs′ run run′ : List ℕ} {count : ℕ} (p :
 
   module _ (few : length rs ≤ most-uses) (room : working-words ≤ length run) (small : Small rs) {left : List ℕ}
       (z : Zeroed (2 * count) (working-words - 2 * count) run′ left) where
-    words-put : take (2 * length rs) run′ ≡ words-of rs
-    words-put =
-        let b = words-length rs in
-        let size : 0 + length (words-of rs) - 0 ≡ 2 * length rs = omega arith in
-        ap (take (2 * length rs)) (p .put .written) ∙ ap (λ (n : ℕ). take n (sets run 0 (words-of rs))) (sym size)
-        ∙ part-sets run 0 (words-of rs) (omega arith)
-
     -- the rows stand in the words that are left
     pub put-stand : rows-held (length rs) left ≡ rs
-    put-stand = rows-stand rs left small (same-front ∙ words-put)
-      where
-        same-front : take (2 * length rs) left ≡ take (2 * length rs) run′
-        same-front =
-            let n = put-count in
-            let a = z .same .same-length in
-            let b = put-same few .same-length in
-            let c = length-take-le (2 * length rs) left (omega arith) in
-            let d = length-take-le (2 * length rs) run′ (omega arith) in
-            ext-getD 0 (take (2 * length rs) left) (take (2 * length rs) run′) (omega arith) (λ i h.
-            getD-take (2 * length rs) left i 0 (omega arith) ∙ z .same .same-words i (λ u v. omega arith)
-            ∙ sym (getD-take (2 * length rs) run′ i 0 (omega arith)))
+    put-stand =
+        let n = put-count in
+        let a = z .same .same-length in
+        let b = put-same few .same-length in
+        rows-begin run′ left rs n (omega arith) (rows-words-put rs count (p .put) (omega arith)) (λ i h. z .same .same-words i (λ u v. omega arith)) small
 
     -- with them cleared, the slice is
     pub put-cleared : (last : List ℕ) → Zeroed 0 (2 * length rs) left last → Zeroed 0 working-words run′ last
-    put-cleared last y = record {
-      same = same-then (same-wider 0 working-words (omega arith) (let n = put-count in omega arith) (z .same))
-          (same-wider 0 working-words (omega arith) (omega arith) (y .same));
-      zero = λ i a b. go i b (ltb i (2 * length rs)) refl;
-    }
-      where
-        go : (i : ℕ) → i < 0 + working-words → (t : Bool) → ltb i (2 * length rs) ≡ t → getD last i 0 ≡ 0
-        go i b true e = let l = ltb-true i (2 * length rs) e in y .zero i (omega arith) (omega arith)
-        go i b false e =
-            let l = ltb-false i (2 * length rs) e in
-            let n = put-count in
-            y .same .same-words i (λ u v. omega arith) ∙ z .zero i (omega arith) (omega arith)
+    put-cleared last y =
+        let n = put-count in
+        front-cleared (omega arith) (same-wider 0 working-words (omega arith) (omega arith) (z .same))
+        (λ i low high. z .zero i (omega arith) (omega arith)) y
 
 -- ---- the rows listed, or 8
 

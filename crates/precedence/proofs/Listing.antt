@@ -1,5 +1,5 @@
 -- The rows on numbers are those of `model` over the state that the tables hold.
-use Prim.Native.Nat.{ℕ, zero, suc, _+_, _-_, _<_}
+use Prim.Native.Nat.{ℕ, zero, suc, _-_, _<_}
 use native.Mathlib.Numerals.{add-one}
 use native.Mathlib.Omega.{arith}
 use mathlib.Core.Path.{_≡_, refl, sym, ap, ap₂, _∙_}
@@ -18,9 +18,8 @@ use Rattle.model.specs.declared.Counts.{Counts}
 use Rattle.model.specs.declared.Row.{Row}
 use Rattle.model.proofs.ListLaws.{map-elim, collect-cong, collect-map, keep-append, keep-cong}
 use Rattle.model.proofs.SetLaws.{mem-elim, mem-from-list, ascending-from-list}
-use Rattle.model.proofs.IndexLaws.{number-in}
 use Rattle.names.specs.Table.{name-of, table-names, ranked}
-use Rattle.names.proofs.Laws.{names-length, names-at, names-intro, distinct, listed}
+use Rattle.names.proofs.Laws.{listed}
 use Rattle.terms.proofs.Laws.{equal}
 use Rattle.records.specs.Columns.{record-kind, record-line, assume-kind, fun-kind, def-kind}
 use Rattle.records.specs.States.{uses-at, free-at, decl-at, decls-of, state-of}
@@ -31,7 +30,7 @@ use Rattle.prune.specs.Listing.{from, record-behind, taker, kind-at, is-among}
 use Rattle.prune.proofs.Ranges.{collect-keep, from-below}
 use Rattle.prune.proofs.Filed.{fun-at, definitions-are}
 use Rattle.prune.proofs.Takers.{one-zero, one-suc}
-use Rattle.prune.proofs.Linking.{by-rank, in-all, free-has, def-found, fun-found}
+use Rattle.prune.proofs.Linking.{number-is, by-rank, in-all, free-has, def-found, fun-found}
 use Rattle.precedence.specs.Sorts.{sort-at, late-at, sorted-row, rank-row, body-rows, def-rows, all-late}
 
 -- ---- tests
@@ -160,15 +159,6 @@ module _ {file names recs lists : List ℕ} {k : Counts} (x : Filled file names 
           fact-kind (suc (suc zero)) l q p = absurd (q refl)
           fact-kind (suc (suc (suc c))) l q p = absurd (omega arith)
 
-  -- the number of a name is its place
-  number-is : (n : ℕ) → n < k .names → name-number (table-names file names (k .names)) (name n) ≡ n
-  number-is n h =
-      let all = table-names file names (k .names) in
-      let (l, e) = number-in all (mem-elim (names-intro file names (k .names) n h)) in
-      let m = name-number all (name n) in
-      let low : m < k .names = omega (arith, l, names-length file names (k .names)) in
-      distinct (x .table) m n low h (sym (names-at file names (k .names) m low) ∙ e)
-
   -- the names free in a body, by rank
   free-ranks : (i : ℕ) → i < k .records
       → free-at name recs lists i ≡ map rank-name (keep (λ r. is-among (ranked names r) (uses-at recs lists i)) (from 0 (k .names)))
@@ -206,7 +196,7 @@ module _ {file names recs lists : List ℕ} {k : Counts} (x : Filled file names 
       each r l true =
           rw (sort-is i r l)
           (sorted-option recs i (ranked names r) (sort-at names recs i (ranked names r)) (name-number (table-names file names (k .names)) (rank-name r))
-          (number-is (ranked names r) (x .table .numbers r l)))
+          (number-is x (ranked names r) (x .table .numbers r l)))
       each r l false = sorted-none recs i (ranked names r)
 
   -- all rows

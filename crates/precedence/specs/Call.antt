@@ -13,8 +13,9 @@ use Rattle.words.specs.Slices.{Same-but}
 use Rattle.front.specs.Demand.{verdict-number}
 use Rattle.front.specs.Opening.{Long, Rest}
 use Rattle.rows.specs.Left.{Rows-left}
+use Rattle.prune.specs.Rows.{Rows-behind}
 use Rattle.precedence.specs.Sorts.{all-late}
-use Rattle.precedence.specs.Loops.{Checkable, Rows-behind}
+use Rattle.precedence.specs.Loops.{Checkable}
 use Rattle.precedence.specs.declared.Late.{Late}
 
 -- the answer in numbers

@@ -1,14 +1,12 @@
 -- What the loops that put rows ask of the tables, and what they leave in the slices of the references and of the run.
-use Prim.Native.Nat.{ℕ, _*_, _≤_, _<_}
+use Prim.Native.Nat.{ℕ, _≤_, _<_}
 use mathlib.Core.List.{List}
 use lib.ListN.{getD}
 use Rattle.model.specs.Reading.{most-names}
 use Rattle.model.specs.declared.Counts.{Counts}
-use Rattle.model.specs.declared.Row.{Row}
 use Rattle.words.specs.Slices.{Same-but}
 use Rattle.records.specs.Filing.{Records}
-use Rattle.rows.specs.Rows.{words-of}
-use Rattle.prune.specs.Loops.{Index, Behind}
+use Rattle.prune.specs.Loops.{Index}
 
 -- tables whose bodies can be looked up
 pub record Checkable (names recs lists : List ℕ) (k : Counts) : Type 0 where
@@ -23,7 +21,3 @@ Stamps-below refs s = (n : ℕ) → n < most-names → getD refs n 0 ≤ s
 pub record Stamped-to (before after : List ℕ) (s : ℕ) : Type 0 where
   pub below : Stamps-below after s
   pub same : Same-but 0 most-names before after
-
--- rows put into words behind the first m rows; then there are `to`
-abbrev pub Rows-behind : List ℕ → ℕ → List Row → List ℕ → ℕ → Type 0
-Rows-behind before m rows after to = Behind 0 before (2 * m) (words-of rows) after (2 * to)

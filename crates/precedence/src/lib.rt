@@ -15,8 +15,9 @@ ghost use Rattle.model.specs.Checking.{refusal-at, ordered};
 ghost use Rattle.records.specs.States.{uses-at};
 ghost use Rattle.records.specs.Filing.{Records};
 ghost use Rattle.prune.specs.Loops.{Index, Readable};
+ghost use Rattle.prune.specs.Rows.{Rows-behind};
 ghost use Rattle.precedence.specs.Sorts.{sort-at, late-at, body-rows, def-rows, all-late, has-stamp, stamps};
-ghost use Rattle.precedence.specs.Loops.{Checkable, Stamps-below, Stamped-to, Rows-behind};
+ghost use Rattle.precedence.specs.Loops.{Checkable, Stamps-below, Stamped-to};
 ghost use Rattle.precedence.specs.Call.{Late-put, check-in-numbers, Late-tables, Lists-rows, Orders, Found-rows};
 
 // The answer in numbers: the number of the refusal, 0 for rows; its place; how many rows are listed.

@@ -23,7 +23,7 @@ use Rattle.laws.proofs.BackgroundLaws.{background-definitions, background-decla
 use Rattle.laws.proofs.BodyLaws.{all-closed, all-has, all-least, all-set, added-elim, added-set}
 use Rattle.names.specs.Table.{name-of, ranked}
 use Rattle.names.proofs.Laws.{distinct}
-use Rattle.records.specs.Columns.{record-kind, record-line, record-name, assume-kind, fun-kind, def-kind, taken-at}
+use Rattle.records.specs.Columns.{record-kind, record-line, record-name, fun-kind, def-kind, taken-at}
 use Rattle.records.specs.States.{uses-at, free-at, fact-at, decl-at, decls-of, roots-of, background-of, takes-part, ask-of}
 use Rattle.macros.specs.Macros.{is-def, Filled}
 use Rattle.firing.specs.Held.{set-of}

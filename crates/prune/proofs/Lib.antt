@@ -13,6 +13,7 @@ pub mod Groups
 pub mod Members
 pub mod Raised
 pub mod Gathering
+pub mod Rows
 pub mod Lines
 pub mod Order
 pub mod Filed

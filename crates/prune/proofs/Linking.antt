@@ -8,7 +8,7 @@ use lib.Dec.{T, eqb, eqb→eq}
 use lib.ListN.{length, length-map}
 use borrow.Author.Tests.{eq-eqb}
 use Rattle.model.specs.Lists.{keep, concat, collect}
-use Rattle.model.specs.Names.{Name, same, mem}
+use Rattle.model.specs.Names.{Name, same, mem, name-number}
 use Rattle.model.specs.Summaries.{Fact}
 use Rattle.model.specs.Reading.{Ask, Decl, no-ambients}
 use Rattle.model.specs.Rounds.{admits, facts, definitions, declarations, is-ambient, asks-for, goal-roots}
@@ -17,8 +17,9 @@ use Rattle.model.specs.declared.Asked.{Asked}
 use Rattle.model.specs.declared.Counts.{Counts}
 use Rattle.model.proofs.ListLaws.{T-ext, true-T, cond-ap, any-intro, any-elim, map-intro, map-elim, keep-elim, keep-cong, keep-all, collect-append, collect-cong, collect-map, map-collect, map-reverse, concat-collect}
 use Rattle.model.proofs.SetLaws.{mem-intro, mem-elim, mem-keep, mem-from-list, Ascending, ascending-from-list, ascending-keep, ascending-ext}
-use Rattle.names.specs.Table.{name-of, ranked}
-use Rattle.names.proofs.Laws.{listed, listed-intro, listed-ascending, distinct}
+use Rattle.model.proofs.IndexLaws.{number-in}
+use Rattle.names.specs.Table.{name-of, table-names, ranked}
+use Rattle.names.proofs.Laws.{listed, listed-intro, listed-ascending, names-length, names-at, names-intro, distinct}
 use Rattle.records.specs.Columns.{record-kind, record-name, record-flag, record-group, summary-code, kind-of-code, assume-kind, fun-kind, def-kind}
 use Rattle.records.specs.States.{uses-at, free-at, fact-at, decl-at, decls-of, roots-of, background-of, takes-part, ask-of}
 use Rattle.macros.specs.Macros.{Filled}
@@ -29,6 +30,7 @@ use Rattle.records.proofs.Taking.{part-kind, part-admits}
 use Rattle.firing.proofs.Background.{is-definition, is-root, def-at, root-of}
 use Rattle.firing.proofs.Joining.{uses-low}
 use Rattle.prune.specs.Listing.{from, record-behind, picked, reached-at, kind-at, ambient-at, is-goal, reached-records, ambient-records, fact-records, goal-records, kept-items, is-among, stamped, stamp-records, kind-records}
+use Rattle.prune.specs.Loops.{Index}
 use Rattle.prune.specs.Kept.{reached-of}
 use Rattle.prune.proofs.Ranges.{keep-keep, keep-comm, keep-reverse, keep-collect-one, keep-map, collect-keep, reverse-collect, collect-collect, from-below, from-snoc, upto-reverse, upto-reverse-1}
 use Rattle.prune.proofs.Order.{name-stamp, Sets-in, met-by-stamp}
@@ -78,6 +80,24 @@ module _ {file names recs lists : List ℕ} {k : Counts} (x : Filled file names 
   in-all m h =
       let (r, l, e) = x .table .each m h in
       subst (λ n. T (mem (name n) (listed rank-name (k .names)))) e (listed-intro rank-name (k .names) r l)
+
+  -- the number of a name is its place
+  pub number-is : (n : ℕ) → n < k .names → name-number (table-names file names (k .names)) (name n) ≡ n
+  number-is n h =
+      let all = table-names file names (k .names) in
+      let (l, e) = number-in all (mem-elim (names-intro file names (k .names) n h)) in
+      let m = name-number all (name n) in
+      let low : m < k .names = omega (arith, l, names-length file names (k .names)) in
+      distinct (x .table) m n low h (sym (names-at file names (k .names) m low) ∙ e)
+
+  -- the index and the takers are in range
+  pub index-filled : Index names (k .names)
+  index-filled = record {
+    room = x .table .room;
+    few = x .table .few;
+    numbers = x .table .numbers;
+    takers = λ n h. let y = x .stocked .taken .low n (omega (arith, x .table .few)) in omega (arith, x .recorded .few);
+  }
 
   -- a set of names of the table, by rank
   pub by-rank : (X : List Name) → Ascending X → ((n : Name) → T (mem n X) → T (mem n (listed rank-name (k .names))))

@@ -19,6 +19,7 @@ use Rattle.firing.specs.Held.{upto}
 use Rattle.firing.specs.Met.{is-reached, reached-column}
 use Rattle.prune.specs.Listing.{from, record-behind, picked, taker, reached-at, kind-at, ambient-at, is-goal}
 use Rattle.prune.specs.Loops.{kept-column, Index}
+use Rattle.prune.proofs.Ranges.{collect-from, collect-past}
 
 -- ---- the name of a rank and who took it
 
@@ -120,12 +121,12 @@ module _ (recs : List ℕ) (a : Asked) (i x : ℕ) (e : x ≡ record-kind recs i
 
 -- the first of the numbers left
 pub from-next : (pick : ℕ → ℕ) (r n : ℕ) → r < n → picked pick (from r (n - r)) ≡ record-behind (pick r) ++ picked pick (from (r + 1) (n - (r + 1)))
-unfolding picked from collect
-from-next pick r n h = ap (λ (k : ℕ). picked pick (from r k)) (let e : n - r ≡ suc (n - (r + 1)) = omega arith in e)
+unfolding picked
+from-next pick r n h = collect-from (λ r. record-behind (pick r)) r n h
 
 pub from-end : (pick : ℕ → ℕ) (r n : ℕ) → n ≤ r → picked pick (from r (n - r)) ≡ []
-unfolding picked from collect
-from-end pick r n h = ap (λ (k : ℕ). picked pick (from r k)) (let e : n - r ≡ 0 = omega arith in e)
+unfolding picked
+from-end pick r n h = collect-past (λ r. record-behind (pick r)) r n h
 
 -- the first of the numbers left, kept or not
 kept-next : (test : ℕ → Bool) (i n : ℕ) → i < n

@@ -19,6 +19,7 @@ use Rattle.prune.specs.Kept.{kept-of, Run-over, Pruned}
 use Rattle.prune.proofs.Writing.{lists-same}
 use Rattle.prune.proofs.Gathering.{part-sets, kept-few}
 use Rattle.prune.proofs.Takers.{records-small}
+use Rattle.prune.proofs.Linking.{index-filled}
 use Rattle.prune.proofs.Joining.{kept-lines, facts-front}
 
 module _ {file names recs lists w : List ℕ} {k : Counts} {a : Asked} (t : Run-over file names recs lists w k a) where
@@ -50,18 +51,10 @@ module _ {file names recs lists w : List ℕ} {k : Counts} {a : Asked} (t : Run-
   -- the tables are in range
   pub tables-fit : Listable names recs lists w k a
   tables-fit =
-      let table = t .filled .table in
-      let few = table .few in
-      let low = t .filled .stocked .taken .low in
-      let many = t .filled .recorded .few in
+      let few = t .filled .table .few in
       record {
-        index = record {
-          room = table .room;
-          few = few;
-          numbers = table .numbers;
-          takers = λ n h. let y = low n (omega arith) in omega arith;
-        };
-        took = λ n h. low n (omega arith);
+        index = index-filled (t .filled);
+        took = λ n h. t .filled .stocked .taken .low n (omega arith);
         notes = record { recorded = t .filled .recorded; few = few; room = t .room };
         asked = t .asked;
         few-facts = facts-fit;

@@ -1,5 +1,5 @@
 -- Laws of lists: numbers in order, upward and downward; what is kept of them, mapped, turned round.
-use Prim.Native.Nat.{ℕ, zero, suc, _+_, _≤_, _<_}
+use Prim.Native.Nat.{ℕ, zero, suc, _+_, _-_, _≤_, _<_}
 use native.Mathlib.Omega.{arith}
 use mathlib.Core.Path.{_≡_, refl, sym, ap, ap₂, _∙_}
 use mathlib.Core.Logic.{⊎-elim}
@@ -108,6 +108,16 @@ pub from-snoc : (a n : ℕ) → from a (suc n) ≡ from a n ++ ((a + n) ∷ [])
 unfolding from
 from-snoc a zero = ap (_∷ []) (let e : a ≡ a + 0 = omega arith in e)
 from-snoc a (suc n) = ap (a ∷_) (from-snoc (a + 1) n ∙ ap (λ i. from (a + 1) n ++ (i ∷ [])) (let e : a + 1 + n ≡ a + suc n = omega arith in e))
+
+-- what the numbers from r on give: what the first gives, and the rest; past the last, nothing
+pub collect-from : {A : Type 0} (f : ℕ → List A) (r n : ℕ) → r < n
+    → collect f (from r (n - r)) ≡ f r ++ collect f (from (r + 1) (n - (r + 1)))
+unfolding collect from
+collect-from f r n h = ap (λ (k : ℕ). collect f (from r k)) (let e : n - r ≡ suc (n - (r + 1)) = omega arith in e)
+
+pub collect-past : {A : Type 0} (f : ℕ → List A) (r n : ℕ) → n ≤ r → collect f (from r (n - r)) ≡ []
+unfolding collect from
+collect-past f r n h = ap (λ (k : ℕ). collect f (from r k)) (let e : n - r ≡ 0 = omega arith in e)
 
 -- downward is upward turned round
 pub upto-reverse : (n : ℕ) → upto n ≡ reverse (from 0 n)

@@ -1,4 +1,5 @@
 pub mod Listing
 pub mod Follow
 pub mod Loops
+pub mod Rows
 pub mod Kept

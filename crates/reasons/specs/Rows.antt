@@ -22,7 +22,7 @@ use Rattle.firing.specs.Tables.{Laid}
 use Rattle.firing.specs.Met.{reached-column, is-met}
 use Rattle.suppliers.specs.Notes.{supplier-column}
 use Rattle.prune.specs.Listing.{from, reached-records}
-use Rattle.prune.specs.Loops.{Index, Behind}
+use Rattle.prune.specs.Loops.{Index}
 
 -- the supplier of a name, and one, as it stands in the slice
 abbrev pub supplied : List ℕ → ℕ → ℕ
@@ -76,10 +76,6 @@ pub record Explainable (names refs recs lists run : List ℕ) (k : Counts) : Typ
   pub run-room : working-words ≤ length run
   pub suppliers : (n : ℕ) → n < k .names → T (is-met run n) → Supplier recs (k .records) (supplied run n)
   pub fits : length (rows-in names recs lists run (supplied run) k) ≤ most-rows
-
--- rows put into the words of a slice behind the first m rows; then there are `to`
-abbrev pub Rows-behind : List ℕ → ℕ → List Row → List ℕ → ℕ → Type 0
-Rows-behind before m rows after to = Behind 0 before (2 * m) (words-of rows) after (2 * to)
 
 -- all rows in words from the start of a slice on
 pub record Rows-put (names recs lists run : List ℕ) (k : Counts) (before after : List ℕ) (r : ℕ) : Type 0 where

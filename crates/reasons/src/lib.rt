@@ -7,8 +7,9 @@ ghost use lib.ListN.{length};
 ghost use Rattle.model.specs.Reading.{most-names};
 ghost use Rattle.model.specs.Outcome.{working-words};
 ghost use Rattle.model.specs.Explaining.{most-rows};
+ghost use Rattle.prune.specs.Rows.{Rows-behind};
 ghost use Rattle.reasons.specs.Rows.{supplied, lists-name, row-due, rows-at};
-ghost use Rattle.reasons.specs.Rows.{Entries-in, Explainable, Rows-behind, Rows-put};
+ghost use Rattle.reasons.specs.Rows.{Entries-in, Explainable, Rows-put};
 
 // Whether an entry of a record has the name.
 fn lists_name(recs: &[u32], lists: &[u32], i: usize, n: usize) -> bool

@@ -6,7 +6,7 @@
 --     words-append     the words of rows one behind the other
 --     words-length     a row is two words
 --     words-put        the words of one row more, once that row is put behind the others
-use mathlib.Core.Path.{_≡_, refl, sym, ap, _∙_}
+use mathlib.Core.Path.{_≡_, refl, ap}
 use Prim.Native.Nat.{ℕ, zero, suc, _+_, _*_, _≤_, _<_, _/_, _%_}
 use native.Mathlib.Numerals.{add-one}
 use native.Mathlib.Omega.{arith}

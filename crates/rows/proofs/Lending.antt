@@ -24,7 +24,7 @@ use types.Share.{arr-parts}
 use types.Tokens.{lent-back}
 use denote.RattleType.{RattleType}
 use denote.Memory.{mem, shares}
-use denote.Shadow.{pureL, pureI}
+use denote.Shadow.{pureI}
 use denote.Ref.{RefT}
 use denote.Slice.{sliceVal, MutSlice, ShrSlice, heres, Room, finally, at-slice, codedHoleys}
 use denote.Lend.{Held, lends-slice, slice-back, lends-shr-slice}

@@ -1,4 +1,4 @@
--- The start of a run on numbers: its columns set to zero, the records that round 1 scans put on the worklist.
+-- The start of a run on numbers: the records that round 1 scans put on the worklist.
 use Prim.Native.Nat.{ℕ, zero, suc, _+_}
 use mathlib.Core.Bool.{Bool, false, cond}
 use lib.ListN.{set}

@@ -5,7 +5,7 @@ use mathlib.Core.Bool.{Bool, true, false, cond, not, _&&_, _||_}
 use mathlib.Core.List.{List, [], _++_, List·Memᴰ}
 use lib.Dec.{T, ltb, eqb}
 use lib.ListN.{length, getD, set}
-use Rattle.model.specs.Lists.{all, count, fold-left, part}
+use Rattle.model.specs.Lists.{count, fold-left, part}
 use Rattle.model.specs.Reading.{most-names, most-records, most-entries, most-asks}
 use Rattle.firing.specs.Held.{Held, upto, waiting}
 use Rattle.scan.specs.declared.Scan.{Scan}

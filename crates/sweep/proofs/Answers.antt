@@ -2,11 +2,11 @@
 use Prim.Native.Nat.{ℕ, zero, suc, _+_, _≤_}
 use native.Mathlib.Numerals.{add-one}
 use native.Mathlib.Omega.{arith}
-use mathlib.Core.Path.{_≡_, refl, sym, _∙_, ap, subst}
+use mathlib.Core.Path.{_≡_, refl, sym, _∙_, subst}
 use mathlib.Core.List.{List, [], _∷_, _++_, map, map-append}
-use lib.ListN.{length, take, drop}
+use lib.ListN.{length}
 use Rattle.model.specs.Reading.{Ask, State, most-records}
-use Rattle.model.specs.Outcome.{Front, stopped, opened, front, position, Outcome, refusal-at, fitting, outcome, answered, answer, result-after, working-words}
+use Rattle.model.specs.Outcome.{stopped, opened, front, position, Outcome, refusal-at, fitting, outcome, answered, answer, result-after, working-words}
 use Rattle.model.specs.Outcome as outcomes
 use Rattle.model.specs.Sweep.{sweep, passes-of, passes-told, swept, sweep-answer}
 use Rattle.model.specs.Working.{Working, sizes}
@@ -32,7 +32,7 @@ use Rattle.filter.specs.Call.{position-of, positions-of}
 use Rattle.front.proofs.Laws.{open-read}
 use Rattle.filter.proofs.Answers.{slice-rest, part-take, state-outcome, open-runs}
 use Rattle.sweep.proofs.Laws.{Lists-on}
-use Rattle.sweep.specs.Call.{Exact, telling, passes-at, passes-before, Listed-at, Replied, Gives, Settles, Sweeps-over}
+use Rattle.sweep.specs.Call.{Exact, telling, passes-at, passes-before, Listed-at, Replied, Settles, Sweeps-over}
 
 -- ---- what the sweeps ask
 

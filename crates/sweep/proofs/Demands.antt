@@ -8,12 +8,9 @@ use lib.ListN.{length, take, drop, getD}
 use Rattle.model.specs.Lists.{sum}
 use Rattle.model.specs.Reading.{Ask, State}
 use Rattle.model.specs.Outcome.{Lent, Position, Outcome, refusal-at, lists, outcome, all-kept, answer, result-after}
-use Rattle.model.specs.Sweep.{sweep-answer}
 use Rattle.model.specs.Working.{sizes}
 use Rattle.model.specs.declared.Answer.{Answer}
-use Rattle.model.specs.declared.Refusal.{Refusal}
 use Rattle.model.specs.declared.Swept.{Swept}
-use Rattle.model.specs.declared.Verdict.{Verdict}
 use Rattle.model.specs.declared.Verdict.the-variants as verdict
 use Rattle.demands.specs.LinesRead.{Lines-read, At}
 use Rattle.demands.specs.Sweep.{As-first, Passes-at}
@@ -22,7 +19,7 @@ use Rattle.filter.specs.Call as first
 use Rattle.filter.specs.Demands as first-demands
 use Rattle.filter.proofs.Demands.{told-lists, either, demands-met as first-met}
 use Rattle.sweep.specs.Call.{Call, comes-to, Exact}
-use Rattle.sweep.specs.Demands.{works, Accepts, None-swept, Demand-1, Call-lists, In-sequence, Position-demands, Demands-met, Kept-promise, As-first-of-calls}
+use Rattle.sweep.specs.Demands.{works, Accepts, Demand-1, In-sequence, Position-demands, Demands-met, Kept-promise, As-first-of-calls}
 
 -- what an outcome writes to a result slice
 writes : (o : Outcome) → (written : List ℕ) × ((out : List ℕ) → result-after o out ≡ written ++ drop (length written) out)

@@ -1,10 +1,10 @@
 -- The answer of lists and passes, position after position; 8 or the lines.
-use Prim.Native.Nat.{ℕ, zero, suc, _+_, _≤_, _<_}
+use Prim.Native.Nat.{ℕ, _+_, _≤_, _<_}
 use native.Mathlib.Omega.{arith}
-use mathlib.Core.Path.{_≡_, refl, sym, _∙_, ap, subst}
+use mathlib.Core.Path.{_≡_, refl, sym, _∙_, ap}
 use mathlib.Core.Bool.{false}
 use mathlib.Core.List.{List, [], _∷_, _++_, map}
-use lib.ListN.{length, drop, set, replicate, length-append}
+use lib.ListN.{length, set, replicate, length-append}
 use borrow.Author.Tests.{le-leb, lt-leb}
 use Rattle.model.specs.Reading.{most-records, most-asks}
 use Rattle.model.specs.Outcome.{Position, refusal-at, lists, all-kept, padded, fitting, working-words, answer, result-after}
@@ -13,7 +13,6 @@ use Rattle.model.specs.declared.Refusal.the-variants as refusal
 use Rattle.model.specs.declared.Swept.{Swept}
 use Rattle.model.specs.declared.Verdict.the-variants.{Accepted, Refused}
 use Rattle.words.specs.Slices.{Same-but, Copied}
-use Rattle.words.proofs.Slices.{copied-front}
 use Rattle.filter.specs.Call as first-call
 use Rattle.filter.proofs.Laws as first-laws
 use Rattle.filter.proofs.Laws.{padded-next, count-next}

@@ -10,7 +10,7 @@ ghost use Rattle.model.specs.Outcome.{working-words};
 ghost use Rattle.records.specs.Columns.{entries-start, entries-end, ask-room};
 ghost use Rattle.macros.specs.Macros.{Filled};
 ghost use Rattle.firing.specs.Tables.{held-of, Laid};
-ghost use Rattle.firing.specs.Met.{work-column, run-end};
+ghost use Rattle.firing.specs.Met.{run-end};
 ghost use Rattle.sweeping.specs.Sweeping.{sweeping, name-met, adds-at, pass-all};
 ghost use Rattle.sweeping.specs.Swept.{met-first, Swept-through};
 

@@ -3,7 +3,7 @@ use Prim.Native.Nat.{ℕ, suc, _≤_, _<_}
 use native.Mathlib.Omega.{arith}
 use mathlib.Core.Path.{_≡_, refl, sym, _∙_, ap}
 use mathlib.Core.Logic.{_↔_, _⊎_, inl, inr, ⊎-elim}
-use mathlib.Core.List.{List, [], _∷_, _++_}
+use mathlib.Core.List.{List, [], _∷_}
 use lib.ListN.{length, take, drop, length-append}
 use Rattle.model.specs.Lines.{lines}
 use Rattle.model.specs.Summaries.{exclude-names}
@@ -11,12 +11,11 @@ use Rattle.model.specs.Reading.{Ask, State}
 use Rattle.model.specs.Outcome.{refusal-number, stopped, opened, front}
 use Rattle.model.specs.Working.{sizes}
 use Rattle.model.specs.Reasons.{rows, met-number}
-use Rattle.model.specs.Explaining.{Explanation, refusal-at, no-position, told, row-table, explanation, why, table-after}
+use Rattle.model.specs.Explaining.{Explanation, refusal-at, no-position, told, row-table, why, table-after}
 use Rattle.model.specs.declared.Refusal.{Refusal}
 use Rattle.model.specs.declared.Refusal.the-variants as refusal
 use Rattle.model.specs.declared.Row.{Row}
 use Rattle.model.specs.declared.Verdict.the-variants as verdict
-use Rattle.model.specs.declared.Why.{Why}
 use Rattle.laws.proofs.ReadingLaws.{file-read}
 use Rattle.demands.specs.Demand1.{Of-front, line, Lines-judged}
 use Rattle.demands.specs.Asks.{asks-on}

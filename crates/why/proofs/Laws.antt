@@ -1,12 +1,11 @@
 -- The call: what the core found, the rows written from the start of the table, their words cleared.
 use Prim.Native.Nat.{ℕ, _*_}
 use mathlib.Core.Path.{_≡_, refl, ap, _∙_}
-use mathlib.Core.List.{List, _∷_, _++_}
+use mathlib.Core.List.{List, _++_}
 use lib.ListN.{length, drop}
 use Rattle.model.specs.Working.{Working, six}
 use Rattle.model.specs.Explaining.{Explanation, refusal-at, no-position, told, why, table-after}
 use Rattle.model.specs.declared.Row.{Row}
-use Rattle.model.specs.declared.Why.{Why}
 use Rattle.words.specs.Slices.{Zeroed}
 use Rattle.rows.specs.Rows.{rows-held}
 use Rattle.rows.proofs.Leaving.{rows-listed, slices-left}

@@ -1,5 +1,4 @@
 -- `explain::find_rows` meets its contract.
-use native.Mathlib.Omega.{arith}
 use Rattle.front.proofs.Slices.{six-lengths}
 use Rattle.explain.proofs.Laws.{found}
 use Rattle.explain.proofs.find_rows.Statement.{statement}

@@ -13,10 +13,14 @@ mul-copy c = omega (arith, c .before .before .before .before .before .before .be
 
 copy-requires : tie.Need-copy-requires
 copy-requires c κs =
-    (omega (arith, c .before .before .before .before .before .before .before .before .before .before .before .before .pre .0 .on-refs, c .before .before .before .before .before .before .before .before .before .before .before .before .pre .1), omega (arith, c .before .before .before .before .before .before .before .before .before .before .before .before .pre .0 .on-run, c .before .before .before .before .before .before .before .before .before .before .before .before .pre .1, c .before .before .before .before .clear .ensures .same .same-length))
+    let clear = c .before .before .before .before in
+    let entry = clear .before .before .before .before .before .before .before .before in
+    (omega (arith, entry .pre .0 .on-refs, entry .pre .1), omega (arith, entry .pre .0 .on-run, entry .pre .1, clear .clear .ensures .same .same-length))
 
 close-tables-requires : tie.Need-close-tables-requires
-close-tables-requires c κs = (c .before .before .before .before .before .before .before .before .before .before .before .before .before .before .before .before .before .before .before .before .pre .0 .on-names, c .before .before .before .before .before .before .before .before .before .before .before .before .before .before .before .before .before .before .before .before .pre .0 .on-refs, c .before .before .before .before .before .before .before .before .before .before .before .before .before .before .before .before .before .before .before .before .pre .0 .on-rows, c .before .before .before .before .before .before .before .before .before .before .before .before .before .before .before .before .before .before .before .before .pre .0 .on-recs, c .before .before .before .before .before .before .before .before .before .before .before .before .before .before .before .before .before .before .before .before .pre .0 .on-lists)
+close-tables-requires c κs =
+    let entry = c .before .before .before .before .before .before .before .before .before .before .before .before .before .before .before .before .before .before .before .before in
+    (entry .pre .0 .on-names, entry .pre .0 .on-refs, entry .pre .0 .on-rows, entry .pre .0 .on-recs, entry .pre .0 .on-lists)
 
 same-length : tie.Need-same-length
 same-length c = c .before .before .before .before .before .before .before .before .before .before .close-tables .ensures .on-names .same .same-length
@@ -34,10 +38,18 @@ same-length-5 : tie.Need-same-length-5
 same-length-5 c = c .before .before .before .before .before .before .before .before .before .before .close-tables .ensures .on-lists .same .same-length
 
 same-length-6 : tie.Need-same-length-6
-same-length-6 c = c .before .before .before .before .before .before .before .before .before .before .before .before .before .before .before .before .before .before .copy .ensures .same .same-length ∙ c .before .before .before .before .before .before .before .before .before .before .before .before .before .before .before .before .before .before .before .before .before .before .before .clear .ensures .same .same-length
+same-length-6 c =
+    let copy = c .before .before .before .before .before .before .before .before .before .before .before .before .before .before .before .before .before .before in
+    let clear = copy .before .before .before .before .before in
+    copy .copy .ensures .same .same-length ∙ clear .clear .ensures .same .same-length
 
 returns : tie.Need-returns
-returns c = moves-rows (c .before .before .before .before .before .before .before .before .before .before .before .before .before .before .before .before .before .before .before .before .before .before .before .before .before .before .before .before .before .before .before .pre .1) (c .before .before .before .before .before .before .before .before .before .before .before .before .before .before .before .before .before .before .before .before .before .before .before .clear .ensures) (c .before .before .before .before .before .before .before .before .before .before .before .before .before .before .before .before .before .before .copy .ensures) (c .before .before .before .before .before .before .before .before .before .before .close-tables .ensures)
+returns c =
+    let close-tables = c .before .before .before .before .before .before .before .before .before .before in
+    let copy = close-tables .before .before .before .before .before .before .before .before in
+    let clear = copy .before .before .before .before .before in
+    let entry = clear .before .before .before .before .before .before .before .before in
+    moves-rows (entry .pre .1) (clear .clear .ensures) (copy .copy .ensures) (close-tables .close-tables .ensures)
 
 pub move-rows-spec : {M : Type 1} → statement M
 move-rows-spec =

@@ -4,7 +4,8 @@ use mathlib.Core.Path.{refl}
 use Rattle.prune.proofs.Picking.{number-in}
 use Rattle.precedence.specs.Sorts.{rank-row, has-stamp}
 use Rattle.precedence.proofs.Sorts.{late-bound}
-use Rattle.precedence.proofs.Putting.{Rows-to, rows-start, rows-length-same, readable, rank-passed, rank-put, rank-room, ranks-end}
+use Rattle.prune.proofs.Rows.{Rows-to, rows-start, rows-length-same}
+use Rattle.precedence.proofs.Putting.{readable, rank-passed, rank-put, rank-room, ranks-end}
 use native.Mathlib.Omega.{arith}
 use Rattle.precedence.proofs.put_body.Statement.{statement}
 use Rattle.precedence.proofs.put_body.Tie as tie

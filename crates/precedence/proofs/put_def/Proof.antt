@@ -4,7 +4,8 @@ use mathlib.Core.Path.{ap}
 use lib.ListN.{length}
 use Rattle.prune.proofs.Writing.{lists-length}
 use Rattle.precedence.proofs.Stamps.{body-stamped, body-stamps, def-none, none-stamped}
-use Rattle.precedence.proofs.Putting.{rows-nothing, body-put}
+use Rattle.prune.proofs.Rows.{rows-nothing}
+use Rattle.precedence.proofs.Putting.{body-put}
 use Rattle.precedence.proofs.put_def.Statement.{statement}
 use Rattle.precedence.proofs.put_def.Tie as tie
 

@@ -2,7 +2,8 @@
 use native.Mathlib.Omega.{arith}
 use Prim.Native.Nat.{_-_}
 use mathlib.Core.Path.{_∙_}
-use Rattle.precedence.proofs.Putting.{rows-length-same, Defs-to, defs-start, defs-next, defs-room, defs-end}
+use Rattle.prune.proofs.Rows.{rows-length-same}
+use Rattle.precedence.proofs.Putting.{Defs-to, defs-start, defs-next, defs-room, defs-end}
 use native.Mathlib.Omega.{arith}
 use Rattle.precedence.proofs.put_rows.Statement.{statement}
 use Rattle.precedence.proofs.put_rows.Tie as tie
